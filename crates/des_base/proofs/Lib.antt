@@ -1,0 +1,6 @@
+pub mod NameLemmas
+pub mod TableLemmas
+pub mod NumberLemmas
+pub mod TokenLemmas
+pub mod LineLemmas
+pub mod LawLemmas

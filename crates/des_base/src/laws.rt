@@ -1,0 +1,11 @@
+ghost use Rattle.des_base.specs.Laws.{NumbersAreDecimal, TokensArePieces};
+
+/// A law: a text spells a number just where it is what is printed of that number.
+pub fn numbers_are_decimal()
+    ensures { NumbersAreDecimal }
+{}
+
+/// A law: the tokens of a line are its pieces between blanks that have a byte.
+pub fn tokens_are_pieces()
+    ensures { TokensArePieces }
+{}

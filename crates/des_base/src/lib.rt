@@ -1,0 +1,38 @@
+//! What every other crate stands on: names and tables of names, numbers and counted lines of a text, and the outside as
+//! the program sees it.
+//!
+//! - A *name* is 1 to 64 letters, digits, `_` or `-`; a table numbers names in the order in which they were added.
+//! - A text is cut into *counted lines* and these into *tokens*: blank lines and comments are skipped.
+//! - A *shelf* gives files by name, a *sink* takes bytes. Both count their faults, so that a fault has its cause. They
+//!   come here in memory; the real ones stand in the program.
+#![tactic(auto)]
+
+mod ids;
+mod laws;
+mod lines;
+mod mem_calls;
+mod mem_shelf;
+mod mem_sink;
+mod memory;
+mod name;
+mod name_table;
+mod number;
+mod outside;
+mod tokens;
+mod word_list;
+
+pub use ids::{ActionId, CompId, EventId, StateId};
+pub use laws::{numbers_are_decimal, tokens_are_pieces};
+pub use lines::{Line, Lines};
+pub use mem_shelf::MemShelf;
+pub use mem_sink::MemSink;
+pub use memory::Memory;
+pub use name::{Name, NameFault, is_name};
+pub use name_table::NameTable;
+pub use number::read_number;
+pub use outside::{LoadFault, PutFault, Shelf, Sink};
+pub use tokens::{Token, Tokens};
+pub use word_list::WordList;
+
+#[cfg(test)]
+mod tests;

@@ -1,0 +1,45 @@
+// A shelf of files and a sink of bytes, whatever stands behind them.
+ghost use Rattle.std.specs.Prelude.{◌≡◌, ℕ, ◌+◌, ◌^◌, ◌<◌, ◌≤◌, List, [], length, take, Option, OnOk, OnErr, IfSome, IsErrOf};
+ghost use Rattle.des_base.specs.Outside.{Rose, Took, TookFront};
+
+#[derive(Clone, Copy, Debug, PartialEq, Eq)]
+pub enum LoadFault {
+    Failed,
+    Memory,
+}
+
+pub trait Shelf {
+    /// What it holds under a name, where it tells that.
+    ghost held: { Self → List ℕ → Option (List ℕ) };
+
+    /// How often a load of this name has failed.
+    ghost faults: { Self → List ℕ → ℕ };
+
+    /// Loads at most `limit + 1` bytes, so that a longer file is seen by its length.
+    fn load(&mut self, name: &str, limit: u64, into: &mut Vec<u8>) -> Result<(), LoadFault>
+        requires { limit < 2 ^ 63 }
+        ensures at_most { length into.new.items ≤ limit + 1 }
+        ensures bytes { OnOk result (IfSome (held self.old name.now) (λ bytes. into.new.items ≡ take (limit + 1) bytes)) }
+        ensures empty { OnErr result (into.new.items ≡ []) }
+        ensures kept { held self.new ≡ held self.old }
+        ensures never_falls { (n : List ℕ) → faults self.old n ≤ faults self.new n }
+        ensures failed { IsErrOf result LoadFault.Failed → Rose (faults self.old name.now) (faults self.new name.now) };
+}
+
+/// A put that failed.
+#[derive(Clone, Copy, Debug, PartialEq, Eq)]
+pub struct PutFault;
+
+pub trait Sink {
+    /// The bytes that it has taken, where it tells them.
+    ghost taken: { Self → Option (List ℕ) };
+
+    /// How often a put has failed.
+    ghost faults: { Self → ℕ };
+
+    fn put(&mut self, piece: &[u8]) -> Result<(), PutFault>
+        ensures ok { OnOk result (Took (taken self.old) (taken self.new) piece.now) }
+        ensures front { OnErr result (TookFront (taken self.old) (taken self.new) piece.now) }
+        ensures never_falls { faults self.old ≤ faults self.new }
+        ensures failed { OnErr result (Rose (faults self.old) (faults self.new)) };
+}
