@@ -1,0 +1,8 @@
+pub mod BoolLemmas
+pub mod ComponentLemmas
+pub mod PartLemmas
+pub mod DraftLemmas
+pub mod Local
+pub mod NetworkLemmas
+pub mod Steps
+pub mod Vectors

@@ -1,0 +1,17 @@
+-- What a component and a builder are seen as.
+use Rattle.std.specs.Prelude.{◌≡◌}
+use Rattle.des_net.specs.Network.{Component, Net}
+use Rattle.des_net.specs.Building.{IsDraft, trans_count}
+use Rattle.des_net.specs.declared.component.Comp.TheInside.{Inside as CompInside}
+use Rattle.des_net.specs.declared.builder.Builder.TheInside.{Inside}
+
+abbrev pub component_view : CompInside → Component
+component_view a = record { state_names = a.state_names; initial = a.initial.items; transitions = a.transitions.keys; action_names = a.action_names }
+
+abbrev pub builder_view : Inside → Net
+builder_view a = record { component_names = a.component_names; components = a.components.items; event_names = a.event_names; events = a.events.items }
+
+-- the lists are a network's, and the count of its transitions is right
+pub record IsBuilder (a : Inside) : Type 0 where
+  pub plant : IsDraft (builder_view a)
+  pub counted : a.transition_count ≡ trans_count a.components.items
