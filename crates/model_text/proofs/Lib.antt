@@ -1,0 +1,14 @@
+pub mod SectionLemmas
+pub mod NumberLemmas
+pub mod ComponentLemmas
+pub mod EventLemmas
+pub mod GrowthLemmas
+pub mod CodeLemmas
+pub mod PartLemmas
+pub mod StepLemmas
+pub mod LawLemmas
+pub mod Vectors
+pub mod HasNamesLemmas
+pub mod PieceLemmas
+pub mod AdditionLemmas
+pub mod ReadLemmas

@@ -1,0 +1,103 @@
+-- Worked texts, computed.
+use Rattle.std.proofs.Common.{◌≡◌, [], ◌∷◌, None, refl}
+use Rattle.std.specs.Prelude.{codes}
+use Rattle.des_base.specs.Names.{is_name_text, is_name_byte}
+use Rattle.model_text.specs.ModelFaults.{first_fault, network_of}
+use Rattle.model_text.specs.Samples.{text_of, wide_text_of, fault_at, valve_lines, valve, pair_lines, pair}
+
+pub valve_is_read : network_of (text_of valve_lines) ≡ valve
+valve_is_read = refl
+
+pub valve_is_well : first_fault (text_of valve_lines) ≡ None
+unfolding is_name_text is_name_byte
+valve_is_well = refl
+
+pub pair_is_read : network_of (text_of pair_lines) ≡ pair
+pair_is_read = refl
+
+pub pair_is_well : first_fault (text_of pair_lines) ≡ None
+unfolding is_name_text is_name_byte
+pair_is_well = refl
+
+pub wide_is_read : network_of (wide_text_of valve_lines) ≡ valve
+wide_is_read = refl
+
+pub wide_is_well : first_fault (wide_text_of valve_lines) ≡ None
+unfolding is_name_text is_name_byte
+wide_is_well = refl
+
+pub wide_fault : first_fault (wide_text_of (codes "des 1" ∷ codes "component" ∷ [])) ≡ fault_at 2 2
+unfolding is_name_text is_name_byte
+wide_fault = refl
+
+pub no_bytes : first_fault [] ≡ fault_at 1 1
+unfolding is_name_text is_name_byte
+no_bytes = refl
+
+pub other_version : first_fault (text_of (codes "des 2" ∷ [])) ≡ fault_at 1 1
+unfolding is_name_text is_name_byte
+other_version = refl
+
+pub unnamed_component : first_fault (text_of (codes "des 1" ∷ codes "component" ∷ [])) ≡ fault_at 2 2
+unfolding is_name_text is_name_byte
+unnamed_component = refl
+
+pub no_name : first_fault (text_of (codes "des 1" ∷ codes "component a.b" ∷ [])) ≡ fault_at 2 3
+unfolding is_name_text is_name_byte
+no_name = refl
+
+pub double_component : first_fault (text_of (codes "des 1" ∷ codes "component p" ∷ codes "component p" ∷ [])) ≡ fault_at 3 4
+unfolding is_name_text is_name_byte
+double_component = refl
+
+pub unknown_action : first_fault (text_of (codes "des 1" ∷ codes "component p" ∷ codes "state ok init" ∷ codes "event e : p.go" ∷ [])) ≡ fault_at 4 5
+unfolding is_name_text is_name_byte
+unknown_action = refl
+
+pub no_initial_state : first_fault (text_of (codes "des 1" ∷ codes "component p" ∷ codes "state ok" ∷ [])) ≡ fault_at 2 6
+unfolding is_name_text is_name_byte
+no_initial_state = refl
+
+pub homeless_state : first_fault (text_of (codes "des 1" ∷ codes "state ok init" ∷ [])) ≡ fault_at 2 7
+unfolding is_name_text is_name_byte
+homeless_state = refl
+
+pub homeless_transition : first_fault (text_of (codes "des 1" ∷ codes "trans a b c" ∷ [])) ≡ fault_at 2 7
+unfolding is_name_text is_name_byte
+homeless_transition = refl
+
+pub double_state : first_fault (text_of (codes "des 1" ∷ codes "component p" ∷ codes "state ok init" ∷ codes "state ok" ∷ [])) ≡ fault_at 4 4
+unfolding is_name_text is_name_byte
+double_state = refl
+
+pub double_transition : first_fault (text_of (codes "des 1" ∷ codes "component p" ∷ codes "state ok init" ∷ codes "trans ok a ok" ∷ codes "trans ok a ok" ∷ [])) ≡ fault_at 5 4
+unfolding is_name_text is_name_byte
+double_transition = refl
+
+pub unknown_state : first_fault (text_of (codes "des 1" ∷ codes "component p" ∷ codes "state ok init" ∷ codes "trans ok a off" ∷ [])) ≡ fault_at 4 5
+unfolding is_name_text is_name_byte
+unknown_state = refl
+
+pub double_event : first_fault (text_of (codes "des 1" ∷ codes "component p" ∷ codes "state ok init" ∷ codes "trans ok a ok" ∷ codes "event e : p.a" ∷ codes "event e : p.a" ∷ [])) ≡ fault_at 6 4
+unfolding is_name_text is_name_byte
+double_event = refl
+
+pub twice_one_component : first_fault (text_of (codes "des 1" ∷ codes "component p" ∷ codes "state ok init" ∷ codes "event e : q.a q.b" ∷ [])) ≡ fault_at 4 4
+unfolding is_name_text is_name_byte
+twice_one_component = refl
+
+pub two_dots : first_fault (text_of (codes "des 1" ∷ codes "component p" ∷ codes "state ok init" ∷ codes "event e : p.a.b" ∷ [])) ≡ fault_at 4 2
+unfolding is_name_text is_name_byte
+two_dots = refl
+
+pub no_parts : first_fault (text_of (codes "des 1" ∷ codes "component p" ∷ codes "state ok init" ∷ codes "event e :" ∷ [])) ≡ fault_at 4 2
+unfolding is_name_text is_name_byte
+no_parts = refl
+
+pub second_without_initial_state : first_fault (text_of (codes "des 1" ∷ codes "component p" ∷ codes "state ok init" ∷ codes "component q" ∷ codes "state ok" ∷ [])) ≡ fault_at 4 6
+unfolding is_name_text is_name_byte
+second_without_initial_state = refl
+
+pub after_comment_and_blank : first_fault (text_of (codes "des 1" ∷ codes "# note" ∷ [] ∷ codes "component a.b" ∷ [])) ≡ fault_at 4 3
+unfolding is_name_text is_name_byte
+after_comment_and_blank = refl

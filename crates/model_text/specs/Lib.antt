@@ -1,0 +1,9 @@
+pub mod ModelLines
+pub mod ModelNetwork
+pub mod ModelFaults
+pub mod Growth
+pub mod GrowthLaw
+pub mod Samples
+pub mod Refusals
+pub mod Extends
+pub mod Shapes

@@ -1,0 +1,146 @@
+-- The first fault of a model text, by its line and the code of its kind.
+use Rattle.std.specs.Prelude.{ℕ, Bool, false, not, ◌&&◌, ◌||◌, List, [], ◌∷◌, ◌++◌, map, filter_map, length, option_map, Option, Some, None, bytes_eq, if◌then◌else◌, nat_le, nat_lt, is_some, slice_index, slice_index_or, sum_by, IsSome, ⊤, ◌≡◌}
+use Rattle.std.specs.List.{list_all, list_any}
+use Rattle.std.specs.Option.{option_map_or}
+use Rattle.des_base.specs.Names.{is_name_text, place_of, place_by}
+use Rattle.des_base.specs.CountedLines.{NumberedLine, counted_lines, tokens_of}
+use Rattle.des_net.specs.Network.{Net, no_component}
+use Rattle.des_net.specs.Building.{lacks_init}
+use Rattle.model_text.specs.declared.fault.ModelFault.{ModelFault}
+use Rattle.model_text.specs.declared.fault.ModelRefusal.{ModelRefusal}
+use Rattle.model_text.specs.declared.fault.ModelRefusal.TheVariants.{Fault, Memory}
+use Rattle.model_text.specs.ModelLines.{ModelLine, component, state, transition, event, NamedPart, model_line, is_header}
+use Rattle.model_text.specs.ModelNetwork.{begins_component, sections, current, state_names_in, transitions_in, NamedTransition, component_names, components_of, events_in, network_of_lines, model_lines}
+
+abbrev pub stands_in : List (List ℕ) → List ℕ → Bool
+stands_in names text = is_some (place_of text names)
+
+abbrev pub optional_words : Option (List ℕ) → List (List ℕ)
+optional_words None = []
+optional_words (Some word) = word ∷ []
+
+-- the words of a line that must be names
+abbrev pub words_of : ModelLine → List (List ℕ)
+words_of (component name) = name ∷ []
+words_of (state name initial) = name ∷ []
+words_of (transition from action to) = from ∷ action ∷ to ∷ []
+words_of (event name label fault parts) = name ∷ optional_words label ++ map (λ p. p.component) parts ++ map (λ p. p.action) parts
+
+-- a state or a transition before any component
+abbrev pub is_homeless : List ModelLine → ModelLine → Bool
+is_homeless earlier (component name) = false
+is_homeless earlier (state name initial) = nat_le (length (sections earlier)) 0
+is_homeless earlier (transition from action to) = nat_le (length (sections earlier)) 0
+is_homeless earlier (event name label fault parts) = false
+
+abbrev pub is_same_transition : NamedTransition → NamedTransition → Bool
+is_same_transition a b = bytes_eq a.from b.from && bytes_eq a.action b.action && bytes_eq a.to b.to
+
+abbrev pub has_repeated : List (List ℕ) → Bool
+has_repeated [] = false
+has_repeated (text ∷ texts) = stands_in texts text || has_repeated texts
+
+-- it is there already, or two parts of the line have one component
+abbrev pub is_double : List ModelLine → ModelLine → Bool
+is_double earlier (component name) = stands_in (component_names earlier) name
+is_double earlier (state name initial) = stands_in (state_names_in (current earlier)) name
+is_double earlier (transition from action to) =
+    list_any (is_same_transition (record { from = from; action = action; to = to })) (transitions_in (current earlier))
+is_double earlier (event name label fault parts) =
+    stands_in (map (λ e. e.name) (events_in earlier)) name || has_repeated (map (λ p. p.component) parts)
+
+-- the actions of the component of this name, as far as they are known
+abbrev pub actions_of : List ModelLine → List ℕ → List (List ℕ)
+actions_of earlier name =
+    option_map_or (λ place. (slice_index_or (components_of earlier) place no_component).action_names) (place_of name (component_names earlier)) []
+
+abbrev pub knows_part : List ModelLine → NamedPart → Bool
+knows_part earlier part = stands_in (actions_of earlier part.component) part.action
+
+-- a component, a state or an action isn't known
+abbrev pub is_unknown : List ModelLine → ModelLine → Bool
+is_unknown earlier (component name) = false
+is_unknown earlier (state name initial) = false
+is_unknown earlier (transition from action to) =
+    not (stands_in (state_names_in (current earlier)) from && stands_in (state_names_in (current earlier)) to)
+is_unknown earlier (event name label fault parts) = not (list_all (knows_part earlier) parts)
+
+-- how many transitions the components have
+abbrev pub transition_count : List ModelLine → ℕ
+transition_count lines = sum_by (λ section. length (transitions_in section.lines)) (sections lines)
+
+-- a limit would be passed
+abbrev pub is_past_limit : List ModelLine → ModelLine → Bool
+is_past_limit earlier (component name) = nat_le 1000 (length (sections earlier))
+is_past_limit earlier (state name initial) = nat_le 256 (length (state_names_in (current earlier)))
+is_past_limit earlier (transition from action to) = nat_le 50000 (transition_count earlier)
+is_past_limit earlier (event name label fault parts) = nat_le 4000 (length (events_in earlier)) || nat_lt 16 (length parts)
+
+-- the first code, in this order, whose condition holds of a line and the lines before it
+abbrev pub line_code : List ModelLine → ModelLine → Option ℕ
+line_code earlier line =
+    if is_homeless earlier line then Some 7
+    else if not (list_all is_name_text (words_of line)) then Some 3
+    else if is_double earlier line then Some 4
+    else if is_unknown earlier line then Some 5
+    else if is_past_limit earlier line then Some 8
+    else None
+
+-- and 2 before them, where the line has no shape
+abbrev pub shape_code : List ModelLine → Option ModelLine → Option ℕ
+shape_code earlier None = Some 2
+shape_code earlier (Some line) = line_code earlier line
+
+abbrev pub with_shape : List ModelLine → Option ModelLine → List ModelLine
+with_shape earlier None = earlier
+with_shape earlier (Some line) = earlier ++ line ∷ []
+
+-- the fault of this code on the line of this number, or what comes after
+abbrev pub fault_or : ℕ → Option ℕ → Option ModelFault → Option ModelFault
+fault_or number None later = later
+fault_or number (Some code) later = Some (record { line = number; code = code })
+
+-- the first line that has a code, after these lines
+abbrev pub first_code : List ModelLine → List NumberedLine → Option ModelFault
+first_code earlier [] = None
+first_code earlier (line ∷ lines) =
+    fault_or line.number (shape_code earlier (model_line (tokens_of line.text))) (first_code (with_shape earlier (model_line (tokens_of line.text))) lines)
+
+-- the numbers of the lines that begin a component
+abbrev pub component_numbers : List NumberedLine → List ℕ
+component_numbers lines =
+    filter_map (λ line. if option_map_or begins_component (model_line (tokens_of line.text)) false then Some line.number else None) lines
+
+-- code 6, on the line of the first component without an initial state
+abbrev pub start_fault : List NumberedLine → Option ModelFault
+start_fault lines =
+    option_map (λ place. record { line = slice_index (component_numbers lines) place; code = 6 }) (place_by lacks_init (components_of (model_lines lines)))
+
+abbrev pub or_else : Option ModelFault → Option ModelFault → Option ModelFault
+or_else None other = other
+or_else (Some fault) other = Some fault
+
+-- the first fault of a model's counted lines
+abbrev pub fault_of_lines : List NumberedLine → Option ModelFault
+fault_of_lines [] = Some (record { line = 1; code = 1 })
+fault_of_lines (header ∷ lines) =
+    if is_header (tokens_of header.text) then or_else (first_code [] lines) (start_fault lines)
+    else Some (record { line = header.number; code = 1 })
+
+-- comments in models begin with `#`
+abbrev pub first_fault : List ℕ → Option ModelFault
+first_fault bytes = fault_of_lines (counted_lines 35 bytes)
+
+-- the lines after the first
+abbrev pub body : List NumberedLine → List NumberedLine
+body [] = []
+body (header ∷ lines) = lines
+
+-- the network of a text without a fault
+abbrev pub network_of : List ℕ → Net
+network_of bytes = network_of_lines (model_lines (body (counted_lines 35 bytes)))
+
+-- A refusal for a fault comes only where the text has one. Until places are told it names none.
+abbrev pub IsDue : Option ModelFault → ModelRefusal → Type 0
+IsDue fault (Fault told) = IsSome fault × (told ≡ record { line = 0; code = 0 })
+IsDue fault Memory = ⊤

@@ -1,0 +1,35 @@
+ghost use Rattle.std.specs.Prelude.{◌≡◌, bytes_eq};
+ghost use Rattle.model_text.specs.ModelLines.{keyword_of};
+
+/// The first word of a line after the header.
+#[derive(Clone, Copy, Debug, PartialEq, Eq)]
+pub enum Keyword {
+    Component,
+    State,
+    Trans,
+    Event,
+}
+
+// Whether the text is this word.
+pub(crate) fn is_word(text: &[u8], word: &str) -> bool
+    ensures { result ≡ bytes_eq text.now word.now }
+{
+    text == word.as_bytes()
+}
+
+// The keyword that the text is, if it is one.
+pub(crate) fn keyword_of(text: &[u8]) -> Option<Keyword>
+    ensures { result ≡ keyword_of text.now }
+{
+    if is_word(text, "component") {
+        Some(Keyword::Component)
+    } else if is_word(text, "state") {
+        Some(Keyword::State)
+    } else if is_word(text, "trans") {
+        Some(Keyword::Trans)
+    } else if is_word(text, "event") {
+        Some(Keyword::Event)
+    } else {
+        None
+    }
+}
