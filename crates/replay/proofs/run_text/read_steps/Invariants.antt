@@ -1,0 +1,19 @@
+-- the steps so far and those of the lines to come are all, and the faults of the lines to come are those of all
+use Rattle.std.proofs.Common.{◌≡◌, ◌+◌, ◌<◌, ◌≤◌, ◌++◌, length}
+use Rattle.std.specs.Prelude.{All}
+use Rattle.replay.specs.Traced.{word_of}
+use Rattle.replay.specs.RunText.{steps_of, first_code}
+use Rattle.replay.proofs.run_text.read_steps.Given as goal
+
+abbrev pub invariant-loop-line : goal.invariant-loop-line
+invariant-loop-line l = record {
+  steps : l.run ++ steps_of l.net l.lines ≡ steps_of l.net l.fn.lines;
+  known : All (λ e. e < length l.net.events) (word_of l.run);
+  left : length l.run + l.left ≡ l.stated;
+  few : l.stated ≤ 4000000;
+  long : length l.run + length l.lines ≡ length l.fn.lines;
+  codes : first_code l.net l.left l.lines ≡ first_code l.net l.stated l.fn.lines;
+}
+
+abbrev pub decreases-loop-line : goal.decreases-loop-line
+decreases-loop-line l = length l.lines

@@ -1,0 +1,101 @@
+-- The text of a run: its steps, and its first fault.
+use Rattle.std.specs.Prelude.{◌≡◌, ⊤, ℕ, ◌-◌, Bool, false, not, ◌||◌, List, [], ◌∷◌, filter_map, length, option_map, Option, Some, None, bytes_eq, codes, if◌then◌else◌, nat_le, nat_lt, is_none, IsSome}
+use Rattle.std.specs.List.{list_all}
+use Rattle.des_base.specs.Names.{is_name_text, place_of}
+use Rattle.des_base.specs.Numbers.{number_up_to}
+use Rattle.des_base.specs.CountedLines.{NumberedLine, counted_lines, tokens_of, last_line}
+use Rattle.des_net.specs.Network.{Net}
+use Rattle.replay.specs.declared.run.RunStep.{RunStep}
+use Rattle.replay.specs.declared.run_text.RunFault.{RunFault}
+use Rattle.replay.specs.declared.run_text.RunRefusal.{RunRefusal}
+use Rattle.replay.specs.declared.run_text.RunRefusal.TheVariants.{Fault, Memory}
+
+-- the first word of a printed reply that has a run
+abbrev pub is_reply_word : List ℕ → Bool
+is_reply_word word = bytes_eq word (codes "EXPLAINED") || bytes_eq word (codes "MANY") || bytes_eq word (codes "UNDECIDED")
+
+abbrev pub is_reply_line : List (List ℕ) → Bool
+is_reply_line [] = false
+is_reply_line (word ∷ words) = is_reply_word word
+
+-- A printed reply is a run text as it stands, so its first line is skipped.
+abbrev pub after_reply_line : List NumberedLine → List NumberedLine
+after_reply_line [] = []
+after_reply_line (line ∷ lines) = if is_reply_line (tokens_of line.text) then lines else line ∷ lines
+
+-- the number of steps that a header `run T` states
+abbrev pub stated_length : List (List ℕ) → Option ℕ
+stated_length [] = None
+stated_length (word ∷ []) = None
+stated_length (word ∷ count ∷ []) = if bytes_eq word (codes "run") then number_up_to 4000000 count else None
+stated_length (word ∷ count ∷ more ∷ words) = None
+
+-- the event is the network's
+abbrev pub knows_event : Net → List (List ℕ) → Bool
+knows_event net [] = false
+knows_event net (event ∷ words) = not (is_none (place_of event net.event_names))
+
+-- The first code of a step's line, where so many lines may still come.
+abbrev pub step_code : Net → ℕ → List (List ℕ) → Option ℕ
+step_code net left words =
+    if nat_le left 0 then Some 4
+    else if nat_lt 2 (length words) then Some 2
+    else if not (list_all is_name_text words) then Some 3
+    else if not (knows_event net words) then Some 5
+    else None
+
+abbrev pub fault_or : ℕ → Option ℕ → Option RunFault → Option RunFault
+fault_or number None later = later
+fault_or number (Some code) later = Some (record { line = number; code = code })
+
+abbrev pub first_code : Net → ℕ → List NumberedLine → Option RunFault
+first_code net left [] = None
+first_code net left (line ∷ lines) = fault_or line.number (step_code net left (tokens_of line.text)) (first_code net (left - 1) lines)
+
+-- A shortage of lines is found only where all lines are well. It is a fault of the text's end.
+abbrev pub or_shortage : ℕ → ℕ → ℕ → Option RunFault → Option RunFault
+or_shortage end stated found None = if nat_lt found stated then Some (record { line = end; code = 4 }) else None
+or_shortage end stated found (Some fault) = Some fault
+
+abbrev pub fault_of_steps : Net → ℕ → ℕ → Option ℕ → List NumberedLine → Option RunFault
+fault_of_steps net end number None steps = Some (record { line = number; code = 1 })
+fault_of_steps net end number (Some stated) steps = or_shortage end stated (length steps) (first_code net stated steps)
+
+-- the first fault of the lines from the header on
+abbrev pub fault_of_lines : Net → ℕ → List NumberedLine → Option RunFault
+fault_of_lines net end [] = Some (record { line = end; code = 1 })
+fault_of_lines net end (header ∷ steps) = fault_of_steps net end header.number (stated_length (tokens_of header.text)) steps
+
+-- comments in runs begin with `#`
+abbrev pub first_fault : Net → List ℕ → Option RunFault
+first_fault net bytes = fault_of_lines net (last_line bytes) (after_reply_line (counted_lines 35 bytes))
+
+-- the words of a step's line: its event, and the name of an alarm where there is one
+abbrev pub step_words : List (List ℕ) → Option (List ℕ × Option (List ℕ))
+step_words [] = None
+step_words (event ∷ []) = Some (event, None)
+step_words (event ∷ alarm ∷ []) = Some (event, Some alarm)
+step_words (event ∷ alarm ∷ more ∷ words) = None
+
+-- the step that a line says, where its event is known
+abbrev pub step_of : Net → List (List ℕ) → Option RunStep
+step_of net [] = None
+step_of net (event ∷ []) = option_map (λ e. record { event = e; alarm = None }) (place_of event net.event_names)
+step_of net (event ∷ alarm ∷ words) = option_map (λ e. record { event = e; alarm = Some alarm }) (place_of event net.event_names)
+
+abbrev pub steps_of : Net → List NumberedLine → List RunStep
+steps_of net lines = filter_map (λ line. step_of net (tokens_of line.text)) lines
+
+-- the lines after the header
+abbrev pub after_header : List NumberedLine → List NumberedLine
+after_header [] = []
+after_header (header ∷ steps) = steps
+
+-- the run of a text without a fault
+abbrev pub run_of : Net → List ℕ → List RunStep
+run_of net bytes = steps_of net (after_header (after_reply_line (counted_lines 35 bytes)))
+
+-- A refusal for a fault comes only where the text has one. Until places are told it names none.
+abbrev pub IsDue : {X : Type 0} → Option X → RunRefusal → Type 0
+IsDue fault (Fault told) = IsSome fault × (told ≡ record { line = 0; code = 0 })
+IsDue fault Memory = ⊤

@@ -1,0 +1,192 @@
+ghost use Rattle.std.specs.Prelude.{◌≡◌, ◌<◌, ◌≤◌, ◌^◌, ℕ, [], ◌∷◌, length, All, IfOk, IfErr, IfSome, OnOk, MatchOption, Some, None, codes, true, if◌then◌else◌};
+ghost use Rattle.std.specs.Option.{option_copied, option_to_list};
+ghost use Rattle.std.specs.List.{list_all};
+ghost use Rattle.des_base.specs.Names.{is_name_text};
+ghost use Rattle.des_base.specs.CountedLines.{numbered, tokens_of};
+ghost use Rattle.replay.specs.Traced.{word_of};
+ghost use Rattle.replay.specs.RunText.{is_reply_word, is_reply_line, after_reply_line, stated_length, step_code, step_words, step_of, steps_of, fault_or, fault_of_steps, first_fault, run_of, IsDue};
+ghost use Rattle.replay.specs.declared.run_text.RunRefusal.TheVariants.{Memory as NoMemory};
+
+use crate::run::{Run, RunStep};
+use des_base::{EventId, Line, Lines, Memory, Name, NameFault, is_name, read_number};
+use des_net::Network;
+use std::alloc::Global;
+
+/// The place and the kind of the first fault of a run text. Lines are counted from 1.
+///
+/// For now neither is told: both are 0.
+#[derive(Clone, Copy, Debug, PartialEq, Eq)]
+pub struct RunFault {
+    pub line: u32,
+    pub code: u8,
+}
+
+/// Why a text became no run.
+#[derive(Clone, Copy, Debug, PartialEq, Eq)]
+pub enum RunRefusal {
+    /// The text has a fault.
+    Fault(RunFault),
+    /// Want of memory.
+    Memory,
+}
+
+impl From<Memory> for RunRefusal {
+    ghost from_gives = { λ _ e. e ≡ NoMemory };
+
+    fn from(_: Memory) -> RunRefusal {
+        RunRefusal::Memory
+    }
+}
+
+const STEPS: u64 = 4_000_000;
+
+const FAULT: RunRefusal = RunRefusal::Fault(RunFault { line: 0, code: 0 });
+
+// The words of a step's line.
+#[derive(Clone, Copy)]
+struct StepWords<'a> {
+    event: &'a [u8],
+    alarm: Option<&'a [u8]>,
+}
+
+/// The run that the text says: a line `run T`, and then T lines `EVENT` or `EVENT ALARM`, at most 4,000,000.
+///
+/// Words stand between spaces and tabs. Blank lines and lines that begin with `#` are skipped. A printed reply that has a
+/// run is a run text as it stands: its first line is skipped. Alarm names are kept as they are, whether or not there is
+/// such an alarm.
+pub fn read_run(alloc: Global, bytes: &[u8], net: &Network) -> Result<Run, RunRefusal>
+    requires { length bytes.now < 2 ^ 32 }
+    ensures run { IfOk result (λ run. run ≡ run_of net.now bytes.now) }
+    ensures known { IfOk result (λ run. All (λ e. e < length net.now.events) (word_of run)) }
+    ensures well { OnOk result (first_fault net.now bytes.now ≡ None) }
+    ensures refused { IfErr result (IsDue (first_fault net.now bytes.now)) }
+{
+    let mut lines = Lines::new(bytes, b'#');
+    let Some(header) = next_header(&mut lines) else {
+        return Err(FAULT);
+    };
+    let Some(stated) = stated_length(header) else {
+        return Err(FAULT);
+    };
+    read_steps(alloc, net, stated, &mut lines)
+}
+
+// The first line that isn't that of a printed reply.
+fn next_header<'a>(lines: &mut Lines<'a>) -> Option<Line<'a>>
+    ensures { MatchOption result (after_reply_line lines.old ≡ []) (λ line. after_reply_line lines.old ≡ numbered line.number line.text.now ∷ lines.new) }
+{
+    let first = lines.next_line()?;
+    if is_reply_line(first) {
+        return lines.next_line();
+    }
+    Some(first)
+}
+
+fn is_reply_line(line: Line<'_>) -> bool
+    ensures { result ≡ is_reply_line (tokens_of line.entry.text.now) }
+{
+    match line.tokens().next_token() {
+        Some(word) => is_reply_word(word.text),
+        None => false,
+    }
+}
+
+fn is_reply_word(word: &[u8]) -> bool
+    ensures { result ≡ is_reply_word word.now }
+{
+    word == b"EXPLAINED".as_slice() || word == b"MANY".as_slice() || word == b"UNDECIDED".as_slice()
+}
+
+// How many steps the header says that there are.
+fn stated_length(header: Line<'_>) -> Option<u64>
+    ensures length { result ≡ stated_length (tokens_of header.entry.text.now) }
+    ensures few { IfSome result (λ stated. stated ≤ STEPS) }
+{
+    let mut tokens = header.tokens();
+    let word = tokens.next_token()?;
+    let count = tokens.next_token()?;
+    if tokens.next_token().is_some() || word.text != b"run".as_slice() {
+        return None;
+    }
+    read_number(count.text, STEPS)
+}
+
+// The steps of the lines to come, where there are as many as the header says.
+fn read_steps(
+    alloc: Global,
+    net: &Network,
+    stated: u64,
+    lines: &mut Lines<'_>,
+) -> Result<Run, RunRefusal>
+    requires { stated ≤ STEPS }
+    ensures run { IfOk result (λ run. run ≡ steps_of net.now lines.old) }
+    ensures known { IfOk result (λ run. All (λ e. e < length net.now.events) (word_of run)) }
+    ensures well { (end number : ℕ) → OnOk result (fault_of_steps net.now end number (Some stated) lines.old ≡ None) }
+    ensures refused { (end number : ℕ) → IfErr result (IsDue (fault_of_steps net.now end number (Some stated) lines.old)) }
+{
+    let mut run = Run::new(alloc);
+    let mut left = stated;
+    while let Some(line) = lines.next_line() {
+        let step = read_step(alloc, net, left, line)?;
+        run.push(step)?;
+        left -= 1;
+    }
+    if left > 0 {
+        return Err(FAULT);
+    }
+    Ok(run)
+}
+
+// The step of a line, where so many steps may still come.
+fn read_step(alloc: Global, net: &Network, left: u64, line: Line<'_>) -> Result<RunStep, RunRefusal>
+    ensures step { IfOk result (λ step. step_of net.now (tokens_of line.entry.text.now) ≡ Some step) }
+    ensures known { IfOk result (λ step. step.event < length net.now.events) }
+    ensures well { OnOk result (step_code net.now left (tokens_of line.entry.text.now) ≡ None) }
+    ensures refused { IfErr result (IsDue (step_code net.now left (tokens_of line.entry.text.now))) }
+{
+    let Some(words) = step_words(line) else {
+        return Err(FAULT);
+    };
+    if left == 0 || !is_name(words.event) {
+        return Err(FAULT);
+    }
+    let alarm = read_alarm(alloc, words.alarm)?;
+    match net.find_event(words.event) {
+        Some(event) => Ok(RunStep { event, alarm }),
+        None => Err(FAULT),
+    }
+}
+
+// The words of a step's line, one or two.
+fn step_words<'a>(line: Line<'a>) -> Option<StepWords<'a>>
+    ensures { MatchOption result (step_words (tokens_of line.entry.text.now) ≡ None) (λ words. step_words (tokens_of line.entry.text.now) ≡ Some (words.event.now, option_copied words.alarm)) }
+{
+    let mut tokens = line.tokens();
+    let event = tokens.next_token()?.text;
+    let Some(alarm) = tokens.next_token() else {
+        return Some(StepWords { event, alarm: None });
+    };
+    match tokens.next_token() {
+        Some(_) => None,
+        None => Some(StepWords {
+            event,
+            alarm: Some(alarm.text),
+        }),
+    }
+}
+
+// The name of an alarm, where there is one.
+fn read_alarm(alloc: Global, text: Option<&[u8]>) -> Result<Option<Name>, RunRefusal>
+    ensures alarm { IfOk result (λ alarm. alarm ≡ option_copied text.entry) }
+    ensures name { OnOk result (list_all is_name_text (option_to_list (option_copied text.entry)) ≡ true) }
+    ensures refused { IfErr result (IsDue {X = ℕ} (if list_all is_name_text (option_to_list (option_copied text.entry)) then None else Some 3)) }
+{
+    let Some(text) = text else {
+        return Ok(None);
+    };
+    match Name::new(alloc, text) {
+        Ok(name) => Ok(Some(name)),
+        Err(NameFault::Shape) => Err(FAULT),
+        Err(NameFault::Memory) => Err(RunRefusal::Memory),
+    }
+}
