@@ -1,0 +1,117 @@
+#!/usr/bin/env python3
+"""Times `trace` on large models and runs, and prints a table: size, time, ratio to a plain read, memory.
+
+    bench/trace.py PROGRAM
+
+PROGRAM is the program as `rt run` builds it, crates/diagnose_cli/out/diagnose_cli. The inputs are made in a temporary
+folder. It's no part of the gate.
+"""
+import os
+import subprocess
+import sys
+import tempfile
+import time
+
+MODEL_LIMIT = 16_777_216
+
+
+def transitions():
+    """1,000 components with 50 transitions each, padded with comments to the limit."""
+    lines = ["des 1"]
+    for c in range(1000):
+        lines.append(f"component c{c}")
+        lines += [f"state s{s}" + (" init" if s == 0 else "") for s in range(50)]
+        lines += [f"trans s{s} a{s % 7} s{(s + 1) % 50}" for s in range(50)]
+    lines += [f"event e{e} alarm L{e % 9} : " + " ".join(f"c{(e + k) % 1000}.a{k % 7}" for k in range(16)) for e in range(4000)]
+    return padded(lines)
+
+
+def one_component():
+    """One component with 50,000 transitions over 256 states."""
+    lines = ["des 1", "component c"] + [f"state s{s}" + (" init" if s == 0 else "") for s in range(256)]
+    made = 0
+    for action in range(1000):
+        for state in range(256):
+            if made < 50_000:
+                lines.append(f"trans s{state} a{action} s{(state + action) % 256}")
+                made += 1
+    return padded(lines + ["event e : c.a0"])
+
+
+def states():
+    """1,000 components with 256 states each, under long names."""
+    lines = ["des 1"]
+    for c in range(1000):
+        lines.append(f"component c{c}")
+        lines += [f"state s{s:056d}" + (" init" if s == 0 else "") for s in range(256)]
+    return "\n".join(lines)[:MODEL_LIMIT - 1000] + "\n"
+
+
+def parts():
+    """One event line that names the same part over and over."""
+    head = "des 1\ncomponent c\nstate s init\ntrans s a s\nevent e :"
+    return head + " c.a" * ((MODEL_LIMIT - len(head) - 1) // 4) + "\n"
+
+
+def padded(lines):
+    text = "\n".join(lines) + "\n"
+    filler = "# " + "x" * 97 + "\n"
+    return text + filler * ((MODEL_LIMIT - len(text)) // len(filler))
+
+
+def small():
+    return "des 1\ncomponent c\nstate s init\nstate t\ntrans s go t\ntrans t back s\nevent go : c.go\nevent back fault : c.back\n"
+
+
+def long_run():
+    return "run 4000000\n" + "go\nback\n" * 2_000_000
+
+
+def plain_read(path):
+    start = time.perf_counter()
+    with open(path, "rb") as f:
+        while f.read(2**20):
+            pass
+    return time.perf_counter() - start
+
+
+def timed(program, model, run):
+    start = time.perf_counter()
+    child = subprocess.Popen([program, "trace", model, run], stdout=subprocess.PIPE)
+    out = child.stdout.read().decode()
+    _, status, usage = os.wait4(child.pid, 0)
+    return time.perf_counter() - start, usage.ru_maxrss / 1024, os.waitstatus_to_exitcode(status), out.strip()
+
+
+def written(path, text_of):
+    """Writes a file in a process of its own, so that this one stays small: a child's peak of memory begins with its parent's."""
+    child = os.fork()
+    if child == 0:
+        with open(path, "w", encoding="ascii") as f:
+            f.write(text_of())
+        os._exit(0)
+    os.waitpid(child, 0)
+    return os.path.getsize(path)
+
+
+def main():
+    program = os.path.abspath(sys.argv[1])
+    cases = [
+        ("50,000 transitions, 1,000 components", transitions, lambda: "run 0\n"),
+        ("50,000 transitions, one component", one_component, lambda: "run 1\ne\n"),
+        ("states under long names", states, lambda: "run 0\n"),
+        ("one line of very many parts", parts, lambda: "run 0\n"),
+        ("run of 4,000,000 steps", small, long_run),
+    ]
+    print(f"{'input':40} {'MiB':>6} {'seconds':>8} {'read':>8} {'ratio':>7} {'memory MiB':>11}  answer")
+    with tempfile.TemporaryDirectory() as folder:
+        model, run = os.path.join(folder, "model"), os.path.join(folder, "run")
+        for name, model_text, run_text in cases:
+            size = (written(model, model_text) + written(run, run_text)) / 2**20
+            read = plain_read(model) + plain_read(run)
+            seconds, memory, status, out = timed(program, model, run)
+            print(f"{name:40} {size:6.1f} {seconds:8.2f} {read:8.3f} {seconds / read:7.0f} {memory:11.1f}  {status} {out}")
+
+
+if __name__ == "__main__":
+    main()

@@ -1,0 +1,83 @@
+-- Each file that is too long and each fault of a text has its status.
+use Rattle.std.proofs.Common.{◌≡◌, ◌≢◌, inl, inr, ℕ, ◌+◌, ◌<◌, ◌≤◌, List, [], ◌∷◌, ◌++◌, length, Bool, true, false, nat_lt, Option, Some, None, Ok, Err, IfSome, MatchOption, IsErrAnd, refl, sym, ap, subst, append-nil, arith}
+use Rattle.std.specs.Prelude.{if◌then◌else◌, option_and_then}
+use Rattle.std.specs.List.{concat}
+use Rattle.std.proofs.lemmas.Bool.Decides.{nat_tests}
+use Rattle.des_base.specs.Outside.{Took}
+use Rattle.des_base.specs.CommandWords.{word_at}
+use Rattle.diagnose_cli.specs.declared.command.Command.{Command}
+use Rattle.diagnose_cli.specs.declared.ending.Stop.{Stop}
+use Rattle.diagnose_cli.specs.declared.ending.Stop.TheVariants.{Usage, Load, Model, Run, Long, Memory}
+use Rattle.diagnose_cli.specs.Transcripts.{Ending, Transcript}
+use Rattle.diagnose_cli.specs.Files.{Loads, StopsAt}
+use Rattle.diagnose_cli.specs.Endings.{HasStatus, status_of_stop, text_of_stop, texts_of}
+use Rattle.diagnose_cli.specs.Commands.{FileKind, limit_of, stop_of_text, files_of, InOrder, Answers, command_of}
+use Rattle.diagnose_cli.specs.Exact.{past, first_stop, stop_of_command, StopRow}
+use Rattle.diagnose_cli.specs.Run.{Ends}
+
+-- e is the stop that is stated, if one is
+abbrev Is : Ending → Option Stop → Type 0
+Is e o = IfSome o (λ stop. e ≡ Err stop)
+
+lt_true : (a b : ℕ) → a < b → nat_lt a b ≡ true
+lt_true a b h = grind (arith, nat_tests)
+
+lt_false : (a b : ℕ) → b ≤ a → nat_lt a b ≡ false
+lt_false a b h = grind (arith, nat_tests)
+
+long_here : (o : Option (List ℕ)) (e : Ending) (i limit : ℕ) (rest : List ℕ → Option Stop) → e ≡ Err (Long i) → IfSome o (λ held. limit < length held)
+    → Is e (option_and_then (λ bytes. if nat_lt limit (length bytes) then Some (Long i) else rest bytes) o)
+long_here None e i limit rest p h = tt
+long_here (Some bytes) e i limit rest p h = subst (λ (b : Bool). Is e (if b then Some (Long i) else rest bytes)) (sym (lt_true limit (length bytes) h)) p
+
+holds_here : (o : Option (List ℕ)) (e : Ending) (i limit : ℕ) (bytes : List ℕ) (rest : List ℕ → Option Stop) → IfSome o (λ held. held ≡ bytes) → length bytes ≤ limit → Is e (rest bytes)
+    → Is e (option_and_then (λ bytes. if nat_lt limit (length bytes) then Some (Long i) else rest bytes) o)
+holds_here None e i limit bytes rest p h q = tt
+holds_here (Some held) e i limit bytes rest p h q =
+    subst (λ (ns : List ℕ). Is e (if nat_lt limit (length ns) then Some (Long i) else rest ns)) (sym p)
+    (subst (λ (b : Bool). Is e (if b then Some (Long i) else rest bytes)) (sym (lt_false limit (length bytes) h)) q)
+
+past_here : (o : Option Stop) (e : Ending) (rest : Option Stop) (P : Type 0) → MatchOption o P (λ stop. e ≡ Err stop) → (P → Is e rest) → Is e (past o rest)
+past_here None e rest P h f = f h
+past_here (Some stop) e rest P h f = h
+
+-- it stopped at a file, neither by its load nor by want of memory
+stopped_here : (l : Loads) (i : ℕ) (name : List ℕ) (limit : ℕ) (e : Ending) (rest : List ℕ → Option Stop) → e ≢ Err Memory → ((j : ℕ) → e ≢ Err (Load j)) → IsErrAnd e (StopsAt l i name limit)
+    → Is e (option_and_then (λ bytes. if nat_lt limit (length bytes) then Some (Long i) else rest bytes) (l.held name))
+stopped_here l i name limit (Ok t) rest m n h = absurd h
+stopped_here l i name limit (Err Usage) rest m n h = absurd h
+stopped_here l i name limit (Err (Load j)) rest m n h = absurd (n j refl)
+stopped_here l i name limit (Err (Model fault)) rest m n h = absurd h
+stopped_here l i name limit (Err (Run fault)) rest m n h = absurd h
+stopped_here l i name limit (Err (Long j)) rest m n h = long_here (l.held name) (Err (Long j)) i limit rest (ap (λ k. Err (Long k)) h.0) h.1
+stopped_here l i name limit (Err Memory) rest m n h = absurd (m refl)
+
+in_order_exact : (l : Loads) (words : List (List ℕ)) (i : ℕ) (kinds : List FileKind) (files : List (List ℕ)) (says : List (List ℕ) → Transcript → Type 0) (e : Ending)
+    → e ≢ Err Memory → ((j : ℕ) → e ≢ Err (Load j)) → InOrder l words i kinds files says e → Is e (first_stop l.held words i kinds files)
+in_order_exact l words i [] files says e m n h = tt
+in_order_exact l words i (kind ∷ kinds) files says e m n h =
+    let rest : List ℕ → Option Stop = λ bytes. past (stop_of_text kind files bytes) (first_stop l.held words (i + 1) kinds (files ++ bytes ∷ [])) in
+    elim h [
+      | inl s ↦ stopped_here l i (word_at words i) (limit_of kind) e rest m n s
+      | inr b ↦
+          holds_here (l.held (word_at words i)) e i (limit_of kind) b.0 rest b.1.told b.1.fits
+          (past_here (stop_of_text kind files b.0) e _ _ b.2 (in_order_exact l words (i + 1) kinds (files ++ b.0 ∷ []) says e m n))
+    ]
+
+due_exact : (l : Loads) (words : List (List ℕ)) (o : Option Command) (e : Ending)
+    → e ≢ Err Memory → ((j : ℕ) → e ≢ Err (Load j)) → MatchOption o (e ≡ Err Usage) (λ c. Answers l words c e) → Is e (stop_of_command l.held words o)
+due_exact l words None e m n h = h
+due_exact l words (Some c) e m n h = in_order_exact l words 1 (files_of c) [] _ e m n h
+
+row_here : (o : Option Stop) (e : Ending) (b n : Option (List ℕ)) (s : ℕ) → Is e o → HasStatus e s → Took b n (concat (texts_of e))
+    → IfSome o (λ stop. (s ≡ status_of_stop stop) × Took b n (text_of_stop stop))
+row_here None e b n s h p t = tt
+row_here (Some stop) e b n s h p t =
+    (subst (λ (x : Ending). HasStatus x s) h p, subst (Took b n) (append-nil (text_of_stop stop)) (subst (λ (x : Ending). Took b n (concat (texts_of x))) h t))
+
+pub stop_row : (l : Loads) (words : List (List ℕ)) (b n : Option (List ℕ)) (s : ℕ) → Ends l words b n s → s ≢ 3 → s ≢ 9 → StopRow l.held words b n s
+stop_row l words b n s ends three nine =
+    let e = ends.ending in
+    let m : e ≢ Err Memory = λ p. nine (subst (λ (x : Ending). HasStatus x s) p ends.shown) in
+    let k : (j : ℕ) → e ≢ Err (Load j) = λ j p. three (subst (λ (x : Ending). HasStatus x s) p ends.shown) in
+    row_here (stop_of_command l.held words (command_of words)) e b n s (due_exact l words (command_of words) e m k (ends.due m)) ends.shown ends.put

@@ -1,0 +1,9 @@
+pub mod Once
+pub mod Earlier
+pub mod Orders
+pub mod Rows
+pub mod Exact
+pub mod Reading
+pub mod TraceAnswers
+pub mod TraceRows
+pub mod UsageRows

@@ -1,0 +1,87 @@
+-- The commands, the files that each one needs, and what it may say over them.
+use Rattle.std.specs.Prelude.{◌≡◌, ℕ, ◌+◌, List, [], ◌∷◌, ◌++◌, length, codes, Bool, ◌&&◌, nat_eq, Option, Some, None, if◌then◌else◌, Err, IsOkAnd, MatchOption, bytes_eq, option_map}
+use Rattle.des_base.specs.CommandWords.{word_at}
+use Rattle.des_net.specs.Network.{Net}
+use Rattle.model_text.specs.ModelFaults.{network_of, first_fault as first_model_fault}
+use Rattle.replay.specs.RunText.{run_of, first_fault as first_run_fault}
+use Rattle.replay.specs.Traced.{word_of, IsTraced}
+use Rattle.replay.specs.declared.tracing.Traced.{Traced}
+use Rattle.replay.specs.declared.tracing.Traced.TheVariants.{Ran, Stuck}
+use Rattle.diagnose_cli.specs.declared.command.Command.{Command}
+use Rattle.diagnose_cli.specs.declared.command.Command.TheVariants.{Trace}
+use Rattle.diagnose_cli.specs.declared.ending.Stop.{Stop}
+use Rattle.diagnose_cli.specs.declared.ending.Stop.TheVariants.{Usage, Model, Run}
+use Rattle.diagnose_cli.specs.declared.ending.Kind.{Kind}
+use Rattle.diagnose_cli.specs.declared.ending.Kind.TheVariants.{Done, Rejected}
+use Rattle.diagnose_cli.specs.Transcripts.{Ending, Transcript, whole}
+use Rattle.diagnose_cli.specs.Endings.{numbered}
+use Rattle.diagnose_cli.specs.Files.{Loads, WithFile}
+
+-- this many words, of which the first is the name
+abbrev pub calls : List (List ℕ) → List ℕ → ℕ → Bool
+calls words name count = nat_eq (length words) count && bytes_eq (word_at words 0) name
+
+-- the command that the words call, if they call one
+abbrev pub command_of : List (List ℕ) → Option Command
+command_of words =
+    if calls words (codes "trace") 3 then Some Trace
+    else None
+
+-- the kinds of files
+pub data FileKind : Type 0 where
+  model : FileKind
+  run : FileKind
+
+-- how many bytes a file of this kind may have
+abbrev pub limit_of : FileKind → ℕ
+limit_of model = 16777216
+limit_of run = 536870912
+
+-- Why a text is refused. Until the readers tell the places of faults, each is told as 0 0.
+abbrev pub stop_of_model_text : List ℕ → Option Stop
+stop_of_model_text bytes = option_map (λ _. Model (record { line = 0; code = 0 })) (first_model_fault bytes)
+
+abbrev pub stop_of_run_text : Net → List ℕ → Option Stop
+stop_of_run_text net bytes = option_map (λ _. Run (record { line = 0; code = 0 })) (first_run_fault net bytes)
+
+-- the same by the kind of the file, where the files before it are given: a run is read over the model
+abbrev pub stop_of_text : FileKind → List (List ℕ) → List ℕ → Option Stop
+stop_of_text model files bytes = stop_of_model_text bytes
+stop_of_text run [] bytes = None
+stop_of_text run (text ∷ files) bytes = stop_of_run_text (network_of text) bytes
+
+-- the files of a command, in the order of the words
+abbrev pub files_of : Command → List FileKind
+files_of Trace = model ∷ run ∷ []
+
+abbrev pub reply_of_traced : Traced → Kind × List ℕ
+reply_of_traced (Ran faults) = (Done, numbered (codes "RAN ") faults)
+reply_of_traced (Stuck at) = (Rejected, numbered (codes "REJECTED STUCK ") at)
+
+-- the reply tells what tracing the word of the run text on the network of the model text tells
+abbrev pub SaysTraced : List ℕ → List ℕ → (Kind × List ℕ) → Type 0
+SaysTraced text steps reply =
+    (traced : Traced) × IsTraced (network_of text) (word_of (run_of (network_of text) steps)) traced × (reply ≡ reply_of_traced traced)
+
+-- what a command may say over the bytes of its files
+abbrev pub Says : Command → List (List ℕ) → Transcript → Type 0
+Says Trace (text ∷ steps ∷ []) told = (reply : Kind × List ℕ) × SaysTraced text steps reply × (told ≡ whole reply)
+Says _ _ told = ⊥
+
+-- The files from number i on, in order: for each its load, its length and its text. Then what is said.
+abbrev pub InOrder : Loads → List (List ℕ) → ℕ → List FileKind → List (List ℕ) → (List (List ℕ) → Transcript → Type 0) → Ending → Type 0
+InOrder l words i [] files says e = IsOkAnd e (says files)
+InOrder l words i (kind ∷ kinds) files says e =
+    WithFile l i (word_at words i) (limit_of kind)
+    (λ bytes e. MatchOption (stop_of_text kind files bytes) (InOrder l words (i + 1) kinds (files ++ bytes ∷ []) says e) (λ stop. e ≡ Err stop)) e
+
+abbrev pub Answers : Loads → List (List ℕ) → Command → Ending → Type 0
+Answers l words c = InOrder l words 1 (files_of c) [] (Says c)
+
+-- what may be answered for these words, but for want of memory
+abbrev pub Due : Loads → List (List ℕ) → Ending → Type 0
+Due l words e = MatchOption (command_of words) (e ≡ Err Usage) (λ c. Answers l words c e)
+
+-- how many files a command names
+abbrev pub file_count : Command → ℕ
+file_count c = length (files_of c)

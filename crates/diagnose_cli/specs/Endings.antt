@@ -1,0 +1,57 @@
+-- The status of an ending, and its texts.
+use Rattle.std.specs.Prelude.{◌≡◌, ℕ, List, [], ◌∷◌, ◌++◌, codes, Ok, Err, IsSomeAnd, decimal}
+use Rattle.diagnose_cli.specs.declared.ending.Stop.{Stop}
+use Rattle.diagnose_cli.specs.declared.ending.Stop.TheVariants.{Usage, Load, Model, Run, Long, Memory}
+use Rattle.model_text.specs.declared.fault.ModelRefusal.{ModelRefusal}
+use Rattle.model_text.specs.declared.fault.ModelRefusal.TheVariants.{Fault as ModelFaulty, Memory as ModelMemory}
+use Rattle.replay.specs.declared.run_text.RunRefusal.{RunRefusal}
+use Rattle.replay.specs.declared.run_text.RunRefusal.TheVariants.{Fault as RunFaulty, Memory as RunMemory}
+use Rattle.diagnose_cli.specs.declared.ending.Kind.{Kind}
+use Rattle.diagnose_cli.specs.declared.ending.Kind.TheVariants.{Done, Rejected}
+use Rattle.diagnose_cli.specs.Transcripts.{Ending}
+
+abbrev pub status_of_kind : Kind → ℕ
+status_of_kind Done = 0
+status_of_kind Rejected = 13
+
+abbrev pub status_of_stop : Stop → ℕ
+status_of_stop Usage = 2
+status_of_stop (Load file) = 3
+status_of_stop (Model fault) = 5
+status_of_stop (Run fault) = 7
+status_of_stop (Long file) = 8
+status_of_stop Memory = 9
+
+-- why a command stops, where a reader refuses its text
+abbrev pub stop_of_model : ModelRefusal → Stop
+stop_of_model (ModelFaulty fault) = Model fault
+stop_of_model ModelMemory = Memory
+
+abbrev pub stop_of_run : RunRefusal → Stop
+stop_of_run (RunFaulty fault) = Run fault
+stop_of_run RunMemory = Memory
+
+-- it is an end, and this is its status
+abbrev pub HasStatus : Ending → ℕ → Type 0
+HasStatus (Ok told) status = IsSomeAnd told.done (λ kind. status ≡ status_of_kind kind)
+HasStatus (Err stop) status = status ≡ status_of_stop stop
+
+-- words, a number and the end of the line
+abbrev pub numbered : List ℕ → ℕ → List ℕ
+numbered words n = words ++ decimal n ++ 10 ∷ []
+
+-- words, the line and the code of a fault, and the end of the line
+abbrev pub placed : List ℕ → ℕ → ℕ → List ℕ
+placed words line code = words ++ decimal line ++ 32 ∷ decimal code ++ 10 ∷ []
+
+abbrev pub text_of_stop : Stop → List ℕ
+text_of_stop Usage = codes "USAGE\n"
+text_of_stop (Load file) = numbered (codes "LOAD ") file
+text_of_stop (Model fault) = placed (codes "MODEL ") fault.line fault.code
+text_of_stop (Run fault) = placed (codes "RUN ") fault.line fault.code
+text_of_stop (Long file) = numbered (codes "LONG ") file
+text_of_stop Memory = []
+
+abbrev pub texts_of : Ending → List (List ℕ)
+texts_of (Ok told) = told.texts
+texts_of (Err stop) = text_of_stop stop ∷ []

@@ -1,0 +1,31 @@
+ghost use Rattle.std.specs.Prelude.{◌≡◌, length, IfSome, ◌<◌};
+ghost use Rattle.diagnose_cli.specs.Commands.{calls, command_of, file_count};
+
+use des_base::WordList;
+
+/// What the words of a command line ask for.
+#[derive(Clone, Copy, Debug, PartialEq, Eq)]
+pub enum Command {
+    /// `trace MODEL RUN`: can the network perform the run.
+    Trace,
+}
+
+// Whether these are this many words and the first is the name.
+fn is_call(words: &WordList, name: &str, count: usize) -> bool
+    requires { 0 < count }
+    ensures { result ≡ calls words.now name.now count }
+{
+    words.len() == count && words.word(0) == name
+}
+
+/// The command that the words call, if they call one.
+pub fn command_of(words: &WordList) -> Option<Command>
+    ensures command { result ≡ command_of words.now }
+    ensures files { IfSome result (λ c. file_count c < length words.now) }
+{
+    if is_call(words, "trace", 3) {
+        Some(Command::Trace)
+    } else {
+        None
+    }
+}

@@ -1,0 +1,83 @@
+ghost use Rattle.std.specs.Prelude.{◌≡◌, ◌≢◌, ℕ, ◌^◌, ◌<◌, ◌≤◌, List, length, All, IfOk, IfErr, OnOk};
+ghost use Rattle.des_base.specs.CommandWords.{word_at};
+ghost use Rattle.model_text.specs.ModelFaults.{network_of};
+ghost use Rattle.replay.specs.RunText.{run_of};
+ghost use Rattle.replay.specs.Traced.{word_of};
+ghost use Rattle.diagnose_cli.specs.Commands.{stop_of_model_text, stop_of_run_text};
+ghost use Rattle.diagnose_cli.specs.Files.{loads, Fetches, IsText, StopsIn};
+
+use crate::ending::Stop;
+use des_base::{LoadFault, Shelf, WordList};
+use des_net::Network;
+use model_text::read_model;
+use replay::{Run, read_run};
+use std::alloc::Global;
+
+const MODEL_LIMIT: u64 = 16_777_216;
+
+const RUN_LIMIT: u64 = 536_870_912;
+
+/// The network of the model in this place among the command's files.
+#[tactic(auto, using(crate::proofs::Reading::model_stops, crate::proofs::Reading::model_read))]
+pub fn fetch_model<F: Shelf>(
+    alloc: Global,
+    words: &WordList,
+    shelf: &mut F,
+    place: u32,
+) -> Result<Network, Stop>
+    requires { place < length words.now }
+    ensures net { IfOk result (λ net. (text : List ℕ) × IsText (F.held shelf.old) (word_at words.now place) MODEL_LIMIT stop_of_model_text text × (net ≡ network_of text)) }
+    ensures stop { IfErr result (λ stop. stop ≢ Stop.Memory → StopsIn (loads F.held F.faults shelf.old shelf.new) place (word_at words.now place) MODEL_LIMIT stop_of_model_text stop) }
+    ensures kept { F.held shelf.new ≡ F.held shelf.old }
+    ensures never_falls { (n : List ℕ) → F.faults shelf.old n ≤ F.faults shelf.new n }
+{
+    let text = fetch(alloc, shelf, place, words.word(place as usize), MODEL_LIMIT)?;
+    Ok(read_model(alloc, text.as_slice())?)
+}
+
+/// The run in this place among the command's files, over the network.
+#[tactic(auto, using(crate::proofs::Reading::run_stops, crate::proofs::Reading::run_read))]
+pub fn fetch_run<F: Shelf>(
+    alloc: Global,
+    words: &WordList,
+    shelf: &mut F,
+    place: u32,
+    net: &Network,
+) -> Result<Run, Stop>
+    requires { place < length words.now }
+    ensures run { IfOk result (λ run. (text : List ℕ) × IsText (F.held shelf.old) (word_at words.now place) RUN_LIMIT (stop_of_run_text net.now) text × (run ≡ run_of net.now text)) }
+    ensures known { IfOk result (λ run. All (λ e. e < length net.now.events) (word_of run)) }
+    ensures stop { IfErr result (λ stop. stop ≢ Stop.Memory → StopsIn (loads F.held F.faults shelf.old shelf.new) place (word_at words.now place) RUN_LIMIT (stop_of_run_text net.now) stop) }
+    ensures kept { F.held shelf.new ≡ F.held shelf.old }
+    ensures never_falls { (n : List ℕ) → F.faults shelf.old n ≤ F.faults shelf.new n }
+{
+    let text = fetch(alloc, shelf, place, words.word(place as usize), RUN_LIMIT)?;
+    Ok(read_run(alloc, text.as_slice(), net)?)
+}
+
+// The bytes of the file in this place among the command's files.
+fn fetch<F: Shelf>(
+    alloc: Global,
+    shelf: &mut F,
+    place: u32,
+    name: &str,
+    limit: u64,
+) -> Result<Vec<u8>, Stop>
+    requires { limit < 2 ^ 63 }
+    ensures fetches { Fetches (loads F.held F.faults shelf.old shelf.new) place name.now limit result }
+    ensures kept { F.held shelf.new ≡ F.held shelf.old }
+    ensures never_falls { (n : List ℕ) → F.faults shelf.old n ≤ F.faults shelf.new n }
+{
+    let mut bytes = Vec::new(alloc);
+    match shelf.load(name, limit, &mut bytes) {
+        Ok(()) => {
+            if bytes.len() as u64 <= limit {
+                Ok(bytes)
+            } else {
+                Err(Stop::Long(place))
+            }
+        }
+        Err(LoadFault::Failed) => Err(Stop::Load(place)),
+        Err(LoadFault::Memory) => Err(Stop::Memory),
+    }
+}

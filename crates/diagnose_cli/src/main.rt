@@ -1,0 +1,48 @@
+//! A diagnoser for networks of component automata: the program.
+//!
+//! `run` does all that the program does, over a shelf of files and a sink for the output; its contract is the main
+//! theorem. `main` takes the words of the command line, the real files and the real output, calls `run`, and exits with
+//! the status that it answers.
+#![tactic(auto)]
+
+mod command;
+mod disk_shelf;
+mod ending;
+mod files;
+mod out_sink;
+mod run;
+#[cfg(test)]
+mod tests;
+mod trace_command;
+
+use des_base::{Memory, WordList};
+use disk_shelf::DiskShelf;
+use out_sink::OutSink;
+use std::alloc::Global;
+use std::io::ErrorKind;
+use std::process::ExitCode;
+use std::{env, io};
+
+// The words of the command line, without the program's name.
+fn words_of(alloc: Global, args: env::Args) -> Result<WordList, Memory> {
+    let mut words = WordList::new(alloc);
+    for arg in args.skip(1) {
+        words.push(arg.as_str())?;
+    }
+    Ok(words)
+}
+
+fn main(rt: HostRuntime) -> ExitCode {
+    let args = match env::args(&rt) {
+        Ok(args) => args,
+        Err(error) if error.kind() == ErrorKind::OutOfMemory => return ExitCode::from(9),
+        Err(_) => return ExitCode::from(1),
+    };
+    let words = match words_of(rt.alloc(), args) {
+        Ok(words) => words,
+        Err(Memory) => return ExitCode::from(9),
+    };
+    let mut shelf = DiskShelf::new(&rt);
+    let mut out = OutSink::new(io::writer(&rt));
+    ExitCode::from(run::run(rt.alloc(), &words, &mut shelf, &mut out))
+}

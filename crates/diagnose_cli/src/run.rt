@@ -1,0 +1,50 @@
+// All that the program does, but for where its words, files and output come from.
+ghost use Rattle.std.specs.Prelude.{◌≡◌, ◌≢◌, None};
+ghost use Rattle.des_base.specs.Outside.{Rose};
+ghost use Rattle.diagnose_cli.specs.Files.{loads};
+ghost use Rattle.diagnose_cli.specs.Transcripts.{UnlessMemory, once};
+ghost use Rattle.diagnose_cli.specs.Commands.{Due, command_of};
+ghost use Rattle.diagnose_cli.specs.Exact.{StopRow};
+ghost use Rattle.diagnose_cli.specs.Run.{Ran, Ends, Broke, CutOff, LoadRow};
+ghost use Rattle.diagnose_cli.specs.Trace.{TraceRow};
+
+use crate::command::{Command, command_of};
+use crate::ending::{Reply, Stop, put_once};
+use crate::trace_command::trace_command;
+use des_base::{Shelf, Sink, WordList};
+use std::alloc::Global;
+
+/// Does what the words say, and answers the exit status.
+///
+/// A clause that speaks of what the shelf holds or of what the sink took holds wherever these tell it.
+#[tactic(auto, using(crate::proofs::Rows::load_row, crate::proofs::Exact::stop_row, crate::proofs::TraceRows::trace_row, crate::proofs::UsageRows::usage_row))]
+pub fn run<F: Shelf, S: Sink>(alloc: Global, words: &WordList, shelf: &mut F, out: &mut S) -> u8
+    ensures ends { result ≢ 4 → result ≢ 9 → Ends (loads F.held F.faults shelf.old shelf.new) words.now (S.taken out.old) (S.taken out.new) result }
+    ensures traced { result ≢ 3 → result ≢ 4 → result ≢ 9 → TraceRow (F.held shelf.old) words.now (S.taken out.old) (S.taken out.new) result }
+    ensures stops { result ≢ 3 → result ≢ 4 → result ≢ 9 → StopRow (F.held shelf.old) words.now (S.taken out.old) (S.taken out.new) result }
+    ensures usage { result ≡ 2 → command_of words.now ≡ None }
+    ensures load_failed { result ≡ 3 → LoadRow (loads F.held F.faults shelf.old shelf.new) words.now (S.taken out.old) (S.taken out.new) }
+    ensures put_failed { result ≡ 4 → Rose (S.faults out.old) (S.faults out.new) }
+    ensures cut_off { result ≡ 4 → CutOff (loads F.held F.faults shelf.old shelf.new) words.now (S.taken out.old) (S.taken out.new) }
+    ensures broke { result ≡ 9 → Broke (loads F.held F.faults shelf.old shelf.new) words.now (S.taken out.old) (S.taken out.new) }
+{
+    run_once(alloc, words, shelf, out)
+}
+
+// A command that has one reply.
+fn run_once<F: Shelf, S: Sink>(alloc: Global, words: &WordList, shelf: &mut F, out: &mut S) -> u8
+    ensures { Ran (loads F.held F.faults shelf.old shelf.new) words.now (S.taken out.old) (S.taken out.new) (Rose (S.faults out.old) (S.faults out.new)) result }
+{
+    let ending = answer(alloc, words, shelf);
+    put_once(alloc, ending, out)
+}
+
+// The one reply to a command.
+fn answer<F: Shelf>(alloc: Global, words: &WordList, shelf: &mut F) -> Result<Reply, Stop>
+    ensures { UnlessMemory result (Due (loads F.held F.faults shelf.old shelf.new) words.now (once result)) }
+{
+    match command_of(words) {
+        None => Err(Stop::Usage),
+        Some(Command::Trace) => trace_command(alloc, words, shelf),
+    }
+}
