@@ -1,0 +1,10 @@
+pub mod BoolLemmas
+pub mod Places
+pub mod Reaching
+pub mod OrderLemmas
+pub mod MarkLemmas
+pub mod PassLemmas
+pub mod KeptLemmas
+pub mod AlarmLemmas
+pub mod LeastOrder
+pub mod Vectors

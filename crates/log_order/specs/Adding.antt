@@ -1,0 +1,84 @@
+-- What each call on a log refuses, what it adds, and what stays true of the log.
+use Rattle.std.specs.Prelude.{◌≡◌, ⊤, ℕ, ◌≤◌, nat_le, nat_lt, ◌&&◌, ◌||◌, not, List, [], ◌∷◌, ◌++◌, map, length, Option, Some, None, is_some, if◌then◌else◌, Result, Ok, Err, bytes_eq}
+use Rattle.std.specs.List.{list_any, AllByRecursion}
+use Rattle.des_base.specs.Names.{place_of, AreNames}
+use Rattle.log_order.specs.declared.refusal.LogRefusal.{LogRefusal}
+use Rattle.log_order.specs.declared.refusal.LogRefusal.TheVariants.{Double, Unknown, Cycle, NoLabels, Limit, Memory}
+use Rattle.log_order.specs.Log.{Log, Alarm, IsValidLog, has_pair, closes_cycle}
+
+abbrev pub most_alarms : ℕ
+most_alarms = 2000
+
+-- given for one alarm
+abbrev pub most_labels : ℕ
+most_labels = 64
+
+abbrev pub most_pairs : ℕ
+most_pairs = 20000
+
+-- a call's answer, where this is the refusal that the log calls for: want of memory may come in place of any answer
+abbrev pub Answers : {X : Type 0} → Result X LogRefusal → Option LogRefusal → Type 0
+Answers (Ok x) refusal = refusal ≡ None
+Answers (Err Memory) refusal = ⊤
+Answers (Err Double) refusal = refusal ≡ Some Double
+Answers (Err Unknown) refusal = refusal ≡ Some Unknown
+Answers (Err Cycle) refusal = refusal ≡ Some Cycle
+Answers (Err NoLabels) refusal = refusal ≡ Some NoLabels
+Answers (Err Limit) refusal = refusal ≡ Some Limit
+
+abbrev pub names_of : List Alarm → List (List ℕ)
+names_of alarms = map (λ alarm. alarm.name) alarms
+
+-- ---- an alarm
+
+-- an alarm is refused where one has its name, where no label is given, and where there are as many as there may be or too many labels are given
+unfoldable pub alarm_refusal : Log → List ℕ → List (List ℕ) → Option LogRefusal
+alarm_refusal log name labels =
+    if is_some (place_of name (names_of log.alarms)) then Some Double
+    else if nat_le (length labels) 0 then Some NoLabels
+    else if nat_le most_alarms (length log.alarms) || nat_lt most_labels (length labels) then Some Limit
+    else None
+
+-- the texts, and this one last where it isn't there
+abbrev pub with_text : List (List ℕ) → List ℕ → List (List ℕ)
+with_text texts text = if list_any (bytes_eq text) texts then texts else texts ++ text ∷ []
+
+-- and each of the others, where it isn't there yet
+abbrev pub with_texts : List (List ℕ) → List (List ℕ) → List (List ℕ)
+with_texts texts [] = texts
+with_texts texts (other ∷ others) = with_texts (with_text texts other) others
+
+-- it is added last, with each of its labels once, at its first place
+abbrev pub with_alarm : Log → List ℕ → List (List ℕ) → Log
+with_alarm log name labels = record log { alarms = log.alarms ++ record { name = name; labels = with_texts [] labels } ∷ [] }
+
+-- ---- a pair
+
+-- a pair is refused where an alarm isn't there, where it closes a cycle, and where it is new and there are as many as there may be
+unfoldable pub before_refusal : ℕ → List (ℕ × ℕ) → ℕ → ℕ → Option LogRefusal
+before_refusal alarms pairs first second =
+    if nat_lt first alarms && nat_lt second alarms then
+    if closes_cycle pairs first second then Some Cycle
+    else if not (has_pair pairs first second) && nat_le most_pairs (length pairs) then Some Limit
+    else None
+    else Some Unknown
+
+-- it is added last where it is new
+abbrev pub with_pair : List (ℕ × ℕ) → ℕ → ℕ → List (ℕ × ℕ)
+with_pair pairs first second = if has_pair pairs first second then pairs else pairs ++ (first, second) ∷ []
+
+-- ---- what is true of a log
+
+-- an alarm has a label, each is a name and stands once, and they are no more than may be given
+pub record IsAlarm (alarm : Alarm) : Type 0 where
+  pub labels : AreNames alarm.labels
+  pub some : 1 ≤ length alarm.labels
+  pub few : length alarm.labels ≤ most_labels
+
+-- a valid log whose alarms have names of their own, within the limits
+pub record IsLog (log : Log) : Type 0 where
+  pub valid : IsValidLog log
+  pub names : AreNames (names_of log.alarms)
+  pub alarms : AllByRecursion IsAlarm log.alarms
+  pub few_alarms : length log.alarms ≤ most_alarms
+  pub few_pairs : length log.pairs ≤ most_pairs

@@ -1,0 +1,69 @@
+-- Alarm logs, and the orders of their alarms that keep one.
+use Rattle.std.specs.Prelude.{ℕ, ⊤, ◌<◌, Bool, ◌&&◌, ◌||◌, ◌==◌, List, [], ◌∷◌, length, Contains, ◌≢◌, slice_get, option_map, unwrap_or}
+use Rattle.std.specs.List.{list_any, position_or_len, AllByRecursion}
+
+-- an alarm, and the labels that it may stand for
+pub record Alarm : Type 0 where
+  pub name : List ℕ
+  pub labels : List (List ℕ)
+
+-- Alarms are numbered by their places. A pair says that its first alarm comes before its second.
+pub record Log : Type 0 where
+  pub alarms : List Alarm
+  pub pairs : List (ℕ × ℕ)
+
+abbrev pub no_log : Log
+no_log = record { alarms = []; pairs = [] }
+
+-- the labels that alarm i may stand for
+abbrev pub labels_of : Log → ℕ → List (List ℕ)
+labels_of log i = unwrap_or (option_map (λ alarm. alarm.labels) (slice_get log.alarms i)) []
+
+-- ---- orders
+
+-- P holds of each element with each later one
+abbrev pub EachPair : {X : Type 0} → (X → X → Type 0) → List X → Type 0
+EachPair P [] = ⊤
+EachPair P (x ∷ xs) = AllByRecursion (P x) xs × EachPair P xs
+
+-- a list of the numbers below m, each once
+pub record ListsOnce (m : ℕ) (order : List ℕ) : Type 0 where
+  pub below : AllByRecursion (λ i. i < m) order
+  pub each : (i : ℕ) → i < m → Contains order i
+  pub once : EachPair (λ i j. i ≢ j) order
+
+-- where i stands in the list first, or the length of the list where it doesn't
+abbrev pub place_in : List ℕ → ℕ → ℕ
+place_in order i = position_or_len (λ j. j == i) order
+
+-- i stands before j for each pair (i, j)
+abbrev pub Keeps : List ℕ → List (ℕ × ℕ) → Type 0
+Keeps order pairs = AllByRecursion (λ pair. place_in order pair.0 < place_in order pair.1) pairs
+
+-- the pairs are of numbers below m
+abbrev pub AreKnown : ℕ → List (ℕ × ℕ) → Type 0
+AreKnown m pairs = AllByRecursion (λ pair. (pair.0 < m) × (pair.1 < m)) pairs
+
+-- all numbers are in range, and some order of all of them keeps every pair
+pub record AreOrdered (m : ℕ) (pairs : List (ℕ × ℕ)) : Type 0 where
+  pub known : AreKnown m pairs
+  pub order : List ℕ
+  pub complete : ListsOnce m order
+  pub kept : Keeps order pairs
+
+abbrev pub IsValidLog : Log → Type 0
+IsValidLog log = AreOrdered (length log.alarms) log.pairs
+
+-- ---- what follows what
+
+abbrev pub has_pair : List (ℕ × ℕ) → ℕ → ℕ → Bool
+has_pair pairs i j = list_any (λ pair. pair.0 == i && pair.1 == j) pairs
+
+-- j is i, or is reached from i by pairs, each going on where the one before it ends: without the first pair, or by it once
+abbrev pub reaches : List (ℕ × ℕ) → ℕ → ℕ → Bool
+reaches [] i j = i == j
+reaches (pair ∷ pairs) i j = reaches pairs i j || (reaches pairs i pair.0 && reaches pairs pair.1 j)
+
+-- the pair (i, j) closes a cycle
+abbrev pub closes_cycle : List (ℕ × ℕ) → ℕ → ℕ → Bool
+closes_cycle pairs i j = reaches pairs j i

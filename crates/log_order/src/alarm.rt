@@ -1,0 +1,71 @@
+ghost use Rattle.std.specs.Prelude.{◌≡◌, ◌<◌, ◌≤◌, [], length, bytes_eq, IfOk, OnOk};
+ghost use Rattle.std.specs.List.{list_any};
+ghost use Rattle.des_base.specs.Names.{AreNames};
+ghost use Rattle.log_order.specs.Adding.{with_text, with_texts, most_labels};
+
+use des_base::{Memory, Name};
+use std::alloc::Global;
+use std::marker::Model;
+
+// An alarm: its id and its labels.
+#[derive(Drop)]
+pub struct Alarm {
+    pub id: Name,
+    pub labels: Vec<Name>,
+}
+
+impl Model for Alarm {
+    ghost use Rattle.log_order.specs.Log.{Alarm};
+
+    ghost Value = { Alarm };
+
+    ghost view = { λ a. record { name = a.id; labels = a.labels.items } };
+}
+
+impl Alarm {
+    pub fn id(&self) -> &Name
+        ensures { result.now ≡ self.now.name }
+    {
+        &self.id
+    }
+
+    pub fn labels(&self) -> &[Name]
+        ensures { result.now ≡ self.now.labels }
+    {
+        self.labels.as_slice()
+    }
+}
+
+// Whether the label is among the labels.
+fn has_label(labels: &[Name], label: &Name) -> bool
+    ensures { result ≡ list_any (bytes_eq label.now) labels.now }
+{
+    labels.iter().any(|other| label == other)
+}
+
+// Adds a label, where it isn't there.
+#[tactic(auto, using(crate::proofs::AlarmLemmas::with_text_is))]
+fn push_new(labels: &mut Vec<Name>, label: &Name) -> Result<(), Memory>
+    requires { length labels.old.items < most_labels }
+    ensures ok { OnOk result (labels.new.items ≡ with_text labels.old.items label.now) }
+    ensures names { OnOk result (AreNames labels.old.items → AreNames labels.new.items) }
+{
+    let _text = label.as_str();
+    if !has_label(labels.as_slice(), label) {
+        labels.push(label.copy()?)?;
+    }
+    Ok(())
+}
+
+// The labels, each once and at its first place.
+pub fn each_once(alloc: Global, labels: &[Name]) -> Result<Vec<Name>, Memory>
+    requires { length labels.now ≤ most_labels }
+    ensures once { IfOk result (λ once. once.items ≡ with_texts [] labels.now) }
+    ensures names { IfOk result (λ once. AreNames once.items) }
+{
+    let mut once: Vec<Name> = Vec::with_capacity(alloc, labels.len())?;
+    for label in labels {
+        push_new(&mut once, label)?;
+    }
+    Ok(once)
+}

@@ -1,0 +1,21 @@
+//! Alarm logs: alarms with an id and labels, and pairs of alarms, "the first before the second".
+//!
+//! A log is always valid: some order of all alarms, each once, keeps every pair. An `AlarmLog` refuses what would break
+//! this, what is there already and what passes a limit, and then changes nothing. Contracts see it as a record of lists
+//! (`Log`), in which an alarm is its place. What a valid log is stands in `specs/Log.antt`, what each call refuses and adds
+//! in `specs/Adding.antt`, and the order of the smallest free alarms in `specs/Order.antt`.
+#![tactic(auto)]
+
+mod alarm;
+mod alarm_log;
+mod followers;
+mod marks;
+mod order;
+mod precedence;
+mod refusal;
+
+pub use alarm_log::AlarmLog;
+pub use refusal::LogRefusal;
+
+#[cfg(test)]
+mod tests;

@@ -1,0 +1,80 @@
+-- Clauses that are held, as they come and go.
+use Rattle.std.proofs.Common.{◌≡◌, ◌∙◌, ℕ, zero, suc, ◌+◌, ◌<◌, ◌==◌, Bool, true, false, ◌||◌, ◌∷◌, [], List, refl, ap, sym, length, arith, subst, take, Some, None, Option, slice_get, get_or, cond, nat_eq, add-one, sub-one}
+use Rattle.std.specs.List.{list_any}
+use Rattle.std.proofs.lemmas.Bool.{eqb-true, eq-eqb}
+use Rattle.prop_core.specs.Clauses.{Clause}
+use Rattle.prop_core.specs.Derivation.{clause_numbered}
+use Rattle.proof_ledger.specs.Checking.{with_clause, without}
+
+get-take-last : (cs : List Clause) (k : ℕ) → slice_get (take (suc k) cs) k ≡ slice_get cs k
+get-take-last [] zero = refl
+get-take-last [] (suc k) = refl
+get-take-last (c ∷ cs) zero = refl
+get-take-last (c ∷ cs) (suc k) = get-take-last cs k
+
+get-take-other : (cs : List Clause) (k j : ℕ) → (j ≡ k → ⊥) → slice_get (take k cs) j ≡ slice_get (take (suc k) cs) j
+get-take-other [] zero j ne = refl
+get-take-other [] (suc k) j ne = refl
+get-take-other (c ∷ cs) zero zero ne = absurd (ne refl)
+get-take-other (c ∷ []) zero (suc j) ne = refl
+get-take-other (c ∷ d ∷ cs) zero (suc j) ne = refl
+get-take-other (c ∷ cs) (suc k) zero ne = refl
+get-take-other (c ∷ cs) (suc k) (suc j) ne = get-take-other cs k j (λ e. ne (ap suc e))
+
+-- different numbers fail the test
+pub differ : (a b : ℕ) → (a ≡ b → ⊥) → (a == b) ≡ false
+differ a b ne = by (a == b) refl
+  where
+    by : (t : Bool) → (a == b) ≡ t → (a == b) ≡ false
+    by true e = absurd (ne (eqb-true a b e))
+    by false e = e
+
+numbered-suc : (cs : List Clause) (j : ℕ) → clause_numbered cs (suc j) ≡ slice_get cs j
+numbered-suc cs j = rw (differ (suc j) 0 (λ e. omega arith), sub-one) refl
+
+-- one more of the clauses is held
+pub numbered_more : (cs : List Clause) (k : ℕ) (c : Clause) (asked : ℕ) → clause_numbered cs (k + 1) ≡ Some c → with_clause (clause_numbered (take k cs)) (k + 1) c asked ≡ clause_numbered (take (k + 1) cs) asked
+numbered_more cs k c zero here = rw (differ 0 (k + 1) (λ e. omega arith)) refl
+numbered_more cs k c (suc j) here = by (suc j == k + 1) refl
+  where
+    there : clause_numbered cs (suc k) ≡ Some c
+    there = let n : k + 1 ≡ suc k = omega arith in subst (λ (m : ℕ). clause_numbered cs m ≡ Some c) n here
+
+    by : (b : Bool) → (suc j == k + 1) ≡ b → cond (suc j == k + 1) (Some c) (clause_numbered (take k cs) (suc j)) ≡ clause_numbered (take (k + 1) cs) (suc j)
+    by true e =
+        let same : j ≡ k = let h = eqb-true (suc j) (k + 1) e in omega arith in
+        rw (e, same, add-one) (sym there ∙ numbered-suc cs k ∙ sym (get-take-last cs k) ∙ sym (numbered-suc (take (suc k) cs) k))
+    by false e =
+        let other : j ≡ k → ⊥ = λ s. let h = eq-eqb (suc j) (k + 1) (omega arith) in cc in
+        rw (e, add-one) (numbered-suc (take k cs) j ∙ get-take-other cs k j other ∙ sym (numbered-suc (take (suc k) cs) j))
+
+any-take : (p : ℕ → Bool) (xs : List ℕ) (i : ℕ) → i < length xs → list_any p (take (suc i) xs) ≡ list_any p (take i xs) || p (get_or xs i 0)
+any-take p [] i h = absurd (omega arith)
+any-take p (x ∷ []) zero h = by (p x)
+  where
+    by : (b : Bool) → b || false ≡ false || b
+    by true = refl
+    by false = refl
+any-take p (x ∷ y ∷ xs) zero h = by (p x)
+  where
+    by : (b : Bool) → b || false ≡ false || b
+    by true = refl
+    by false = refl
+any-take p (x ∷ xs) (suc i) h = by (p x) (any-take p xs i (omega arith))
+  where
+    by : (b : Bool) → list_any p (take (suc i) xs) ≡ list_any p (take i xs) || p (get_or xs i 0) → b || list_any p (take (suc i) xs) ≡ (b || list_any p (take i xs)) || p (get_or xs i 0)
+    by true e = refl
+    by false e = e
+
+-- one more of the numbers is held no longer
+pub without_more : (held : ℕ → Option Clause) (xs : List ℕ) (i asked : ℕ) → i < length xs → without (without held (take i xs)) (get_or xs i 0 ∷ []) asked ≡ without held (take (i + 1) xs) asked
+without_more held xs i asked h =
+    let n : suc i ≡ i + 1 = omega arith in
+    subst (λ (m : ℕ). without (without held (take i xs)) (get_or xs i 0 ∷ []) asked ≡ without held (take m xs) asked) n
+    (by (list_any (nat_eq asked) (take i xs)) (nat_eq asked (get_or xs i 0)) (held asked) ∙ ap (λ b. cond b None (held asked)) (sym (any-take (nat_eq asked) xs i h)))
+  where
+    by : (a b : Bool) (o : Option Clause) → cond (b || false) None (cond a None o) ≡ cond (a || b) None o
+    by true true o = refl
+    by true false o = refl
+    by false true o = refl
+    by false false o = refl

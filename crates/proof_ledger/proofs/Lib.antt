@@ -1,0 +1,7 @@
+pub mod Standings
+pub mod Hints
+pub mod Books
+pub mod Checks
+pub mod Helds
+pub mod Marking
+pub mod Vectors

@@ -1,0 +1,89 @@
+-- The book of a ledger: what was put down, in order.
+use Rattle.std.specs.Prelude.{◌≡◌, ℕ, ◌+◌, Bool, false, List, [], ◌∷◌, ◌++◌, length, take, filter_map, count_by, Option, Some, None, slice_get, ◌==◌, ⊤, MatchOption}
+use Rattle.prop_core.specs.Clauses.{Clause}
+use Rattle.prop_core.specs.Derivation.{Derives, clause_numbered}
+use Rattle.proof_ledger.specs.declared.entry.Entry.{Entry}
+use Rattle.proof_ledger.specs.declared.entry.Entry.TheVariants.{Axiom, Learnt, Final, Mark}
+
+-- A learnt and a final clause have the numbers of the clauses that derive them.
+pub data BookEntry : Type 0 where
+  axiomatic : Clause → BookEntry
+  learnt : Clause → List ℕ → BookEntry
+  final : Clause → List ℕ → BookEntry
+  mark : ℕ → BookEntry
+
+abbrev pub clause_of : BookEntry → Option Clause
+clause_of (axiomatic clause) = Some clause
+clause_of (learnt clause hints) = Some clause
+clause_of (final clause hints) = Some clause
+clause_of (mark k) = None
+
+-- An axiom has no hints.
+abbrev pub clause_hints_of : BookEntry → Option (List ℕ)
+clause_hints_of (axiomatic clause) = Some []
+clause_hints_of (learnt clause hints) = Some hints
+clause_hints_of (final clause hints) = Some hints
+clause_hints_of (mark k) = None
+
+-- the clauses of a book, numbered from 1
+abbrev pub clauses_of : List BookEntry → List Clause
+clauses_of book = filter_map clause_of book
+
+-- and the hints of each
+abbrev pub hints_of : List BookEntry → List (List ℕ)
+hints_of book = filter_map clause_hints_of book
+
+abbrev pub axiom_of : BookEntry → Option Clause
+axiom_of (axiomatic clause) = Some clause
+axiom_of (learnt clause hints) = None
+axiom_of (final clause hints) = None
+axiom_of (mark k) = None
+
+abbrev pub axioms_of : List BookEntry → List Clause
+axioms_of book = filter_map axiom_of book
+
+abbrev pub is_mark : ℕ → BookEntry → Bool
+is_mark number (axiomatic clause) = false
+is_mark number (learnt clause hints) = false
+is_mark number (final clause hints) = false
+is_mark number (mark k) = k == number
+
+-- a clause derives from those of the entries
+abbrev pub DerivesFrom : List BookEntry → Clause → List ℕ → Type 0
+DerivesFrom earlier clause hints = Derives (clause_numbered (clauses_of earlier)) clause hints
+
+-- an entry that has to be derived is, from the clauses of the entries before it
+abbrev pub IsDerived : List BookEntry → BookEntry → Type 0
+IsDerived earlier (axiomatic clause) = ⊤
+IsDerived earlier (learnt clause hints) = DerivesFrom earlier clause hints
+IsDerived earlier (final clause hints) = DerivesFrom earlier clause hints
+IsDerived earlier (mark k) = ⊤
+
+-- P holds of each element of the list, with those before it: the ones given, and the list's own.
+abbrev pub EachAfter : {X : Type 0} → (List X → X → Type 0) → List X → List X → Type 0
+EachAfter P earlier [] = ⊤
+EachAfter P earlier (x ∷ xs) = P earlier x × EachAfter P (earlier ++ x ∷ []) xs
+
+abbrev pub IsValidBook : List BookEntry → Type 0
+IsValidBook book = EachAfter IsDerived [] book
+
+-- The r-th question, from 1, is closed by the r-th closing mark, 1. It was opened by the last mark 0 before that.
+-- Earlier are the entries up to the opening mark, and since are those after it, up to the closing mark.
+pub record IsQuestion (book : List BookEntry) (r : ℕ) (earlier since : List BookEntry) : Type 0 where
+  pub later : List BookEntry
+  pub whole : book ≡ earlier ++ since ++ later
+  pub opened : (before : List BookEntry) × (earlier ≡ before ++ mark 0 ∷ [])
+  pub closed : (body : List BookEntry) × (since ≡ body ++ mark 1 ∷ [])
+  pub last : count_by (is_mark 0) since ≡ 0
+  pub number : count_by (is_mark 1) (earlier ++ since) ≡ r
+
+-- an entry as a caller sees it, with the number of its clause
+abbrev pub shown : ℕ → BookEntry → Entry
+shown number (axiomatic clause) = Axiom number
+shown number (learnt clause hints) = Learnt number
+shown number (final clause hints) = Final number
+shown number (mark k) = Mark k
+
+-- The entry at a place, from 0, has the number that follows those of the clauses before it.
+abbrev pub IsEntryAt : List BookEntry → ℕ → Entry → Type 0
+IsEntryAt book place entry = MatchOption (slice_get book place) ⊥ (λ e. entry ≡ shown (length (clauses_of (take place book)) + 1) e)

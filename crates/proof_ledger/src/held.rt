@@ -1,0 +1,70 @@
+ghost use Rattle.std.specs.Prelude.{◌≡◌, ℕ, ◌+◌, ◌∷◌, [], length, None, IfOk, OnOk};
+ghost use Rattle.prop_core.specs.Derivation.{clause_numbered};
+ghost use Rattle.proof_ledger.specs.HeldClauses.{held_by};
+ghost use Rattle.proof_ledger.specs.Checking.{with_clause, without};
+
+use crate::follow::Holds;
+use des_base::Memory;
+use prop_core::{ClauseId, Clauses, Lit};
+use std::alloc::Global;
+use std::collections::HashMap;
+
+// Clauses by numbers that need not follow one another.
+#[derive(Drop)]
+pub struct HeldClauses<'a> {
+    pub by_number: HashMap<u64, &'a [Lit]>,
+}
+
+impl<'a> Holds for HeldClauses<'a> {
+    ghost held = { held_by };
+
+    fn find(&self, id: ClauseId) -> Option<&[Lit]> {
+        match self.by_number.get(&id.0) {
+            Some(clause) => Some(*clause),
+            None => None,
+        }
+    }
+}
+
+impl<'a> HeldClauses<'a> {
+    pub fn new(alloc: Global) -> HeldClauses<'a>
+        ensures { (number : ℕ) → held_by result number ≡ None }
+    {
+        HeldClauses {
+            by_number: HashMap::new(alloc),
+        }
+    }
+
+    pub fn add(&mut self, number: u64, clause: &'a [Lit]) -> Result<(), Memory>
+        ensures { OnOk result ((asked : ℕ) → held_by self.new asked ≡ with_clause (held_by self.old) number clause.now asked) }
+    {
+        self.by_number.insert(number, clause)?;
+        Ok(())
+    }
+
+    pub fn delete(&mut self, numbers: &[ClauseId])
+        ensures { (asked : ℕ) → held_by self.new asked ≡ without (held_by self.old) numbers.now asked }
+    {
+        for number in numbers {
+            self.remove(number.0);
+        }
+    }
+
+    fn remove(&mut self, number: u64)
+        ensures { (asked : ℕ) → held_by self.new asked ≡ without (held_by self.old) (number ∷ []) asked }
+    {
+        let _ = self.by_number.remove(&number);
+    }
+
+    // Holds the axioms by their numbers from 1.
+    pub fn of_axioms(alloc: Global, axioms: &'a Clauses) -> Result<HeldClauses<'a>, Memory>
+        ensures { IfOk result (λ held. (asked : ℕ) → held_by held asked ≡ clause_numbered axioms.now.clauses asked) }
+    {
+        let mut held = HeldClauses::new(alloc);
+        for before in 0..axioms.len() {
+            let number = before + 1;
+            held.add(number, axioms.clause(ClauseId(number)))?;
+        }
+        Ok(held)
+    }
+}

@@ -1,0 +1,67 @@
+ghost use Rattle.std.specs.Prelude.{◌≡◌, ℕ, ◌==◌, true, false, [], ◌<◌, ◌^◌, vec_len, OnOk, OnErr, slice_index_or, if◌then◌else◌};
+ghost use Rattle.proof_ledger.specs.Marks.{place_of, AreMarked};
+
+use des_base::Memory;
+use prop_core::Lit;
+
+// Where the mark of a literal stands.
+pub fn place(lit: Lit) -> usize
+    ensures place { result ≡ place_of lit }
+    ensures small { result < 2 ^ 34 }
+{
+    let sign: usize = if lit.positive { 1 } else { 0 };
+    2 * lit.var as usize + sign
+}
+
+// Whether the literal is marked.
+pub fn marked(marks: &[bool], lit: Lit) -> bool
+    ensures { result ≡ slice_index_or marks.now (place_of lit) false }
+{
+    let place = place(lit);
+    if place < marks.len() {
+        marks[place]
+    } else {
+        false
+    }
+}
+
+// Marks a place, and makes room for it.
+pub fn mark(marks: &mut Vec<bool>, place: usize) -> Result<(), Memory>
+    requires { place < 2 ^ 34 }
+    ensures ok { OnOk result ((k : ℕ) → slice_index_or marks.new.items k false ≡ (if k == place then true else slice_index_or marks.old.items k false)) }
+    ensures err { OnErr result (marks.new.items ≡ marks.old.items) }
+{
+    grow(marks, place)?;
+    marks[place] = true;
+    Ok(())
+}
+
+fn grow(marks: &mut Vec<bool>, place: usize) -> Result<(), Memory>
+    requires { place < 2 ^ 34 }
+    ensures room { OnOk result (place < vec_len marks.new) }
+    ensures ok { OnOk result ((k : ℕ) → slice_index_or marks.new.items k false ≡ slice_index_or marks.old.items k false) }
+    ensures err { OnErr result (marks.new.items ≡ marks.old.items) }
+{
+    if place >= marks.len() {
+        marks.resize(place + 1, false)?;
+    }
+    Ok(())
+}
+
+fn unmark(marks: &mut Vec<bool>, place: usize)
+    ensures { (k : ℕ) → slice_index_or marks.new.items k false ≡ (if k == place then false else slice_index_or marks.old.items k false) }
+{
+    if place < marks.len() {
+        marks[place] = false;
+    }
+}
+
+// Takes the marks of all literals that are taken away.
+pub fn unmark_all(marks: &mut Vec<bool>, taken: &[Lit])
+    requires { AreMarked marks.old.items taken.now }
+    ensures { AreMarked marks.new.items [] }
+{
+    for lit in taken {
+        unmark(marks, place(*lit));
+    }
+}

@@ -1,0 +1,4 @@
+pub mod Clauses
+pub mod Derivation
+pub mod ClauseStore
+pub mod Laws

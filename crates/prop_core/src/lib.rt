@@ -1,0 +1,24 @@
+//! Propositional logic as the solver, the ledger and the encoders speak it: literals, clauses by number, assignments,
+//! and what it is to derive a clause.
+//!
+//! - A *literal* is a variable or its negation; a *clause* is a list of literals, of which one at least has to be true.
+//! - Clauses are numbered from 1, in the order in which they were pushed. Room for clauses can be reserved ahead, so that
+//!   a later push can't fail.
+//! - A clause *derives* from numbered clauses by hints where unit propagation along the hints, begun with the clause's
+//!   negation, ends in a false clause. A derived clause is true wherever the clauses that are held are.
+#![tactic(auto)]
+
+mod assignment;
+mod clauses;
+mod laws;
+mod lists;
+mod lit;
+
+pub use assignment::Assignment;
+pub use clauses::{ClauseId, Clauses};
+pub use laws::derived_clauses_are_true;
+pub use lists::{IdList, LitList};
+pub use lit::{Lit, VAR_LIMIT};
+
+#[cfg(test)]
+mod tests;
