@@ -1,7 +1,6 @@
-#!/usr/bin/env python3
 """Times `trace` on large models and runs, and prints a table: size, time, ratio to a plain read, memory.
 
-    bench/trace.py PROGRAM
+    python3 bench/trace.py PROGRAM
 
 PROGRAM is the program as `rt run` builds it, crates/diagnose_cli/out/diagnose_cli. The inputs are made in a temporary
 folder. It's no part of the gate.

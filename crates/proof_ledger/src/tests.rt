@@ -62,53 +62,55 @@ fn answer(alloc: Global, rows: &[Row]) -> Result<Checked, Memory> {
 }
 
 #[test]
-fn checks_proofs(rt: HostRuntime) -> Result<(), Fail> {
-    let unknown = Checked::Rejected { line: 1, kind: 1 };
-    let two_open = Checked::Rejected { line: 1, kind: 2 };
-    let hints_end = Checked::Rejected { line: 1, kind: 3 };
-    let unfinished = Checked::Rejected { line: 0, kind: 4 };
-    let deleted = Checked::Rejected { line: 3, kind: 1 };
-    let cases: [(&[Row], Checked); 10] = [
-        (
-            &[(1, 5, &[2], &[1, 2]), (2, 6, &[], &[5, 3, 4])],
+fn verifies_proofs(rt: HostRuntime) -> Result<(), Fail> {
+    let proofs: [&[Row]; 4] = [
+        &[(1, 5, &[2], &[1, 2]), (2, 6, &[], &[5, 3, 4])],
+        &[
+            (0, 0, &[], &[7]),
+            (2, 5, &[2], &[1, 2]),
+            (3, 6, &[], &[5, 3, 4]),
+        ],
+        &[
+            (1, 5, &[2], &[1, 2]),
+            (2, 6, &[], &[5, 3, 4]),
+            (3, 7, &[], &[9]),
+        ],
+        &[(1, 5, &[2], &[3, 1, 2, 9]), (2, 6, &[], &[5, 3, 4])],
+    ];
+    for (place, rows) in proofs.iter().enumerate() {
+        assert_eq!(rt;
+            answer(rt.alloc(), rows)?,
             Checked::Verified,
-        ),
-        (&[(1, 5, &[2], &[9, 2])], unknown),
-        (&[(1, 5, &[], &[1, 3, 4])], two_open),
-        (&[(1, 5, &[2], &[1])], hints_end),
-        (&[(1, 5, &[2], &[1, 2])], unfinished),
-        (&[], unfinished),
+            "proof {place}"
+        );
+    }
+    Ok(())
+}
+
+#[test]
+fn rejects_proofs(rt: HostRuntime) -> Result<(), Fail> {
+    let proofs: [(&[Row], u32, u8); 6] = [
+        (&[(1, 5, &[2], &[9, 2])], 1, 1),
+        (&[(1, 5, &[], &[1, 3, 4])], 1, 2),
+        (&[(1, 5, &[2], &[1])], 1, 3),
+        (&[(1, 5, &[2], &[1, 2])], 0, 4),
+        (&[], 0, 4),
         (
             &[
                 (1, 5, &[2], &[1, 2]),
                 (0, 0, &[], &[5]),
                 (3, 6, &[], &[5, 3, 4]),
             ],
-            deleted,
-        ),
-        (
-            &[
-                (0, 0, &[], &[7]),
-                (2, 5, &[2], &[1, 2]),
-                (3, 6, &[], &[5, 3, 4]),
-            ],
-            Checked::Verified,
-        ),
-        (
-            &[
-                (1, 5, &[2], &[1, 2]),
-                (2, 6, &[], &[5, 3, 4]),
-                (3, 7, &[], &[9]),
-            ],
-            Checked::Verified,
-        ),
-        (
-            &[(1, 5, &[2], &[3, 1, 2, 9]), (2, 6, &[], &[5, 3, 4])],
-            Checked::Verified,
+            3,
+            1,
         ),
     ];
-    for (place, (rows, want)) in cases.iter().enumerate() {
-        assert_eq!(rt; answer(rt.alloc(), rows)?, *want, "case {place}");
+    for (place, (rows, line, kind)) in proofs.iter().enumerate() {
+        let want = Checked::Rejected {
+            line: *line,
+            kind: *kind,
+        };
+        assert_eq!(rt; answer(rt.alloc(), rows)?, want, "proof {place}");
     }
     Ok(())
 }
