@@ -4,3 +4,5 @@ pub mod NumberLemmas
 pub mod TokenLemmas
 pub mod LineLemmas
 pub mod LawLemmas
+pub mod PieceLemmas
+pub mod BoolLemmas

@@ -1,37 +1,18 @@
 -- The lines of a text, one after another.
-use Rattle.std.proofs.Common.{◌≡◌, ◌<◌, ◌+◌, ℕ, suc, Bool, true, false, List, [], ◌∷◌, length, take, drop, cond, refl, arith, ap, ◌∙◌, subst, length-take, length-drop}
+use Rattle.std.proofs.Common.{◌≡◌, ◌<◌, ◌+◌, ℕ, Bool, List, [], ◌∷◌, length, take, drop, cond, refl, arith, ap, ◌∙◌, length-take, length-drop}
 use Rattle.std.proofs.lemmas.Bool.Decides.{nat_tests}
 use Rattle.std.proofs.lemmas.List.Splits.{length-slice_split}
-use Rattle.std.specs.Prelude.{not, ◌==◌, map, nat_lt}
+use Rattle.std.specs.Prelude.{◌==◌, map, nat_lt}
 use Rattle.std.specs.List.{slice_split, position_or_len}
 use Rattle.std.specs.Str.Lines.{strip_carriage_return}
 use Rattle.des_base.specs.CountedLines.{text_lines, without_empty_last}
+use Rattle.des_base.proofs.PieceLemmas.{after_cut, slice_split-piece}
 
 abbrev is_feed : ℕ → Bool
 is_feed byte = byte == 10
 
 abbrev line_len : List ℕ → ℕ
 line_len xs = position_or_len is_feed xs
-
--- the pieces after the line feed that ends a piece, where there is one
-abbrev after_feed : List ℕ → List (List ℕ)
-after_feed [] = []
-after_feed (x ∷ xs) = slice_split is_feed xs
-
-one_more : (n : ℕ) → suc n ≡ 1 + n
-one_more n = omega arith
-
-piece_step : (b : Bool) (x : ℕ) (xs : List ℕ) (n : ℕ) → is_feed x ≡ b → slice_split is_feed xs ≡ take n xs ∷ after_feed (drop n xs)
-    → slice_split is_feed (x ∷ xs) ≡ take (cond (not b) (1 + n) 0) (x ∷ xs) ∷ after_feed (drop (cond (not b) (1 + n) 0) (x ∷ xs))
-piece_step true x xs n e h = rw e refl
-piece_step false x xs n e h =
-    subst (λ m. slice_split is_feed (x ∷ xs) ≡ take m (x ∷ xs) ∷ after_feed (drop m (x ∷ xs))) (one_more n)
-    (rw (e, h) refl)
-
--- a text is a line and what follows its line feed
-slice_split-piece : (xs : List ℕ) → slice_split is_feed xs ≡ take (line_len xs) xs ∷ after_feed (drop (line_len xs) xs)
-slice_split-piece [] = refl
-slice_split-piece (x ∷ xs) = piece_step (is_feed x) x xs (line_len xs) refl (slice_split-piece xs)
 
 -- only the last piece is left out
 without_empty_last-cons : (piece : List ℕ) (pieces : List (List ℕ)) → 0 < length pieces → without_empty_last (piece ∷ pieces) ≡ piece ∷ without_empty_last pieces
@@ -42,12 +23,12 @@ last_piece : (n : ℕ) (piece : List ℕ) → 0 < n → cond (nat_lt 0 n) (piece
 last_piece n piece h = grind (arith, nat_tests)
 
 -- behind the piece in front there are the pieces of what follows its line feed
-behind_piece : (piece rest : List ℕ) → 0 < length piece + length rest → without_empty_last (piece ∷ after_feed rest) ≡ piece ∷ without_empty_last (slice_split is_feed (drop 1 rest))
+behind_piece : (piece rest : List ℕ) → 0 < length piece + length rest → without_empty_last (piece ∷ after_cut is_feed rest) ≡ piece ∷ without_empty_last (slice_split is_feed (drop 1 rest))
 behind_piece piece [] h = last_piece (length piece) piece (omega arith)
 behind_piece piece (x ∷ xs) h = without_empty_last-cons piece (slice_split is_feed xs) (omega (arith, length-slice_split is_feed xs))
 
 pub text_lines-cons : (xs : List ℕ) → 0 < length xs → text_lines xs ≡ strip_carriage_return (take (position_or_len (λ byte. byte == 10) xs) xs) ∷ text_lines (drop 1 (drop (position_or_len (λ byte. byte == 10) xs) xs))
 text_lines-cons xs h =
     ap (map strip_carriage_return)
-    (ap without_empty_last (slice_split-piece xs)
+    (ap without_empty_last (slice_split-piece is_feed xs)
     ∙ behind_piece (take (line_len xs) xs) (drop (line_len xs) xs) (simp (length-take, length-drop) (omega arith)))

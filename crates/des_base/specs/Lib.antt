@@ -6,3 +6,4 @@ pub mod Outside
 pub mod Held
 pub mod CommandWords
 pub mod Laws
+pub mod Lists

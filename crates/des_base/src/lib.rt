@@ -15,6 +15,7 @@ mod mem_shelf;
 mod mem_sink;
 mod memory;
 mod name;
+mod name_list;
 mod name_table;
 mod number;
 mod outside;
@@ -23,16 +24,20 @@ mod word_list;
 
 pub use ids::{ActionId, CompId, EventId, StateId};
 pub use laws::{numbers_are_decimal, tokens_are_pieces};
-pub use lines::{Line, Lines};
+pub use lines::{Line, Lines, last_line};
 pub use mem_shelf::MemShelf;
 pub use mem_sink::MemSink;
 pub use memory::Memory;
 pub use name::{Name, NameFault, is_name};
+pub use name_list::NameList;
 pub use name_table::NameTable;
 pub use number::read_number;
 pub use outside::{LoadFault, PutFault, Shelf, Sink};
 pub use tokens::{Token, Tokens};
 pub use word_list::WordList;
+
+/// Variables of propositional formulas are below this number, so that twice a variable fits in a `u32` with a bit to spare.
+pub const VAR_LIMIT: u32 = 1_073_741_824;
 
 #[cfg(test)]
 mod tests;

@@ -1,7 +1,7 @@
 ghost use Rattle.std.specs.Prelude.{◌≡◌, ◌+◌, ◌<◌, ◌^◌, [], ◌∷◌, length, drop, find, not, ◌==◌, ◌≤◌, None, Some, IfNone, IfSome, MatchOption};
 ghost use Rattle.std.specs.List.{position_or_len};
 ghost use Rattle.std.specs.Str.Lines.{strip_carriage_return};
-ghost use Rattle.des_base.specs.CountedLines.{is_counted, text_lines, counted_lines, numbered, placed, placed_tokens, token_from, is_blank};
+ghost use Rattle.des_base.specs.CountedLines.{is_counted, text_lines, counted_lines, last_line, numbered, placed, placed_tokens, token_from, is_blank};
 
 use crate::tokens::{Token, Tokens, is_blank};
 use std::marker::Model;
@@ -88,6 +88,20 @@ impl<'a> Lines<'a> {
         }
         None
     }
+}
+
+/// The number of the text's last line, or 1 where it has none. A fault that belongs to the end of a text has this number.
+pub fn last_line(bytes: &[u8]) -> u32
+    requires { length bytes.now < 2 ^ 32 }
+    ensures { result ≡ last_line bytes.now }
+{
+    let mut rest = bytes;
+    let mut count: u32 = 0;
+    while !rest.is_empty() {
+        rest = cut_line(rest).1;
+        count += 1;
+    }
+    count.max(1)
 }
 
 // The first line of the text, without its end, and the text behind that end.

@@ -1,5 +1,7 @@
 // Values that the rules of names, texts, shelves and sinks give.
-use crate::{Line, Lines, Name, NameFault, NameTable, WordList, is_name, read_number};
+use crate::{
+    Line, Lines, Name, NameFault, NameList, NameTable, WordList, is_name, last_line, read_number,
+};
 use std::cmp::Ordering;
 use std::hash::{DefaultHasher, Hash, Hasher};
 use std::process::Abort;
@@ -208,6 +210,21 @@ fn finds_tokens(rt: HostRuntime) {
 }
 
 #[test]
+fn numbers_the_last_line(rt: HostRuntime) -> Result<(), Fail> {
+    for (text, number) in [
+        (b"".as_slice(), 1),
+        (b"\n", 1),
+        (b"a", 1),
+        (b"a\nb", 2),
+        (b"a\nb\n", 2),
+        (b"\n\n\r", 3),
+    ] {
+        assert_eq!(rt; last_line(text), number);
+    }
+    Ok(())
+}
+
+#[test]
 fn keeps_words(rt: HostRuntime) -> Result<(), Fail> {
     let mut words = WordList::new(rt.alloc());
     for word in ["trace", "", "a b"] {
@@ -217,5 +234,21 @@ fn keeps_words(rt: HostRuntime) -> Result<(), Fail> {
     assert_eq!(rt; words.word(0), "trace");
     assert_eq!(rt; words.word(1), "");
     assert_eq!(rt; words.word(2), "a b");
+    Ok(())
+}
+
+#[test]
+fn keeps_names(rt: HostRuntime) -> Result<(), Fail> {
+    let mut names = NameList::new(rt.alloc());
+    for text in [b"T-1".as_slice(), b"F", b"T-1"] {
+        names.push(Name::new(rt.alloc(), text)?)?;
+    }
+    let [first, second, third] = names.as_slice() else {
+        assert!(rt; false, "three names");
+        return Ok(());
+    };
+    assert_eq!(rt; first.as_str(), "T-1");
+    assert_eq!(rt; second.as_str(), "F");
+    assert!(rt; first == third);
     Ok(())
 }

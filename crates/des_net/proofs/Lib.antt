@@ -1,4 +1,3 @@
-pub mod BoolLemmas
 pub mod ComponentLemmas
 pub mod PartLemmas
 pub mod DraftLemmas

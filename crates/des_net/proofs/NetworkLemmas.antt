@@ -7,8 +7,9 @@ use Rattle.std.proofs.lemmas.Bool.Decides.{nat_tests}
 use Rattle.std.proofs.lemmas.List.Elements.{All-head, All-tail, All-weaker, recursion_from_All}
 use Rattle.des_base.specs.Names.{place_by}
 use Rattle.des_net.specs.declared.parts.Part.{Part}
-use Rattle.des_net.specs.Network.{Component, Event, Net, no_component, EachPair, IsTransOf, IsComponent, IsPart, IsEvent, IsNetwork}
-use Rattle.des_net.proofs.BoolLemmas.{both, neither, not_false}
+use Rattle.des_net.specs.Network.{Component, Event, Net, no_component, IsTransOf, IsComponent, IsPart, IsEvent, IsNetwork}
+use Rattle.des_base.specs.Lists.{EachPair}
+use Rattle.des_base.proofs.BoolLemmas.{both, neither, not_is_false}
 use Rattle.des_net.specs.Building.{IsDraft, IsDraftComponent, IsDraftEvent, is_known, lacks_init, repeats}
 
 -- the test fails at the first, and at the others
@@ -23,7 +24,7 @@ are_components (c ∷ components) drafts started =
     let draft = All-head IsDraftComponent c components drafts in
     let parts = none_parts (lacks_init c) (place_by lacks_init components) started in
     let of = IsTransOf (length c.state_names) (length c.action_names) in (
-      record { marked = draft.marked; startable = not_false _ parts.0; closed = recursion_from_All of c.transitions draft.trans },
+      record { marked = draft.marked; startable = not_is_false _ parts.0; closed = recursion_from_All of c.transitions draft.trans },
       are_components components (All-tail IsDraftComponent c components drafts) parts.1,
     )
 

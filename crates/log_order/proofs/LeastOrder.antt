@@ -3,10 +3,11 @@ use Rattle.std.proofs.Common.{◌≡◌, ℕ, zero, suc, ◌+◌, ◌<◌, ◌�
 use Rattle.std.specs.Prelude.{◌==◌, ◌≢◌, slice_set}
 use Rattle.std.specs.List.{list_any, AllByRecursion}
 use Rattle.std.specs.Option.{option_map_or}
-use Rattle.log_order.specs.Log.{EachPair, ListsOnce, Keeps, AreKnown, AreOrdered, has_pair}
+use Rattle.log_order.specs.Log.{ListsOnce, Keeps, AreKnown, AreOrdered, has_pair}
+use Rattle.des_base.specs.Lists.{EachPair}
 use Rattle.log_order.specs.Precedence.{is_in, is_marked}
 use Rattle.log_order.specs.Order.{first_below, waits, with_next, taken_first, least_order}
-use Rattle.log_order.proofs.BoolLemmas.{both, join, either, or_left, or_right, not_false, not_true, otherwise, same, itself}
+use Rattle.des_base.proofs.BoolLemmas.{both, join, either, or_left, or_right, not_false, not_true, otherwise, same, itself}
 use Rattle.log_order.proofs.Places.{stands, places-from, stands-append, in_from, in_is}
 use Rattle.log_order.proofs.OrderLemmas.{all_append, each_append, stands-kept}
 use Rattle.log_order.proofs.Reaching.{has_pair-first, has_pair-later}

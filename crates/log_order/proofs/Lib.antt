@@ -1,4 +1,3 @@
-pub mod BoolLemmas
 pub mod Places
 pub mod Reaching
 pub mod OrderLemmas

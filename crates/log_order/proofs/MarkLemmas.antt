@@ -4,7 +4,7 @@ use Rattle.std.specs.Prelude.{◌==◌, slice_set}
 use Rattle.std.proofs.lemmas.Bool.Decides.{nat_tests}
 use Rattle.std.proofs.lemmas.List.{take_more}
 use Rattle.log_order.specs.Precedence.{is_in, is_marked}
-use Rattle.log_order.proofs.BoolLemmas.{otherwise, same}
+use Rattle.des_base.proofs.BoolLemmas.{otherwise, same}
 
 or_true : (b : Bool) → true ≡ (b || true)
 or_true true = refl

@@ -2,8 +2,9 @@
 use Rattle.std.proofs.Common.{◌≡◌, ℕ, ◌+◌, ◌<◌, ◌≤◌, Bool, true, false, cond, not, ◌&&◌, ◌||◌, List, [], ◌∷◌, ◌++◌, refl, inl, inr, arith, ap, sym, subst}
 use Rattle.std.specs.Prelude.{◌==◌, nat_le, ◌≢◌}
 use Rattle.std.specs.List.{filter, AllByRecursion}
-use Rattle.log_order.specs.Log.{EachPair, ListsOnce, Keeps, AreKnown, place_in, has_pair, reaches}
-use Rattle.log_order.proofs.BoolLemmas.{both, either, same, is_most, most_is, not_true}
+use Rattle.log_order.specs.Log.{ListsOnce, Keeps, AreKnown, place_in, has_pair, reaches}
+use Rattle.des_base.specs.Lists.{EachPair}
+use Rattle.des_base.proofs.BoolLemmas.{both, either, same, is_most, most_is, not_true}
 use Rattle.log_order.proofs.Places.{stands, stands-from, places-from, stands-append, stands-moved, stands-moved_new, in-moved, in_from, in_is, in-append_left, in-append_right}
 use Rattle.log_order.specs.Precedence.{is_in, moved}
 use Rattle.log_order.proofs.Reaching.{IsClosed, IsClosed-rest, has_pair-first, reaches-least}

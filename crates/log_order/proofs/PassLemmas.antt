@@ -4,9 +4,10 @@ use Rattle.std.specs.Prelude.{◌==◌, ◌≢◌, slice_set, All}
 use Rattle.std.specs.List.{AllByRecursion}
 use Rattle.std.proofs.lemmas.List.{get_or_default}
 use Rattle.std.proofs.lemmas.List.Elements.{All-from_recursion}
-use Rattle.log_order.specs.Log.{EachPair, ListsOnce, AreKnown, place_in, has_pair, reaches}
+use Rattle.log_order.specs.Log.{ListsOnce, AreKnown, place_in, has_pair, reaches}
+use Rattle.des_base.specs.Lists.{EachPair}
 use Rattle.log_order.specs.Precedence.{is_in, is_marked, IsKept, IsPassed}
-use Rattle.log_order.proofs.BoolLemmas.{both, either, or_left, or_right, otherwise, same, itself}
+use Rattle.des_base.proofs.BoolLemmas.{both, either, or_left, or_right, otherwise, same, itself}
 use Rattle.log_order.proofs.Places.{places-from}
 use Rattle.log_order.proofs.Reaching.{IsClosed, reaches-least, reaches-closed, reaches-itself}
 use Rattle.log_order.proofs.OrderLemmas.{stands-kept}

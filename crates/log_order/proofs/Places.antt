@@ -5,7 +5,7 @@ use Rattle.std.specs.List.{filter}
 use Rattle.std.proofs.lemmas.Bool.Decides.{nat_tests}
 use Rattle.log_order.specs.Log.{place_in}
 use Rattle.log_order.specs.Precedence.{is_in, moved}
-use Rattle.log_order.proofs.BoolLemmas.{or_left, or_right, not_true, not_false, same, itself, less_is, is_less, apart}
+use Rattle.des_base.proofs.BoolLemmas.{or_left, or_right, not_true, not_false, same, itself, less_is, is_less, apart}
 
 -- i is met from the front on, and j not before it
 abbrev pub stands : List ℕ → ℕ → ℕ → Bool

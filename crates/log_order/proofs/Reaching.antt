@@ -2,7 +2,7 @@
 use Rattle.std.proofs.Common.{◌≡◌, ℕ, Bool, true, ◌&&◌, List, [], ◌∷◌, inl, inr, ap, sym, ◌∙◌}
 use Rattle.std.specs.Prelude.{◌==◌}
 use Rattle.log_order.specs.Log.{has_pair, reaches}
-use Rattle.log_order.proofs.BoolLemmas.{both, join, either, or_left, or_right, same, itself}
+use Rattle.des_base.proofs.BoolLemmas.{both, join, either, or_left, or_right, same, itself}
 
 -- where the test holds of a pair's first number, it holds of its second
 pub record IsClosed (p : ℕ → Bool) (pairs : List (ℕ × ℕ)) : Type 0 where

@@ -1,6 +1,7 @@
 -- Alarm logs, and the orders of their alarms that keep one.
 use Rattle.std.specs.Prelude.{ℕ, ⊤, ◌<◌, Bool, ◌&&◌, ◌||◌, ◌==◌, List, [], ◌∷◌, length, Contains, ◌≢◌, slice_get, option_map, unwrap_or}
 use Rattle.std.specs.List.{list_any, position_or_len, AllByRecursion}
+use Rattle.des_base.specs.Lists.{EachPair}
 
 -- an alarm, and the labels that it may stand for
 pub record Alarm : Type 0 where
@@ -20,11 +21,6 @@ abbrev pub labels_of : Log → ℕ → List (List ℕ)
 labels_of log i = unwrap_or (option_map (λ alarm. alarm.labels) (slice_get log.alarms i)) []
 
 -- ---- orders
-
--- P holds of each element with each later one
-abbrev pub EachPair : {X : Type 0} → (X → X → Type 0) → List X → Type 0
-EachPair P [] = ⊤
-EachPair P (x ∷ xs) = AllByRecursion (P x) xs × EachPair P xs
 
 -- a list of the numbers below m, each once
 pub record ListsOnce (m : ℕ) (order : List ℕ) : Type 0 where

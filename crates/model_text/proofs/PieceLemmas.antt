@@ -1,9 +1,10 @@
 -- A part of an event, by the dots of its token.
-use Rattle.std.proofs.Common.{◌≡◌, ◌<◌, ◌≤◌, ◌+◌, ℕ, suc, Bool, true, false, List, [], ◌∷◌, ◌++◌, length, take, drop, cond, Option, None, Some, refl, arith, ap, sym, ◌∙◌, subst, append_assoc}
-use Rattle.std.specs.Prelude.{not, ◌==◌, map, option_map, option_and_then}
-use Rattle.std.specs.List.{slice_split, position_or_len}
+use Rattle.std.proofs.Common.{◌≡◌, ◌<◌, ◌≤◌, ℕ, Bool, List, [], ◌∷◌, ◌++◌, length, take, drop, Option, None, Some, refl, arith, ap, sym, ◌∙◌, subst, append_assoc}
+use Rattle.std.specs.Prelude.{◌==◌, map, option_map, option_and_then}
+use Rattle.std.specs.List.{position_or_len}
 use Rattle.std.proofs.lemmas.List.{take_all}
 use Rattle.std.proofs.lemmas.Grind.{common_steps}
+use Rattle.des_base.proofs.PieceLemmas.{after_cut, slice_split-piece}
 use Rattle.des_net.specs.declared.parts.Part.{Part}
 use Rattle.des_net.specs.Network.{Net}
 use Rattle.model_text.specs.ModelLines.{NamedPart, part_of_token, part_of_pieces, all_some}
@@ -16,29 +17,9 @@ is_dot byte = byte == 46
 abbrev dot_place : List ℕ → ℕ
 dot_place text = position_or_len is_dot text
 
--- the pieces after the dot that ends a piece, where there is one
-abbrev after_dot : List ℕ → List (List ℕ)
-after_dot [] = []
-after_dot (x ∷ xs) = slice_split is_dot xs
-
-one_more : (n : ℕ) → suc n ≡ 1 + n
-one_more n = omega arith
-
-piece_step : (b : Bool) (x : ℕ) (xs : List ℕ) (n : ℕ) → is_dot x ≡ b → slice_split is_dot xs ≡ take n xs ∷ after_dot (drop n xs)
-    → slice_split is_dot (x ∷ xs) ≡ take (cond (not b) (1 + n) 0) (x ∷ xs) ∷ after_dot (drop (cond (not b) (1 + n) 0) (x ∷ xs))
-piece_step true x xs n e h = rw e refl
-piece_step false x xs n e h =
-    subst (λ m. slice_split is_dot (x ∷ xs) ≡ take m (x ∷ xs) ∷ after_dot (drop m (x ∷ xs))) (one_more n)
-    (rw (e, h) refl)
-
--- a text is a piece and what follows its dot
-pub slice_split-piece : (xs : List ℕ) → slice_split is_dot xs ≡ take (dot_place xs) xs ∷ after_dot (drop (dot_place xs) xs)
-slice_split-piece [] = refl
-slice_split-piece (x ∷ xs) = piece_step (is_dot x) x xs (dot_place xs) refl (slice_split-piece xs)
-
-three : (c a rest : List ℕ) → 0 < length rest → part_of_pieces (c ∷ a ∷ after_dot rest) ≡ None
+three : (c a rest : List ℕ) → 0 < length rest → part_of_pieces (c ∷ a ∷ after_cut is_dot rest) ≡ None
 three c a [] h = absurd (omega arith)
-three c a (x ∷ xs) h = ap (λ ps. part_of_pieces (c ∷ a ∷ ps)) (slice_split-piece xs)
+three c a (x ∷ xs) h = ap (λ ps. part_of_pieces (c ∷ a ∷ ps)) (slice_split-piece is_dot xs)
 
 left_over : (n : ℕ) (xs : List ℕ) → n < length xs → 0 < length (drop n xs)
 left_over n xs h = grind (arith, common_steps)
@@ -47,27 +28,27 @@ nothing_left : (n : ℕ) (xs : List ℕ) → length xs ≤ n → drop n xs ≡ [
 nothing_left n xs h = grind (arith, common_steps)
 
 -- without a dot it is no part
-no_dot : (c rest : List ℕ) → length rest < 1 → part_of_pieces (c ∷ after_dot rest) ≡ None
+no_dot : (c rest : List ℕ) → length rest < 1 → part_of_pieces (c ∷ after_cut is_dot rest) ≡ None
 no_dot c [] h = refl
 no_dot c (x ∷ xs) h = absurd (omega arith)
 
 -- with a second dot it is none either
-two_dots : (c rest : List ℕ) → 1 ≤ length rest → dot_place (drop 1 rest) < length (drop 1 rest) → part_of_pieces (c ∷ after_dot rest) ≡ None
+two_dots : (c rest : List ℕ) → 1 ≤ length rest → dot_place (drop 1 rest) < length (drop 1 rest) → part_of_pieces (c ∷ after_cut is_dot rest) ≡ None
 two_dots c [] some h = absurd (omega arith)
 two_dots c (x ∷ action) some h =
-    ap (λ ps. part_of_pieces (c ∷ ps)) (slice_split-piece action) ∙ three c (take (dot_place action) action) (drop (dot_place action) action) (left_over (dot_place action) action h)
+    ap (λ ps. part_of_pieces (c ∷ ps)) (slice_split-piece is_dot action) ∙ three c (take (dot_place action) action) (drop (dot_place action) action) (left_over (dot_place action) action h)
 
 -- with exactly one it is what stands on its two sides
-one_dot : (c rest : List ℕ) → 1 ≤ length rest → length (drop 1 rest) ≤ dot_place (drop 1 rest) → part_of_pieces (c ∷ after_dot rest) ≡ Some (record { component = c; action = drop 1 rest })
+one_dot : (c rest : List ℕ) → 1 ≤ length rest → length (drop 1 rest) ≤ dot_place (drop 1 rest) → part_of_pieces (c ∷ after_cut is_dot rest) ≡ Some (record { component = c; action = drop 1 rest })
 one_dot c [] some h = absurd (omega arith)
 one_dot c (x ∷ action) some h =
-    ap (λ ps. part_of_pieces (c ∷ ps)) (slice_split-piece action
-    ∙ ap (λ r. take (dot_place action) action ∷ after_dot r) (nothing_left (dot_place action) action h)
+    ap (λ ps. part_of_pieces (c ∷ ps)) (slice_split-piece is_dot action
+    ∙ ap (λ r. take (dot_place action) action ∷ after_cut is_dot r) (nothing_left (dot_place action) action h)
     ∙ ap (λ a. a ∷ []) (take_all (dot_place action) action h))
 
-cut : (token c rest : List ℕ) (n : ℕ) → n ≡ dot_place token → c ≡ take n token → rest ≡ drop n token → part_of_token token ≡ part_of_pieces (c ∷ after_dot rest)
+cut : (token c rest : List ℕ) (n : ℕ) → n ≡ dot_place token → c ≡ take n token → rest ≡ drop n token → part_of_token token ≡ part_of_pieces (c ∷ after_cut is_dot rest)
 cut token c rest n is front back =
-    ap part_of_pieces (slice_split-piece token ∙ ap (λ k. take k token ∷ after_dot (drop k token)) (sym is) ∙ ap (λ r. take n token ∷ after_dot r) (sym back) ∙ ap (λ x. x ∷ after_dot rest) (sym front))
+    ap part_of_pieces (slice_split-piece is_dot token ∙ ap (λ k. take k token ∷ after_cut is_dot (drop k token)) (sym is) ∙ ap (λ r. take n token ∷ after_cut is_dot r) (sym back) ∙ ap (λ x. x ∷ after_cut is_dot rest) (sym front))
 
 pub part_of_token-no_dot : (token c rest : List ℕ) (n : ℕ) → n ≡ dot_place token → c ≡ take n token → rest ≡ drop n token → length rest < 1 → part_of_token token ≡ None
 part_of_token-no_dot token c rest n is front back h = cut token c rest n is front back ∙ no_dot c rest h

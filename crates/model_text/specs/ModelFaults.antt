@@ -6,6 +6,7 @@ use Rattle.des_base.specs.Names.{is_name_text, place_of, place_by}
 use Rattle.des_base.specs.CountedLines.{NumberedLine, counted_lines, tokens_of}
 use Rattle.des_net.specs.Network.{Net, no_component}
 use Rattle.des_net.specs.Building.{lacks_init}
+use Rattle.des_net.specs.Limits.{most_components, most_states, most_transitions, most_events, most_parts}
 use Rattle.model_text.specs.declared.fault.ModelFault.{ModelFault}
 use Rattle.model_text.specs.declared.fault.ModelRefusal.{ModelRefusal}
 use Rattle.model_text.specs.declared.fault.ModelRefusal.TheVariants.{Fault, Memory}
@@ -71,10 +72,10 @@ transition_count lines = sum_by (λ section. length (transitions_in section.line
 
 -- a limit would be passed
 abbrev pub is_past_limit : List ModelLine → ModelLine → Bool
-is_past_limit earlier (component name) = nat_le 1000 (length (sections earlier))
-is_past_limit earlier (state name initial) = nat_le 256 (length (state_names_in (current earlier)))
-is_past_limit earlier (transition from action to) = nat_le 50000 (transition_count earlier)
-is_past_limit earlier (event name label fault parts) = nat_le 4000 (length (events_in earlier)) || nat_lt 16 (length parts)
+is_past_limit earlier (component name) = nat_le most_components (length (sections earlier))
+is_past_limit earlier (state name initial) = nat_le most_states (length (state_names_in (current earlier)))
+is_past_limit earlier (transition from action to) = nat_le most_transitions (transition_count earlier)
+is_past_limit earlier (event name label fault parts) = nat_le most_events (length (events_in earlier)) || nat_lt most_parts (length parts)
 
 -- the first code, in this order, whose condition holds of a line and the lines before it
 abbrev pub line_code : List ModelLine → ModelLine → Option ℕ

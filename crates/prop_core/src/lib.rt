@@ -18,7 +18,7 @@ pub use assignment::Assignment;
 pub use clauses::{ClauseId, Clauses};
 pub use laws::derived_clauses_are_true;
 pub use lists::{IdList, LitList};
-pub use lit::{Lit, VAR_LIMIT};
+pub use lit::Lit;
 
 #[cfg(test)]
 mod tests;

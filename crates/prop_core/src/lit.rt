@@ -1,8 +1,7 @@
 ghost use Rattle.std.specs.Prelude.{◌≡◌, ◌<◌};
 ghost use Rattle.prop_core.specs.Clauses.{negation};
 
-/// Variables are below this number, so that twice a variable fits in a `u32` with a bit to spare.
-pub const VAR_LIMIT: u32 = 1_073_741_824;
+use des_base::VAR_LIMIT;
 
 /// A variable or its negation. Variables are counted from 0.
 #[derive(Clone, Copy, Debug, PartialEq, Eq, Hash)]

@@ -23,6 +23,10 @@ pub or_right : (a b : Bool) → b ≡ true → (a || b) ≡ true
 or_right true b h = refl
 or_right false b h = h
 
+pub neither : (a b : Bool) → (a || b) ≡ false → (a ≡ false) × (b ≡ false)
+neither true b h = cc
+neither false b h = (refl, h)
+
 pub not_false : (b : Bool) → b ≡ false → not b ≡ true
 not_false true h = cc
 not_false false h = refl
@@ -30,6 +34,10 @@ not_false false h = refl
 pub not_true : (b : Bool) → not b ≡ true → b ≡ false
 not_true true h = cc
 not_true false h = refl
+
+pub not_is_false : (b : Bool) → not b ≡ false → b ≡ true
+not_is_false true h = refl
+not_is_false false h = cc
 
 pub otherwise : (b : Bool) → (b ≡ true → ⊥) → b ≡ false
 otherwise true h = absurd (h refl)
