@@ -6,12 +6,13 @@ use Rattle.std.proofs.lemmas.Bool.Decides.{nat_tests}
 use Rattle.des_base.specs.Outside.{Took}
 use Rattle.des_base.specs.CommandWords.{word_at}
 use Rattle.diagnose_cli.specs.declared.command.Command.{Command}
-use Rattle.diagnose_cli.specs.declared.ending.Stop.{Stop}
-use Rattle.diagnose_cli.specs.declared.ending.Stop.TheVariants.{Usage, Load, Model, Run, Long, Memory}
+use Rattle.diagnose_cli.specs.declared.stop.Stop.{Stop}
+use Rattle.diagnose_cli.specs.declared.stop.Stop.TheVariants.{Usage, Load, Faulty, Long, Memory}
+use Rattle.diagnose_cli.specs.declared.stop.FaultyText.{FaultyText}
 use Rattle.diagnose_cli.specs.Transcripts.{Ending, Transcript}
 use Rattle.diagnose_cli.specs.Files.{Loads, StopsAt}
 use Rattle.diagnose_cli.specs.Endings.{HasStatus, status_of_stop, text_of_stop, texts_of}
-use Rattle.diagnose_cli.specs.Commands.{FileKind, limit_of, stop_of_text, files_of, InOrder, Answers, command_of}
+use Rattle.diagnose_cli.specs.Commands.{FileKind, limit_of, fault_of_text, files_of, InOrder, Answers, command_of}
 use Rattle.diagnose_cli.specs.Exact.{past, first_stop, stop_of_command, StopRow}
 use Rattle.diagnose_cli.specs.Run.{Ends}
 
@@ -37,9 +38,9 @@ holds_here (Some held) e i limit bytes rest p h q =
     subst (λ (ns : List ℕ). Is e (if nat_lt limit (length ns) then Some (Long i) else rest ns)) (sym p)
     (subst (λ (b : Bool). Is e (if b then Some (Long i) else rest bytes)) (sym (lt_false limit (length bytes) h)) q)
 
-past_here : (o : Option Stop) (e : Ending) (rest : Option Stop) (P : Type 0) → MatchOption o P (λ stop. e ≡ Err stop) → (P → Is e rest) → Is e (past o rest)
+past_here : (o : Option FaultyText) (e : Ending) (rest : Option Stop) (P : Type 0) → MatchOption o P (λ text. e ≡ Err (Faulty text)) → (P → Is e rest) → Is e (past o rest)
 past_here None e rest P h f = f h
-past_here (Some stop) e rest P h f = h
+past_here (Some text) e rest P h f = h
 
 -- it stopped at a file, neither by its load nor by want of memory
 stopped_here : (l : Loads) (i : ℕ) (name : List ℕ) (limit : ℕ) (e : Ending) (rest : List ℕ → Option Stop) → e ≢ Err Memory → ((j : ℕ) → e ≢ Err (Load j)) → IsErrAnd e (StopsAt l i name limit)
@@ -47,8 +48,7 @@ stopped_here : (l : Loads) (i : ℕ) (name : List ℕ) (limit : ℕ) (e : Ending
 stopped_here l i name limit (Ok t) rest m n h = absurd h
 stopped_here l i name limit (Err Usage) rest m n h = absurd h
 stopped_here l i name limit (Err (Load j)) rest m n h = absurd (n j refl)
-stopped_here l i name limit (Err (Model fault)) rest m n h = absurd h
-stopped_here l i name limit (Err (Run fault)) rest m n h = absurd h
+stopped_here l i name limit (Err (Faulty text)) rest m n h = absurd h
 stopped_here l i name limit (Err (Long j)) rest m n h = long_here (l.held name) (Err (Long j)) i limit rest (ap (λ k. Err (Long k)) h.0) h.1
 stopped_here l i name limit (Err Memory) rest m n h = absurd (m refl)
 
@@ -56,12 +56,12 @@ in_order_exact : (l : Loads) (words : List (List ℕ)) (i : ℕ) (kinds : List F
     → e ≢ Err Memory → ((j : ℕ) → e ≢ Err (Load j)) → InOrder l words i kinds files says e → Is e (first_stop l.held words i kinds files)
 in_order_exact l words i [] files says e m n h = tt
 in_order_exact l words i (kind ∷ kinds) files says e m n h =
-    let rest : List ℕ → Option Stop = λ bytes. past (stop_of_text kind files bytes) (first_stop l.held words (i + 1) kinds (files ++ bytes ∷ [])) in
+    let rest : List ℕ → Option Stop = λ bytes. past (fault_of_text kind files bytes) (first_stop l.held words (i + 1) kinds (files ++ bytes ∷ [])) in
     elim h [
       | inl s ↦ stopped_here l i (word_at words i) (limit_of kind) e rest m n s
       | inr b ↦
           holds_here (l.held (word_at words i)) e i (limit_of kind) b.0 rest b.1.told b.1.fits
-          (past_here (stop_of_text kind files b.0) e _ _ b.2 (in_order_exact l words (i + 1) kinds (files ++ b.0 ∷ []) says e m n))
+          (past_here (fault_of_text kind files b.0) e _ _ b.2 (in_order_exact l words (i + 1) kinds (files ++ b.0 ∷ []) says e m n))
     ]
 
 due_exact : (l : Loads) (words : List (List ℕ)) (o : Option Command) (e : Ending)

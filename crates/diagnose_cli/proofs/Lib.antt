@@ -4,6 +4,7 @@ pub mod Orders
 pub mod Rows
 pub mod Exact
 pub mod Reading
+pub mod Answered
 pub mod TraceAnswers
 pub mod TraceRows
 pub mod UsageRows

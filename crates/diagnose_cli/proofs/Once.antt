@@ -3,8 +3,8 @@ use Rattle.std.proofs.Common.{◌≡◌, ℕ, List, [], ◌∷◌, ◌++◌, tak
 use Rattle.std.specs.List.{concat}
 use Rattle.des_base.specs.Outside.{Took, TookFront}
 use Rattle.diagnose_cli.specs.declared.ending.Kind.{Kind}
-use Rattle.diagnose_cli.specs.declared.ending.Stop.{Stop}
-use Rattle.diagnose_cli.specs.declared.ending.Stop.TheVariants.{Memory}
+use Rattle.diagnose_cli.specs.declared.stop.Stop.{Stop}
+use Rattle.diagnose_cli.specs.declared.stop.Stop.TheVariants.{Memory}
 use Rattle.diagnose_cli.specs.Transcripts.{Ending, UnlessMemory, TookCut, once}
 use Rattle.diagnose_cli.specs.Endings.{texts_of, text_of_stop}
 use Rattle.diagnose_cli.specs.Files.{Loads}

@@ -3,43 +3,44 @@ use Rattle.std.proofs.Common.{◌≡◌, ◌≢◌, ◌≤◌, inl, inr, ℕ, �
 use Rattle.des_base.specs.CommandWords.{word_at}
 use Rattle.diagnose_cli.specs.declared.command.Command.{Command}
 use Rattle.diagnose_cli.specs.declared.ending.Kind.{Kind}
-use Rattle.diagnose_cli.specs.declared.ending.Stop.{Stop}
-use Rattle.diagnose_cli.specs.declared.ending.Stop.TheVariants.{Memory}
+use Rattle.diagnose_cli.specs.declared.stop.Stop.{Stop}
+use Rattle.diagnose_cli.specs.declared.stop.Stop.TheVariants.{Faulty, Memory}
+use Rattle.diagnose_cli.specs.declared.stop.FaultyText.{FaultyText}
 use Rattle.diagnose_cli.specs.Transcripts.{Ending, Transcript, once, UnlessMemory}
-use Rattle.diagnose_cli.specs.Files.{Loads, Holds, IsText, StopsAt, StopsIn}
-use Rattle.diagnose_cli.specs.Commands.{FileKind, limit_of, stop_of_text, InOrder, Answers}
+use Rattle.diagnose_cli.specs.Files.{Loads, IsText, IsFaultOf, StopsAt, StopsIn}
+use Rattle.diagnose_cli.specs.Commands.{FileKind, limit_of, fault_of_text, InOrder, Answers}
 use Rattle.diagnose_cli.proofs.Earlier.{stops_earlier}
 
 module _ (l : Loads) (words : List (List ℕ)) (i : ℕ) (kind : FileKind) (kinds : List FileKind) (files : List (List ℕ)) (says : List (List ℕ) → Transcript → Type 0) where
   -- it may stop at the first of the files
-  pub stops_here : (stop : Stop) → StopsIn l i (word_at words i) (limit_of kind) (stop_of_text kind files) stop → InOrder l words i (kind ∷ kinds) files says (Err stop)
+  pub stops_here : (stop : Stop) → StopsIn l i (word_at words i) (limit_of kind) (fault_of_text kind files) stop → InOrder l words i (kind ∷ kinds) files says (Err stop)
   stops_here stop h =
       elim h [
         | inl at ↦ inl at
-        | inr b ↦ inr (b.0, b.1, refused _ (stop_of_text kind files b.0) b.2)
+        | inr b ↦ inr (b.bytes, b.holds, refused _ (fault_of_text kind files b.bytes) b.text b.faulty b.told)
       ]
     where
-      refused : (P : Type 0) (o : Option Stop) → o ≡ Some stop → MatchOption o P (λ s. ◌≡◌ {A = Ending} (Err stop) (Err s))
-      refused P None e = cc
-      refused P (Some s) e = cc
+      refused : (P : Type 0) (o : Option FaultyText) (text : FaultyText) → o ≡ Some text → stop ≡ Faulty text → MatchOption o P (λ t. ◌≡◌ {A = Ending} (Err stop) (Err (Faulty t)))
+      refused P None text e told = cc
+      refused P (Some t) text e told = cc
 
   -- or goes on with the others
-  pub goes_on : (text : List ℕ) (e : Ending) → IsText l.held (word_at words i) (limit_of kind) (stop_of_text kind files) text → InOrder l words (i + 1) kinds (files ++ text ∷ []) says e
+  pub goes_on : (text : List ℕ) (e : Ending) → IsText l.held (word_at words i) (limit_of kind) (fault_of_text kind files) text → InOrder l words (i + 1) kinds (files ++ text ∷ []) says e
       → InOrder l words i (kind ∷ kinds) files says e
-  goes_on text e read rest = inr (text, read.holds, well (stop_of_text kind files text) read.well)
+  goes_on text e read rest = inr (text, read.holds, well (fault_of_text kind files text) read.well)
     where
-      well : (o : Option Stop) → o ≡ None → MatchOption o (InOrder l words (i + 1) kinds (files ++ text ∷ []) says e) (λ s. e ≡ Err s)
+      well : (o : Option FaultyText) → o ≡ None → MatchOption o (InOrder l words (i + 1) kinds (files ++ text ∷ []) says e) (λ t. e ≡ Err (Faulty t))
       well None is = rest
       well (Some s) is = cc
 
 -- a cause that came after an earlier moment came after that moment too
-pub stops_in_earlier : (held now : List ℕ → Option (List ℕ)) (start before after : List ℕ → ℕ) (i : ℕ) (name : List ℕ) (limit : ℕ) (refusal : List ℕ → Option Stop) (stop : Stop)
+pub stops_in_earlier : (held now : List ℕ → Option (List ℕ)) (start before after : List ℕ → ℕ) (i : ℕ) (name : List ℕ) (limit : ℕ) (fault : List ℕ → Option FaultyText) (stop : Stop)
     → now ≡ held → ((n : List ℕ) → start n ≤ before n)
-    → StopsIn (record { held = now; before = before; after = after }) i name limit refusal stop → StopsIn (record { held = held; before = start; after = after }) i name limit refusal stop
-stops_in_earlier held now start before after i name limit refusal stop e later h =
+    → StopsIn (record { held = now; before = before; after = after }) i name limit fault stop → StopsIn (record { held = held; before = start; after = after }) i name limit fault stop
+stops_in_earlier held now start before after i name limit fault stop e later h =
     elim h [
       | inl at ↦ inl (stops_earlier held now start before after i name limit stop e later at)
-      | inr b ↦ inr (b.0, subst (λ (f : List ℕ → Option (List ℕ)). Holds f name limit b.0) e b.1, b.2)
+      | inr b ↦ inr (subst (λ (f : List ℕ → Option (List ℕ)). IsFaultOf f name limit fault stop) e b)
     ]
 
 -- a refusal that is handed on

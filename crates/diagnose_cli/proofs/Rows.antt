@@ -6,32 +6,21 @@ use Rattle.des_base.specs.CommandWords.{word_at}
 use Rattle.model_text.specs.ModelFaults.{network_of, first_fault as first_model_fault}
 use Rattle.replay.specs.RunText.{first_fault as first_run_fault}
 use Rattle.diagnose_cli.specs.declared.command.Command.{Command}
-use Rattle.diagnose_cli.specs.declared.ending.Stop.{Stop}
-use Rattle.diagnose_cli.specs.declared.ending.Stop.TheVariants.{Usage, Load, Model, Run, Long, Memory}
+use Rattle.diagnose_cli.specs.declared.stop.Stop.{Stop}
+use Rattle.diagnose_cli.specs.declared.stop.Stop.TheVariants.{Usage, Load, Faulty, Long, Memory}
+use Rattle.diagnose_cli.specs.declared.stop.FaultyText.{FaultyText}
+use Rattle.diagnose_cli.specs.declared.stop.FaultyText.TheVariants.{Model, Run}
 use Rattle.diagnose_cli.specs.declared.ending.Kind.{Kind}
 use Rattle.diagnose_cli.specs.declared.ending.Kind.TheVariants.{Done, Rejected}
 use Rattle.std.specs.List.{concat}
 use Rattle.diagnose_cli.specs.Transcripts.{Ending, Transcript, UnlessMemory}
 use Rattle.diagnose_cli.specs.Files.{Loads}
-use Rattle.diagnose_cli.specs.Endings.{HasStatus, status_of_kind, texts_of}
-use Rattle.diagnose_cli.specs.Commands.{FileKind, model, run, stop_of_text, files_of, file_count, Says, InOrder, Answers, Due, command_of}
+use Rattle.diagnose_cli.specs.Endings.{HasStatus, status_of_kind, status_of_faulty, texts_of}
+use Rattle.diagnose_cli.specs.Commands.{FileKind, model, run, fault_of_text, files_of, file_count, Says, InOrder, Answers, Due, command_of}
 use Rattle.diagnose_cli.specs.Run.{Ends, RoseFor, HasFile, LoadRow}
 
 abbrev failed : ℕ → Ending
 failed j = Err (Load j)
-
--- no text is refused as a load that failed
-mapped : {X : Type 0} (o : Option X) (stop : Stop) (j : ℕ) → ((j' : ℕ) → stop ≡ Load j' → ⊥) → option_map (λ _. stop) o ≡ Some (Load j) → ⊥
-mapped None stop j never h = cc
-mapped (Some x) stop j never h = never j (same h)
-  where
-    same : Some stop ≡ Some (Load j) → stop ≡ Load j
-    same h = cc
-
-not_a_load : (kind : FileKind) (files : List (List ℕ)) (bytes : List ℕ) (j : ℕ) → stop_of_text kind files bytes ≡ Some (Load j) → ⊥
-not_a_load model files bytes j h = mapped (first_model_fault bytes) (Model (record { line = 0; code = 0 })) j (λ k e. cc) h
-not_a_load run [] bytes j h = cc
-not_a_load run (text ∷ files) bytes j h = mapped (first_run_fault (network_of text) bytes) (Run (record { line = 0; code = 0 })) j (λ k e. cc) h
 
 no_usage : (j : ℕ) → failed j ≡ Err Usage → ⊥
 no_usage j m = cc
@@ -43,12 +32,9 @@ record RoseAmong (l : Loads) (words : List (List ℕ)) (count j : ℕ) : Type 0 
   rose : RoseFor l words j
 
 -- after the text of a file
-past_text : (o : Option Stop) (P R : Type 0) (j : ℕ) → ((stop : Stop) → o ≡ Some stop → stop ≡ Load j → ⊥) → (P → R) → MatchOption o P (λ stop. failed j ≡ Err stop) → R
-past_text None P R j never f m = f m
-past_text (Some stop) P R j never f m = absurd (never stop refl (same m))
-  where
-    same : failed j ≡ Err stop → stop ≡ Load j
-    same m = cc
+past_text : (o : Option FaultyText) (P R : Type 0) (j : ℕ) → (P → R) → MatchOption o P (λ text. failed j ≡ Err (Faulty text)) → R
+past_text None P R j f m = f m
+past_text (Some text) P R j f m = cc
 
 rose_in_order : (l : Loads) (words : List (List ℕ)) (count i : ℕ) (kinds : List FileKind) (files : List (List ℕ)) (says : List (List ℕ) → Transcript → Type 0) (j : ℕ)
     → 1 ≤ i → i + length kinds ≡ count + 1 → InOrder l words i kinds files says (failed j) → RoseAmong l words count j
@@ -57,12 +43,8 @@ rose_in_order l words count i (kind ∷ kinds) files says j low all h =
     elim h [
       | inl s ↦ let same : j ≡ i = s.0 in record { first = omega arith; within = omega arith; rose = subst (RoseFor l words) (sym same) s.1 }
       | inr b ↦
-          past_text (stop_of_text kind files b.0) _ _ j (λ stop is e. not_a_load kind files b.0 j (is_load stop is e))
-          (rose_in_order l words count (i + 1) kinds (files ++ b.0 ∷ []) says j (omega arith) (omega arith)) b.2
+          past_text (fault_of_text kind files b.0) _ _ j (rose_in_order l words count (i + 1) kinds (files ++ b.0 ∷ []) says j (omega arith) (omega arith)) b.2
     ]
-  where
-    is_load : {o : Option Stop} (stop : Stop) → o ≡ Some stop → stop ≡ Load j → o ≡ Some (Load j)
-    is_load stop is e = cc
 
 rose_at : (l : Loads) (words : List (List ℕ)) (j : ℕ) (o : Option Command) → MatchOption o (failed j ≡ Err Usage) (λ c. Answers l words c (failed j))
     → IsSomeAnd o (λ c. (1 ≤ j) × (j ≤ file_count c)) × RoseFor l words j
@@ -75,6 +57,10 @@ no_load_kind : (k : Kind) → 3 ≡ status_of_kind k → ⊥
 no_load_kind Done p = cc
 no_load_kind Rejected p = cc
 
+no_load_text : (text : FaultyText) → 3 ≡ status_of_faulty text → ⊥
+no_load_text (Model fault) p = cc
+no_load_text (Run fault) p = cc
+
 no_load_done : (o : Option Kind) → IsSomeAnd o (λ kind. 3 ≡ status_of_kind kind) → ⊥
 no_load_done None p = absurd p
 no_load_done (Some k) p = no_load_kind k p
@@ -85,8 +71,7 @@ load_row_of l words b n (Err Usage) d p t = absurd (omega arith)
 load_row_of l words b n (Err (Load i)) d p t =
     let rose = rose_at l words i (command_of words) (d (λ m. cc)) in
     record { file = i; known = rose.0; rose = rose.1; put = subst (Took b n) (append-nil _) t }
-load_row_of l words b n (Err (Model fault)) d p t = absurd (omega arith)
-load_row_of l words b n (Err (Run fault)) d p t = absurd (omega arith)
+load_row_of l words b n (Err (Faulty text)) d p t = absurd (no_load_text text p)
 load_row_of l words b n (Err (Long i)) d p t = absurd (omega arith)
 load_row_of l words b n (Err Memory) d p t = absurd (omega arith)
 

@@ -9,8 +9,9 @@ use Rattle.replay.specs.declared.tracing.Traced.{Traced}
 use Rattle.replay.specs.declared.tracing.Traced.TheVariants.{Ran, Stuck}
 use Rattle.diagnose_cli.specs.declared.command.Command.{Command}
 use Rattle.diagnose_cli.specs.declared.command.Command.TheVariants.{Trace}
-use Rattle.diagnose_cli.specs.declared.ending.Stop.{Stop}
-use Rattle.diagnose_cli.specs.declared.ending.Stop.TheVariants.{Usage, Model, Run}
+use Rattle.diagnose_cli.specs.declared.stop.FaultyText.{FaultyText}
+use Rattle.diagnose_cli.specs.declared.stop.FaultyText.TheVariants.{Model, Run}
+use Rattle.diagnose_cli.specs.declared.stop.Stop.TheVariants.{Usage, Faulty}
 use Rattle.diagnose_cli.specs.declared.ending.Kind.{Kind}
 use Rattle.diagnose_cli.specs.declared.ending.Kind.TheVariants.{Done, Rejected}
 use Rattle.diagnose_cli.specs.Transcripts.{Ending, Transcript, whole}
@@ -37,18 +38,18 @@ abbrev pub limit_of : FileKind → ℕ
 limit_of model = 16777216
 limit_of run = 536870912
 
--- Why a text is refused. Until the readers tell the places of faults, each is told as 0 0.
-abbrev pub stop_of_model_text : List ℕ → Option Stop
-stop_of_model_text bytes = option_map (λ _. Model (record { line = 0; code = 0 })) (first_model_fault bytes)
+-- The first fault of a text. Until the reader of models tells the place, it is told as 0 0.
+abbrev pub fault_of_model : List ℕ → Option FaultyText
+fault_of_model bytes = option_map (λ _. Model (record { line = 0; code = 0 })) (first_model_fault bytes)
 
-abbrev pub stop_of_run_text : Net → List ℕ → Option Stop
-stop_of_run_text net bytes = option_map (λ _. Run (record { line = 0; code = 0 })) (first_run_fault net bytes)
+abbrev pub fault_of_run : Net → List ℕ → Option FaultyText
+fault_of_run net bytes = option_map (λ fault. Run fault) (first_run_fault net bytes)
 
 -- the same by the kind of the file, where the files before it are given: a run is read over the model
-abbrev pub stop_of_text : FileKind → List (List ℕ) → List ℕ → Option Stop
-stop_of_text model files bytes = stop_of_model_text bytes
-stop_of_text run [] bytes = None
-stop_of_text run (text ∷ files) bytes = stop_of_run_text (network_of text) bytes
+abbrev pub fault_of_text : FileKind → List (List ℕ) → List ℕ → Option FaultyText
+fault_of_text model files bytes = fault_of_model bytes
+fault_of_text run [] bytes = None
+fault_of_text run (text ∷ files) bytes = fault_of_run (network_of text) bytes
 
 -- the files of a command, in the order of the words
 abbrev pub files_of : Command → List FileKind
@@ -73,7 +74,7 @@ abbrev pub InOrder : Loads → List (List ℕ) → ℕ → List FileKind → Lis
 InOrder l words i [] files says e = IsOkAnd e (says files)
 InOrder l words i (kind ∷ kinds) files says e =
     WithFile l i (word_at words i) (limit_of kind)
-    (λ bytes e. MatchOption (stop_of_text kind files bytes) (InOrder l words (i + 1) kinds (files ++ bytes ∷ []) says e) (λ stop. e ≡ Err stop)) e
+    (λ bytes e. MatchOption (fault_of_text kind files bytes) (InOrder l words (i + 1) kinds (files ++ bytes ∷ []) says e) (λ text. e ≡ Err (Faulty text))) e
 
 abbrev pub Answers : Loads → List (List ℕ) → Command → Ending → Type 0
 Answers l words c = InOrder l words 1 (files_of c) [] (Says c)

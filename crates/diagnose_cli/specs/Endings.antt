@@ -1,11 +1,9 @@
 -- The status of an ending, and its texts.
 use Rattle.std.specs.Prelude.{◌≡◌, ℕ, List, [], ◌∷◌, ◌++◌, codes, Ok, Err, IsSomeAnd, decimal}
-use Rattle.diagnose_cli.specs.declared.ending.Stop.{Stop}
-use Rattle.diagnose_cli.specs.declared.ending.Stop.TheVariants.{Usage, Load, Model, Run, Long, Memory}
-use Rattle.model_text.specs.declared.fault.ModelRefusal.{ModelRefusal}
-use Rattle.model_text.specs.declared.fault.ModelRefusal.TheVariants.{Fault as ModelFaulty, Memory as ModelMemory}
-use Rattle.replay.specs.declared.run_text.RunRefusal.{RunRefusal}
-use Rattle.replay.specs.declared.run_text.RunRefusal.TheVariants.{Fault as RunFaulty, Memory as RunMemory}
+use Rattle.diagnose_cli.specs.declared.stop.Stop.{Stop}
+use Rattle.diagnose_cli.specs.declared.stop.Stop.TheVariants.{Usage, Load, Faulty, Long, Memory}
+use Rattle.diagnose_cli.specs.declared.stop.FaultyText.{FaultyText}
+use Rattle.diagnose_cli.specs.declared.stop.FaultyText.TheVariants.{Model, Run}
 use Rattle.diagnose_cli.specs.declared.ending.Kind.{Kind}
 use Rattle.diagnose_cli.specs.declared.ending.Kind.TheVariants.{Done, Rejected}
 use Rattle.diagnose_cli.specs.Transcripts.{Ending}
@@ -14,22 +12,16 @@ abbrev pub status_of_kind : Kind → ℕ
 status_of_kind Done = 0
 status_of_kind Rejected = 13
 
+abbrev pub status_of_faulty : FaultyText → ℕ
+status_of_faulty (Model fault) = 5
+status_of_faulty (Run fault) = 7
+
 abbrev pub status_of_stop : Stop → ℕ
 status_of_stop Usage = 2
 status_of_stop (Load file) = 3
-status_of_stop (Model fault) = 5
-status_of_stop (Run fault) = 7
+status_of_stop (Faulty text) = status_of_faulty text
 status_of_stop (Long file) = 8
 status_of_stop Memory = 9
-
--- why a command stops, where a reader refuses its text
-abbrev pub stop_of_model : ModelRefusal → Stop
-stop_of_model (ModelFaulty fault) = Model fault
-stop_of_model ModelMemory = Memory
-
-abbrev pub stop_of_run : RunRefusal → Stop
-stop_of_run (RunFaulty fault) = Run fault
-stop_of_run RunMemory = Memory
 
 -- it is an end, and this is its status
 abbrev pub HasStatus : Ending → ℕ → Type 0
@@ -44,11 +36,14 @@ numbered words n = words ++ decimal n ++ 10 ∷ []
 abbrev pub placed : List ℕ → ℕ → ℕ → List ℕ
 placed words line code = words ++ decimal line ++ 32 ∷ decimal code ++ 10 ∷ []
 
+abbrev pub text_of_faulty : FaultyText → List ℕ
+text_of_faulty (Model fault) = placed (codes "MODEL ") fault.line fault.code
+text_of_faulty (Run fault) = placed (codes "RUN ") fault.line fault.code
+
 abbrev pub text_of_stop : Stop → List ℕ
 text_of_stop Usage = codes "USAGE\n"
 text_of_stop (Load file) = numbered (codes "LOAD ") file
-text_of_stop (Model fault) = placed (codes "MODEL ") fault.line fault.code
-text_of_stop (Run fault) = placed (codes "RUN ") fault.line fault.code
+text_of_stop (Faulty text) = text_of_faulty text
 text_of_stop (Long file) = numbered (codes "LONG ") file
 text_of_stop Memory = []
 

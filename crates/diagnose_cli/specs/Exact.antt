@@ -3,14 +3,15 @@ use Rattle.std.specs.Prelude.{◌≡◌, ℕ, ◌+◌, List, [], ◌∷◌, ◌+
 use Rattle.des_base.specs.Outside.{Took}
 use Rattle.des_base.specs.CommandWords.{word_at}
 use Rattle.diagnose_cli.specs.declared.command.Command.{Command}
-use Rattle.diagnose_cli.specs.declared.ending.Stop.{Stop}
-use Rattle.diagnose_cli.specs.declared.ending.Stop.TheVariants.{Usage, Long}
+use Rattle.diagnose_cli.specs.declared.stop.Stop.{Stop}
+use Rattle.diagnose_cli.specs.declared.stop.Stop.TheVariants.{Usage, Faulty, Long}
+use Rattle.diagnose_cli.specs.declared.stop.FaultyText.{FaultyText}
 use Rattle.diagnose_cli.specs.Endings.{status_of_stop, text_of_stop}
-use Rattle.diagnose_cli.specs.Commands.{FileKind, limit_of, stop_of_text, files_of, command_of}
+use Rattle.diagnose_cli.specs.Commands.{FileKind, limit_of, fault_of_text, files_of, command_of}
 
--- the refusal of a text, or what comes after it
-abbrev pub past : Option Stop → Option Stop → Option Stop
-past (Some stop) rest = Some stop
+-- the fault of a text, or what comes after it
+abbrev pub past : Option FaultyText → Option Stop → Option Stop
+past (Some text) rest = Some (Faulty text)
 past None rest = rest
 
 -- the first file from number i on that is too long or has a fault
@@ -19,7 +20,7 @@ first_stop held words i [] files = None
 first_stop held words i (kind ∷ kinds) files =
     option_and_then
     (λ bytes. if nat_lt (limit_of kind) (length bytes) then Some (Long i)
-    else past (stop_of_text kind files bytes) (first_stop held words (i + 1) kinds (files ++ bytes ∷ [])))
+    else past (fault_of_text kind files bytes) (first_stop held words (i + 1) kinds (files ++ bytes ∷ [])))
     (held (word_at words i))
 
 -- where the words stop: at once if they call no command

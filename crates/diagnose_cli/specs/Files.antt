@@ -2,8 +2,9 @@
 use Rattle.std.specs.Prelude.{◌≡◌, ◌⊎◌, ℕ, ◌<◌, ◌≤◌, ⊤, List, length, Option, Some, None, IfSome, Result, Ok, Err, IsErrAnd, Vec}
 use Rattle.std.specs.declared.alloc.Global.{Global}
 use Rattle.des_base.specs.Outside.{Rose}
-use Rattle.diagnose_cli.specs.declared.ending.Stop.{Stop}
-use Rattle.diagnose_cli.specs.declared.ending.Stop.TheVariants.{Usage, Load, Model, Run, Long, Memory}
+use Rattle.diagnose_cli.specs.declared.stop.Stop.{Stop}
+use Rattle.diagnose_cli.specs.declared.stop.Stop.TheVariants.{Usage, Load, Faulty, Long, Memory}
+use Rattle.diagnose_cli.specs.declared.stop.FaultyText.{FaultyText}
 use Rattle.diagnose_cli.specs.Transcripts.{Ending}
 
 -- what a shelf holds by name, and its counts of faults by name at two moments
@@ -26,22 +27,29 @@ StopsAt l i name limit (Load j) = (j ≡ i) × Rose (l.before name) (l.after nam
 StopsAt l i name limit (Long j) = (j ≡ i) × IfSome (l.held name) (λ held. limit < length held)
 StopsAt l i name limit Memory = ⊤
 StopsAt l i name limit Usage = ⊥
-StopsAt l i name limit (Model fault) = ⊥
-StopsAt l i name limit (Run fault) = ⊥
+StopsAt l i name limit (Faulty text) = ⊥
 
 -- the bytes of file i, or why it stops there
 abbrev pub Fetches : Loads → ℕ → List ℕ → ℕ → Result (Vec ℕ Global) Stop → Type 0
 Fetches l i name limit (Ok bytes) = Holds l.held name limit bytes.items
 Fetches l i name limit (Err stop) = StopsAt l i name limit stop
 
--- the bytes of a file whose text isn't refused
-pub record IsText (held : List ℕ → Option (List ℕ)) (name : List ℕ) (limit : ℕ) (refusal : List ℕ → Option Stop) (bytes : List ℕ) : Type 0 where
+-- the bytes of a file whose text has no fault
+pub record IsText (held : List ℕ → Option (List ℕ)) (name : List ℕ) (limit : ℕ) (fault : List ℕ → Option FaultyText) (bytes : List ℕ) : Type 0 where
   pub holds : Holds held name limit bytes
-  pub well : refusal bytes ≡ None
+  pub well : fault bytes ≡ None
 
--- why a command may stop at file i: before it has the bytes, or by the refusal of its text
-abbrev pub StopsIn : Loads → ℕ → List ℕ → ℕ → (List ℕ → Option Stop) → Stop → Type 0
-StopsIn l i name limit refusal stop = StopsAt l i name limit stop ⊎ ((bytes : List ℕ) × Holds l.held name limit bytes × (refusal bytes ≡ Some stop))
+-- the stop tells the fault of the bytes of a file
+pub record IsFaultOf (held : List ℕ → Option (List ℕ)) (name : List ℕ) (limit : ℕ) (fault : List ℕ → Option FaultyText) (stop : Stop) : Type 0 where
+  pub bytes : List ℕ
+  pub holds : Holds held name limit bytes
+  pub text : FaultyText
+  pub faulty : fault bytes ≡ Some text
+  pub told : stop ≡ Faulty text
+
+-- why a command may stop at file i: before it has the bytes, or by a fault of its text
+abbrev pub StopsIn : Loads → ℕ → List ℕ → ℕ → (List ℕ → Option FaultyText) → Stop → Type 0
+StopsIn l i name limit fault stop = StopsAt l i name limit stop ⊎ IsFaultOf l.held name limit fault stop
 
 -- the command stops at file i, or goes on with its bytes
 abbrev pub WithFile : Loads → ℕ → List ℕ → ℕ → (List ℕ → Ending → Type 0) → Ending → Type 0

@@ -3,10 +3,10 @@ ghost use Rattle.des_base.specs.CommandWords.{word_at};
 ghost use Rattle.model_text.specs.ModelFaults.{network_of};
 ghost use Rattle.replay.specs.RunText.{run_of};
 ghost use Rattle.replay.specs.Traced.{word_of};
-ghost use Rattle.diagnose_cli.specs.Commands.{stop_of_model_text, stop_of_run_text};
+ghost use Rattle.diagnose_cli.specs.Commands.{fault_of_model, fault_of_run};
 ghost use Rattle.diagnose_cli.specs.Files.{loads, Fetches, IsText, StopsIn};
 
-use crate::ending::Stop;
+use crate::stop::Stop;
 use des_base::{LoadFault, Shelf, WordList};
 use des_net::Network;
 use model_text::read_model;
@@ -26,8 +26,8 @@ pub fn fetch_model<F: Shelf>(
     place: u32,
 ) -> Result<Network, Stop>
     requires { place < length words.now }
-    ensures net { IfOk result (λ net. (text : List ℕ) × IsText (F.held shelf.old) (word_at words.now place) MODEL_LIMIT stop_of_model_text text × (net ≡ network_of text)) }
-    ensures stop { IfErr result (λ stop. stop ≢ Stop.Memory → StopsIn (loads F.held F.faults shelf.old shelf.new) place (word_at words.now place) MODEL_LIMIT stop_of_model_text stop) }
+    ensures net { IfOk result (λ net. (text : List ℕ) × IsText (F.held shelf.old) (word_at words.now place) MODEL_LIMIT fault_of_model text × (net ≡ network_of text)) }
+    ensures stop { IfErr result (λ stop. stop ≢ Stop.Memory → StopsIn (loads F.held F.faults shelf.old shelf.new) place (word_at words.now place) MODEL_LIMIT fault_of_model stop) }
     ensures kept { F.held shelf.new ≡ F.held shelf.old }
     ensures never_falls { (n : List ℕ) → F.faults shelf.old n ≤ F.faults shelf.new n }
 {
@@ -45,9 +45,9 @@ pub fn fetch_run<F: Shelf>(
     net: &Network,
 ) -> Result<Run, Stop>
     requires { place < length words.now }
-    ensures run { IfOk result (λ run. (text : List ℕ) × IsText (F.held shelf.old) (word_at words.now place) RUN_LIMIT (stop_of_run_text net.now) text × (run ≡ run_of net.now text)) }
+    ensures run { IfOk result (λ run. (text : List ℕ) × IsText (F.held shelf.old) (word_at words.now place) RUN_LIMIT (fault_of_run net.now) text × (run ≡ run_of net.now text)) }
     ensures known { IfOk result (λ run. All (λ e. e < length net.now.events) (word_of run)) }
-    ensures stop { IfErr result (λ stop. stop ≢ Stop.Memory → StopsIn (loads F.held F.faults shelf.old shelf.new) place (word_at words.now place) RUN_LIMIT (stop_of_run_text net.now) stop) }
+    ensures stop { IfErr result (λ stop. stop ≢ Stop.Memory → StopsIn (loads F.held F.faults shelf.old shelf.new) place (word_at words.now place) RUN_LIMIT (fault_of_run net.now) stop) }
     ensures kept { F.held shelf.new ≡ F.held shelf.old }
     ensures never_falls { (n : List ℕ) → F.faults shelf.old n ≤ F.faults shelf.new n }
 {

@@ -11,6 +11,7 @@ mod ending;
 mod files;
 mod out_sink;
 mod run;
+mod stop;
 #[cfg(test)]
 mod tests;
 mod trace_command;

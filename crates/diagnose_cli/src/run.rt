@@ -9,7 +9,8 @@ ghost use Rattle.diagnose_cli.specs.Run.{Ran, Ends, Broke, CutOff, LoadRow};
 ghost use Rattle.diagnose_cli.specs.Trace.{TraceRow};
 
 use crate::command::{Command, command_of};
-use crate::ending::{Reply, Stop, put_once};
+use crate::ending::{Reply, put_once};
+use crate::stop::Stop;
 use crate::trace_command::trace_command;
 use des_base::{Shelf, Sink, WordList};
 use std::alloc::Global;

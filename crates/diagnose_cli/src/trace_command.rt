@@ -4,8 +4,9 @@ ghost use Rattle.diagnose_cli.specs.Transcripts.{UnlessMemory, once};
 ghost use Rattle.diagnose_cli.specs.Commands.{Answers, reply_of_traced};
 
 use crate::command::Command;
-use crate::ending::{Kind, Reply, Stop};
+use crate::ending::{Kind, Reply};
 use crate::files::{fetch_model, fetch_run};
+use crate::stop::Stop;
 use des_base::{Memory, Shelf, WordList};
 use replay::{Traced, trace};
 use std::alloc::Global;

@@ -5,7 +5,10 @@ use Rattle.des_base.specs.Names.{place_by, place_of}
 use Rattle.des_base.specs.CountedLines.{NumberedLine, counted_lines, numbered, tokens_of, last_line}
 use Rattle.des_net.specs.Network.{Net}
 use Rattle.des_net.specs.Building.{IsDraft}
-use Rattle.replay.specs.RunText.{after_reply_line, stated_length, fault_of_steps, fault_of_lines, first_fault}
+use Rattle.std.specs.Option.{option_or}
+use Rattle.replay.specs.declared.run_text.RunFault.{RunFault}
+use Rattle.replay.specs.declared.run_text.RunRefusal.{RunRefusal}
+use Rattle.replay.specs.RunText.{after_reply_line, stated_length, fault_at, fault_of_steps, fault_of_lines, first_fault, Tells}
 
 place_step : (b : Bool) (q : Option ℕ) (n : ℕ) → IfSome q (λ j. j < n) → IfSome (cond b (Some 0) (option_map suc q)) (λ k. k < suc n)
 place_step true q n rest = omega arith

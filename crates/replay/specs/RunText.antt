@@ -1,6 +1,7 @@
 -- The text of a run: its steps, and its first fault.
-use Rattle.std.specs.Prelude.{◌≡◌, ⊤, ℕ, ◌-◌, Bool, false, not, ◌||◌, List, [], ◌∷◌, filter_map, length, option_map, Option, Some, None, bytes_eq, codes, if◌then◌else◌, nat_le, nat_lt, is_none, IsSome}
+use Rattle.std.specs.Prelude.{◌≡◌, ⊤, ℕ, ◌-◌, Bool, false, not, ◌||◌, List, [], ◌∷◌, filter_map, length, option_map, Option, Some, None, bytes_eq, codes, if◌then◌else◌, nat_le, nat_lt, is_none}
 use Rattle.std.specs.List.{list_all}
+use Rattle.std.specs.Option.{option_or}
 use Rattle.des_base.specs.Names.{is_name_text, place_of}
 use Rattle.des_base.specs.Numbers.{number_up_to}
 use Rattle.des_base.specs.CountedLines.{NumberedLine, counted_lines, tokens_of, last_line}
@@ -30,36 +31,43 @@ stated_length (word ∷ []) = None
 stated_length (word ∷ count ∷ []) = if bytes_eq word (codes "run") then number_up_to 4000000 count else None
 stated_length (word ∷ count ∷ more ∷ words) = None
 
+-- the words of a step's line: its event, and the name of an alarm where there is one
+abbrev pub step_words : List (List ℕ) → Option (List ℕ × Option (List ℕ))
+step_words [] = None
+step_words (event ∷ []) = Some (event, None)
+step_words (event ∷ alarm ∷ []) = Some (event, Some alarm)
+step_words (event ∷ alarm ∷ more ∷ words) = None
+
 -- the event is the network's
 abbrev pub knows_event : Net → List (List ℕ) → Bool
 knows_event net [] = false
 knows_event net (event ∷ words) = not (is_none (place_of event net.event_names))
 
--- The first code of a step's line, where so many lines may still come.
+-- The first code of a step's line, where so many lines may still come. A counted line has a word, so code 2 is for more than two.
 abbrev pub step_code : Net → ℕ → List (List ℕ) → Option ℕ
 step_code net left words =
     if nat_le left 0 then Some 4
-    else if nat_lt 2 (length words) then Some 2
+    else if is_none (step_words words) then Some 2
     else if not (list_all is_name_text words) then Some 3
     else if not (knows_event net words) then Some 5
     else None
 
-abbrev pub fault_or : ℕ → Option ℕ → Option RunFault → Option RunFault
-fault_or number None later = later
-fault_or number (Some code) later = Some (record { line = number; code = code })
+-- a fault of the line of this number, if it has a code
+abbrev pub fault_at : ℕ → Option ℕ → Option RunFault
+fault_at number code = option_map (λ k. record { line = number; code = k }) code
 
-abbrev pub first_code : Net → ℕ → List NumberedLine → Option RunFault
-first_code net left [] = None
-first_code net left (line ∷ lines) = fault_or line.number (step_code net left (tokens_of line.text)) (first_code net (left - 1) lines)
+-- the first fault of the lines after the header, where so many may still come
+abbrev pub first_fault_in : Net → ℕ → List NumberedLine → Option RunFault
+first_fault_in net left [] = None
+first_fault_in net left (line ∷ lines) = option_or (fault_at line.number (step_code net left (tokens_of line.text))) (first_fault_in net (left - 1) lines)
 
 -- A shortage of lines is found only where all lines are well. It is a fault of the text's end.
-abbrev pub or_shortage : ℕ → ℕ → ℕ → Option RunFault → Option RunFault
-or_shortage end stated found None = if nat_lt found stated then Some (record { line = end; code = 4 }) else None
-or_shortage end stated found (Some fault) = Some fault
+abbrev pub shortage : ℕ → ℕ → ℕ → Option RunFault
+shortage end stated found = if nat_lt found stated then Some (record { line = end; code = 4 }) else None
 
 abbrev pub fault_of_steps : Net → ℕ → ℕ → Option ℕ → List NumberedLine → Option RunFault
 fault_of_steps net end number None steps = Some (record { line = number; code = 1 })
-fault_of_steps net end number (Some stated) steps = or_shortage end stated (length steps) (first_code net stated steps)
+fault_of_steps net end number (Some stated) steps = option_or (first_fault_in net stated steps) (shortage end stated (length steps))
 
 -- the first fault of the lines from the header on
 abbrev pub fault_of_lines : Net → ℕ → List NumberedLine → Option RunFault
@@ -69,13 +77,6 @@ fault_of_lines net end (header ∷ steps) = fault_of_steps net end header.number
 -- comments in runs begin with `#`
 abbrev pub first_fault : Net → List ℕ → Option RunFault
 first_fault net bytes = fault_of_lines net (last_line bytes) (after_reply_line (counted_lines 35 bytes))
-
--- the words of a step's line: its event, and the name of an alarm where there is one
-abbrev pub step_words : List (List ℕ) → Option (List ℕ × Option (List ℕ))
-step_words [] = None
-step_words (event ∷ []) = Some (event, None)
-step_words (event ∷ alarm ∷ []) = Some (event, Some alarm)
-step_words (event ∷ alarm ∷ more ∷ words) = None
 
 -- the step that a line says, where its event is known
 abbrev pub step_of : Net → List (List ℕ) → Option RunStep
@@ -95,7 +96,7 @@ after_header (header ∷ steps) = steps
 abbrev pub run_of : Net → List ℕ → List RunStep
 run_of net bytes = steps_of net (after_header (after_reply_line (counted_lines 35 bytes)))
 
--- A refusal for a fault comes only where the text has one. Until places are told it names none.
-abbrev pub IsDue : {X : Type 0} → Option X → RunRefusal → Type 0
-IsDue fault (Fault told) = IsSome fault × (told ≡ record { line = 0; code = 0 })
-IsDue fault Memory = ⊤
+-- A refusal for a fault tells this one.
+abbrev pub Tells : Option RunFault → RunRefusal → Type 0
+Tells fault (Fault told) = fault ≡ Some told
+Tells fault Memory = ⊤

@@ -2,19 +2,21 @@ ghost use Rattle.std.specs.Prelude.{◌≡◌, ◌<◌, ◌≤◌, ◌^◌, ℕ,
 ghost use Rattle.std.specs.Option.{option_copied, option_to_list};
 ghost use Rattle.std.specs.List.{list_all};
 ghost use Rattle.des_base.specs.Names.{is_name_text};
-ghost use Rattle.des_base.specs.CountedLines.{numbered, tokens_of};
+ghost use Rattle.des_base.specs.CountedLines.{numbered, tokens_of, last_line};
 ghost use Rattle.replay.specs.Traced.{word_of};
-ghost use Rattle.replay.specs.RunText.{is_reply_word, is_reply_line, after_reply_line, stated_length, step_code, step_words, step_of, steps_of, fault_or, fault_of_steps, first_fault, run_of, IsDue};
+ghost use Rattle.replay.specs.RunText.{is_reply_word, is_reply_line, after_reply_line, stated_length, step_code, step_words, step_of, steps_of, fault_at, fault_of_steps, first_fault, run_of, Tells};
 ghost use Rattle.replay.specs.declared.run_text.RunRefusal.TheVariants.{Memory as NoMemory};
 
 use crate::run::{Run, RunStep};
-use des_base::{EventId, Line, Lines, Memory, Name, NameFault, is_name, read_number};
+use des_base::{EventId, Line, Lines, Memory, Name, NameFault, is_name, last_line, read_number};
 use des_net::Network;
 use std::alloc::Global;
 
-/// The place and the kind of the first fault of a run text. Lines are counted from 1.
+/// The line of the first fault of a run text, counted from 1, and its code.
 ///
-/// For now neither is told: both are 0.
+/// 1: the first counted line (but for that of a printed reply) isn't `run T`, or is missing. 2: a line has more than two
+/// words. 3: a word isn't a name. 4: there are fewer lines than T, which is a fault of the text's end, or more. 5: the
+/// network has no such event.
 #[derive(Clone, Copy, Debug, PartialEq, Eq)]
 pub struct RunFault {
     pub line: u32,
@@ -40,7 +42,15 @@ impl From<Memory> for RunRefusal {
 
 const STEPS: u64 = 4_000_000;
 
-const FAULT: RunRefusal = RunRefusal::Fault(RunFault { line: 0, code: 0 });
+const NO_HEADER: u8 = 1;
+
+const TOO_MANY_WORDS: u8 = 2;
+
+const NO_NAME: u8 = 3;
+
+const OTHER_LENGTH: u8 = 4;
+
+const UNKNOWN_EVENT: u8 = 5;
 
 // The words of a step's line.
 #[derive(Clone, Copy)]
@@ -59,16 +69,22 @@ pub fn read_run(alloc: Global, bytes: &[u8], net: &Network) -> Result<Run, RunRe
     ensures run { IfOk result (λ run. run ≡ run_of net.now bytes.now) }
     ensures known { IfOk result (λ run. All (λ e. e < length net.now.events) (word_of run)) }
     ensures well { OnOk result (first_fault net.now bytes.now ≡ None) }
-    ensures refused { IfErr result (IsDue (first_fault net.now bytes.now)) }
+    ensures refused { IfErr result (Tells (first_fault net.now bytes.now)) }
 {
     let mut lines = Lines::new(bytes, b'#');
     let Some(header) = next_header(&mut lines) else {
-        return Err(FAULT);
+        return Err(fault(last_line(bytes), NO_HEADER));
     };
     let Some(stated) = stated_length(header) else {
-        return Err(FAULT);
+        return Err(fault(header.number, NO_HEADER));
     };
-    read_steps(alloc, net, stated, &mut lines)
+    read_steps(alloc, bytes, net, stated, &mut lines)
+}
+
+fn fault(line: u32, code: u8) -> RunRefusal
+    ensures { result ≡ RunRefusal.Fault (record { line = line; code = code }) }
+{
+    RunRefusal::Fault(RunFault { line, code })
 }
 
 // The first line that isn't that of a printed reply.
@@ -111,18 +127,20 @@ fn stated_length(header: Line<'_>) -> Option<u64>
     read_number(count.text, STEPS)
 }
 
-// The steps of the lines to come, where there are as many as the header says.
+// The steps of the lines to come of the text, where there are as many as the header says.
 fn read_steps(
     alloc: Global,
+    bytes: &[u8],
     net: &Network,
     stated: u64,
     lines: &mut Lines<'_>,
 ) -> Result<Run, RunRefusal>
-    requires { stated ≤ STEPS }
+    requires short { length bytes.now < 2 ^ 32 }
+    requires few { stated ≤ STEPS }
     ensures run { IfOk result (λ run. run ≡ steps_of net.now lines.old) }
     ensures known { IfOk result (λ run. All (λ e. e < length net.now.events) (word_of run)) }
-    ensures well { (end number : ℕ) → OnOk result (fault_of_steps net.now end number (Some stated) lines.old ≡ None) }
-    ensures refused { (end number : ℕ) → IfErr result (IsDue (fault_of_steps net.now end number (Some stated) lines.old)) }
+    ensures well { (number : ℕ) → OnOk result (fault_of_steps net.now (last_line bytes.now) number (Some stated) lines.old ≡ None) }
+    ensures refused { (number : ℕ) → IfErr result (Tells (fault_of_steps net.now (last_line bytes.now) number (Some stated) lines.old)) }
 {
     let mut run = Run::new(alloc);
     let mut left = stated;
@@ -132,7 +150,7 @@ fn read_steps(
         left -= 1;
     }
     if left > 0 {
-        return Err(FAULT);
+        return Err(fault(last_line(bytes), OTHER_LENGTH));
     }
     Ok(run)
 }
@@ -142,18 +160,21 @@ fn read_step(alloc: Global, net: &Network, left: u64, line: Line<'_>) -> Result<
     ensures step { IfOk result (λ step. step_of net.now (tokens_of line.entry.text.now) ≡ Some step) }
     ensures known { IfOk result (λ step. step.event < length net.now.events) }
     ensures well { OnOk result (step_code net.now left (tokens_of line.entry.text.now) ≡ None) }
-    ensures refused { IfErr result (IsDue (step_code net.now left (tokens_of line.entry.text.now))) }
+    ensures refused { IfErr result (Tells (fault_at line.entry.number (step_code net.now left (tokens_of line.entry.text.now)))) }
 {
-    let Some(words) = step_words(line) else {
-        return Err(FAULT);
-    };
-    if left == 0 || !is_name(words.event) {
-        return Err(FAULT);
+    if left == 0 {
+        return Err(fault(line.number, OTHER_LENGTH));
     }
-    let alarm = read_alarm(alloc, words.alarm)?;
+    let Some(words) = step_words(line) else {
+        return Err(fault(line.number, TOO_MANY_WORDS));
+    };
+    if !is_name(words.event) {
+        return Err(fault(line.number, NO_NAME));
+    }
+    let alarm = read_alarm(alloc, line.number, words.alarm)?;
     match net.find_event(words.event) {
         Some(event) => Ok(RunStep { event, alarm }),
-        None => Err(FAULT),
+        None => Err(fault(line.number, UNKNOWN_EVENT)),
     }
 }
 
@@ -175,18 +196,18 @@ fn step_words<'a>(line: Line<'a>) -> Option<StepWords<'a>>
     }
 }
 
-// The name of an alarm, where there is one.
-fn read_alarm(alloc: Global, text: Option<&[u8]>) -> Result<Option<Name>, RunRefusal>
+// The name of an alarm, where there is one, on the line of this number.
+fn read_alarm(alloc: Global, line: u32, text: Option<&[u8]>) -> Result<Option<Name>, RunRefusal>
     ensures alarm { IfOk result (λ alarm. alarm ≡ option_copied text.entry) }
     ensures name { OnOk result (list_all is_name_text (option_to_list (option_copied text.entry)) ≡ true) }
-    ensures refused { IfErr result (IsDue {X = ℕ} (if list_all is_name_text (option_to_list (option_copied text.entry)) then None else Some 3)) }
+    ensures refused { IfErr result (Tells (fault_at line (if list_all is_name_text (option_to_list (option_copied text.entry)) then None else Some 3))) }
 {
     let Some(text) = text else {
         return Ok(None);
     };
     match Name::new(alloc, text) {
         Ok(name) => Ok(Some(name)),
-        Err(NameFault::Shape) => Err(FAULT),
+        Err(NameFault::Shape) => Err(fault(line, NO_NAME)),
         Err(NameFault::Memory) => Err(RunRefusal::Memory),
     }
 }

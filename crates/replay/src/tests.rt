@@ -189,23 +189,33 @@ fn reads_runs(rt: HostRuntime) -> Result<(), Fail> {
     Ok(())
 }
 
-const FAULTY: [&str; 16] = [
-    "",
-    "# nothing\n",
-    "run",
-    "run 01",
-    "run 4000001",
-    "run 1 1\ng",
-    "jog 0",
-    "EXPLAINED 1",
-    "EXPLAINED 1\nMANY 2\nrun 0",
-    "run 1",
-    "run 2\ng\n",
-    "run 0\ng",
-    "run 1\nzz",
-    "run 1\ng x y",
-    "run 1\ng x.y",
-    "run 1\nG",
+// Texts with a fault: the line and the code of the first.
+const FAULTY: [(&str, u32, u8); 25] = [
+    ("", 1, 1),
+    ("# nothing\n", 1, 1),
+    ("# nothing\n\n\r", 3, 1),
+    ("run", 1, 1),
+    ("run 01", 1, 1),
+    ("\n\nrun 4000001", 3, 1),
+    ("run 1 1\ng", 1, 1),
+    ("jog 0", 1, 1),
+    ("EXPLAINED 1", 1, 1),
+    ("EXPLAINED 1\n\n#", 3, 1),
+    ("EXPLAINED 1\nMANY 2\nrun 0", 2, 1),
+    ("run 1", 1, 4),
+    ("run 2\ng\n", 2, 4),
+    ("run 2\ng\n\n\n", 4, 4),
+    ("run 0\ng", 2, 4),
+    ("run 1\ng\nzz x y", 3, 4),
+    ("run 0\na.b x y", 2, 4),
+    ("run 1\ng x y", 2, 2),
+    ("run 1\na.b x y", 2, 2),
+    ("run 1\ng x.y", 2, 3),
+    ("run 1\na.b", 2, 3),
+    ("run 1\nzz x.y", 2, 3),
+    ("run 1\nzz", 2, 5),
+    ("run 1\nG", 2, 5),
+    ("run 3\ng\nzz", 3, 5),
 ];
 
 fn refusal(rt: &impl Abort, alloc: Global, net: &Network, text: &str) -> Option<RunRefusal> {
@@ -216,8 +226,8 @@ fn refusal(rt: &impl Abort, alloc: Global, net: &Network, text: &str) -> Option<
 #[test]
 fn refuses_faulty_texts(rt: HostRuntime) -> Result<(), Fail> {
     let net = network(&rt, rt.alloc())?;
-    let fault = RunRefusal::Fault(RunFault { line: 0, code: 0 });
-    for text in FAULTY {
+    for (text, line, code) in FAULTY {
+        let fault = RunRefusal::Fault(RunFault { line, code });
         assert_eq!(rt; refusal(&rt, rt.alloc(), &net, text), Some(fault), "{text}");
     }
     Ok(())

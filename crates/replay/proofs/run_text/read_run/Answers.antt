@@ -3,7 +3,7 @@ use Rattle.std.proofs.Common.{◌≡◌, sym, subst, Option, None}
 use Rattle.std.specs.Prelude.{OnOk, IfErr}
 use Rattle.des_base.specs.CountedLines.{last_line}
 use Rattle.replay.specs.declared.run_text.RunFault.{RunFault}
-use Rattle.replay.specs.RunText.{IsDue}
+use Rattle.replay.specs.RunText.{Tells}
 use Rattle.replay.proofs.TextLemmas.{first_fault-steps}
 use Rattle.replay.proofs.run_text.read_run.Goals as goal
 
@@ -11,10 +11,10 @@ pub returns-clause-well : goal.returns-clause-well
 returns-clause-well c =
     let number = c.in-Some.header.number in
     let same = first_fault-steps c.args.net.now c.args.bytes.now c.new-lines.result number c.in-Some.header.text.now c.in-Some-stated_length.stated c.next_header.new.lines c.new-lines.ensures c.in-Some.ensures c.in-Some-stated_length.ensures.length in
-    subst (λ (fault : Option RunFault). OnOk c.read_steps.result (fault ≡ None)) (sym same) (c.read_steps.ensures.well (last_line c.args.bytes.now) number)
+    subst (λ (fault : Option RunFault). OnOk c.read_steps.result (fault ≡ None)) (sym same) (c.read_steps.ensures.well number)
 
 pub returns-clause-refused : goal.returns-clause-refused
 returns-clause-refused c =
     let number = c.in-Some.header.number in
     let same = first_fault-steps c.args.net.now c.args.bytes.now c.new-lines.result number c.in-Some.header.text.now c.in-Some-stated_length.stated c.next_header.new.lines c.new-lines.ensures c.in-Some.ensures c.in-Some-stated_length.ensures.length in
-    subst (λ (fault : Option RunFault). IfErr c.read_steps.result (IsDue fault)) (sym same) (c.read_steps.ensures.refused (last_line c.args.bytes.now) number)
+    subst (λ (fault : Option RunFault). IfErr c.read_steps.result (Tells fault)) (sym same) (c.read_steps.ensures.refused number)

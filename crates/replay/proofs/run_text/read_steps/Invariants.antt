@@ -2,7 +2,7 @@
 use Rattle.std.proofs.Common.{◌≡◌, ◌+◌, ◌<◌, ◌≤◌, ◌++◌, length}
 use Rattle.std.specs.Prelude.{All}
 use Rattle.replay.specs.Traced.{word_of}
-use Rattle.replay.specs.RunText.{steps_of, first_code}
+use Rattle.replay.specs.RunText.{steps_of, first_fault_in}
 use Rattle.replay.proofs.run_text.read_steps.Given as goal
 
 abbrev pub invariant-loop-line : goal.invariant-loop-line
@@ -12,7 +12,7 @@ invariant-loop-line l = record {
   left : length l.run + l.left ≡ l.stated;
   few : l.stated ≤ 4000000;
   long : length l.run + length l.lines ≡ length l.fn.lines;
-  codes : first_code l.net l.left l.lines ≡ first_code l.net l.stated l.fn.lines;
+  faults : first_fault_in l.net l.left l.lines ≡ first_fault_in l.net l.stated l.fn.lines;
 }
 
 abbrev pub decreases-loop-line : goal.decreases-loop-line

@@ -1,0 +1,115 @@
+ghost use Rattle.std.specs.Prelude.{◌≡◌, ◌∷◌, ◌++◌, [], IfOk, string_bytes};
+ghost use Rattle.diagnose_cli.specs.declared.stop.Stop.TheVariants.{Memory as NoMemory};
+ghost use Rattle.diagnose_cli.specs.Endings.{status_of_faulty, status_of_stop, text_of_stop, placed};
+ghost use Rattle.diagnose_cli.specs.Refusals.{stop_of_model, stop_of_run};
+
+use des_base::Memory;
+use model_text::{ModelFault, ModelRefusal};
+use replay::{RunFault, RunRefusal};
+use std::alloc::{AllocError, Global};
+
+/// A text that has a fault, and its first fault.
+#[derive(Clone, Copy, Debug, PartialEq, Eq)]
+pub enum FaultyText {
+    Model(ModelFault),
+    Run(RunFault),
+}
+
+/// Why a command has no reply.
+#[derive(Clone, Copy, Debug, PartialEq, Eq)]
+pub enum Stop {
+    /// The words are no command.
+    Usage,
+    /// The load of the file of this number failed.
+    Load(u32),
+    /// The text of a file has a fault.
+    Faulty(FaultyText),
+    /// The file of this number is longer than its limit.
+    Long(u32),
+    /// Want of memory.
+    Memory,
+}
+
+impl From<Memory> for Stop {
+    ghost from_gives = { λ _ e. e ≡ NoMemory };
+
+    fn from(_: Memory) -> Stop {
+        Stop::Memory
+    }
+}
+
+impl From<ModelRefusal> for Stop {
+    ghost from_gives = { λ refusal e. e ≡ stop_of_model refusal };
+
+    fn from(refusal: ModelRefusal) -> Stop {
+        match refusal {
+            ModelRefusal::Fault(fault) => Stop::Faulty(FaultyText::Model(fault)),
+            ModelRefusal::Memory => Stop::Memory,
+        }
+    }
+}
+
+impl From<RunRefusal> for Stop {
+    ghost from_gives = { λ refusal e. e ≡ stop_of_run refusal };
+
+    fn from(refusal: RunRefusal) -> Stop {
+        match refusal {
+            RunRefusal::Fault(fault) => Stop::Faulty(FaultyText::Run(fault)),
+            RunRefusal::Memory => Stop::Memory,
+        }
+    }
+}
+
+impl From<AllocError> for Stop {
+    ghost from_gives = { λ _ e. e ≡ NoMemory };
+
+    fn from(_: AllocError) -> Stop {
+        Stop::Memory
+    }
+}
+
+/// The exit status of a stop.
+pub fn status_of_stop(stop: Stop) -> u8
+    ensures { result ≡ status_of_stop stop }
+{
+    match stop {
+        Stop::Usage => 2,
+        Stop::Load(_) => 3,
+        Stop::Faulty(text) => status_of_faulty(text),
+        Stop::Long(_) => 8,
+        Stop::Memory => 9,
+    }
+}
+
+fn status_of_faulty(text: FaultyText) -> u8
+    ensures { result ≡ status_of_faulty text }
+{
+    match text {
+        FaultyText::Model(_) => 5,
+        FaultyText::Run(_) => 7,
+    }
+}
+
+/// What is printed for a stop: nothing where memory is wanting.
+pub fn text_of_stop(alloc: Global, stop: Stop) -> Result<Vec<u8>, Memory>
+    ensures { IfOk result (λ text. text.items ≡ text_of_stop stop) }
+{
+    let text = match stop {
+        Stop::Usage => format!(in alloc; "USAGE\n")?,
+        Stop::Load(file) => format!(in alloc; "LOAD {file}\n")?,
+        Stop::Faulty(FaultyText::Model(fault)) => {
+            placed(alloc, "MODEL", fault.line, fault.code)?
+        }
+        Stop::Faulty(FaultyText::Run(fault)) => placed(alloc, "RUN", fault.line, fault.code)?,
+        Stop::Long(file) => format!(in alloc; "LONG {file}\n")?,
+        Stop::Memory => String::new(alloc),
+    };
+    Ok(text.into_bytes())
+}
+
+// A word, and the line and the code of a fault.
+fn placed(alloc: Global, word: &str, line: u32, code: u8) -> Result<String, Memory>
+    ensures { IfOk result (λ text. string_bytes text ≡ placed (word.now ++ 32 ∷ []) line code) }
+{
+    Ok(format!(in alloc; "{word} {line} {code}\n")?)
+}
