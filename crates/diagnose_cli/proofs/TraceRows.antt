@@ -30,7 +30,8 @@ told text steps b n s (Err stop) says shown put = absurd says
 pub trace_row : (l : Loads) (words : List (List ℕ)) (b n : Option (List ℕ)) (s : ℕ) → Ends l words b n s → s ≢ 3 → s ≢ 9 → TraceRow l.held words b n s
 trace_row l words b n s ends three nine text steps command model_held run_held readable =
     told text steps b n s ends.ending
-    (answered l words b n s Trace (text ∷ steps ∷ []) ends three nine command
-    (record { told = model_held; fits = readable.model_fits; well = none_told _ (first_model_fault text) readable.model_well },
-    (record { told = run_held; fits = readable.run_fits; well = none_told _ (first_run_fault (network_of text) steps) readable.run_well }, tt)))
+    (answered l words b n s Trace (text ∷ steps ∷ []) ends three nine command (
+      record { told = model_held; fits = readable.model_fits; well = none_told _ (first_model_fault text) readable.model_well },
+      (record { told = run_held; fits = readable.run_fits; well = none_told _ (first_run_fault (network_of text) steps) readable.run_well }, tt),
+    ))
     ends.shown ends.put

@@ -19,6 +19,7 @@ mod trace_command;
 use des_base::{Memory, WordList};
 use disk_shelf::DiskShelf;
 use out_sink::OutSink;
+use proof_ledger::Ledger;
 use std::alloc::Global;
 use std::io::ErrorKind;
 use std::process::ExitCode;
@@ -45,5 +46,6 @@ fn main(rt: HostRuntime) -> ExitCode {
     };
     let mut shelf = DiskShelf::new(&rt);
     let mut out = OutSink::new(io::writer(&rt));
-    ExitCode::from(run::run(rt.alloc(), &words, &mut shelf, &mut out))
+    let mut book = Ledger::new(rt.alloc());
+    ExitCode::from(run::run(rt.alloc(), &words, &mut shelf, &mut out, &mut book))
 }

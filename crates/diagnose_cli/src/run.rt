@@ -1,5 +1,5 @@
 // All that the program does, but for where its words, files and output come from.
-ghost use Rattle.std.specs.Prelude.{◌≡◌, ◌≢◌, None};
+ghost use Rattle.std.specs.Prelude.{◌≡◌, ◌≢◌, None, []};
 ghost use Rattle.des_base.specs.Outside.{Rose};
 ghost use Rattle.diagnose_cli.specs.Files.{loads};
 ghost use Rattle.diagnose_cli.specs.Transcripts.{UnlessMemory, once};
@@ -13,22 +13,33 @@ use crate::ending::{Reply, put_once};
 use crate::stop::Stop;
 use crate::trace_command::trace_command;
 use des_base::{Shelf, Sink, WordList};
+use proof_ledger::Ledger;
 use std::alloc::Global;
 
 /// Does what the words say, and answers the exit status.
 ///
-/// A clause that speaks of what the shelf holds or of what the sink took holds wherever these tell it.
+/// A clause that speaks of what the shelf holds or of what the sink took holds wherever these tell it. The book is for the
+/// derivations of questions; no command asks one yet.
 #[tactic(auto, using(crate::proofs::Rows::load_row, crate::proofs::Exact::stop_row, crate::proofs::TraceRows::trace_row, crate::proofs::UsageRows::usage_row))]
-pub fn run<F: Shelf, S: Sink>(alloc: Global, words: &WordList, shelf: &mut F, out: &mut S) -> u8
+pub fn run<F: Shelf, S: Sink>(
+    alloc: Global,
+    words: &WordList,
+    shelf: &mut F,
+    out: &mut S,
+    book: &mut Ledger,
+) -> u8
+    requires { book.old.entries ≡ [] }
     ensures ends { result ≢ 4 → result ≢ 9 → Ends (loads F.held F.faults shelf.old shelf.new) words.now (S.taken out.old) (S.taken out.new) result }
     ensures traced { result ≢ 3 → result ≢ 4 → result ≢ 9 → TraceRow (F.held shelf.old) words.now (S.taken out.old) (S.taken out.new) result }
     ensures stops { result ≢ 3 → result ≢ 4 → result ≢ 9 → StopRow (F.held shelf.old) words.now (S.taken out.old) (S.taken out.new) result }
     ensures usage { result ≡ 2 → command_of words.now ≡ None }
     ensures load_failed { result ≡ 3 → LoadRow (loads F.held F.faults shelf.old shelf.new) words.now (S.taken out.old) (S.taken out.new) }
+    ensures no_question { book.new ≡ book.old }
     ensures put_failed { result ≡ 4 → Rose (S.faults out.old) (S.faults out.new) }
     ensures cut_off { result ≡ 4 → CutOff (loads F.held F.faults shelf.old shelf.new) words.now (S.taken out.old) (S.taken out.new) }
     ensures broke { result ≡ 9 → Broke (loads F.held F.faults shelf.old shelf.new) words.now (S.taken out.old) (S.taken out.new) }
 {
+    let _ = book;
     run_once(alloc, words, shelf, out)
 }
 

@@ -1,6 +1,7 @@
 // Whole runs over files and output in memory. The texts are those of the worked models.
 use crate::run::run;
 use des_base::{MemShelf, MemSink, WordList};
+use proof_ledger::Ledger;
 use std::alloc::Global;
 use std::test::Fail;
 
@@ -76,6 +77,18 @@ fn words_of(alloc: Global, line: &str) -> Result<WordList, Fail> {
     Ok(words)
 }
 
+// The status that the run answers for these words, with a book that is empty.
+fn status_of(
+    alloc: Global,
+    line: &str,
+    shelf: &mut MemShelf,
+    out: &mut MemSink,
+) -> Result<u8, Fail> {
+    let words = words_of(alloc, line)?;
+    let mut book = Ledger::new(alloc);
+    Ok(run(alloc, &words, shelf, out, &mut book))
+}
+
 fn shelf_of(alloc: Global) -> Result<MemShelf, Fail> {
     let mut shelf = MemShelf::new(alloc);
     for (name, text) in &FILES {
@@ -91,7 +104,7 @@ fn commands(rt: HostRuntime) -> Result<(), Fail> {
         let mut shelf = shelf_of(alloc)?;
         let mut out = MemSink::new(alloc);
         out.reserve(100)?;
-        let answered = run(alloc, &words_of(alloc, *line)?, &mut shelf, &mut out);
+        let answered = status_of(alloc, *line, &mut shelf, &mut out)?;
         assert_eq!(rt; answered, *status, "{line}");
         assert_eq!(rt; out.taken(), text.as_bytes(), "{line}");
     }
@@ -107,12 +120,7 @@ fn loads_fail(rt: HostRuntime) -> Result<(), Fail> {
         shelf.fail_call(call)?;
         let mut out = MemSink::new(alloc);
         out.reserve(100)?;
-        let status = run(
-            alloc,
-            &words_of(alloc, "trace d right")?,
-            &mut shelf,
-            &mut out,
-        );
+        let status = status_of(alloc, "trace d right", &mut shelf, &mut out)?;
         assert_eq!(rt; status, 3);
         assert_eq!(rt; out.taken(), text.as_bytes());
     }
@@ -127,7 +135,7 @@ fn the_put_fails(rt: HostRuntime) -> Result<(), Fail> {
         let mut out = MemSink::new(alloc);
         out.reserve(100)?;
         out.fail_call(1)?;
-        let status = run(alloc, &words_of(alloc, line)?, &mut shelf, &mut out);
+        let status = status_of(alloc, line, &mut shelf, &mut out)?;
         assert_eq!(rt; status, 4, "{line}");
         assert!(rt; out.taken().is_empty(), "{line}");
     }
@@ -147,12 +155,7 @@ fn long_models(rt: HostRuntime) -> Result<(), Fail> {
         shelf.add_file("none", b"run 0\n")?;
         let mut out = MemSink::new(alloc);
         out.reserve(100)?;
-        let status = run(
-            alloc,
-            &words_of(alloc, "trace model none")?,
-            &mut shelf,
-            &mut out,
-        );
+        let status = status_of(alloc, "trace model none", &mut shelf, &mut out)?;
         assert_eq!(rt; status, wanted);
         assert_eq!(rt; out.taken(), reply.as_bytes());
         text.push(b' ')?;
