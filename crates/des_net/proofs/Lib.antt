@@ -4,4 +4,5 @@ pub mod DraftLemmas
 pub mod Local
 pub mod NetworkLemmas
 pub mod Steps
+pub mod WidthLemmas
 pub mod Vectors

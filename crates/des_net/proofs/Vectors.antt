@@ -4,8 +4,12 @@ use Rattle.std.specs.List.{AllByRecursion}
 use Rattle.des_net.specs.Network.{IsNetwork, IsPart, IsTransOf, component_at, touches, Net, Component}
 use Rattle.des_net.specs.Run.{IsRun, next_states}
 use Rattle.des_net.specs.LocalRuns.{can_run}
+use Rattle.des_net.specs.Width.{need, AreApart, Fits}
 use Rattle.des_net.specs.Models.{pump, nothing, apart, meeting, two_starts, masked, settled, fork, moves, takes}
 use Rattle.des_net.proofs.Local.{runs_are_local}
+use Rattle.des_net.proofs.WidthLemmas.{need_is_least}
+use Rattle.des_base.proofs.BoolLemmas.{same}
+use Rattle.std.specs.Prelude.{Bool, ◌==◌, ◌||◌}
 
 -- the test is told by the law
 run : (net : Net) (word : List ℕ) → can_run net word ≡ true → IsRun net word
@@ -184,3 +188,42 @@ pump-no_trip_by_states ([], after, start, rest) = absurd start
 pump-no_trip_by_states (q ∷ p ∷ before, after, start, rest) = absurd start.1
 pump-no_trip_by_states (q ∷ [], after, start, ([], step, end)) = absurd step.moves
 pump-no_trip_by_states (q ∷ [], after, start, (r ∷ mid, step, end)) = no_trip q r start.0 step.moves.0
+
+-- ---- how many pieces a word takes
+
+-- one component does one thing at a time
+pub pump-needs : need pump (0 ∷ 1 ∷ 2 ∷ []) ≡ 3
+pump-needs = refl
+
+pub nothing-needs : need nothing [] ≡ 0
+nothing-needs = refl
+
+pub apart-needs : need apart (1 ∷ 0 ∷ []) ≡ 1
+apart-needs = refl
+
+pub apart-needs_two : need apart (1 ∷ 0 ∷ 0 ∷ []) ≡ 2
+apart-needs_two = refl
+
+-- an event of both components is a piece by itself
+pub meeting-needs : need meeting (2 ∷ 1 ∷ 0 ∷ []) ≡ 2
+meeting-needs = refl
+
+pub meeting-needs_three : need meeting (0 ∷ 2 ∷ 1 ∷ []) ≡ 3
+meeting-needs_three = refl
+
+-- by the definition itself
+pub apart-fits : Fits apart (1 ∷ 0 ∷ []) 1
+apart-fits = ((1 ∷ 0 ∷ []) ∷ [], refl, record { whole = refl; apart = (((clear, tt), (tt, tt)), tt) })
+  where
+    clear : AreApart apart 1 0
+    clear c here there =
+        let one : (1 == c) ≡ true = by (1 == c) here in
+        let none : (0 == c) ≡ true = by (0 == c) there in
+        absurd (omega (arith, same 1 c one, same 0 c none))
+      where
+        by : (b : Bool) → (b || false) ≡ true → b ≡ true
+        by true h = refl
+        by false h = h
+
+pub meeting-fits_no_two : Fits meeting (0 ∷ 2 ∷ 1 ∷ []) 2 → ⊥
+meeting-fits_no_two fits = let least = (need_is_least meeting (0 ∷ 2 ∷ 1 ∷ []) 2).0 fits in absurd (omega arith)

@@ -1,7 +1,9 @@
 // Networks that are built, calls that are refused, and the limits.
 ghost use Rattle.std.specs.Prelude.{◌<◌, length};
 
-use crate::{BuildRefusal, Builder, Network, Part};
+use crate::{
+    BuildRefusal, Builder, Network, Part, need_is_least, runs_are_local, steps_move_parts,
+};
 use des_base::{ActionId, CompId, EventId, Name, StateId};
 use std::alloc::Global;
 use std::process::Abort;
@@ -418,4 +420,11 @@ fn has_at_most_4000_events(rt: HostRuntime) -> Result<(), Fail> {
         assert_eq!(rt; added.err(), Some(refusal), "event {event} with {comp}");
     }
     Ok(())
+}
+
+#[test]
+fn has_laws() {
+    runs_are_local();
+    steps_move_parts();
+    need_is_least();
 }
