@@ -3,4 +3,9 @@ pub mod FollowLemmas
 pub mod RunLemmas
 pub mod TraceLemmas
 pub mod TextLemmas
+pub mod PlacingLemmas
+pub mod PieceLemmas
+pub mod ListTests
+pub mod AcceptLemmas
+pub mod DecideLemmas
 pub mod Vectors

@@ -1,9 +1,14 @@
-//! Runs of a network, their text, and whether the network can perform one.
+//! Runs of a network, their text, whether the network can perform one, and whether one explains an alarm log.
 //!
 //! A run is a list of events, each with the name of the alarm that it is matched to. `trace` tells whether the composed
-//! components can perform it, or else the first event that they can't: `specs/Traced.antt` says what that means.
+//! components can perform it, or else the first event that they can't: `specs/Traced.antt` says what that means. `replay`
+//! tells whether it explains a log within so many pieces, or else what is wrong with it first: `specs/Explanation.antt` says
+//! what an explanation is, and `specs/Replayed.antt` what each answer means.
 #![tactic(auto)]
 
+mod matching;
+mod placing;
+mod replaying;
 mod run;
 mod run_text;
 mod state_set;
@@ -11,8 +16,13 @@ mod state_set;
 mod tests;
 mod theorems;
 mod tracing;
+mod width;
 
+pub use replaying::{Replayed, replay};
 pub use run::{Run, RunStep};
 pub use run_text::{RunFault, RunRefusal, read_run};
-pub use theorems::traces_are_unique;
+pub use theorems::{
+    absent_excludes, accepted_explains, explains_decides, least_is_one, many_is_above,
+    replies_are_unique, traces_are_unique,
+};
 pub use tracing::{Traced, trace};

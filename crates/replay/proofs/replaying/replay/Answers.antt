@@ -1,0 +1,47 @@
+-- Each answer says that the run is accepted exactly where it is.
+use Rattle.std.proofs.Common.{ℕ, List, subst, rules}
+use Rattle.std.specs.Prelude.{MatchOption}
+use Rattle.std.proofs.lemmas.Option.{MatchOption-at_some}
+use Rattle.des_net.specs.Network.{Net}
+use Rattle.des_net.specs.Run.{IsRun}
+use Rattle.log_order.specs.Log.{Log}
+use Rattle.replay.specs.declared.run.RunStep.{RunStep}
+use Rattle.replay.specs.declared.replaying.Replayed.{Replayed}
+use Rattle.replay.specs.declared.replaying.Replayed.TheVariants.{Accepted, Stuck, TooWide}
+use Rattle.replay.specs.Traced.{word_of, IsTraced}
+use Rattle.replay.specs.Replayed.{HasAlarms, IsReplayed}
+use Rattle.replay.proofs.AcceptLemmas.{accepted_where}
+use Rattle.replay.proofs.replaying.replay.Goals as goal
+
+-- what is wrong with the alarms of a run that can be performed
+abbrev WrongWith : Net → Log → List RunStep → Replayed → Type 0
+WrongWith net log run replayed = (n : ℕ) → IsRun net (word_of run) → IsReplayed net log run n replayed
+
+wrong_is : (c : goal.In-Some) → IsReplayed c.args.net.now c.args.log.now c.args.run.now c.args.n c.in-Some.wrong
+wrong_is c =
+    let traced : IsTraced c.args.net.now (word_of c.args.run.now) c.in_ok-at.field-0 = c.in_ok-at.ensures in
+    let told : MatchOption c.in_ok-wrong.field-0 (HasAlarms c.args.net.now c.args.log.now c.steps-steps.result.now) (WrongWith c.args.net.now c.args.log.now c.steps-steps.result.now) = c.in_ok-wrong.ensures in
+    let wrong : WrongWith c.args.net.now c.args.log.now c.args.run.now c.in-Some.wrong = subst (λ (run : List RunStep). WrongWith c.args.net.now c.args.log.now run c.in-Some.wrong) c.steps-steps.ensures.steps
+    (MatchOption-at_some (HasAlarms c.args.net.now c.args.log.now c.steps-steps.result.now) (WrongWith c.args.net.now c.args.log.now c.steps-steps.result.now) c.in-Some.wrong c.in-Some.is told) in
+    wrong c.args.n (subst (IsTraced c.args.net.now (word_of c.args.run.now)) c.in-Ran.is traced).0
+
+pub returns-in-Stuck-clause-accepted : goal.returns-in-Stuck-clause-accepted
+returns-in-Stuck-clause-accepted c =
+    let h : IsReplayed c.args.net.now c.args.log.now c.args.run.now c.args.n (Stuck c.in-Stuck.at) = search rules in
+    accepted_where c.args.net.now c.args.log.now c.args.run.now c.args.n (Stuck c.in-Stuck.at) h
+
+pub returns-in-Some-clause-replayed : goal.returns-in-Some-clause-replayed
+returns-in-Some-clause-replayed c = wrong_is c
+
+pub returns-in-Some-clause-accepted : goal.returns-in-Some-clause-accepted
+returns-in-Some-clause-accepted c = accepted_where c.args.net.now c.args.log.now c.args.run.now c.args.n c.in-Some.wrong (wrong_is c)
+
+pub returns-then-need-n-clause-accepted : goal.returns-then-need-n-clause-accepted
+returns-then-need-n-clause-accepted c =
+    let h : IsReplayed c.args.net.now c.args.log.now c.args.run.now c.args.n (TooWide c.in_ok-need.need) = search rules in
+    accepted_where c.args.net.now c.args.log.now c.args.run.now c.args.n (TooWide c.in_ok-need.need) h
+
+pub returns-clause-accepted : goal.returns-clause-accepted
+returns-clause-accepted c =
+    let h : IsReplayed c.args.net.now c.args.log.now c.args.run.now c.args.n (Accepted c.in-Ran.faults) = search rules in
+    accepted_where c.args.net.now c.args.log.now c.args.run.now c.args.n (Accepted c.in-Ran.faults) h

@@ -1,0 +1,37 @@
+-- Whether a word and an order explain a log, as a test that computes.
+use Rattle.std.specs.Prelude.{◌≢◌, ℕ, ◌↔◌, Bool, true, false, ◌&&◌, not, List, [], ◌∷◌, length, nat_le, nat_lt, is_none, IsTrue}
+use Rattle.std.specs.List.{list_all}
+use Rattle.std.specs.Option.{option_map_or}
+use Rattle.des_net.specs.Network.{Net, label_of}
+use Rattle.des_net.specs.LocalRuns.{can_run}
+use Rattle.des_net.specs.Width.{need}
+use Rattle.log_order.specs.Log.{Log}
+use Rattle.log_order.specs.Precedence.{is_in}
+use Rattle.replay.specs.Explanation.{Explains, observables}
+use Rattle.replay.specs.Matching.{has_label, missing_alarm, wrong_pair}
+
+-- no number stands twice
+abbrev pub is_distinct : List ℕ → Bool
+is_distinct [] = true
+is_distinct (x ∷ xs) = not (is_in xs x) && is_distinct xs
+
+-- the numbers below m, each once
+abbrev pub lists_once : ℕ → List ℕ → Bool
+lists_once m order = list_all (λ i. nat_lt i m) order && is_none (missing_alarm m order) && is_distinct order
+
+-- each event shows the alarm at its place
+abbrev pub all_show : Net → Log → List ℕ → List ℕ → Bool
+all_show net log [] [] = true
+all_show net log [] (alarm ∷ order) = false
+all_show net log (e ∷ events) [] = false
+all_show net log (e ∷ events) (alarm ∷ order) = option_map_or (has_label log alarm) (label_of net e) false && all_show net log events order
+
+abbrev pub linearises : Net → Log → List ℕ → List ℕ → Bool
+linearises net log word order = lists_once (length log.alarms) order && all_show net log (observables net word) order && is_none (wrong_pair order log.pairs)
+
+abbrev pub explains : Net → Log → ℕ → List ℕ → List ℕ → Bool
+explains net log n word order = can_run net word && nat_le (need net word) n && linearises net log word order
+
+-- the test tells what explains
+abbrev pub ExplainsDecides : Type 0
+ExplainsDecides = (net : Net) (log : Log) (n : ℕ) (word order : List ℕ) → IsTrue (explains net log n word order) ↔ Explains net log n word order

@@ -1,0 +1,73 @@
+-- What explains an alarm log, and the least number of faults (Sampath et al., "Diagnosability of discrete-event systems", 1995; Grastien et al., "Diagnosis of discrete-event systems using satisfiability algorithms", 2007).
+use Rattle.std.specs.Prelude.{◌≡◌, ⊤, ℕ, ◌<◌, ◌≤◌, List, length, Contains, filter, is_some, IsSomeAnd}
+use Rattle.std.specs.List.{AllZip}
+use Rattle.des_net.specs.Network.{Net, label_of}
+use Rattle.des_net.specs.Run.{IsRun, fault_count}
+use Rattle.des_net.specs.Width.{Fits}
+use Rattle.log_order.specs.Log.{Log, ListsOnce, Keeps, labels_of}
+
+-- the events of a word that can be seen, in order
+abbrev pub observables : Net → List ℕ → List ℕ
+observables net word = filter (λ e. is_some (label_of net e)) word
+
+-- the event can be seen, and its label is among those of the alarm
+abbrev pub Shows : Net → Log → ℕ → ℕ → Type 0
+Shows net log e alarm = IsSomeAnd (label_of net e) (Contains (labels_of log alarm))
+
+-- The order has each alarm once. It is as long as the word has events that can be seen, and each of these shows the alarm at its place. The first alarm of each pair stands before the second.
+pub record Linearises (net : Net) (log : Log) (word order : List ℕ) : Type 0 where
+  pub complete : ListsOnce (length log.alarms) order
+  pub shown : AllZip (Shows net log) (observables net word) order
+  pub kept : Keeps order log.pairs
+
+-- a run of n pieces whose events that can be seen are, in this order, all alarms
+pub record Explains (net : Net) (log : Log) (n : ℕ) (word order : List ℕ) : Type 0 where
+  pub run : IsRun net word
+  pub fits : Fits net word n
+  pub linear : Linearises net log word order
+
+-- ---- answers
+
+-- some explanation has k faults
+pub record IsExplained (net : Net) (log : Log) (n k : ℕ) : Type 0 where
+  pub word : List ℕ
+  pub order : List ℕ
+  pub explains : Explains net log n word order
+  pub faults : fault_count net word ≡ k
+
+-- each explanation has at least k faults
+abbrev pub NeedsFaults : Net → Log → ℕ → ℕ → Type 0
+NeedsFaults net log n k = (word order : List ℕ) → Explains net log n word order → k ≤ fault_count net word
+
+-- k is the least number of faults of an explanation
+pub record IsLeast (net : Net) (log : Log) (n k : ℕ) : Type 0 where
+  pub reached : IsExplained net log n k
+  pub least : NeedsFaults net log n k
+
+-- nothing explains the log
+abbrev pub IsAbsent : Net → Log → ℕ → Type 0
+IsAbsent net log n = (word order : List ℕ) → Explains net log n word order → ⊥
+
+-- something explains the log, and all that does has more than 255 faults
+pub record IsMany (net : Net) (log : Log) (n : ℕ) : Type 0 where
+  pub faults : ℕ
+  pub explained : IsExplained net log n faults
+  pub above : NeedsFaults net log n 256
+
+-- ---- how the answers hang together
+
+-- one number is least at most
+abbrev pub LeastIsOne : Type 0
+LeastIsOne = (net : Net) (log : Log) (n k j : ℕ) → IsLeast net log n k → IsLeast net log n j → k ≡ j
+
+-- where nothing explains, no number is least, and there aren't many faults
+pub record ExcludesOthers (net : Net) (log : Log) (n : ℕ) : Type 0 where
+  pub not_least : (k : ℕ) → IsLeast net log n k → ⊥
+  pub not_many : IsMany net log n → ⊥
+
+abbrev pub AbsentExcludes : Type 0
+AbsentExcludes = (net : Net) (log : Log) (n : ℕ) → IsAbsent net log n → ExcludesOthers net log n
+
+-- where there are many faults, the least number is one of them
+abbrev pub ManyIsAbove : Type 0
+ManyIsAbove = (net : Net) (log : Log) (n k : ℕ) → IsLeast net log n k → IsMany net log n → 255 < k

@@ -1,0 +1,81 @@
+ghost use Rattle.std.specs.Prelude.{◌≡◌, ◌<◌, ◌≤◌, ◌++◌, length, All, IfOk, OnErr, true, None, bytes_eq, option_and_then};
+ghost use Rattle.std.specs.List.{list_any};
+ghost use Rattle.std.specs.Option.{option_to_list};
+ghost use Rattle.des_base.specs.Names.{place_of};
+ghost use Rattle.log_order.specs.Adding.{names_of};
+ghost use Rattle.replay.specs.Traced.{word_of};
+ghost use Rattle.replay.specs.Matching.{order_of, suits, suits_name, with_step, bad_alarm};
+ghost use Rattle.replay.specs.Placed.{none_placed};
+
+use crate::placing::Placing;
+use crate::run::RunStep;
+use des_base::{Memory, Name};
+use des_net::Network;
+use log_order::AlarmLog;
+
+fn has_label(labels: &[Name], label: &Name) -> bool
+    ensures { result ≡ list_any (bytes_eq label.now) labels.now }
+{
+    labels.iter().any(|other| label == other)
+}
+
+// Gives the alarm of this name its place, where it is there, may stand for the label and has none: then true, and else false.
+fn place_alarm(
+    placing: &mut Placing,
+    log: &AlarmLog,
+    label: &Name,
+    name: &Name,
+) -> Result<bool, Memory>
+    requires { placing.old.alarms ≡ length log.now.alarms }
+    ensures suits { IfOk result (λ suits. suits ≡ suits_name log.now placing.old.order label.now name.now) }
+    ensures placed { IfOk result (λ suits. suits ≡ true → placing.new ≡ record placing.old { order = placing.old.order ++ option_to_list (place_of name.now (names_of log.now.alarms)) }) }
+{
+    let Some(alarm) = log.find(name.as_str().as_bytes()) else {
+        return Ok(false);
+    };
+    if !has_label(log.labels(alarm), label) || placing.has(alarm) {
+        return Ok(false);
+    }
+    placing.push(alarm)?;
+    Ok(true)
+}
+
+// Gives the step's alarm its place, where the step's event can be seen: true where the alarm suits the event, and else false.
+fn place_step(
+    placing: &mut Placing,
+    net: &Network,
+    log: &AlarmLog,
+    step: &RunStep,
+) -> Result<bool, Memory>
+    requires event { step.now.event < length net.now.events }
+    requires alarms { placing.old.alarms ≡ length log.now.alarms }
+    ensures suits { IfOk result (λ good. good ≡ suits net.now log.now placing.old.order step.now) }
+    ensures placed { IfOk result (λ good. good ≡ true → placing.new ≡ record placing.old { order = with_step log.now placing.old.order step.now }) }
+{
+    match (net.label(step.event), &step.alarm) {
+        (Some(label), Some(name)) => place_alarm(placing, log, label, name),
+        (None, None) => Ok(true),
+        _ => Ok(false),
+    }
+}
+
+/// Gives the alarms of the steps their places, up to the first step whose alarm doesn't suit its event: its place, counted from 1.
+pub fn place_alarms(
+    placing: &mut Placing,
+    net: &Network,
+    log: &AlarmLog,
+    steps: &[RunStep],
+) -> Result<Option<u32>, Memory>
+    requires known { All (λ e. e < length net.now.events) (word_of steps.now) }
+    requires few { length steps.now ≤ 4000000 }
+    requires none { placing.old ≡ none_placed (length log.now.alarms) }
+    ensures bad { IfOk result (λ bad. bad ≡ bad_alarm net.now log.now steps.now) }
+    ensures placed { IfOk result (λ bad. bad ≡ None → placing.new ≡ record placing.old { order = order_of log.now steps.now }) }
+{
+    for (i, step) in steps.iter().enumerate() {
+        if !place_step(placing, net, log, step)? {
+            return Ok(Some(i as u32 + 1));
+        }
+    }
+    Ok(None)
+}
