@@ -1,0 +1,56 @@
+-- What a record of a log or a script says.
+use Rattle.std.specs.Prelude.{ℕ, Bool, ◌==◌, List, [], ◌∷◌, map, length, Option, Some, None, bytes_eq, codes, if◌then◌else◌}
+use Rattle.std.specs.List.{list_all, slice_split}
+use Rattle.std.specs.Option.{option_map_or}
+use Rattle.csv.specs.Reading.{default_config, records, strip_bom}
+
+-- An alarm and the labels that are written for it, two alarms of which the first comes before the second, a question, no
+-- field that isn't empty, or none of these.
+pub data Record : Type 0 where
+  alarm : List ℕ → List (List ℕ) → Record
+  before : List ℕ → List ℕ → Record
+  ask : Record
+  nothing : Record
+  malformed : Record
+
+abbrev pub is_empty : List ℕ → Bool
+is_empty field = length field == 0
+
+abbrev pub are_empty : List (List ℕ) → Bool
+are_empty fields = list_all is_empty fields
+
+-- the labels in a field: its pieces between bars, and none where it is empty
+abbrev pub labels_in : List ℕ → List (List ℕ)
+labels_in field = if is_empty field then [] else slice_split (λ byte. byte == 124) field
+
+-- two fields, behind which no other has a byte
+abbrev pub two_fields : List (List ℕ) → Option (List ℕ × List ℕ)
+two_fields [] = None
+two_fields (first ∷ []) = None
+two_fields (first ∷ second ∷ others) = if are_empty others then Some (first, second) else None
+
+abbrev pub alarm_record : List (List ℕ) → Record
+alarm_record fields = option_map_or (λ pair. alarm pair.0 (labels_in pair.1)) (two_fields fields) malformed
+
+abbrev pub before_record : List (List ℕ) → Record
+before_record fields = option_map_or (λ pair. before pair.0 pair.1) (two_fields fields) malformed
+
+abbrev pub ask_record : List (List ℕ) → Record
+ask_record fields = if are_empty fields then ask else malformed
+
+-- the first field tells the kind
+abbrev pub record_by_word : List (List ℕ) → Record
+record_by_word [] = nothing
+record_by_word (word ∷ fields) =
+    if bytes_eq word (codes "alarm") then alarm_record fields
+    else if bytes_eq word (codes "before") then before_record fields
+    else if bytes_eq word (codes "ask") then ask_record fields
+    else malformed
+
+unfoldable pub record_of : List (List ℕ) → Record
+record_of fields = if are_empty fields then nothing else record_by_word fields
+
+-- The records of a text of comma-separated fields. A byte order mark at its front is taken off, quotes are double, no row
+-- is a header, and records may differ in length.
+abbrev pub records_of : List ℕ → List Record
+records_of bytes = map record_of (records default_config (strip_bom bytes))

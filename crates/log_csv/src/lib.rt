@@ -1,0 +1,4 @@
+//! Texts of alarm logs and scripts: records of comma-separated fields.
+#![tactic(auto)]
+
+mod records;
