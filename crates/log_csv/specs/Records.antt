@@ -3,6 +3,8 @@ use Rattle.std.specs.Prelude.{ℕ, Bool, ◌==◌, List, [], ◌∷◌, map, len
 use Rattle.std.specs.List.{list_all, slice_split}
 use Rattle.std.specs.Option.{option_map_or}
 use Rattle.csv.specs.Reading.{default_config, records, strip_bom}
+use Rattle.log_csv.specs.declared.keyword.Keyword.{Keyword}
+use Rattle.log_csv.specs.declared.keyword.Keyword.TheVariants as word
 
 -- An alarm and the labels that are written for it, two alarms of which the first comes before the second, a question, no
 -- field that isn't empty, or none of these.
@@ -38,14 +40,24 @@ before_record fields = option_map_or (λ pair. before pair.0 pair.1) (two_fields
 abbrev pub ask_record : List (List ℕ) → Record
 ask_record fields = if are_empty fields then ask else malformed
 
--- the first field tells the kind
+-- the word that begins a record
+abbrev pub keyword_of : List ℕ → Option Keyword
+keyword_of text =
+    if bytes_eq text (codes "alarm") then Some word.Alarm
+    else if bytes_eq text (codes "before") then Some word.Before
+    else if bytes_eq text (codes "ask") then Some word.Ask
+    else None
+
+abbrev pub record_with : Option Keyword → List (List ℕ) → Record
+record_with None fields = malformed
+record_with (Some word.Alarm) fields = alarm_record fields
+record_with (Some word.Before) fields = before_record fields
+record_with (Some word.Ask) fields = ask_record fields
+
+-- what the first field and those behind it say
 abbrev pub record_by_word : List (List ℕ) → Record
-record_by_word [] = nothing
-record_by_word (word ∷ fields) =
-    if bytes_eq word (codes "alarm") then alarm_record fields
-    else if bytes_eq word (codes "before") then before_record fields
-    else if bytes_eq word (codes "ask") then ask_record fields
-    else malformed
+record_by_word [] = malformed
+record_by_word (text ∷ fields) = record_with (keyword_of text) fields
 
 unfoldable pub record_of : List (List ℕ) → Record
 record_of fields = if are_empty fields then nothing else record_by_word fields

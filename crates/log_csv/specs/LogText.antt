@@ -1,0 +1,123 @@
+-- The log of a text, and its first fault.
+use Rattle.std.specs.Prelude.{ℕ, ◌+◌, Bool, true, false, not, ◌&&◌, ◌||◌, List, [], ◌∷◌, ◌++◌, filter_map, length, nat_le, nat_lt, is_none, is_some, Option, Some, None, option_map, option_and_then, if◌then◌else◌}
+use Rattle.std.specs.List.{list_all}
+use Rattle.std.specs.Option.{option_map_or}
+use Rattle.des_base.specs.Names.{is_name_text, place_of}
+use Rattle.log_order.specs.Log.{Alarm, Log, closes_cycle, has_pair}
+use Rattle.log_order.specs.Adding.{most_alarms, most_labels, most_pairs, names_of, with_pair, with_texts}
+use Rattle.log_csv.specs.declared.fault.LogFault.{LogFault}
+use Rattle.log_csv.specs.Records.{Record, alarm, before, ask, nothing, malformed, records_of}
+use Rattle.log_csv.specs.ScriptText.{is_malformed, words_of}
+use Rattle.log_csv.specs.Faults.{fault_at, or_later}
+
+-- ---- the log of records
+
+-- an alarm, and its labels, each once and at its first place
+abbrev pub alarm_of : Record → Option Alarm
+alarm_of (alarm id labels) = Some (record { name = id; labels = with_texts [] labels })
+alarm_of (before first second) = None
+alarm_of ask = None
+alarm_of nothing = None
+alarm_of malformed = None
+
+abbrev pub alarms_of : List Record → List Alarm
+alarms_of records = filter_map alarm_of records
+
+abbrev pub ids_of : List Record → List (List ℕ)
+ids_of records = names_of (alarms_of records)
+
+-- two alarms by the places of their ids, where both are known
+abbrev pub pair_of : List (List ℕ) → Record → Option (ℕ × ℕ)
+pair_of ids (alarm id labels) = None
+pair_of ids (before first second) = option_and_then (λ i. option_map (λ j. (i, j)) (place_of second ids)) (place_of first ids)
+pair_of ids ask = None
+pair_of ids nothing = None
+pair_of ids malformed = None
+
+abbrev pub written_pairs : List Record → List (ℕ × ℕ)
+written_pairs records = filter_map (pair_of (ids_of records)) records
+
+-- these pairs, and behind them the others that are new
+abbrev pub with_pairs : List (ℕ × ℕ) → List (ℕ × ℕ) → List (ℕ × ℕ)
+with_pairs pairs [] = pairs
+with_pairs pairs (other ∷ others) = with_pairs (with_pair pairs other.0 other.1) others
+
+-- each pair once, and at its first place
+abbrev pub pairs_of : List Record → List (ℕ × ℕ)
+pairs_of records = with_pairs [] (written_pairs records)
+
+abbrev pub log_of_records : List Record → Log
+log_of_records records = record { alarms = alarms_of records; pairs = pairs_of records }
+
+-- the log of a text without a fault
+abbrev pub log_of : List ℕ → Log
+log_of bytes = log_of_records (records_of bytes)
+
+-- ---- its first fault
+
+abbrev pub is_question : Record → Bool
+is_question (alarm id labels) = false
+is_question (before first second) = false
+is_question ask = true
+is_question nothing = false
+is_question malformed = false
+
+-- an earlier alarm has the id
+abbrev pub is_double : List Record → Record → Bool
+is_double earlier (alarm id labels) = is_some (place_of id (ids_of earlier))
+is_double earlier (before first second) = false
+is_double earlier ask = false
+is_double earlier nothing = false
+is_double earlier malformed = false
+
+-- one of two alarms isn't among the earlier
+abbrev pub is_unknown : List Record → Record → Bool
+is_unknown earlier (alarm id labels) = false
+is_unknown earlier (before first second) = is_none (place_of first (ids_of earlier)) || is_none (place_of second (ids_of earlier))
+is_unknown earlier ask = false
+is_unknown earlier nothing = false
+is_unknown earlier malformed = false
+
+-- the earlier pairs lead from the second alarm to the first
+abbrev pub is_cycle : List Record → Record → Bool
+is_cycle earlier said = option_map_or (λ pair. closes_cycle (pairs_of earlier) pair.0 pair.1) (pair_of (ids_of earlier) said) false
+
+abbrev pub lacks_labels : Record → Bool
+lacks_labels (alarm id labels) = nat_le (length labels) 0
+lacks_labels (before first second) = false
+lacks_labels ask = false
+lacks_labels nothing = false
+lacks_labels malformed = false
+
+abbrev pub is_pair_past_limit : List (ℕ × ℕ) → ℕ × ℕ → Bool
+is_pair_past_limit pairs pair = not (has_pair pairs pair.0 pair.1) && nat_le most_pairs (length pairs)
+
+-- a limit would be passed: by one more alarm, by the labels as they are written, or by a pair that is new
+abbrev pub is_past_limit : List Record → Record → Bool
+is_past_limit earlier (alarm id labels) = nat_le most_alarms (length (alarms_of earlier)) || nat_lt most_labels (length labels)
+is_past_limit earlier (before first second) = option_map_or (is_pair_past_limit (pairs_of earlier)) (pair_of (ids_of earlier) (before first second)) false
+is_past_limit earlier ask = false
+is_past_limit earlier nothing = false
+is_past_limit earlier malformed = false
+
+-- the first code, in this order, whose condition holds of a record and the accepted records before it
+unfoldable pub record_code : List Record → Record → Option ℕ
+record_code earlier said =
+    if is_malformed said || is_question said then Some 6
+    else if not (list_all is_name_text (words_of said)) then Some 7
+    else if is_double earlier said then Some 1
+    else if is_unknown earlier said then Some 2
+    else if is_cycle earlier said then Some 3
+    else if lacks_labels said then Some 4
+    else if is_past_limit earlier said then Some 5
+    else None
+
+-- the first fault of the records behind these, where the first of them has this row
+abbrev pub first_record_fault : ℕ → List Record → List Record → Option LogFault
+first_record_fault row earlier [] = None
+first_record_fault row earlier (said ∷ others) =
+    or_later (fault_at row (record_code earlier said)) (first_record_fault (row + 1) (earlier ++ said ∷ []) others)
+
+-- rows are counted from 1, the blank ones too
+abbrev pub first_fault : List ℕ → Option LogFault
+first_fault bytes = first_record_fault 1 [] (records_of bytes)

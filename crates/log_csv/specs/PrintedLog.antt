@@ -1,0 +1,19 @@
+-- The text that is printed of a log.
+use Rattle.std.specs.Prelude.{ℕ, List, [], ◌∷◌, ◌++◌, codes, option_map, unwrap_or, slice_get}
+use Rattle.std.specs.List.{flat_map, join_with_byte}
+use Rattle.log_order.specs.Log.{Alarm, Log}
+
+-- an alarm: its id, and its labels with bars between them
+abbrev pub alarm_line : Alarm → List ℕ
+alarm_line alarm = codes "alarm," ++ (alarm.name ++ (codes "," ++ (join_with_byte 124 alarm.labels ++ codes "\n")))
+
+abbrev pub id_of : List Alarm → ℕ → List ℕ
+id_of alarms i = unwrap_or (option_map (λ alarm. alarm.name) (slice_get alarms i)) []
+
+-- a pair: the ids of its alarms
+abbrev pub pair_line : List Alarm → ℕ × ℕ → List ℕ
+pair_line alarms pair = codes "before," ++ (id_of alarms pair.0 ++ (codes "," ++ (id_of alarms pair.1 ++ codes "\n")))
+
+-- all alarms, and then all pairs
+abbrev pub log_text : Log → List ℕ
+log_text log = flat_map alarm_line log.alarms ++ flat_map (pair_line log.alarms) log.pairs

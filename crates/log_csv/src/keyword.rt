@@ -1,0 +1,31 @@
+ghost use Rattle.std.specs.Prelude.{◌≡◌, bytes_eq};
+ghost use Rattle.log_csv.specs.Records.{keyword_of};
+
+// The first field of a record.
+#[derive(Clone, Copy)]
+pub enum Keyword {
+    Alarm,
+    Before,
+    Ask,
+}
+
+// The keyword that the text is, if it is one.
+pub fn keyword_of(text: &[u8]) -> Option<Keyword>
+    ensures { result ≡ keyword_of text.now }
+{
+    if is_word(text, "alarm") {
+        Some(Keyword::Alarm)
+    } else if is_word(text, "before") {
+        Some(Keyword::Before)
+    } else if is_word(text, "ask") {
+        Some(Keyword::Ask)
+    } else {
+        None
+    }
+}
+
+fn is_word(text: &[u8], word: &str) -> bool
+    ensures { result ≡ bytes_eq text.now word.now }
+{
+    text == word.as_bytes()
+}

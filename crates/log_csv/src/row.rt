@@ -1,0 +1,12 @@
+use des_base::{Name, NameList};
+
+/// A row of a script.
+#[derive(Debug, Drop)]
+pub enum Row {
+    /// A new alarm, with its labels as they are written.
+    Alarm { id: Name, labels: NameList },
+    /// The first alarm comes before the second.
+    Before { first: Name, second: Name },
+    /// A question.
+    Ask,
+}
