@@ -4,12 +4,13 @@ use Rattle.std.specs.Prelude.{◌==◌, slice_set}
 use Rattle.std.specs.List.{filter}
 use Rattle.std.proofs.lemmas.List.Filters.{length-filter_both}
 use Rattle.std.specs.List.{AllByRecursion}
-use Rattle.log_order.specs.Log.{AreKnown, AreOrdered, ListsOnce, place_in, has_pair, reaches}
+use Rattle.log_order.specs.Log.{AreKnown, AreOrdered, ListsOnce, StandOnce, place_in, has_pair, reaches}
 use Rattle.log_order.specs.Adding.{with_pair}
 use Rattle.log_order.proofs.Places.{places-from}
 use Rattle.log_order.specs.Precedence.{is_in, is_marked, moved, with_follower, IsKept}
 use Rattle.log_order.proofs.Reaching.{IsClosed, reaches-closed, reaches-itself}
 use Rattle.log_order.proofs.OrderLemmas.{all_append, ListsOnce-push, Keeps-push, AreKnown-more, ListsOnce-moved, Keeps-moved_new, Keeps-cycle, stands-kept}
+use Rattle.des_base.proofs.BoolLemmas.{itself, neither, otherwise, same}
 use Rattle.log_order.proofs.MarkLemmas.{in-push, or_false, or_assoc, differ, eq_suc}
 
 -- ---- a further number
@@ -105,3 +106,19 @@ cycle_case m pairs i j false e r h =
 -- and one that closes a cycle leaves none
 pub AreOrdered-cycle : (m : ℕ) (pairs : List (ℕ × ℕ)) (i j : ℕ) → reaches pairs j i ≡ true → AreOrdered m (with_pair pairs i j) → ⊥
 AreOrdered-cycle m pairs i j r h = cycle_case m pairs i j (has_pair pairs i j) refl r h
+
+-- ---- pairs that stand once
+
+turned : (x y : ℕ) (b : Bool) → (x == y) ≡ b → (y == x) ≡ b
+turned x y true h = ap (λ z. y == z) (same x y h) ∙ itself y
+turned x y false h = otherwise (y == x) (λ e. let k : (x == y) ≡ true = ap (λ z. x == z) (same y x e) ∙ itself x in cc)
+
+not_both : (a b c d : Bool) → a ≡ c → b ≡ d → (a && b) ≡ false → (c && d) ≡ false
+not_both a b c d e f h = cc
+
+pub StandOnce-push : (pairs : List (ℕ × ℕ)) (i j : ℕ) → StandOnce pairs → has_pair pairs i j ≡ false → StandOnce (pairs ++ (i, j) ∷ [])
+StandOnce-push [] i j h new = (refl, tt)
+StandOnce-push (pair ∷ pairs) i j h new =
+    let parts = neither (pair.0 == i && pair.1 == j) (has_pair pairs i j) new in
+    let apart : (i == pair.0 && j == pair.1) ≡ false = not_both (pair.0 == i) (pair.1 == j) (i == pair.0) (j == pair.1) (sym (turned pair.0 i (pair.0 == i) refl)) (sym (turned pair.1 j (pair.1 == j) refl)) parts.0 in
+    (has_pair-push pairs i j pair.0 pair.1 ∙ ap (λ b. b || (i == pair.0 && j == pair.1)) h.0 ∙ apart, StandOnce-push pairs i j h.1 parts.1)

@@ -1,5 +1,5 @@
 -- Alarm logs, and the orders of their alarms that keep one.
-use Rattle.std.specs.Prelude.{ℕ, ⊤, ◌<◌, Bool, ◌&&◌, ◌||◌, ◌==◌, List, [], ◌∷◌, length, Contains, ◌≢◌, slice_get, option_map, unwrap_or}
+use Rattle.std.specs.Prelude.{◌≡◌, ℕ, ⊤, ◌<◌, Bool, false, ◌&&◌, ◌||◌, ◌==◌, List, [], ◌∷◌, length, Contains, ◌≢◌, slice_get, option_map, unwrap_or}
 use Rattle.std.specs.List.{list_any, position_or_len, AllByRecursion}
 use Rattle.des_base.specs.Lists.{EachPair}
 
@@ -54,6 +54,11 @@ IsValidLog log = AreOrdered (length log.alarms) log.pairs
 
 abbrev pub has_pair : List (ℕ × ℕ) → ℕ → ℕ → Bool
 has_pair pairs i j = list_any (λ pair. pair.0 == i && pair.1 == j) pairs
+
+-- no pair stands twice
+abbrev pub StandOnce : List (ℕ × ℕ) → Type 0
+StandOnce [] = ⊤
+StandOnce (pair ∷ pairs) = (has_pair pairs pair.0 pair.1 ≡ false) × StandOnce pairs
 
 -- j is i, or is reached from i by pairs, each going on where the one before it ends: without the first pair, or by it once
 abbrev pub reaches : List (ℕ × ℕ) → ℕ → ℕ → Bool

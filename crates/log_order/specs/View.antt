@@ -2,7 +2,7 @@
 use Rattle.std.specs.Prelude.{◌≡◌, ◌≤◌, length}
 use Rattle.std.specs.List.{AllByRecursion}
 use Rattle.des_base.specs.Names.{AreNames}
-use Rattle.log_order.specs.Log.{Log}
+use Rattle.log_order.specs.Log.{Log, StandOnce}
 use Rattle.log_order.specs.Adding.{most_alarms, most_pairs, names_of, IsAlarm}
 use Rattle.log_order.specs.Precedence.{Precedence, IsKept}
 use Rattle.log_order.specs.declared.alarm_log.AlarmLog.TheInside.{Inside as LogInside}
@@ -14,6 +14,7 @@ precedence_view a = record { count = length a.order.items; pairs = a.pairs.items
 pub record IsPrecedence (a : PrecedenceInside) : Type 0 where
   pub kept : IsKept a.pairs.items a.order.items a.followers.items
   pub few : length a.order.items ≤ most_alarms
+  pub once : StandOnce a.pairs.items
 
 abbrev pub log_view : LogInside → Log
 log_view a = record { alarms = a.alarms.items; pairs = a.precedence.pairs }

@@ -1,6 +1,6 @@
 ghost use Rattle.std.specs.Prelude.{◌≡◌, ◌<◌, ◌≤◌, length, slice_get, option_map, not, IfOk, OnErr, OnOk, Some, None, Err};
 ghost use Rattle.des_base.specs.Names.{place_of};
-ghost use Rattle.log_order.specs.Log.{no_log, has_pair, ListsOnce, Keeps, IsValidLog};
+ghost use Rattle.log_order.specs.Log.{no_log, has_pair, ListsOnce, Keeps, IsValidLog, StandOnce};
 ghost use Rattle.log_order.specs.Adding.{Answers, alarm_refusal, with_alarm, before_refusal, with_pair, names_of, IsLog};
 ghost use Rattle.log_order.specs.Order.{least_order};
 
@@ -83,6 +83,14 @@ impl AlarmLog {
         ensures { result.now ≡ self.now.pairs }
     {
         self.precedence.pairs()
+    }
+
+    /// How many pairs there are. Each is there once.
+    pub fn pair_count(&self) -> u32
+        ensures count { result ≡ length self.now.pairs }
+        ensures once { StandOnce self.now.pairs }
+    {
+        self.precedence.pair_count() as u32
     }
 
     /// The alarm with this id.

@@ -1,6 +1,6 @@
 ghost use Rattle.std.specs.Prelude.{◌≡◌, ◌+◌, ◌<◌, ◌≤◌, ◌∷◌, ◌++◌, [], ℕ, true, false, not, length, Err, None, IfOk, OnOk, OnErr};
 ghost use Rattle.des_base.specs.Names.{place_of};
-ghost use Rattle.log_order.specs.Log.{has_pair, reaches, ListsOnce, Keeps, AreOrdered};
+ghost use Rattle.log_order.specs.Log.{has_pair, reaches, ListsOnce, Keeps, AreOrdered, StandOnce};
 ghost use Rattle.log_order.specs.Adding.{Answers, before_refusal, with_pair, most_alarms, most_pairs};
 ghost use Rattle.log_order.specs.Precedence.{no_precedence, is_marked, moved, with_follower};
 ghost use Rattle.log_order.specs.Order.{least_order};
@@ -63,6 +63,14 @@ impl Precedence {
         ensures { result.now ≡ self.now.pairs }
     {
         self.pairs.as_slice()
+    }
+
+    // How many pairs there are.
+    pub fn pair_count(&self) -> usize
+        ensures count { result ≡ length self.now.pairs }
+        ensures once { StandOnce self.now.pairs }
+    {
+        self.pairs.len()
     }
 
     // Whether the pair is there.
@@ -161,6 +169,7 @@ impl Precedence {
         requires second { second < self.old.count }
         requires marks { (i : ℕ) → is_marked marks.now i ≡ reaches self.old.pairs second i }
         requires apart { reaches self.old.pairs second first ≡ false }
+        requires new { has_pair self.old.pairs first second ≡ false }
         ensures ok { OnOk result (self.new ≡ record self.old { pairs = self.old.pairs ++ (first, second) ∷ [] }) }
         ensures err { OnErr result (self.new ≡ self.old) }
     {

@@ -123,6 +123,7 @@ fn refuses_pairs(rt: HostRuntime) -> Result<(), Fail> {
         assert_eq!(rt; added, answer, "{first} before {second}");
     }
     assert_eq!(rt; log.pairs(), [(0, 1), (1, 2), (0, 2), (3, 2)].as_slice());
+    assert_eq!(rt; log.pair_count(), 4);
     Ok(())
 }
 

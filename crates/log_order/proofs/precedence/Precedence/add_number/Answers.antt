@@ -15,4 +15,5 @@ invariant_of-self-2 c =
     record {
       kept = IsKept-as _ _ _ _ _ _ refl order lists (IsKept-push c.self.inside.pairs.items c.self.inside.order.items c.self.inside.followers.items c.self.invariant.kept);
       few = omega (arith, ap length order, length-append c.self.inside.order.items (length c.self.inside.order.items ∷ []));
+      once = c.self.invariant.once;
     }

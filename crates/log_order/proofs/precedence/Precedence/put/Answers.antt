@@ -1,8 +1,8 @@
 -- The order keeps the new pair too.
 use Rattle.std.proofs.Common.{◌≡◌, ◌∙◌, ◌<◌, ◌++◌, ◌∷◌, [], ℕ, false, List, length, ap, sym, subst, arith}
-use Rattle.log_order.specs.Log.{reaches}
+use Rattle.log_order.specs.Log.{StandOnce, has_pair, reaches}
 use Rattle.log_order.specs.Precedence.{Precedence, is_marked, moved}
-use Rattle.log_order.proofs.KeptLemmas.{IsKept-with, IsKept-as, length-moved}
+use Rattle.log_order.proofs.KeptLemmas.{IsKept-with, IsKept-as, StandOnce-push, length-moved}
 use Rattle.log_order.proofs.precedence.Precedence.put.Goals as goal
 
 pairs_are : (c : goal.After-drop-self-inside) → c.push_reserved.new.self.items ≡ c.self.inside.pairs.items ++ (c.args.first, c.args.second) ∷ []
@@ -23,6 +23,7 @@ invariant_of-self-2 c =
     record {
       kept = IsKept-as _ _ _ _ _ _ (pairs_are c) (order_is c) c.in_ok-push_follower.ensures.ok (IsKept-with c.self.inside.pairs.items c.self.inside.order.items c.self.inside.followers.items c.args.first c.args.second c.args.marks.now c.self.invariant.kept first second marks apart);
       few = let few = c.self.invariant.few in omega (arith, long c);
+      once = subst StandOnce (sym (pairs_are c)) (StandOnce-push c.self.inside.pairs.items c.args.first c.args.second c.self.invariant.once (ap (λ (p : Precedence). has_pair p.pairs c.args.first c.args.second) c.self.view_is ∙ c.requires.new));
     }
 
 pub returns-clause-ok : goal.returns-clause-ok
