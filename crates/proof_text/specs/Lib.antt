@@ -1,0 +1,6 @@
+pub mod SignedNumbers
+pub mod TextFaults
+pub mod CnfText
+pub mod LratText
+pub mod ClauseReading
+pub mod LineReading

@@ -1,0 +1,49 @@
+-- Faults of CNF and LRAT texts.
+use Rattle.std.specs.Prelude.{◌≡◌, ⊤, ℕ, Option, None, Some}
+use Rattle.proof_text.specs.declared.fault.TextFault.{TextFault}
+use Rattle.proof_text.specs.declared.fault.TextRefusal.{TextRefusal}
+use Rattle.proof_text.specs.declared.fault.TextRefusal.TheVariants.{Fault, Memory}
+
+-- the header is missing or has another shape
+abbrev pub no_header : ℕ
+no_header = 1
+
+-- a token isn't a number, or is zero or negative where that can't stand
+abbrev pub not_a_number : ℕ
+not_a_number = 2
+
+-- a literal's variable is greater than the number of variables
+abbrev pub unknown_variable : ℕ
+unknown_variable = 3
+
+-- there are more clauses than the header says, or fewer
+abbrev pub other_count : ℕ
+other_count = 4
+
+-- the last `0` of a clause or a line is missing, or something follows it
+abbrev pub not_ended : ℕ
+not_ended = 5
+
+-- the number of an addition isn't greater than those before it
+abbrev pub not_ascending : ℕ
+not_ascending = 6
+
+abbrev pub negative_hint : ℕ
+negative_hint = 7
+
+-- a number is over its limit
+abbrev pub over_limit : ℕ
+over_limit = 8
+
+abbrev pub fault_at : ℕ → ℕ → Option TextFault
+fault_at line code = Some (record { line = line; code = code })
+
+-- the fault with this code, where there is one, and else a later one
+abbrev pub fault_or : ℕ → Option ℕ → Option TextFault → Option TextFault
+fault_or line None later = later
+fault_or line (Some code) later = fault_at line code
+
+-- A refusal for a fault tells the first fault of the text. Want of memory says nothing.
+abbrev pub IsDue : Option TextFault → TextRefusal → Type 0
+IsDue fault (Fault told) = fault ≡ Some told
+IsDue fault Memory = ⊤

@@ -1,0 +1,114 @@
+ghost use Rattle.std.specs.Prelude.{◌≡◌, ℕ, ◌≤◌, ◌++◌, ◌∷◌, [], List, MatchResult, IfOk, OnOk, None, false};
+ghost use Rattle.proof_text.specs.TextFaults.{fault_or, IsDue};
+ghost use Rattle.proof_text.specs.ClauseReading.{ended_by, open_after, entry_code};
+ghost use Rattle.proof_text.specs.CnfText.{LinedToken, lined, some_open, end_code, clauses_of, fault_of_tokens};
+
+use crate::body::{BodyToken, BodyTokens};
+use crate::fault::{NOT_A_NUMBER, NOT_ENDED, OTHER_COUNT, TextRefusal, UNKNOWN_VARIABLE, fault_at};
+use crate::header::Header;
+use crate::number::{Entry, is_number, read_entry};
+use des_base::{Memory, VAR_LIMIT};
+use prop_core::{Clauses, Lit};
+use std::alloc::Global;
+
+// What was read of a formula's clauses.
+#[derive(Drop)]
+pub(crate) struct ClauseReader {
+    pub vars: u32,
+    // how many clauses may still begin
+    pub left: u32,
+    pub clauses: Clauses,
+    // the literals of a clause whose end is still to come
+    pub front: Vec<Lit>,
+}
+
+impl ClauseReader {
+    fn new(alloc: Global, header: Header) -> ClauseReader
+        ensures vars { result.vars ≡ header.vars }
+        ensures left { result.left ≡ header.clauses }
+        ensures clauses { result.clauses.clauses ≡ [] }
+        ensures front { result.front.items ≡ [] }
+    {
+        ClauseReader {
+            vars: header.vars,
+            left: header.clauses,
+            clauses: Clauses::new(alloc),
+            front: Vec::new(alloc),
+        }
+    }
+
+    // Takes the next token.
+    fn take(&mut self, token: BodyToken<'_>) -> Result<(), TextRefusal>
+        requires { self.old.vars ≤ VAR_LIMIT }
+        ensures vars { self.new.vars ≡ self.old.vars }
+        ensures faults { (end : ℕ) (later : List LinedToken) → MatchResult result (λ _. fault_of_tokens self.old.vars end self.old.left (some_open self.old.front.items) (lined token.entry.line token.entry.text.now ∷ later) ≡ fault_of_tokens self.new.vars end self.new.left (some_open self.new.front.items) later) (IsDue (fault_of_tokens self.old.vars end self.old.left (some_open self.old.front.items) (lined token.entry.line token.entry.text.now ∷ later))) }
+        ensures clauses { OnOk result ((later : List LinedToken) → self.new.clauses.clauses ++ clauses_of self.new.front.items later ≡ self.old.clauses.clauses ++ clauses_of self.old.front.items (lined token.entry.line token.entry.text.now ∷ later)) }
+    {
+        let Some(entry) = read_entry(token.text, self.vars) else {
+            return Err(fault_at(token.line, entry_code(token.text)));
+        };
+        if self.front.is_empty() {
+            if self.left == 0 {
+                return Err(fault_at(token.line, OTHER_COUNT));
+            }
+            self.left -= 1;
+        }
+        self.put(entry)?;
+        Ok(())
+    }
+
+    // A literal goes on with the open clause, and an end ends it.
+    fn put(&mut self, entry: Entry) -> Result<(), Memory>
+        ensures vars { self.new.vars ≡ self.old.vars }
+        ensures left { self.new.left ≡ self.old.left }
+        ensures clauses { OnOk result (self.new.clauses.clauses ≡ self.old.clauses.clauses ++ ended_by entry self.old.front.items) }
+        ensures front { OnOk result (self.new.front.items ≡ open_after entry self.old.front.items) }
+    {
+        match entry {
+            Entry::Literal(lit) => self.front.push(lit)?,
+            Entry::End => {
+                self.clauses.push(&self.front)?;
+                self.front.clear();
+            }
+        }
+        Ok(())
+    }
+
+    // The code that the text's end has, after these tokens.
+    pub fn end_code(&self) -> Option<u8>
+        ensures { result ≡ end_code self.now.left (some_open self.now.front.items) }
+    {
+        if !self.front.is_empty() {
+            return Some(NOT_ENDED);
+        }
+        (self.left > 0).then_some(OTHER_COUNT)
+    }
+}
+
+// The code of a token that isn't an entry.
+fn entry_code(text: &[u8]) -> u8
+    ensures { result ≡ entry_code text.now }
+{
+    if is_number(text) {
+        UNKNOWN_VARIABLE
+    } else {
+        NOT_A_NUMBER
+    }
+}
+
+// Reads the clauses of the tokens.
+pub(crate) fn read_clauses(
+    alloc: Global,
+    header: Header,
+    mut tokens: BodyTokens<'_>,
+) -> Result<ClauseReader, TextRefusal>
+    requires { header.vars ≤ VAR_LIMIT }
+    ensures faults { (end : ℕ) → MatchResult result (λ reader. fault_of_tokens header.vars end header.clauses false tokens.entry ≡ fault_or end (end_code reader.left (some_open reader.front.items)) None) (IsDue (fault_of_tokens header.vars end header.clauses false tokens.entry)) }
+    ensures clauses { IfOk result (λ reader. reader.clauses.clauses ≡ clauses_of [] tokens.entry) }
+{
+    let mut reader = ClauseReader::new(alloc, header);
+    while let Some(token) = tokens.next_token() {
+        reader.take(token)?;
+    }
+    Ok(reader)
+}

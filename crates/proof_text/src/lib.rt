@@ -1,0 +1,24 @@
+//! Texts of formulas (DIMACS CNF) and of proofs (the propagation part of LRAT).
+//!
+//! - A CNF text is a header `p cnf V C` and then C clauses of non-zero numbers, each ended by `0`, over the tokens of all
+//!   further lines. An LRAT text has one step on each line: an addition `ID LITERALS 0 HINTS 0`, or a deletion `ID d IDS 0`.
+//! - A reader gives the value of the text, or exactly its first fault: the line and the code.
+#![tactic(auto)]
+
+mod body;
+mod clause_reader;
+mod cnf;
+mod cnf_text;
+mod fault;
+mod header;
+mod line_faults;
+mod lrat_line;
+mod lrat_text;
+mod number;
+mod proof;
+
+pub use cnf::Cnf;
+pub use cnf_text::read_cnf;
+pub use fault::{TextFault, TextRefusal};
+pub use lrat_text::read_lrat;
+pub use proof::Proof;

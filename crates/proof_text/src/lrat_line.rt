@@ -1,0 +1,125 @@
+ghost use Rattle.std.specs.Prelude.{◌≡◌, ◌≤◌, ℕ, Some, None, MatchOption, option_map, IfOk};
+ghost use Rattle.des_base.specs.CountedLines.{texts_of, tokens_of};
+ghost use Rattle.proof_text.specs.LratText.{is_deletion_mark};
+ghost use Rattle.proof_text.specs.LineReading.{ids_section, literals_section, ids_only, literals_and_hints, deletion_read, add_step, line_read};
+
+use crate::number::{Entry, read_entry};
+use des_base::{Line, Memory, Tokens, VAR_LIMIT, read_number};
+use proof_ledger::ProofStep;
+use prop_core::{ClauseId, IdList, LitList};
+use std::alloc::Global;
+
+// The step of a line that has no fault. An addition's number has to be greater than `last`.
+pub(crate) fn read_step(
+    alloc: Global,
+    line: Line<'_>,
+    vars: u32,
+    last: u64,
+) -> Result<Option<ProofStep>, Memory>
+    requires { vars ≤ VAR_LIMIT }
+    ensures { IfOk result (λ step. step ≡ line_read line.entry.number vars last (tokens_of line.entry.text.now)) }
+{
+    let mut tokens = line.tokens();
+    let Some(first) = tokens.next_token() else {
+        return Ok(None);
+    };
+    let Some(id) = read_number(first.text, u64::MAX) else {
+        return Ok(None);
+    };
+    let mut ahead = tokens.again();
+    if let Some(second) = ahead.next_token()
+        && is_deletion_mark(second.text)
+    {
+        return read_deletion(alloc, ahead);
+    }
+    if id <= last {
+        return Ok(None);
+    }
+    read_addition(alloc, line.number, id, vars, tokens)
+}
+
+pub(crate) fn is_deletion_mark(text: &[u8]) -> bool
+    ensures { result ≡ is_deletion_mark text.now }
+{
+    text == b"d".as_slice()
+}
+
+fn read_deletion(alloc: Global, tokens: Tokens<'_>) -> Result<Option<ProofStep>, Memory>
+    ensures { IfOk result (λ step. step ≡ deletion_read (texts_of tokens.entry)) }
+{
+    match read_last_ids(alloc, tokens)? {
+        Some(ids) => Ok(Some(ProofStep::Delete { ids })),
+        None => Ok(None),
+    }
+}
+
+// The addition of this number, from the literals on.
+fn read_addition(
+    alloc: Global,
+    line: u32,
+    id: u64,
+    vars: u32,
+    mut tokens: Tokens<'_>,
+) -> Result<Option<ProofStep>, Memory>
+    requires { vars ≤ VAR_LIMIT }
+    ensures { IfOk result (λ step. step ≡ option_map (add_step line id) (literals_and_hints vars (texts_of tokens.entry))) }
+{
+    let Some(clause) = read_literals(alloc, &mut tokens, vars)? else {
+        return Ok(None);
+    };
+    let Some(hints) = read_last_ids(alloc, tokens)? else {
+        return Ok(None);
+    };
+    Ok(Some(ProofStep::Add {
+        line,
+        id,
+        clause,
+        hints,
+    }))
+}
+
+// The clause numbers up to a `0` that ends the line.
+fn read_last_ids(alloc: Global, mut tokens: Tokens<'_>) -> Result<Option<IdList>, Memory>
+    ensures { IfOk result (λ ids. ids ≡ ids_only (texts_of tokens.entry)) }
+{
+    let ids = read_ids(alloc, &mut tokens)?;
+    if tokens.next_token().is_some() {
+        return Ok(None);
+    }
+    Ok(ids)
+}
+
+// The clause numbers up to a `0`. None where another token stands among them, or no `0` does.
+fn read_ids(alloc: Global, tokens: &mut Tokens<'_>) -> Result<Option<IdList>, Memory>
+    ensures { IfOk result (λ ids. MatchOption ids (ids_section (texts_of tokens.old) ≡ None) (λ ids. ids_section (texts_of tokens.old) ≡ Some (ids, texts_of tokens.new))) }
+{
+    let mut ids = IdList::new(alloc);
+    while let Some(token) = tokens.next_token() {
+        match read_number(token.text, u64::MAX) {
+            None => return Ok(None),
+            Some(0) => return Ok(Some(ids)),
+            Some(id) => ids.push(ClauseId(id))?,
+        }
+    }
+    Ok(None)
+}
+
+// The literals up to a `0`, in the same way.
+fn read_literals(
+    alloc: Global,
+    tokens: &mut Tokens<'_>,
+    vars: u32,
+) -> Result<Option<LitList>, Memory>
+    requires { vars ≤ VAR_LIMIT }
+    ensures { IfOk result (λ clause. MatchOption clause (literals_section vars (texts_of tokens.old) ≡ None) (λ clause. literals_section vars (texts_of tokens.old) ≡ Some (clause, texts_of tokens.new))) }
+{
+    let mut clause = LitList::new(alloc);
+    while let Some(token) = tokens.next_token() {
+        match read_entry(token.text, vars) {
+            None => return Ok(None),
+            Some(Entry::End) => return Ok(Some(clause)),
+            Some(Entry::Literal(lit)) => clause.push(lit)?,
+        }
+    }
+    Ok(None)
+}

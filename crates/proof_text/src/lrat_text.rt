@@ -1,0 +1,61 @@
+ghost use Rattle.std.specs.Prelude.{◌≡◌, ◌<◌, ◌≤◌, ◌^◌, length, IfOk, IfErr, OnOk, Option, None};
+ghost use Rattle.des_base.specs.CountedLines.{tokens_of};
+ghost use Rattle.proof_text.specs.declared.fault.TextFault.{TextFault};
+ghost use Rattle.proof_text.specs.TextFaults.{fault_or, IsDue};
+ghost use Rattle.proof_text.specs.LratText.{line_code, lrat_line, step_of, last_after, first_lrat_fault, proof_of, NumbersAscend};
+
+use crate::fault::{TextRefusal, fault_at};
+use crate::line_faults::line_code;
+use crate::lrat_line::read_step;
+use crate::proof::Proof;
+use des_base::{Line, Lines, VAR_LIMIT};
+use proof_ledger::ProofStep;
+use std::alloc::Global;
+
+/// The proof that the text says, of a formula with so many variables and clauses: each line is a step, `ID LITERALS 0 HINTS 0`
+/// or `ID d IDS 0`.
+///
+/// Words stand between spaces and tabs. Blank lines and lines that begin with `c` are skipped. Literals are kept as written,
+/// repeated ones too; variable 1 of the text is variable 0 of the formula. The number of an addition is greater than
+/// `clauses` and than that of each earlier addition; that of a deletion says nothing.
+pub fn read_lrat(alloc: Global, bytes: &[u8], vars: u32, clauses: u64) -> Result<Proof, TextRefusal>
+    requires short { length bytes.now < 2 ^ 32 }
+    requires few { vars ≤ VAR_LIMIT }
+    ensures value { IfOk result (λ proof. proof ≡ proof_of bytes.now) }
+    ensures well { OnOk result (first_lrat_fault vars clauses bytes.now ≡ None) }
+    ensures ascend { IfOk result (λ proof. NumbersAscend clauses proof) }
+    ensures refused { IfErr result (IsDue (first_lrat_fault vars clauses bytes.now)) }
+{
+    let mut lines = Lines::new(bytes, b'c');
+    let mut proof = Proof::new(alloc);
+    let mut last = clauses;
+    while let Some(line) = lines.next_line() {
+        let step = read_line(alloc, line, vars, last)?;
+        last = last_after(&step, last);
+        proof.push(step)?;
+    }
+    Ok(proof)
+}
+
+// The step of a line, or its fault. An addition's number has to be greater than `last`.
+fn read_line(alloc: Global, line: Line<'_>, vars: u32, last: u64) -> Result<ProofStep, TextRefusal>
+    requires { vars ≤ VAR_LIMIT }
+    ensures step { IfOk result (λ step. step ≡ step_of line.entry.number (lrat_line (tokens_of line.entry.text.now))) }
+    ensures well { OnOk result (line_code vars last (lrat_line (tokens_of line.entry.text.now)) ≡ None) }
+    ensures refused { IfErr result (λ refusal. (later : Option TextFault) → IsDue (fault_or line.entry.number (line_code vars last (lrat_line (tokens_of line.entry.text.now))) later) refusal) }
+{
+    match read_step(alloc, line, vars, last)? {
+        Some(step) => Ok(step),
+        None => Err(fault_at(line.number, line_code(line, vars, last).unwrap())),
+    }
+}
+
+// The number that the next addition has to exceed.
+fn last_after(step: &ProofStep, last: u64) -> u64
+    ensures { result ≡ last_after last step.now }
+{
+    match step {
+        ProofStep::Add { id, .. } => *id,
+        ProofStep::Delete { .. } => last,
+    }
+}
