@@ -1,5 +1,5 @@
 -- What replaying a run against a log tells: that it explains the log, or the first that is wrong with it.
-use Rattle.std.specs.Prelude.{◌≡◌, ℕ, ◌<◌, ◌≤◌, ◌↔◌, List, length, Option, None, Some}
+use Rattle.std.specs.Prelude.{◌≡◌, ⊤, ℕ, ◌<◌, ◌≤◌, ◌↔◌, List, length, Option, None, Some}
 use Rattle.des_net.specs.Network.{Net}
 use Rattle.des_net.specs.Run.{IsRun, fault_count}
 use Rattle.des_net.specs.Width.{need}
@@ -28,6 +28,15 @@ IsReplayed net log run n (Order first second) =
     × (wrong_pair (order_of log run) log.pairs ≡ Some (first, second))
 IsReplayed net log run n (TooWide pieces) = IsRun net (word_of run) × HasAlarms net log run × (pieces ≡ need net (word_of run)) × (n < pieces)
 IsReplayed net log run n (Accepted faults) = IsRun net (word_of run) × HasAlarms net log run × (need net (word_of run) ≤ n) × (faults ≡ fault_count net (word_of run))
+
+-- the alarms that an answer names are among so many
+abbrev pub NamesKnown : ℕ → Replayed → Type 0
+NamesKnown alarms (Stuck at) = ⊤
+NamesKnown alarms (BadAlarm at) = ⊤
+NamesKnown alarms (Missing alarm) = alarm < alarms
+NamesKnown alarms (Order first second) = (first < alarms) × (second < alarms)
+NamesKnown alarms (TooWide pieces) = ⊤
+NamesKnown alarms (Accepted faults) = ⊤
 
 -- The run is well matched, and its events with its alarms explain the log within n pieces, with so many faults.
 pub record IsAccepted (net : Net) (log : Log) (run : List RunStep) (n faults : ℕ) : Type 0 where

@@ -1,4 +1,4 @@
-ghost use Rattle.std.specs.Prelude.{◌≡◌, ◌<◌, [], ◌∷◌, ◌++◌, length, All, IfOk, OnOk, OnErr, false};
+ghost use Rattle.std.specs.Prelude.{◌≡◌, ◌<◌, [], ◌∷◌, ◌++◌, length, All, IfOk, IfSome, OnOk, OnErr, false};
 ghost use Rattle.log_order.specs.Log.{place_in};
 ghost use Rattle.log_order.specs.Precedence.{is_in};
 ghost use Rattle.replay.specs.Matching.{missing_alarm, wrong_pair};
@@ -71,7 +71,8 @@ impl Placing {
 
     /// The least alarm without a place.
     pub fn missing(&self) -> Option<u32>
-        ensures { result ≡ missing_alarm self.now.alarms self.now.order }
+        ensures missing { result ≡ missing_alarm self.now.alarms self.now.order }
+        ensures known { IfSome result (λ alarm. alarm < self.now.alarms) }
     {
         for alarm in 0..self.places.len() as u32 {
             if !self.has(alarm) {
@@ -84,7 +85,8 @@ impl Placing {
     /// The first of the pairs whose first alarm doesn't stand before its second.
     pub fn wrong_pair(&self, pairs: &[(u32, u32)]) -> Option<(u32, u32)>
         requires { All (λ pair. (pair.0 < self.now.alarms) × (pair.1 < self.now.alarms)) pairs.now }
-        ensures { result ≡ wrong_pair self.now.order pairs.now }
+        ensures wrong { result ≡ wrong_pair self.now.order pairs.now }
+        ensures known { IfSome result (λ pair. (pair.0 < self.now.alarms) × (pair.1 < self.now.alarms)) }
     {
         for pair in pairs {
             if self.place(pair.0) >= self.place(pair.1) {

@@ -1,7 +1,7 @@
-ghost use Rattle.std.specs.Prelude.{◌≡◌, ◌<◌, ◌≤◌, ◌↔◌, ℕ, length, All, IfOk, MatchOption};
+ghost use Rattle.std.specs.Prelude.{◌≡◌, ◌<◌, ◌≤◌, ◌↔◌, ℕ, length, All, IfOk, IfSome, MatchOption};
 ghost use Rattle.des_net.specs.Run.{IsRun};
 ghost use Rattle.replay.specs.Traced.{word_of};
-ghost use Rattle.replay.specs.Replayed.{IsReplayed, IsAccepted, HasAlarms};
+ghost use Rattle.replay.specs.Replayed.{IsReplayed, IsAccepted, HasAlarms, NamesKnown};
 
 use crate::matching::place_alarms;
 use crate::placing::Placing;
@@ -42,6 +42,7 @@ pub fn replay(
 ) -> Result<Replayed, Memory>
     requires { All (λ e. e < length net.now.events) (word_of run.now) }
     ensures replayed { IfOk result (IsReplayed net.now log.now run.now n) }
+    ensures known { IfOk result (NamesKnown (length log.now.alarms)) }
     ensures accepted { IfOk result (λ replayed. (faults : ℕ) → (replayed ≡ Replayed.Accepted faults) ↔ IsAccepted net.now log.now run.now n faults) }
 {
     let faults = match trace(alloc, net, run)? {
@@ -68,7 +69,8 @@ fn wrong_alarms(
 ) -> Result<Option<Replayed>, Memory>
     requires known { All (λ e. e < length net.now.events) (word_of steps.now) }
     requires few { length steps.now ≤ 4000000 }
-    ensures { IfOk result (λ wrong. MatchOption wrong (HasAlarms net.now log.now steps.now) (λ replayed. (n : ℕ) → IsRun net.now (word_of steps.now) → IsReplayed net.now log.now steps.now n replayed)) }
+    ensures known { IfOk result (λ wrong. IfSome wrong (NamesKnown (length log.now.alarms))) }
+    ensures wrong { IfOk result (λ wrong. MatchOption wrong (HasAlarms net.now log.now steps.now) (λ replayed. (n : ℕ) → IsRun net.now (word_of steps.now) → IsReplayed net.now log.now steps.now n replayed)) }
 {
     let mut placing = Placing::new(alloc, log.alarms())?;
     if let Some(at) = place_alarms(&mut placing, net, log, steps)? {

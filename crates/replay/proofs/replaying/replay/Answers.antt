@@ -20,7 +20,7 @@ WrongWith net log run replayed = (n : ℕ) → IsRun net (word_of run) → IsRep
 wrong_is : (c : goal.In-Some) → IsReplayed c.args.net.now c.args.log.now c.args.run.now c.args.n c.in-Some.wrong
 wrong_is c =
     let traced : IsTraced c.args.net.now (word_of c.args.run.now) c.in_ok-at.field-0 = c.in_ok-at.ensures in
-    let told : MatchOption c.in_ok-wrong.field-0 (HasAlarms c.args.net.now c.args.log.now c.steps-steps.result.now) (WrongWith c.args.net.now c.args.log.now c.steps-steps.result.now) = c.in_ok-wrong.ensures in
+    let told : MatchOption c.in_ok-wrong.field-0 (HasAlarms c.args.net.now c.args.log.now c.steps-steps.result.now) (WrongWith c.args.net.now c.args.log.now c.steps-steps.result.now) = c.in_ok-wrong.ensures.wrong in
     let wrong : WrongWith c.args.net.now c.args.log.now c.args.run.now c.in-Some.wrong = subst (λ (run : List RunStep). WrongWith c.args.net.now c.args.log.now run c.in-Some.wrong) c.steps-steps.ensures.steps
     (MatchOption-at_some (HasAlarms c.args.net.now c.args.log.now c.steps-steps.result.now) (WrongWith c.args.net.now c.args.log.now c.steps-steps.result.now) c.in-Some.wrong c.in-Some.is told) in
     wrong c.args.n (subst (IsTraced c.args.net.now (word_of c.args.run.now)) c.in-Ran.is traced).0

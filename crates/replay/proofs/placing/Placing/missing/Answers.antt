@@ -9,4 +9,4 @@ pub returns-then-not-has : goal.returns-then-not-has
 returns-then-not-has c =
     let free : not (is_in c.args.self.now.order c.loop-alarm.alarm) ≡ true = ap not (sym c.has.ensures ∙ c.if-not-has.true) in
     let below : c.loop-alarm.alarm < c.args.self.now.alarms = subst (λ n. c.loop-alarm.alarm < n) (c.len-alarm-end.ensures ∙ c.self.inside.places.ok.0 ∙ ap (λ (p : Placed). p.alarms) c.self.view_is) c.loop-alarm-test.true in
-    sym (first_below-found c.args.self.now.alarms c.loop-alarm.alarm (λ i. not (is_in c.args.self.now.order i)) free c.loop-alarm.invariant below)
+    record { missing = sym (first_below-found c.args.self.now.alarms c.loop-alarm.alarm (λ i. not (is_in c.args.self.now.order i)) free c.loop-alarm.invariant below); known = below }
