@@ -65,7 +65,7 @@ said l words i (kind ∷ kinds) files (text ∷ texts) says e answer read h =
     subst (λ (fs : List (List ℕ)). IsOkAnd e (says fs)) (append_assoc files (text ∷ []) texts)
     (said l words (i + 1) kinds (files ++ text ∷ []) texts says e answer read.1 rest)
 
-called : (l : Loads) (words : List (List ℕ)) (o : Option Command) (c : Command) (e : Ending) → o ≡ Some c → MatchOption o (e ≡ Err Usage) (λ c. Answers l words c e) → Answers l words c e
+pub called : (l : Loads) (words : List (List ℕ)) (o : Option Command) (c : Command) (e : Ending) → o ≡ Some c → MatchOption o (e ≡ Err Usage) (λ c. Answers l words c e) → Answers l words c e
 called l words None c e is h = cc
 called l words (Some d) c e is h = subst (λ (c : Command). Answers l words c e) (same is) h
   where

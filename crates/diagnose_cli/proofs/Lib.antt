@@ -7,4 +7,8 @@ pub mod Reading
 pub mod Answered
 pub mod TraceAnswers
 pub mod TraceRows
+pub mod ReplayAnswers
+pub mod CheckAnswers
+pub mod ReplayRows
+pub mod CheckRows
 pub mod UsageRows

@@ -4,11 +4,11 @@ use Rattle.des_base.specs.CommandWords.{word_at}
 use Rattle.diagnose_cli.specs.declared.command.Command.{Command}
 use Rattle.diagnose_cli.specs.declared.ending.Kind.{Kind}
 use Rattle.diagnose_cli.specs.declared.stop.Stop.{Stop}
-use Rattle.diagnose_cli.specs.declared.stop.Stop.TheVariants.{Faulty, Memory}
+use Rattle.diagnose_cli.specs.declared.stop.Stop.TheVariants.{Usage, Faulty, Memory}
 use Rattle.diagnose_cli.specs.declared.stop.FaultyText.{FaultyText}
 use Rattle.diagnose_cli.specs.Transcripts.{Ending, Transcript, once, UnlessMemory}
 use Rattle.diagnose_cli.specs.Files.{Loads, IsText, IsFaultOf, StopsAt, StopsIn}
-use Rattle.diagnose_cli.specs.Commands.{FileKind, limit_of, fault_of_text, InOrder, Answers}
+use Rattle.diagnose_cli.specs.Commands.{FileKind, limit_of, fault_of_text, InOrder, Answers, Due, command_of}
 use Rattle.diagnose_cli.proofs.Earlier.{stops_earlier}
 
 module _ (l : Loads) (words : List (List ℕ)) (i : ℕ) (kind : FileKind) (kinds : List FileKind) (files : List (List ℕ)) (says : List (List ℕ) → Transcript → Type 0) where
@@ -51,3 +51,15 @@ handed_on l words c (Err e) stop is h m =
   where
     same : stop ≡ Memory → ◌≡◌ {A = Result (Kind × List ℕ) Stop} (Err e) (Err Memory)
     same p = cc
+
+-- want of memory is answered for nothing
+pub memory_free : (r : Result (Kind × List ℕ) Stop) (P : Type 0) → IsErrAnd r (λ e. e ≡ Memory) → UnlessMemory r P
+memory_free (Ok reply) P is m = absurd is
+memory_free (Err e) P is m = absurd (m (same is))
+  where
+    same : e ≡ Memory → ◌≡◌ {A = Result (Kind × List ℕ) Stop} (Err e) (Err Memory)
+    same is = cc
+
+-- what a command answers is due for the words that call it
+pub due_of : (l : Loads) (words : List (List ℕ)) (c : Command) (r : Result (Kind × List ℕ) Stop) → command_of words ≡ Some c → UnlessMemory r (Answers l words c (once r)) → UnlessMemory r (Due l words (once r))
+due_of l words c r is h m = subst (λ (o : Option Command). MatchOption o (once r ≡ Err Usage) (λ d. Answers l words d (once r))) (sym is) (h m)

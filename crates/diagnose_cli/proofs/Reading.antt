@@ -6,6 +6,18 @@ use Rattle.model_text.specs.declared.fault.ModelFault.{ModelFault}
 use Rattle.model_text.specs.declared.fault.ModelRefusal.{ModelRefusal}
 use Rattle.model_text.specs.declared.fault.ModelRefusal.TheVariants.{Fault, Memory as ModelMemory}
 use Rattle.model_text.specs.ModelFaults.{network_of, first_fault as first_model_fault, IsDue as IsModelDue}
+use Rattle.log_order.specs.Log.{Log as AlarmLog}
+use Rattle.log_csv.specs.declared.fault.LogReadRefusal.{LogReadRefusal}
+use Rattle.log_csv.specs.declared.fault.LogReadRefusal.TheVariants.{Fault as LogFaulty, Memory as LogMemory}
+use Rattle.log_csv.specs.Faults.{IsDue as IsLogDue}
+use Rattle.log_csv.specs.LogText.{log_of, first_fault as first_log_fault}
+use Rattle.prop_core.specs.Clauses.{Clause}
+use Rattle.proof_ledger.specs.declared.checker.ProofStep.{ProofStep}
+use Rattle.proof_text.specs.declared.fault.TextRefusal.{TextRefusal}
+use Rattle.proof_text.specs.declared.fault.TextRefusal.TheVariants.{Fault as TextFaulty, Memory as TextMemory}
+use Rattle.proof_text.specs.TextFaults.{IsDue as IsTextDue}
+use Rattle.proof_text.specs.CnfText.{formula, formula_of, first_cnf_fault}
+use Rattle.proof_text.specs.LratText.{proof_of, first_lrat_fault}
 use Rattle.replay.specs.declared.run.RunStep.{RunStep}
 use Rattle.replay.specs.declared.run_text.RunFault.{RunFault}
 use Rattle.replay.specs.declared.run_text.RunRefusal.{RunRefusal}
@@ -14,9 +26,9 @@ use Rattle.replay.specs.RunText.{run_of, first_fault as first_run_fault, Tells a
 use Rattle.diagnose_cli.specs.declared.stop.Stop.{Stop}
 use Rattle.diagnose_cli.specs.declared.stop.Stop.TheVariants.{Faulty, Memory}
 use Rattle.diagnose_cli.specs.declared.stop.FaultyText.{FaultyText}
-use Rattle.diagnose_cli.specs.declared.stop.FaultyText.TheVariants.{Model, Run}
-use Rattle.diagnose_cli.specs.Refusals.{stop_of_model, stop_of_run}
-use Rattle.diagnose_cli.specs.Commands.{fault_of_model, fault_of_run}
+use Rattle.diagnose_cli.specs.declared.stop.FaultyText.TheVariants.{Model, Log, Run, Cnf, Lrat}
+use Rattle.diagnose_cli.specs.Refusals.{stop_of_model, stop_of_log, stop_of_run, stop_of_cnf, stop_of_lrat}
+use Rattle.diagnose_cli.specs.Commands.{fault_of_model, fault_of_log, fault_of_run, fault_of_cnf, fault_of_lrat}
 use Rattle.diagnose_cli.specs.Files.{Loads, Holds, IsText, StopsAt, StopsIn}
 
 -- what is there is told
@@ -53,3 +65,44 @@ run_stops l i name limit net text RunMemory stop holds due is never = absurd (ne
 pub run_read : (held : List ℕ → Option (List ℕ)) (name : List ℕ) (limit : ℕ) (net : Net) (text : List ℕ) (run : List RunStep) → Holds held name limit text → first_run_fault net text ≡ None → run ≡ run_of net text
     → (text : List ℕ) × IsText held name limit (fault_of_run net) text × (run ≡ run_of net text)
 run_read held name limit net text run holds well is = (text, record { holds = holds; well = none_told _ (first_run_fault net text) well }, is)
+
+-- ---- texts whose refusal tells the fault
+
+-- the stop tells the fault that is found
+by_fault : {X : Type 0} (l : Loads) (i : ℕ) (name : List ℕ) (limit : ℕ) (fault : List ℕ → Option X) (of : X → FaultyText) (text : List ℕ) (x : X) (stop : Stop)
+    → Holds l.held name limit text → fault text ≡ Some x → stop ≡ Faulty (of x) → StopsIn l i name limit (λ bytes. option_map of (fault bytes)) stop
+by_fault l i name limit fault of text x stop holds found is = inr (record { bytes = text; holds = holds; text = of x; faulty = ap (option_map of) found; told = is })
+
+is_well : {X : Type 0} (held : List ℕ → Option (List ℕ)) (name : List ℕ) (limit : ℕ) (fault : List ℕ → Option X) (of : X → FaultyText) (text : List ℕ)
+    → Holds held name limit text → fault text ≡ None → IsText held name limit (λ bytes. option_map of (fault bytes)) text
+is_well held name limit fault of text holds well = record { holds = holds; well = none_told of (fault text) well }
+
+pub log_stops : (l : Loads) (i : ℕ) (name : List ℕ) (limit : ℕ) (text : List ℕ) (refusal : LogReadRefusal) (stop : Stop)
+    → Holds l.held name limit text → IsLogDue (first_log_fault text) refusal → stop ≡ stop_of_log refusal → stop ≢ Memory → StopsIn l i name limit fault_of_log stop
+log_stops l i name limit text (LogFaulty fault) stop holds due is never = by_fault l i name limit first_log_fault (λ f. Log f) text fault stop holds due is
+log_stops l i name limit text LogMemory stop holds due is never = absurd (never is)
+
+pub log_read : (held : List ℕ → Option (List ℕ)) (name : List ℕ) (limit : ℕ) (text : List ℕ) (log : AlarmLog) → Holds held name limit text → first_log_fault text ≡ None → log ≡ log_of text
+    → (text : List ℕ) × IsText held name limit fault_of_log text × (log ≡ log_of text)
+log_read held name limit text log holds well is = (text, is_well held name limit first_log_fault (λ f. Log f) text holds well, is)
+
+pub cnf_stops : (l : Loads) (i : ℕ) (name : List ℕ) (limit : ℕ) (text : List ℕ) (refusal : TextRefusal) (stop : Stop)
+    → Holds l.held name limit text → IsTextDue (first_cnf_fault text) refusal → stop ≡ stop_of_cnf refusal → stop ≢ Memory → StopsIn l i name limit fault_of_cnf stop
+cnf_stops l i name limit text (TextFaulty fault) stop holds due is never = by_fault l i name limit first_cnf_fault (λ f. Cnf f) text fault stop holds due is
+cnf_stops l i name limit text TextMemory stop holds due is never = absurd (never is)
+
+pub cnf_read : (held : List ℕ → Option (List ℕ)) (name : List ℕ) (limit : ℕ) (text : List ℕ) (vars : ℕ) (clauses : List Clause) → Holds held name limit text → first_cnf_fault text ≡ None → formula vars clauses ≡ formula_of text
+    → (text : List ℕ) × IsText held name limit fault_of_cnf text × (formula vars clauses ≡ formula_of text)
+cnf_read held name limit text vars clauses holds well is = (text, is_well held name limit first_cnf_fault (λ f. Cnf f) text holds well, is)
+
+pub lrat_stops : (l : Loads) (i : ℕ) (name : List ℕ) (limit : ℕ) (vars : ℕ) (clauses : List Clause) (count : ℕ) (text : List ℕ) (refusal : TextRefusal) (stop : Stop) → count ≡ length clauses
+    → Holds l.held name limit text → IsTextDue (first_lrat_fault vars count text) refusal → stop ≡ stop_of_lrat refusal → stop ≢ Memory → StopsIn l i name limit (fault_of_lrat (formula vars clauses)) stop
+lrat_stops l i name limit vars clauses count text (TextFaulty fault) stop same holds due is never =
+    by_fault l i name limit (first_lrat_fault vars (length clauses)) (λ f. Lrat f) text fault stop holds (subst (λ (n : ℕ). first_lrat_fault vars n text ≡ Some fault) same due) is
+lrat_stops l i name limit vars clauses count text TextMemory stop same holds due is never = absurd (never is)
+
+pub lrat_read : (held : List ℕ → Option (List ℕ)) (name : List ℕ) (limit : ℕ) (vars : ℕ) (clauses : List Clause) (count : ℕ) (text : List ℕ) (proof : List ProofStep) → count ≡ length clauses
+    → Holds held name limit text → first_lrat_fault vars count text ≡ None → proof ≡ proof_of text
+    → (text : List ℕ) × IsText held name limit (fault_of_lrat (formula vars clauses)) text × (proof ≡ proof_of text)
+lrat_read held name limit vars clauses count text proof same holds well is =
+    (text, is_well held name limit (first_lrat_fault vars (length clauses)) (λ f. Lrat f) text holds (subst (λ (n : ℕ). first_lrat_fault vars n text ≡ None) same well), is)

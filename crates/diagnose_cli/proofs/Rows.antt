@@ -9,7 +9,7 @@ use Rattle.diagnose_cli.specs.declared.command.Command.{Command}
 use Rattle.diagnose_cli.specs.declared.stop.Stop.{Stop}
 use Rattle.diagnose_cli.specs.declared.stop.Stop.TheVariants.{Usage, Load, Faulty, Long, Memory}
 use Rattle.diagnose_cli.specs.declared.stop.FaultyText.{FaultyText}
-use Rattle.diagnose_cli.specs.declared.stop.FaultyText.TheVariants.{Model, Run}
+use Rattle.diagnose_cli.specs.declared.stop.FaultyText.TheVariants.{Model, Log, Run, Cnf, Lrat}
 use Rattle.diagnose_cli.specs.declared.ending.Kind.{Kind}
 use Rattle.diagnose_cli.specs.declared.ending.Kind.TheVariants.{Done, Rejected}
 use Rattle.std.specs.List.{concat}
@@ -59,7 +59,10 @@ no_load_kind Rejected p = cc
 
 no_load_text : (text : FaultyText) → 3 ≡ status_of_faulty text → ⊥
 no_load_text (Model fault) p = cc
+no_load_text (Log fault) p = cc
 no_load_text (Run fault) p = cc
+no_load_text (Cnf fault) p = cc
+no_load_text (Lrat fault) p = cc
 
 no_load_done : (o : Option Kind) → IsSomeAnd o (λ kind. 3 ≡ status_of_kind kind) → ⊥
 no_load_done None p = absurd p

@@ -10,7 +10,7 @@ use Rattle.diagnose_cli.specs.declared.ending.Kind.TheVariants.{Done, Rejected}
 use Rattle.diagnose_cli.specs.declared.stop.Stop.{Stop}
 use Rattle.diagnose_cli.specs.declared.stop.Stop.TheVariants.{Usage, Load, Faulty, Long, Memory}
 use Rattle.diagnose_cli.specs.declared.stop.FaultyText.{FaultyText}
-use Rattle.diagnose_cli.specs.declared.stop.FaultyText.TheVariants.{Model, Run}
+use Rattle.diagnose_cli.specs.declared.stop.FaultyText.TheVariants.{Model, Log, Run, Cnf, Lrat}
 use Rattle.diagnose_cli.specs.Transcripts.{Ending, Transcript, UnlessMemory}
 use Rattle.diagnose_cli.specs.Files.{Loads}
 use Rattle.diagnose_cli.specs.Endings.{HasStatus, status_of_kind, status_of_faulty}
@@ -42,7 +42,10 @@ not_kind Rejected p = cc
 
 not_faulty : (text : FaultyText) → 2 ≡ status_of_faulty text → ⊥
 not_faulty (Model fault) p = cc
+not_faulty (Log fault) p = cc
 not_faulty (Run fault) p = cc
+not_faulty (Cnf fault) p = cc
+not_faulty (Lrat fault) p = cc
 
 not_done : (o : Option Kind) → IsSomeAnd o (λ kind. 2 ≡ status_of_kind kind) → ⊥
 not_done None p = absurd p

@@ -3,7 +3,7 @@ use Rattle.std.specs.Prelude.{◌≡◌, ℕ, List, [], ◌∷◌, ◌++◌, cod
 use Rattle.diagnose_cli.specs.declared.stop.Stop.{Stop}
 use Rattle.diagnose_cli.specs.declared.stop.Stop.TheVariants.{Usage, Load, Faulty, Long, Memory}
 use Rattle.diagnose_cli.specs.declared.stop.FaultyText.{FaultyText}
-use Rattle.diagnose_cli.specs.declared.stop.FaultyText.TheVariants.{Model, Run}
+use Rattle.diagnose_cli.specs.declared.stop.FaultyText.TheVariants.{Model, Log, Run, Cnf, Lrat}
 use Rattle.diagnose_cli.specs.declared.ending.Kind.{Kind}
 use Rattle.diagnose_cli.specs.declared.ending.Kind.TheVariants.{Done, Rejected}
 use Rattle.diagnose_cli.specs.Transcripts.{Ending}
@@ -14,7 +14,10 @@ status_of_kind Rejected = 13
 
 abbrev pub status_of_faulty : FaultyText → ℕ
 status_of_faulty (Model fault) = 5
+status_of_faulty (Log fault) = 6
 status_of_faulty (Run fault) = 7
+status_of_faulty (Cnf fault) = 7
+status_of_faulty (Lrat fault) = 7
 
 abbrev pub status_of_stop : Stop → ℕ
 status_of_stop Usage = 2
@@ -38,7 +41,10 @@ placed words line code = words ++ decimal line ++ 32 ∷ decimal code ++ 10 ∷ 
 
 abbrev pub text_of_faulty : FaultyText → List ℕ
 text_of_faulty (Model fault) = placed (codes "MODEL ") fault.line fault.code
+text_of_faulty (Log fault) = placed (codes "LOG ") fault.row fault.code
 text_of_faulty (Run fault) = placed (codes "RUN ") fault.line fault.code
+text_of_faulty (Cnf fault) = placed (codes "CNF ") fault.line fault.code
+text_of_faulty (Lrat fault) = placed (codes "LRAT ") fault.line fault.code
 
 abbrev pub text_of_stop : Stop → List ℕ
 text_of_stop Usage = codes "USAGE\n"

@@ -7,3 +7,5 @@ pub mod Exact
 pub mod Puts
 pub mod Run
 pub mod Trace
+pub mod Replay
+pub mod Check

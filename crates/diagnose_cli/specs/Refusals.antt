@@ -1,9 +1,13 @@
 -- Why a command stops where a reader refuses a text.
 use Rattle.model_text.specs.declared.fault.ModelRefusal.{ModelRefusal}
 use Rattle.model_text.specs.declared.fault.ModelRefusal.TheVariants.{Fault as ModelFaulty, Memory as ModelMemory}
+use Rattle.log_csv.specs.declared.fault.LogReadRefusal.{LogReadRefusal}
+use Rattle.log_csv.specs.declared.fault.LogReadRefusal.TheVariants.{Fault as LogFaulty, Memory as LogMemory}
+use Rattle.proof_text.specs.declared.fault.TextRefusal.{TextRefusal}
+use Rattle.proof_text.specs.declared.fault.TextRefusal.TheVariants.{Fault as TextFaulty, Memory as TextMemory}
 use Rattle.replay.specs.declared.run_text.RunRefusal.{RunRefusal}
 use Rattle.replay.specs.declared.run_text.RunRefusal.TheVariants.{Fault as RunFaulty, Memory as RunMemory}
-use Rattle.diagnose_cli.specs.declared.stop.FaultyText.TheVariants.{Model, Run}
+use Rattle.diagnose_cli.specs.declared.stop.FaultyText.TheVariants.{Model, Log, Run, Cnf, Lrat}
 use Rattle.diagnose_cli.specs.declared.stop.Stop.{Stop}
 use Rattle.diagnose_cli.specs.declared.stop.Stop.TheVariants.{Faulty, Memory}
 
@@ -14,3 +18,15 @@ stop_of_model ModelMemory = Memory
 abbrev pub stop_of_run : RunRefusal → Stop
 stop_of_run (RunFaulty fault) = Faulty (Run fault)
 stop_of_run RunMemory = Memory
+
+abbrev pub stop_of_log : LogReadRefusal → Stop
+stop_of_log (LogFaulty fault) = Faulty (Log fault)
+stop_of_log LogMemory = Memory
+
+abbrev pub stop_of_cnf : TextRefusal → Stop
+stop_of_cnf (TextFaulty fault) = Faulty (Cnf fault)
+stop_of_cnf TextMemory = Memory
+
+abbrev pub stop_of_lrat : TextRefusal → Stop
+stop_of_lrat (TextFaulty fault) = Faulty (Lrat fault)
+stop_of_lrat TextMemory = Memory

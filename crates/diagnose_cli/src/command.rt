@@ -1,14 +1,20 @@
 ghost use Rattle.std.specs.Prelude.{◌≡◌, length, IfSome, ◌<◌};
 ghost use Rattle.diagnose_cli.specs.Commands.{calls, command_of, file_count};
 
-use des_base::WordList;
+use des_base::{WordList, read_number};
 
 /// What the words of a command line ask for.
 #[derive(Clone, Copy, Debug, PartialEq, Eq)]
 pub enum Command {
     /// `trace MODEL RUN`: can the network perform the run.
     Trace,
+    /// `replay MODEL LOG RUN N`: does the run explain the log within this many parallel steps.
+    Replay(u32),
+    /// `check CNF LRAT`: does the proof refute the formula.
+    Check,
 }
+
+const STEP_LIMIT: u64 = 1000;
 
 // Whether these are this many words and the first is the name.
 fn is_call(words: &WordList, name: &str, count: usize) -> bool
@@ -25,6 +31,11 @@ pub fn command_of(words: &WordList) -> Option<Command>
 {
     if is_call(words, "trace", 3) {
         Some(Command::Trace)
+    } else if is_call(words, "replay", 5) {
+        let steps = read_number(words.word(4).as_bytes(), STEP_LIMIT)?;
+        Some(Command::Replay(steps as u32))
+    } else if is_call(words, "check", 3) {
+        Some(Command::Check)
     } else {
         None
     }

@@ -1,21 +1,33 @@
 ghost use Rattle.std.specs.Prelude.{◌≡◌, ◌≢◌, ℕ, ◌^◌, ◌<◌, ◌≤◌, List, length, All, IfOk, IfErr, OnOk};
 ghost use Rattle.des_base.specs.CommandWords.{word_at};
 ghost use Rattle.model_text.specs.ModelFaults.{network_of};
+ghost use Rattle.log_csv.specs.LogText.{log_of};
+ghost use Rattle.proof_text.specs.CnfText.{formula, formula_of};
+ghost use Rattle.proof_text.specs.LratText.{proof_of};
 ghost use Rattle.replay.specs.RunText.{run_of};
 ghost use Rattle.replay.specs.Traced.{word_of};
-ghost use Rattle.diagnose_cli.specs.Commands.{fault_of_model, fault_of_run};
+ghost use Rattle.diagnose_cli.specs.Commands.{fault_of_model, fault_of_log, fault_of_run, fault_of_cnf, fault_of_lrat};
 ghost use Rattle.diagnose_cli.specs.Files.{loads, Fetches, IsText, StopsIn};
 
-use crate::stop::Stop;
+use crate::stop::{Stop, stop_of_cnf, stop_of_lrat};
 use des_base::{LoadFault, Shelf, WordList};
 use des_net::Network;
+use log_csv::read_log;
+use log_order::AlarmLog;
 use model_text::read_model;
+use proof_text::{Cnf, Proof, read_cnf, read_lrat};
 use replay::{Run, read_run};
 use std::alloc::Global;
 
 const MODEL_LIMIT: u64 = 16_777_216;
 
+const LOG_LIMIT: u64 = 16_777_216;
+
 const RUN_LIMIT: u64 = 536_870_912;
+
+const FORMULA_LIMIT: u64 = 536_870_912;
+
+const PROOF_LIMIT: u64 = 536_870_912;
 
 /// The network of the model in this place among the command's files.
 #[tactic(auto, using(crate::proofs::Reading::model_stops, crate::proofs::Reading::model_read))]
@@ -53,6 +65,69 @@ pub fn fetch_run<F: Shelf>(
 {
     let text = fetch(alloc, shelf, place, words.word(place as usize), RUN_LIMIT)?;
     Ok(read_run(alloc, text.as_slice(), net)?)
+}
+
+/// The log in this place among the command's files.
+#[tactic(auto, using(crate::proofs::Reading::log_stops, crate::proofs::Reading::log_read))]
+pub fn fetch_log<F: Shelf>(
+    alloc: Global,
+    words: &WordList,
+    shelf: &mut F,
+    place: u32,
+) -> Result<AlarmLog, Stop>
+    requires { place < length words.now }
+    ensures log { IfOk result (λ log. (text : List ℕ) × IsText (F.held shelf.old) (word_at words.now place) LOG_LIMIT fault_of_log text × (log ≡ log_of text)) }
+    ensures stop { IfErr result (λ stop. stop ≢ Stop.Memory → StopsIn (loads F.held F.faults shelf.old shelf.new) place (word_at words.now place) LOG_LIMIT fault_of_log stop) }
+    ensures kept { F.held shelf.new ≡ F.held shelf.old }
+    ensures never_falls { (n : List ℕ) → F.faults shelf.old n ≤ F.faults shelf.new n }
+{
+    let text = fetch(alloc, shelf, place, words.word(place as usize), LOG_LIMIT)?;
+    Ok(read_log(alloc, text.as_slice())?)
+}
+
+/// The formula in this place among the command's files.
+#[tactic(auto, using(crate::proofs::Reading::cnf_stops, crate::proofs::Reading::cnf_read))]
+pub fn fetch_cnf<F: Shelf>(
+    alloc: Global,
+    words: &WordList,
+    shelf: &mut F,
+    place: u32,
+) -> Result<Cnf, Stop>
+    requires { place < length words.now }
+    ensures formula { IfOk result (λ cnf. (text : List ℕ) × IsText (F.held shelf.old) (word_at words.now place) FORMULA_LIMIT fault_of_cnf text × (formula cnf.vars cnf.clauses.clauses ≡ formula_of text)) }
+    ensures few { IfOk result (λ cnf. cnf.vars ≤ 100000000) }
+    ensures stop { IfErr result (λ stop. stop ≢ Stop.Memory → StopsIn (loads F.held F.faults shelf.old shelf.new) place (word_at words.now place) FORMULA_LIMIT fault_of_cnf stop) }
+    ensures kept { F.held shelf.new ≡ F.held shelf.old }
+    ensures never_falls { (n : List ℕ) → F.faults shelf.old n ≤ F.faults shelf.new n }
+{
+    let text = fetch(alloc, shelf, place, words.word(place as usize), FORMULA_LIMIT)?;
+    match read_cnf(alloc, text.as_slice()) {
+        Ok(cnf) => Ok(cnf),
+        Err(refusal) => Err(stop_of_cnf(refusal)),
+    }
+}
+
+/// The proof in this place among the command's files, over the formula.
+#[tactic(auto, using(crate::proofs::Reading::lrat_stops, crate::proofs::Reading::lrat_read))]
+pub fn fetch_lrat<F: Shelf>(
+    alloc: Global,
+    words: &WordList,
+    shelf: &mut F,
+    place: u32,
+    cnf: &Cnf,
+) -> Result<Proof, Stop>
+    requires place { place < length words.now }
+    requires few { cnf.now.vars ≤ 100000000 }
+    ensures proof { IfOk result (λ proof. (text : List ℕ) × IsText (F.held shelf.old) (word_at words.now place) PROOF_LIMIT (fault_of_lrat (formula cnf.now.vars cnf.now.clauses.clauses)) text × (proof ≡ proof_of text)) }
+    ensures stop { IfErr result (λ stop. stop ≢ Stop.Memory → StopsIn (loads F.held F.faults shelf.old shelf.new) place (word_at words.now place) PROOF_LIMIT (fault_of_lrat (formula cnf.now.vars cnf.now.clauses.clauses)) stop) }
+    ensures kept { F.held shelf.new ≡ F.held shelf.old }
+    ensures never_falls { (n : List ℕ) → F.faults shelf.old n ≤ F.faults shelf.new n }
+{
+    let text = fetch(alloc, shelf, place, words.word(place as usize), PROOF_LIMIT)?;
+    match read_lrat(alloc, text.as_slice(), cnf.vars, cnf.clauses.len()) {
+        Ok(proof) => Ok(proof),
+        Err(refusal) => Err(stop_of_lrat(refusal)),
+    }
 }
 
 // The bytes of the file in this place among the command's files.

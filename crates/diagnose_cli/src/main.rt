@@ -5,11 +5,13 @@
 //! the status that it answers.
 #![tactic(auto)]
 
+mod check_command;
 mod command;
 mod disk_shelf;
 mod ending;
 mod files;
 mod out_sink;
+mod replay_command;
 mod run;
 mod stop;
 #[cfg(test)]

@@ -7,9 +7,13 @@ ghost use Rattle.diagnose_cli.specs.Commands.{Due, command_of};
 ghost use Rattle.diagnose_cli.specs.Exact.{StopRow};
 ghost use Rattle.diagnose_cli.specs.Run.{Ran, Ends, Broke, CutOff, LoadRow};
 ghost use Rattle.diagnose_cli.specs.Trace.{TraceRow};
+ghost use Rattle.diagnose_cli.specs.Replay.{ReplayRow};
+ghost use Rattle.diagnose_cli.specs.Check.{CheckRow, RefutedRow};
 
+use crate::check_command::check_command;
 use crate::command::{Command, command_of};
 use crate::ending::{Reply, put_once};
+use crate::replay_command::replay_command;
 use crate::stop::Stop;
 use crate::trace_command::trace_command;
 use des_base::{Shelf, Sink, WordList};
@@ -31,6 +35,9 @@ pub fn run<F: Shelf, S: Sink>(
     requires { book.old.entries ≡ [] }
     ensures ends { result ≢ 4 → result ≢ 9 → Ends (loads F.held F.faults shelf.old shelf.new) words.now (S.taken out.old) (S.taken out.new) result }
     ensures traced { result ≢ 3 → result ≢ 4 → result ≢ 9 → TraceRow (F.held shelf.old) words.now (S.taken out.old) (S.taken out.new) result }
+    ensures replayed { result ≢ 3 → result ≢ 4 → result ≢ 9 → ReplayRow (F.held shelf.old) words.now (S.taken out.old) (S.taken out.new) result }
+    ensures checked { result ≢ 3 → result ≢ 4 → result ≢ 9 → CheckRow (F.held shelf.old) words.now (S.taken out.old) (S.taken out.new) result }
+    ensures refuted { RefutedRow (F.held shelf.old) words.now result }
     ensures stops { result ≢ 3 → result ≢ 4 → result ≢ 9 → StopRow (F.held shelf.old) words.now (S.taken out.old) (S.taken out.new) result }
     ensures usage { result ≡ 2 → command_of words.now ≡ None }
     ensures load_failed { result ≡ 3 → LoadRow (loads F.held F.faults shelf.old shelf.new) words.now (S.taken out.old) (S.taken out.new) }
@@ -58,5 +65,7 @@ fn answer<F: Shelf>(alloc: Global, words: &WordList, shelf: &mut F) -> Result<Re
     match command_of(words) {
         None => Err(Stop::Usage),
         Some(Command::Trace) => trace_command(alloc, words, shelf),
+        Some(Command::Replay(steps)) => replay_command(alloc, words, shelf, steps),
+        Some(Command::Check) => check_command(alloc, words, shelf),
     }
 }

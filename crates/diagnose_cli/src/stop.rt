@@ -1,10 +1,12 @@
 ghost use Rattle.std.specs.Prelude.{◌≡◌, ◌∷◌, ◌++◌, [], IfOk, string_bytes};
 ghost use Rattle.diagnose_cli.specs.declared.stop.Stop.TheVariants.{Memory as NoMemory};
-ghost use Rattle.diagnose_cli.specs.Endings.{status_of_faulty, status_of_stop, text_of_stop, placed};
-ghost use Rattle.diagnose_cli.specs.Refusals.{stop_of_model, stop_of_run};
+ghost use Rattle.diagnose_cli.specs.Endings.{status_of_faulty, status_of_stop, text_of_faulty, text_of_stop, placed};
+ghost use Rattle.diagnose_cli.specs.Refusals.{stop_of_model, stop_of_log, stop_of_run, stop_of_cnf, stop_of_lrat};
 
 use des_base::Memory;
+use log_csv::{LogFault, LogReadRefusal};
 use model_text::{ModelFault, ModelRefusal};
+use proof_text::{TextFault, TextRefusal};
 use replay::{RunFault, RunRefusal};
 use std::alloc::{AllocError, Global};
 
@@ -12,7 +14,10 @@ use std::alloc::{AllocError, Global};
 #[derive(Clone, Copy, Debug, PartialEq, Eq)]
 pub enum FaultyText {
     Model(ModelFault),
+    Log(LogFault),
     Run(RunFault),
+    Cnf(TextFault),
+    Lrat(TextFault),
 }
 
 /// Why a command has no reply.
@@ -49,6 +54,17 @@ impl From<ModelRefusal> for Stop {
     }
 }
 
+impl From<LogReadRefusal> for Stop {
+    ghost from_gives = { λ refusal e. e ≡ stop_of_log refusal };
+
+    fn from(refusal: LogReadRefusal) -> Stop {
+        match refusal {
+            LogReadRefusal::Fault(fault) => Stop::Faulty(FaultyText::Log(fault)),
+            LogReadRefusal::Memory => Stop::Memory,
+        }
+    }
+}
+
 impl From<RunRefusal> for Stop {
     ghost from_gives = { λ refusal e. e ≡ stop_of_run refusal };
 
@@ -57,6 +73,26 @@ impl From<RunRefusal> for Stop {
             RunRefusal::Fault(fault) => Stop::Faulty(FaultyText::Run(fault)),
             RunRefusal::Memory => Stop::Memory,
         }
+    }
+}
+
+/// Why a command stops where the text of a formula is refused.
+pub fn stop_of_cnf(refusal: TextRefusal) -> Stop
+    ensures { result ≡ stop_of_cnf refusal }
+{
+    match refusal {
+        TextRefusal::Fault(fault) => Stop::Faulty(FaultyText::Cnf(fault)),
+        TextRefusal::Memory => Stop::Memory,
+    }
+}
+
+/// Why a command stops where the text of a proof is refused.
+pub fn stop_of_lrat(refusal: TextRefusal) -> Stop
+    ensures { result ≡ stop_of_lrat refusal }
+{
+    match refusal {
+        TextRefusal::Fault(fault) => Stop::Faulty(FaultyText::Lrat(fault)),
+        TextRefusal::Memory => Stop::Memory,
     }
 }
 
@@ -86,7 +122,8 @@ fn status_of_faulty(text: FaultyText) -> u8
 {
     match text {
         FaultyText::Model(_) => 5,
-        FaultyText::Run(_) => 7,
+        FaultyText::Log(_) => 6,
+        FaultyText::Run(_) | FaultyText::Cnf(_) | FaultyText::Lrat(_) => 7,
     }
 }
 
@@ -97,18 +134,27 @@ pub fn text_of_stop(alloc: Global, stop: Stop) -> Result<Vec<u8>, Memory>
     let text = match stop {
         Stop::Usage => format!(in alloc; "USAGE\n")?,
         Stop::Load(file) => format!(in alloc; "LOAD {file}\n")?,
-        Stop::Faulty(FaultyText::Model(fault)) => {
-            placed(alloc, "MODEL", fault.line, fault.code)?
-        }
-        Stop::Faulty(FaultyText::Run(fault)) => placed(alloc, "RUN", fault.line, fault.code)?,
+        Stop::Faulty(text) => text_of_faulty(alloc, text)?,
         Stop::Long(file) => format!(in alloc; "LONG {file}\n")?,
         Stop::Memory => String::new(alloc),
     };
     Ok(text.into_bytes())
 }
 
+fn text_of_faulty(alloc: Global, text: FaultyText) -> Result<String, Memory>
+    ensures { IfOk result (λ told. string_bytes told ≡ text_of_faulty text) }
+{
+    match text {
+        FaultyText::Model(fault) => placed(alloc, "MODEL", fault.line, fault.code),
+        FaultyText::Log(fault) => placed(alloc, "LOG", fault.row, fault.code),
+        FaultyText::Run(fault) => placed(alloc, "RUN", fault.line, fault.code),
+        FaultyText::Cnf(fault) => placed(alloc, "CNF", fault.line, fault.code),
+        FaultyText::Lrat(fault) => placed(alloc, "LRAT", fault.line, fault.code),
+    }
+}
+
 // A word, and the line and the code of a fault.
-fn placed(alloc: Global, word: &str, line: u32, code: u8) -> Result<String, Memory>
+pub fn placed(alloc: Global, word: &str, line: u32, code: u8) -> Result<String, Memory>
     ensures { IfOk result (λ text. string_bytes text ≡ placed (word.now ++ 32 ∷ []) line code) }
 {
     Ok(format!(in alloc; "{word} {line} {code}\n")?)
