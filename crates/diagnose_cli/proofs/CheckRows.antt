@@ -40,9 +40,10 @@ told formula proof b n s (Err stop) says shown put = absurd says
 pub check_row : (l : Loads) (words : List (List ℕ)) (b n : Option (List ℕ)) (s : ℕ) → Ends l words b n s → s ≢ 3 → s ≢ 9 → CheckRow l.held words b n s
 check_row l words b n s ends three nine formula proof command formula_held proof_held readable =
     told formula proof b n s ends.ending
-    (answered l words b n s Check (formula ∷ proof ∷ []) ends three nine command
-    (record { told = formula_held; fits = readable.formula_fits; well = none_told _ (first_cnf_fault formula) readable.formula_well },
-    (record { told = proof_held; fits = readable.proof_fits; well = none_told _ (first_lrat_fault (formula_of formula).vars (length (formula_of formula).clauses) proof) readable.proof_well }, tt)))
+    (answered l words b n s Check (formula ∷ proof ∷ []) ends three nine command (
+      record { told = formula_held; fits = readable.formula_fits; well = none_told _ (first_cnf_fault formula) readable.formula_well },
+      (record { told = proof_held; fits = readable.proof_fits; well = none_told _ (first_lrat_fault (formula_of formula).vars (length (formula_of formula).clauses) proof) readable.proof_well }, tt),
+    ))
     ends.shown ends.put
 
 -- ---- a yes

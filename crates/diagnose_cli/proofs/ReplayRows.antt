@@ -34,8 +34,11 @@ told steps text alarms events b n s (Err stop) says shown put = absurd says
 pub replay_row : (l : Loads) (words : List (List ℕ)) (b n : Option (List ℕ)) (s : ℕ) → Ends l words b n s → s ≢ 3 → s ≢ 9 → ReplayRow l.held words b n s
 replay_row l words b n s ends three nine steps text alarms events command model_held log_held run_held readable =
     told steps text alarms events b n s ends.ending
-    (answered l words b n s (Replay steps) (text ∷ alarms ∷ events ∷ []) ends three nine command
-    (record { told = model_held; fits = readable.model_fits; well = none_told _ (first_model_fault text) readable.model_well },
-    (record { told = log_held; fits = readable.log_fits; well = none_told _ (first_log_fault alarms) readable.log_well },
-    (record { told = run_held; fits = readable.run_fits; well = none_told _ (first_run_fault (network_of text) events) readable.run_well }, tt))))
+    (answered l words b n s (Replay steps) (text ∷ alarms ∷ events ∷ []) ends three nine command (
+      record { told = model_held; fits = readable.model_fits; well = none_told _ (first_model_fault text) readable.model_well },
+      (
+        record { told = log_held; fits = readable.log_fits; well = none_told _ (first_log_fault alarms) readable.log_well },
+        (record { told = run_held; fits = readable.run_fits; well = none_told _ (first_run_fault (network_of text) events) readable.run_well }, tt),
+      ),
+    ))
     ends.shown ends.put

@@ -100,7 +100,13 @@ pub fn fetch_cnf<F: Shelf>(
     ensures kept { F.held shelf.new ≡ F.held shelf.old }
     ensures never_falls { (n : List ℕ) → F.faults shelf.old n ≤ F.faults shelf.new n }
 {
-    let text = fetch(alloc, shelf, place, words.word(place as usize), FORMULA_LIMIT)?;
+    let text = fetch(
+        alloc,
+        shelf,
+        place,
+        words.word(place as usize),
+        FORMULA_LIMIT,
+    )?;
     match read_cnf(alloc, text.as_slice()) {
         Ok(cnf) => Ok(cnf),
         Err(refusal) => Err(stop_of_cnf(refusal)),

@@ -14,11 +14,14 @@ const VALVE: &str =
 const TWO_MEET: &str =
     "des 1\ncomponent p\nstate s init\ntrans s a s\ntrans s c s\ncomponent q\nstate s init\ntrans s b s\ntrans s c s\nevent ea alarm A : p.a\nevent eb alarm B : q.b\nevent ec alarm C : p.c q.c\n";
 
+const TWO_APART: &str =
+    "des 1\ncomponent p\nstate s init\ntrans s a s\ncomponent q\nstate s init\ntrans s b s\nevent ea alarm A : p.a\nevent eb alarm B : q.b\n";
+
 const TWO_STARTS: &str =
     "des 1\ncomponent c\nstate u init\nstate v init\ntrans v a v\nevent e alarm A : c.a\n";
 
 // Words, the status, and the text that is put.
-const CASES: [(&str, u8, &str); 24] = [
+const CASES: [(&str, u8, &str); 68] = [
     ("trace d stuck", 13, "REJECTED STUCK 3\n"),
     ("trace d right", 0, "RAN 0\n"),
     ("trace d none", 0, "RAN 0\n"),
@@ -43,9 +46,56 @@ const CASES: [(&str, u8, &str); 24] = [
     ("trace d", 2, "USAGE\n"),
     ("trace d right more", 2, "USAGE\n"),
     ("tracer d right", 2, "USAGE\n"),
+    // replaying: what is accepted, and what is wrong first
+    ("replay valve tripped reply 2", 0, "ACCEPTED 1\n"),
+    ("replay valve tripped reply 1", 13, "REJECTED WIDE 2\n"),
+    ("replay valve tripped turned 2", 13, "REJECTED STUCK 1\n"),
+    ("replay valve tripped bare 2", 13, "REJECTED ALARM 2\n"),
+    ("replay valve tripped beat 2", 13, "REJECTED ALARM 1\n"),
+    ("replay valve tripped none 2", 13, "REJECTED MISSING a1\n"),
+    ("replay valve tripped lacking 2", 7, "RUN 2 4\n"),
+    ("replay valve tripped jump 2", 7, "RUN 2 5\n"),
+    ("replay apart yx xy 1", 13, "REJECTED ORDER y x\n"),
+    ("replay apart yx yx_run 1", 0, "ACCEPTED 0\n"),
+    // faults of a log, which is read before the run
+    ("replay valve double none 2", 6, "LOG 3 1\n"),
+    ("replay valve unknown_alarm none 2", 6, "LOG 2 2\n"),
+    ("replay valve cycle none 2", 6, "LOG 2 3\n"),
+    ("replay valve no_label none 2", 6, "LOG 1 4\n"),
+    ("replay valve no_field none 2", 6, "LOG 1 6\n"),
+    ("replay valve question none 2", 6, "LOG 1 6\n"),
+    ("replay valve no_name none 2", 6, "LOG 1 7\n"),
+    ("replay valve quoted none 2", 13, "REJECTED MISSING a1\n"),
+    ("replay valve tripped reply", 2, "USAGE\n"),
+    ("replay valve tripped reply -1", 2, "USAGE\n"),
+    ("replay valve tripped reply 007", 2, "USAGE\n"),
+    ("replay valve tripped reply 1001", 2, "USAGE\n"),
+    ("replay valve absent reply 2", 3, "LOAD 2\n"),
+    ("replay valve tripped absent 2", 3, "LOAD 3\n"),
+    // checking
+    ("check four refuted", 0, "VERIFIED\n"),
+    ("check four no_clause", 13, "REJECTED 1 1\n"),
+    ("check four two_open", 13, "REJECTED 1 2\n"),
+    ("check four no_false", 13, "REJECTED 1 3\n"),
+    ("check four no_empty", 13, "REJECTED 0 4\n"),
+    ("check four deleted", 13, "REJECTED 3 1\n"),
+    ("check four negative", 7, "LRAT 1 7\n"),
+    ("check four no_end", 7, "LRAT 1 5\n"),
+    ("check four no_greater", 7, "LRAT 1 6\n"),
+    ("check four nothing", 13, "REJECTED 0 4\n"),
+    ("check nothing nothing", 7, "CNF 1 1\n"),
+    ("check word nothing", 7, "CNF 2 2\n"),
+    ("check above nothing", 7, "CNF 2 3\n"),
+    ("check extra nothing", 7, "CNF 2 4\n"),
+    ("check fewer nothing", 7, "CNF 2 4\n"),
+    ("check open nothing", 7, "CNF 2 5\n"),
+    ("check huge nothing", 7, "CNF 1 8\n"),
+    ("check across nothing", 13, "REJECTED 0 4\n"),
+    ("check four", 2, "USAGE\n"),
+    ("check four absent", 3, "LOAD 2\n"),
 ];
 
-const FILES: [(&str, &str); 17] = [
+const FILES: [(&str, &str); 52] = [
     ("d", ONE_ACTION_TWO_TARGETS),
     (
         "windows",
@@ -66,6 +116,41 @@ const FILES: [(&str, &str); 17] = [
     ("reply", "EXPLAINED 1\nrun 2\njam\ntrip a1\n"),
     ("all", "run 3\nea\neb\nec\n"),
     ("e", "run 1\ne\n"),
+    ("apart", TWO_APART),
+    ("tripped", "alarm,a1,T\n"),
+    ("turned", "run 2\ntrip a1\njam\n"),
+    ("bare", "run 2\njam\ntrip\n"),
+    ("beat", "run 1\nbeat a1\n"),
+    ("lacking", "run 2\njam\n"),
+    ("jump", "run 1\njump\n"),
+    ("yx", "alarm,x,A\nalarm,y,B\nbefore,y,x\n"),
+    ("xy", "run 2\nea x\neb y\n"),
+    ("yx_run", "run 2\neb y\nea x\n"),
+    ("double", ",\nalarm,a,T\nalarm,a,F\n"),
+    ("unknown_alarm", "alarm,a,T\nbefore,a,z\n"),
+    ("cycle", "alarm,a,T\nbefore,a,a\n"),
+    ("no_label", "alarm,a,\n"),
+    ("no_field", "alarm,a\n"),
+    ("question", "ask\n"),
+    ("no_name", "alarm,a b,T\n"),
+    ("quoted", "\"alarm\",a1,T,,\n"),
+    ("four", "p cnf 2 4\n1 2 0\n-1 2 0\n1 -2 0\n-1 -2 0\n"),
+    ("refuted", "5 2 0 1 2 0\n6 0 5 3 4 0\n"),
+    ("no_clause", "5 2 0 9 2 0\n"),
+    ("two_open", "5 0 1 3 4 0\n"),
+    ("no_false", "5 2 0 1 0\n"),
+    ("no_empty", "5 2 0 1 2 0\n"),
+    ("deleted", "5 2 0 1 2 0\n5 d 5 0\n6 0 5 3 4 0\n"),
+    ("negative", "5 1 0 -1 2 0\n"),
+    ("no_end", "5 2 0 1 2\n"),
+    ("no_greater", "4 2 0 1 2 0\n"),
+    ("word", "p cnf 2 1\n1 x 0\n"),
+    ("above", "p cnf 1 1\n1 -2 0\n"),
+    ("extra", "p cnf 2 1\n1 0 2 0\n"),
+    ("fewer", "p cnf 2 2\n1 0\n"),
+    ("open", "p cnf 2 1\n1 2\n"),
+    ("huge", "p cnf 100000001 0\n"),
+    ("across", "p cnf 2 1\n1\n2 0\n"),
 ];
 
 // The words, each after a blank.
