@@ -9,3 +9,4 @@ pub mod ListTests
 pub mod AcceptLemmas
 pub mod DecideLemmas
 pub mod Vectors
+pub mod ReplayVectors

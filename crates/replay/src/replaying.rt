@@ -84,3 +84,6 @@ fn wrong_alarms(
         None => Ok(None),
     }
 }
+
+#[cfg(test)]
+mod tests;
