@@ -5,7 +5,7 @@ use Rattle.std.specs.List.{AllByRecursion, list_any}
 use Rattle.des_base.proofs.BoolLemmas.{either, neither, or_left, or_right, otherwise, same, itself}
 use Rattle.des_net.specs.declared.parts.Part.{Part}
 use Rattle.des_net.specs.Network.{Net, has_part, parts_of, touches}
-use Rattle.des_net.specs.Width.{AreApart, IsPiece, IsCutInto, Fits, NeedIsLeast, joined, meets, need, pieces_after}
+use Rattle.des_net.specs.Width.{AreApart, IsPiece, Fits, NeedIsLeast, joined, meets, need, pieces_after}
 
 -- the event touches none of the components
 abbrev IsClear : Net → (ℕ → Bool) → ℕ → Type 0

@@ -1,5 +1,5 @@
 -- A run is accepted exactly where it is well matched and explains, and has one answer at most.
-use Rattle.std.proofs.Common.{◌≡◌, ◌≢◌, ℕ, suc, ◌+◌, ◌<◌, ◌≤◌, Bool, true, false, cond, not, ◌&&◌, List, [], ◌∷◌, ◌++◌, length, Option, None, Some, refl, arith, ap, sym, ◌∙◌, subst, Contains, ◌⊎◌, inl, inr}
+use Rattle.std.proofs.Common.{◌≡◌, ◌≢◌, ℕ, ◌+◌, ◌<◌, ◌≤◌, Bool, true, false, cond, not, ◌&&◌, List, [], ◌∷◌, ◌++◌, length, Option, None, Some, refl, arith, ap, sym, ◌∙◌, subst, Contains, ◌⊎◌, inl, inr}
 use Rattle.std.specs.Prelude.{is_some, IfSome, IsSome, IsSomeAnd, nat_le, option_and_then}
 use Rattle.std.specs.List.{AllByRecursion, AllZip, cons_option}
 use Rattle.std.specs.Option.{option_map_or, option_to_list}
@@ -22,9 +22,9 @@ use Rattle.replay.specs.declared.replaying.Replayed.{Replayed}
 use Rattle.replay.specs.declared.replaying.Replayed.TheVariants.{Accepted, Stuck, BadAlarm, Missing, Order, TooWide}
 use Rattle.replay.specs.declared.tracing.Traced.TheVariants.{Ran, Stuck as Halted}
 use Rattle.replay.specs.Traced.{word_of, IsStuckAt}
-use Rattle.replay.specs.Explanation.{observables, Shows, Linearises, Explains}
-use Rattle.replay.specs.Matching.{alarm_of, order_of, IsMatched, IsWellMatched, has_label, suits, suits_label, suits_name, with_step, bad_alarm, bad_alarm_from, missing_alarm, wrong_pair}
-use Rattle.replay.specs.Replayed.{HasAlarms, IsReplayed, IsAccepted, RepliesAreUnique, AcceptedExplains}
+use Rattle.replay.specs.Explanation.{observables, Shows}
+use Rattle.replay.specs.Matching.{alarm_of, order_of, IsMatched, IsWellMatched, has_label, suits, suits_label, with_step, bad_alarm, bad_alarm_from, missing_alarm, wrong_pair}
+use Rattle.replay.specs.Replayed.{IsReplayed, IsAccepted, RepliesAreUnique, AcceptedExplains}
 use Rattle.replay.proofs.ListTests.{text_in, in_text, each_from, none_missing, kept_from, none_wrong, fresh_split, fresh_both, fresh_none}
 use Rattle.replay.proofs.TraceLemmas.{traces_are_unique}
 

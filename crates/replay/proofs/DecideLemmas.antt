@@ -1,5 +1,5 @@
 -- The test for explanations is right.
-use Rattle.std.proofs.Common.{◌≡◌, ℕ, Bool, true, false, ◌&&◌, List, [], ◌∷◌, length, Option, None, Some, refl, ap, subst, sym, Contains, nat_le}
+use Rattle.std.proofs.Common.{◌≡◌, ℕ, true, false, ◌&&◌, List, [], ◌∷◌, length, Option, None, Some, refl, ap, Contains, nat_le}
 use Rattle.std.specs.Prelude.{is_none, IsSomeAnd}
 use Rattle.std.specs.List.{AllZip}
 use Rattle.std.specs.Option.{option_map_or}

@@ -3,7 +3,7 @@ use Rattle.std.proofs.Common.{◌≡◌, ℕ, zero, suc, ◌+◌, ◌<◌, ◌�
 use Rattle.std.specs.Prelude.{◌==◌, All}
 use Rattle.std.specs.List.{list_any}
 use Rattle.std.proofs.lemmas.Bool.Decides.{nat_tests}
-use Rattle.std.proofs.lemmas.List.{drop_more, drop_all, length-replicate}
+use Rattle.std.proofs.lemmas.List.{drop_more, length-replicate}
 use Rattle.std.proofs.lemmas.List.Elements.{All-get_or, All-head}
 use Rattle.des_base.proofs.BoolLemmas.{or_left, itself}
 use Rattle.des_net.specs.declared.parts.Part.{Part}
@@ -116,15 +116,3 @@ Standing-step net word old new k piece i e parts h l at are is touched long =
       rest = step net e (drop (i + 1) word) old new k piece (meets net (present old k) e) refl now touches_are h.below
           ∙ ap (λ (w : List ℕ). k + pieces_after net (present old k) w) (sym (drop_more word i e l ∙ ap (λ n. n ∷ drop (i + 1) word) (sym at))) ∙ h.rest;
     }
-
--- ---- at the end
-
-pub Standing-end : (net : Net) (word last : List ℕ) (pieces i : ℕ) → Standing net word last pieces i → length word ≤ i → pieces ≡ need net word
-Standing-end net word last pieces i h l =
-    let none : pieces_after net (present last pieces) (drop i word) ≡ 0 = ap (pieces_after net (present last pieces)) (drop_all i word l) in
-    let rest = h.rest in omega arith
-
--- ---- the parts of an event
-
-pub last_known : (net : Net) (last : List ℕ) (parts : List Part) → length last ≡ length net.components → All (λ (p : Part). p.comp < length net.components) parts → All (λ (p : Part). p.comp < length last) parts
-last_known net last parts long known k d l = let here = known k d l in omega arith

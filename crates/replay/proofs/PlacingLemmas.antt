@@ -1,7 +1,7 @@
 -- The place of an alarm in an order, and what one more alarm at the order's end leaves of it.
 use Rattle.std.proofs.Common.{◌≡◌, ◌≢◌, ℕ, suc, ◌+◌, ◌<◌, Bool, true, false, cond, not, ◌||◌, List, [], ◌∷◌, ◌++◌, length, Option, None, Some, refl, arith, ap, sym, ◌∙◌, subst, get_or, get_or-set_same, get_or-set_other}
-use Rattle.std.specs.Prelude.{◌==◌, nat_lt, find, slice_set}
-use Rattle.des_base.proofs.BoolLemmas.{either, neither, or_left, same, itself, otherwise}
+use Rattle.std.specs.Prelude.{◌==◌, slice_set}
+use Rattle.des_base.proofs.BoolLemmas.{same, itself}
 use Rattle.log_order.specs.Log.{place_in}
 use Rattle.log_order.specs.Precedence.{is_in}
 use Rattle.replay.specs.Placed.{place_of_alarm}

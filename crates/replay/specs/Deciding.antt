@@ -1,5 +1,5 @@
 -- Whether a word and an order explain a log, as a test that computes.
-use Rattle.std.specs.Prelude.{◌≢◌, ℕ, ◌↔◌, Bool, true, false, ◌&&◌, not, List, [], ◌∷◌, length, nat_le, nat_lt, is_none, IsTrue}
+use Rattle.std.specs.Prelude.{ℕ, ◌↔◌, Bool, true, false, ◌&&◌, not, List, [], ◌∷◌, length, nat_le, nat_lt, is_none, IsTrue}
 use Rattle.std.specs.List.{list_all}
 use Rattle.std.specs.Option.{option_map_or}
 use Rattle.des_net.specs.Network.{Net, label_of}

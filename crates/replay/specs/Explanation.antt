@@ -1,5 +1,5 @@
 -- What explains an alarm log, and the least number of faults (Sampath et al., "Diagnosability of discrete-event systems", 1995; Grastien et al., "Diagnosis of discrete-event systems using satisfiability algorithms", 2007).
-use Rattle.std.specs.Prelude.{◌≡◌, ⊤, ℕ, ◌<◌, ◌≤◌, List, length, Contains, filter, is_some, IsSomeAnd}
+use Rattle.std.specs.Prelude.{◌≡◌, ℕ, ◌<◌, ◌≤◌, List, length, Contains, filter, is_some, IsSomeAnd}
 use Rattle.std.specs.List.{AllZip}
 use Rattle.des_net.specs.Network.{Net, label_of}
 use Rattle.des_net.specs.Run.{IsRun, fault_count}

@@ -1,5 +1,5 @@
 -- How the steps of a run are matched to the alarms of a log, by name.
-use Rattle.std.specs.Prelude.{◌≡◌, ℕ, ◌+◌, Bool, true, false, ◌&&◌, not, List, [], ◌∷◌, ◌++◌, length, filter_map, find, Option, None, Some, is_some, if◌then◌else◌, nat_lt, bytes_eq, option_and_then, IfSome, IsSome}
+use Rattle.std.specs.Prelude.{◌≡◌, ℕ, ◌+◌, Bool, true, false, ◌&&◌, not, List, [], ◌∷◌, ◌++◌, filter_map, find, Option, None, Some, is_some, if◌then◌else◌, nat_lt, bytes_eq, option_and_then, IfSome, IsSome}
 use Rattle.std.specs.List.{AllByRecursion, list_any}
 use Rattle.std.specs.Option.{option_map_or, option_to_list}
 use Rattle.des_base.specs.Names.{place_of}

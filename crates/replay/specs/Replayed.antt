@@ -1,5 +1,5 @@
 -- What replaying a run against a log tells: that it explains the log, or the first that is wrong with it.
-use Rattle.std.specs.Prelude.{◌≡◌, ⊤, ℕ, ◌<◌, ◌≤◌, ◌↔◌, List, length, Option, None, Some}
+use Rattle.std.specs.Prelude.{◌≡◌, ⊤, ℕ, ◌<◌, ◌≤◌, ◌↔◌, List, length, None, Some}
 use Rattle.des_net.specs.Network.{Net}
 use Rattle.des_net.specs.Run.{IsRun, fault_count}
 use Rattle.des_net.specs.Width.{need}

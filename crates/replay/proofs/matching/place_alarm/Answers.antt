@@ -1,5 +1,5 @@
 -- The alarm that is found is one of the log's.
-use Rattle.std.proofs.Common.{◌≡◌, ◌∙◌, ap, sym, subst, arith, ◌<◌, length}
+use Rattle.std.proofs.Common.{◌∙◌, sym, subst, ◌<◌}
 use Rattle.std.proofs.lemmas.List.{length-map}
 use Rattle.des_base.proofs.TableLemmas.{place_of-within}
 use Rattle.log_order.specs.Adding.{names_of}

@@ -1,12 +1,9 @@
 -- One more event begins a piece or goes into the present one.
-use Rattle.std.proofs.Common.{◌≡◌, ◌∙◌, ap, sym, subst, arith, rules, replicate, length, List, ◌<◌}
-use Rattle.std.specs.Prelude.{All}
-use Rattle.des_net.specs.declared.parts.Part.{Part}
+use Rattle.std.proofs.Common.{◌≡◌, ◌∙◌, ap, arith, rules, replicate}
 use Rattle.des_net.specs.Network.{Event, parts_of}
 use Rattle.replay.specs.Traced.{word_of}
-use Rattle.replay.proofs.SetLemmas.{event_parts}
 use Rattle.replay.proofs.RunLemmas.{event_known, event_at_step, length-word_of}
-use Rattle.replay.proofs.PieceLemmas.{Standing-start, Standing-step, Standing-end, last_known}
+use Rattle.replay.proofs.PieceLemmas.{Standing-start, Standing-step}
 use Rattle.replay.proofs.width.need.Goals as goal
 
 pub loop-step-init : goal.loop-step-init

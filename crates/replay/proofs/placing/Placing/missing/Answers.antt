@@ -1,5 +1,5 @@
 -- the first alarm without a place
-use Rattle.std.proofs.Common.{◌≡◌, ◌∙◌, ap, sym, subst, arith, rules, not, true, ◌<◌, length}
+use Rattle.std.proofs.Common.{◌≡◌, ◌∙◌, ap, sym, subst, not, true, ◌<◌}
 use Rattle.log_order.specs.Precedence.{is_in}
 use Rattle.log_order.proofs.LeastOrder.{first_below-found}
 use Rattle.replay.specs.Placed.{Placed}

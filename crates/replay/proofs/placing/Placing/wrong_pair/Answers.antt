@@ -1,6 +1,5 @@
 -- The pair is the right way round, so the wrong one comes later.
-use Rattle.std.proofs.Common.{◌≡◌, ◌<◌, ◌∙◌, ap, sym, subst, arith, drop, get_or, cond, not, ◌+◌, ◌∷◌, List, ℕ, Some}
-use Rattle.std.specs.Prelude.{nat_lt}
+use Rattle.std.proofs.Common.{◌<◌, ◌∙◌, ap, sym, subst, drop, get_or, cond, not, ◌+◌, List, ℕ, Some}
 use Rattle.des_base.proofs.BoolLemmas.{is_less}
 use Rattle.std.proofs.lemmas.List.{drop_more}
 use Rattle.log_order.specs.Log.{place_in}
