@@ -5,3 +5,7 @@ pub mod RowLemmas
 pub mod ScriptLemmas
 pub mod GrowthLemmas
 pub mod LogLemmas
+pub mod PrintLemmas
+pub mod TextLemmas
+pub mod ReadBackLemmas
+pub mod Vectors

@@ -35,7 +35,7 @@ labels_refused : (id : List ℕ) (labels : List (List ℕ)) → list_all is_name
 unfolding row_code
 labels_refused id labels h = not_second (is_name_text id) (list_all is_name_text labels) h
 
-alarm_accepted : (id : List ℕ) (labels : List (List ℕ)) → is_name_text id ≡ true → list_all is_name_text labels ≡ true → row_code (alarm id labels) ≡ None
+pub alarm_accepted : (id : List ℕ) (labels : List (List ℕ)) → is_name_text id ≡ true → list_all is_name_text labels ≡ true → row_code (alarm id labels) ≡ None
 unfolding row_code
 alarm_accepted id labels h k = both_are (is_name_text id) (list_all is_name_text labels) h k
 
@@ -47,7 +47,7 @@ second_refused : (first second : List ℕ) → is_name_text second ≡ false →
 unfolding row_code
 second_refused first second h = not_second (is_name_text first) (is_name_text second && true) (ap (λ b. b && true) h)
 
-before_accepted : (first second : List ℕ) → is_name_text first ≡ true → is_name_text second ≡ true → row_code (before first second) ≡ None
+pub before_accepted : (first second : List ℕ) → is_name_text first ≡ true → is_name_text second ≡ true → row_code (before first second) ≡ None
 unfolding row_code
 before_accepted first second h k = both_are (is_name_text first) (is_name_text second && true) h (ap (λ b. b && true) k)
 

@@ -3,16 +3,22 @@ use Rattle.std.specs.Prelude.{ℕ, List, [], ◌∷◌, ◌++◌, codes, option_
 use Rattle.std.specs.List.{flat_map, join_with_byte}
 use Rattle.log_order.specs.Log.{Alarm, Log}
 
+abbrev pub alarm_with : List ℕ → List (List ℕ) → Alarm
+alarm_with id labels = record { name = id; labels = labels }
+
 -- an alarm: its id, and its labels with bars between them
-abbrev pub alarm_line : Alarm → List ℕ
-alarm_line alarm = codes "alarm," ++ (alarm.name ++ (codes "," ++ (join_with_byte 124 alarm.labels ++ codes "\n")))
+unfoldable pub alarm_line : Alarm → List ℕ
+alarm_line alarm = codes "alarm," ++ alarm.name ++ codes "," ++ join_with_byte 124 alarm.labels ++ codes "\n"
+
+unfoldable pub line_of_ids : List ℕ → List ℕ → List ℕ
+line_of_ids first second = codes "before," ++ first ++ codes "," ++ second ++ codes "\n"
 
 abbrev pub id_of : List Alarm → ℕ → List ℕ
 id_of alarms i = unwrap_or (option_map (λ alarm. alarm.name) (slice_get alarms i)) []
 
 -- a pair: the ids of its alarms
 abbrev pub pair_line : List Alarm → ℕ × ℕ → List ℕ
-pair_line alarms pair = codes "before," ++ (id_of alarms pair.0 ++ (codes "," ++ (id_of alarms pair.1 ++ codes "\n")))
+pair_line alarms pair = line_of_ids (id_of alarms pair.0) (id_of alarms pair.1)
 
 -- all alarms, and then all pairs
 abbrev pub log_text : Log → List ℕ

@@ -109,11 +109,11 @@ AreOrdered-cycle m pairs i j r h = cycle_case m pairs i j (has_pair pairs i j) r
 
 -- ---- pairs that stand once
 
-turned : (x y : ℕ) (b : Bool) → (x == y) ≡ b → (y == x) ≡ b
+pub turned : (x y : ℕ) (b : Bool) → (x == y) ≡ b → (y == x) ≡ b
 turned x y true h = ap (λ z. y == z) (same x y h) ∙ itself y
 turned x y false h = otherwise (y == x) (λ e. let k : (x == y) ≡ true = ap (λ z. x == z) (same y x e) ∙ itself x in cc)
 
-not_both : (a b c d : Bool) → a ≡ c → b ≡ d → (a && b) ≡ false → (c && d) ≡ false
+pub not_both : (a b c d : Bool) → a ≡ c → b ≡ d → (a && b) ≡ false → (c && d) ≡ false
 not_both a b c d e f h = cc
 
 pub StandOnce-push : (pairs : List (ℕ × ℕ)) (i j : ℕ) → StandOnce pairs → has_pair pairs i j ≡ false → StandOnce (pairs ++ (i, j) ∷ [])
