@@ -3,7 +3,7 @@ use Rattle.std.proofs.Common.{◌≡◌, ◌+◌, ◌-◌, ◌<◌, ◌≤◌, �
 use Rattle.std.specs.Prelude.{◌==◌, ◌&&◌}
 use Rattle.std.specs.Borrow.{Bor}
 use Rattle.csv.specs.Machine.{Read, ends_at_end, field_after, fields_after, is_end, next_record, step}
-use Rattle.csv.specs.Reading.{NextIs, ReadRecord, ReadsNext, default_config, has_failed, pending_of, reader_config, reader_state, reader_trim, records, records_from, records_next, source_of, strip_bom, took_first}
+use Rattle.csv.specs.Reading.{NextIs, ReadRecord, ReadsNext, default_config, has_failed, is_flexible, pending_of, reader_config, reader_state, reader_trim, records, records_from, records_next, source_of, strip_bom, took_first}
 use Rattle.csv.specs.declared.parser.Action.{Action}
 use Rattle.csv.specs.declared.parser.Action.TheVariants as act
 use Rattle.csv.specs.declared.parser.Config.{Config}
@@ -186,11 +186,11 @@ some_left s t xs (Some ys) found fields h = (ys, refl, next_is s t xs ys _ found
 left_is : (rdr : Reader (Bor (List ℕ))) (text : List ℕ) → text_left rdr ≡ Some text → records_left rdr ≡ records_in (reader_state rdr) text
 left_is rdr text e = rw e refl
 
-pub IsRead-from : (old new : Reader (Bor (List ℕ))) (found : Bool) (fields : List (List ℕ)) → IsPlain old → ReadRecord (λ (s : Bor (List ℕ)). Some s.now) old new found fields → took_first new ≡ true → IsRead old new found fields
-IsRead-from old new found fields h r first =
+pub IsRead-from : (old new : Reader (Bor (List ℕ))) (found : Bool) (fields : List (List ℕ)) → IsPlain old → ReadRecord (λ (s : Bor (List ℕ)). Some s.now) old new found fields → took_first new ≡ true → is_flexible new ≡ is_flexible old → IsRead old new found fields
+IsRead-from old new found fields h r first flexible =
     let left = some_left old.state new.state h.text (pending_of (Some new.rdr.now) new) found fields (rw (h.config, h.known) at r.0) in
     let known : text_left new ≡ Some left.0 = rw r.1 left.1 in
     record {
-      plain = record { trim = r.3 ∙ h.trim; ready = inl first; config = r.2 ∙ h.config; text = left.0; known = known };
+      plain = record { trim = r.3 ∙ h.trim; ready = inl first; config = r.2 ∙ h.config; flexible = flexible ∙ h.flexible; text = left.0; known = known };
       next = rw (left_is old h.text h.known, left_is new left.0 known) left.2;
     }

@@ -2,7 +2,7 @@
 use Rattle.std.specs.Prelude.{◌≡◌, ◌+◌, ℕ, Bool, true, false, List, [], ◌∷◌, length, Option, Some}
 use Rattle.std.specs.Borrow.{Bor}
 use Rattle.std.specs.Option.{option_map_or}
-use Rattle.csv.specs.Reading.{default_config, reader_config, reader_state, reader_trim, Ready, records_from, source_of}
+use Rattle.csv.specs.Reading.{default_config, is_flexible, reader_config, reader_state, reader_trim, Ready, records_from, source_of}
 use Rattle.csv.specs.declared.parser.State.{State}
 use Rattle.csv.specs.declared.reader.Reader.{Reader}
 use Rattle.csv.specs.declared.reader.Trim.TheVariants as trim
@@ -23,6 +23,7 @@ pub record IsPlain (rdr : Reader (Bor (List ℕ))) : Type 0 where
   pub trim : reader_trim rdr ≡ trim.None
   pub ready : Ready rdr
   pub config : reader_config rdr ≡ default_config
+  pub flexible : is_flexible rdr ≡ true
   pub text : List ℕ
   pub known : text_left rdr ≡ Some text
 

@@ -70,7 +70,7 @@ fn add_alarm(log: &mut AlarmLog, row: u32, id: Name, labels: &[Name]) -> Result<
     ensures { (earlier : List Record) → IsLogOf earlier log.old → row_code (alarm id labels.now) ≡ None → Adds earlier (alarm id labels.now) row log.new result }
 {
     match log.add_alarm(id, labels) {
-        Ok(_) => Ok(()),
+        Ok(_number) => Ok(()),
         Err(refusal) => Err(refusal_at(row, refusal)),
     }
 }
@@ -85,7 +85,7 @@ fn add_pair(log: &mut AlarmLog, row: u32, first: &Name, second: &Name) -> Result
         return Err(refusal_at(row, LogRefusal::Unknown));
     };
     match log.add_before(first, second) {
-        Ok(_) => Ok(()),
+        Ok(_fresh) => Ok(()),
         Err(refusal) => Err(refusal_at(row, refusal)),
     }
 }
