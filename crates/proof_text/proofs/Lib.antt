@@ -6,3 +6,4 @@ pub mod LineLemmas
 pub mod SurveyLemmas
 pub mod CodeLemmas
 pub mod WellLines
+pub mod PrintLemmas

@@ -4,3 +4,4 @@ pub mod CnfText
 pub mod LratText
 pub mod ClauseReading
 pub mod LineReading
+pub mod PrintedText

@@ -15,10 +15,12 @@ mod line_faults;
 mod lrat_line;
 mod lrat_text;
 mod number;
+mod print;
 mod proof;
 
 pub use cnf::Cnf;
 pub use cnf_text::read_cnf;
 pub use fault::{TextFault, TextRefusal};
 pub use lrat_text::read_lrat;
+pub use print::{print_cnf, print_lrat};
 pub use proof::Proof;

@@ -1,0 +1,58 @@
+-- Text that is appended.
+use Rattle.std.proofs.Common.{◌≡◌, ◌<◌, ◌≤◌, ◌+◌, ◌-◌, ◌/◌, ◌%◌, ◌^◌, ℕ, zero, suc, Bool, true, false, cond, Option, None, List, [], ◌∷◌, ◌++◌, length, get_or, take, Some, refl, arith, ap, sym, ◌∙◌, append_assoc, append-nil}
+use Rattle.std.proofs.lemmas.Fmt.{decimal_step}
+use Rattle.std.proofs.lemmas.List.{flat_map_more, take_more}
+use Rattle.std.proofs.lemmas.Option.{slice_get_within}
+use Rattle.std.proofs.lemmas.Bool.Decides.{nat_tests}
+use Rattle.prop_core.specs.Clauses.{Clause}
+use Rattle.prop_core.specs.Derivation.{clause_numbered}
+use Rattle.std.specs.Prelude.{flat_map, slice_get, ◌==◌}
+use Rattle.std.specs.Fmt.{decimal}
+use Rattle.proof_text.specs.PrintedText.{Extends}
+
+pub nothing_more : (old : List ℕ) → Extends old old
+nothing_more old = record { more = []; is = sym (append-nil old) }
+
+pub extends_all : (old more new : List ℕ) → new ≡ old ++ more → Extends old new
+extends_all old more new h = record { more = more; is = h }
+
+pub extends_further : (old middle new : List ℕ) → Extends old middle → Extends middle new → Extends old new
+extends_further old middle new h k = record { more = h.more ++ k.more; is = k.is ∙ ap (λ l. l ++ k.more) h.is ∙ append_assoc old h.more k.more }
+
+-- the last digit stands behind the digits of the tenth
+pub digit_behind : (old out new : List ℕ) (n : ℕ) → 10 ≤ n → n < 2 ^ 64 → out ≡ old ++ decimal (n / 10) → new ≡ out ++ (48 + n % 10) ∷ [] → new ≡ old ++ decimal n
+digit_behind old out new n large small o h =
+    h ∙ ap (λ l. l ++ (48 + n % 10) ∷ []) o ∙ append_assoc old (decimal (n / 10)) ((48 + n % 10) ∷ []) ∙ ap (λ l. old ++ l) (sym (decimal_step n large small))
+
+pub pieces_4 : (old o1 o2 o3 new a b c d : List ℕ) → o1 ≡ old ++ a → o2 ≡ o1 ++ b → o3 ≡ o2 ++ c → new ≡ o3 ++ d → new ≡ old ++ (((a ++ b) ++ c) ++ d)
+pieces_4 old o1 o2 o3 new a b c d h1 h2 h3 h4 =
+    h4
+    ∙ ap (λ l. l ++ d) (h3 ∙ ap (λ l. l ++ c) (h2 ∙ ap (λ l. l ++ b) h1))
+    ∙ simp append_assoc
+
+-- one more element is printed
+pub one_more : {X : Type 0} (f : X → List ℕ) (xs : List X) (k : ℕ) (x : X) (old out new : List ℕ) → k < length xs → x ≡ get_or xs k x → out ≡ old ++ flat_map f (take k xs) → new ≡ out ++ f x
+    → new ≡ old ++ flat_map f (take (k + 1) xs)
+one_more f xs k x old out new within is o h =
+    h ∙ ap (λ l. l ++ f x) o ∙ flat_map_more f old (take k xs) x ∙ ap (λ l. old ++ flat_map f l) (ap (λ y. take k xs ++ y ∷ []) is ∙ sym (take_more xs k x within))
+
+slice_item : {X : Type 0} (xs : List X) (k : ℕ) (x : X) → slice_get xs k ≡ Some x → x ≡ get_or xs k x
+slice_item [] k x h = cc
+slice_item (y ∷ xs) zero x h = cc
+slice_item (y ∷ xs) (suc k) x h = slice_item xs k x h
+
+-- the same behind a head
+pub one_more_behind : {X : Type 0} (f : X → List ℕ) (xs : List X) (k : ℕ) (x : X) (old head out new : List ℕ) → slice_get xs k ≡ Some x → out ≡ old ++ (head ++ flat_map f (take k xs)) → new ≡ out ++ f x
+    → new ≡ old ++ (head ++ flat_map f (take (k + 1) xs))
+one_more_behind f xs k x old head out new is o h =
+    one_more f xs k x (old ++ head) out new (slice_get_within xs k x is) (slice_item xs k x is) (o ∙ sym (append_assoc old head (flat_map f (take k xs)))) h
+    ∙ append_assoc old head (flat_map f (take (k + 1) xs))
+
+numbered_step : (b : Bool) (o : Option Clause) (clause : Clause) → b ≡ false → cond b None o ≡ Some clause → o ≡ Some clause
+numbered_step true o clause h is = cc
+numbered_step false o clause h is = is
+
+pub numbered_at : (clauses : List Clause) (k : ℕ) (clause : Clause) → clause_numbered clauses (k + 1) ≡ Some clause → slice_get clauses k ≡ Some clause
+numbered_at clauses k clause h =
+    let before : k ≡ k + 1 - 1 = omega arith in
+    ap (slice_get clauses) before ∙ numbered_step (k + 1 == 0) (slice_get clauses (k + 1 - 1)) clause (grind (arith, nat_tests)) h
