@@ -12,7 +12,7 @@ use Rattle.proof_text.specs.SignedNumbers.{is_number, is_zero, size_of, literal_
 use Rattle.proof_text.specs.TextFaults.{fault_or, not_a_number, unknown_variable, other_count}
 use Rattle.proof_text.specs.CnfText.{LinedToken, most, header_of, limit_code, tokens_in, token_code, left_after, fault_of_tokens, fault_of_lines, fault_of_body, first_cnf_fault, clauses_of}
 
-within_limits : (header : Header) → header.vars ≤ most → header.clauses ≤ most → limit_code header ≡ None
+pub within_limits : (header : Header) → header.vars ≤ most → header.clauses ≤ most → limit_code header ≡ None
 within_limits header vars clauses = grind (arith, nat_tests)
 
 -- where the header is well the text's first fault is that of its tokens

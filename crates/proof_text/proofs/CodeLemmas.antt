@@ -32,7 +32,7 @@ plain_is_up_to : (o : Option ℕ) → up_to greatest o ≡ id_of (option_map pla
 plain_is_up_to None = refl
 plain_is_up_to (Some n) = ap (λ b. cond b (Some n) None) (at_most n)
 
-minus_spells_none : (cs : List ℕ) → number_of (45 ∷ cs) ≡ None
+pub minus_spells_none : (cs : List ℕ) → number_of (45 ∷ cs) ≡ None
 minus_spells_none [] = refl
 minus_spells_none (c ∷ cs) = refl
 

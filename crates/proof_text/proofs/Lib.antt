@@ -7,3 +7,7 @@ pub mod SurveyLemmas
 pub mod CodeLemmas
 pub mod WellLines
 pub mod PrintLemmas
+pub mod WordLemmas
+pub mod NumeralLemmas
+pub mod CnfPrinted
+pub mod LratPrinted

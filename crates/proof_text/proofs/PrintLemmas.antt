@@ -1,12 +1,12 @@
 -- Text that is appended.
-use Rattle.std.proofs.Common.{◌≡◌, ◌<◌, ◌≤◌, ◌+◌, ◌-◌, ◌/◌, ◌%◌, ◌^◌, ℕ, zero, suc, Bool, true, false, cond, Option, None, List, [], ◌∷◌, ◌++◌, length, get_or, take, Some, refl, arith, ap, sym, ◌∙◌, append_assoc, append-nil}
+use Rattle.std.proofs.Common.{◌≡◌, ◌<◌, ◌≤◌, ◌+◌, ◌-◌, ◌/◌, ◌%◌, ◌^◌, ℕ, zero, suc, Result, Ok, Err, drop, Bool, true, false, cond, Option, None, List, [], ◌∷◌, ◌++◌, length, get_or, take, Some, refl, arith, ap, sym, ◌∙◌, append_assoc, append-nil}
 use Rattle.std.proofs.lemmas.Fmt.{decimal_step}
 use Rattle.std.proofs.lemmas.List.{flat_map_more, take_more}
 use Rattle.std.proofs.lemmas.Option.{slice_get_within}
 use Rattle.std.proofs.lemmas.Bool.Decides.{nat_tests}
 use Rattle.prop_core.specs.Clauses.{Clause}
 use Rattle.prop_core.specs.Derivation.{clause_numbered}
-use Rattle.std.specs.Prelude.{flat_map, slice_get, ◌==◌}
+use Rattle.std.specs.Prelude.{flat_map, slice_get, ◌==◌, OnOk}
 use Rattle.std.specs.Fmt.{decimal}
 use Rattle.proof_text.specs.PrintedText.{Extends}
 
@@ -56,3 +56,15 @@ pub numbered_at : (clauses : List Clause) (k : ℕ) (clause : Clause) → clause
 numbered_at clauses k clause h =
     let before : k ≡ k + 1 - 1 = omega arith in
     ap (slice_get clauses) before ∙ numbered_step (k + 1 == 0) (slice_get clauses (k + 1 - 1)) clause (grind (arith, nat_tests)) h
+
+behind_all : (old text : List ℕ) → drop (length old) (old ++ text) ≡ text
+behind_all [] text = refl
+behind_all (x ∷ old) text = behind_all old text
+
+-- what was appended
+pub appended : (old text new : List ℕ) → new ≡ old ++ text → text ≡ drop (length old) new
+appended old text new h = sym (ap (drop (length old)) h ∙ behind_all old text)
+
+pub both_ok : {T E P Q R : Type 0} (r : Result T E) → OnOk r P → OnOk r Q → (P → Q → R) → OnOk r R
+both_ok (Ok x) p q f = f p q
+both_ok (Err e) p q f = tt

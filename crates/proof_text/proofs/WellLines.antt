@@ -1,7 +1,8 @@
 -- A line of a proof is read just where it has no code, and then its step is what the line says.
 use Rattle.std.proofs.Common.{◌≡◌, ◌<◌, ℕ, Bool, true, false, List, [], ◌∷◌, map, Option, None, Some, cond, refl, arith, rules, ap, sym, ◌∙◌}
 use Rattle.std.proofs.lemmas.Bool.Decides.{nat_tests}
-use Rattle.std.specs.Prelude.{◌&&◌, ◌==◌, not, nat_lt, option_map, option_and_then, IsSome}
+use Rattle.std.proofs.lemmas.List.Elements.{All-nil, All-cons}
+use Rattle.std.specs.Prelude.{◌&&◌, ◌==◌, not, nat_lt, option_map, option_and_then, IsSome, All, ⊤}
 use Rattle.std.specs.List.{list_all, list_any}
 use Rattle.des_base.proofs.BoolLemmas.{both, join, neither, not_false, not_true, not_is_false, less_is}
 use Rattle.des_base.specs.CountedLines.{NumberedLine, tokens_of}
@@ -9,8 +10,9 @@ use Rattle.prop_core.specs.declared.lit.Lit.{Lit}
 use Rattle.proof_ledger.specs.declared.checker.ProofStep.{ProofStep}
 use Rattle.proof_ledger.specs.declared.checker.ProofStep.TheVariants.{Delete}
 use Rattle.proof_text.specs.SignedNumbers.{is_number, size_of, is_negative, is_zero, literal_of}
-use Rattle.proof_text.specs.LratText.{cut_at_zero, is_too_large, is_unsigned, is_positive, some_rest, line_code, lrat_line, addition_line, deletion_of, is_deletion_mark, step_of, last_after, lrat_fault_of, steps_of, NumbersAscend}
+use Rattle.proof_text.specs.LratText.{cut_at_zero, is_too_large, is_unsigned, is_positive, some_rest, line_code, lrat_line, addition_line, deletion_of, is_deletion_mark, step_of, last_after, lrat_fault_of, steps_of, cut, with_token}
 use Rattle.proof_text.specs.LineReading.{is_id, is_known, only, ids_only, with_hints, literals_and_hints, add_step, addition_read, deletion_read, step_read, line_read}
+use Rattle.proof_text.specs.ProofNumbers.{HasNoZero, NumbersAscend}
 use Rattle.proof_text.proofs.CnfLemmas.{fault_or-none}
 use Rattle.proof_text.proofs.CodeLemmas.{id_is_read, either_false, not_of_true, IsIdToken, id_token, id_passes, ids_pass, AreIds, are_ids, known_pass, are_known, nothing_numbers, first_ended, none_of, no_code}
 
@@ -33,16 +35,16 @@ only_step true x = refl
 only_step false x = refl
 
 -- the tokens are numbers of clauses up to a 0, and no more
-abbrev hints_well : List (List ℕ) → Bool
+abbrev pub hints_well : List (List ℕ) → Bool
 hints_well tokens = ((cut_at_zero tokens).ended && list_all is_id (cut_at_zero tokens).front) && not (some_rest (cut_at_zero tokens).behind)
 
-abbrev literals_well : ℕ → List (List ℕ) → Bool
+abbrev pub literals_well : ℕ → List (List ℕ) → Bool
 literals_well vars tokens = ((cut_at_zero tokens).ended && list_all (is_known vars) (cut_at_zero tokens).front) && hints_well (cut_at_zero tokens).behind
 
-abbrev addition_well : ℕ → ℕ → List ℕ → List (List ℕ) → Bool
+abbrev pub addition_well : ℕ → ℕ → List ℕ → List (List ℕ) → Bool
 addition_well vars last id tokens = is_id id && (nat_lt last (size_of id) && literals_well vars tokens)
 
-abbrev deletion_well : List ℕ → List (List ℕ) → Bool
+abbrev pub deletion_well : List ℕ → List (List ℕ) → Bool
 deletion_well id tokens = is_id id && hints_well tokens
 
 ids_only_is : (tokens : List (List ℕ)) → ids_only tokens ≡ cond (hints_well tokens) (Some (map size_of (cut_at_zero tokens).front)) None
@@ -136,7 +138,7 @@ addition_without_code vars last id tokens h =
     (join c.ended (list_all (is_known vars) c.front) (first_ended c.ended tokens refl ended) (known_pass vars c.front (not_is_false (list_all is_number c.front) strange-3.1) none.not_unknown))
     (hints_pass c.behind ended (ids_pass d.front large.1 (not_is_false (list_all is_number d.front) strange-2.1) none.not_negative) unended.1)))
 
-addition_has_no_code : (vars last : ℕ) (id : List ℕ) (tokens : List (List ℕ)) → addition_well vars last id tokens ≡ true → line_code vars last (addition_line id tokens) ≡ None
+pub addition_has_no_code : (vars last : ℕ) (id : List ℕ) (tokens : List (List ℕ)) → addition_well vars last id tokens ≡ true → line_code vars last (addition_line id tokens) ≡ None
 addition_has_no_code vars last id tokens h =
     let c = cut_at_zero tokens in
     let d = cut_at_zero c.behind in
@@ -173,7 +175,7 @@ deletion_without_code vars last id tokens h =
     (id_passes id sign.0 (not_true (is_negative id) sign.1) large.0)
     (hints_pass tokens (not_is_false c.ended unended.0) (ids_pass c.front large.1 (not_is_false (list_all is_number c.front) strange-3.1) strange-2.1) unended.1)
 
-deletion_has_no_code : (vars last : ℕ) (id : List ℕ) (tokens : List (List ℕ)) → deletion_well id tokens ≡ true → line_code vars last (deletion_of id (cut_at_zero tokens)) ≡ None
+pub deletion_has_no_code : (vars last : ℕ) (id : List ℕ) (tokens : List (List ℕ)) → deletion_well id tokens ≡ true → line_code vars last (deletion_of id (cut_at_zero tokens)) ≡ None
 deletion_has_no_code vars last id tokens h =
     let c = cut_at_zero tokens in
     let parts = both (is_id id) (hints_well tokens) h in
@@ -263,3 +265,55 @@ numbers_ascend vars last (line ∷ lines) h =
     let step = step_of line.number (lrat_line texts) in
     let parts = fault_or-none line.number (line_code vars last (lrat_line texts)) (lrat_fault_of vars (last_after last step) lines) h in
     ascends_with vars last line.number texts (line_without_code vars last texts parts.0) (steps_of lines) (numbers_ascend vars (last_after last step) lines parts.1)
+
+-- no number of a proof without a fault is 0
+abbrev NoZeros : List (List ℕ) → Type 0
+NoZeros [] = ⊤
+NoZeros (token ∷ tokens) = (is_zero token ≡ false) × NoZeros tokens
+
+front_step : (b : Bool) (token : List ℕ) (tokens : List (List ℕ)) → is_zero token ≡ b → NoZeros (cut_at_zero tokens).front → NoZeros (cond b (cut [] true tokens) (with_token token (cut_at_zero tokens))).front
+front_step true token tokens e h = tt
+front_step false token tokens e h = (e, h)
+
+front_no_zeros : (tokens : List (List ℕ)) → NoZeros (cut_at_zero tokens).front
+front_no_zeros [] = tt
+front_no_zeros (token ∷ tokens) = front_step (is_zero token) token tokens refl (front_no_zeros tokens)
+
+size_above : (number : Bool) (size : ℕ) → number ≡ true → (number && size == 0) ≡ false → 0 < size
+size_above true size h k = grind (arith, nat_tests)
+size_above false size h k = cc
+
+sizes_above : (tokens : List (List ℕ)) → NoZeros tokens → list_all is_number tokens ≡ true → All (λ n. 0 < n) (map size_of tokens)
+sizes_above [] h k = All-nil (λ n. 0 < n)
+sizes_above (token ∷ tokens) h k =
+    let parts = both (is_number token) (list_all is_number tokens) k in
+    All-cons (λ n. 0 < n) (size_of token) (map size_of tokens) (size_above (is_number token) (size_of token) parts.0 h.0) (sizes_above tokens h.1 parts.1)
+
+ids_above : (tokens : List (List ℕ)) → hints_well tokens ≡ true → All (λ n. 0 < n) (map size_of (cut_at_zero tokens).front)
+ids_above tokens h = sizes_above (cut_at_zero tokens).front (front_no_zeros tokens) (hints_are_well tokens h).ids.number
+
+addition_no_zero : (vars last n : ℕ) (id : List ℕ) (tokens : List (List ℕ)) → addition_well vars last id tokens ≡ true → HasNoZero (step_of n (addition_line id tokens))
+addition_no_zero vars last n id tokens h =
+    let c = cut_at_zero tokens in
+    let parts = both (is_id id) (nat_lt last (size_of id) && literals_well vars tokens) h in
+    let literals = (both (nat_lt last (size_of id)) (literals_well vars tokens) parts.1).1 in
+    let above : last < size_of id = above_last vars last id tokens h in
+    (omega arith, ids_above c.behind (both (c.ended && list_all (is_known vars) c.front) (hints_well c.behind) literals).1)
+
+branch_no_zero : (b : Bool) (vars last n : ℕ) (id token : List ℕ) (tokens : List (List ℕ)) → cond b (deletion_well id tokens) (addition_well vars last id (token ∷ tokens)) ≡ true
+    → HasNoZero (step_of n (cond b (deletion_of id (cut_at_zero tokens)) (addition_line id (token ∷ tokens))))
+branch_no_zero true vars last n id token tokens h = ids_above tokens (both (is_id id) (hints_well tokens) h).1
+branch_no_zero false vars last n id token tokens h = addition_no_zero vars last n id (token ∷ tokens) h
+
+line_no_zero : (vars last n : ℕ) (texts : List (List ℕ)) → line_well vars last texts ≡ true → HasNoZero (step_of n (lrat_line texts))
+line_no_zero vars last n [] h = cc
+line_no_zero vars last n (id ∷ []) h = addition_no_zero vars last n id [] h
+line_no_zero vars last n (id ∷ token ∷ tokens) h = branch_no_zero (is_deletion_mark token) vars last n id token tokens h
+
+pub no_zeros : (vars last : ℕ) (lines : List NumberedLine) → lrat_fault_of vars last lines ≡ None → All HasNoZero (steps_of lines)
+no_zeros vars last [] h = All-nil HasNoZero
+no_zeros vars last (line ∷ lines) h =
+    let texts = tokens_of line.text in
+    let step = step_of line.number (lrat_line texts) in
+    let parts = fault_or-none line.number (line_code vars last (lrat_line texts)) (lrat_fault_of vars (last_after last step) lines) h in
+    All-cons HasNoZero step (steps_of lines) (line_no_zero vars last line.number texts (line_without_code vars last texts parts.0)) (no_zeros vars (last_after last step) lines parts.1)

@@ -1,5 +1,5 @@
 -- LRAT: each counted line is a step. `ID LITERALS 0 HINTS 0` adds a clause, and `ID d IDS 0` deletes clauses.
-use Rattle.std.specs.Prelude.{⊤, ℕ, ◌<◌, Bool, true, false, not, ◌&&◌, ◌||◌, nat_lt, List, [], ◌∷◌, map, codes, bytes_eq, Option, None, Some, if◌then◌else◌}
+use Rattle.std.specs.Prelude.{ℕ, Bool, true, false, not, ◌&&◌, ◌||◌, nat_lt, List, [], ◌∷◌, map, codes, bytes_eq, Option, None, Some, if◌then◌else◌}
 use Rattle.std.specs.List.{list_any, list_all}
 use Rattle.des_base.specs.CountedLines.{NumberedLine, counted_lines, tokens_of}
 use Rattle.proof_ledger.specs.declared.checker.ProofStep.{ProofStep}
@@ -118,9 +118,3 @@ steps_of lines = map (λ line. step_of line.number (lrat_line (tokens_of line.te
 -- the steps of a text without a fault
 abbrev pub proof_of : List ℕ → List ProofStep
 proof_of bytes = steps_of (counted_lines 99 bytes)
-
--- The numbers of the additions ascend, and the first is greater than this one.
-abbrev pub NumbersAscend : ℕ → List ProofStep → Type 0
-NumbersAscend last [] = ⊤
-NumbersAscend last (Add line id clause hints ∷ steps) = (last < id) × NumbersAscend id steps
-NumbersAscend last (Delete ids ∷ steps) = NumbersAscend last steps

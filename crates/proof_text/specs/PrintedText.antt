@@ -1,10 +1,11 @@
 -- Formulas and proofs as they are printed: a clause or a step on each line, and single spaces.
-use Rattle.std.specs.Prelude.{◌≡◌, ℕ, ◌+◌, ◌<◌, ◌^◌, All, List, [], ◌∷◌, ◌++◌, flat_map, length, codes, decimal, if◌then◌else◌}
+use Rattle.std.specs.Prelude.{◌≡◌, ⊤, ℕ, ◌+◌, ◌<◌, ◌≤◌, ◌^◌, All, map, List, [], ◌∷◌, ◌++◌, flat_map, length, codes, decimal, None, if◌then◌else◌}
 use Rattle.prop_core.specs.declared.lit.Lit.{Lit}
-use Rattle.prop_core.specs.Clauses.{Clause}
+use Rattle.prop_core.specs.Clauses.{Clause, HasValues}
 use Rattle.proof_ledger.specs.declared.checker.ProofStep.{ProofStep}
 use Rattle.proof_ledger.specs.declared.checker.ProofStep.TheVariants.{Add, Delete}
-use Rattle.proof_text.specs.CnfText.{Formula}
+use Rattle.proof_text.specs.CnfText.{Formula, most, first_cnf_fault, formula_of}
+use Rattle.proof_text.specs.LratText.{first_lrat_fault, proof_of}
 
 -- Variable 0 is printed as 1.
 abbrev pub literal_word : Lit → List ℕ
@@ -48,7 +49,34 @@ abbrev pub NumbersFit : ProofStep → Type 0
 NumbersFit (Add line id clause hints) = (id < 2 ^ 64) × All (λ n. n < 2 ^ 64) hints
 NumbersFit (Delete ids) = All (λ n. n < 2 ^ 64) ids
 
--- No number of a clause is 0.
-abbrev pub HasNoZero : ProofStep → Type 0
-HasNoZero (Add line id clause hints) = (0 < id) × All (λ n. 0 < n) hints
-HasNoZero (Delete ids) = All (λ n. 0 < n) ids
+-- The text is one of this formula.
+pub record IsFormulaText (f : Formula) (text : List ℕ) : Type 0 where
+  pub well : first_cnf_fault text ≡ None
+  pub value : formula_of text ≡ f
+
+abbrev pub KeepsLimits : Formula → Type 0
+KeepsLimits f = (f.vars ≤ most) × (length f.clauses ≤ most)
+
+-- a step without the number of its line
+abbrev pub without_line : ProofStep → ProofStep
+without_line (Add line id clause hints) = Add 0 id clause hints
+without_line (Delete ids) = Delete ids
+
+-- The variables of a step are below a number.
+abbrev pub HasVariablesBelow : ℕ → ProofStep → Type 0
+HasVariablesBelow vars (Add line id clause hints) = HasValues vars clause
+HasVariablesBelow vars (Delete ids) = ⊤
+
+-- The text is one of this proof, but for the numbers of the lines, where there are so many variables and clauses.
+pub record IsProofText (vars clauses : ℕ) (steps : List ProofStep) (text : List ℕ) : Type 0 where
+  pub well : first_lrat_fault vars clauses text ≡ None
+  pub value : map without_line (proof_of text) ≡ map without_line steps
+
+-- The number of an addition is above this one.
+abbrev pub HasNumberAbove : ℕ → ProofStep → Type 0
+HasNumberAbove clauses (Add line id clause hints) = clauses < id
+HasNumberAbove clauses (Delete ids) = ⊤
+
+-- It is one for each number of variables above all variables, and each number of clauses below the numbers of the additions.
+abbrev pub ReadsBack : List ProofStep → List ℕ → Type 0
+ReadsBack steps text = (vars clauses : ℕ) → vars ≤ 1073741824 → All (HasVariablesBelow vars) steps → All (HasNumberAbove clauses) steps → IsProofText vars clauses steps text

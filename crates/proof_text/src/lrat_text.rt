@@ -1,8 +1,9 @@
-ghost use Rattle.std.specs.Prelude.{◌≡◌, ◌<◌, ◌≤◌, ◌^◌, length, IfOk, IfErr, OnOk, Option, None};
+ghost use Rattle.std.specs.Prelude.{◌≡◌, ◌<◌, ◌≤◌, ◌^◌, All, length, IfOk, IfErr, OnOk, Option, None};
 ghost use Rattle.des_base.specs.CountedLines.{tokens_of};
+ghost use Rattle.proof_text.specs.ProofNumbers.{NumbersAscend, HasNoZero};
 ghost use Rattle.proof_text.specs.declared.fault.TextFault.{TextFault};
 ghost use Rattle.proof_text.specs.TextFaults.{fault_or, IsDue};
-ghost use Rattle.proof_text.specs.LratText.{line_code, lrat_line, step_of, last_after, first_lrat_fault, proof_of, NumbersAscend};
+ghost use Rattle.proof_text.specs.LratText.{line_code, lrat_line, step_of, last_after, first_lrat_fault, proof_of};
 
 use crate::fault::{TextRefusal, fault_at};
 use crate::line_faults::line_code;
@@ -24,6 +25,7 @@ pub fn read_lrat(alloc: Global, bytes: &[u8], vars: u32, clauses: u64) -> Result
     ensures value { IfOk result (λ proof. proof ≡ proof_of bytes.now) }
     ensures well { OnOk result (first_lrat_fault vars clauses bytes.now ≡ None) }
     ensures ascend { IfOk result (λ proof. NumbersAscend clauses proof) }
+    ensures above { IfOk result (λ proof. All HasNoZero proof) }
     ensures refused { IfErr result (IsDue (first_lrat_fault vars clauses bytes.now)) }
 {
     let mut lines = Lines::new(bytes, b'c');

@@ -1,8 +1,8 @@
 ghost use Rattle.std.specs.Prelude.{◌≡◌, ◌+◌, ◌<◌, ◌≤◌, ◌^◌, ◌++◌, ◌∷◌, [], All, drop, length, map, codes, flat_map, decimal, vec_len, OnOk, OnErr, IfOk};
 ghost use Rattle.prop_core.specs.Clauses.{HasValues};
+ghost use Rattle.proof_text.specs.ProofNumbers.{NumbersAscend, HasNoZero};
 ghost use Rattle.proof_text.specs.CnfText.{formula};
-ghost use Rattle.proof_text.specs.LratText.{NumbersAscend};
-ghost use Rattle.proof_text.specs.PrintedText.{Extends, NumbersFit, HasNoZero, literal_word, literals_text, numbers_text, header_text, clause_text, formula_text, step_words_text, step_text, steps_text};
+ghost use Rattle.proof_text.specs.PrintedText.{Extends, KeepsLimits, IsFormulaText, ReadsBack, NumbersFit, literal_word, literals_text, numbers_text, header_text, clause_text, formula_text, step_words_text, step_text, steps_text};
 
 use crate::cnf::Cnf;
 use crate::proof::Proof;
@@ -125,7 +125,10 @@ fn push_words(out: &mut Vec<u8>, step: &ProofStep) -> Result<(), Memory>
 {
     match step {
         ProofStep::Add {
-            id, clause, hints, ..
+            id,
+            clause,
+            hints,
+            ..
         } => {
             push_number(out, *id)?;
             push_literals(out, clause.as_slice())?;
@@ -152,10 +155,11 @@ fn push_steps(out: &mut Vec<u8>, steps: &[ProofStep]) -> Result<(), Memory>
 
 /// Appends the formula as a text: the header, and each clause on a line of its own.
 ///
-/// A refused call leaves `out` as it was.
+/// A formula within the limits of a CNF file reads back as it is. A refused call leaves `out` as it was.
 pub fn print_cnf(cnf: &Cnf, out: &mut Vec<u8>) -> Result<(), Memory>
     requires { All (HasValues cnf.now.vars) cnf.now.clauses.clauses }
     ensures text { OnOk result (out.new.items ≡ out.old.items ++ formula_text (formula cnf.now.vars cnf.now.clauses.clauses)) }
+    ensures reads_back { OnOk result (KeepsLimits (formula cnf.now.vars cnf.now.clauses.clauses) → IsFormulaText (formula cnf.now.vars cnf.now.clauses.clauses) (drop (length out.old.items) out.new.items)) }
     ensures err { OnErr result (out.new.items ≡ out.old.items) }
 {
     let before = out.len();
@@ -168,11 +172,12 @@ pub fn print_cnf(cnf: &Cnf, out: &mut Vec<u8>) -> Result<(), Memory>
 
 /// Appends the proof as a text: each step on a line of its own, deletions with the first number 1.
 ///
-/// A refused call leaves `out` as it was.
+/// The text reads back as the same steps, but for the numbers of their lines. A refused call leaves `out` as it was.
 pub fn print_lrat(proof: &Proof, out: &mut Vec<u8>) -> Result<(), Memory>
     requires ascend { NumbersAscend 0 proof.now }
     requires above { All HasNoZero proof.now }
     ensures text { OnOk result (out.new.items ≡ out.old.items ++ steps_text proof.now) }
+    ensures reads_back { OnOk result (ReadsBack proof.now (drop (length out.old.items) out.new.items)) }
     ensures err { OnErr result (out.new.items ≡ out.old.items) }
 {
     let before = out.len();

@@ -1,10 +1,13 @@
-use Rattle.std.proofs.Common.{◌≡◌, ◌∷◌, ◌++◌, ap, sym, subst, ◌∙◌, Option, None, append-nil}
+use Rattle.std.proofs.Common.{List, ◌≡◌, ◌∷◌, ◌++◌, ap, sym, subst, ◌∙◌, Option, None, append-nil}
+use Rattle.proof_ledger.specs.declared.checker.ProofStep.{ProofStep}
 use Rattle.std.proofs.lemmas.Result.{err_from_is_err_and}
+use Rattle.std.specs.Prelude.{All}
 use Rattle.des_base.specs.CountedLines.{numbered, counted_lines, tokens_of}
+use Rattle.proof_text.specs.ProofNumbers.{NumbersAscend, HasNoZero}
 use Rattle.proof_text.specs.declared.fault.TextFault.{TextFault}
 use Rattle.proof_text.specs.TextFaults.{IsDue}
-use Rattle.proof_text.specs.LratText.{lrat_line, step_of, last_after, lrat_fault_of, first_lrat_fault, steps_of, proof_of, NumbersAscend}
-use Rattle.proof_text.proofs.WellLines.{numbers_ascend}
+use Rattle.proof_text.specs.LratText.{lrat_line, step_of, last_after, lrat_fault_of, first_lrat_fault, steps_of, proof_of}
+use Rattle.proof_text.proofs.WellLines.{numbers_ascend, no_zeros}
 use Rattle.proof_text.proofs.lrat_text.read_lrat.Goals as goal
 
 -- The fault of a line is that of the text.
@@ -22,3 +25,9 @@ returns-clause-ascend c =
     let none : first_lrat_fault c.args.vars c.args.clauses c.args.bytes.now ≡ None = sym c.loop-line.invariant.faults ∙ ap (lrat_fault_of c.args.vars c.loop-line.last) c.in_default.ensures.line in
     let steps : proof_of c.args.bytes.now ≡ c.loop-line.proof = sym c.loop-line.invariant.steps ∙ ap (λ ls. c.loop-line.proof ++ steps_of ls) c.in_default.ensures.line ∙ append-nil c.loop-line.proof in
     subst (NumbersAscend c.args.clauses) steps (numbers_ascend c.args.vars c.args.clauses (counted_lines 99 c.args.bytes.now) none)
+
+pub returns-clause-above : goal.returns-clause-above
+returns-clause-above c =
+    let none : first_lrat_fault c.args.vars c.args.clauses c.args.bytes.now ≡ None = sym c.loop-line.invariant.faults ∙ ap (lrat_fault_of c.args.vars c.loop-line.last) c.in_default.ensures.line in
+    let steps : proof_of c.args.bytes.now ≡ c.loop-line.proof = sym c.loop-line.invariant.steps ∙ ap (λ ls. c.loop-line.proof ++ steps_of ls) c.in_default.ensures.line ∙ append-nil c.loop-line.proof in
+    subst (λ (l : List ProofStep). All HasNoZero l) steps (no_zeros c.args.vars c.args.clauses (counted_lines 99 c.args.bytes.now) none)

@@ -1,5 +1,4 @@
-use Rattle.std.proofs.Common.{◌≡◌, ◌+◌, length, sym, ap, ◌∙◌, subst}
-use Rattle.std.specs.Prelude.{slice_get, Some}
+use Rattle.std.proofs.Common.{length}
 use Rattle.proof_text.specs.PrintedText.{header_text, clause_text}
 use Rattle.proof_text.proofs.PrintLemmas.{one_more_behind, numbered_at}
 use Rattle.proof_text.proofs.print.push_formula.Goals as goal

@@ -1,4 +1,4 @@
-use Rattle.std.proofs.Common.{◌≡◌, ◌<◌, ◌^◌, ◌++◌, ◌∷◌, [], ℕ, arith, ap, sym, ◌∙◌, subst}
+use Rattle.std.proofs.Common.{subst}
 use Rattle.std.proofs.lemmas.List.Elements.{All-more}
 use Rattle.proof_text.specs.PrintedText.{step_text, NumbersFit}
 use Rattle.proof_text.proofs.PrintLemmas.{one_more}
