@@ -1,4 +1,3 @@
-pub mod Standings
 pub mod Hints
 pub mod Books
 pub mod Checks

@@ -125,7 +125,7 @@ impl Truths {
     }
 
     // How a clause stands of whose literals none is true and not all are false.
-    #[tactic(auto, using(crate::proofs::Standings::open_standings))]
+    #[tactic(auto, using(prop_core::proofs::Standings::open_standings))]
     fn open_standing(&self, clause: &[Lit]) -> Stands
         ensures { standing_of result ≡ open_standing (filter (is_open self.now) clause.now) }
     {

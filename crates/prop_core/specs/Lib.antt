@@ -2,3 +2,4 @@ pub mod Clauses
 pub mod Derivation
 pub mod ClauseStore
 pub mod Laws
+pub mod Trail

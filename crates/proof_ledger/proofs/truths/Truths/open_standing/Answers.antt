@@ -1,6 +1,6 @@
 use Rattle.std.proofs.Common.{sym, ◌∙◌}
 use Rattle.prop_core.specs.Clauses.{is_open}
-use Rattle.proof_ledger.proofs.Standings.{open_standing-one, open_standing-more}
+use Rattle.prop_core.proofs.Standings.{open_standing-one, open_standing-more}
 use Rattle.proof_ledger.proofs.truths.Truths.open_standing.Goals as goal
 
 pub returns-then-no_other_open : goal.returns-then-no_other_open

@@ -6,7 +6,7 @@ use Rattle.prop_core.specs.Clauses.{same_literal}
 use Rattle.prop_core.specs.Derivation.{open_standing, unit, wide}
 use Rattle.prop_core.proofs.Entailed.{same_itself}
 
-list_all-filter : (p q : Lit → Bool) (xs : List Lit) → list_all q (filter p xs) ≡ list_all (λ l. not (p l) || q l) xs
+pub list_all-filter : (p q : Lit → Bool) (xs : List Lit) → list_all q (filter p xs) ≡ list_all (λ l. not (p l) || q l) xs
 list_all-filter p q [] = refl
 list_all-filter p q (x ∷ xs) = by (p x) refl (list_all-filter p q xs)
   where
