@@ -5,3 +5,5 @@ pub mod Standings
 pub mod Forcing
 pub mod Following
 pub mod Vectors
+pub mod NameLemmas
+pub mod FamilyLemmas

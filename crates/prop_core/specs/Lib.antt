@@ -3,3 +3,5 @@ pub mod Derivation
 pub mod ClauseStore
 pub mod Laws
 pub mod Trail
+pub mod VariableNames
+pub mod NamedClauses

@@ -1,0 +1,100 @@
+-- Clauses by the names of their variables, and families of clauses as loops write them.
+use Rattle.std.specs.Prelude.{◌≡◌, ◌↔◌, ◌⊎◌, ◌++◌, ℕ, ◌<◌, Bool, true, false, not, ◌&&◌, ◌==◌, List, Option, Some, find, option_map, unwrap_or, Contains, IsTrue}
+use Rattle.std.specs.List.{AllByRecursion, list_any}
+use Rattle.prop_core.specs.Clauses.{Clause, AllClausesTrue}
+use Rattle.prop_core.specs.VariableNames.{Name, in_state, happens, asked, matches, done, unmatched, closed, reaches, some_of_first, Exclusion, of_states, of_events, of_matches, NamedLiteral, HasEachOnce, name_of, ReadsAs}
+
+-- ---- truth by name
+
+abbrev pub same_sign : Bool → Bool → Bool
+same_sign true b = b
+same_sign false b = not b
+
+abbrev pub named_true : (Name → Bool) → NamedLiteral → Bool
+named_true value l = same_sign l.positive (value l.name)
+
+abbrev pub named_clause_true : (Name → Bool) → List NamedLiteral → Bool
+named_clause_true value clause = list_any (named_true value) clause
+
+-- ---- variables and names
+
+abbrev pub same_exclusion : Exclusion → Exclusion → Bool
+same_exclusion (of_states c t) (of_states d u) = (c == d) && (t == u)
+same_exclusion (of_events t g) (of_events u h) = (t == u) && (g == h)
+same_exclusion (of_matches i t) (of_matches j u) = (i == j) && (t == u)
+same_exclusion a b = false
+
+abbrev pub same_name : Name → Name → Bool
+same_name (in_state c q t) (in_state d r u) = (c == d) && ((q == r) && (t == u))
+same_name (happens e t) (happens f u) = (e == f) && (t == u)
+same_name asked asked = true
+same_name (matches i e t) (matches j f u) = (i == j) && ((e == f) && (t == u))
+same_name (done i t) (done j u) = (i == j) && (t == u)
+same_name (unmatched e k t) (unmatched f l u) = (e == f) && ((k == l) && (t == u))
+same_name (closed e k) (closed f l) = (e == f) && (k == l)
+same_name (reaches i j) (reaches k l) = (i == k) && (j == l)
+same_name (some_of_first a i) (some_of_first b j) = same_exclusion a b && (i == j)
+same_name a b = false
+
+abbrev pub variable_of : List (ℕ × Name) → Name → Option ℕ
+variable_of names name = option_map (λ entry. entry.0) (find (λ entry. same_name entry.1 name) names)
+
+-- each variable has the truth of its name
+abbrev pub Match : List (ℕ × Name) → (ℕ → Bool) → (Name → Bool) → Type 0
+Match names assignment value = (var : ℕ) (name : Name) → name_of names var ≡ Some name → assignment var ≡ value name
+
+-- the truth of names by that of their variables, where a name without one is false; and of variables by that of their names, where a variable without one keeps its own
+abbrev pub value_by : List (ℕ × Name) → (ℕ → Bool) → Name → Bool
+value_by names assignment name = unwrap_or (option_map assignment (variable_of names name)) false
+
+abbrev pub assignment_by : List (ℕ × Name) → (Name → Bool) → (ℕ → Bool) → ℕ → Bool
+assignment_by names value given var = unwrap_or (option_map value (name_of names var)) (given var)
+
+abbrev pub ValuesMatch : Type 0
+ValuesMatch = (names : List (ℕ × Name)) → HasEachOnce names → (assignment : ℕ → Bool) → Match names assignment (value_by names assignment)
+
+abbrev pub AssignmentsMatch : Type 0
+AssignmentsMatch = (names : List (ℕ × Name)) (value : Name → Bool) (given : ℕ → Bool) → Match names (assignment_by names value given) value
+
+-- ---- families
+
+-- one of the clauses is this one by the names
+abbrev pub IsThere : List (ℕ × Name) → List Clause → List NamedLiteral → Type 0
+IsThere names clauses named = (clause : Clause) × Contains clauses clause × ReadsAs names clause named
+
+-- By these names the clauses are those of a family, all of them and no others.
+pub record IsCode (names : List (ℕ × Name)) (family : List NamedLiteral → Type 0) (clauses : List Clause) : Type 0 where
+  pub all : (named : List NamedLiteral) → family named → IsThere names clauses named
+  pub only : AllByRecursion (λ clause. (named : List NamedLiteral) × family named × ReadsAs names clause named) clauses
+
+-- each clause of a family is true
+abbrev pub AllHold : (List NamedLiteral → Type 0) → (Name → Bool) → Type 0
+AllHold family value = (named : List NamedLiteral) → family named → IsTrue (named_clause_true value named)
+
+-- Clauses of a family are true exactly where the family is, by name.
+abbrev pub CodeHolds : (List NamedLiteral → Type 0) → Type 0
+CodeHolds family = (names : List (ℕ × Name)) (clauses : List Clause) (assignment : ℕ → Bool) (value : Name → Bool) →
+    IsCode names family clauses → Match names assignment value → AllClausesTrue assignment clauses ↔ AllHold family value
+
+-- ---- as loops write them
+
+-- this clause alone
+abbrev pub One : List NamedLiteral → List NamedLiteral → Type 0
+One clause named = clause ≡ named
+
+abbrev pub Both : (List NamedLiteral → Type 0) → (List NamedLiteral → Type 0) → List NamedLiteral → Type 0
+Both F G named = F named ⊎ G named
+
+-- a family for each number below k
+abbrev pub Each : ℕ → (ℕ → List NamedLiteral → Type 0) → List NamedLiteral → Type 0
+Each k F named = (i : ℕ) × (i < k) × F i named
+
+-- a family where a test passes
+abbrev pub When : Bool → (List NamedLiteral → Type 0) → List NamedLiteral → Type 0
+When test F named = IsTrue test × F named
+
+-- the list with further clauses, those of the family
+pub record Appends (names : List (ℕ × Name)) (family : List NamedLiteral → Type 0) (old new : List Clause) : Type 0 where
+  pub more : List Clause
+  pub whole : new ≡ old ++ more
+  pub code : IsCode names family more

@@ -1,0 +1,76 @@
+-- What the variables of a question stand for, and literals and clauses by these names.
+use Rattle.std.specs.Prelude.{◌≢◌, ℕ, zero, suc, Bool, true, false, List, [], ◌∷◌, find, option_map, Option, Some, None, ◌≡◌, ◌==◌, Contains, ◌↔◌}
+use Rattle.des_base.specs.Lists.{EachPair}
+use Rattle.prop_core.specs.declared.lit.Lit.{Lit}
+use Rattle.prop_core.specs.Clauses.{Clause}
+
+-- an "at most one": over the states of a component after a step, the events of a group in a step, the matches of an alarm in a step
+pub data Exclusion : Type 0 where
+  of_states : (component step : ℕ) → Exclusion
+  of_events : (step group : ℕ) → Exclusion
+  of_matches : (alarm step : ℕ) → Exclusion
+
+pub data Name : Type 0 where
+  -- the component is in the state after so many steps
+  in_state : (component state step : ℕ) → Name
+  -- the event happens in the step
+  happens : (event step : ℕ) → Name
+  -- the log is asked for
+  asked : Name
+  -- the alarm stands for the event in the step
+  matches : (alarm event step : ℕ) → Name
+  -- the alarm is matched within the first steps
+  done : (alarm steps : ℕ) → Name
+  -- the event happens in the step, and none of the first alarms of its chain stands for it, of which there is at least one
+  unmatched : (event alarms step : ℕ) → Name
+  -- the chain of the event ends after so many alarms
+  closed : (event alarms : ℕ) → Name
+  -- of the first inputs at least so many are true
+  reaches : (inputs amount : ℕ) → Name
+  -- one of the first inputs of an "at most one" is true
+  some_of_first : Exclusion → (inputs : ℕ) → Name
+
+pub record NamedLiteral : Type 0 where
+  pub name : Name
+  pub positive : Bool
+
+abbrev pub yes : Name → NamedLiteral
+yes name = record { name = name; positive = true }
+
+abbrev pub no : Name → NamedLiteral
+no name = record { name = name; positive = false }
+
+-- none of the first k alarms of the chain of e stands for it in step t
+abbrev pub remaining : ℕ → ℕ → ℕ → Name
+remaining e zero t = happens e t
+remaining e (suc k) t = unmatched e (suc k) t
+
+-- no variable has two names, and no name two variables
+abbrev pub HasEachOnce : List (ℕ × Name) → Type 0
+HasEachOnce names = EachPair (λ a b. (a.0 ≢ b.0) × (a.1 ≢ b.1)) names
+
+-- the name of a variable by a list of both
+abbrev pub name_of : List (ℕ × Name) → ℕ → Option Name
+name_of names var = option_map (λ entry. entry.1) (find (λ entry. entry.0 == var) names)
+
+-- a clause by the names of its variables, if each has one
+abbrev pub named_literal : List (ℕ × Name) → Lit → Option NamedLiteral
+named_literal names l = option_map (λ name. record { name = name; positive = l.positive }) (name_of names l.var)
+
+abbrev pub with_literal : Option NamedLiteral → Option (List NamedLiteral) → Option (List NamedLiteral)
+with_literal None rest = None
+with_literal (Some l) rest = option_map (λ ls. l ∷ ls) rest
+
+abbrev pub named_clause : List (ℕ × Name) → Clause → Option (List NamedLiteral)
+named_clause names [] = Some []
+named_clause names (l ∷ clause) = with_literal (named_literal names l) (named_clause names clause)
+
+-- two lists have the same elements
+abbrev pub SameElements : List NamedLiteral → List NamedLiteral → Type 0
+SameElements xs ys = (x : NamedLiteral) → Contains xs x ↔ Contains ys x
+
+-- by the names of its variables the clause is, as a set, this one
+pub record ReadsAs (names : List (ℕ × Name)) (clause : Clause) (named : List NamedLiteral) : Type 0 where
+  pub read : List NamedLiteral
+  pub by_name : named_clause names clause ≡ Some read
+  pub same : SameElements read named
