@@ -6,3 +6,4 @@ pub mod NetworkLemmas
 pub mod Steps
 pub mod WidthLemmas
 pub mod Vectors
+pub mod Sharing

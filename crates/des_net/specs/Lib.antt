@@ -2,6 +2,7 @@ pub mod Network
 pub mod Run
 pub mod Steps
 pub mod Width
+pub mod Sharing
 pub mod LocalRuns
 pub mod Limits
 pub mod Building
