@@ -7,3 +7,4 @@ pub mod Following
 pub mod Vectors
 pub mod NameLemmas
 pub mod FamilyLemmas
+pub mod GridLemmas

@@ -1,12 +1,12 @@
 -- Clauses over variables are true where they are by name.
-use Rattle.std.proofs.Common.{◌≡◌, ◌≢◌, ℕ, zero, suc, ◌<◌, ◌∙◌, Bool, true, false, not, List, [], ◌∷◌, ◌++◌, length, Option, Some, None, refl, sym, ap, subst, arith, Contains, IsTrue, option_map, unwrap_or, ◌==◌, ◌&&◌, ◌||◌}
+use Rattle.std.proofs.Common.{◌≡◌, ◌≢◌, ℕ, zero, suc, ◌∙◌, Bool, true, false, List, [], ◌∷◌, ◌++◌, Option, Some, None, refl, sym, ap, subst, arith, Contains, IsTrue, option_map, unwrap_or, ◌==◌, ◌&&◌, ◌||◌}
 use Rattle.std.specs.Bool.{beq}
 use Rattle.std.specs.List.{AllByRecursion, list_any}
 use Rattle.std.proofs.lemmas.Bool.{and_parts, eqb-true, eq-eqb, false_from_ne_true}
 use Rattle.prop_core.specs.declared.lit.Lit.{Lit}
-use Rattle.prop_core.specs.Clauses.{Clause, clause_true, literal_true, AllClausesTrue}
+use Rattle.prop_core.specs.Clauses.{Clause, clause_true, AllClausesTrue}
 use Rattle.prop_core.specs.VariableNames.{Name, in_state, happens, asked, matches, done, unmatched, closed, reaches, some_of_first, Exclusion, of_states, of_events, of_matches, NamedLiteral, HasEachOnce, name_of, named_literal, with_literal, named_clause, ReadsAs}
-use Rattle.prop_core.specs.NamedClauses.{same_sign, named_true, named_clause_true, same_exclusion, same_name, variable_of, Match, value_by, assignment_by, ValuesMatch, AssignmentsMatch, IsCode, AllHold, CodeHolds}
+use Rattle.prop_core.specs.NamedClauses.{same_sign, named_true, named_clause_true, same_exclusion, same_name, variable_of, Match, ValuesMatch, AssignmentsMatch, AllHold, CodeHolds}
 
 pub at_each : {X : Type 0} (P : X → Type 0) (xs : List X) (x : X) → AllByRecursion P xs → Contains xs x → P x
 at_each P [] x all (k, below, is) = absurd (omega arith)

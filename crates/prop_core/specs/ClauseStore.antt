@@ -1,5 +1,5 @@
 -- Clauses one behind another among their literals.
-use Rattle.std.specs.Prelude.{ℕ, ◌≤◌, List, map, slice_range}
+use Rattle.std.specs.Prelude.{ℕ, ◌+◌, ◌≤◌, List, map, slice_range}
 use Rattle.prop_core.specs.declared.lit.Lit.{Lit}
 use Rattle.prop_core.specs.declared.clauses.Span.{Span}
 use Rattle.prop_core.specs.Clauses.{Clause}
@@ -16,6 +16,10 @@ piece literals span = slice_range literals span.start span.end
 
 abbrev pub pieces : List Lit → List Span → List Clause
 pieces literals spans = map (piece literals) spans
+
+-- the span, so many literals later
+abbrev pub shifted : ℕ → Span → Span
+shifted later span = record { start = later + span.start; end = later + span.end }
 
 pub record IsWithin (count : ℕ) (span : Span) : Type 0 where
   pub order : span.start ≤ span.end

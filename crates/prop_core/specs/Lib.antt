@@ -5,3 +5,4 @@ pub mod Laws
 pub mod Trail
 pub mod VariableNames
 pub mod NamedClauses
+pub mod Grids

@@ -1,4 +1,5 @@
-ghost use Rattle.std.specs.Prelude.{◌≡◌, ◌<◌, ◌≤◌, ◌+◌, ◌-◌, ◌++◌, ◌∷◌, [], length, max, OnOk, OnErr, IfOk, Some};
+ghost use Rattle.std.specs.Prelude.{◌≡◌, ◌<◌, ◌≤◌, ◌+◌, ◌-◌, ◌^◌, ◌++◌, ◌∷◌, [], length, map, max, All, OnOk, OnErr, IfOk, Some, vec_len, vec_capacity};
+ghost use Rattle.prop_core.specs.ClauseStore.{shifted};
 ghost use Rattle.prop_core.specs.Derivation.{clause_numbered};
 
 use crate::lit::Lit;
@@ -139,4 +140,55 @@ impl Clauses {
         self.reserve(1, clause.len())?;
         Ok(self.push_reserved(clause))
     }
+
+    /// Adds all clauses of another list behind these. The room that was reserved stays.
+    #[tactic(auto, using(crate::proofs::Pieces::small_sums, crate::proofs::Pieces::in_order))]
+    pub fn append(&mut self, more: &Clauses) -> Result<(), Memory>
+        ensures added { OnOk result (self.new.clauses ≡ self.old.clauses ++ more.now.clauses) }
+        ensures spare_clauses { self.new.spare_clauses ≡ self.old.spare_clauses }
+        ensures spare_literals { self.new.spare_literals ≡ self.old.spare_literals }
+        ensures err { OnErr result (self.new ≡ self.old) }
+    {
+        let Some(clauses) = self.spare_clauses.checked_add(more.spans.len()) else {
+            return Err(Memory);
+        };
+        let Some(lits) = self.spare_lits.checked_add(more.lits.len()) else {
+            return Err(Memory);
+        };
+        self.spans.reserve(clauses)?;
+        self.lits.reserve(lits)?;
+        append_spans(&mut self.spans, self.lits.len(), more.spans.as_slice());
+        append_lits(&mut self.lits, more.lits.as_slice());
+        Ok(())
+    }
+}
+
+// Adds spans that are to stand so many literals later, in room that is there.
+#[tactic(auto, using(crate::proofs::Pieces::more_spans))]
+fn append_spans(spans: &mut Vec<Span>, later: usize, more: &[Span])
+    requires room { vec_len spans.old + length more.now ≤ vec_capacity spans.old }
+    requires sums { All (λ span. later + span.end < 2 ^ 64) more.now }
+    requires ordered { All (λ span. span.start ≤ span.end) more.now }
+    ensures added { spans.new.items ≡ spans.old.items ++ map (shifted later) more.now }
+    ensures len { vec_len spans.new ≡ vec_len spans.old + length more.now }
+    ensures capacity { vec_capacity spans.old ≤ vec_capacity spans.new }
+{
+    for span in more {
+        spans
+            .push(Span {
+                start: later + span.start,
+                end: later + span.end,
+            })
+            .unwrap();
+    }
+}
+
+// Adds literals in room that is there.
+fn append_lits(lits: &mut Vec<Lit>, more: &[Lit])
+    requires room { vec_len lits.old + length more.now ≤ vec_capacity lits.old }
+    ensures added { lits.new.items ≡ lits.old.items ++ more.now }
+    ensures len { vec_len lits.new ≡ vec_len lits.old + length more.now }
+    ensures capacity { vec_capacity lits.old ≤ vec_capacity lits.new }
+{
+    lits.extend_from_slice(more).unwrap();
 }

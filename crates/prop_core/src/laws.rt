@@ -1,6 +1,26 @@
+ghost use Rattle.prop_core.specs.Grids.{GridsAreInjective};
 ghost use Rattle.prop_core.specs.Laws.{DerivedClausesAreTrue};
+ghost use Rattle.prop_core.specs.NamedClauses.{AssignmentsMatch, ValuesMatch};
 
 /// A law: a clause that derives is true under each assignment that makes the held clauses true.
 pub fn derived_clauses_are_true()
     ensures { DerivedClausesAreTrue }
+{}
+
+/// A law: two cells of a grid with one variable are one cell.
+#[tactic(auto, using(crate::proofs::GridLemmas::grids_are_injective))]
+pub fn grids_are_injective()
+    ensures { GridsAreInjective }
+{}
+
+/// A law: the truth of variables gives that of their names.
+#[tactic(auto, using(crate::proofs::NameLemmas::values_match))]
+pub fn values_match()
+    ensures { ValuesMatch }
+{}
+
+/// A law: the truth of names gives that of their variables, and any other variable keeps its own.
+#[tactic(auto, using(crate::proofs::NameLemmas::assignments_match))]
+pub fn assignments_match()
+    ensures { AssignmentsMatch }
 {}

@@ -10,15 +10,19 @@
 
 mod assignment;
 mod clauses;
+mod grid;
 mod laws;
 mod lists;
 mod lit;
+mod vars;
 
 pub use assignment::Assignment;
 pub use clauses::{ClauseId, Clauses};
-pub use laws::derived_clauses_are_true;
+pub use grid::Grid;
+pub use laws::{assignments_match, derived_clauses_are_true, grids_are_injective, values_match};
 pub use lists::{IdList, LitList};
 pub use lit::Lit;
+pub use vars::Vars;
 
 #[cfg(test)]
 mod tests;
