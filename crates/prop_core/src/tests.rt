@@ -1,5 +1,5 @@
 // Each call once, with ample memory.
-use crate::{Assignment, ClauseId, Clauses, IdList, Lit, LitList};
+use crate::{Assignment, ClauseId, Clauses, Grid, IdList, Lit, LitList, Vars};
 use std::test::Fail;
 
 #[test]
@@ -61,4 +61,36 @@ fn tells_true_clauses(rt: HostRuntime) -> Result<(), Fail> {
     assignment.set(1, true);
     assert!(rt; assignment.holds(&clauses, id));
     Ok(())
+}
+
+#[test]
+fn appends_clauses(rt: HostRuntime) -> Result<(), Fail> {
+    let both = [Lit::new(1, true), Lit::new(2, false)];
+    let mut clauses = Clauses::new(rt.alloc());
+    clauses.push(&both)?;
+    let mut more = Clauses::new(rt.alloc());
+    more.push(&[])?;
+    more.push(&both[1..])?;
+    clauses.append(&more)?;
+    assert_eq!(rt; clauses.len(), 3);
+    assert_eq!(rt; clauses.clause(ClauseId(1)), both.as_slice());
+    assert!(rt; clauses.clause(ClauseId(2)).is_empty());
+    assert_eq!(rt; clauses.clause(ClauseId(3)), &both[1..]);
+    Ok(())
+}
+
+#[test]
+fn makes_variables(rt: HostRuntime) {
+    let mut vars = Vars::new();
+    assert_eq!(rt; vars.fresh(2), 0);
+    assert_eq!(rt; vars.fresh(6), 2);
+    assert_eq!(rt; vars.count(), 8);
+    let grid = Grid {
+        first: 2,
+        events: 2,
+        steps: 3,
+    };
+    for (event, step, var) in [(0, 1, 2), (0, 3, 4), (1, 1, 5), (1, 3, 7)] {
+        assert_eq!(rt; grid.var(event, step), var);
+    }
 }
