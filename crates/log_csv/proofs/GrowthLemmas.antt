@@ -1,5 +1,5 @@
 -- What one more record makes of the log of the records before it.
-use Rattle.std.proofs.Common.{◌≡◌, ◌+◌, ◌<◌, ℕ, zero, suc, Bool, true, false, cond, List, [], ◌∷◌, ◌++◌, length, Option, Some, None, refl, arith, ap, sym, ◌∙◌, subst, append_assoc}
+use Rattle.std.proofs.Common.{◌≡◌, ℕ, suc, Bool, true, false, cond, List, [], ◌∷◌, ◌++◌, Option, Some, None, refl, ap, sym, ◌∙◌, subst}
 use Rattle.std.specs.Prelude.{filter_map, is_some, option_map, option_and_then, bytes_eq}
 use Rattle.std.specs.List.{AllByRecursion, cons_option}
 use Rattle.std.specs.Option.{option_to_list}
@@ -8,7 +8,7 @@ use Rattle.des_base.specs.Names.{place_of}
 use Rattle.log_order.specs.Log.{Alarm, Log}
 use Rattle.log_order.specs.Adding.{names_of, with_alarm, with_pair, with_texts}
 use Rattle.log_csv.specs.Records.{Record, alarm, before, ask, nothing, malformed}
-use Rattle.log_csv.specs.LogText.{alarm_of, alarms_of, ids_of, log_of_records, pair_of, pairs_of, with_pairs, written_pairs}
+use Rattle.log_csv.specs.LogText.{alarm_of, alarms_of, ids_of, pair_of, pairs_of, with_pairs, written_pairs}
 use Rattle.log_csv.specs.Reading.{IsKnown, IsLogOf}
 
 -- ---- lists

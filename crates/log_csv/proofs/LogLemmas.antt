@@ -1,5 +1,5 @@
 -- The codes of a log's records, as the log refuses what they say.
-use Rattle.std.proofs.Common.{◌≡◌, ◌+◌, ◌<◌, ℕ, Bool, true, false, cond, not, ◌&&◌, ◌||◌, List, [], ◌∷◌, ◌++◌, length, Option, Some, None, Result, Ok, Err, refl, arith, ap, sym, ◌∙◌, subst, append_assoc, map}
+use Rattle.std.proofs.Common.{◌≡◌, ◌+◌, ℕ, Bool, true, false, cond, not, ◌&&◌, ◌||◌, List, [], ◌∷◌, ◌++◌, length, Option, Some, None, Result, Ok, Err, refl, arith, ap, sym, ◌∙◌, subst, append_assoc, map}
 use Rattle.std.specs.Prelude.{is_none, is_some, nat_le, nat_lt, option_map, option_and_then}
 use Rattle.std.specs.List.{list_all}
 use Rattle.std.specs.Option.{option_map_or}
@@ -7,22 +7,19 @@ use Rattle.std.proofs.lemmas.List.{append-nil}
 use Rattle.des_base.specs.Names.{is_name_text, place_of}
 use Rattle.des_base.proofs.BoolLemmas.{is_less}
 use Rattle.des_base.proofs.TableLemmas.{place_of-within}
-use Rattle.log_order.specs.Log.{Alarm, Log, closes_cycle, has_pair, no_log}
+use Rattle.log_order.specs.Log.{Log, closes_cycle, has_pair, no_log}
 use Rattle.log_order.specs.Adding.{Answers, alarm_refusal, before_refusal, most_alarms, most_labels, most_pairs, names_of, with_alarm, with_pair}
 use Rattle.log_order.specs.declared.refusal.LogRefusal.{LogRefusal}
 use Rattle.log_order.specs.declared.refusal.LogRefusal.TheVariants as refused
 use Rattle.log_order.proofs.AlarmLemmas.{length-names_of}
-use Rattle.log_csv.specs.declared.fault.LogFault.{LogFault}
 use Rattle.log_csv.specs.declared.fault.LogReadRefusal.{LogReadRefusal}
-use Rattle.log_csv.specs.declared.fault.LogReadRefusal.TheVariants as text
-use Rattle.log_csv.specs.declared.row.Row.{Row}
 use Rattle.log_csv.specs.declared.row.Row.TheVariants as row
 use Rattle.log_csv.specs.declared.refusal.RowRefusal.{RowRefusal}
 use Rattle.log_csv.specs.declared.refusal.RowRefusal.TheVariants.{Shape, Name, Memory}
-use Rattle.log_csv.specs.Records.{Record, alarm, before, ask, nothing, malformed, record_of, records_of}
+use Rattle.log_csv.specs.Records.{Record, alarm, before, ask, nothing, malformed, record_of}
 use Rattle.log_csv.specs.Faults.{IsDue, fault_at, or_later}
 use Rattle.log_csv.specs.ScriptText.{is_malformed, row_code, row_of, words_of}
-use Rattle.log_csv.specs.LogText.{alarms_of, first_fault, first_record_fault, ids_of, is_pair_past_limit, is_question, log_of, log_of_records, pair_of, pairs_of, record_code}
+use Rattle.log_csv.specs.LogText.{alarms_of, first_fault, first_record_fault, ids_of, is_pair_past_limit, is_question, log_of, log_of_records, pairs_of, record_code}
 use Rattle.log_csv.specs.Reading.{Adds, IsLogOf, IsReadTo, ReadsRecord, code_of, log_refusal_at, refusal_at}
 use Rattle.csv.specs.Reading.{default_config, records, strip_bom}
 use Rattle.log_csv.proofs.RowLemmas.{malformed_refused}

@@ -1,10 +1,10 @@
 -- The lines of a log's text, as they are appended.
-use Rattle.std.proofs.Common.{◌≡◌, ◌+◌, ◌-◌, ◌<◌, ◌≤◌, ℕ, zero, suc, List, [], ◌∷◌, ◌++◌, length, get_or, drop, take, Option, Some, None, refl, arith, ap, sym, ◌∙◌, append_assoc, add-one}
-use Rattle.std.specs.Prelude.{codes, option_map, slice_get, unwrap_or}
-use Rattle.std.specs.List.{AllByRecursion, flat_map, join_with_byte}
-use Rattle.std.proofs.lemmas.List.{append-nil, flat_map_more, take_more}
+use Rattle.std.proofs.Common.{◌≡◌, ◌+◌, ◌-◌, ◌≤◌, ℕ, zero, suc, List, [], ◌∷◌, ◌++◌, length, get_or, drop, take, Option, Some, refl, arith, ap, sym, ◌∙◌, append_assoc, add-one}
+use Rattle.std.specs.Prelude.{codes, option_map, slice_get}
+use Rattle.std.specs.List.{flat_map, join_with_byte}
+use Rattle.std.proofs.lemmas.List.{append-nil, flat_map_more}
 use Rattle.log_order.specs.Log.{Alarm}
-use Rattle.log_csv.specs.PrintedLog.{alarm_line, alarm_with, id_of, line_of_ids, pair_line}
+use Rattle.log_csv.specs.PrintedLog.{alarm_line, alarm_with, line_of_ids}
 
 -- a label behind another
 abbrev pub behind_bar : List ℕ → List ℕ

@@ -1,21 +1,19 @@
 -- A printed log reads back as an equal log.
-use Rattle.std.proofs.Common.{◌≡◌, ◌+◌, ◌<◌, ◌≤◌, ℕ, zero, suc, Bool, true, false, cond, not, ◌&&◌, ◌||◌, List, [], ◌∷◌, ◌++◌, length, Option, Some, None, Ok, refl, arith, ap, sym, ◌∙◌, subst, append_assoc, length-append, map}
-use Rattle.std.specs.Prelude.{IsTrue, bytes_eq, is_some, nat_le, nat_lt, option_map, slice_get, unwrap_or, ◌==◌}
+use Rattle.std.proofs.Common.{◌≡◌, ◌+◌, ◌<◌, ◌≤◌, ℕ, zero, suc, Bool, true, false, cond, not, ◌&&◌, List, [], ◌∷◌, ◌++◌, length, Option, Some, None, Ok, refl, arith, ap, sym, ◌∙◌, subst, append_assoc, length-append, map}
+use Rattle.std.specs.Prelude.{IsTrue, bytes_eq, nat_le, nat_lt, option_map, ◌==◌}
 use Rattle.std.specs.List.{AllByRecursion, list_all, list_any}
-use Rattle.std.proofs.lemmas.Bool.Decides.{nat_tests}
 use Rattle.std.proofs.lemmas.List.{append-nil}
 use Rattle.std.proofs.lemmas.Slice.Eq.{bytes_eq-Decides}
-use Rattle.des_base.specs.Names.{AreDistinct, AreNames, IsName, is_name_text, place_of}
+use Rattle.des_base.specs.Names.{AreDistinct, IsName, is_name_text, place_of}
 use Rattle.des_base.proofs.BoolLemmas.{is_less, join, less_is, most_is, neither, otherwise}
-use Rattle.log_order.specs.Log.{Alarm, AreKnown, AreOrdered, Keeps, Log, StandOnce, closes_cycle, has_pair, no_log, place_in, reaches}
-use Rattle.log_order.specs.Adding.{IsAlarm, IsLog, alarm_refusal, before_refusal, most_alarms, most_labels, most_pairs, names_of, with_alarm, with_pair, with_text, with_texts}
+use Rattle.log_order.specs.Log.{Alarm, AreKnown, Keeps, Log, StandOnce, closes_cycle, has_pair, place_in, reaches}
+use Rattle.log_order.specs.Adding.{IsAlarm, IsLog, alarm_refusal, before_refusal, most_alarms, most_labels, most_pairs, names_of, with_pair, with_texts}
 use Rattle.log_order.specs.declared.refusal.LogRefusal.{LogRefusal}
 use Rattle.log_order.specs.declared.refusal.LogRefusal.TheVariants as refused
-use Rattle.log_order.proofs.AlarmLemmas.{length-names_of, place_of-absent, with_text-new}
+use Rattle.log_order.proofs.AlarmLemmas.{place_of-absent, with_text-new}
 use Rattle.log_order.proofs.KeptLemmas.{not_both, turned}
 use Rattle.log_order.proofs.OrderLemmas.{Keeps-cycle}
-use Rattle.log_csv.specs.declared.fault.LogFault.{LogFault}
-use Rattle.log_csv.specs.Records.{Record, alarm, before, records_of}
+use Rattle.log_csv.specs.Records.{Record, records_of}
 use Rattle.log_csv.specs.Faults.{fault_at, or_later}
 use Rattle.log_csv.specs.LogText.{first_fault, first_record_fault, log_of, log_of_records, record_code}
 use Rattle.log_csv.specs.PrintedLog.{id_of, log_text}

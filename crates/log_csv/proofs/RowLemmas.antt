@@ -1,5 +1,5 @@
 -- The row of a record, and its code.
-use Rattle.std.proofs.Common.{◌≡◌, ℕ, Bool, true, false, cond, not, ◌&&◌, List, [], ◌∷◌, Option, Some, None, Result, Ok, Err, refl, ap, sym, ◌∙◌}
+use Rattle.std.proofs.Common.{◌≡◌, ℕ, Bool, true, false, cond, not, ◌&&◌, List, Option, Some, None, Ok, Err, refl, ap, sym, ◌∙◌}
 use Rattle.std.specs.List.{list_all}
 use Rattle.std.specs.Option.{option_map_or}
 use Rattle.des_base.specs.Names.{is_name_text}
@@ -7,7 +7,7 @@ use Rattle.log_csv.specs.declared.row.Row.{Row}
 use Rattle.log_csv.specs.declared.row.Row.TheVariants as row
 use Rattle.log_csv.specs.declared.refusal.RowRefusal.{RowRefusal}
 use Rattle.log_csv.specs.declared.refusal.RowRefusal.TheVariants.{Shape, Name, Memory}
-use Rattle.log_csv.specs.Records.{Record, alarm, before, ask, nothing, malformed, alarm_record, are_empty, ask_record, before_record, labels_in, record_by_word, record_of, two_fields}
+use Rattle.log_csv.specs.Records.{alarm, before, ask, nothing, malformed, alarm_record, are_empty, ask_record, before_record, labels_in, record_by_word, record_of, two_fields}
 use Rattle.log_csv.specs.ScriptText.{row_code, row_of}
 use Rattle.log_csv.specs.Reading.{AreNamed, IsNamed, Reads, ReadsRecord}
 

@@ -1,17 +1,17 @@
 -- The text of a log, cut into records again.
-use Rattle.std.proofs.Common.{◌≡◌, ◌+◌, ◌<◌, ◌≤◌, ℕ, suc, Bool, true, false, cond, not, ◌&&◌, ◌||◌, List, [], ◌∷◌, ◌++◌, length, Some, None, refl, arith, ap, sym, ◌∙◌, append_assoc, map}
-use Rattle.std.specs.Prelude.{codes, nat_le, ◌==◌, bytes_eq}
-use Rattle.std.specs.List.{AllByRecursion, flat_map, join_with_byte, list_all, list_any, onto_first, slice_split}
+use Rattle.std.proofs.Common.{◌≡◌, ◌≤◌, ℕ, Bool, true, false, cond, ◌&&◌, ◌||◌, List, [], ◌∷◌, ◌++◌, length, refl, arith, ap, sym, ◌∙◌, append_assoc, map}
+use Rattle.std.specs.Prelude.{codes, nat_le, ◌==◌}
+use Rattle.std.specs.List.{AllByRecursion, flat_map, join_with_byte, list_all, list_any, slice_split}
 use Rattle.std.proofs.lemmas.List.{append-nil}
 use Rattle.csv.specs.Machine.{next_record}
-use Rattle.csv.specs.Reading.{default_config, records, strip_bom}
+use Rattle.csv.specs.Reading.{strip_bom}
 use Rattle.csv.specs.Writing.{default_writer, fields_text, is_blank, needs_byte, row_text}
 use Rattle.csv.specs.declared.parser.State.TheVariants as st
 use Rattle.csv.proofs.RoundTrip.{read-write}
 use Rattle.des_base.specs.Names.{is_name_byte, is_name_text}
 use Rattle.des_base.proofs.BoolLemmas.{both, join, most_is, or_left, otherwise, same}
 use Rattle.log_order.specs.Log.{Alarm, Log}
-use Rattle.log_csv.specs.Records.{Record, alarm, before, are_empty, is_empty, labels_in, record_of, records_of}
+use Rattle.log_csv.specs.Records.{Record, alarm, before, is_empty, labels_in, record_of, records_of}
 use Rattle.log_csv.specs.PrintedLog.{alarm_line, id_of, line_of_ids, log_text, pair_line}
 use Rattle.log_csv.specs.RecordsLeft.{records_in}
 use Rattle.log_csv.proofs.LabelLemmas.{is_bar}

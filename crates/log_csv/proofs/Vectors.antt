@@ -1,15 +1,15 @@
 -- The logs, scripts and first faults of worked texts.
-use Rattle.std.proofs.Common.{◌≡◌, ℕ, List, [], ◌∷◌, ◌++◌, Option, None, Some, refl}
+use Rattle.std.proofs.Common.{◌≡◌, ℕ, [], ◌∷◌, Option, None, Some, refl}
 use Rattle.std.specs.Prelude.{codes}
 use Rattle.csv.proofs.OnLiterals.{csv_on_literals}
 use Rattle.des_base.specs.Names.{is_name_byte, is_name_text}
 use Rattle.log_order.specs.Log.{Log, no_log}
 use Rattle.log_csv.specs.declared.fault.LogFault.{LogFault}
 use Rattle.log_csv.specs.declared.row.Row.TheVariants.{Alarm, Before, Ask}
-use Rattle.log_csv.specs.Records.{Record, alarm, before, ask, nothing, malformed, record_of, records_of}
-use Rattle.log_csv.specs.ScriptText.{first_row_fault, first_script_fault, row_code, script_of}
-use Rattle.log_csv.specs.LogText.{first_fault, first_record_fault, log_of, log_of_records, record_code}
-use Rattle.log_csv.specs.PrintedLog.{alarm_line, line_of_ids, log_text}
+use Rattle.log_csv.specs.Records.{alarm, before, nothing, malformed, record_of}
+use Rattle.log_csv.specs.ScriptText.{first_script_fault, row_code, script_of}
+use Rattle.log_csv.specs.LogText.{first_fault, log_of, log_of_records, record_code}
+use Rattle.log_csv.specs.PrintedLog.{alarm_line, log_text}
 
 abbrev at : ℕ → ℕ → Option LogFault
 at row code = Some (record { row = row; code = code })

@@ -1,5 +1,5 @@
 -- The text that is printed of a log.
-use Rattle.std.specs.Prelude.{ℕ, List, [], ◌∷◌, ◌++◌, codes, option_map, unwrap_or, slice_get}
+use Rattle.std.specs.Prelude.{ℕ, List, [], ◌++◌, codes, option_map, unwrap_or, slice_get}
 use Rattle.std.specs.List.{flat_map, join_with_byte}
 use Rattle.log_order.specs.Log.{Alarm, Log}
 

@@ -1,4 +1,4 @@
-use Rattle.std.proofs.Common.{◌≡◌, ◌∙◌, ◌&&◌, ◌+◌, Bool, ap, sym, drop}
+use Rattle.std.proofs.Common.{◌∙◌, ◌&&◌, ◌+◌, Bool, ap, sym, drop}
 use Rattle.csv.specs.Records.{fields_of}
 use Rattle.log_csv.specs.Records.{are_empty}
 use Rattle.log_csv.proofs.FieldLemmas.{are_empty-at, are_empty-none}

@@ -1,7 +1,6 @@
-use Rattle.std.proofs.Common.{◌∙◌, ap, sym, drop, Bool, cond, Some, None, not}
+use Rattle.std.proofs.Common.{◌∙◌, sym}
 use Rattle.csv.specs.Records.{fields_of}
-use Rattle.log_csv.specs.Records.{are_empty}
-use Rattle.log_csv.proofs.FieldLemmas.{two-none, two-one, two-some, two-all}
+use Rattle.log_csv.proofs.FieldLemmas.{two-none, two-one, two-all}
 use Rattle.log_csv.proofs.fields.two_fields.Goals as goal
 
 pub returns-in_default : goal.returns-in_default

@@ -1,6 +1,5 @@
-use Rattle.std.proofs.Common.{◌≡◌, ◌∙◌, ℕ, List, Option, Some, None, Err, ap, subst, sym}
+use Rattle.std.proofs.Common.{◌≡◌, ◌∙◌, ℕ, List, Option, Err, ap, subst, sym}
 use Rattle.des_base.specs.Names.{place_of}
-use Rattle.log_order.specs.Adding.{names_of}
 use Rattle.log_csv.specs.declared.fault.LogReadRefusal.{LogReadRefusal}
 use Rattle.log_csv.specs.Records.{before}
 use Rattle.log_csv.specs.Reading.{Adds}

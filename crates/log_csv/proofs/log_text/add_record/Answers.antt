@@ -1,4 +1,4 @@
-use Rattle.std.proofs.Common.{Err, subst, sym}
+use Rattle.std.proofs.Common.{subst, sym}
 use Rattle.csv.specs.Records.{fields_of}
 use Rattle.log_csv.specs.declared.fault.LogReadRefusal.{LogReadRefusal}
 use Rattle.log_csv.specs.Records.{record_of}

@@ -1,5 +1,5 @@
 -- each label so far stands behind a bar
-use Rattle.std.proofs.Common.{◌≡◌, ◌++◌, ◌∷◌, take}
+use Rattle.std.proofs.Common.{◌≡◌, ◌++◌, take}
 use Rattle.std.specs.List.{flat_map}
 use Rattle.log_csv.proofs.PrintLemmas.{behind_bar}
 use Rattle.log_csv.proofs.print.print_labels.Given as goal

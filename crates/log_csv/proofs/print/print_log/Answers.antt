@@ -1,4 +1,3 @@
-use Rattle.std.proofs.Common.{subst}
 use Rattle.log_csv.proofs.ReadBackLemmas.{printed-reads_back}
 use Rattle.log_csv.proofs.print.print_log.Goals as goal
 

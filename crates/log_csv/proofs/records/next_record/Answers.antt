@@ -1,4 +1,3 @@
-use Rattle.std.proofs.Common.{ap, sym, refl, true}
 use Rattle.csv.specs.Records.{fields_of}
 use Rattle.log_csv.proofs.NextLemmas.{IsRead-from}
 use Rattle.log_csv.proofs.records.next_record.Goals as goal
