@@ -8,5 +8,6 @@ pub mod PieceLemmas
 pub mod ListTests
 pub mod AcceptLemmas
 pub mod DecideLemmas
+pub mod AnswerLemmas
 pub mod Vectors
 pub mod ReplayVectors

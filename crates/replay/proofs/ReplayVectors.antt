@@ -7,9 +7,10 @@ use Rattle.des_net.proofs.WidthLemmas.{need_is_least}
 use Rattle.des_net.specs.Models.{pump, nothing, apart, meeting, two_starts, masked}
 use Rattle.log_order.specs.Log.{Log, Alarm, no_log}
 use Rattle.replay.specs.declared.run.RunStep.{RunStep}
-use Rattle.replay.specs.Explanation.{IsAbsent, IsExplained, IsLeast}
+use Rattle.replay.specs.Explanation.{IsAbsent, IsExplained, IsLeast, IsMany}
 use Rattle.replay.specs.Matching.{order_of, bad_alarm, missing_alarm, wrong_pair}
 use Rattle.replay.specs.Deciding.{explains}
+use Rattle.replay.proofs.AnswerLemmas.{least_is_one, absent_excludes, many_is_above}
 use Rattle.replay.proofs.DecideLemmas.{explains_decides}
 
 abbrev alarm : List ℕ → List ℕ → Alarm
@@ -149,3 +150,14 @@ nothing-least n = record {
   where
     fits : (k : ℕ) → Fits nothing [] k
     fits k = (need_is_least nothing [] k).1 (omega arith)
+
+-- so 0 is the least number there, and no other one
+pub nothing-least_is_one : (n k : ℕ) → IsLeast nothing no_log n k → k ≡ 0
+nothing-least_is_one n k least = least_is_one nothing no_log n k 0 least (nothing-least n)
+
+pub nothing-not_many : (n : ℕ) → IsMany nothing no_log n → ⊥
+nothing-not_many n many = let above = many_is_above nothing no_log n 0 (nothing-least n) many in absurd (omega arith)
+
+-- and where nothing explains, no number is least
+pub nothing-no_least : (n k : ℕ) → IsLeast nothing one_trip n k → ⊥
+nothing-no_least n k least = (absent_excludes nothing one_trip n (nothing-absent n)).not_least k least
