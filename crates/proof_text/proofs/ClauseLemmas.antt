@@ -6,8 +6,8 @@ use Rattle.prop_core.specs.Clauses.{Clause}
 use Rattle.proof_text.specs.declared.number.Entry.{Entry}
 use Rattle.proof_text.specs.declared.number.Entry.TheVariants.{Literal, End}
 use Rattle.proof_text.specs.SignedNumbers.{Signed, signed_of, plain, literal, entry, within, entry_within}
-use Rattle.proof_text.specs.CnfText.{LinedToken, lined, clauses_of}
-use Rattle.proof_text.specs.ClauseReading.{ended_by, open_after}
+use Rattle.proof_text.specs.CnfText.{LinedToken, lined}
+use Rattle.proof_text.specs.ClauseReading.{ended_by, open_after, clauses_of}
 
 -- the clauses after an entry, where these literals stand before it
 abbrev taken : Entry → Clause → List LinedToken → List Clause

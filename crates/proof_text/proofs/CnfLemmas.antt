@@ -6,11 +6,12 @@ use Rattle.std.specs.Prelude.{◌&&◌, ◌==◌, not, nat_lt, All}
 use Rattle.des_base.specs.CountedLines.{NumberedLine, numbered, counted_lines, tokens_of, last_line}
 use Rattle.prop_core.specs.declared.lit.Lit.{Lit}
 use Rattle.prop_core.specs.Clauses.{Clause, HasValues}
+use Rattle.proof_text.specs.ClauseReading.{clauses_of}
 use Rattle.proof_text.specs.declared.fault.TextFault.{TextFault}
 use Rattle.proof_text.specs.declared.header.Header.{Header}
 use Rattle.proof_text.specs.SignedNumbers.{is_number, is_zero, size_of, literal_of}
 use Rattle.proof_text.specs.TextFaults.{fault_or, not_a_number, unknown_variable, other_count}
-use Rattle.proof_text.specs.CnfText.{LinedToken, most, header_of, limit_code, tokens_in, token_code, left_after, fault_of_tokens, fault_of_lines, fault_of_body, first_cnf_fault, clauses_of}
+use Rattle.proof_text.specs.CnfText.{LinedToken, most, header_of, limit_code, tokens_in, token_code, left_after, fault_of_tokens, fault_of_lines, fault_of_body, first_cnf_fault}
 
 pub within_limits : (header : Header) → header.vars ≤ most → header.clauses ≤ most → limit_code header ≡ None
 within_limits header vars clauses = grind (arith, nat_tests)

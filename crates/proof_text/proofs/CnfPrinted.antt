@@ -8,11 +8,13 @@ use Rattle.std.specs.List.{list_all}
 use Rattle.des_base.specs.CountedLines.{NumberedLine, numbered, counted_from, counted_lines, tokens_of, last_line}
 use Rattle.prop_core.specs.declared.lit.Lit.{Lit}
 use Rattle.prop_core.specs.Clauses.{Clause, HasValues}
+use Rattle.proof_text.specs.ClauseReading.{clauses_of}
 use Rattle.proof_text.specs.SignedNumbers.{is_number, is_zero, size_of, literal_of}
 use Rattle.proof_text.specs.TextFaults.{fault_or, not_a_number, unknown_variable, other_count}
-use Rattle.proof_text.specs.CnfText.{most, stated, header_of, LinedToken, lined, tokens_in, left_after, fault_of_tokens, fault_of_lines, fault_of_body, clauses_of, Formula, formula, formula_of_body, formula_of_lines}
+use Rattle.proof_text.specs.CnfText.{most, stated, header_of, LinedToken, lined, tokens_in, left_after, fault_of_tokens, fault_of_lines, fault_of_body, Formula, formula, formula_of_body, formula_of_lines}
 use Rattle.proof_text.specs.PrintedText.{literal_word, literals_text, clause_text, header_text, formula_text, IsFormulaText}
 use Rattle.proof_text.proofs.CnfLemmas.{within_limits}
+use Rattle.proof_text.proofs.PieceLemmas.{clauses_of-pieces}
 use Rattle.proof_text.proofs.WordLemmas.{IsWord, AreNumerals, numeral_word, numeral_words, spaced, line_of, tokens_of-word, tokens_of-last, tokens_of-line, line_byte, word_in_line, word_before, line_of-bytes, line_of-counts, counted_from-line}
 use Rattle.proof_text.proofs.NumeralLemmas.{number_of-decimal, decimal_numeral, literal_word_numeral, signed, signed_of-literal, ReadsAs, reads_as, literal-signed}
 
@@ -213,5 +215,5 @@ printed_formula f vars clauses known =
           ∙ fault_of-clauses f.vars end 2 f.clauses few known;
       value = ap formula_of_lines (counted f vars clauses known)
           ∙ ap (λ o. formula_of_body o tokens) (header_said f.vars (length f.clauses) v c)
-          ∙ ap (formula f.vars) (clauses_of-clauses f.vars 2 f.clauses few known);
+          ∙ ap (formula f.vars) (sym (clauses_of-pieces tokens) ∙ clauses_of-clauses f.vars 2 f.clauses few known);
     }

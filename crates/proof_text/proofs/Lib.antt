@@ -11,3 +11,4 @@ pub mod WordLemmas
 pub mod NumeralLemmas
 pub mod CnfPrinted
 pub mod LratPrinted
+pub mod PieceLemmas

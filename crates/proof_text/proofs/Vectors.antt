@@ -1,12 +1,14 @@
 -- Worked values of the first fault of a text, and of what it says.
 use Rattle.std.proofs.Common.{◌≡◌, ℕ, List, [], ◌∷◌, ◌++◌, Option, None, refl, true, false}
 use Rattle.std.specs.Prelude.{codes, flat_map}
+use Rattle.std.specs.Fmt.{digits}
 use Rattle.prop_core.specs.declared.lit.Lit.{Lit}
 use Rattle.proof_ledger.specs.declared.checker.ProofStep.TheVariants.{Add, Delete}
 use Rattle.proof_text.specs.declared.fault.TextFault.{TextFault}
 use Rattle.proof_text.specs.SignedNumbers.{is_number, is_zero, size_of}
 use Rattle.proof_text.specs.TextFaults.{fault_at}
 use Rattle.proof_text.specs.CnfText.{first_cnf_fault, formula_of, formula}
+use Rattle.proof_text.specs.PrintedText.{formula_text, steps_text}
 use Rattle.proof_text.specs.LratText.{first_lrat_fault, proof_of}
 
 abbrev yes : ℕ → Lit
@@ -144,3 +146,13 @@ deletion_of_nothing = refl
 
 deletion_of_nothing-proof : proof_of (codes "5 d 0") ≡ Delete [] ∷ []
 deletion_of_nothing-proof = refl
+
+-- ---- printed
+
+printed_formula : formula_text (formula 2 ((yes 0 ∷ no 1 ∷ []) ∷ [] ∷ [])) ≡ codes "p cnf 2 2\n1 -2 0\n0\n"
+unfolding digits
+printed_formula = refl
+
+printed_proof : steps_text (Add 1 5 (yes 1 ∷ []) (1 ∷ 2 ∷ []) ∷ Delete (5 ∷ []) ∷ Add 3 16 [] [] ∷ []) ≡ codes "5 2 0 1 2 0\n1 d 5 0\n16 0 0\n"
+unfolding digits
+printed_proof = refl

@@ -3,7 +3,8 @@ use Rattle.std.specs.Prelude.{ℕ, List, [], ◌∷◌, ◌++◌, if◌then◌el
 use Rattle.prop_core.specs.Clauses.{Clause}
 use Rattle.proof_text.specs.declared.number.Entry.{Entry}
 use Rattle.proof_text.specs.declared.number.Entry.TheVariants.{Literal, End}
-use Rattle.proof_text.specs.SignedNumbers.{is_number}
+use Rattle.proof_text.specs.SignedNumbers.{is_number, is_zero, literal_of}
+use Rattle.proof_text.specs.CnfText.{LinedToken}
 use Rattle.proof_text.specs.TextFaults.{not_a_number, unknown_variable}
 
 -- the clause that an entry ends, where these literals stand before it
@@ -19,3 +20,10 @@ open_after End front = []
 -- the code of a token that isn't a number, or whose variable is too great
 abbrev pub entry_code : List ℕ → ℕ
 entry_code text = if is_number text then unknown_variable else not_a_number
+
+-- the clauses of the tokens, one token after the other, where these literals stand in front
+abbrev pub clauses_of : Clause → List LinedToken → List Clause
+clauses_of front [] = []
+clauses_of front (token ∷ tokens) =
+    if is_zero token.text then front ∷ clauses_of [] tokens
+    else clauses_of (front ++ literal_of token.text ∷ []) tokens

@@ -1,6 +1,7 @@
 -- DIMACS CNF: a header `p cnf V C`, and then the tokens of all further lines, taken together, as C clauses of non-zero
 -- numbers, each ended by `0`.
-use Rattle.std.specs.Prelude.{ℕ, ◌-◌, Bool, true, false, not, ◌&&◌, ◌||◌, ◌==◌, nat_lt, List, [], ◌∷◌, ◌++◌, map, flat_map, codes, bytes_eq, Option, None, Some, option_map, option_and_then, if◌then◌else◌}
+use Rattle.std.specs.Prelude.{ℕ, ◌-◌, Bool, true, false, not, ◌&&◌, ◌||◌, ◌==◌, nat_lt, List, [], ◌∷◌, map, flat_map, codes, bytes_eq, Option, None, Some, option_map, option_and_then, if◌then◌else◌}
+use Rattle.std.specs.List.{slice_split}
 use Rattle.des_base.specs.Numbers.{number_of}
 use Rattle.des_base.specs.CountedLines.{NumberedLine, counted_lines, tokens_of, last_line}
 use Rattle.prop_core.specs.Clauses.{Clause}
@@ -96,12 +97,21 @@ fault_of_lines end (header ∷ lines) = fault_of_body end header.number (header_
 abbrev pub first_cnf_fault : List ℕ → Option TextFault
 first_cnf_fault bytes = fault_of_lines (last_line bytes) (counted_lines 99 bytes)
 
--- the clauses of the tokens, where these literals stand in front
-abbrev pub clauses_of : Clause → List LinedToken → List Clause
-clauses_of front [] = []
-clauses_of front (token ∷ tokens) =
-    if is_zero token.text then front ∷ clauses_of [] tokens
-    else clauses_of (front ++ literal_of token.text ∷ []) tokens
+-- all but the last
+abbrev pub before_last : {X : Type 0} → List X → List X
+before_last [] = []
+before_last (x ∷ []) = []
+before_last (x ∷ next ∷ xs) = x ∷ before_last (next ∷ xs)
+
+abbrev pub ends_clause : LinedToken → Bool
+ends_clause token = is_zero token.text
+
+abbrev pub clause_of : List LinedToken → Clause
+clause_of tokens = map (λ token. literal_of token.text) tokens
+
+-- the clauses of the tokens: the pieces that a `0` ends
+abbrev pub clauses_in : List LinedToken → List Clause
+clauses_in tokens = map clause_of (before_last (slice_split ends_clause tokens))
 
 -- a formula, and how many variables it is over
 pub record Formula : Type 0 where
@@ -113,7 +123,7 @@ formula vars clauses = record { vars = vars; clauses = clauses }
 
 abbrev pub formula_of_body : Option Header → List LinedToken → Formula
 formula_of_body None tokens = formula 0 []
-formula_of_body (Some header) tokens = formula header.vars (clauses_of [] tokens)
+formula_of_body (Some header) tokens = formula header.vars (clauses_in tokens)
 
 abbrev pub formula_of_lines : List NumberedLine → Formula
 formula_of_lines [] = formula 0 []

@@ -1,7 +1,7 @@
 ghost use Rattle.std.specs.Prelude.{◌≡◌, ℕ, ◌≤◌, ◌++◌, ◌∷◌, [], List, MatchResult, IfOk, OnOk, None, false};
 ghost use Rattle.proof_text.specs.TextFaults.{fault_or, IsDue};
-ghost use Rattle.proof_text.specs.ClauseReading.{ended_by, open_after, entry_code};
-ghost use Rattle.proof_text.specs.CnfText.{LinedToken, lined, some_open, end_code, clauses_of, fault_of_tokens};
+ghost use Rattle.proof_text.specs.ClauseReading.{ended_by, open_after, entry_code, clauses_of};
+ghost use Rattle.proof_text.specs.CnfText.{LinedToken, lined, some_open, end_code, fault_of_tokens, clauses_in};
 
 use crate::body::{BodyToken, BodyTokens};
 use crate::fault::{NOT_A_NUMBER, NOT_ENDED, OTHER_COUNT, TextRefusal, UNKNOWN_VARIABLE, fault_at};
@@ -104,7 +104,7 @@ pub(crate) fn read_clauses(
 ) -> Result<ClauseReader, TextRefusal>
     requires { header.vars ≤ VAR_LIMIT }
     ensures faults { (end : ℕ) → MatchResult result (λ reader. fault_of_tokens header.vars end header.clauses false tokens.entry ≡ fault_or end (end_code reader.left (some_open reader.front.items)) None) (IsDue (fault_of_tokens header.vars end header.clauses false tokens.entry)) }
-    ensures clauses { IfOk result (λ reader. reader.clauses.clauses ≡ clauses_of [] tokens.entry) }
+    ensures clauses { IfOk result (λ reader. reader.clauses.clauses ≡ clauses_in tokens.entry) }
 {
     let mut reader = ClauseReader::new(alloc, header);
     while let Some(token) = tokens.next_token() {

@@ -1,8 +1,10 @@
-use Rattle.std.proofs.Common.{◌≡◌, ◌∷◌, ap, sym, subst, ◌∙◌, Option, false}
+use Rattle.std.proofs.Common.{◌≡◌, ◌∷◌, ◌++◌, append-nil, ap, sym, subst, ◌∙◌, Option, false}
 use Rattle.std.proofs.lemmas.Result.{err_from_is_err_and}
 use Rattle.proof_text.specs.declared.fault.TextFault.{TextFault}
+use Rattle.proof_text.specs.ClauseReading.{clauses_of}
 use Rattle.proof_text.specs.TextFaults.{IsDue}
 use Rattle.proof_text.specs.CnfText.{lined, some_open, fault_of_tokens}
+use Rattle.proof_text.proofs.PieceLemmas.{clauses_of-pieces}
 use Rattle.proof_text.proofs.clause_reader.read_clauses.Goals as goal
 
 -- The fault of a token is that of all tokens.
@@ -16,3 +18,12 @@ returns-in_err-take-clause-faults c = λ end.
     ∙ ap (fault_of_tokens c.args.header.vars end reader.left (some_open reader.front.items)) (sym c.in-Some.ensures)
     ∙ c.loop-token.invariant.faults end in
     rw (p.1, p.2) (subst (λ (fault : Option TextFault). IsDue fault c.in_err-take.field-0.0) same (c.in_err-take.ensures.faults end c.next_token.new.self))
+
+-- The pieces that a 0 ends are the clauses that were read.
+pub returns-clause-clauses : goal.returns-clause-clauses
+returns-clause-clauses c =
+    let read = c.loop-token.reader.clauses.clauses in
+    sym (append-nil read)
+    ∙ ap (λ ts. read ++ clauses_of c.loop-token.reader.front.items ts) (sym c.in_default.ensures)
+    ∙ c.loop-token.invariant.clauses
+    ∙ clauses_of-pieces c.args.tokens

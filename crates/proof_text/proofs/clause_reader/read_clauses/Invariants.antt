@@ -1,5 +1,6 @@
 use Rattle.std.proofs.Common.{◌≡◌, ◌++◌, ℕ, length, false, []}
-use Rattle.proof_text.specs.CnfText.{some_open, clauses_of, fault_of_tokens}
+use Rattle.proof_text.specs.ClauseReading.{clauses_of}
+use Rattle.proof_text.specs.CnfText.{some_open, fault_of_tokens}
 use Rattle.proof_text.proofs.clause_reader.read_clauses.Given as goal
 
 -- the faults and the clauses of the tokens to come are those of all
