@@ -1,5 +1,5 @@
 -- Text that is appended.
-use Rattle.std.proofs.Common.{◌≡◌, ◌<◌, ◌≤◌, ◌+◌, ◌-◌, ◌/◌, ◌%◌, ◌^◌, ℕ, zero, suc, Result, Ok, Err, drop, Bool, true, false, cond, Option, None, List, [], ◌∷◌, ◌++◌, length, get_or, take, Some, refl, arith, ap, sym, ◌∙◌, append_assoc, append-nil}
+use Rattle.std.proofs.Common.{◌≡◌, ◌<◌, ◌≤◌, ◌+◌, ◌-◌, ◌/◌, ◌%◌, ◌^◌, ℕ, zero, suc, Result, Ok, Err, drop, Bool, true, false, cond, Option, None, List, [], ◌∷◌, ◌++◌, length, get_or, take, Some, refl, arith, ap, sym, ◌∙◌, append_assoc}
 use Rattle.std.proofs.lemmas.Fmt.{decimal_step}
 use Rattle.std.proofs.lemmas.List.{flat_map_more, take_more}
 use Rattle.std.proofs.lemmas.Option.{slice_get_within}
@@ -8,16 +8,6 @@ use Rattle.prop_core.specs.Clauses.{Clause}
 use Rattle.prop_core.specs.Derivation.{clause_numbered}
 use Rattle.std.specs.Prelude.{flat_map, slice_get, ◌==◌, OnOk}
 use Rattle.std.specs.Fmt.{decimal}
-use Rattle.proof_text.specs.PrintedText.{Extends}
-
-pub nothing_more : (old : List ℕ) → Extends old old
-nothing_more old = record { more = []; is = sym (append-nil old) }
-
-pub extends_all : (old more new : List ℕ) → new ≡ old ++ more → Extends old new
-extends_all old more new h = record { more = more; is = h }
-
-pub extends_further : (old middle new : List ℕ) → Extends old middle → Extends middle new → Extends old new
-extends_further old middle new h k = record { more = h.more ++ k.more; is = k.is ∙ ap (λ l. l ++ k.more) h.is ∙ append_assoc old h.more k.more }
 
 -- the last digit stands behind the digits of the tenth
 pub digit_behind : (old out new : List ℕ) (n : ℕ) → 10 ≤ n → n < 2 ^ 64 → out ≡ old ++ decimal (n / 10) → new ≡ out ++ (48 + n % 10) ∷ [] → new ≡ old ++ decimal n
