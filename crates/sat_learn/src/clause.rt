@@ -1,0 +1,44 @@
+ghost use Rattle.std.specs.Prelude.{◌≡◌, ◌≤◌, ◌++◌, length, OnOk};
+ghost use Rattle.sat_learn.specs.Seen.{negated_seen, level_seen};
+
+use des_base::Memory;
+use prop_core::{Lit, LitList};
+use sat_prop::Trail;
+
+// Adds the negations of the literals that are seen among the first so many, from the last on.
+pub fn add_negated(
+    seen: &[bool],
+    literals: &[Lit],
+    count: usize,
+    clause: &mut LitList,
+) -> Result<(), Memory>
+    requires seen { count ≤ length seen.now }
+    requires literals { count ≤ length literals.now }
+    ensures { OnOk result (clause.new ≡ clause.old ++ negated_seen literals.now seen.now count) }
+{
+    let mut place = count;
+    'down: while place > 0 {
+        place -= 1;
+        if seen[place] {
+            clause.push(literals[place].negated())?;
+        }
+    }
+    Ok(())
+}
+
+// The level of the last place that is seen among the first so many.
+pub fn last_level(seen: &[bool], trail: &Trail, count: usize) -> u32
+    requires seen { count ≤ length seen.now }
+    requires literals { count ≤ length trail.now.literals }
+    ensures { result ≡ level_seen trail.now.reasons seen.now count }
+{
+    let literals = trail.literals();
+    let mut place = count;
+    'down: while place > 0 {
+        place -= 1;
+        if seen[place] {
+            return trail.level_of(literals[place].var);
+        }
+    }
+    0
+}

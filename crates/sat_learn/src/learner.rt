@@ -1,0 +1,215 @@
+ghost use Rattle.std.specs.Prelude.{◌≡◌, ℕ, ◌<◌, ◌≤◌, ◌∷◌, [], length, replicate, true, false, is_none, vec_capacity, IfOk, OnOk};
+ghost use Rattle.prop_core.specs.Clauses.{is_false};
+ghost use Rattle.sat_prop.specs.TrailState.{StandsAt, reason_at};
+ghost use Rattle.sat_prop.specs.Levels.{level_of};
+ghost use Rattle.sat_prop.specs.Quiet.{IsConflict};
+ghost use Rattle.sat_prop.specs.Changes.{IsFront};
+ghost use Rattle.sat_learn.specs.Seen.{is_seen};
+ghost use Rattle.sat_learn.specs.Learnt.{IsLearnt, IsClosing};
+
+use crate::clause::{add_negated, last_level};
+use crate::resolving::{begin, resolve_to_decisions, resolve_to_one};
+use des_base::Memory;
+use prop_core::{ClauseId, Clauses, IdList, Lit, LitList};
+use sat_prop::Trail;
+use std::alloc::Global;
+use std::marker::Model;
+
+/// A clause that derives by its hints, and the level to go back to.
+#[derive(Drop)]
+pub struct Learnt {
+    pub clause: LitList,
+    pub hints: IdList,
+    pub level: u32,
+}
+
+/// Learns from conflicts.
+///
+/// Its value is the number of literals that it has room for.
+#[derive(Drop)]
+pub struct Learner {
+    alloc: Global,
+    seen: Vec<bool>,
+}
+
+impl Model for Learner {
+    ghost use Rattle.std.specs.Prelude.{ℕ, vec_capacity};
+
+    ghost Value = { ℕ };
+
+    ghost view = { λ a. vec_capacity a.seen };
+}
+
+impl Learner {
+    /// It has room for no literals.
+    pub fn new(alloc: Global) -> Learner
+        ensures { result ≡ 0 }
+    {
+        Learner {
+            alloc,
+            seen: Vec::new(alloc),
+        }
+    }
+
+    /// Takes memory for the literals of so many variables beforehand.
+    pub fn grow(&mut self, vars: u32) -> Result<(), Memory>
+        ensures ok { OnOk result (vars ≤ self.new) }
+        ensures kept { self.old ≤ self.new }
+    {
+        self.seen.clear();
+        self.seen.reserve(vars as usize)?;
+        Ok(())
+    }
+
+    /// The clause of the first implication point, where the trail has a decision and a clause is false.
+    pub fn analyse(
+        &mut self,
+        trail: &Trail,
+        db: &Clauses,
+        conflict: ClauseId,
+    ) -> Result<Learnt, Memory>
+        requires grown { IsFront trail.now.clauses db.now.clauses }
+        requires conflict { IsConflict trail.now conflict }
+        requires decided { 0 < level_of trail.now.reasons }
+        ensures kept { self.old ≤ self.new }
+        ensures learnt { IfOk result (λ l. IsLearnt trail.now db.now.clauses l.clause l.hints l.level) }
+    {
+        unsee(&mut self.seen, trail.len() as usize)?;
+        learn(&mut self.seen, self.alloc, trail, db, conflict)
+    }
+
+    /// The clause of the decisions that a conflict depends on.
+    pub fn analyse_final(
+        &mut self,
+        trail: &Trail,
+        db: &Clauses,
+        conflict: ClauseId,
+    ) -> Result<Learnt, Memory>
+        requires grown { IsFront trail.now.clauses db.now.clauses }
+        requires conflict { IsConflict trail.now conflict }
+        ensures kept { self.old ≤ self.new }
+        ensures closing { IfOk result (λ l. IsClosing trail.now db.now.clauses [] l.clause l.hints) }
+        ensures level { IfOk result (λ l. l.level ≡ 0) }
+    {
+        unsee(&mut self.seen, trail.len() as usize)?;
+        close(&mut self.seen, self.alloc, trail, db, conflict)
+    }
+
+    /// The clause of the decisions that make a literal false, and of the literal's own negation. Its variable was not decided.
+    pub fn analyse_failed(
+        &mut self,
+        trail: &Trail,
+        db: &Clauses,
+        lit: Lit,
+    ) -> Result<Learnt, Memory>
+        requires grown { IsFront trail.now.clauses db.now.clauses }
+        requires false_now { is_false trail.now.literals lit ≡ true }
+        requires forced { (place : ℕ) → StandsAt trail.now.literals lit.var place → is_none (reason_at trail.now.reasons place) ≡ false }
+        ensures kept { self.old ≤ self.new }
+        ensures closing { IfOk result (λ l. IsClosing trail.now db.now.clauses (lit ∷ []) l.clause l.hints) }
+        ensures level { IfOk result (λ l. l.level ≡ 0) }
+    {
+        unsee(&mut self.seen, trail.len() as usize)?;
+        close_failed(&mut self.seen, self.alloc, trail, db, lit)
+    }
+}
+
+// Makes so many places, of which none is seen.
+fn unsee(seen: &mut Vec<bool>, count: usize) -> Result<(), Memory>
+    ensures kept { vec_capacity seen.old ≤ vec_capacity seen.new }
+    ensures ok { OnOk result (seen.new.items ≡ replicate count false) }
+{
+    seen.clear();
+    seen.resize(count, false)?;
+    Ok(())
+}
+
+fn learn(
+    seen: &mut [bool],
+    alloc: Global,
+    trail: &Trail,
+    db: &Clauses,
+    conflict: ClauseId,
+) -> Result<Learnt, Memory>
+    requires grown { IsFront trail.now.clauses db.now.clauses }
+    requires size { length seen.old ≡ length trail.now.literals }
+    requires cleared { (place : ℕ) → is_seen seen.old place ≡ false }
+    requires conflict { IsConflict trail.now conflict }
+    requires decided { 0 < level_of trail.now.reasons }
+    ensures learnt { IfOk result (λ l. IsLearnt trail.now db.now.clauses l.clause l.hints l.level) }
+{
+    let literals = trail.literals();
+    let start = trail.last_decision() as usize;
+    let mut hints = Vec::new(alloc);
+    let first = begin(seen, trail, db, conflict, start, &mut hints)?;
+    let place = resolve_to_one(seen, trail, db, start, first, &mut hints)?;
+    let mut clause = LitList::new(alloc);
+    clause.push(literals[place].negated())?;
+    add_negated(seen, literals, start, &mut clause)?;
+    let level = last_level(seen, trail, start);
+    hints.reverse();
+    Ok(Learnt {
+        clause,
+        hints: IdList::from_slice(alloc, &hints)?,
+        level,
+    })
+}
+
+fn close(
+    seen: &mut [bool],
+    alloc: Global,
+    trail: &Trail,
+    db: &Clauses,
+    conflict: ClauseId,
+) -> Result<Learnt, Memory>
+    requires grown { IsFront trail.now.clauses db.now.clauses }
+    requires size { length seen.old ≡ length trail.now.literals }
+    requires cleared { (place : ℕ) → is_seen seen.old place ≡ false }
+    requires conflict { IsConflict trail.now conflict }
+    ensures closing { IfOk result (λ l. IsClosing trail.now db.now.clauses [] l.clause l.hints) }
+    ensures level { IfOk result (λ l. l.level ≡ 0) }
+{
+    let literals = trail.literals();
+    let mut hints = Vec::new(alloc);
+    begin(seen, trail, db, conflict, 0, &mut hints)?;
+    resolve_to_decisions(seen, trail, db, &mut hints)?;
+    let mut clause = LitList::new(alloc);
+    add_negated(seen, literals, literals.len(), &mut clause)?;
+    hints.reverse();
+    Ok(Learnt {
+        clause,
+        hints: IdList::from_slice(alloc, &hints)?,
+        level: 0,
+    })
+}
+
+fn close_failed(
+    seen: &mut [bool],
+    alloc: Global,
+    trail: &Trail,
+    db: &Clauses,
+    lit: Lit,
+) -> Result<Learnt, Memory>
+    requires grown { IsFront trail.now.clauses db.now.clauses }
+    requires size { length seen.old ≡ length trail.now.literals }
+    requires cleared { (place : ℕ) → is_seen seen.old place ≡ false }
+    requires false_now { is_false trail.now.literals lit ≡ true }
+    requires forced { (place : ℕ) → StandsAt trail.now.literals lit.var place → is_none (reason_at trail.now.reasons place) ≡ false }
+    ensures closing { IfOk result (λ l. IsClosing trail.now db.now.clauses (lit ∷ []) l.clause l.hints) }
+    ensures level { IfOk result (λ l. l.level ≡ 0) }
+{
+    let literals = trail.literals();
+    let place = trail.place_of(lit.var) as usize;
+    seen[place] = true;
+    let mut hints = Vec::new(alloc);
+    resolve_to_decisions(seen, trail, db, &mut hints)?;
+    let mut clause = LitList::new(alloc);
+    clause.push(lit.negated())?;
+    add_negated(seen, literals, literals.len(), &mut clause)?;
+    hints.reverse();
+    Ok(Learnt {
+        clause,
+        hints: IdList::from_slice(alloc, &hints)?,
+        level: 0,
+    })
+}

@@ -1,0 +1,17 @@
+//! What is learnt from a conflict, with the hints by which it derives.
+//!
+//! - From a conflict the places of the trail are *seen* that its clause depends on. A place is *resolved* where the reason
+//!   of its literal comes in its stead; the hints are the conflict and the reasons, the last first.
+//! - The *learnt* clause stops at the first implication point: one literal of the present level is left. It derives, it is
+//!   false by the trail, and one level back its first literal would be forced.
+//! - A *closing* clause goes down to decisions: it holds negations of decisions alone.
+#![tactic(auto)]
+
+mod clause;
+mod learner;
+mod resolving;
+
+pub use learner::{Learner, Learnt};
+
+#[cfg(test)]
+mod tests;

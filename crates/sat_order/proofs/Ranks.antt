@@ -1,0 +1,32 @@
+-- The stored ranks, where one more is asked for.
+use Rattle.std.proofs.Common.{◌≡◌, ◌∙◌, ℕ, suc, ◌+◌, ◌-◌, ◌<◌, ◌≤◌, Bool, true, ◌++◌, ◌∷◌, [], List, refl, ap, sym, length, get_or, arith, subst, ⊎_elim, append_assoc, replicate}
+use Rattle.std.proofs.lemmas.Grind.{common_steps}
+use Rattle.std.proofs.lemmas.Bool.{cases_eq}
+use Rattle.des_base.specs.declared.TheConstants.{VAR_LIMIT}
+use Rattle.sat_order.specs.Waiting.{rank_of}
+use Rattle.sat_order.specs.Rank.{IsRanked, OrderState}
+
+pub IsRanked-more : {R : Type 0} (may : R → ℕ → Type 0) (gives : R → ℕ → ℕ → Type 0) (rank : R) (ranks : List ℕ) (waiting : List Bool) (answer : ℕ) →
+    IsRanked may gives (record { rank = rank; ranks = ranks; waiting = waiting }) → length ranks < VAR_LIMIT → gives rank (length ranks) answer →
+    IsRanked may gives (record { rank = rank; ranks = ranks ++ answer ∷ []; waiting = waiting ++ true ∷ [] })
+IsRanked-more may gives rank ranks waiting answer r limit given = record {
+  rank = r.rank;
+  each = λ var h. ⊎_elim
+      (λ e. let a : get_or (ranks ++ answer ∷ []) (length ranks) 0 ≡ answer = grind (arith, common_steps) in
+      subst (λ (n : ℕ). gives rank n (rank_of (ranks ++ answer ∷ []) n)) (sym e) (subst (λ (m : ℕ). gives rank (length ranks) m) (sym a) given))
+      (λ n. let b : var < length ranks = grind (arith, common_steps) in
+      let a : get_or (ranks ++ answer ∷ []) var 0 ≡ get_or ranks var 0 = grind (arith, common_steps) in
+      subst (λ (m : ℕ). gives rank var m) (sym a) (r.each var b))
+      (cases_eq var (length ranks));
+  limit = grind (arith, common_steps);
+  same = let s = r.same in grind (arith, common_steps);
+}
+
+-- one more waits
+pub waiting_more : (old now new : List Bool) (var : ℕ) → now ≡ old ++ replicate (var - length old) true → new ≡ now ++ true ∷ [] → length old ≤ var → new ≡ old ++ replicate (var + 1 - length old) true
+waiting_more old now new var e f h =
+    let n : var + 1 - length old ≡ suc (var - length old) = omega arith in
+    f ∙ rw (e, n) (append_assoc old (replicate (var - length old) true) (true ∷ []) ∙ ap (λ xs. old ++ xs) (at_end (var - length old)))
+  where
+    at_end : (k : ℕ) → replicate k true ++ true ∷ [] ≡ replicate (suc k) true
+    at_end k = grind (arith, common_steps)

@@ -1,0 +1,5 @@
+pub mod TrailState
+pub mod Levels
+pub mod Quiet
+pub mod Changes
+pub mod Kept

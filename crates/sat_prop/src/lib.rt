@@ -1,0 +1,16 @@
+//! The trail: literals that are true, in the order in which they became so, by decision or by unit propagation.
+//!
+//! - A clause is *attached* so that propagation looks at it. It is *false* where all its literals are false, and *unit*
+//!   where one literal is open and all others are false; that literal is then *forced*, and the clause is its *reason*.
+//! - Each decision begins a *level*. Just before each decision no attached clause is false or unit.
+//! - After quiet propagation no attached clause is false or unit; a conflict names one that is false.
+//! - Value, level and reason of a variable are found in constant time.
+#![tactic(auto)]
+
+mod standing;
+mod trail;
+
+pub use trail::{Propagated, Trail};
+
+#[cfg(test)]
+mod tests;
