@@ -1,7 +1,7 @@
 -- A conflict, which begins an analysis.
-use Rattle.std.proofs.Common.{◌≡◌, ◌∙◌, ℕ, ◌+◌, ◌-◌, ◌<◌, ◌≤◌, Bool, true, false, ◌∷◌, [], List, refl, ap, sym, length, take, drop, get_or, arith, subst, inl, ⊎_elim}
-use Rattle.std.specs.Prelude.{Option, Some, None, ◌⊎◌, reverse, Contains}
-use Rattle.std.specs.List.{list_any, list_all}
+use Rattle.std.proofs.Common.{◌≡◌, ◌∙◌, ℕ, ◌-◌, ◌<◌, Bool, true, false, ◌∷◌, [], List, refl, ap, sym, length, take, drop, get_or, arith, subst, inl, ⊎_elim}
+use Rattle.std.specs.Prelude.{Option, Some, None, reverse, Contains}
+use Rattle.std.specs.List.{list_all}
 use Rattle.std.proofs.lemmas.Grind.{common_steps}
 use Rattle.std.proofs.lemmas.Bool.{cases_lt}
 use Rattle.prop_core.specs.declared.lit.Lit.{Lit}

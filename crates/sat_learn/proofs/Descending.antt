@@ -1,6 +1,6 @@
 -- The way down to the one place that is left.
-use Rattle.std.proofs.Common.{◌≡◌, ◌∙◌, ℕ, ◌+◌, ◌-◌, ◌<◌, ◌≤◌, Bool, true, false, ◌∷◌, [], List, refl, ap, sym, length, drop, zero, suc, get_or, arith, ⊎_elim}
-use Rattle.std.specs.Prelude.{count_by, slice_set, ◌⊎◌, Option}
+use Rattle.std.proofs.Common.{◌≡◌, ◌∙◌, ℕ, ◌+◌, ◌-◌, ◌<◌, ◌≤◌, Bool, true, false, ◌∷◌, [], List, refl, sym, length, drop, zero, suc, get_or, arith, ⊎_elim}
+use Rattle.std.specs.Prelude.{count_by, slice_set}
 use Rattle.std.proofs.lemmas.Grind.{common_steps}
 use Rattle.std.proofs.lemmas.Bool.{cases_Bool, cases_lt}
 use Rattle.sat_learn.specs.Seen.{count_seen, IsFound}

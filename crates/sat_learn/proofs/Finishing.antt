@@ -1,5 +1,5 @@
 -- The clause that the places that are seen make.
-use Rattle.std.proofs.Common.{◌≡◌, ◌∙◌, ℕ, ◌+◌, ◌-◌, ◌<◌, ◌≤◌, Bool, true, false, not, ◌&&◌, ◌||◌, nat_eq, nat_lt, ◌++◌, ◌∷◌, [], List, refl, ap, sym, map, length, take, zero, suc, get_or, arith, subst, inl, inr, ⊎_elim, eqb, cond}
+use Rattle.std.proofs.Common.{◌≡◌, ◌∙◌, ℕ, ◌+◌, ◌<◌, ◌≤◌, Bool, true, false, not, ◌&&◌, nat_eq, nat_lt, ◌++◌, ◌∷◌, [], List, refl, ap, sym, map, length, take, zero, suc, get_or, arith, subst, inl, inr, ⊎_elim, eqb, cond}
 use Rattle.std.specs.Prelude.{Option, ◌⊎◌, reverse, count_by, is_none}
 use Rattle.std.specs.List.{list_any, list_all}
 use Rattle.std.specs.Bool.{beq}
@@ -8,11 +8,11 @@ use Rattle.std.proofs.lemmas.Bool.{eqb-true, eq-eqb, and_from, or_cases, or_righ
 use Rattle.std.proofs.lemmas.Bool.Decides.{nat_tests}
 use Rattle.std.proofs.lemmas.List.Sums.{sum_by-take-drop}
 use Rattle.prop_core.specs.declared.lit.Lit.{Lit}
-use Rattle.prop_core.specs.Clauses.{Clause, negation, same_literal, is_true, is_false, is_open}
+use Rattle.prop_core.specs.Clauses.{Clause, negation, same_literal, is_true, is_false}
 use Rattle.prop_core.specs.Derivation.{Derives, clause_numbered}
 use Rattle.prop_core.specs.Trail.{no_literal, has_var, HasVarsOnce}
 use Rattle.prop_core.proofs.Entailed.{same_itself}
-use Rattle.prop_core.proofs.Literals.{same_is, negation_twice, not_self, place_found, true_at, all_from, has_back, once_same, once_cons, once_none, once_apart, open_shorter, open_negation}
+use Rattle.prop_core.proofs.Literals.{same_is, negation_twice, not_self, true_at, all_from, has_back, once_same, once_cons, once_none, once_apart, open_shorter, open_negation}
 use Rattle.sat_prop.specs.TrailState.{TrailState, IsJustified}
 use Rattle.sat_prop.specs.Levels.{level_at, IsLastDecision, IsGreatestLevel}
 use Rattle.sat_prop.proofs.Justifying.{justified_once}

@@ -1,5 +1,5 @@
 -- What a conflict gives.
-use Rattle.std.specs.Prelude.{◌≡◌, ℕ, ◌<◌, ◌⊎◌, true, List, [], ◌∷◌, take, length, is_none}
+use Rattle.std.specs.Prelude.{◌≡◌, ℕ, ◌<◌, ◌⊎◌, true, List, ◌∷◌, take, length, is_none}
 use Rattle.std.specs.List.{list_any, list_all}
 use Rattle.prop_core.specs.declared.lit.Lit.{Lit}
 use Rattle.prop_core.specs.Clauses.{Clause, negation, same_literal, is_true, is_false, is_open}

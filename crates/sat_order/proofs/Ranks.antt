@@ -1,10 +1,10 @@
 -- The stored ranks, where one more is asked for.
-use Rattle.std.proofs.Common.{◌≡◌, ◌∙◌, ℕ, suc, ◌+◌, ◌-◌, ◌<◌, ◌≤◌, Bool, true, ◌++◌, ◌∷◌, [], List, refl, ap, sym, length, get_or, arith, subst, ⊎_elim, append_assoc, replicate}
+use Rattle.std.proofs.Common.{◌≡◌, ◌∙◌, ℕ, suc, ◌+◌, ◌-◌, ◌<◌, ◌≤◌, Bool, true, ◌++◌, ◌∷◌, [], List, ap, sym, length, get_or, arith, subst, ⊎_elim, append_assoc, replicate}
 use Rattle.std.proofs.lemmas.Grind.{common_steps}
 use Rattle.std.proofs.lemmas.Bool.{cases_eq}
 use Rattle.des_base.specs.declared.TheConstants.{VAR_LIMIT}
 use Rattle.sat_order.specs.Waiting.{rank_of}
-use Rattle.sat_order.specs.Rank.{IsRanked, OrderState}
+use Rattle.sat_order.specs.Rank.{IsRanked}
 
 pub IsRanked-more : {R : Type 0} (may : R → ℕ → Type 0) (gives : R → ℕ → ℕ → Type 0) (rank : R) (ranks : List ℕ) (waiting : List Bool) (answer : ℕ) →
     IsRanked may gives (record { rank = rank; ranks = ranks; waiting = waiting }) → length ranks < VAR_LIMIT → gives rank (length ranks) answer →

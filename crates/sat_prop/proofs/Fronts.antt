@@ -4,10 +4,8 @@ use Rattle.std.specs.Prelude.{◌⊎◌, Contains, slice_get, slice_index, IfSom
 use Rattle.std.proofs.lemmas.Grind.{common_steps}
 use Rattle.std.proofs.lemmas.Bool.{cases_eq, eqb-false, ne_eqb}
 use Rattle.std.proofs.lemmas.Option.{slice_get_within, get_or_from_slice_get, slice_get-get_or}
-use Rattle.prop_core.specs.declared.lit.Lit.{Lit}
 use Rattle.prop_core.specs.Clauses.{Clause, HasValues}
 use Rattle.prop_core.specs.Derivation.{clause_numbered}
-use Rattle.prop_core.specs.Trail.{no_literal}
 use Rattle.sat_prop.specs.TrailState.{IsKnownClause, AreKnown}
 use Rattle.sat_prop.specs.Changes.{IsFront}
 

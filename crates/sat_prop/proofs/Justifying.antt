@@ -1,6 +1,6 @@
 -- A trail stays justified, and quiet before its decisions, as it changes.
-use Rattle.std.proofs.Common.{◌≡◌, ◌∙◌, ℕ, ◌+◌, ◌-◌, ◌<◌, ◌≤◌, Bool, true, false, ◌||◌, ◌++◌, ◌∷◌, [], List, refl, ap, sym, map, length, take, get_or, arith, subst, inl, inr, ⊎_elim, eqb, Option, Some, None}
-use Rattle.std.specs.Prelude.{◌⊎◌, Contains, count_by, is_none, slice_index, nat_eq}
+use Rattle.std.proofs.Common.{◌≡◌, ◌∙◌, ℕ, ◌+◌, ◌<◌, ◌≤◌, true, ◌||◌, ◌++◌, ◌∷◌, [], List, ap, sym, map, length, take, get_or, arith, subst, ⊎_elim, Option, Some, None}
+use Rattle.std.specs.Prelude.{Contains, count_by, is_none, nat_eq}
 use Rattle.std.specs.List.{list_any, list_all}
 use Rattle.std.proofs.lemmas.Grind.{common_steps}
 use Rattle.std.proofs.lemmas.Bool.{and_parts, eqb-true, eq-eqb, or_cases, or_left, or_right}
@@ -8,15 +8,15 @@ use Rattle.std.proofs.lemmas.List.Elements.{All-push, All-take, All-weaker}
 use Rattle.std.proofs.lemmas.Map.Steps.{length-le_from_distinct_below}
 use Rattle.prop_core.specs.declared.lit.Lit.{Lit}
 use Rattle.prop_core.specs.Clauses.{Clause, same_literal, is_false, is_open, HasValues}
-use Rattle.prop_core.specs.Derivation.{Standing, falsified, unit, standing, clause_numbered}
-use Rattle.prop_core.specs.Trail.{is_quiet, is_forced_by, no_literal, has_var, HasVarsOnce}
+use Rattle.prop_core.specs.Derivation.{unit, standing, clause_numbered}
+use Rattle.prop_core.specs.Trail.{is_quiet, no_literal, has_var, HasVarsOnce}
 use Rattle.prop_core.proofs.Literals.{differs, below_at, below_var, once_from_apart, AreConsistent, once_consistent}
-use Rattle.prop_core.proofs.Forcing.{Forces, unit_forces}
-use Rattle.sat_prop.specs.TrailState.{TrailState, literal_at, reason_at, IsReason, IsJustified, IsKnownClause, AreKnown}
-use Rattle.sat_prop.specs.Quiet.{stands, AreQuiet, AreQuietBelow, WasQuietBefore, JoinsQuietly}
+use Rattle.prop_core.proofs.Forcing.{unit_forces}
+use Rattle.sat_prop.specs.TrailState.{TrailState, IsReason, IsJustified, IsKnownClause, AreKnown}
+use Rattle.sat_prop.specs.Quiet.{stands, AreQuiet, WasQuietBefore, JoinsQuietly}
 use Rattle.sat_prop.specs.Changes.{IsFront, Propagates, with_literal, with_clause}
 use Rattle.sat_prop.specs.Kept.{IsTrailState}
-use Rattle.sat_prop.proofs.Fronts.{split_last, front_more, front_held, front_same, known_at, contains_more, contains_at}
+use Rattle.sat_prop.proofs.Fronts.{split_last, front_more, front_held, front_same, known_at, contains_more}
 
 -- the variables of a trail are apart
 pub justified_once : (cs : List Clause) (att : List ℕ) (literals : List Lit) (reasons : List (Option ℕ)) (vars : ℕ) → IsJustified cs att literals reasons vars → HasVarsOnce literals

@@ -1,8 +1,8 @@
 -- Levels by place, and where each begins.
-use Rattle.std.proofs.Common.{◌≡◌, ◌∙◌, ℕ, zero, suc, ◌+◌, ◌-◌, ◌<◌, ◌≤◌, Bool, true, false, ◌++◌, ◌∷◌, [], List, refl, ap, sym, length, take, drop, get_or, arith, subst, ⊎_elim, Option, Some, None, cond}
-use Rattle.std.specs.Prelude.{◌⊎◌, count_by, is_none, slice_index}
+use Rattle.std.proofs.Common.{◌≡◌, ◌∙◌, ℕ, zero, suc, ◌+◌, ◌-◌, ◌<◌, ◌≤◌, true, false, ◌++◌, ◌∷◌, [], List, refl, ap, sym, length, take, drop, get_or, arith, subst, ⊎_elim, Option, Some, None, cond}
+use Rattle.std.specs.Prelude.{count_by, is_none}
 use Rattle.std.proofs.lemmas.Grind.{common_steps}
-use Rattle.std.proofs.lemmas.Bool.{cases_Bool, cases_eq, cases_lt}
+use Rattle.std.proofs.lemmas.Bool.{cases_lt}
 use Rattle.std.proofs.lemmas.List.Sums.{sum_by-take-drop, count_by_more_yes, count_by-le-length}
 use Rattle.prop_core.specs.declared.lit.Lit.{Lit}
 use Rattle.prop_core.specs.Clauses.{is_open}

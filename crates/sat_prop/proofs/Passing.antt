@@ -1,10 +1,10 @@
 -- One look at all attached clauses.
-use Rattle.std.proofs.Common.{◌≡◌, ◌∙◌, ℕ, ◌+◌, ◌<◌, ◌≤◌, true, false, ◌++◌, ◌∷◌, [], List, refl, ap, sym, length, get_or, arith, subst, ⊎_elim, Option, Some}
+use Rattle.std.proofs.Common.{◌≡◌, ◌∙◌, ℕ, ◌+◌, ◌<◌, true, List, refl, ap, sym, length, get_or, arith, subst, ⊎_elim, Some}
 use Rattle.std.specs.Prelude.{slice_index}
 use Rattle.std.proofs.lemmas.Grind.{common_steps}
 use Rattle.prop_core.specs.declared.lit.Lit.{Lit}
 use Rattle.prop_core.specs.Clauses.{Clause}
-use Rattle.prop_core.specs.Derivation.{Standing, standing, clause_numbered, unit, falsified}
+use Rattle.prop_core.specs.Derivation.{Standing, standing, clause_numbered}
 use Rattle.prop_core.specs.Trail.{is_quiet}
 use Rattle.sat_prop.specs.TrailState.{TrailState, IsKnownClause}
 use Rattle.sat_prop.specs.Quiet.{stands, AreQuietBelow}

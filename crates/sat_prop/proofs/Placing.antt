@@ -1,12 +1,12 @@
 -- The places of literals, and the values that are read by them.
-use Rattle.std.proofs.Common.{◌≡◌, ◌∙◌, ℕ, ◌+◌, ◌<◌, ◌≤◌, Bool, true, false, ◌++◌, ◌∷◌, [], List, refl, ap, sym, length, take, get_or, arith, subst, ⊎_elim, Option, Some, None, cond, replicate}
-use Rattle.std.specs.Prelude.{◌⊎◌, slice_set, slice_index}
+use Rattle.std.proofs.Common.{◌≡◌, ◌∙◌, ℕ, ◌+◌, ◌<◌, Bool, true, false, ◌++◌, ◌∷◌, [], List, refl, ap, sym, length, take, get_or, arith, subst, ⊎_elim, Some, None, replicate}
+use Rattle.std.specs.Prelude.{slice_set, slice_index}
 use Rattle.std.proofs.lemmas.Grind.{common_steps}
-use Rattle.std.proofs.lemmas.Bool.{cases_Bool, cases_eq}
+use Rattle.std.proofs.lemmas.Bool.{cases_Bool}
 use Rattle.prop_core.specs.declared.lit.Lit.{Lit}
-use Rattle.prop_core.specs.Clauses.{Clause, negation, is_true, is_open}
+use Rattle.prop_core.specs.Clauses.{is_true, is_open}
 use Rattle.prop_core.specs.Trail.{no_literal, has_var}
-use Rattle.prop_core.proofs.Literals.{literal_of, literal_is, differs, true_at, place_found, has_at, has_back, AreConsistent}
+use Rattle.prop_core.proofs.Literals.{literal_of, literal_is, differs, true_at, place_found, has_back, AreConsistent}
 use Rattle.sat_prop.specs.TrailState.{literal_at, value_by, StandsAt}
 use Rattle.sat_prop.specs.Kept.{ArePlaces}
 use Rattle.sat_prop.proofs.Fronts.{split_last}

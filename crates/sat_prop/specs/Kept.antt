@@ -1,8 +1,8 @@
 -- What is kept beside the literals, so that value, level and reason of a variable are found at once.
-use Rattle.std.specs.Prelude.{◌≡◌, ℕ, ◌+◌, ◌<◌, ◌≤◌, ◌^◌, true, List, length, Option, Some, None, slice_index}
+use Rattle.std.specs.Prelude.{◌≡◌, ℕ, ◌<◌, true, List, length, Option, Some, None, slice_index}
 use Rattle.prop_core.specs.declared.lit.Lit.{Lit}
 use Rattle.prop_core.specs.Clauses.{Clause, is_false, is_open}
-use Rattle.prop_core.specs.Derivation.{Standing, falsified, unit, standing}
+use Rattle.prop_core.specs.Derivation.{falsified, unit, standing}
 use Rattle.prop_core.specs.Trail.{is_quiet, is_forced_by}
 use Rattle.std.specs.List.{list_all}
 use Rattle.sat_prop.specs.declared.standing.Stands.{Stands}
@@ -11,7 +11,7 @@ use Rattle.sat_prop.specs.declared.trail.Pass.{Pass}
 use Rattle.sat_prop.specs.declared.trail.Pass.TheVariants as passes
 use Rattle.sat_prop.specs.TrailState.{TrailState, literal_at, IsJustified, AreKnown}
 use Rattle.sat_prop.specs.Levels.{level_of, level_at, IsCut}
-use Rattle.sat_prop.specs.Quiet.{AreQuiet, IsQuietAtDecisions, WasQuietBefore, IsConflict}
+use Rattle.sat_prop.specs.Quiet.{AreQuiet, IsQuietAtDecisions, IsConflict}
 
 -- The place of each literal's variable. What is kept of a variable that has no literal doesn't matter.
 pub record ArePlaces (vars : ℕ) (literals : List Lit) (places : List ℕ) : Type 0 where

@@ -1,5 +1,5 @@
 -- What a trail holds, and when it is justified.
-use Rattle.std.specs.Prelude.{◌≡◌, ℕ, ◌+◌, ◌<◌, ◌≤◌, Bool, true, false, List, [], ◌∷◌, take, length, Option, Some, None, Contains, slice_index, slice_index_or, if◌then◌else◌}
+use Rattle.std.specs.Prelude.{◌≡◌, ℕ, ◌<◌, Bool, true, false, List, take, length, Option, Some, None, Contains, slice_index, slice_index_or, if◌then◌else◌}
 use Rattle.prop_core.specs.declared.lit.Lit.{Lit}
 use Rattle.prop_core.specs.Clauses.{Clause, HasValues, is_true, is_open}
 use Rattle.prop_core.specs.Derivation.{clause_numbered}

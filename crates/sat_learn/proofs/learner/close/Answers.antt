@@ -1,4 +1,4 @@
-use Rattle.std.proofs.Common.{◌≡◌, ◌∙◌, ℕ, ◌<◌, [], List, refl, length, get_or, arith, sym, subst, ap}
+use Rattle.std.proofs.Common.{◌∙◌, [], length, ap}
 use Rattle.sat_learn.proofs.Closing.{closing_from, closing_same, negated_same}
 use Rattle.sat_learn.proofs.learner.close.Goals as goal
 

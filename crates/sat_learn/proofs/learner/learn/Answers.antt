@@ -1,10 +1,7 @@
-use Rattle.std.proofs.Common.{◌≡◌, ◌∙◌, ℕ, ◌<◌, ◌∷◌, ◌++◌, [], List, refl, length, get_or, arith, sym, ap, subst}
-use Rattle.std.specs.Prelude.{reverse, Option}
+use Rattle.std.proofs.Common.{◌≡◌, ◌∙◌, [], List, get_or, arith, ap}
 use Rattle.prop_core.specs.declared.lit.Lit.{Lit}
 use Rattle.prop_core.specs.Clauses.{negation}
 use Rattle.prop_core.specs.Trail.{no_literal}
-use Rattle.sat_learn.specs.Seen.{negated_seen, level_seen}
-use Rattle.sat_learn.specs.Learnt.{IsLearnt}
 use Rattle.sat_learn.proofs.Beginning.{conflict_present}
 use Rattle.sat_learn.proofs.Finishing.{learnt_from, put_together, learnt_same}
 use Rattle.sat_learn.proofs.learner.learn.Goals as goal

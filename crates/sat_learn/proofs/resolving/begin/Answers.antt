@@ -1,4 +1,4 @@
-use Rattle.std.proofs.Common.{◌≡◌, ◌∙◌, ◌+◌, ℕ, ◌<◌, ◌||◌, ◌∷◌, [], List, refl, Bool, false, length, get_or, arith, sym, ap, drop}
+use Rattle.std.proofs.Common.{◌≡◌, ◌∙◌, ◌+◌, ℕ, List, refl, Bool, false, get_or, arith, drop}
 use Rattle.std.proofs.lemmas.Grind.{common_steps}
 use Rattle.sat_learn.specs.Seen.{count_seen}
 use Rattle.sat_learn.proofs.Descending.{count_zero}

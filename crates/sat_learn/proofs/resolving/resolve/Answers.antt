@@ -1,5 +1,4 @@
-use Rattle.std.proofs.Common.{◌≡◌, ◌∙◌, ℕ, ◌+◌, ◌<◌, ◌||◌, refl, true, false, length, get_or, arith, sym, subst}
-use Rattle.sat_prop.specs.TrailState.{IsReason}
+use Rattle.std.proofs.Common.{◌≡◌, ◌∙◌, refl, true, false, get_or, arith}
 use Rattle.sat_prop.proofs.Fronts.{front_held, IsNumber, number_of}
 use Rattle.sat_prop.proofs.Justifying.{justified_once}
 use Rattle.sat_learn.proofs.Seeing.{count_off}

@@ -1,4 +1,4 @@
-use Rattle.std.proofs.Common.{◌≡◌, ◌∙◌, ℕ, ◌<◌, refl, false, true, length, get_or, arith, sym, subst}
+use Rattle.std.proofs.Common.{◌≡◌, ◌∙◌, false, true, arith, sym}
 use Rattle.sat_learn.proofs.Closing.{decided_next}
 use Rattle.sat_learn.proofs.resolving.resolve_to_decisions.Goals as goal
 

@@ -1,6 +1,4 @@
-use Rattle.std.proofs.Common.{◌≡◌, ◌∙◌, ◌+◌, ◌-◌, ℕ, ◌<◌, ◌≤◌, List, refl, Bool, false, true, length, get_or, arith, sym, ap}
-use Rattle.std.proofs.lemmas.Grind.{common_steps}
-use Rattle.sat_learn.specs.Seen.{count_seen}
+use Rattle.std.proofs.Common.{refl, arith}
 use Rattle.sat_learn.proofs.Descending.{found_one, found_first, above_next}
 use Rattle.sat_learn.proofs.resolving.resolve_to_one.Goals as goal
 use Rattle.sat_learn.proofs.resolving.resolve_to_one.Goals.{then-seen-place+else-count-eq1+in_ok-more, else-seen-place}

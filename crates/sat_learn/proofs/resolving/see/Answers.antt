@@ -1,4 +1,4 @@
-use Rattle.std.proofs.Common.{◌≡◌, ◌∙◌, ◌+◌, ◌<◌, refl, true, false, length, get_or, arith, sym, ap, subst}
+use Rattle.std.proofs.Common.{◌≡◌, ◌∙◌, ◌<◌, refl, true, false, length, get_or, arith}
 use Rattle.std.proofs.lemmas.Grind.{common_steps}
 use Rattle.sat_learn.proofs.Seeing.{count_on, count_below, each_step}
 use Rattle.sat_prop.proofs.Justifying.{justified_once}

@@ -1,6 +1,5 @@
-use Rattle.std.proofs.Common.{◌≡◌, ◌∙◌, ◌+◌, ◌<◌, ◌≤◌, ℕ, length, arith, sym, subst, ap}
+use Rattle.std.proofs.Common.{◌<◌, arith}
 use Rattle.std.proofs.lemmas.Grind.{common_steps}
-use Rattle.sat_order.specs.Rank.{OrderState}
 use Rattle.sat_order.proofs.Ranks.{IsRanked-more, waiting_more}
 use Rattle.sat_order.proofs.order.Order.grow.Goals as goal
 

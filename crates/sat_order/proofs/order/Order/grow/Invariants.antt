@@ -1,4 +1,4 @@
-use Rattle.std.specs.Prelude.{◌≡◌, ◌≤◌, ◌+◌, ◌-◌, ◌++◌, ◌∷◌, length, max, replicate, true}
+use Rattle.std.specs.Prelude.{◌≡◌, ◌≤◌, ◌+◌, ◌-◌, ◌++◌, length, max, replicate, true}
 use Rattle.sat_order.specs.Rank.{IsRanked}
 use Rattle.sat_order.proofs.order.Order.grow.Given as goal
 

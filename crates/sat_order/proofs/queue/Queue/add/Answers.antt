@@ -1,7 +1,7 @@
-use Rattle.std.proofs.Common.{arith, ◌≡◌, ◌∙◌, ◌+◌, ◌≤◌, sym, subst, ◌++◌, ◌∷◌, [], true, length, ap}
-use Rattle.std.specs.Prelude.{vec_len, OnOk, IsOk}
+use Rattle.std.proofs.Common.{arith, ◌≡◌, ◌+◌, ◌≤◌, sym, subst, ◌++◌, ◌∷◌, [], true}
+use Rattle.std.specs.Prelude.{vec_len}
 use Rattle.std.proofs.lemmas.Grind.{common_steps}
-use Rattle.sat_order.specs.Queue.{QueueState, IsQueue, candidate_order}
+use Rattle.sat_order.specs.Queue.{QueueState}
 use Rattle.sat_order.proofs.Queues.{IsQueue-add, given_ok, with_candidate}
 use Rattle.sat_order.proofs.queue.Queue.add.Goals as goal
 

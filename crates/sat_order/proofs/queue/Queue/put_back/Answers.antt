@@ -1,4 +1,4 @@
-use Rattle.std.proofs.Common.{◌≡◌, ◌∙◌, ◌<◌, ℕ, List, Bool, false, arith, subst, sym, length, get_or}
+use Rattle.std.proofs.Common.{◌≡◌, ◌<◌, ℕ, List, Bool, false, arith, subst, sym, length, get_or}
 use Rattle.std.proofs.lemmas.Grind.{common_steps}
 use Rattle.sat_order.specs.Queue.{QueueState}
 use Rattle.sat_order.specs.Waiting.{waits}

@@ -1,4 +1,4 @@
-use Rattle.std.proofs.Common.{arith, subst, ◌<◌, length}
+use Rattle.std.proofs.Common.{arith, subst}
 use Rattle.sat_order.specs.Queue.{QueueState}
 use Rattle.sat_order.specs.Waiting.{IsNext}
 use Rattle.sat_order.proofs.Queues.{IsQueue-take, taken_is_next}

@@ -1,12 +1,10 @@
-use Rattle.std.proofs.Common.{◌≡◌, ◌∙◌, ◌+◌, ◌<◌, ◌≤◌, ℕ, true, ◌++◌, ◌∷◌, [], sym, subst, ap, length, take, arith, Some, None}
-use Rattle.std.specs.Prelude.{IfSome, vec_len, Contains, slice_set}
+use Rattle.std.proofs.Common.{◌≡◌, ◌≤◌, ◌++◌, ◌∷◌, [], sym, subst, arith}
+use Rattle.std.specs.Prelude.{IfSome}
 use Rattle.std.proofs.lemmas.Grind.{common_steps}
-use Rattle.prop_core.specs.Clauses.{is_open}
-use Rattle.prop_core.specs.Derivation.{clause_numbered, unit}
-use Rattle.sat_prop.specs.TrailState.{TrailState, IsKnownClause}
-use Rattle.sat_prop.specs.Quiet.{AreQuiet, JoinsQuietly, stands}
+use Rattle.prop_core.specs.Derivation.{clause_numbered}
+use Rattle.sat_prop.specs.TrailState.{TrailState}
+use Rattle.sat_prop.specs.Quiet.{JoinsQuietly}
 use Rattle.sat_prop.specs.Changes.{IsFront}
-use Rattle.sat_prop.specs.Levels.{level_of, IsCut, IsLastDecision}
 use Rattle.prop_core.specs.Clauses.{HasValues}
 use Rattle.sat_prop.proofs.Fronts.{known_from}
 use Rattle.sat_prop.proofs.Justifying.{state_attach}

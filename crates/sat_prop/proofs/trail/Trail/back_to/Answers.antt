@@ -1,12 +1,6 @@
-use Rattle.std.proofs.Common.{◌≡◌, ◌∙◌, ◌+◌, ◌<◌, ◌≤◌, ℕ, true, ◌++◌, ◌∷◌, [], sym, subst, ap, length, take, arith, Some, None}
-use Rattle.std.specs.Prelude.{vec_len, Contains, slice_set}
-use Rattle.std.proofs.lemmas.Grind.{common_steps}
-use Rattle.prop_core.specs.Clauses.{is_open}
-use Rattle.prop_core.specs.Derivation.{clause_numbered, unit}
-use Rattle.sat_prop.specs.TrailState.{TrailState, IsKnownClause}
-use Rattle.sat_prop.specs.Quiet.{AreQuiet, JoinsQuietly, stands}
-use Rattle.sat_prop.specs.Changes.{IsFront}
-use Rattle.sat_prop.specs.Levels.{level_of, IsCut, IsLastDecision}
+use Rattle.std.proofs.Common.{◌∙◌, ◌≤◌, sym, subst, ap, take, arith}
+use Rattle.sat_prop.specs.TrailState.{TrailState}
+use Rattle.sat_prop.specs.Levels.{level_of, IsCut}
 use Rattle.sat_prop.proofs.Justifying.{state_take}
 use Rattle.sat_prop.proofs.Placing.{places_take}
 use Rattle.sat_prop.proofs.Leveling.{levels_take, starts_take}

@@ -1,12 +1,7 @@
-use Rattle.std.proofs.Common.{◌≡◌, ◌∙◌, ◌+◌, ◌<◌, ◌≤◌, ℕ, true, ◌++◌, ◌∷◌, [], sym, subst, ap, length, take, arith, Some, None}
-use Rattle.std.specs.Prelude.{vec_len, Contains, slice_set}
+use Rattle.std.proofs.Common.{◌≡◌, ◌<◌, ℕ, sym, subst, length, arith}
 use Rattle.std.proofs.lemmas.Grind.{common_steps}
-use Rattle.prop_core.specs.Clauses.{is_open}
-use Rattle.prop_core.specs.Derivation.{clause_numbered, unit}
-use Rattle.sat_prop.specs.TrailState.{TrailState, IsKnownClause}
-use Rattle.sat_prop.specs.Quiet.{AreQuiet, JoinsQuietly, stands}
-use Rattle.sat_prop.specs.Changes.{IsFront}
-use Rattle.sat_prop.specs.Levels.{level_of, IsCut, IsLastDecision}
+use Rattle.sat_prop.specs.TrailState.{TrailState}
+use Rattle.sat_prop.specs.Levels.{level_of, IsLastDecision}
 use Rattle.sat_prop.proofs.Leveling.{last_start}
 use Rattle.sat_prop.proofs.trail.Trail.last_decision.Goals as goal
 use Rattle.std.proofs.Common.{get_or, ◌-◌}

@@ -1,8 +1,8 @@
-use Rattle.std.proofs.Common.{◌≡◌, ◌∙◌, ◌+◌, true, false, sym, subst, ap, List}
+use Rattle.std.proofs.Common.{◌∙◌, ◌+◌, sym, subst, List}
 use Rattle.std.proofs.lemmas.Bool.{true≢false}
 use Rattle.prop_core.specs.Clauses.{Clause}
 use Rattle.sat_prop.specs.TrailState.{TrailState}
-use Rattle.sat_prop.specs.Changes.{IsFront, Propagates}
+use Rattle.sat_prop.specs.Changes.{IsFront}
 use Rattle.sat_prop.specs.Quiet.{AreQuietBelow}
 use Rattle.sat_prop.proofs.Justifying.{propagates_more}
 use Rattle.sat_prop.proofs.Passing.{read_quiet, quiet_next, longer_by_one}

@@ -1,4 +1,4 @@
-use Rattle.std.proofs.Common.{◌≡◌, ◌<◌, ℕ, true, sym, subst, length, get_or, arith}
+use Rattle.std.proofs.Common.{◌≡◌, ℕ, true, sym, subst, get_or, arith}
 use Rattle.std.proofs.lemmas.Grind.{common_steps}
 use Rattle.prop_core.specs.Trail.{has_var}
 use Rattle.prop_core.proofs.Literals.{below_var}

@@ -1,6 +1,5 @@
-use Rattle.std.proofs.Common.{◌≡◌, ◌∙◌, false, true, sym, get_or, ap}
+use Rattle.std.proofs.Common.{◌∙◌, sym, get_or}
 use Rattle.std.proofs.lemmas.Bool.{not-true, not-false}
-use Rattle.prop_core.specs.Clauses.{same_literal}
 use Rattle.prop_core.specs.Trail.{no_literal}
 use Rattle.prop_core.proofs.Literals.{same_is}
 use Rattle.sat_prop.proofs.Justifying.{justified_consistent}

@@ -1,17 +1,10 @@
-use Rattle.std.proofs.Common.{refl, get_or, Option, Bool, ◌≡◌, ◌∙◌, ◌+◌, ◌<◌, ◌≤◌, ℕ, true, ◌++◌, ◌∷◌, [], sym, subst, ap, length, take, arith, Some, None}
-use Rattle.std.specs.Prelude.{vec_len, Contains, slice_set}
+use Rattle.std.proofs.Common.{refl, get_or, ◌≡◌, ◌∙◌, ◌<◌, ℕ, sym, subst, ap, length, arith, Some, None}
 use Rattle.std.proofs.lemmas.Grind.{common_steps}
-use Rattle.prop_core.specs.Clauses.{is_open}
-use Rattle.prop_core.specs.Derivation.{clause_numbered, unit}
-use Rattle.sat_prop.specs.TrailState.{TrailState, IsKnownClause}
-use Rattle.sat_prop.specs.Quiet.{AreQuiet, JoinsQuietly, stands}
-use Rattle.sat_prop.specs.Changes.{IsFront}
-use Rattle.sat_prop.specs.Levels.{level_of, IsCut, IsLastDecision}
-use Rattle.std.proofs.lemmas.Bool.{cases_eq}
+use Rattle.sat_prop.specs.TrailState.{TrailState}
 use Rattle.prop_core.specs.declared.lit.Lit.{Lit}
 use Rattle.prop_core.specs.Trail.{no_literal}
 use Rattle.prop_core.proofs.Literals.{below_at, true_at}
-use Rattle.sat_prop.specs.TrailState.{value_by, StandsAt}
+use Rattle.sat_prop.specs.TrailState.{value_by}
 use Rattle.sat_prop.proofs.Justifying.{justified_consistent}
 use Rattle.sat_prop.proofs.Placing.{value_stands, value_open}
 use Rattle.sat_prop.proofs.trail.Trail.value.Goals as goal
