@@ -7,11 +7,10 @@ folder. It's no part of the gate.
 """
 import os
 import random
-import resource
-import subprocess
 import sys
 import tempfile
-import time
+
+from measure import timed, written
 
 COMPONENTS = 1000
 EVENTS = 1_000_000
@@ -63,27 +62,20 @@ def backward_pairs():
 def main():
     program = os.path.abspath(sys.argv[1])
     with tempfile.TemporaryDirectory() as folder:
-        def put(name, text):
-            with open(os.path.join(folder, name), "w") as f:
-                f.write(text)
-
-        put("model", plant())
-        put("run", run_text())
-        put("none", "run 0\n")
-        put("forward", log_text(forward_pairs()))
-        put("backward", log_text(backward_pairs()))
-        print(f"{'input':44} {'seconds':>8} {'MiB':>6}  answer")
-        for what, log, run, steps in [
-            ("1,000,000 events, 2,000 alarms, 20,000 pairs", "forward", "run", 1000),
-            ("no event, 20,000 pairs", "forward", "none", 1000),
-            ("no event, 20,000 pairs the other way round", "backward", "none", 1000),
+        model, run, none, forward, backward = (os.path.join(folder, n) for n in ["model", "run", "none", "forward", "backward"])
+        written(model, plant)
+        written(run, run_text)
+        written(none, lambda: "run 0\n")
+        written(forward, lambda: log_text(forward_pairs()))
+        written(backward, lambda: log_text(backward_pairs()))
+        print(f"{'input':44} {'seconds':>8} {'memory MiB':>11}  answer")
+        for what, log, word in [
+            ("1,000,000 events, 2,000 alarms, 20,000 pairs", forward, run),
+            ("no event, 20,000 pairs", forward, none),
+            ("no event, 20,000 pairs the other way round", backward, none),
         ]:
-            words = [program, "replay", "model", log, run, str(steps)]
-            start = time.monotonic()
-            done = subprocess.run(words, cwd=folder, capture_output=True, text=True)
-            seconds = time.monotonic() - start
-            peak = resource.getrusage(resource.RUSAGE_CHILDREN).ru_maxrss // 1024
-            print(f"{what:44} {seconds:8.2f} {peak:6}  {done.stdout.strip()}")
+            seconds, memory, status, out = timed(program, "replay", model, log, word, "1000")
+            print(f"{what:44} {seconds:8.2f} {memory:11.1f}  {status} {out}")
 
 
 if __name__ == "__main__":

@@ -6,10 +6,10 @@ PROGRAM is the program as `rt run` builds it, crates/diagnose_cli/out/diagnose_c
 folder. It's no part of the gate.
 """
 import os
-import subprocess
 import sys
 import tempfile
-import time
+
+from measure import plain_read, timed, written
 
 MODEL_LIMIT = 16_777_216
 
@@ -66,33 +66,6 @@ def long_run():
     return "run 4000000\n" + "go\nback\n" * 2_000_000
 
 
-def plain_read(path):
-    start = time.perf_counter()
-    with open(path, "rb") as f:
-        while f.read(2**20):
-            pass
-    return time.perf_counter() - start
-
-
-def timed(program, model, run):
-    start = time.perf_counter()
-    child = subprocess.Popen([program, "trace", model, run], stdout=subprocess.PIPE)
-    out = child.stdout.read().decode()
-    _, status, usage = os.wait4(child.pid, 0)
-    return time.perf_counter() - start, usage.ru_maxrss / 1024, os.waitstatus_to_exitcode(status), out.strip()
-
-
-def written(path, text_of):
-    """Writes a file in a process of its own, so that this one stays small: a child's peak of memory begins with its parent's."""
-    child = os.fork()
-    if child == 0:
-        with open(path, "w", encoding="ascii") as f:
-            f.write(text_of())
-        os._exit(0)
-    os.waitpid(child, 0)
-    return os.path.getsize(path)
-
-
 def main():
     program = os.path.abspath(sys.argv[1])
     cases = [
@@ -108,7 +81,7 @@ def main():
         for name, model_text, run_text in cases:
             size = (written(model, model_text) + written(run, run_text)) / 2**20
             read = plain_read(model) + plain_read(run)
-            seconds, memory, status, out = timed(program, model, run)
+            seconds, memory, status, out = timed(program, "trace", model, run)
             print(f"{name:40} {size:6.1f} {seconds:8.2f} {read:8.3f} {seconds / read:7.0f} {memory:11.1f}  {status} {out}")
 
 
