@@ -14,9 +14,8 @@ used. Each run checks the proof for 4 holes here first, hint by hint, so that a 
 """
 import os
 import sys
-import tempfile
 
-from measure import plain_read, timed, written
+from measure import tabulate, written
 
 
 def pigeonhole(holes):
@@ -163,14 +162,7 @@ def main():
             written(os.path.join(folder, f"{i}.cnf"), cnf)
             written(os.path.join(folder, f"{i}.lrat"), lrat)
         return
-    print(f"{'input':32} {'MiB':>6} {'seconds':>8} {'MiB/s':>7} {'ratio':>7} {'memory MiB':>11}  answer")
-    with tempfile.TemporaryDirectory() as temporary:
-        cnf, lrat = os.path.join(temporary, "cnf"), os.path.join(temporary, "lrat")
-        for name, cnf_of, lrat_of in cases:
-            size = (written(cnf, cnf_of) + written(lrat, lrat_of)) / 2**20
-            read = plain_read(cnf) + plain_read(lrat)
-            seconds, memory, status, out = timed(program, "check", cnf, lrat)
-            print(f"{name:32} {size:6.1f} {seconds:8.2f} {size / seconds:7.1f} {seconds / read:7.0f} {memory:11.1f}  {status} {out}")
+    tabulate(program, "check", cases)
 
 
 if __name__ == "__main__":

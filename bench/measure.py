@@ -1,6 +1,7 @@
-"""What the benches share: inputs written, a plain read of them, and a timed call of the program."""
+"""What the benches share: inputs written, a plain read of them, and timed calls of the program in a table."""
 import os
 import subprocess
+import tempfile
 import time
 
 
@@ -30,3 +31,18 @@ def timed(*words):
     out = child.stdout.read().decode()
     _, status, usage = os.wait4(child.pid, 0)
     return time.perf_counter() - start, usage.ru_maxrss / 1024, os.waitstatus_to_exitcode(status), out.strip()
+
+
+def tabulate(program, command, cases, *words):
+    """Prints a table of calls of the command: size, time, rate, ratio to a plain read, memory, answer.
+
+    A case is a name, and for each file a call that gives its text. The further words stand behind the files.
+    """
+    print(f"{'input':46} {'MiB':>6} {'seconds':>8} {'MiB/s':>7} {'ratio':>7} {'memory MiB':>11}  answer")
+    with tempfile.TemporaryDirectory() as folder:
+        for name, *texts in cases:
+            files = [os.path.join(folder, str(place)) for place in range(len(texts))]
+            size = sum(written(file, text) for file, text in zip(files, texts)) / 2**20
+            read = sum(plain_read(file) for file in files)
+            seconds, memory, status, out = timed(program, command, *files, *words)
+            print(f"{name:46} {size:6.1f} {seconds:8.2f} {size / seconds:7.1f} {seconds / read:7.0f} {memory:11.1f}  {status} {out}")

@@ -1,4 +1,4 @@
-"""Times `replay` on a long run and on large logs, and prints a table: input, time, memory, answer.
+"""Times `replay` on a long run and on large logs, and prints a table: size, time, rate, ratio to a plain read, memory, answer.
 
     python3 bench/replay.py PROGRAM
 
@@ -8,9 +8,8 @@ folder. It's no part of the gate.
 import os
 import random
 import sys
-import tempfile
 
-from measure import timed, written
+from measure import tabulate
 
 COMPONENTS = 1000
 EVENTS = 1_000_000
@@ -59,23 +58,24 @@ def backward_pairs():
     return [(ALARMS - 1 - i, ALARMS - 1 - j) for i, j in reversed(forward_pairs())]
 
 
+def forward_log():
+    return log_text(forward_pairs())
+
+
+def backward_log():
+    return log_text(backward_pairs())
+
+
+def no_run():
+    return "run 0\n"
+
+
 def main():
-    program = os.path.abspath(sys.argv[1])
-    with tempfile.TemporaryDirectory() as folder:
-        model, run, none, forward, backward = (os.path.join(folder, n) for n in ["model", "run", "none", "forward", "backward"])
-        written(model, plant)
-        written(run, run_text)
-        written(none, lambda: "run 0\n")
-        written(forward, lambda: log_text(forward_pairs()))
-        written(backward, lambda: log_text(backward_pairs()))
-        print(f"{'input':44} {'seconds':>8} {'memory MiB':>11}  answer")
-        for what, log, word in [
-            ("1,000,000 events, 2,000 alarms, 20,000 pairs", forward, run),
-            ("no event, 20,000 pairs", forward, none),
-            ("no event, 20,000 pairs the other way round", backward, none),
-        ]:
-            seconds, memory, status, out = timed(program, "replay", model, log, word, "1000")
-            print(f"{what:44} {seconds:8.2f} {memory:11.1f}  {status} {out}")
+    tabulate(os.path.abspath(sys.argv[1]), "replay", [
+        ("1,000,000 events, 2,000 alarms, 20,000 pairs", plant, forward_log, run_text),
+        ("no event, 20,000 pairs", plant, forward_log, no_run),
+        ("no event, 20,000 pairs the other way round", plant, backward_log, no_run),
+    ], "1000")
 
 
 if __name__ == "__main__":

@@ -7,9 +7,8 @@ folder. It's no part of the gate.
 """
 import os
 import sys
-import tempfile
 
-from measure import plain_read, timed, written
+from measure import tabulate
 
 MODEL_LIMIT = 16_777_216
 
@@ -67,22 +66,13 @@ def long_run():
 
 
 def main():
-    program = os.path.abspath(sys.argv[1])
-    cases = [
+    tabulate(os.path.abspath(sys.argv[1]), "trace", [
         ("50,000 transitions, 1,000 components", transitions, lambda: "run 0\n"),
         ("50,000 transitions, one component", one_component, lambda: "run 1\ne\n"),
         ("states under long names", states, lambda: "run 0\n"),
         ("one line of very many parts", parts, lambda: "run 0\n"),
         ("run of 4,000,000 steps", small, long_run),
-    ]
-    print(f"{'input':40} {'MiB':>6} {'seconds':>8} {'read':>8} {'ratio':>7} {'memory MiB':>11}  answer")
-    with tempfile.TemporaryDirectory() as folder:
-        model, run = os.path.join(folder, "model"), os.path.join(folder, "run")
-        for name, model_text, run_text in cases:
-            size = (written(model, model_text) + written(run, run_text)) / 2**20
-            read = plain_read(model) + plain_read(run)
-            seconds, memory, status, out = timed(program, "trace", model, run)
-            print(f"{name:40} {size:6.1f} {seconds:8.2f} {read:8.3f} {seconds / read:7.0f} {memory:11.1f}  {status} {out}")
+    ])
 
 
 if __name__ == "__main__":
