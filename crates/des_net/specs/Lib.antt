@@ -8,3 +8,4 @@ pub mod Limits
 pub mod Building
 pub mod View
 pub mod Models
+pub mod QuestionSize

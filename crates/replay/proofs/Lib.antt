@@ -11,3 +11,4 @@ pub mod DecideLemmas
 pub mod AnswerLemmas
 pub mod Vectors
 pub mod ReplayVectors
+pub mod SizeVectors

@@ -6,3 +6,4 @@ pub mod Matching
 pub mod Replayed
 pub mod Deciding
 pub mod Placed
+pub mod QuestionSize

@@ -1,0 +1,23 @@
+-- Worked sizes of questions, and bounds on their variables.
+use Rattle.std.proofs.Common.{◌≡◌, List, [], ◌∷◌, refl}
+use Rattle.std.specs.Prelude.{codes}
+use Rattle.des_net.specs.Models.{pump, nothing}
+use Rattle.log_order.specs.Log.{Alarm, Log, no_log}
+use Rattle.replay.specs.QuestionSize.{question_size, variable_bound}
+
+-- one alarm, that of a trip
+abbrev tripped : Log
+tripped = record { alarms = record { name = codes "a1"; labels = codes "T" ∷ [] } ∷ []; pairs = [] }
+
+pub pump-size : question_size pump tripped 2 ≡ 614
+pump-size = refl
+
+-- 3 states thrice, 4 events twice, 4 for the empty log, 8 for the alarm, 512 for the counter
+pub pump-variables : variable_bound pump tripped 2 ≡ 541
+pump-variables = refl
+
+pub nothing-size : question_size nothing no_log 3 ≡ 0
+nothing-size = refl
+
+pub nothing-variables : variable_bound nothing no_log 3 ≡ 1
+nothing-variables = refl
