@@ -1,7 +1,7 @@
 -- Worked sizes of questions, and bounds on their variables.
 use Rattle.std.proofs.Common.{◌≡◌, List, [], ◌∷◌, refl}
 use Rattle.std.specs.Prelude.{codes}
-use Rattle.des_net.specs.Models.{pump, nothing}
+use Rattle.des_net.specs.Models.{pump, nothing, settled}
 use Rattle.log_order.specs.Log.{Alarm, Log, no_log}
 use Rattle.replay.specs.QuestionSize.{question_size, variable_bound}
 
@@ -15,6 +15,13 @@ pump-size = refl
 -- 3 states thrice, 4 events twice, 4 for the empty log, 8 for the alarm, 512 for the counter
 pub pump-variables : variable_bound pump tripped 2 ≡ 541
 pump-variables = refl
+
+-- two alarms, of either event
+abbrev both_seen : Log
+both_seen = record { alarms = record { name = codes "x"; labels = codes "A" ∷ [] } ∷ record { name = codes "y"; labels = codes "B" ∷ [] } ∷ []; pairs = [] }
+
+pub settled-variables : variable_bound settled both_seen 2 ≡ 29
+settled-variables = refl
 
 pub nothing-size : question_size nothing no_log 3 ≡ 0
 nothing-size = refl
