@@ -1,0 +1,9 @@
+pub mod Lists
+pub mod Pieces
+pub mod Open
+pub mod Rules
+pub mod Sound
+pub mod Complete
+pub mod Matches
+pub mod Stay
+pub mod Growth

@@ -1,0 +1,281 @@
+-- What makes clauses and guards true is a linearisation.
+use Rattle.std.proofs.Common.{◌≡◌, ◌≢◌, ℕ, suc, ◌+◌, ◌<◌, ◌≤◌, Bool, true, false, List, [], ◌∷◌, ◌++◌, ◌∙◌, length, Option, Some, None, refl, sym, ap, subst, arith, Contains, filter, filter_map, is_some, not, inl, inr, ◌⊎◌}
+use Rattle.std.specs.List.{AllZip}
+use Rattle.std.proofs.lemmas.Bool.{cases_lt}
+use Rattle.std.proofs.lemmas.List.Elements.{filter-append, All-from_recursion, All-contains}
+use Rattle.des_base.specs.Lists.{EachPair}
+use Rattle.des_net.specs.Network.{Net, label_of}
+use Rattle.des_net.specs.Width.{joined}
+use Rattle.log_clauses.proofs.Lists.{clash, cons_cases, here_first, here_later, none_in_nil, filter_has, filter_from, all_of, all_at, pairs_filter, pairs_append, append_cases, append_left, append_right, zip_append, found_is, finds, is_before, from_places}
+use Rattle.log_clauses.proofs.Pieces.{IsStepSet, AreFrom, pieces_are_steps}
+use Rattle.log_clauses.proofs.Rules as rules
+use Rattle.log_clauses.proofs.Rules.{shows, is_shown, shown_event, matching_alarm, has_event, event_matches, match_happens, in_chain, one_alarm, one_event, one_step_less, each_done, has_alarm, no_step_back}
+use Rattle.log_clauses.specs.Decoded.{event_at, alarms_at, shown_at, unobservables, arranged, arranged_order}
+use Rattle.log_clauses.specs.LogClauses.{matching_events}
+use Rattle.log_clauses.specs.LogLaws.{IsArranged, LogIsSound}
+use Rattle.log_clauses.specs.LogTruth.{LogClausesHold, GuardsHold}
+use Rattle.log_order.specs.Log.{Log, ListsOnce, Keeps, IsValidLog, place_in}
+use Rattle.prop_core.specs.VariableNames.{Name, happens, matches}
+use Rattle.replay.specs.Explanation.{observables, Shows, Linearises}
+use Rattle.replay.specs.QuestionSize.{is_matching}
+
+some_is : {X : Type 0} (a b : X) → Some a ≡ Some b → a ≡ b
+some_is a b h = cc
+
+filter_none : {X : Type 0} (p : X → Bool) (xs : List X) → ((x : X) → Contains xs x → p x ≡ false) → filter p xs ≡ []
+filter_none p [] h = refl
+filter_none p (x ∷ xs) h = rw (h x (here_first x xs x refl)) (filter_none p xs (λ y in'. h y (here_later x xs y in')))
+
+filter_each : {X : Type 0} (p : X → Bool) (xs : List X) → ((x : X) → Contains xs x → p x ≡ true) → filter p xs ≡ xs
+filter_each p [] h = refl
+filter_each p (x ∷ xs) h = rw (h x (here_first x xs x refl)) (ap (λ ys. x ∷ ys) (filter_each p xs (λ y in'. h y (here_later x xs y in'))))
+
+mapped_has : {X Y : Type 0} (f : X → Option Y) (xs : List X) (x : X) (y : Y) → Contains xs x → f x ≡ Some y → Contains (filter_map f xs) y
+mapped_has f [] x y in' h = absurd (none_in_nil x in')
+mapped_has f (z ∷ xs) x y in' h = by (f z) refl (cons_cases z xs x in') (λ rest. mapped_has f xs x y rest h)
+  where
+    by : (o : Option _) → f z ≡ o → (z ≡ x) ⊎ Contains xs x → (Contains xs x → Contains (filter_map f xs) y) → Contains (filter_map f (z ∷ xs)) y
+    by None e (inl is) later = let bad : None ≡ Some y = sym e ∙ ap f is ∙ h in cc
+    by (Some w) e (inl is) later = rw e (here_first w (filter_map f xs) y (some_is w y (sym e ∙ ap f is ∙ h)))
+    by None e (inr rest) later = rw e (later rest)
+    by (Some w) e (inr rest) later = rw e (here_later w (filter_map f xs) y (later rest))
+
+mapped_from : {X Y : Type 0} (f : X → Option Y) (xs : List X) (y : Y) → Contains (filter_map f xs) y → (x : X) × Contains xs x × (f x ≡ Some y)
+mapped_from f [] y in' = absurd (none_in_nil y in')
+mapped_from f (z ∷ xs) y in' = by (f z) refl (mapped_from f xs y)
+  where
+    by : (o : Option _) → f z ≡ o → (Contains (filter_map f xs) y → (x : _) × Contains xs x × (f x ≡ Some y)) → (x : _) × Contains (z ∷ xs) x × (f x ≡ Some y)
+    by None e later = let found = later (rw e at in') in (found.0, here_later z xs found.0 found.1, found.2)
+    by (Some w) e later = at (cons_cases w (filter_map f xs) y (rw e at in'))
+      where
+        at : (w ≡ y) ⊎ Contains (filter_map f xs) y → (x : _) × Contains (z ∷ xs) x × (f x ≡ Some y)
+        at (inl is) = (z, here_first z xs z refl, e ∙ ap Some is)
+        at (inr rest) = let found = later rest in (found.0, here_later z xs found.0 found.1, found.2)
+
+-- different elements that are kept give different ones
+mapped_once : {X Y : Type 0} (f : X → Option Y) (xs : List X) → EachPair (λ a b. a ≢ b) xs →
+    ((a b : X) (y : Y) → f a ≡ Some y → f b ≡ Some y → a ≡ b) → EachPair (λ a b. a ≢ b) (filter_map f xs)
+mapped_once f [] once h = tt
+mapped_once f (x ∷ xs) once h = by (f x) refl (mapped_once f xs once.1 h)
+  where
+    by : (o : Option _) → f x ≡ o → EachPair (λ a b. a ≢ b) (filter_map f xs) → EachPair (λ a b. a ≢ b) (filter_map f (x ∷ xs))
+    by None e rest = rw e rest
+    by (Some y) e rest = rw e (
+      all_of (λ b. y ≢ b) (filter_map f xs) (λ b in' same.
+          let found = mapped_from f xs b in' in
+          all_at (λ c. x ≢ c) xs once.0 found.0 found.1 (h x found.0 b (e ∙ ap Some same) found.2)),
+      rest,
+    )
+
+zip_mapped : {X Y : Type 0} (R : Y → X → Type 0) (f : X → Option Y) (xs : List X) → ((x : X) (y : Y) → f x ≡ Some y → R y x) → AllZip R (filter_map f xs) (filter (λ x. is_some (f x)) xs)
+zip_mapped R f [] h = tt
+zip_mapped R f (x ∷ xs) h = by (f x) refl (zip_mapped R f xs h)
+  where
+    by : (o : Option _) → f x ≡ o → AllZip R (filter_map f xs) (filter (λ z. is_some (f z)) xs) → AllZip R (filter_map f (x ∷ xs)) (filter (λ z. is_some (f z)) (x ∷ xs))
+    by None e rest = rw e rest
+    by (Some y) e rest = rw e (h x y e, rest)
+
+module _ (net : Net) (log : Log) (n : ℕ) (value : Name → Bool) (held : LogClausesHold net log n value) (guards : GuardsHold net log value)
+    (alarms : List ℕ) (complete : ListsOnce (length log.alarms) alarms) (kept : Keeps alarms log.pairs) where
+  -- of two alarms in an order the first is another, and no pair wants it the other way round
+  Goes : ℕ → ℕ → Type 0
+  Goes a b = (a ≢ b) × (Contains log.pairs (b, a) → ⊥)
+
+  sorted : EachPair (λ a b. (a ≢ b) × (Contains log.pairs (b, a) → ⊥)) alarms
+  sorted = from_places (λ b a. Contains log.pairs (b, a)) alarms complete.once (λ a b in' in2 pair.
+      All-contains (λ (p : ℕ × ℕ). place_in alarms p.0 < place_in alarms p.1) log.pairs (b, a) (All-from_recursion (λ (p : ℕ × ℕ). place_in alarms p.0 < place_in alarms p.1) log.pairs kept) pair)
+
+  stands_for : (t i e : ℕ) → event_at net log value t i ≡ Some e → (is_matching net log e i ≡ true) × (value (matches i e (suc t)) ≡ true)
+  stands_for t i e h =
+      let found = found_is (λ f. value (matches i f (suc t))) (matching_events net log i) e h in
+      (event_matches net log e i found.1, found.0)
+
+  has_one : (t i e : ℕ) → t < n → is_matching net log e i ≡ true → value (matches i e (suc t)) ≡ true → event_at net log value t i ≡ Some e
+  has_one t i e step matching is =
+      let found = finds (λ f. value (matches i f (suc t))) (matching_events net log i) e (has_event net log e i matching) is in
+      let other = stands_for t i found.0 found.1 in
+      found.1 ∙ ap Some (one_event net log n value held i found.0 e t other.0 matching step other.1 is)
+
+  in_block : (t i : ℕ) → Contains (alarms_at net log value alarms t) i → (e : ℕ) × (is_matching net log e i ≡ true) × (value (matches i e (suc t)) ≡ true)
+  in_block t i in' = by (event_at net log value t i) refl (filter_from (λ j. is_some (event_at net log value t j)) alarms i in').0
+    where
+      by : (o : Option ℕ) → event_at net log value t i ≡ o → is_some o ≡ true → (e : ℕ) × (is_matching net log e i ≡ true) × (value (matches i e (suc t)) ≡ true)
+      by None e h = cc
+      by (Some f) e h = let is = stands_for t i f e in (f, is.0, is.1)
+
+  -- The arranged order has the alarms of its steps.
+  from_order : (t : ℕ) (pieces : List (List ℕ)) (i : ℕ) → t + length pieces ≡ n → Contains (arranged_order net log value alarms t pieces) i →
+      (s : ℕ) × (t ≤ s) × (s < n) × (e : ℕ) × (is_matching net log e i ≡ true) × (value (matches i e (suc s)) ≡ true)
+  from_order t [] i count in' = absurd (none_in_nil i in')
+  from_order t (piece ∷ pieces) i count in' =
+      by (append_cases (alarms_at net log value alarms t) (arranged_order net log value alarms (suc t) pieces) i in') (from_order (suc t) pieces i (omega arith))
+    where
+      by : Contains (alarms_at net log value alarms t) i ⊎ Contains (arranged_order net log value alarms (suc t) pieces) i →
+          (Contains (arranged_order net log value alarms (suc t) pieces) i → (s : ℕ) × (suc t ≤ s) × (s < n) × (e : ℕ) × (is_matching net log e i ≡ true) × (value (matches i e (suc s)) ≡ true)) →
+          (s : ℕ) × (t ≤ s) × (s < n) × (e : ℕ) × (is_matching net log e i ≡ true) × (value (matches i e (suc s)) ≡ true)
+      by (inl here) later = let found = in_block t i here in (t, omega arith, omega arith, found.0, found.1, found.2)
+      by (inr rest) later = let found = later rest in let low = found.1 in (found.0, omega (arith, low), found.2, found.3, found.4, found.5)
+
+  in_order : (t : ℕ) (pieces : List (List ℕ)) (i e s : ℕ) → t + length pieces ≡ n → is_matching net log e i ≡ true → value (matches i e (suc s)) ≡ true → t ≤ s → s < n →
+      Contains (arranged_order net log value alarms t pieces) i
+  in_order t [] i e s count matching is low high = absurd (omega arith)
+  in_order t (piece ∷ pieces) i e s count matching is low high = by (cases_lt t s) (λ above. in_order (suc t) pieces i e s (omega arith) matching is above high)
+    where
+      by : (t < s) ⊎ (s ≤ t) → (suc t ≤ s → Contains (arranged_order net log value alarms (suc t) pieces) i) → Contains (arranged_order net log value alarms t (piece ∷ pieces)) i
+      by (inl above) later = append_right (alarms_at net log value alarms t) (arranged_order net log value alarms (suc t) pieces) i (later (omega arith))
+      by (inr below) later =
+          let same : s ≡ t = omega arith in
+          let one = has_one t i e (omega arith) matching (subst (λ x. value (matches i e (suc x)) ≡ true) same is) in
+          append_left (alarms_at net log value alarms t) (arranged_order net log value alarms (suc t) pieces) i
+          (filter_has (λ j. is_some (event_at net log value t j)) alarms i (ap is_some one) (complete.each i (matching_alarm net log e i matching)))
+
+  order_goes : (t : ℕ) (pieces : List (List ℕ)) → t + length pieces ≡ n → EachPair (λ a b. (a ≢ b) × (Contains log.pairs (b, a) → ⊥)) (arranged_order net log value alarms t pieces)
+  order_goes t [] count = tt
+  order_goes t (piece ∷ pieces) count =
+      pairs_append (λ a b. (a ≢ b) × (Contains log.pairs (b, a) → ⊥)) (alarms_at net log value alarms t) (arranged_order net log value alarms (suc t) pieces)
+      (pairs_filter (λ a b. (a ≢ b) × (Contains log.pairs (b, a) → ⊥)) (λ j. is_some (event_at net log value t j)) alarms sorted) (order_goes (suc t) pieces (omega arith)) cross
+    where
+      cross : (a b : ℕ) → Contains (alarms_at net log value alarms t) a → Contains (arranged_order net log value alarms (suc t) pieces) b → (a ≢ b) × (Contains log.pairs (b, a) → ⊥)
+      cross a b in' in2 =
+          let first = in_block t a in' in
+          let second = from_order (suc t) pieces b (omega arith) in2 in
+          let above : t < second.0 = second.1 in (
+            λ same. one_step_less net log n value held b first.0 second.3 t second.0 (subst (λ x. is_matching net log first.0 x ≡ true) same first.1) second.4 above second.2
+                (subst (λ x. value (matches x first.0 (suc t)) ≡ true) same first.2) second.5,
+            λ pair. no_step_back net log n value held guards b a second.3 first.0 t second.0 pair second.4 first.1 above second.2 first.2 second.5,
+          )
+
+  -- The arranged pieces show the arranged order.
+  shown_at_observable : (t e : ℕ) → Contains (shown_at net log value alarms t) e → is_some (label_of net e) ≡ true
+  shown_at_observable t e in' =
+      let found = mapped_from (event_at net log value t) alarms e in' in
+      is_shown net log e found.0 (stands_for t found.0 e found.2).0
+
+  arranged_matched : (t : ℕ) (pieces : List (List ℕ)) → AllZip (Shows net log) (observables net (joined (arranged net log value alarms t pieces))) (arranged_order net log value alarms t pieces)
+  arranged_matched t [] = tt
+  arranged_matched t (piece ∷ pieces) =
+      subst (λ xs. AllZip (Shows net log) xs (arranged_order net log value alarms t (piece ∷ pieces))) (sym split)
+      (zip_append (Shows net log) (shown_at net log value alarms t) (alarms_at net log value alarms t) (observables net (joined rest)) (arranged_order net log value alarms (suc t) pieces)
+      (zip_mapped (Shows net log) (event_at net log value t) alarms (λ i e h. shows net log e i (stands_for t i e h).0)) (arranged_matched (suc t) pieces))
+    where
+      rest : List (List ℕ)
+      rest = arranged net log value alarms (suc t) pieces
+
+      p : ℕ → Bool
+      p e = is_some (label_of net e)
+
+      none_hidden : filter (λ e. is_some (label_of net e)) (unobservables net piece) ≡ []
+      none_hidden = filter_none (λ e. is_some (label_of net e)) (unobservables net piece) (λ e in'. flip (is_some (label_of net e)) (filter_from (λ f. not (is_some (label_of net f))) piece e in').0)
+        where
+          flip : (b : Bool) → not b ≡ true → b ≡ false
+          flip true h = cc
+          flip false h = refl
+
+      all_shown : filter (λ e. is_some (label_of net e)) (shown_at net log value alarms t) ≡ shown_at net log value alarms t
+      all_shown = filter_each (λ e. is_some (label_of net e)) (shown_at net log value alarms t) (shown_at_observable t)
+
+      split : observables net (joined (arranged net log value alarms t (piece ∷ pieces))) ≡ shown_at net log value alarms t ++ observables net (joined rest)
+      split =
+          filter-append (λ e. is_some (label_of net e)) (unobservables net piece ++ shown_at net log value alarms t) (joined rest)
+          ∙ ap (λ xs. xs ++ observables net (joined rest))
+          (filter-append (λ e. is_some (label_of net e)) (unobservables net piece) (shown_at net log value alarms t)
+          ∙ ap (λ xs. xs ++ observables net (shown_at net log value alarms t)) none_hidden ∙ all_shown)
+
+  -- and are those that are true.
+  arranged_piece : (t : ℕ) (piece : List ℕ) → t < n → IsStepSet net value t piece → IsStepSet net value t (unobservables net piece ++ shown_at net log value alarms t)
+  arranged_piece t piece step is = record { exact = λ e. (to e, from e); once = once }
+    where
+      shown_happens : (e : ℕ) → Contains (shown_at net log value alarms t) e → value (happens e (suc t)) ≡ true
+      shown_happens e in' =
+          let found = mapped_from (event_at net log value t) alarms e in' in
+          let stands = stands_for t found.0 e found.2 in
+          match_at found.0 e stands.0 stands.1
+        where
+          match_at : (i f : ℕ) → is_matching net log f i ≡ true → value (matches i f (suc t)) ≡ true → value (happens f (suc t)) ≡ true
+          match_at i f matching there = rules.alarm_happens net log n value held i f t matching step there
+
+      to : (e : ℕ) → Contains (unobservables net piece ++ shown_at net log value alarms t) e → (e < length net.events) × (value (happens e (suc t)) ≡ true)
+      to e in' = by (append_cases (unobservables net piece) (shown_at net log value alarms t) e in')
+        where
+          by : Contains (unobservables net piece) e ⊎ Contains (shown_at net log value alarms t) e → (e < length net.events) × (value (happens e (suc t)) ≡ true)
+          by (inl a) = (is.exact e).0 (filter_from (λ f. not (is_some (label_of net f))) piece e a).1
+          by (inr b) = (shown_event net e (shown_at_observable t e b), shown_happens e b)
+
+      from : (e : ℕ) → (e < length net.events) × (value (happens e (suc t)) ≡ true) → Contains (unobservables net piece ++ shown_at net log value alarms t) e
+      from e h = by (is_some (label_of net e)) refl
+        where
+          by : (b : Bool) → is_some (label_of net e) ≡ b → Contains (unobservables net piece ++ shown_at net log value alarms t) e
+          by true seen =
+              let found = has_alarm net log n value held guards e t seen step h.1 in
+              append_right (unobservables net piece) (shown_at net log value alarms t) e
+              (mapped_has (event_at net log value t) alarms found.0 e (complete.each found.0 (matching_alarm net log e found.0 found.1)) (has_one t found.0 e step found.1 found.2))
+          by false seen = append_left (unobservables net piece) (shown_at net log value alarms t) e (filter_has (λ f. not (is_some (label_of net f))) piece e (ap not seen) ((is.exact e).1 h))
+
+      once : EachPair (λ e f. e ≢ f) (unobservables net piece ++ shown_at net log value alarms t)
+      once = pairs_append (λ e f. e ≢ f) (unobservables net piece) (shown_at net log value alarms t) (pairs_filter (λ e f. e ≢ f) (λ f. not (is_some (label_of net f))) piece is.once)
+          (mapped_once (event_at net log value t) alarms complete.once (λ a b y first second.
+          let x = stands_for t a y first in let z = stands_for t b y second in one_alarm net log n value held a b y t x.0 z.0 step x.1 z.1))
+          (λ x y in' in2 same. clash (is_some (label_of net y)) (shown_at_observable t y in2)
+          (flip (is_some (label_of net y)) (subst (λ z. not (is_some (label_of net z)) ≡ true) same (filter_from (λ f. not (is_some (label_of net f))) piece x in').0)))
+        where
+          flip : (b : Bool) → not b ≡ true → b ≡ false
+          flip true h = cc
+          flip false h = refl
+
+  arranged_pieces : (t : ℕ) (pieces : List (List ℕ)) → t + length pieces ≡ n → AreFrom net value t pieces → AreFrom net value t (arranged net log value alarms t pieces)
+  arranged_pieces t [] count are = tt
+  arranged_pieces t (piece ∷ pieces) count are = (arranged_piece t piece (omega arith) are.0, arranged_pieces (suc t) pieces (omega arith) are.1)
+
+arranged_length : (net : Net) (log : Log) (value : Name → Bool) (alarms : List ℕ) (t : ℕ) (pieces : List (List ℕ)) → length (arranged net log value alarms t pieces) ≡ length pieces
+arranged_length net log value alarms t [] = refl
+arranged_length net log value alarms t (piece ∷ pieces) = ap suc (arranged_length net log value alarms (suc t) pieces)
+
+weaken : {X : Type 0} (R S : X → X → Type 0) (xs : List X) → ((a b : X) → R a b → S a b) → EachPair R xs → EachPair S xs
+weaken R S [] h each = tt
+weaken R S (x ∷ xs) h each = (all_of (S x) xs (λ y in'. h x y (all_at (R x) xs each.0 y in')), weaken R S xs h each.1)
+
+sound_from : (net : Net) (log : Log) (value : Name → Bool) (pieces : List (List ℕ)) (alarms : List ℕ) →
+    IsValidLog log → ListsOnce (length log.alarms) alarms → Keeps alarms log.pairs → AreFrom net value 0 pieces → LogClausesHold net log (length pieces) value → GuardsHold net log value →
+    IsArranged net log (length pieces) value alarms pieces
+sound_from net log value pieces alarms valid complete kept are held guards = record {
+  steps = (pieces_are_steps net (length pieces) value (arranged net log value alarms 0 pieces)).1
+      (arranged_length net log value alarms 0 pieces, arranged_pieces net log (length pieces) value held guards alarms complete kept 0 pieces (omega arith) are);
+  linear = linear;
+}
+  where
+    goes : EachPair (λ a b. (a ≢ b) × (Contains log.pairs (b, a) → ⊥)) (arranged_order net log value alarms 0 pieces)
+    goes = order_goes net log (length pieces) value held guards alarms complete kept 0 pieces (omega arith)
+
+    each : (i : ℕ) → i < length log.alarms → Contains (arranged_order net log value alarms 0 pieces) i
+    each i known =
+        let found = each_done net log (length pieces) value held guards i known in
+        in_order net log (length pieces) value held guards alarms complete kept 0 pieces i found.2 found.0 (omega arith) found.3 found.4 (omega arith) found.1
+
+    below : (i : ℕ) → Contains (arranged_order net log value alarms 0 pieces) i → i < length log.alarms
+    below i in' =
+        let found = from_order net log (length pieces) value held guards alarms complete kept 0 pieces i (omega arith) in' in
+        matching_alarm net log found.3 i found.4
+
+    linear : Linearises net log (joined (arranged net log value alarms 0 pieces)) (arranged_order net log value alarms 0 pieces)
+    linear = record {
+      complete = record {
+        below = all_of (λ i. i < length log.alarms) (arranged_order net log value alarms 0 pieces) below;
+        each = each;
+        once = weaken (λ a b. (a ≢ b) × (Contains log.pairs (b, a) → ⊥)) (λ a b. a ≢ b) (arranged_order net log value alarms 0 pieces) (λ a b h. h.0) goes;
+      };
+      shown = arranged_matched net log (length pieces) value held guards alarms complete kept 0 pieces;
+      kept = all_of (λ (pair : ℕ × ℕ). place_in (arranged_order net log value alarms 0 pieces) pair.0 < place_in (arranged_order net log value alarms 0 pieces) pair.1) log.pairs kept_pair;
+    }
+      where
+        kept_pair : (pair : ℕ × ℕ) → Contains log.pairs pair → place_in (arranged_order net log value alarms 0 pieces) pair.0 < place_in (arranged_order net log value alarms 0 pieces) pair.1
+        kept_pair pair in' =
+            let range = all_at (λ (p : ℕ × ℕ). (p.0 < length log.alarms) × (p.1 < length log.alarms)) log.pairs valid.known pair in' in
+            let less = all_at (λ (p : ℕ × ℕ). place_in alarms p.0 < place_in alarms p.1) log.pairs kept pair in' in
+            is_before (λ a b. (a ≢ b) × (Contains log.pairs (b, a) → ⊥)) (arranged_order net log value alarms 0 pieces) pair.0 pair.1 goes (each pair.0 range.0) (each pair.1 range.1)
+            (λ same. let places = ap (place_in alarms) same in omega (arith, places, less)) (λ wrong. wrong.1 in')
+
+pub log_is_sound : LogIsSound
+log_is_sound net log n value pieces alarms valid complete kept are held guards =
+    let from = (pieces_are_steps net n value pieces).0 are in
+    subst (λ m. IsArranged net log m value alarms pieces) from.0
+    (sound_from net log value pieces alarms valid complete kept from.1 (subst (λ m. LogClausesHold net log m value) (sym from.0) held) guards)

@@ -1,0 +1,101 @@
+-- What a longer log keeps of a shorter one.
+use Rattle.std.proofs.Common.{◌≡◌, ℕ, zero, suc, ◌+◌, ◌<◌, ◌≤◌, Bool, true, false, List, [], ◌∷◌, ◌++◌, ◌∙◌, length, Some, refl, sym, ap, subst, arith, map, slice_get, filter, option_map, unwrap_or, length-append, add-zero}
+use Rattle.std.specs.Prelude.{bytes_eq}
+use Rattle.std.specs.Option.{option_map_or}
+use Rattle.std.specs.List.{AllByRecursion, list_any, range_with_len}
+use Rattle.std.proofs.lemmas.List.Elements.{filter-append}
+use Rattle.des_net.specs.Network.{Net, label_of}
+use Rattle.log_clauses.proofs.Rules.{matching_alarm}
+use Rattle.log_clauses.specs.LogClauses.{chain, LogClause, IsLogClause, IsLink, log_clause, chain_closed, takes_rest, uses_up, passes_on, taken_or_passed, not_done_first, stays_done, match_is_done, matched_once, done_by_match, one_match, done_if_asked, before_if_asked}
+use Rattle.log_order.specs.Log.{Log, Alarm}
+use Rattle.prop_core.specs.VariableNames.{yes, no, matches, done}
+use Rattle.replay.specs.QuestionSize.{is_matching}
+use Rattle.run_clauses.specs.StepClauses.{numbers_below}
+
+pub get_more : {X : Type 0} (xs ys : List X) (k : ℕ) (x : X) → slice_get xs k ≡ Some x → slice_get (xs ++ ys) k ≡ Some x
+get_more [] ys k x h = cc
+get_more (y ∷ xs) ys zero x h = h
+get_more (y ∷ xs) ys (suc k) x h = get_more xs ys k x h
+
+pub get_same : {X : Type 0} (xs ys : List X) (k : ℕ) → k < length xs → slice_get (xs ++ ys) k ≡ slice_get xs k
+get_same [] ys k h = absurd (omega arith)
+get_same (y ∷ xs) ys zero h = refl
+get_same (y ∷ xs) ys (suc k) h = get_same xs ys k (omega arith)
+
+pub range_more : (a m : ℕ) → range_with_len a (suc m) ≡ range_with_len a m ++ (a + m) ∷ []
+range_more a zero = rw add-zero refl
+range_more a (suc m) = ap (λ xs. a ∷ xs) (range_more (a + 1) m ∙ ap (λ k. range_with_len (a + 1) m ++ k ∷ []) (omega arith))
+
+range_below : (a m : ℕ) → AllByRecursion (λ x. x < a + m) (range_with_len a m)
+range_below a zero = tt
+range_below a (suc m) = (omega arith, subst (λ k. AllByRecursion (λ x. x < k) (range_with_len (a + 1) m)) (omega arith) (range_below (a + 1) m))
+
+filter_same : (p q : ℕ → Bool) (m : ℕ) (xs : List ℕ) → ((x : ℕ) → x < m → p x ≡ q x) → AllByRecursion (λ x. x < m) xs → filter p xs ≡ filter q xs
+filter_same p q m [] same h = refl
+filter_same p q m (x ∷ xs) same h = rw (same x h.0, filter_same p q m xs same h.1) refl
+
+pub matching_same : (net : Net) (log : Log) (new : Alarm) (e i : ℕ) → i < length log.alarms → is_matching net (record log { alarms = log.alarms ++ new ∷ [] }) e i ≡ is_matching net log e i
+matching_same net log new e i h = ap (λ o. option_map_or (λ label. list_any (bytes_eq label) (unwrap_or (option_map (λ (alarm : Alarm). alarm.labels) o) [])) (label_of net e) false) (get_same log.alarms (new ∷ []) i h)
+
+pub chain_is : (net : Net) (log : Log) (new : Alarm) (e : ℕ) →
+    chain net (record log { alarms = log.alarms ++ new ∷ [] }) e ≡ chain net log e ++ filter (is_matching net (record log { alarms = log.alarms ++ new ∷ [] }) e) (length log.alarms ∷ [])
+chain_is net log new e =
+    let m = length log.alarms in
+    let p = is_matching net (record log { alarms = log.alarms ++ new ∷ [] }) e in
+    let longer : length (log.alarms ++ new ∷ []) ≡ suc m = omega (arith, length-append log.alarms (new ∷ [])) in
+    ap (λ k. filter p (range_with_len 0 k)) longer ∙ ap (filter p) (range_more 0 m) ∙ filter-append p (range_with_len 0 m) ((0 + m) ∷ [])
+    ∙ ap (λ k. filter p (range_with_len 0 m) ++ filter p (k ∷ [])) (omega arith)
+    ∙ ap (λ xs. xs ++ filter p (m ∷ [])) (filter_same p (is_matching net log e) m (range_with_len 0 m) (λ x h. matching_same net log new e x h) (subst (λ k. AllByRecursion (λ x. x < k) (range_with_len 0 m)) (omega arith) (range_below 0 m)))
+
+chain_more : (net : Net) (log : Log) (new : Alarm) (e : ℕ) → (more : List ℕ) × (chain net (record log { alarms = log.alarms ++ new ∷ [] }) e ≡ chain net log e ++ more)
+chain_more net log new e = (filter (is_matching net (record log { alarms = log.alarms ++ new ∷ [] }) e) (length log.alarms ∷ []), chain_is net log new e)
+
+abbrev pub with_alarm : Log → Alarm → Log
+with_alarm log new = record log { alarms = log.alarms ++ new ∷ [] }
+
+pub matching_stays : (net : Net) (log : Log) (new : Alarm) (e i : ℕ) → is_matching net log e i ≡ true → is_matching net (with_alarm log new) e i ≡ true
+matching_stays net log new e i h = matching_same net log new e i (matching_alarm net log e i h) ∙ h
+
+pub link_stays : (net : Net) (log : Log) (new : Alarm) (i e k : ℕ) → IsLink net log i e k → IsLink net (with_alarm log new) i e k
+link_stays net log new i e k h = let more = chain_more net log new e in rw more.1 (get_more (chain net log e) more.0 k i h)
+
+pub chain_grows : (net : Net) (log : Log) (new : Alarm) (e : ℕ) → length (chain net log e) ≤ length (chain net (with_alarm log new) e)
+chain_grows net log new e = let more = chain_more net log new e in rw more.1 (omega (arith, length-append (chain net log e) more.0))
+
+pub alarms_grow : (log : Log) (new : Alarm) (i : ℕ) → i < length log.alarms → i < length (log.alarms ++ new ∷ [])
+alarms_grow log new i h = omega (arith, length-append log.alarms (new ∷ []))
+
+pub known_stays : (net : Net) (log : Log) (n : ℕ) (new : Alarm) (which : LogClause) → IsLogClause net log n which → IsLogClause net (with_alarm log new) n which
+known_stays net log n new (chain_closed e k t) h = let grows = chain_grows net log new e in (h.0, omega (arith, h.1, grows), h.2)
+known_stays net log n new (takes_rest i e k t) h = (link_stays net log new i e k h.0, h.1)
+known_stays net log n new (uses_up i e k t) h = (link_stays net log new i e k h.0, h.1)
+known_stays net log n new (passes_on e k t) h = let grows = chain_grows net log new e in (omega (arith, h.0, grows), h.1)
+known_stays net log n new (taken_or_passed i e k t) h = (link_stays net log new i e k h.0, h.1)
+known_stays net log n new (not_done_first i) h = alarms_grow log new i h
+known_stays net log n new (stays_done i t) h = (alarms_grow log new i h.0, h.1)
+known_stays net log n new (match_is_done i e t) h = (matching_stays net log new e i h.0, h.1)
+known_stays net log n new (matched_once i e t) h = (matching_stays net log new e i h.0, h.1)
+known_stays net log n new (done_by_match i t) h = (alarms_grow log new i h.0, h.1)
+known_stays net log n new (one_match i e f t) h = (matching_stays net log new e i h.0, matching_stays net log new f i h.1, h.2, h.3)
+known_stays net log n new (done_if_asked i) h = alarms_grow log new i h
+known_stays net log n new (before_if_asked i j t) h = h
+
+pub all_range : (m : ℕ) (p q : ℕ → Bool) → ((x : ℕ) → p x ≡ q x) → filter p (numbers_below m) ≡ filter q (numbers_below m)
+all_range m p q same = filter_same p q m (range_with_len 0 m) (λ x h. same x) (subst (λ k. AllByRecursion (λ x. x < k) (range_with_len 0 m)) (omega arith) (range_below 0 m))
+
+pub clause_same : (net : Net) (log : Log) (n : ℕ) (new : Alarm) (which : LogClause) → IsLogClause net log n which → log_clause net log n which ≡ log_clause net (with_alarm log new) n which
+clause_same net log n new (chain_closed e k t) h = refl
+clause_same net log n new (takes_rest i e k t) h = refl
+clause_same net log n new (uses_up i e k t) h = refl
+clause_same net log n new (passes_on e k t) h = refl
+clause_same net log n new (taken_or_passed i e k t) h = refl
+clause_same net log n new (not_done_first i) h = refl
+clause_same net log n new (stays_done i t) h = refl
+clause_same net log n new (match_is_done i e t) h = refl
+clause_same net log n new (matched_once i e t) h = refl
+clause_same net log n new (done_by_match i t) h =
+    ap (λ es. no (done i (suc t)) ∷ yes (done i t) ∷ map (λ e. yes (matches i e (suc t))) es)
+    (sym (all_range (length net.events) (λ e. is_matching net (with_alarm log new) e i) (λ e. is_matching net log e i) (λ e. matching_same net log new e i h.0)))
+clause_same net log n new (one_match i e f t) h = refl
+clause_same net log n new (done_if_asked i) h = refl
+clause_same net log n new (before_if_asked i j t) h = refl

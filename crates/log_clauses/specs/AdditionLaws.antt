@@ -1,0 +1,24 @@
+-- The clauses of a log grow with it, and none is ever taken back.
+use Rattle.std.specs.Prelude.{◌≡◌, ◌↔◌, ◌⊎◌, ℕ, Bool, List, take}
+use Rattle.des_net.specs.Network.{Net}
+use Rattle.log_order.specs.Log.{Log, no_log}
+use Rattle.log_clauses.specs.Additions.{Addition, with_addition, log_after, IsAddedClause, IsFirstClause}
+use Rattle.log_clauses.specs.Coded.{opened}
+use Rattle.log_clauses.specs.LogClauses.{LogClause, log_clause, IsLogClause}
+use Rattle.log_clauses.specs.LogTruth.{LogClausesHold}
+use Rattle.prop_core.specs.VariableNames.{Name}
+
+-- The clauses of a log with an addition are those of the log before it and those that the addition brings, and the former stay as they are.
+abbrev pub AdditionsAreExact : Type 0
+AdditionsAreExact = (net : Net) (log : Log) (n : ℕ) (addition : Addition) (which : LogClause) →
+    (IsLogClause net (with_addition log addition) n which ↔ IsLogClause net log n which ⊎ IsAddedClause net log n addition which)
+    × (IsLogClause net log n which → log_clause net log n which ≡ log_clause net (with_addition log addition) n which)
+
+abbrev pub EmptyLogIsExact : Type 0
+EmptyLogIsExact = (net : Net) (n : ℕ) (which : LogClause) → IsLogClause net no_log n which ↔ IsFirstClause net n which
+
+-- So the clauses of a log hold together with those of all logs that it grew from, and all of them without a guard.
+abbrev pub AdditionsStayOpen : Type 0
+AdditionsStayOpen = (net : Net) (log : Log) (n : ℕ) (additions : List Addition) (value : Name → Bool) →
+    (LogClausesHold net (log_after log additions) n value → (k : ℕ) → LogClausesHold net (log_after log (take k additions)) n value)
+    × ((k : ℕ) → LogClausesHold net (log_after log (take k additions)) n (opened value))

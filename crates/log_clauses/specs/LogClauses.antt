@@ -1,0 +1,85 @@
+-- The clauses of an alarm log in n steps of a network, by name: each alarm stands for one event that can be seen, each such event has one alarm, and pairs don't step back.
+use Rattle.std.specs.Prelude.{◌≡◌, ℕ, suc, ◌<◌, ◌≤◌, List, [], ◌∷◌, map, filter, length, Some, slice_get, is_some, Contains, IsTrue}
+use Rattle.des_net.specs.Network.{Net, label_of}
+use Rattle.log_order.specs.Log.{Log}
+use Rattle.prop_core.specs.VariableNames.{NamedLiteral, yes, no, asked, matches, done, closed, remaining}
+use Rattle.replay.specs.QuestionSize.{is_matching}
+use Rattle.run_clauses.specs.StepClauses.{numbers_below}
+
+-- The chain of an event: the alarms that may stand for it, in the order of the log. An event that happens is passed along its chain until one of these alarms takes it.
+abbrev pub chain : Net → Log → ℕ → List ℕ
+chain net log e = filter (is_matching net log e) (numbers_below (length log.alarms))
+
+-- the events that alarm i may stand for, by number
+abbrev pub matching_events : Net → Log → ℕ → List ℕ
+matching_events net log i = filter (λ e. is_matching net log e i) (numbers_below (length net.events))
+
+-- the events that can be seen, by number
+abbrev pub observable_events : Net → List ℕ
+observable_events net = filter (λ e. is_some (label_of net e)) (numbers_below (length net.events))
+
+-- Which clause of the log it is. Of the first five t is the number of a step, from 1 on; of the others step t leads from what holds after t steps to what holds after t + 1.
+pub data LogClause : Type 0 where
+  chain_closed : (e k t : ℕ) → LogClause
+  takes_rest : (i e k t : ℕ) → LogClause
+  uses_up : (i e k t : ℕ) → LogClause
+  passes_on : (e k t : ℕ) → LogClause
+  taken_or_passed : (i e k t : ℕ) → LogClause
+  not_done_first : (i : ℕ) → LogClause
+  stays_done : (i t : ℕ) → LogClause
+  match_is_done : (i e t : ℕ) → LogClause
+  matched_once : (i e t : ℕ) → LogClause
+  done_by_match : (i t : ℕ) → LogClause
+  one_match : (i e f t : ℕ) → LogClause
+  done_if_asked : (i : ℕ) → LogClause
+  before_if_asked : (i j t : ℕ) → LogClause
+
+abbrev pub log_clause : Net → Log → ℕ → LogClause → List NamedLiteral
+-- where the chain of e is closed after k alarms, one of these has taken e
+log_clause net log n (chain_closed e k t) = no (closed e k) ∷ no (remaining e k t) ∷ []
+-- Alarm i, which has k before it in the chain, takes e only where these have passed it on,
+log_clause net log n (takes_rest i e k t) = no (matches i e t) ∷ yes (remaining e k t) ∷ []
+-- and doesn't pass it on;
+log_clause net log n (uses_up i e k t) = no (matches i e t) ∷ no (remaining e (suc k) t) ∷ []
+-- what k + 1 alarms have passed on k have;
+log_clause net log n (passes_on e k t) = no (remaining e (suc k) t) ∷ yes (remaining e k t) ∷ []
+-- and what comes to alarm i it takes or passes on.
+log_clause net log n (taken_or_passed i e k t) = no (remaining e k t) ∷ yes (matches i e t) ∷ yes (remaining e (suc k) t) ∷ []
+-- An alarm is done from its match on, and has one match.
+log_clause net log n (not_done_first i) = no (done i 0) ∷ []
+log_clause net log n (stays_done i t) = no (done i t) ∷ yes (done i (suc t)) ∷ []
+log_clause net log n (match_is_done i e t) = no (matches i e (suc t)) ∷ yes (done i (suc t)) ∷ []
+log_clause net log n (matched_once i e t) = no (matches i e (suc t)) ∷ no (done i t) ∷ []
+log_clause net log n (done_by_match i t) = no (done i (suc t)) ∷ yes (done i t) ∷ map (λ e. yes (matches i e (suc t))) (matching_events net log i)
+log_clause net log n (one_match i e f t) = no (matches i e (suc t)) ∷ no (matches i f (suc t)) ∷ []
+-- Where the log is asked for, each alarm is done at the end, and the first of a pair no later than the second.
+log_clause net log n (done_if_asked i) = no asked ∷ yes (done i n) ∷ []
+log_clause net log n (before_if_asked i j t) = no asked ∷ no (done j (suc t)) ∷ yes (done i (suc t)) ∷ []
+
+-- alarm i is the one with k before it in the chain of e
+abbrev pub IsLink : Net → Log → ℕ → ℕ → ℕ → Type 0
+IsLink net log i e k = slice_get (chain net log e) k ≡ Some i
+
+-- t is the number of one of n steps
+abbrev pub IsStepNumber : ℕ → ℕ → Type 0
+IsStepNumber n t = (1 ≤ t) × (t ≤ n)
+
+-- For which numbers it is written. A chain is closed after each number of alarms that it has ever had.
+abbrev pub IsLogClause : Net → Log → ℕ → LogClause → Type 0
+IsLogClause net log n (chain_closed e k t) = IsTrue (is_some (label_of net e)) × (k ≤ length (chain net log e)) × IsStepNumber n t
+IsLogClause net log n (takes_rest i e k t) = IsLink net log i e k × IsStepNumber n t
+IsLogClause net log n (uses_up i e k t) = IsLink net log i e k × IsStepNumber n t
+IsLogClause net log n (passes_on e k t) = (k < length (chain net log e)) × IsStepNumber n t
+IsLogClause net log n (taken_or_passed i e k t) = IsLink net log i e k × IsStepNumber n t
+IsLogClause net log n (not_done_first i) = i < length log.alarms
+IsLogClause net log n (stays_done i t) = (i < length log.alarms) × (t < n)
+IsLogClause net log n (match_is_done i e t) = IsTrue (is_matching net log e i) × (t < n)
+IsLogClause net log n (matched_once i e t) = IsTrue (is_matching net log e i) × (t < n)
+IsLogClause net log n (done_by_match i t) = (i < length log.alarms) × (t < n)
+IsLogClause net log n (one_match i e f t) = IsTrue (is_matching net log e i) × IsTrue (is_matching net log f i) × (e < f) × (t < n)
+IsLogClause net log n (done_if_asked i) = i < length log.alarms
+IsLogClause net log n (before_if_asked i j t) = Contains log.pairs (i, j) × (t < n)
+
+-- What is assumed for this log, and never for a longer one: it is asked for, and the chain of each event that can be seen ends after its present alarms.
+abbrev pub guard_literals : Net → Log → List NamedLiteral
+guard_literals net log = yes asked ∷ map (λ e. yes (closed e (length (chain net log e)))) (observable_events net)

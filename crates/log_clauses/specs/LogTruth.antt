@@ -1,0 +1,32 @@
+-- When names by their truth make the clauses of a log true, and its guards.
+use Rattle.std.specs.Prelude.{◌≡◌, ℕ, Bool, true, false, IsTrue}
+use Rattle.std.specs.List.{AllByRecursion}
+use Rattle.des_net.specs.Network.{Net}
+use Rattle.log_order.specs.Log.{Log}
+use Rattle.log_clauses.specs.LogClauses.{LogClause, log_clause, IsLogClause, guard_literals}
+use Rattle.prop_core.specs.NamedClauses.{named_true, named_clause_true}
+use Rattle.prop_core.specs.VariableNames.{Name, in_state, happens, asked, matches, done, unmatched, closed, reaches, some_of_first}
+
+-- each clause of the log is true
+abbrev pub LogClausesHold : Net → Log → ℕ → (Name → Bool) → Type 0
+LogClausesHold net log n value = (which : LogClause) → IsLogClause net log n which → IsTrue (named_clause_true value (log_clause net log n which))
+
+-- each guard of the log is true
+abbrev pub GuardsHold : Net → Log → (Name → Bool) → Type 0
+GuardsHold net log value = AllByRecursion (λ l. IsTrue (named_true value l)) (guard_literals net log)
+
+-- the name is one that clauses of logs alone have, or a guard
+abbrev pub is_of_log : Name → Bool
+is_of_log (in_state c q t) = false
+is_of_log (happens e t) = false
+is_of_log asked = true
+is_of_log (matches i e t) = true
+is_of_log (done i t) = true
+is_of_log (unmatched e k t) = true
+is_of_log (closed e k) = true
+is_of_log (reaches i j) = false
+is_of_log (some_of_first family i) = false
+
+-- the same truth for all names but those of a log
+abbrev pub DifferInLog : (Name → Bool) → (Name → Bool) → Type 0
+DifferInLog given value = (name : Name) → is_of_log name ≡ false → value name ≡ given name
