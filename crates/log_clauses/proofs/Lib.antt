@@ -7,3 +7,7 @@ pub mod Complete
 pub mod Matches
 pub mod Stay
 pub mod Growth
+pub mod Codes
+pub mod Drafts
+pub mod NewNames
+pub mod Numbered

@@ -5,3 +5,6 @@ pub mod Coded
 pub mod LogLaws
 pub mod Additions
 pub mod AdditionLaws
+pub mod LogCodes
+pub mod Drafts
+pub mod LogNames

@@ -1,0 +1,357 @@
+-- The listed clauses of an addition are those that it brings.
+use Rattle.std.proofs.Common.{◌≡◌, ℕ, zero, suc, ◌+◌, ◌*◌, ◌^◌, ◌<◌, ◌≤◌, Bool, true, List, [], ◌∷◌, ◌++◌, ◌∙◌, length, refl, sym, ap, subst, arith, Contains, map, flat_map, filter, inl, inr, ◌⊎◌, ◌↔◌, is_some, count_by, length-append, sum_by, get_or}
+use Rattle.std.specs.List.{AllByRecursion, AllZip, range_with_len}
+use Rattle.std.proofs.lemmas.List.{length-map}
+use Rattle.std.proofs.lemmas.List.Elements.{Contains-get_or}
+use Rattle.std.proofs.lemmas.List.Sums.{length-filter, sum_by-append, sum_by-cons}
+use Rattle.std.proofs.lemmas.List.FromFn.{length-range_with_len}
+use Rattle.std.proofs.Math.Nat.{mul-le-mul_left, pow-succ', pow-zero}
+use Rattle.des_base.specs.Lists.{EachPair}
+use Rattle.des_net.specs.Network.{Net, label_of}
+use Rattle.des_net.specs.QuestionSize.{touching_count, fault_event_count}
+use Rattle.log_clauses.proofs.Lists.{flat_has, flat_from, map_has, map_from, number_has, number_from, cons_cases, here_first, here_later, none_in_nil, all_of, all_at, append_cases, append_left, append_right, filter_has, filter_from, range_from, pairs_filter}
+use Rattle.log_clauses.proofs.Rules.{has_event, event_matches, shown_event}
+use Rattle.log_clauses.proofs.Stay.{range_more, matching_same}
+use Rattle.log_clauses.specs.Additions.{Addition, alarm_added, pair_added, with_addition, IsTaken, IsAlarmClause, IsAddedClause, IsFirstClause}
+use Rattle.log_clauses.specs.Drafts.{taken_events, link_clauses, match_clauses, done_clauses, alarm_clauses, added_clauses, first_clauses, DraftsAreCode, DraftsAreSmall}
+use Rattle.log_clauses.specs.LogClauses.{chain, LogClause, log_clause, chain_closed, takes_rest, uses_up, passes_on, taken_or_passed, not_done_first, stays_done, match_is_done, matched_once, done_by_match, one_match, done_if_asked, before_if_asked, IsStepNumber}
+use Rattle.log_order.specs.Log.{Log, Alarm, no_log}
+use Rattle.prop_core.specs.Clauses.{Clause}
+use Rattle.prop_core.specs.NamedClauses.{IsCode}
+use Rattle.prop_core.specs.VariableNames.{Name, NamedLiteral, ReadsAs}
+use Rattle.replay.specs.QuestionSize.{is_matching, question_size, matching_count}
+use Rattle.run_clauses.specs.StepClauses.{numbers_below, state_count}
+
+range_up : (a m : ℕ) → EachPair (λ x y. x < y) (range_with_len a m)
+range_up a zero = tt
+range_up a (suc m) = (all_of (λ y. a < y) (range_with_len (a + 1) m) (λ y in'. let low = (range_from (a + 1) m y in').0 in omega (arith, low)), range_up (a + 1) m)
+
+-- Clauses that read as a list of what is wanted are the code of it.
+listed : {W : Type 0} (names : List (ℕ × Name)) (wanted : W → Type 0) (literals : W → List NamedLiteral) (clauses : List Clause) (list : List W) →
+    ((w : W) → Contains list w ↔ wanted w) → AllZip (λ clause w. ReadsAs names clause (literals w)) clauses list → IsCode names (λ named. (w : W) × wanted w × (literals w ≡ named)) clauses
+listed names wanted literals clauses list same zip = record {
+  all = λ named (w, h, is). let there = covered clauses list w ((same w).1 h) zip in (there.0, there.1, subst (ReadsAs names there.0) is there.2);
+  only = written clauses list (λ w in'. (same w).0 in') zip;
+}
+  where
+    written : (cs : List Clause) (ws : List _) → ((w : _) → Contains ws w → wanted w) → AllZip (λ clause w. ReadsAs names clause (literals w)) cs ws →
+        AllByRecursion (λ clause. (named : List NamedLiteral) × ((w : _) × wanted w × (literals w ≡ named)) × ReadsAs names clause named) cs
+    written [] [] inside z = tt
+    written [] (w ∷ ws) inside z = absurd z
+    written (c ∷ cs) [] inside z = absurd z
+    written (c ∷ cs) (w ∷ ws) inside z = ((literals w, (w, inside w (here_first w ws w refl), refl), z.0), written cs ws (λ v in'. inside v (here_later w ws v in')) z.1)
+
+    covered : (cs : List Clause) (ws : List _) (w : _) → Contains ws w → AllZip (λ clause v. ReadsAs names clause (literals v)) cs ws → (clause : Clause) × Contains cs clause × ReadsAs names clause (literals w)
+    covered [] [] w in' z = absurd (none_in_nil w in')
+    covered [] (v ∷ ws) w in' z = absurd z
+    covered (c ∷ cs) [] w in' z = absurd z
+    covered (c ∷ cs) (v ∷ ws) w in' z = by (cons_cases v ws w in') (λ rest. covered cs ws w rest z.1)
+      where
+        by : (v ≡ w) ⊎ Contains ws w → (Contains ws w → (clause : Clause) × Contains cs clause × ReadsAs names clause (literals w)) → (clause : Clause) × Contains (c ∷ cs) clause × ReadsAs names clause (literals w)
+        by (inl is) later = (c, here_first c cs c refl, subst (λ x. ReadsAs names c (literals x)) is z.0)
+        by (inr rest) later = let found = later rest in (found.0, here_later c cs found.0 found.1, found.2)
+
+-- the pairs of events of an alarm
+match_from : (i t : ℕ) (events : List ℕ) (which : LogClause) → EachPair (λ e f. e < f) events → Contains (match_clauses i t events) which →
+    (e : ℕ) × (f : ℕ) × Contains events e × Contains events f × (e < f) × (one_match i e f t ≡ which)
+match_from i t [] which up in' = absurd (none_in_nil which in')
+match_from i t (x ∷ events) which up in' = by (append_cases (map (λ f. one_match i x f t) events) (match_clauses i t events) which in') (match_from i t events which up.1)
+  where
+    by : Contains (map (λ f. one_match i x f t) events) which ⊎ Contains (match_clauses i t events) which →
+        (Contains (match_clauses i t events) which → (e : ℕ) × (f : ℕ) × Contains events e × Contains events f × (e < f) × (one_match i e f t ≡ which)) →
+        (e : ℕ) × (f : ℕ) × Contains (x ∷ events) e × Contains (x ∷ events) f × (e < f) × (one_match i e f t ≡ which)
+    by (inl here) later =
+        let found = map_from (λ f. one_match i x f t) events which here in
+        (x, found.0, here_first x events x refl, here_later x events found.0 found.1, all_at (λ f. x < f) events up.0 found.0 found.1, found.2)
+    by (inr rest) later = let found = later rest in (found.0, found.1, here_later x events found.0 found.2, here_later x events found.1 found.3, found.4, found.5)
+
+match_has : (i t : ℕ) (events : List ℕ) (e f : ℕ) → EachPair (λ a b. a < b) events → Contains events e → Contains events f → e < f → Contains (match_clauses i t events) (one_match i e f t)
+match_has i t [] e f up in' in2 less = absurd (none_in_nil e in')
+match_has i t (x ∷ events) e f up in' in2 less = by (cons_cases x events e in') (cons_cases x events f in2) (λ a b. match_has i t events e f up.1 a b less)
+  where
+    by : (x ≡ e) ⊎ Contains events e → (x ≡ f) ⊎ Contains events f → (Contains events e → Contains events f → Contains (match_clauses i t events) (one_match i e f t)) →
+        Contains (map (λ g. one_match i x g t) events ++ match_clauses i t events) (one_match i e f t)
+    by (inl a) (inl b) later = absurd (omega (arith, a, b))
+    by (inl a) (inr b) later =
+        append_left (map (λ g. one_match i x g t) events) (match_clauses i t events) (one_match i e f t)
+        (subst (λ y. Contains (map (λ g. one_match i x g t) events) (one_match i y f t)) a (map_has (λ g. one_match i x g t) events f b))
+    by (inr a) (inl b) later = absurd (let above = all_at (λ y. x < y) events up.0 e a in omega (arith, above, b))
+    by (inr a) (inr b) later = append_right (map (λ g. one_match i x g t) events) (match_clauses i t events) (one_match i e f t) (later a b)
+
+module _ (net : Net) (log : Log) (n : ℕ) (new : Alarm) where
+  up : EachPair (λ e f. e < f) (taken_events net log new)
+  up = pairs_filter (λ e f. e < f) (λ e. is_matching net (record log { alarms = log.alarms ++ new ∷ [] }) e (length log.alarms)) (numbers_below (length net.events)) (range_up 0 (length net.events))
+
+  pub taken_is : (e : ℕ) → Contains (taken_events net log new) e → IsTaken net log new e
+  taken_is e in' = event_matches net (record log { alarms = log.alarms ++ new ∷ [] }) e (length log.alarms) in'
+
+  pub is_taken : (e : ℕ) → IsTaken net log new e → Contains (taken_events net log new) e
+  is_taken e h = has_event net (record log { alarms = log.alarms ++ new ∷ [] }) e (length log.alarms) h
+
+  links : ℕ → List LogClause
+  links e = flat_map (link_clauses (length log.alarms) e (length (chain net log e))) (numbers_below n)
+
+  link_wanted : (e t : ℕ) → IsTaken net log new e → t < n → AllByRecursion (IsAlarmClause net log n new) (link_clauses (length log.alarms) e (length (chain net log e)) t)
+  link_wanted e t taken step = (
+    (refl, taken, (omega arith, omega arith)),
+    (
+      ((refl, refl, taken), (omega arith, omega arith)),
+      (
+        ((refl, refl, taken), (omega arith, omega arith)),
+        (
+          (refl, taken, (omega arith, omega arith)),
+          (((refl, refl, taken), (omega arith, omega arith)), ((refl, taken, step), ((refl, taken, step), tt))),
+        ),
+      ),
+    ),
+  )
+
+  listed_wanted : (which : LogClause) → Contains (alarm_clauses net log n new) which → IsAlarmClause net log n new which
+  listed_wanted which in' =
+      by (append_cases (flat_map (λ e. flat_map (link_clauses (length log.alarms) e (length (chain net log e))) (numbers_below n)) (taken_events net log new))
+      (not_done_first (length log.alarms) ∷ done_if_asked (length log.alarms) ∷ flat_map (done_clauses (length log.alarms) (taken_events net log new)) (numbers_below n)) which in')
+    where
+      wanted : LogClause → Type 0
+      wanted w = IsAlarmClause net log n new w
+
+      in_step : (t : ℕ) → t < n → Contains (done_clauses (length log.alarms) (taken_events net log new) t) which → IsAlarmClause net log n new which
+      in_step t step here = first (cons_cases (stays_done (length log.alarms) t) (done_by_match (length log.alarms) t ∷ match_clauses (length log.alarms) t (taken_events net log new)) which here)
+        where
+          second : (done_by_match (length log.alarms) t ≡ which) ⊎ Contains (match_clauses (length log.alarms) t (taken_events net log new)) which → IsAlarmClause net log n new which
+          second (inl is) = subst (IsAlarmClause net log n new) is (refl, step)
+          second (inr rest) =
+              let found = match_from (length log.alarms) t (taken_events net log new) which up rest in
+              subst (IsAlarmClause net log n new) found.5 (refl, taken_is found.0 found.2, taken_is found.1 found.3, found.4, step)
+
+          first : (stays_done (length log.alarms) t ≡ which) ⊎ Contains (done_by_match (length log.alarms) t ∷ match_clauses (length log.alarms) t (taken_events net log new)) which → IsAlarmClause net log n new which
+          first (inl is) = subst (IsAlarmClause net log n new) is (refl, step)
+          first (inr rest) = second (cons_cases (done_by_match (length log.alarms) t) (match_clauses (length log.alarms) t (taken_events net log new)) which rest)
+
+      rest_of : (done_if_asked (length log.alarms) ≡ which) ⊎ Contains (flat_map (done_clauses (length log.alarms) (taken_events net log new)) (numbers_below n)) which → IsAlarmClause net log n new which
+      rest_of (inl is) = subst (IsAlarmClause net log n new) is refl
+      rest_of (inr there) =
+          let found = flat_from (done_clauses (length log.alarms) (taken_events net log new)) (numbers_below n) which there in
+          in_step found.0 (number_from n found.0 found.1) found.2
+
+      after : (not_done_first (length log.alarms) ≡ which) ⊎ Contains (done_if_asked (length log.alarms) ∷ flat_map (done_clauses (length log.alarms) (taken_events net log new)) (numbers_below n)) which → IsAlarmClause net log n new which
+      after (inl is) = subst (IsAlarmClause net log n new) is refl
+      after (inr there) = rest_of (cons_cases (done_if_asked (length log.alarms)) (flat_map (done_clauses (length log.alarms) (taken_events net log new)) (numbers_below n)) which there)
+
+      by : Contains (flat_map (λ e. flat_map (link_clauses (length log.alarms) e (length (chain net log e))) (numbers_below n)) (taken_events net log new)) which
+          ⊎ Contains (not_done_first (length log.alarms) ∷ done_if_asked (length log.alarms) ∷ flat_map (done_clauses (length log.alarms) (taken_events net log new)) (numbers_below n)) which → IsAlarmClause net log n new which
+      by (inl there) =
+          let event = flat_from (λ e. flat_map (link_clauses (length log.alarms) e (length (chain net log e))) (numbers_below n)) (taken_events net log new) which there in
+          let step = flat_from (link_clauses (length log.alarms) event.0 (length (chain net log event.0))) (numbers_below n) which event.2 in
+          all_at (IsAlarmClause net log n new) (link_clauses (length log.alarms) event.0 (length (chain net log event.0)) step.0)
+          (link_wanted event.0 step.0 (taken_is event.0 event.1) (number_from n step.0 step.1)) which step.2
+      by (inr there) = after (cons_cases (not_done_first (length log.alarms)) (done_if_asked (length log.alarms) ∷ flat_map (done_clauses (length log.alarms) (taken_events net log new)) (numbers_below n)) which there)
+
+  -- where a link's clause stands
+  in_links : (e t : ℕ) (which : LogClause) → IsTaken net log new e → t < n → Contains (link_clauses (length log.alarms) e (length (chain net log e)) t) which → Contains (alarm_clauses net log n new) which
+  in_links e t which taken step there =
+      append_left (flat_map (λ f. flat_map (link_clauses (length log.alarms) f (length (chain net log f))) (numbers_below n)) (taken_events net log new))
+      (not_done_first (length log.alarms) ∷ done_if_asked (length log.alarms) ∷ flat_map (done_clauses (length log.alarms) (taken_events net log new)) (numbers_below n)) which
+      (flat_has (λ f. flat_map (link_clauses (length log.alarms) f (length (chain net log f))) (numbers_below n)) (taken_events net log new) e which (is_taken e taken)
+      (flat_has (link_clauses (length log.alarms) e (length (chain net log e))) (numbers_below n) t which (number_has n t step) there))
+
+  in_rest : (which : LogClause) → Contains (not_done_first (length log.alarms) ∷ done_if_asked (length log.alarms) ∷ flat_map (done_clauses (length log.alarms) (taken_events net log new)) (numbers_below n)) which →
+      Contains (alarm_clauses net log n new) which
+  in_rest which there =
+      append_right (flat_map (λ f. flat_map (link_clauses (length log.alarms) f (length (chain net log f))) (numbers_below n)) (taken_events net log new))
+      (not_done_first (length log.alarms) ∷ done_if_asked (length log.alarms) ∷ flat_map (done_clauses (length log.alarms) (taken_events net log new)) (numbers_below n)) which there
+
+  in_steps : (t : ℕ) (which : LogClause) → t < n → Contains (done_clauses (length log.alarms) (taken_events net log new) t) which → Contains (alarm_clauses net log n new) which
+  in_steps t which step there =
+      in_rest which (here_later (not_done_first (length log.alarms)) (done_if_asked (length log.alarms) ∷ flat_map (done_clauses (length log.alarms) (taken_events net log new)) (numbers_below n)) which
+      (here_later (done_if_asked (length log.alarms)) (flat_map (done_clauses (length log.alarms) (taken_events net log new)) (numbers_below n)) which
+      (flat_has (done_clauses (length log.alarms) (taken_events net log new)) (numbers_below n) t which (number_has n t step) there)))
+
+  at_place : (xs : List LogClause) (k : ℕ) (d : LogClause) → k < length xs → Contains xs (get_or xs k d)
+  at_place xs k d h = Contains-get_or xs k d h
+
+  wanted_listed : (which : LogClause) → IsAlarmClause net log n new which → Contains (alarm_clauses net log n new) which
+  wanted_listed (chain_closed e k zero) h = absurd (omega (arith, h.2.0))
+  wanted_listed (chain_closed e k (suc t)) h =
+      subst (λ x. Contains (alarm_clauses net log n new) (chain_closed e x (suc t))) (sym h.0)
+      (in_links e t (chain_closed e (suc (length (chain net log e))) (suc t)) h.1 (omega (arith, h.2.1)) (0, omega arith, refl))
+  wanted_listed (takes_rest i e k zero) h = absurd (omega (arith, h.1.0))
+  wanted_listed (takes_rest i e k (suc t)) h =
+      subst (λ x. Contains (alarm_clauses net log n new) (takes_rest x e k (suc t))) (sym h.0.0)
+      (subst (λ x. Contains (alarm_clauses net log n new) (takes_rest (length log.alarms) e x (suc t))) (sym h.0.1)
+      (in_links e t (takes_rest (length log.alarms) e (length (chain net log e)) (suc t)) h.0.2 (omega (arith, h.1.1)) (1, omega arith, refl)))
+  wanted_listed (uses_up i e k zero) h = absurd (omega (arith, h.1.0))
+  wanted_listed (uses_up i e k (suc t)) h =
+      subst (λ x. Contains (alarm_clauses net log n new) (uses_up x e k (suc t))) (sym h.0.0)
+      (subst (λ x. Contains (alarm_clauses net log n new) (uses_up (length log.alarms) e x (suc t))) (sym h.0.1)
+      (in_links e t (uses_up (length log.alarms) e (length (chain net log e)) (suc t)) h.0.2 (omega (arith, h.1.1)) (2, omega arith, refl)))
+  wanted_listed (passes_on e k zero) h = absurd (omega (arith, h.2.0))
+  wanted_listed (passes_on e k (suc t)) h =
+      subst (λ x. Contains (alarm_clauses net log n new) (passes_on e x (suc t))) (sym h.0)
+      (in_links e t (passes_on e (length (chain net log e)) (suc t)) h.1 (omega (arith, h.2.1)) (3, omega arith, refl))
+  wanted_listed (taken_or_passed i e k zero) h = absurd (omega (arith, h.1.0))
+  wanted_listed (taken_or_passed i e k (suc t)) h =
+      subst (λ x. Contains (alarm_clauses net log n new) (taken_or_passed x e k (suc t))) (sym h.0.0)
+      (subst (λ x. Contains (alarm_clauses net log n new) (taken_or_passed (length log.alarms) e x (suc t))) (sym h.0.1)
+      (in_links e t (taken_or_passed (length log.alarms) e (length (chain net log e)) (suc t)) h.0.2 (omega (arith, h.1.1)) (4, omega arith, refl)))
+  wanted_listed (not_done_first i) h = subst (λ x. Contains (alarm_clauses net log n new) (not_done_first x)) (sym h) (in_rest (not_done_first (length log.alarms)) (0, omega arith, refl))
+  wanted_listed (stays_done i t) h = subst (λ x. Contains (alarm_clauses net log n new) (stays_done x t)) (sym h.0) (in_steps t (stays_done (length log.alarms) t) h.1 (0, omega arith, refl))
+  wanted_listed (match_is_done i e t) h =
+      subst (λ x. Contains (alarm_clauses net log n new) (match_is_done x e t)) (sym h.0) (in_links e t (match_is_done (length log.alarms) e t) h.1 h.2 (5, omega arith, refl))
+  wanted_listed (matched_once i e t) h =
+      subst (λ x. Contains (alarm_clauses net log n new) (matched_once x e t)) (sym h.0) (in_links e t (matched_once (length log.alarms) e t) h.1 h.2 (6, omega arith, refl))
+  wanted_listed (done_by_match i t) h = subst (λ x. Contains (alarm_clauses net log n new) (done_by_match x t)) (sym h.0) (in_steps t (done_by_match (length log.alarms) t) h.1 (1, omega arith, refl))
+  wanted_listed (one_match i e f t) h =
+      subst (λ x. Contains (alarm_clauses net log n new) (one_match x e f t)) (sym h.0)
+      (in_steps t (one_match (length log.alarms) e f t) h.4
+      (here_later (stays_done (length log.alarms) t) (done_by_match (length log.alarms) t ∷ match_clauses (length log.alarms) t (taken_events net log new)) (one_match (length log.alarms) e f t)
+      (here_later (done_by_match (length log.alarms) t) (match_clauses (length log.alarms) t (taken_events net log new)) (one_match (length log.alarms) e f t)
+      (match_has (length log.alarms) t (taken_events net log new) e f up (is_taken e h.1) (is_taken f h.2) h.3))))
+  wanted_listed (done_if_asked i) h = subst (λ x. Contains (alarm_clauses net log n new) (done_if_asked x)) (sym h) (in_rest (done_if_asked (length log.alarms)) (1, omega arith, refl))
+  wanted_listed (before_if_asked i j t) h = absurd h
+
+added_listed : (net : Net) (log : Log) (n : ℕ) (addition : Addition) (which : LogClause) → Contains (added_clauses net log n addition) which ↔ IsAddedClause net log n addition which
+added_listed net log n (alarm_added new) which = (listed_wanted net log n new which, wanted_listed net log n new which)
+added_listed net log n (pair_added i j) which = (
+  λ in'. let found = map_from (λ t. before_if_asked i j t) (numbers_below n) which in' in (found.0, number_from n found.0 found.1, sym found.2),
+  λ h. subst (λ w. Contains (map (λ t. before_if_asked i j t) (numbers_below n)) w) (sym h.2) (map_has (λ t. before_if_asked i j t) (numbers_below n) h.0 (number_has n h.0 h.1)),
+)
+
+first_listed : (net : Net) (n : ℕ) (which : LogClause) → Contains (first_clauses net n) which ↔ IsFirstClause net n which
+first_listed net n which = (to, λ h. from h.0 h.1 h.2 h.3 h.4)
+  where
+    to : Contains (first_clauses net n) which → IsFirstClause net n which
+    to in' =
+        let event = flat_from (λ e. map (λ t. chain_closed e 0 (suc t)) (numbers_below n)) (filter (λ e. is_some (label_of net e)) (numbers_below (length net.events))) which in' in
+        let step = map_from (λ t. chain_closed event.0 0 (suc t)) (numbers_below n) which event.2 in
+        let below = number_from n step.0 step.1 in
+        (event.0, suc step.0, (filter_from (λ e. is_some (label_of net e)) (numbers_below (length net.events)) event.0 event.1).0, (omega arith, omega (arith, below)), sym step.2)
+
+    from : (e t : ℕ) → is_some (label_of net e) ≡ true → IsStepNumber n t → which ≡ chain_closed e 0 t → Contains (first_clauses net n) which
+    from e zero shown step is = absurd (omega (arith, step.0))
+    from e (suc t) shown step is =
+        subst (λ w. Contains (first_clauses net n) w) (sym is)
+        (flat_has (λ f. map (λ s. chain_closed f 0 (suc s)) (numbers_below n)) (filter (λ f. is_some (label_of net f)) (numbers_below (length net.events))) e (chain_closed e 0 (suc t))
+        (filter_has (λ f. is_some (label_of net f)) (numbers_below (length net.events)) e shown (number_has (length net.events) e (shown_event net e shown)))
+        (map_has (λ s. chain_closed e 0 (suc s)) (numbers_below n) t (number_has n t (omega (arith, step.1)))))
+
+pub drafts_are_code : DraftsAreCode
+drafts_are_code net n names clauses = (
+  λ log addition zip. listed names (IsAddedClause net log n addition) (log_clause net (with_addition log addition) n) clauses (added_clauses net log n addition) (added_listed net log n addition) zip,
+  λ zip. listed names (IsFirstClause net n) (log_clause net no_log n) clauses (first_clauses net n) (first_listed net n) zip,
+)
+
+-- How many clauses and names an addition has.
+pub flat_length : {Y : Type 0} (f : ℕ → List Y) (xs : List ℕ) (c : ℕ) → ((x : ℕ) → length (f x) ≡ c) → length (flat_map f xs) ≡ length xs * c
+flat_length f [] c h = omega arith
+flat_length f (x ∷ xs) c h = let rest = flat_length f xs c h in let first = h x in let whole = length-append (f x) (flat_map f xs) in omega (arith, rest, first, whole)
+
+match_size : (i t : ℕ) (events : List ℕ) → length (match_clauses i t events) + length (match_clauses i t events) + length events ≡ length events * length events
+match_size i t [] = omega arith
+match_size i t (e ∷ events) =
+    let rest = match_size i t events in
+    let whole = length-append (map (λ f. one_match i e f t) events) (match_clauses i t events) in
+    let front = length-map events (λ f. one_match i e f t) in
+    omega (arith, rest, whole, front)
+
+square : (m : ℕ) → m ≤ m * m
+square zero = omega arith
+square (suc m) = omega arith
+
+few_clauses : (n m l : ℕ) → l + l + m ≡ m * m → m * (n * 7) + (2 + n * (2 + l)) ≤ 12 * (n * (m * m + 1)) + 12
+few_clauses n m l h =
+    let more = square m in
+    let each : 7 * m + (2 + l) ≤ 12 * (m * m + 1) = omega (arith, more, h) in
+    let all = mul-le-mul_left n each in
+    omega (arith, all)
+
+grows : (n q s r d f a : ℕ) → a ≤ 12 * (n * d) + 12 → a + 12 * (n * (q + s + r) + f) ≤ 12 * (n * (q + (s + d) + r) + f) + 12
+grows n q s r d f a h = omega arith
+
+sum_agree : (g h : ℕ → ℕ) (xs : List ℕ) → ((x : ℕ) → Contains xs x → g x ≡ h x) → sum_by g xs ≡ sum_by h xs
+sum_agree g h [] same = refl
+sum_agree g h (x ∷ xs) same =
+    let rest = sum_agree g h xs (λ y in'. same y (here_later x xs y in')) in
+    let first = same x (here_first x xs x refl) in
+    let a = sum_by-cons g x xs in
+    let b = sum_by-cons h x xs in
+    omega (arith, rest, first, a, b)
+
+-- a sum over the alarms, with one more
+pub sum_more : (g h : ℕ → ℕ) (a : ℕ) → ((x : ℕ) → x < a → g x ≡ h x) → sum_by g (numbers_below (suc a)) ≡ sum_by h (numbers_below a) + g a
+sum_more g h a same =
+    let split = ap (sum_by g) (range_more 0 a) in
+    let parts = sum_by-append g (numbers_below a) ((0 + a) ∷ []) in
+    let last = sum_by-cons g (0 + a) [] in
+    let zero_add : 0 + a ≡ a = omega arith in
+    let at = ap g zero_add in
+    let front = sum_agree g h (numbers_below a) (λ x in'. same x (number_from a x in')) in
+    omega (arith, split, parts, last, at, front)
+
+square_is : (m : ℕ) → m ^ 2 ≡ m * m
+square_is m = pow-succ' m 1 ∙ ap (λ k. m * k) (pow-succ' m 0 ∙ one m)
+  where
+    one : (k : ℕ) → k * k ^ 0 ≡ k
+    one k = let e = pow-zero k in rw e (omega arith)
+
+module _ (net : Net) (log : Log) (n : ℕ) (new : Alarm) where
+  count : ℕ
+  count = matching_count net (record log { alarms = log.alarms ++ new ∷ [] }) (length log.alarms)
+
+  pub taken_count : length (taken_events net log new) ≡ matching_count net (record log { alarms = log.alarms ++ new ∷ [] }) (length log.alarms)
+  taken_count = length-filter (λ e. is_matching net (record log { alarms = log.alarms ++ new ∷ [] }) e (length log.alarms)) (numbers_below (length net.events))
+
+  pub same_count : (i : ℕ) → i < length log.alarms → matching_count net (record log { alarms = log.alarms ++ new ∷ [] }) i ≡ matching_count net log i
+  same_count i h = ap (λ (p : ℕ → Bool). count_by p (numbers_below (length net.events))) (λ j e. matching_same net log new e i h j)
+
+  alarm_size : length (alarm_clauses net log n new) ≡ length (taken_events net log new) * (n * 7) + (2 + n * (2 + length (match_clauses (length log.alarms) 0 (taken_events net log new))))
+  alarm_size =
+      let range = length-range_with_len 0 n in
+      let front = flat_length (λ e. flat_map (link_clauses (length log.alarms) e (length (chain net log e))) (numbers_below n)) (taken_events net log new) (n * 7) (λ e.
+      let inner = flat_length (link_clauses (length log.alarms) e (length (chain net log e))) (numbers_below n) 7 (λ t. refl) in omega (arith, inner, range)) in
+      let back = flat_length (done_clauses (length log.alarms) (taken_events net log new)) (numbers_below n) (2 + length (match_clauses (length log.alarms) 0 (taken_events net log new))) (λ t.
+      let a = match_size (length log.alarms) t (taken_events net log new) in let b = match_size (length log.alarms) 0 (taken_events net log new) in omega (arith, a, b)) in
+      let moved = ap (λ k. k * (2 + length (match_clauses (length log.alarms) 0 (taken_events net log new)))) range in
+      let whole = length-append (flat_map (λ e. flat_map (link_clauses (length log.alarms) e (length (chain net log e))) (numbers_below n)) (taken_events net log new))
+      (not_done_first (length log.alarms) ∷ done_if_asked (length log.alarms) ∷ flat_map (done_clauses (length log.alarms) (taken_events net log new)) (numbers_below n)) in
+      omega (arith, range, front, back, whole, moved)
+
+  few : length (alarm_clauses net log n new) ≤ 12 * (n * (matching_count net (record log { alarms = log.alarms ++ new ∷ [] }) (length log.alarms) ^ 2 + 1)) + 12
+  few =
+      let size = alarm_size in
+      let pairs = match_size (length log.alarms) 0 (taken_events net log new) in
+      let bound = few_clauses n (length (taken_events net log new)) (length (match_clauses (length log.alarms) 0 (taken_events net log new))) pairs in
+      let squares = square_is (length (taken_events net log new)) in
+      let same : length (taken_events net log new) * length (taken_events net log new) + 1 ≡ matching_count net (record log { alarms = log.alarms ++ new ∷ [] }) (length log.alarms) ^ 2 + 1 =
+      ap (λ k. k + 1) (sym squares ∙ ap (λ k. k ^ 2) taken_count) in
+      let moved = ap (λ k. 12 * (n * k) + 12) same in
+      omega (arith, size, bound, moved)
+
+  pub longer : length (log.alarms ++ new ∷ []) ≡ suc (length log.alarms)
+  longer = omega (arith, length-append log.alarms (new ∷ []))
+
+  pub alarm_small : length (alarm_clauses net log n new) + 12 * question_size net log n ≤ 12 * question_size net (record log { alarms = log.alarms ++ new ∷ [] }) n + 12
+  alarm_small =
+      let g : ℕ → ℕ = λ i. matching_count net (record log { alarms = log.alarms ++ new ∷ [] }) i ^ 2 + 1 in
+      let sum : sum_by (λ i. matching_count net (record log { alarms = log.alarms ++ new ∷ [] }) i ^ 2 + 1) (numbers_below (length (log.alarms ++ new ∷ []))) ≡
+      sum_by (λ i. matching_count net log i ^ 2 + 1) (numbers_below (length log.alarms)) + (matching_count net (record log { alarms = log.alarms ++ new ∷ [] }) (length log.alarms) ^ 2 + 1) =
+      ap (λ k. sum_by (λ i. matching_count net (record log { alarms = log.alarms ++ new ∷ [] }) i ^ 2 + 1) (numbers_below k)) longer
+      ∙ sum_more (λ i. matching_count net (record log { alarms = log.alarms ++ new ∷ [] }) i ^ 2 + 1) (λ i. matching_count net log i ^ 2 + 1) (length log.alarms) (λ i h. ap (λ k. k ^ 2 + 1) (same_count i h)) in
+      rw sum (grows n (sum_by (λ c. (state_count net c + touching_count net c) ^ 2) (numbers_below (length net.components)))
+      (sum_by (λ i. matching_count net log i ^ 2 + 1) (numbers_below (length log.alarms))) (length log.pairs)
+      (matching_count net (record log { alarms = log.alarms ++ new ∷ [] }) (length log.alarms) ^ 2 + 1) (256 * n * fault_event_count net) (length (alarm_clauses net log n new)) few)
+
+pair_grows : (n q s r f a : ℕ) → a ≤ n → a + 12 * (n * (q + s + r) + f) ≤ 12 * (n * (q + s + (r + 1)) + f) + 12
+pair_grows n q s r f a h = omega arith
+
+pub pair_small : (net : Net) (log : Log) (n i j : ℕ) → length (map (λ t. before_if_asked i j t) (numbers_below n)) + 12 * question_size net log n ≤ 12 * question_size net (record log { pairs = log.pairs ++ (i, j) ∷ [] }) n + 12
+pair_small net log n i j =
+    let size = length-map (numbers_below n) (λ t. before_if_asked i j t) in
+    let range = length-range_with_len 0 n in
+    let longer : length (log.pairs ++ (i, j) ∷ []) ≡ length log.pairs + 1 = omega (arith, length-append log.pairs ((i, j) ∷ [])) in
+    rw longer (pair_grows n (sum_by (λ c. (state_count net c + touching_count net c) ^ 2) (numbers_below (length net.components)))
+    (sum_by (λ k. matching_count net log k ^ 2 + 1) (numbers_below (length log.alarms))) (length log.pairs) (256 * n * fault_event_count net)
+    (length (map (λ t. before_if_asked i j t) (numbers_below n))) (omega (arith, size, range)))
+
+pub drafts_are_small : DraftsAreSmall
+drafts_are_small net log n (alarm_added new) = alarm_small net log n new
+drafts_are_small net log n (pair_added i j) = pair_small net log n i j

@@ -1,0 +1,382 @@
+-- The names of an addition are new, and few.
+use Rattle.std.proofs.Common.{◌≡◌, ◌≢◌, ℕ, zero, suc, ◌+◌, ◌*◌, ◌<◌, ◌≤◌, Bool, true, false, List, [], ◌∷◌, ◌++◌, ◌∙◌, length, refl, sym, ap, subst, arith, Contains, map, flat_map, filter, inl, inr, ◌⊎◌, is_some, length-append, sum_by}
+use Rattle.std.proofs.lemmas.List.{length-map}
+use Rattle.std.proofs.lemmas.List.FromFn.{length-range_with_len}
+use Rattle.des_base.specs.Lists.{EachPair}
+use Rattle.des_net.specs.Network.{Net, label_of}
+use Rattle.des_net.specs.QuestionSize.{at_most_one_count}
+use Rattle.log_clauses.proofs.Complete.{range_once}
+use Rattle.log_clauses.proofs.Drafts.{flat_length, sum_more, same_count, taken_count, longer, taken_is, is_taken}
+use Rattle.log_clauses.proofs.Growth.{length_split, length_end, grown, number_split, match_split, taken}
+use Rattle.log_clauses.proofs.Lists.{flat_has, flat_from, map_has, map_from, number_has, number_from, cons_cases, here_later, none_in_nil, all_of, all_at, append_cases, append_left, append_right, filter_has, filter_from, pairs_filter, pairs_append}
+use Rattle.log_clauses.proofs.Rules.{matching_alarm, is_shown, shown_event}
+use Rattle.log_clauses.proofs.Stay.{matching_same}
+use Rattle.log_clauses.specs.Additions.{alarm_added, pair_added, IsTaken}
+use Rattle.log_clauses.specs.Drafts.{taken_events}
+use Rattle.log_clauses.specs.LogClauses.{chain, observable_events}
+use Rattle.log_clauses.specs.LogNames.{IsLogName, link_names, added_names, first_names, NamesAreNew, NamesAreFew, FirstNamesAreAll}
+use Rattle.log_order.specs.Log.{Log, Alarm, no_log}
+use Rattle.prop_core.specs.VariableNames.{Name, in_state, happens, asked, matches, done, unmatched, closed, reaches, some_of_first}
+use Rattle.replay.specs.QuestionSize.{is_matching, variable_bound, matching_count}
+use Rattle.run_clauses.specs.StepClauses.{numbers_below}
+
+-- lists in a row, each without a repeated element, that have no element in common
+pairs_flat : {Y : Type 0} (f : ℕ → List Y) (xs : List ℕ) → EachPair (λ a b. a ≢ b) xs → ((x : ℕ) → EachPair (λ a b. a ≢ b) (f x)) →
+    ((x y : ℕ) (a : Y) → Contains (f x) a → Contains (f y) a → x ≡ y) → EachPair (λ a b. a ≢ b) (flat_map f xs)
+pairs_flat f [] once each apart = tt
+pairs_flat f (x ∷ xs) once each apart =
+    pairs_append (λ a b. a ≢ b) (f x) (flat_map f xs) (each x) (pairs_flat f xs once.1 each apart) (λ a b in' in2 same.
+    let found = flat_from f xs b in2 in
+    all_at (λ y. x ≢ y) xs once.0 found.0 found.1 (apart x found.0 b (subst (λ c. Contains (f x) c) same in') found.2))
+
+pairs_map : {Y : Type 0} (f : ℕ → Y) (xs : List ℕ) → EachPair (λ a b. a ≢ b) xs → ((x y : ℕ) → f x ≡ f y → x ≡ y) → EachPair (λ a b. a ≢ b) (map f xs)
+pairs_map f [] once apart = tt
+pairs_map f (x ∷ xs) once apart =
+    (all_of (λ b. f x ≢ b) (map f xs) (λ b in' same. let found = map_from f xs b in' in all_at (λ y. x ≢ y) xs once.0 found.0 found.1 (apart x found.0 (same ∙ sym found.2))), pairs_map f xs once.1 apart)
+
+event_of : Name → ℕ
+event_of (matches i e t) = e
+event_of (unmatched e k t) = e
+event_of (closed e k) = e
+event_of a = 0
+
+step_of : Name → ℕ
+step_of (matches i e t) = t
+step_of (unmatched e k t) = t
+step_of a = 0
+
+is_done : Name → Bool
+is_done (done i t) = true
+is_done a = false
+
+-- what the names of a link are
+link_from : (n i e k : ℕ) (name : Name) → Contains (link_names n i e k) name →
+    (name ≡ closed e (suc k)) ⊎ ((t : ℕ) × (t < n) × ((name ≡ matches i e (suc t)) ⊎ (name ≡ unmatched e (suc k) (suc t))))
+link_from n i e k name in' = by (cons_cases (closed e (suc k)) (flat_map (λ t. matches i e (suc t) ∷ unmatched e (suc k) (suc t) ∷ []) (numbers_below n)) name in')
+  where
+    two : (t : ℕ) → (matches i e (suc t) ≡ name) ⊎ Contains (unmatched e (suc k) (suc t) ∷ []) name → (name ≡ matches i e (suc t)) ⊎ (name ≡ unmatched e (suc k) (suc t))
+    two t (inl is) = inl (sym is)
+    two t (inr rest) = last (cons_cases (unmatched e (suc k) (suc t)) [] name rest)
+      where
+        last : (unmatched e (suc k) (suc t) ≡ name) ⊎ Contains [] name → (name ≡ matches i e (suc t)) ⊎ (name ≡ unmatched e (suc k) (suc t))
+        last (inl is) = inr (sym is)
+        last (inr none) = absurd (none_in_nil name none)
+
+    by : (closed e (suc k) ≡ name) ⊎ Contains (flat_map (λ t. matches i e (suc t) ∷ unmatched e (suc k) (suc t) ∷ []) (numbers_below n)) name →
+        (name ≡ closed e (suc k)) ⊎ ((t : ℕ) × (t < n) × ((name ≡ matches i e (suc t)) ⊎ (name ≡ unmatched e (suc k) (suc t))))
+    by (inl is) = inl (sym is)
+    by (inr rest) =
+        let found = flat_from (λ t. matches i e (suc t) ∷ unmatched e (suc k) (suc t) ∷ []) (numbers_below n) name rest in
+        inr (found.0, number_from n found.0 found.1, two found.0 (cons_cases (matches i e (suc found.0)) (unmatched e (suc k) (suc found.0) ∷ []) name found.2))
+
+link_event : (n i e k : ℕ) (name : Name) → Contains (link_names n i e k) name → event_of name ≡ e
+unfolding event_of
+link_event n i e k name in' = by (link_from n i e k name in')
+  where
+    by : (name ≡ closed e (suc k)) ⊎ ((t : ℕ) × (t < n) × ((name ≡ matches i e (suc t)) ⊎ (name ≡ unmatched e (suc k) (suc t)))) → event_of name ≡ e
+    by (inl is) = ap event_of is
+    by (inr (t, h, inl is)) = ap event_of is
+    by (inr (t, h, inr is)) = ap event_of is
+
+link_not_done : (n i e k : ℕ) (name : Name) → Contains (link_names n i e k) name → is_done name ≡ false
+unfolding is_done
+link_not_done n i e k name in' = by (link_from n i e k name in')
+  where
+    by : (name ≡ closed e (suc k)) ⊎ ((t : ℕ) × (t < n) × ((name ≡ matches i e (suc t)) ⊎ (name ≡ unmatched e (suc k) (suc t)))) → is_done name ≡ false
+    by (inl is) = ap is_done is
+    by (inr (t, h, inl is)) = ap is_done is
+    by (inr (t, h, inr is)) = ap is_done is
+
+two_step : (i e k t : ℕ) (name : Name) → Contains (matches i e (suc t) ∷ unmatched e (suc k) (suc t) ∷ []) name → step_of name ≡ suc t
+unfolding step_of
+two_step i e k t name in' = by (cons_cases (matches i e (suc t)) (unmatched e (suc k) (suc t) ∷ []) name in')
+  where
+    last : (unmatched e (suc k) (suc t) ≡ name) ⊎ Contains [] name → step_of name ≡ suc t
+    last (inl is) = ap step_of (sym is)
+    last (inr none) = absurd (none_in_nil name none)
+
+    by : (matches i e (suc t) ≡ name) ⊎ Contains (unmatched e (suc k) (suc t) ∷ []) name → step_of name ≡ suc t
+    by (inl is) = ap step_of (sym is)
+    by (inr rest) = last (cons_cases (unmatched e (suc k) (suc t)) [] name rest)
+
+link_once : (n i e k : ℕ) → EachPair (λ a b. a ≢ b) (link_names n i e k)
+unfolding step_of
+link_once n i e k = (
+  all_of (λ b. closed e (suc k) ≢ b) (flat_map (λ t. matches i e (suc t) ∷ unmatched e (suc k) (suc t) ∷ []) (numbers_below n)) (λ b in' same.
+      let found = flat_from (λ t. matches i e (suc t) ∷ unmatched e (suc k) (suc t) ∷ []) (numbers_below n) b in' in
+      let step = two_step i e k found.0 b found.2 in
+      let none = ap step_of same in
+      omega (arith, step, none)),
+  pairs_flat (λ t. matches i e (suc t) ∷ unmatched e (suc k) (suc t) ∷ []) (numbers_below n) (range_once 0 n) (λ t. ((differ t, tt), (tt, tt)))
+      (λ s t a in' in2. let x = two_step i e k s a in' in let y = two_step i e k t a in2 in omega (arith, x, y)),
+)
+  where
+    differ : (t : ℕ) → matches i e (suc t) ≡ unmatched e (suc k) (suc t) → ⊥
+    differ t h = cc
+
+module _ (net : Net) (log : Log) (n : ℕ) (new : Alarm) where
+  all_links : List Name
+  all_links = flat_map (λ e. link_names n (length log.alarms) e (length (chain net log e))) (taken_events net log new)
+
+  added_once : EachPair (λ a b. a ≢ b) (added_names net log n (alarm_added new))
+  unfolding is_done
+  added_once =
+      pairs_append (λ a b. a ≢ b) (flat_map (λ e. link_names n (length log.alarms) e (length (chain net log e))) (taken_events net log new)) (map (λ t. done (length log.alarms) t) (numbers_below (suc n)))
+      (pairs_flat (λ e. link_names n (length log.alarms) e (length (chain net log e))) (taken_events net log new)
+      (pairs_filter (λ a b. a ≢ b) (λ e. is_matching net (record log { alarms = log.alarms ++ new ∷ [] }) e (length log.alarms)) (numbers_below (length net.events)) (range_once 0 (length net.events)))
+      (λ e. link_once n (length log.alarms) e (length (chain net log e)))
+      (λ e f a in' in2. sym (link_event n (length log.alarms) e (length (chain net log e)) a in') ∙ link_event n (length log.alarms) f (length (chain net log f)) a in2))
+      (pairs_map (λ t. done (length log.alarms) t) (numbers_below (suc n)) (range_once 0 (suc n)) same_step)
+      apart
+    where
+      same_step : (s t : ℕ) → done (length log.alarms) s ≡ done (length log.alarms) t → s ≡ t
+      same_step s t h = cc
+
+      two : (b : Bool) → b ≡ false → b ≡ true → ⊥
+      two true h k = cc
+      two false h k = cc
+
+      apart : (a b : Name) → Contains (flat_map (λ e. link_names n (length log.alarms) e (length (chain net log e))) (taken_events net log new)) a → Contains (map (λ t. done (length log.alarms) t) (numbers_below (suc n))) b → a ≡ b → ⊥
+      apart a b in' in2 same =
+          let link = flat_from (λ e. link_names n (length log.alarms) e (length (chain net log e))) (taken_events net log new) a in' in
+          let step = map_from (λ t. done (length log.alarms) t) (numbers_below (suc n)) b in2 in
+          two (is_done a) (link_not_done n (length log.alarms) link.0 (length (chain net log link.0)) a link.2) (ap is_done (same ∙ sym step.2))
+
+  -- what a new name is
+  new_from : (name : Name) → Contains (added_names net log n (alarm_added new)) name →
+      ((e : ℕ) × IsTaken net log new e × (name ≡ closed e (suc (length (chain net log e)))))
+      ⊎ ((e : ℕ) × (t : ℕ) × IsTaken net log new e × (t < n) × (name ≡ matches (length log.alarms) e (suc t)))
+      ⊎ ((e : ℕ) × (t : ℕ) × IsTaken net log new e × (t < n) × (name ≡ unmatched e (suc (length (chain net log e))) (suc t)))
+      ⊎ ((t : ℕ) × (t ≤ n) × (name ≡ done (length log.alarms) t))
+  new_from name in' = by (append_cases (flat_map (λ e. link_names n (length log.alarms) e (length (chain net log e))) (taken_events net log new)) (map (λ t. done (length log.alarms) t) (numbers_below (suc n))) name in')
+    where
+      by : Contains (flat_map (λ e. link_names n (length log.alarms) e (length (chain net log e))) (taken_events net log new)) name ⊎ Contains (map (λ t. done (length log.alarms) t) (numbers_below (suc n))) name →
+          ((e : ℕ) × IsTaken net log new e × (name ≡ closed e (suc (length (chain net log e)))))
+          ⊎ ((e : ℕ) × (t : ℕ) × IsTaken net log new e × (t < n) × (name ≡ matches (length log.alarms) e (suc t)))
+          ⊎ ((e : ℕ) × (t : ℕ) × IsTaken net log new e × (t < n) × (name ≡ unmatched e (suc (length (chain net log e))) (suc t)))
+          ⊎ ((t : ℕ) × (t ≤ n) × (name ≡ done (length log.alarms) t))
+      by (inl there) =
+          let link = flat_from (λ e. link_names n (length log.alarms) e (length (chain net log e))) (taken_events net log new) name there in
+          at link.0 (taken_is net log n new link.0 link.1) (link_from n (length log.alarms) link.0 (length (chain net log link.0)) name link.2)
+        where
+          at : (e : ℕ) → IsTaken net log new e → (name ≡ closed e (suc (length (chain net log e)))) ⊎ ((t : ℕ) × (t < n) × ((name ≡ matches (length log.alarms) e (suc t)) ⊎ (name ≡ unmatched e (suc (length (chain net log e))) (suc t)))) →
+              ((f : ℕ) × IsTaken net log new f × (name ≡ closed f (suc (length (chain net log f)))))
+              ⊎ ((f : ℕ) × (t : ℕ) × IsTaken net log new f × (t < n) × (name ≡ matches (length log.alarms) f (suc t)))
+              ⊎ ((f : ℕ) × (t : ℕ) × IsTaken net log new f × (t < n) × (name ≡ unmatched f (suc (length (chain net log f))) (suc t)))
+              ⊎ ((t : ℕ) × (t ≤ n) × (name ≡ done (length log.alarms) t))
+          at e taken' (inl is) = inl (e, taken', is)
+          at e taken' (inr (t, h, inl is)) = inr (inl (e, t, taken', h, is))
+          at e taken' (inr (t, h, inr is)) = inr (inr (inl (e, t, taken', h, is)))
+      by (inr there) =
+          let step = map_from (λ t. done (length log.alarms) t) (numbers_below (suc n)) name there in
+          let below = number_from (suc n) step.0 step.1 in
+          inr (inr (inr (step.0, omega (arith, below), sym step.2)))
+
+  not_old : (name : Name) → Contains (added_names net log n (alarm_added new)) name → IsLogName net log n name → ⊥
+  not_old name in' old = by (new_from name in')
+    where
+      by : ((e : ℕ) × IsTaken net log new e × (name ≡ closed e (suc (length (chain net log e)))))
+          ⊎ ((e : ℕ) × (t : ℕ) × IsTaken net log new e × (t < n) × (name ≡ matches (length log.alarms) e (suc t)))
+          ⊎ ((e : ℕ) × (t : ℕ) × IsTaken net log new e × (t < n) × (name ≡ unmatched e (suc (length (chain net log e))) (suc t)))
+          ⊎ ((t : ℕ) × (t ≤ n) × (name ≡ done (length log.alarms) t)) → ⊥
+      by (inl (e, h, is)) = let known = subst (IsLogName net log n) is old in let low = known.1 in omega (arith, low)
+      by (inr (inl (e, t, h, step, is))) = let known = subst (IsLogName net log n) is old in let below = matching_alarm net log e (length log.alarms) known.0 in omega (arith, below)
+      by (inr (inr (inl (e, t, h, step, is)))) = let known = subst (IsLogName net log n) is old in let low = known.1 in omega (arith, low)
+      by (inr (inr (inr (t, h, is)))) = let known = subst (IsLogName net log n) is old in let low = known.0 in omega (arith, low)
+
+  in_links : (e : ℕ) (name : Name) → IsTaken net log new e → Contains (link_names n (length log.alarms) e (length (chain net log e))) name → Contains (added_names net log n (alarm_added new)) name
+  in_links e name h there =
+      append_left (flat_map (λ f. link_names n (length log.alarms) f (length (chain net log f))) (taken_events net log new)) (map (λ t. done (length log.alarms) t) (numbers_below (suc n))) name
+      (flat_has (λ f. link_names n (length log.alarms) f (length (chain net log f))) (taken_events net log new) e name (is_taken net log n new e h) there)
+
+  in_two : (e t : ℕ) (name : Name) → IsTaken net log new e → t < n → Contains (matches (length log.alarms) e (suc t) ∷ unmatched e (suc (length (chain net log e))) (suc t) ∷ []) name → Contains (added_names net log n (alarm_added new)) name
+  in_two e t name h step there =
+      in_links e name h (here_later (closed e (suc (length (chain net log e)))) (flat_map (λ s. matches (length log.alarms) e (suc s) ∷ unmatched e (suc (length (chain net log e))) (suc s) ∷ []) (numbers_below n)) name
+      (flat_has (λ s. matches (length log.alarms) e (suc s) ∷ unmatched e (suc (length (chain net log e))) (suc s) ∷ []) (numbers_below n) t name (number_has n t step) there))
+
+  -- the chain of e has at most one more alarm
+  chain_split : (e k : ℕ) → k ≤ length (chain net (record log { alarms = log.alarms ++ new ∷ [] }) e) → (k ≤ length (chain net log e)) ⊎ ((k ≡ suc (length (chain net log e))) × IsTaken net log new e)
+  chain_split e zero h = inl (omega arith)
+  chain_split e (suc k) h =
+      let low = subst (λ xs. suc k ≤ length xs) (grown net log n new e) h in
+      by (length_split (chain net log e) (is_matching net (record log { alarms = log.alarms ++ new ∷ [] }) e) (length log.alarms) k (omega (arith, low)))
+    where
+      by : (k < length (chain net log e)) ⊎ ((k ≡ length (chain net log e)) × (is_matching net (record log { alarms = log.alarms ++ new ∷ [] }) e (length log.alarms) ≡ true)) →
+          (suc k ≤ length (chain net log e)) ⊎ ((suc k ≡ suc (length (chain net log e))) × IsTaken net log new e)
+      by (inl a) = inl (omega arith)
+      by (inr b) = inr (ap suc b.0, b.1)
+
+  chain_end : (e : ℕ) → IsTaken net log new e → suc (length (chain net log e)) ≤ length (chain net (record log { alarms = log.alarms ++ new ∷ [] }) e)
+  chain_end e h =
+      let same = length_end (chain net log e) (is_matching net (record log { alarms = log.alarms ++ new ∷ [] }) e) (length log.alarms) h in
+      subst (λ xs. suc (length (chain net log e)) ≤ length xs) (sym (grown net log n new e)) (omega (arith, same))
+
+  chain_keeps : (e : ℕ) → length (chain net log e) ≤ length (chain net (record log { alarms = log.alarms ++ new ∷ [] }) e)
+  chain_keeps e =
+      let more = length-append (chain net log e) (filter (is_matching net (record log { alarms = log.alarms ++ new ∷ [] }) e) (length log.alarms ∷ [])) in
+      subst (λ xs. length (chain net log e) ≤ length xs) (sym (grown net log n new e)) (omega (arith, more))
+
+  name_split : (name : Name) → IsLogName net (record log { alarms = log.alarms ++ new ∷ [] }) n name → IsLogName net log n name ⊎ Contains (added_names net log n (alarm_added new)) name
+  name_split (in_state c q t) h = absurd h
+  name_split (happens e t) h = absurd h
+  name_split asked h = inl tt
+  name_split (matches i e zero) h = absurd (omega (arith, h.1.0))
+  name_split (matches i e (suc t)) h = by (match_split net log n new e i h.0)
+    where
+      by : (is_matching net log e i ≡ true) ⊎ (i ≡ length log.alarms) → IsLogName net log n (matches i e (suc t)) ⊎ Contains (added_names net log n (alarm_added new)) (matches i e (suc t))
+      by (inl a) = inl (a, h.1)
+      by (inr b) = inr (subst (λ x. Contains (added_names net log n (alarm_added new)) (matches x e (suc t))) (sym b)
+          (in_two e t (matches (length log.alarms) e (suc t)) (taken net log n new e i b h.0) (omega (arith, h.1.1)) (0, omega arith, refl)))
+  name_split (done i t) h = by (number_split net log n new i h.0)
+    where
+      by : (i < length log.alarms) ⊎ (i ≡ length log.alarms) → IsLogName net log n (done i t) ⊎ Contains (added_names net log n (alarm_added new)) (done i t)
+      by (inl a) = inl (a, h.1)
+      by (inr b) = inr (subst (λ x. Contains (added_names net log n (alarm_added new)) (done x t)) (sym b)
+          (append_right (flat_map (λ f. link_names n (length log.alarms) f (length (chain net log f))) (taken_events net log new)) (map (λ s. done (length log.alarms) s) (numbers_below (suc n))) (done (length log.alarms) t)
+          (map_has (λ s. done (length log.alarms) s) (numbers_below (suc n)) t (number_has (suc n) t (omega (arith, h.1))))))
+  name_split (unmatched e k zero) h = absurd (omega (arith, h.2.0))
+  name_split (unmatched e k (suc t)) h = by (chain_split e k h.1)
+    where
+      by : (k ≤ length (chain net log e)) ⊎ ((k ≡ suc (length (chain net log e))) × IsTaken net log new e) → IsLogName net log n (unmatched e k (suc t)) ⊎ Contains (added_names net log n (alarm_added new)) (unmatched e k (suc t))
+      by (inl a) = inl (h.0, a, h.2)
+      by (inr b) = inr (subst (λ x. Contains (added_names net log n (alarm_added new)) (unmatched e x (suc t))) (sym b.0)
+          (in_two e t (unmatched e (suc (length (chain net log e))) (suc t)) b.1 (omega (arith, h.2.1)) (1, omega arith, refl)))
+  name_split (closed e k) h = by (chain_split e k h.1)
+    where
+      by : (k ≤ length (chain net log e)) ⊎ ((k ≡ suc (length (chain net log e))) × IsTaken net log new e) → IsLogName net log n (closed e k) ⊎ Contains (added_names net log n (alarm_added new)) (closed e k)
+      by (inl a) = inl (h.0, a)
+      by (inr b) = inr (subst (λ x. Contains (added_names net log n (alarm_added new)) (closed e x)) (sym b.0)
+          (in_links e (closed e (suc (length (chain net log e)))) b.1 (0, omega arith, refl)))
+  name_split (reaches i j) h = absurd h
+  name_split (some_of_first family i) h = absurd h
+
+  name_keeps : (name : Name) → IsLogName net log n name → IsLogName net (record log { alarms = log.alarms ++ new ∷ [] }) n name
+  name_keeps (in_state c q t) h = absurd h
+  name_keeps (happens e t) h = absurd h
+  name_keeps asked h = tt
+  name_keeps (matches i e t) h = (matching_same net log new e i (matching_alarm net log e i h.0) ∙ h.0, h.1)
+  name_keeps (done i t) h = (let more = longer net log n new in omega (arith, more, h.0), h.1)
+  name_keeps (unmatched e k t) h = (h.0, let more = chain_keeps e in omega (arith, more, h.1), h.2)
+  name_keeps (closed e k) h = (h.0, let more = chain_keeps e in omega (arith, more, h.1))
+  name_keeps (reaches i j) h = absurd h
+  name_keeps (some_of_first family i) h = absurd h
+
+  new_known : (name : Name) → Contains (added_names net log n (alarm_added new)) name → IsLogName net (record log { alarms = log.alarms ++ new ∷ [] }) n name
+  new_known name in' = by (new_from name in')
+    where
+      by : ((e : ℕ) × IsTaken net log new e × (name ≡ closed e (suc (length (chain net log e)))))
+          ⊎ ((e : ℕ) × (t : ℕ) × IsTaken net log new e × (t < n) × (name ≡ matches (length log.alarms) e (suc t)))
+          ⊎ ((e : ℕ) × (t : ℕ) × IsTaken net log new e × (t < n) × (name ≡ unmatched e (suc (length (chain net log e))) (suc t)))
+          ⊎ ((t : ℕ) × (t ≤ n) × (name ≡ done (length log.alarms) t)) → IsLogName net (record log { alarms = log.alarms ++ new ∷ [] }) n name
+      by (inl (e, h, is)) = subst (IsLogName net (record log { alarms = log.alarms ++ new ∷ [] }) n) (sym is) (is_shown net (record log { alarms = log.alarms ++ new ∷ [] }) e (length log.alarms) h, chain_end e h)
+      by (inr (inl (e, t, h, step, is))) = subst (IsLogName net (record log { alarms = log.alarms ++ new ∷ [] }) n) (sym is) (h, (omega arith, omega arith))
+      by (inr (inr (inl (e, t, h, step, is)))) = subst (IsLogName net (record log { alarms = log.alarms ++ new ∷ [] }) n) (sym is) (omega arith, chain_end e h, (omega arith, omega arith))
+      by (inr (inr (inr (t, h, is)))) = subst (IsLogName net (record log { alarms = log.alarms ++ new ∷ [] }) n) (sym is) (let more = longer net log n new in omega (arith, more), h)
+
+  -- how many they are
+  names_size : length (added_names net log n (alarm_added new)) ≡ length (taken_events net log new) * (1 + n * 2) + suc n
+  names_size =
+      let range = length-range_with_len 0 n in
+      let inner : (e : ℕ) → length (link_names n (length log.alarms) e (length (chain net log e))) ≡ 1 + n * 2 = λ e.
+      let flat = flat_length (λ t. matches (length log.alarms) e (suc t) ∷ unmatched e (suc (length (chain net log e))) (suc t) ∷ []) (numbers_below n) 2 (λ t. refl) in omega (arith, flat, range) in
+      let front = flat_length (λ e. link_names n (length log.alarms) e (length (chain net log e))) (taken_events net log new) (1 + n * 2) inner in
+      let back = length-map (numbers_below (suc n)) (λ t. done (length log.alarms) t) in
+      let range' = length-range_with_len 0 (suc n) in
+      let whole = length-append (flat_map (λ e. link_names n (length log.alarms) e (length (chain net log e))) (taken_events net log new)) (map (λ t. done (length log.alarms) t) (numbers_below (suc n))) in
+      omega (arith, front, back, range', whole)
+
+-- with the sums of the bound as they are
+names_small : (net : Net) (log : Log) (n : ℕ) (new : Alarm) → length (added_names net log n (alarm_added new)) + variable_bound net log n ≤ variable_bound net (record log { alarms = log.alarms ++ new ∷ [] }) n
+names_small net log n new =
+    let g : ℕ → ℕ = λ i. n * (2 * matching_count net (record log { alarms = log.alarms ++ new ∷ [] }) i + at_most_one_count (matching_count net (record log { alarms = log.alarms ++ new ∷ [] }) i) + 1) + 1 + matching_count net (record log { alarms = log.alarms ++ new ∷ [] }) i in
+    let h : ℕ → ℕ = λ i. n * (2 * matching_count net log i + at_most_one_count (matching_count net log i) + 1) + 1 + matching_count net log i in
+    let f : ℕ → ℕ = λ k. n * (2 * k + at_most_one_count k + 1) + 1 + k in
+    let sum = sum_more (λ i. n * (2 * matching_count net (record log { alarms = log.alarms ++ new ∷ [] }) i + at_most_one_count (matching_count net (record log { alarms = log.alarms ++ new ∷ [] }) i) + 1) + 1 + matching_count net (record log { alarms = log.alarms ++ new ∷ [] }) i)
+    (λ i. n * (2 * matching_count net log i + at_most_one_count (matching_count net log i) + 1) + 1 + matching_count net log i) (length log.alarms) (λ i below. ap f (same_count net log n new i below)) in
+    let more = ap (λ k. sum_by (λ i. n * (2 * matching_count net (record log { alarms = log.alarms ++ new ∷ [] }) i + at_most_one_count (matching_count net (record log { alarms = log.alarms ++ new ∷ [] }) i) + 1) + 1 + matching_count net (record log { alarms = log.alarms ++ new ∷ [] }) i) (numbers_below k)) (longer net log n new) in
+    let size = names_size net log n new in
+    let moved = ap (λ k. k * (1 + n * 2) + suc n) (taken_count net log n new) in
+    let few = names_few n (matching_count net (record log { alarms = log.alarms ++ new ∷ [] }) (length log.alarms)) (at_most_one_count (matching_count net (record log { alarms = log.alarms ++ new ∷ [] }) (length log.alarms))) in
+    omega (arith, sum, more, size, moved, few)
+  where
+    names_few : (k m o : ℕ) → m * (1 + k * 2) + suc k ≤ k * (2 * m + o + 1) + 1 + m
+    names_few k m o = omega arith
+
+pub names_are_few : NamesAreFew
+names_are_few net log n (alarm_added new) = names_small net log n new
+names_are_few net log n (pair_added i j) = omega arith
+
+pub names_are_new : NamesAreNew
+names_are_new net log n (alarm_added new) =
+    record { once = added_once net log n new; fresh = not_old net log n new; all = λ name. (name_split net log n new name, back name) }
+  where
+    back : (name : Name) → IsLogName net log n name ⊎ Contains (added_names net log n (alarm_added new)) name → IsLogName net (record log { alarms = log.alarms ++ new ∷ [] }) n name
+    back name (inl old) = name_keeps net log n new name old
+    back name (inr fresh) = new_known net log n new name fresh
+names_are_new net log n (pair_added i j) =
+    record { once = tt; fresh = λ name in' old. none_in_nil name in'; all = λ name. (λ h. inl (same name h), back name) }
+  where
+    same : (name : Name) → IsLogName net (record log { pairs = log.pairs ++ (i, j) ∷ [] }) n name → IsLogName net log n name
+    same (in_state c q t) h = h
+    same (happens e t) h = h
+    same asked h = h
+    same (matches a e t) h = h
+    same (done a t) h = h
+    same (unmatched e k t) h = h
+    same (closed e k) h = h
+    same (reaches a b) h = h
+    same (some_of_first family a) h = h
+
+    again : (name : Name) → IsLogName net log n name → IsLogName net (record log { pairs = log.pairs ++ (i, j) ∷ [] }) n name
+    again (in_state c q t) h = h
+    again (happens e t) h = h
+    again asked h = h
+    again (matches a e t) h = h
+    again (done a t) h = h
+    again (unmatched e k t) h = h
+    again (closed e k) h = h
+    again (reaches a b) h = h
+    again (some_of_first family a) h = h
+
+    back : (name : Name) → IsLogName net log n name ⊎ Contains [] name → IsLogName net (record log { pairs = log.pairs ++ (i, j) ∷ [] }) n name
+    back name (inl old) = again name old
+    back name (inr none) = absurd (none_in_nil name none)
+
+-- the names of the empty log
+first_of : (net : Net) (n : ℕ) (name : Name) → IsLogName net no_log n name → Contains (first_names net) name
+first_of net n (in_state c q t) h = absurd h
+first_of net n (happens e t) h = absurd h
+first_of net n asked h = (0, omega arith, refl)
+first_of net n (matches i e t) h = absurd (let below = matching_alarm net no_log e i h.0 in omega (arith, below))
+first_of net n (done i t) h = absurd (omega (arith, h.0))
+first_of net n (unmatched e k t) h = absurd (omega (arith, h.0, h.1))
+first_of net n (closed e k) h =
+    let none : k ≡ 0 = omega (arith, h.1) in
+    subst (λ x. Contains (first_names net) (closed e x)) (sym none)
+    (here_later asked (map (λ f. closed f 0) (observable_events net)) (closed e 0) (map_has (λ f. closed f 0) (observable_events net) e (filter_has (λ f. is_some (label_of net f)) (numbers_below (length net.events)) e h.0 (number_has (length net.events) e (shown_event net e h.0)))))
+first_of net n (reaches i j) h = absurd h
+first_of net n (some_of_first family i) h = absurd h
+
+first_back : (net : Net) (n : ℕ) (name : Name) → Contains (first_names net) name → IsLogName net no_log n name
+first_back net n name in' = by (cons_cases asked (map (λ e. closed e 0) (observable_events net)) name in')
+  where
+    by : (asked ≡ name) ⊎ Contains (map (λ e. closed e 0) (observable_events net)) name → IsLogName net no_log n name
+    by (inl is) = subst (IsLogName net no_log n) is tt
+    by (inr rest) =
+        let found = map_from (λ e. closed e 0) (observable_events net) name rest in
+        subst (IsLogName net no_log n) found.2 ((filter_from (λ e. is_some (label_of net e)) (numbers_below (length net.events)) found.0 found.1).0, omega arith)
+
+pub first_names_are_all : FirstNamesAreAll
+first_names_are_all net n = (
+  (
+    all_of (λ b. asked ≢ b) (map (λ e. closed e 0) (observable_events net)) (λ b in' same. let found = map_from (λ e. closed e 0) (observable_events net) b in' in differ found.0 (same ∙ sym found.2)),
+    pairs_map (λ e. closed e 0) (observable_events net) (pairs_filter (λ a b. a ≢ b) (λ e. is_some (label_of net e)) (numbers_below (length net.events)) (range_once 0 (length net.events))) same_event,
+  ),
+  λ name. (first_of net n name, first_back net n name),
+)
+  where
+    differ : (e : ℕ) → asked ≡ closed e 0 → ⊥
+    differ e h = cc
+
+    same_event : (e f : ℕ) → closed e 0 ≡ closed f 0 → e ≡ f
+    same_event e f h = cc

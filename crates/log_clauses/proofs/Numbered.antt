@@ -1,0 +1,216 @@
+-- Names on consecutive variables.
+use Rattle.std.proofs.Common.{◌≡◌, ◌≢◌, ℕ, zero, suc, ◌+◌, ◌*◌, ◌<◌, ◌≤◌, List, [], ◌∷◌, ◌++◌, ◌∙◌, length, Some, refl, sym, ap, subst, arith, Contains, map, flat_map, slice_get, inl, inr, ◌⊎◌, option_map}
+use Rattle.std.specs.List.{AllByRecursion, range_with_len}
+use Rattle.std.proofs.lemmas.Option.{slice_get-map, slice_get_within}
+use Rattle.std.proofs.lemmas.List.FromFn.{length-range_with_len}
+use Rattle.des_base.specs.Lists.{EachPair}
+use Rattle.des_net.specs.Network.{Net}
+use Rattle.log_clauses.proofs.Drafts.{flat_length}
+use Rattle.log_clauses.proofs.Lists.{cons_cases, here_first, here_later, none_in_nil, all_of, all_at, append_cases, append_left, append_right, pairs_append}
+use Rattle.log_clauses.proofs.NewNames.{names_are_new, first_names_are_all}
+use Rattle.log_clauses.proofs.Stay.{get_same}
+use Rattle.log_clauses.proofs.Codes.{has_name}
+use Rattle.log_clauses.specs.Additions.{alarm_added, with_addition}
+use Rattle.log_clauses.specs.Drafts.{taken_events}
+use Rattle.log_clauses.specs.LogClauses.{chain}
+use Rattle.log_clauses.specs.LogNames.{IsLogName, link_names, added_names, first_names, AreNew, AreLogNames, ReadsInOrder, NamesBegin, NamesGrow, PlacesOfNames, OrderedReads}
+use Rattle.log_order.specs.Log.{Log, Alarm}
+use Rattle.prop_core.specs.Clauses.{Clause}
+use Rattle.prop_core.specs.VariableNames.{Name, NamedLiteral, name_of, named_literal, named_clause, matches, unmatched, closed, done, HasEachOnce}
+use Rattle.prop_core.specs.declared.lit.Lit.{Lit}
+use Rattle.run_clauses.specs.LaidOut.{laid_out}
+use Rattle.run_clauses.specs.StepClauses.{numbers_below}
+
+numbered_from : (first : ℕ) (xs : List Name) (entry : ℕ × Name) → Contains (laid_out first xs) entry → Contains xs entry.1 × (first ≤ entry.0) × (entry.0 < first + length xs)
+numbered_from first [] entry in' = absurd (none_in_nil entry in')
+numbered_from first (x ∷ xs) entry in' = by (cons_cases (first, x) (laid_out (first + 1) xs) entry in') (numbered_from (first + 1) xs entry)
+  where
+    by : (◌≡◌ {A = ℕ × Name} (first, x) entry) ⊎ Contains (laid_out (first + 1) xs) entry → (Contains (laid_out (first + 1) xs) entry → Contains xs entry.1 × (first + 1 ≤ entry.0) × (entry.0 < first + 1 + length xs)) →
+        Contains (x ∷ xs) entry.1 × (first ≤ entry.0) × (entry.0 < first + suc (length xs))
+    by (inl is) later = let var : first ≡ entry.0 = ap (λ (y : ℕ × Name). y.0) is in (here_first x xs entry.1 (ap (λ (y : ℕ × Name). y.1) is), omega arith, omega arith)
+    by (inr rest) later = let found = later rest in (here_later x xs entry.1 found.0, omega (arith, found.1), omega (arith, found.2))
+
+numbered_has : (first : ℕ) (xs : List Name) (k : ℕ) (x : Name) → slice_get xs k ≡ Some x → Contains (laid_out first xs) (first + k, x)
+numbered_has first [] k x h = cc
+numbered_has first (y ∷ xs) zero x h =
+    let is : y ≡ x = cc in
+    let same : first ≡ first + 0 = omega arith in
+    here_first (first, y) (laid_out (first + 1) xs) (first + 0, x) (λ i. (same i, is i))
+numbered_has first (y ∷ xs) (suc k) x h =
+    let rest = numbered_has (first + 1) xs k x h in
+    let same : first + 1 + k ≡ first + suc k = omega arith in
+    here_later (first, y) (laid_out (first + 1) xs) (first + suc k, x) (subst (λ v. Contains (laid_out (first + 1) xs) (v, x)) same rest)
+
+numbered_in : (first : ℕ) (xs : List Name) (x : Name) → Contains xs x → (var : ℕ) × Contains (laid_out first xs) (var, x)
+numbered_in first [] x in' = absurd (none_in_nil x in')
+numbered_in first (y ∷ xs) x in' = by (cons_cases y xs x in') (numbered_in (first + 1) xs x)
+  where
+    by : (y ≡ x) ⊎ Contains xs x → (Contains xs x → (var : ℕ) × Contains (laid_out (first + 1) xs) (var, x)) → (var : ℕ) × Contains ((first, y) ∷ laid_out (first + 1) xs) (var, x)
+    by (inl is) later = (first, here_first (first, y) (laid_out (first + 1) xs) (first, x) (λ i. (first, is i)))
+    by (inr rest) later = let found = later rest in (found.0, here_later (first, y) (laid_out (first + 1) xs) (found.0, x) found.1)
+
+numbered_once : (first : ℕ) (xs : List Name) → EachPair (λ a b. a ≢ b) xs → HasEachOnce (laid_out first xs)
+numbered_once first [] once = tt
+numbered_once first (x ∷ xs) once = (
+  all_of (λ (entry : ℕ × Name). (first ≢ entry.0) × (x ≢ entry.1)) (laid_out (first + 1) xs) (λ entry in'.
+      let found = numbered_from (first + 1) xs entry in' in
+      let above = found.1 in
+      (λ same. omega (arith, above, same), all_at (λ y. x ≢ y) xs once.0 entry.1 found.0)),
+  numbered_once (first + 1) xs once.1,
+)
+
+pub names_begin : NamesBegin
+names_begin net n first = record {
+  once = numbered_once first (first_names net) (first_names_are_all net n).0;
+  below = all_of (λ (entry : ℕ × Name). entry.0 < first + length (first_names net)) (laid_out first (first_names net)) (λ entry in'. (numbered_from first (first_names net) entry in').2);
+  exact = λ name. (
+    λ h. numbered_in first (first_names net) name (((first_names_are_all net n).1 name).0 h),
+    λ h. ((first_names_are_all net n).1 name).1 (numbered_from first (first_names net) (h.0, name) h.1).0,
+  );
+}
+
+pub names_grow : NamesGrow
+names_grow net log n first addition names are = record { once = once; below = below; exact = λ name. (to name, λ h. from name h.0 h.1) }
+  where
+    new : List Name
+    new = added_names net log n addition
+
+    laws : AreNew net log n addition
+    laws = names_are_new net log n addition
+
+    once : HasEachOnce (names ++ laid_out first (added_names net log n addition))
+    once = pairs_append (λ a b. (a.0 ≢ b.0) × (a.1 ≢ b.1)) names (laid_out first (added_names net log n addition)) are.once (numbered_once first (added_names net log n addition) laws.once) (λ a b in' in2.
+        let below' = all_at (λ (entry : ℕ × Name). entry.0 < first) names are.below a in' in
+        let found = numbered_from first (added_names net log n addition) b in2 in
+        let above = found.1 in (
+          λ same. omega (arith, below', above, same),
+          λ same. laws.fresh b.1 found.0 (subst (IsLogName net log n) same ((are.exact a.1).1 (a.0, in'))),
+        ))
+
+    below : AllByRecursion (λ (entry : ℕ × Name). entry.0 < first + length (added_names net log n addition)) (names ++ laid_out first (added_names net log n addition))
+    below = all_of (λ (entry : ℕ × Name). entry.0 < first + length (added_names net log n addition)) (names ++ laid_out first (added_names net log n addition)) (λ entry in'. by entry (append_cases names (laid_out first (added_names net log n addition)) entry in'))
+      where
+        by : (entry : ℕ × Name) → Contains names entry ⊎ Contains (laid_out first (added_names net log n addition)) entry → entry.0 < first + length (added_names net log n addition)
+        by entry (inl old) = let low = all_at (λ (x : ℕ × Name). x.0 < first) names are.below entry old in omega (arith, low)
+        by entry (inr fresh) = (numbered_from first (added_names net log n addition) entry fresh).2
+
+    to : (name : Name) → IsLogName net (with_addition log addition) n name → (var : ℕ) × Contains (names ++ laid_out first (added_names net log n addition)) (var, name)
+    to name h = by ((laws.all name).0 h)
+      where
+        by : IsLogName net log n name ⊎ Contains (added_names net log n addition) name → (var : ℕ) × Contains (names ++ laid_out first (added_names net log n addition)) (var, name)
+        by (inl old) = let found = (are.exact name).0 old in (found.0, append_left names (laid_out first (added_names net log n addition)) (found.0, name) found.1)
+        by (inr fresh) = let found = numbered_in first (added_names net log n addition) name fresh in (found.0, append_right names (laid_out first (added_names net log n addition)) (found.0, name) found.1)
+
+    from : (name : Name) (var : ℕ) → Contains (names ++ laid_out first (added_names net log n addition)) (var, name) → IsLogName net (with_addition log addition) n name
+    from name var in' = by (append_cases names (laid_out first (added_names net log n addition)) (var, name) in')
+      where
+        by : Contains names (var, name) ⊎ Contains (laid_out first (added_names net log n addition)) (var, name) → IsLogName net (with_addition log addition) n name
+        by (inl old) = (laws.all name).1 (inl ((are.exact name).1 (var, old)))
+        by (inr fresh) = (laws.all name).1 (inr (numbered_from first (added_names net log n addition) (var, name) fresh).0)
+
+-- places in lists in a row
+get_past : {X : Type 0} (xs ys : List X) (k : ℕ) → slice_get (xs ++ ys) (length xs + k) ≡ slice_get ys k
+get_past [] ys k = let same : 0 + k ≡ k = omega arith in ap (slice_get ys) same
+get_past (x ∷ xs) ys k = let same : suc (length xs) + k ≡ suc (length xs + k) = omega arith in ap (slice_get (x ∷ (xs ++ ys))) same ∙ get_past xs ys k
+
+flat_get : (f : ℕ → List Name) (xs : List ℕ) (c p x j : ℕ) → ((y : ℕ) → length (f y) ≡ c) → slice_get xs p ≡ Some x → j < c → slice_get (flat_map f xs) (p * c + j) ≡ slice_get (f x) j
+flat_get f [] c p x j size is less = cc
+flat_get f (y ∷ xs) c zero x j size is less =
+    let same : y ≡ x = cc in
+    let place : 0 * c + j ≡ j = omega arith in
+    let long = size y in
+    ap (slice_get (f y ++ flat_map f xs)) place ∙ get_same (f y) (flat_map f xs) j (omega (arith, long)) ∙ ap (λ z. slice_get (f z) j) same
+flat_get f (y ∷ xs) c (suc p) x j size is less =
+    let long = size y in
+    let place : suc p * c + j ≡ length (f y) + (p * c + j) = omega (arith, long) in
+    ap (slice_get (f y ++ flat_map f xs)) place ∙ get_past (f y) (flat_map f xs) (p * c + j) ∙ flat_get f xs c p x j size is less
+
+range_get : (a m t : ℕ) → t < m → slice_get (range_with_len a m) t ≡ Some (a + t)
+range_get a zero t h = absurd (omega arith)
+range_get a (suc m) zero h = let same : a ≡ a + 0 = omega arith in ap Some same
+range_get a (suc m) (suc t) h = let same : (a + 1) + t ≡ a + suc t = omega arith in range_get (a + 1) m t (omega arith) ∙ ap Some same
+
+number_get : (m t : ℕ) → t < m → slice_get (numbers_below m) t ≡ Some t
+number_get m t h = let same : 0 + t ≡ t = omega arith in range_get 0 m t h ∙ ap Some same
+
+link_size : (n i e k : ℕ) → length (link_names n i e k) ≡ 1 + n * 2
+link_size n i e k =
+    let flat = flat_length (λ t. matches i e (suc t) ∷ unmatched e (suc k) (suc t) ∷ []) (numbers_below n) 2 (λ t. refl) in
+    let range = length-range_with_len 0 n in
+    omega (arith, flat, range)
+
+step_get : (n i e k t j : ℕ) → t < n → j < 2 → slice_get (link_names n i e k) (suc (t * 2 + j)) ≡ slice_get (matches i e (suc t) ∷ unmatched e (suc k) (suc t) ∷ []) j
+step_get n i e k t j h less = flat_get (λ s. matches i e (suc s) ∷ unmatched e (suc k) (suc s) ∷ []) (numbers_below n) 2 t t j (λ s. refl) (number_get n t h) less
+
+module _ (net : Net) (log : Log) (n first : ℕ) (new : Alarm) (names : List (ℕ × Name)) (are : AreLogNames net log n first names) where
+  at : (k : ℕ) (name : Name) → slice_get (added_names net log n (alarm_added new)) k ≡ Some name → name_of (names ++ laid_out first (added_names net log n (alarm_added new))) (first + k) ≡ Some name
+  at k name is =
+      has_name (names ++ laid_out first (added_names net log n (alarm_added new))) (first + k, name) (names_grow net log n first (alarm_added new) names are).once
+      (append_right names (laid_out first (added_names net log n (alarm_added new))) (first + k, name) (numbered_has first (added_names net log n (alarm_added new)) k name is))
+
+  link_at : (p e j : ℕ) → slice_get (taken_events net log new) p ≡ Some e → j < 1 + n * 2 →
+      slice_get (added_names net log n (alarm_added new)) (p * (1 + n * 2) + j) ≡ slice_get (link_names n (length log.alarms) e (length (chain net log e))) j
+  link_at p e j is less =
+      get_same (flat_map (λ f. link_names n (length log.alarms) f (length (chain net log f))) (taken_events net log new)) (map (λ t. done (length log.alarms) t) (numbers_below (suc n))) (p * (1 + n * 2) + j) inside
+      ∙ flat_get (λ f. link_names n (length log.alarms) f (length (chain net log f))) (taken_events net log new) (1 + n * 2) p e j (λ f. link_size n (length log.alarms) f (length (chain net log f))) is less
+    where
+      place : (q m c : ℕ) → q < m → j < c → q * c + j < m * c
+      place q zero c h k = absurd (omega arith)
+      place zero (suc m) c h k = omega arith
+      place (suc q) (suc m) c h k = let rest = place q m c (omega arith) k in omega (arith, rest)
+
+      inside : p * (1 + n * 2) + j < length (flat_map (λ f. link_names n (length log.alarms) f (length (chain net log f))) (taken_events net log new))
+      inside =
+          let whole = flat_length (λ f. link_names n (length log.alarms) f (length (chain net log f))) (taken_events net log new) (1 + n * 2) (λ f. link_size n (length log.alarms) f (length (chain net log f))) in
+          let low = place p (length (taken_events net log new)) (1 + n * 2) (slice_get_within (taken_events net log new) p e is) less in
+          subst (λ m. p * (1 + n * 2) + j < m) (sym whole) low
+
+  done_at : (t : ℕ) → t ≤ n → slice_get (added_names net log n (alarm_added new)) (length (taken_events net log new) * (1 + n * 2) + t) ≡ Some (done (length log.alarms) t)
+  done_at t h =
+      let whole = flat_length (λ f. link_names n (length log.alarms) f (length (chain net log f))) (taken_events net log new) (1 + n * 2) (λ f. link_size n (length log.alarms) f (length (chain net log f))) in
+      let place = ap (λ m. m + t) (sym whole) in
+      ap (slice_get (added_names net log n (alarm_added new))) place
+      ∙ get_past (flat_map (λ f. link_names n (length log.alarms) f (length (chain net log f))) (taken_events net log new)) (map (λ s. done (length log.alarms) s) (numbers_below (suc n))) t
+      ∙ slice_get-map (λ s. done (length log.alarms) s) (numbers_below (suc n)) t
+      ∙ ap (option_map (λ s. done (length log.alarms) s)) (number_get (suc n) t (omega arith))
+
+pub places_of_names : PlacesOfNames
+places_of_names net log n first new names are = record {
+  closing = closed_at;
+  matching = λ p e t is h. matches_at p e is t h;
+  passing = λ p e t is h. unmatched_at p e is t h;
+  being_done = λ t h. at net log n first new names are (length (taken_events net log new) * (1 + n * 2) + t) (done (length log.alarms) t) (done_at net log n first new names are t h);
+}
+  where
+    closed_at : (p e : ℕ) → slice_get (taken_events net log new) p ≡ Some e →
+        name_of (names ++ laid_out first (added_names net log n (alarm_added new))) (first + p * (1 + n * 2)) ≡ Some (closed e (suc (length (chain net log e))))
+    closed_at p e is =
+        let same : p * (1 + n * 2) + 0 ≡ p * (1 + n * 2) = omega arith in
+        subst (λ k. name_of (names ++ laid_out first (added_names net log n (alarm_added new))) (first + k) ≡ Some (closed e (suc (length (chain net log e))))) same
+        (at net log n first new names are (p * (1 + n * 2) + 0) (closed e (suc (length (chain net log e)))) (link_at net log n first new names are p e 0 is (omega arith)))
+
+    matches_at : (p e : ℕ) → slice_get (taken_events net log new) p ≡ Some e → (t : ℕ) → t < n →
+        name_of (names ++ laid_out first (added_names net log n (alarm_added new))) (first + (p * (1 + n * 2) + suc (t * 2))) ≡ Some (matches (length log.alarms) e (suc t))
+    matches_at p e is t h =
+        let same : suc (t * 2) ≡ suc (t * 2 + 0) = omega arith in
+        at net log n first new names are (p * (1 + n * 2) + suc (t * 2)) (matches (length log.alarms) e (suc t))
+        (link_at net log n first new names are p e (suc (t * 2)) is (omega arith)
+        ∙ ap (slice_get (link_names n (length log.alarms) e (length (chain net log e)))) same ∙ step_get n (length log.alarms) e (length (chain net log e)) t 0 h (omega arith))
+
+    unmatched_at : (p e : ℕ) → slice_get (taken_events net log new) p ≡ Some e → (t : ℕ) → t < n →
+        name_of (names ++ laid_out first (added_names net log n (alarm_added new))) (first + (p * (1 + n * 2) + suc (t * 2 + 1))) ≡ Some (unmatched e (suc (length (chain net log e))) (suc t))
+    unmatched_at p e is t h =
+        at net log n first new names are (p * (1 + n * 2) + suc (t * 2 + 1)) (unmatched e (suc (length (chain net log e))) (suc t))
+        (link_at net log n first new names are p e (suc (t * 2 + 1)) is (omega arith) ∙ step_get n (length log.alarms) e (length (chain net log e)) t 1 h (omega arith))
+
+pub ordered_reads : OrderedReads
+ordered_reads names clause named zip = record { read = named; by_name = reads clause named zip; same = λ x. (λ h. h, λ h. h) }
+  where
+    literal : (l : Lit) (m : NamedLiteral) → name_of names l.var ≡ Some m.name → l.positive ≡ m.positive → named_literal names l ≡ Some m
+    literal l m h sign = rw h (λ i. Some (record { name = m.name; positive = sign i }))
+
+    reads : (ls : Clause) (ms : List NamedLiteral) → ReadsInOrder names ls ms → named_clause names ls ≡ Some ms
+    reads [] [] z = refl
+    reads [] (m ∷ ms) z = absurd z
+    reads (l ∷ ls) [] z = absurd z
+    reads (l ∷ ls) (m ∷ ms) z = rw (literal l m z.0.0 z.0.1, reads ls ms z.1) refl

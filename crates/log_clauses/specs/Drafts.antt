@@ -1,0 +1,61 @@
+-- The clauses of an addition to a log as a list, in the order in which loops write them.
+use Rattle.std.specs.Prelude.{ℕ, suc, ◌+◌, ◌*◌, ◌≤◌, List, [], ◌∷◌, ◌++◌, map, flat_map, length}
+use Rattle.std.specs.List.{AllZip}
+use Rattle.des_net.specs.Network.{Net}
+use Rattle.log_order.specs.Log.{Log, Alarm, no_log}
+use Rattle.log_clauses.specs.Additions.{Addition, alarm_added, pair_added, with_addition}
+use Rattle.log_clauses.specs.LogClauses.{chain, matching_events, observable_events, LogClause, log_clause, chain_closed, takes_rest, uses_up, passes_on, taken_or_passed, not_done_first, stays_done, match_is_done, matched_once, done_by_match, one_match, done_if_asked, before_if_asked}
+use Rattle.log_clauses.specs.LogCodes.{IsNamedAdded, IsNamedFirst}
+use Rattle.prop_core.specs.Clauses.{Clause}
+use Rattle.prop_core.specs.NamedClauses.{IsCode}
+use Rattle.prop_core.specs.VariableNames.{Name, ReadsAs}
+use Rattle.replay.specs.QuestionSize.{question_size}
+use Rattle.run_clauses.specs.StepClauses.{numbers_below}
+
+-- the events that a new alarm may stand for
+abbrev pub taken_events : Net → Log → Alarm → List ℕ
+taken_events net log new = matching_events net (with_addition log (alarm_added new)) (length log.alarms)
+
+-- of alarm i, which comes after k alarms in the chain of event e, and the step after t steps
+abbrev pub link_clauses : ℕ → ℕ → ℕ → ℕ → List LogClause
+link_clauses i e k t = chain_closed e (suc k) (suc t) ∷ takes_rest i e k (suc t) ∷ uses_up i e k (suc t) ∷ passes_on e k (suc t) ∷ taken_or_passed i e k (suc t)
+    ∷ match_is_done i e t ∷ matched_once i e t ∷ []
+
+-- no two of these events for alarm i in the step after t steps
+abbrev pub match_clauses : ℕ → ℕ → List ℕ → List LogClause
+match_clauses i t [] = []
+match_clauses i t (e ∷ events) = map (λ f. one_match i e f t) events ++ match_clauses i t events
+
+-- of alarm i, which may stand for these events, and the step after t steps
+abbrev pub done_clauses : ℕ → List ℕ → ℕ → List LogClause
+done_clauses i events t = stays_done i t ∷ done_by_match i t ∷ match_clauses i t events
+
+-- a link of each event that the alarm may stand for, and then what is written of the alarm alone
+abbrev pub alarm_clauses : Net → Log → ℕ → Alarm → List LogClause
+alarm_clauses net log n new =
+    flat_map (λ e. flat_map (link_clauses (length log.alarms) e (length (chain net log e))) (numbers_below n)) (taken_events net log new)
+    ++ not_done_first (length log.alarms) ∷ done_if_asked (length log.alarms)
+    ∷ flat_map (done_clauses (length log.alarms) (taken_events net log new)) (numbers_below n)
+
+abbrev pub added_clauses : Net → Log → ℕ → Addition → List LogClause
+added_clauses net log n (alarm_added new) = alarm_clauses net log n new
+added_clauses net log n (pair_added i j) = map (λ t. before_if_asked i j t) (numbers_below n)
+
+-- the clauses of the empty log
+abbrev pub first_clauses : Net → ℕ → List LogClause
+first_clauses net n = flat_map (λ e. map (λ t. chain_closed e 0 (suc t)) (numbers_below n)) (observable_events net)
+
+-- one after another the clauses are these, by name
+abbrev pub AreListed : Net → Log → ℕ → List (ℕ × Name) → List Clause → List LogClause → Type 0
+AreListed net log n names clauses list = AllZip (λ clause which. ReadsAs names clause (log_clause net log n which)) clauses list
+
+-- Clauses in the listed order are the code of the addition, or of the empty log.
+abbrev pub DraftsAreCode : Type 0
+DraftsAreCode = (net : Net) (n : ℕ) (names : List (ℕ × Name)) (clauses : List Clause) →
+    ((log : Log) (addition : Addition) → AreListed net (with_addition log addition) n names clauses (added_clauses net log n addition) → IsCode names (IsNamedAdded net log n addition) clauses)
+    × (AreListed net no_log n names clauses (first_clauses net n) → IsCode names (IsNamedFirst net n) clauses)
+
+-- An addition has at most 12 clauses for each unit by which the size of the question grows, and 12.
+abbrev pub DraftsAreSmall : Type 0
+DraftsAreSmall = (net : Net) (log : Log) (n : ℕ) (addition : Addition) →
+    length (added_clauses net log n addition) + 12 * question_size net log n ≤ 12 * question_size net (with_addition log addition) n + 12

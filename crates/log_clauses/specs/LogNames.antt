@@ -1,0 +1,101 @@
+-- The names of a log, and their variables, in the order in which additions bring them.
+use Rattle.std.specs.Prelude.{◌≡◌, ◌≢◌, ◌↔◌, ◌⊎◌, ⊤, ℕ, suc, ◌+◌, ◌*◌, ◌<◌, ◌≤◌, List, [], ◌∷◌, ◌++◌, map, flat_map, length, Some, slice_get, is_some, Contains, IsTrue}
+use Rattle.std.specs.List.{AllByRecursion, AllZip}
+use Rattle.des_base.specs.Lists.{EachPair}
+use Rattle.des_net.specs.Network.{Net, label_of}
+use Rattle.log_order.specs.Log.{Log, Alarm, no_log}
+use Rattle.log_clauses.specs.Additions.{Addition, alarm_added, pair_added, with_addition}
+use Rattle.log_clauses.specs.Drafts.{taken_events}
+use Rattle.log_clauses.specs.LogClauses.{chain, observable_events, IsStepNumber}
+use Rattle.prop_core.specs.Clauses.{Clause}
+use Rattle.prop_core.specs.VariableNames.{Name, in_state, happens, asked, matches, done, unmatched, closed, reaches, some_of_first, NamedLiteral, HasEachOnce, name_of, ReadsAs}
+use Rattle.prop_core.specs.declared.lit.Lit.{Lit}
+use Rattle.replay.specs.QuestionSize.{is_matching, variable_bound}
+use Rattle.run_clauses.specs.LaidOut.{laid_out}
+use Rattle.run_clauses.specs.StepClauses.{numbers_below}
+
+-- the names of a log, apart from those of the steps
+abbrev pub IsLogName : Net → Log → ℕ → Name → Type 0
+IsLogName net log n (in_state c q t) = ⊥
+IsLogName net log n (happens e t) = ⊥
+IsLogName net log n asked = ⊤
+IsLogName net log n (matches i e t) = IsTrue (is_matching net log e i) × IsStepNumber n t
+IsLogName net log n (done i t) = (i < length log.alarms) × (t ≤ n)
+IsLogName net log n (unmatched e k t) = (1 ≤ k) × (k ≤ length (chain net log e)) × IsStepNumber n t
+IsLogName net log n (closed e k) = IsTrue (is_some (label_of net e)) × (k ≤ length (chain net log e))
+IsLogName net log n (reaches i j) = ⊥
+IsLogName net log n (some_of_first family i) = ⊥
+
+-- what alarm i brings for event e, whose chain had k alarms: the end of the longer chain, and then the match and what is passed on, step by step
+abbrev pub link_names : ℕ → ℕ → ℕ → ℕ → List Name
+link_names n i e k = closed e (suc k) ∷ flat_map (λ t. matches i e (suc t) ∷ unmatched e (suc k) (suc t) ∷ []) (numbers_below n)
+
+-- the new names of an addition
+abbrev pub added_names : Net → Log → ℕ → Addition → List Name
+added_names net log n (alarm_added new) =
+    flat_map (λ e. link_names n (length log.alarms) e (length (chain net log e))) (taken_events net log new)
+    ++ map (λ t. done (length log.alarms) t) (numbers_below (suc n))
+added_names net log n (pair_added i j) = []
+
+-- the names of the empty log
+abbrev pub first_names : Net → List Name
+first_names net = asked ∷ map (λ e. closed e 0) (observable_events net)
+
+-- The names that an addition brings are new, each one name, and with them a log has its names.
+pub record AreNew (net : Net) (log : Log) (n : ℕ) (addition : Addition) : Type 0 where
+  pub once : EachPair (λ a b. a ≢ b) (added_names net log n addition)
+  pub fresh : (name : Name) → Contains (added_names net log n addition) name → IsLogName net log n name → ⊥
+  pub all : (name : Name) → IsLogName net (with_addition log addition) n name ↔ IsLogName net log n name ⊎ Contains (added_names net log n addition) name
+
+abbrev pub NamesAreNew : Type 0
+NamesAreNew = (net : Net) (log : Log) (n : ℕ) (addition : Addition) → AreNew net log n addition
+
+-- They are no more than the bound on the variables of a question grows by.
+abbrev pub NamesAreFew : Type 0
+NamesAreFew = (net : Net) (log : Log) (n : ℕ) (addition : Addition) →
+    length (added_names net log n addition) + variable_bound net log n ≤ variable_bound net (with_addition log addition) n
+
+abbrev pub FirstNamesAreAll : Type 0
+FirstNamesAreAll = (net : Net) (n : ℕ) → EachPair (λ a b. a ≢ b) (first_names net) × ((name : Name) → IsLogName net no_log n name ↔ Contains (first_names net) name)
+
+-- ---- on variables
+
+-- exactly the names of the log have variables, each one, below a number
+pub record AreLogNames (net : Net) (log : Log) (n vars : ℕ) (names : List (ℕ × Name)) : Type 0 where
+  pub once : HasEachOnce names
+  pub below : AllByRecursion (λ entry. entry.0 < vars) names
+  pub exact : (name : Name) → IsLogName net log n name ↔ ((var : ℕ) × Contains names (var, name))
+
+-- the names of a log, and those of an addition on the variables from this one on
+abbrev pub with_added : Net → Log → ℕ → Addition → List (ℕ × Name) → ℕ → List (ℕ × Name)
+with_added net log n addition names first = names ++ laid_out first (added_names net log n addition)
+
+-- The names of the empty log on fresh variables, and those of an addition after those of its log.
+abbrev pub NamesBegin : Type 0
+NamesBegin = (net : Net) (n first : ℕ) → AreLogNames net no_log n (first + length (first_names net)) (laid_out first (first_names net))
+
+abbrev pub NamesGrow : Type 0
+NamesGrow = (net : Net) (log : Log) (n first : ℕ) (addition : Addition) (names : List (ℕ × Name)) → AreLogNames net log n first names →
+    AreLogNames net (with_addition log addition) n (first + length (added_names net log n addition)) (with_added net log n addition names first)
+
+-- Where the names of a new alarm stand: a link of each event that it may stand for, one after another, and at the end when it is done.
+pub record HasPlaces (net : Net) (log : Log) (n first : ℕ) (new : Alarm) (names : List (ℕ × Name)) : Type 0 where
+  pub closing : (p e : ℕ) → slice_get (taken_events net log new) p ≡ Some e →
+      name_of names (first + p * (1 + n * 2)) ≡ Some (closed e (suc (length (chain net log e))))
+  pub matching : (p e t : ℕ) → slice_get (taken_events net log new) p ≡ Some e → t < n →
+      name_of names (first + (p * (1 + n * 2) + suc (t * 2))) ≡ Some (matches (length log.alarms) e (suc t))
+  pub passing : (p e t : ℕ) → slice_get (taken_events net log new) p ≡ Some e → t < n →
+      name_of names (first + (p * (1 + n * 2) + suc (t * 2 + 1))) ≡ Some (unmatched e (suc (length (chain net log e))) (suc t))
+  pub being_done : (t : ℕ) → t ≤ n → name_of names (first + (length (taken_events net log new) * (1 + n * 2) + t)) ≡ Some (done (length log.alarms) t)
+
+abbrev pub PlacesOfNames : Type 0
+PlacesOfNames = (net : Net) (log : Log) (n first : ℕ) (new : Alarm) (names : List (ℕ × Name)) → AreLogNames net log n first names →
+    HasPlaces net log n first new (with_added net log n (alarm_added new) names first)
+
+-- literal by literal the clause has these names and signs
+abbrev pub ReadsInOrder : List (ℕ × Name) → Clause → List NamedLiteral → Type 0
+ReadsInOrder names clause named = AllZip (λ (l : Lit) (m : NamedLiteral). (name_of names l.var ≡ Some m.name) × (l.positive ≡ m.positive)) clause named
+
+-- What reads literal by literal as a clause reads as that.
+abbrev pub OrderedReads : Type 0
+OrderedReads = (names : List (ℕ × Name)) (clause : Clause) (named : List NamedLiteral) → ReadsInOrder names clause named → ReadsAs names clause named
