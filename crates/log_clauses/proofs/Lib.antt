@@ -11,3 +11,5 @@ pub mod Codes
 pub mod Drafts
 pub mod NewNames
 pub mod Numbered
+pub mod Guards
+pub mod Explained

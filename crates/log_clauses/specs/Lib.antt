@@ -8,3 +8,4 @@ pub mod AdditionLaws
 pub mod LogCodes
 pub mod Drafts
 pub mod LogNames
+pub mod LogCodeLaws

@@ -3,6 +3,7 @@
 
 ghost use Rattle.log_clauses.specs.AdditionLaws.{AdditionsAreExact, AdditionsStayOpen, EmptyLogIsExact};
 ghost use Rattle.log_clauses.specs.Drafts.{DraftsAreCode, DraftsAreSmall};
+ghost use Rattle.log_clauses.specs.LogCodeLaws.{AssignmentsExplain, ExplanationsAreCoded, LogCodeIsExact};
 ghost use Rattle.log_clauses.specs.LogCodes.{CodeBegins, CodeGrows, CodesStay, ReadingsStay};
 ghost use Rattle.log_clauses.specs.LogLaws.{EventsAndAlarms, LogIsComplete, LogIsOpen, LogIsSound, MatchesAreExact};
 ghost use Rattle.log_clauses.specs.LogNames.{FirstNamesAreAll, NamesAreFew, NamesAreNew, NamesBegin, NamesGrow, OrderedReads, PlacesOfNames};
@@ -110,4 +111,19 @@ pub fn places_of_names()
 /// What reads literal by literal as a clause reads as that.
 pub fn ordered_reads()
     ensures { OrderedReads }
+{}
+
+/// The code of a log is exact: its three parts.
+pub fn log_code_is_exact()
+    ensures { LogCodeIsExact }
+{}
+
+/// Each explanation makes the clauses of steps and log and the guards true.
+pub fn explanations_are_coded()
+    ensures { ExplanationsAreCoded }
+{}
+
+/// What makes them true gives an explanation.
+pub fn assignments_explain()
+    ensures { AssignmentsExplain }
 {}

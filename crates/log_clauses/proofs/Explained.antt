@@ -1,0 +1,159 @@
+-- The code of a log under assignments of variables.
+use Rattle.std.proofs.Common.{◌≡◌, ◌∙◌, ℕ, suc, ◌<◌, Bool, true, false, List, [], ◌∷◌, Option, Some, None, refl, sym, ap, subst, arith, Contains, IsTrue, option_map, unwrap_or, length}
+use Rattle.std.specs.List.{list_any}
+use Rattle.std.proofs.lemmas.List.Elements.{Contains-get_or}
+use Rattle.des_net.specs.Network.{Net, IsNetwork, IsComponent, IsEvent, no_component, no_event, event_at, component_at, parts_of}
+use Rattle.des_net.specs.Width.{joined}
+use Rattle.des_net.specs.declared.parts.Part.{Part}
+use Rattle.log_order.specs.Log.{Log}
+use Rattle.log_clauses.proofs.Complete.{log_is_complete}
+use Rattle.log_clauses.proofs.Guards.{literals_by_name, read_named}
+use Rattle.log_clauses.proofs.Lists.{all_at, here_first}
+use Rattle.log_clauses.proofs.Open.{log_is_open}
+use Rattle.log_clauses.proofs.Sound.{log_is_sound}
+use Rattle.log_clauses.specs.Coded.{opened}
+use Rattle.log_clauses.specs.LogClauses.{log_clause, guard_literals}
+use Rattle.log_clauses.specs.LogCodeLaws.{IsLogCode, DifferInLogVariables, MakesLogTrue, LogCodeIsExact, IsUnboundedQuestion, MakesQuestionTrue, ExplanationsAreCoded, AssignmentsExplain}
+use Rattle.log_clauses.specs.LogCodes.{IsNamedLog}
+use Rattle.log_clauses.specs.LogTruth.{LogClausesHold, GuardsHold, is_of_log, DifferInLog}
+use Rattle.log_clauses.specs.Decoded.{decoded}
+use Rattle.prop_core.proofs.NameLemmas.{values_match, assignments_match, code_holds}
+use Rattle.prop_core.specs.Clauses.{Clause, AllClausesTrue}
+use Rattle.prop_core.specs.NamedClauses.{named_clause_true, Match, value_by, assignment_by, IsCode, AllHold}
+use Rattle.prop_core.specs.VariableNames.{Name, in_state, happens, name_of, no}
+use Rattle.prop_core.specs.declared.lit.Lit.{Lit}
+use Rattle.run_clauses.proofs.Exact.{runs_have_steps, only_steps_matter, sets_in_order, same_sets}
+use Rattle.run_clauses.proofs.Sound.{steps_are_sound}
+use Rattle.run_clauses.proofs.StepCode.{steps_from_all, all_from_steps}
+use Rattle.run_clauses.specs.StepClauses.{StepClause, step_clause, moves}
+use Rattle.run_clauses.specs.StepCodes.{IsNamedStep}
+use Rattle.run_clauses.specs.Steps.{StepClausesHold, AreSteps, AgreeOnSteps, AgreeOnEvents, step_sets}
+
+log_from_all : (net : Net) (log : Log) (n : ℕ) (value : Name → Bool) → AllHold (IsNamedLog net log n) value → LogClausesHold net log n value
+log_from_all net log n value all which is = all (log_clause net log n which) (which, is, refl)
+
+all_from_log : (net : Net) (log : Log) (n : ℕ) (value : Name → Bool) → LogClausesHold net log n value → AllHold (IsNamedLog net log n) value
+all_from_log net log n value holds named (which, is, same) = subst (λ clause. IsTrue (named_clause_true value clause)) same (holds which is)
+
+module _ (net : Net) (log : Log) (n : ℕ) (names : List (ℕ × Name)) (written : List Clause) (assumed : List Lit) (code : IsLogCode net log n names written assumed) where
+  -- what is true by name is true by variable, and the other way round
+  written_true : (assignment : ℕ → Bool) (value : Name → Bool) → Match names assignment value → LogClausesHold net log n value → AllClausesTrue assignment written
+  written_true assignment value match holds = (code_holds (IsNamedLog net log n) names written assignment value code.clauses match).1 (all_from_log net log n value holds)
+
+  pub log_true : (assignment : ℕ → Bool) (value : Name → Bool) → Match names assignment value → LogClausesHold net log n value → GuardsHold net log value → MakesLogTrue assignment written assumed
+  log_true assignment value match holds guards = record {
+    clauses = written_true assignment value match holds;
+    guards = (literals_by_name names assignment value match assumed (guard_literals net log) code.guards).1 guards;
+  }
+
+  pub log_holds : (assignment : ℕ → Bool) (value : Name → Bool) → Match names assignment value → MakesLogTrue assignment written assumed → LogClausesHold net log n value × GuardsHold net log value
+  log_holds assignment value match makes = (
+    log_from_all net log n value ((code_holds (IsNamedLog net log n) names written assignment value code.clauses match).0 makes.clauses),
+    (literals_by_name names assignment value match assumed (guard_literals net log) code.guards).0 makes.guards,
+  )
+
+  -- variables that aren't of the log keep their truth where their names do
+  kept : (given : ℕ → Bool) (value : Name → Bool) → DifferInLog (value_by names given) value → DifferInLogVariables names given (assignment_by names value given)
+  kept given value differ var h = by (name_of names var) refl
+    where
+      by : (o : Option Name) → name_of names var ≡ o → assignment_by names value given var ≡ given var
+      by None e = ap (λ o. unwrap_or (option_map value o) (given var)) e
+      by (Some name) e =
+          let other : is_of_log name ≡ false = sym (ap (λ o. unwrap_or (option_map is_of_log o) false) e) ∙ h in
+          ap (λ o. unwrap_or (option_map value o) (given var)) e ∙ differ name other ∙ sym (values_match names code.once given var name e)
+
+  completed : (given : ℕ → Bool) (value : Name → Bool) → DifferInLog (value_by names given) value → LogClausesHold net log n value → GuardsHold net log value →
+      (assignment : ℕ → Bool) × DifferInLogVariables names given assignment × MakesLogTrue assignment written assumed
+  completed given value differ holds guards =
+      (assignment_by names value given, kept given value differ, log_true (assignment_by names value given) value (assignments_match names value given) holds guards)
+
+  opened_up : (given : ℕ → Bool) → (assignment : ℕ → Bool) × DifferInLogVariables names given assignment × AllClausesTrue assignment written
+  opened_up given =
+      let law = log_is_open (value_by names given) in (
+        assignment_by names (opened (value_by names given)) given,
+        kept given (opened (value_by names given)) law.0,
+        written_true (assignment_by names (opened (value_by names given)) given) (opened (value_by names given)) (assignments_match names (opened (value_by names given)) given) (λ which h. law.1 net log n which),
+      )
+
+pub log_code_is_exact : LogCodeIsExact
+log_code_is_exact net log n names written assumed code = record {
+  sound = λ assignment pieces alarms valid complete kept steps makes.
+      let holds = log_holds net log n names written assumed code assignment (value_by names assignment) (values_match names code.once assignment) makes in
+      log_is_sound net log n (value_by names assignment) pieces alarms valid complete kept steps holds.0 holds.1;
+  complete = λ given pieces order steps linear.
+      let found = log_is_complete net log n (value_by names given) pieces order steps linear in
+      completed net log n names written assumed code given found.0 found.1 found.2 found.3;
+  unguarded = opened_up net log n names written assumed code;
+}
+
+-- The events of the steps have variables, since the clauses of the steps are there.
+some_state : (marks : List Bool) → list_any (λ mark. mark) marks ≡ true → 0 < length marks
+some_state [] h = cc
+some_state (mark ∷ marks) h = omega arith
+
+pub event_named : (net : Net) (n : ℕ) (names : List (ℕ × Name)) (stepped : List Clause) → IsNetwork net → IsCode names (IsNamedStep net n) stepped → (e t : ℕ) → e < length net.events → t < n →
+    (var : ℕ) × (name_of names var ≡ Some (happens e (suc t)))
+event_named net n names stepped network code e t known step = by (parts_of net e) refl is_event.moving
+  where
+    is_event : IsEvent net.components (event_at net e)
+    is_event = all_at (IsEvent net.components) net.events network.events (event_at net e) (Contains-get_or net.events e no_event known)
+
+    by : (parts : List Part) → parts_of net e ≡ parts → 0 < length (parts_of net e) → (var : ℕ) × (name_of names var ≡ Some (happens e (suc t)))
+    by [] is moving = absurd (omega (arith, ap length is))
+    by (part ∷ parts) is moving =
+        let inside : Contains (parts_of net e) part = subst (λ ps. Contains ps part) (sym is) (here_first part parts part refl) in
+        let known' = all_at _ (parts_of net e) is_event.known part inside in
+        let component : IsComponent (component_at net part.comp) = all_at IsComponent net.components network.components (component_at net part.comp) (Contains-get_or net.components part.comp no_component known'.component) in
+        let marks = some_state (component_at net part.comp).initial component.startable in
+        let same = component.marked in
+        let which : StepClause = moves e part.comp part.action 0 t in
+        let there = code.all (step_clause net which) (which, (inside, omega (arith, marks, same), step), refl) in
+        read_named names there.0 there.2.read (no (happens e (suc t))) there.2.by_name ((there.2.same (no (happens e (suc t)))).1 (0, omega arith, refl))
+
+-- a truth of the steps that a truth of the log goes on from
+coded_from : (net : Net) (log : Log) (n : ℕ) (names : List (ℕ × Name)) (stepped written : List Clause) (assumed : List Lit) (pieces : List (List ℕ)) →
+    IsNetwork net → IsUnboundedQuestion net log n names stepped written assumed → (given value : Name → Bool) → StepClausesHold net n given → AreSteps net n given pieces →
+    DifferInLog given value → LogClausesHold net log n value → GuardsHold net log value →
+    (assignment : ℕ → Bool) × AreSteps net n (value_by names assignment) pieces × MakesQuestionTrue assignment stepped written assumed
+coded_from net log n names stepped written assumed pieces network question given value clauses steps differ holds guards = (
+  assignment,
+  same_sets net n given (value_by names assignment) pieces agree steps,
+  record {
+    steps = (code_holds (IsNamedStep net n) names stepped assignment value question.steps matched).1 (all_from_steps net n value (only_steps_matter net n given value same clauses));
+    log_true = log_true net log n names written assumed question.log_code assignment value matched holds guards;
+  },
+)
+  where
+    assignment : ℕ → Bool
+    assignment = assignment_by names value (λ var. false)
+
+    matched : Match names assignment value
+    matched = assignments_match names value (λ var. false)
+
+    same : AgreeOnSteps given value
+    same = record { states = λ c q t. sym (differ (in_state c q t) refl); events = λ e t. sym (differ (happens e t) refl) }
+
+    agree : AgreeOnEvents net n given (value_by names assignment)
+    agree e t known step =
+        let named = event_named net n names stepped network question.steps e t known step in
+        sym (values_match names question.log_code.once assignment named.0 (happens e (suc t)) named.1) ∙ matched named.0 (happens e (suc t)) named.1 ∙ differ (happens e (suc t)) refl
+
+pub explanations_are_coded : ExplanationsAreCoded
+explanations_are_coded net log n names stepped written assumed pieces order network question count run linear =
+    let given = runs_have_steps net (joined pieces) pieces (λ name. false) network run.0 run.1 in
+    let clauses = subst (λ m. StepClausesHold net m given.0) count given.1 in
+    let steps = subst (λ m. AreSteps net m given.0 pieces) count given.2 in
+    let made = log_is_complete net log n given.0 pieces order steps linear in
+    coded_from net log n names stepped written assumed pieces network question given.0 made.0 clauses steps made.1 made.2 made.3
+
+pub assignments_explain : AssignmentsExplain
+assignments_explain net log n names stepped written assumed assignment alarms network question valid complete kept makes =
+    let matched = values_match names question.log_code.once assignment in
+    let holds = log_holds net log n names written assumed question.log_code assignment (value_by names assignment) matched makes.log_true in
+    let clauses = steps_from_all net n (value_by names assignment) ((code_holds (IsNamedStep net n) names stepped assignment (value_by names assignment) question.steps matched).0 makes.steps) in
+    let arranged' = log_is_sound net log n (value_by names assignment) (step_sets net n (value_by names assignment)) alarms valid complete kept (sets_in_order net n (value_by names assignment)) holds.0 holds.1 in
+    let run = steps_are_sound net n (value_by names assignment) (decoded net log (value_by names assignment) alarms n) network clauses arranged'.steps in
+    record {
+      steps = arranged'.steps;
+      explains = record { run = run.0; fits = (decoded net log (value_by names assignment) alarms n, arranged'.steps.count, run.1); linear = arranged'.linear };
+    }

@@ -1,0 +1,81 @@
+-- What assignments of variables make the code of a log true: with its guards exactly explanations, and without them every run.
+use Rattle.std.specs.Prelude.{◌≡◌, ℕ, Bool, false, List, length, option_map, unwrap_or}
+use Rattle.des_net.specs.Network.{Net, IsNetwork}
+use Rattle.des_net.specs.Width.{joined}
+use Rattle.log_order.specs.Log.{Log, ListsOnce, Keeps, IsValidLog}
+use Rattle.log_clauses.specs.Decoded.{decoded, decoded_order}
+use Rattle.log_clauses.specs.LogClauses.{guard_literals}
+use Rattle.log_clauses.specs.LogCodes.{IsNamedLog}
+use Rattle.log_clauses.specs.LogLaws.{IsArranged}
+use Rattle.log_clauses.specs.LogTruth.{is_of_log}
+use Rattle.prop_core.specs.Clauses.{Clause, AllClausesTrue, AllLiteralsTrue}
+use Rattle.prop_core.specs.NamedClauses.{IsCode, value_by}
+use Rattle.prop_core.specs.VariableNames.{Name, name_of, HasEachOnce, ReadsAs}
+use Rattle.prop_core.specs.declared.lit.Lit.{Lit}
+use Rattle.replay.specs.Explanation.{Linearises, Explains}
+use Rattle.run_clauses.specs.StepCodes.{IsNamedStep}
+use Rattle.run_clauses.specs.StepLaws.{IsRunBy}
+use Rattle.run_clauses.specs.Steps.{AreSteps}
+
+-- by these names, each with one variable, the clauses are those of the log, and what is assumed are its guards
+pub record IsLogCode (net : Net) (log : Log) (n : ℕ) (names : List (ℕ × Name)) (written : List Clause) (assumed : List Lit) : Type 0 where
+  pub once : HasEachOnce names
+  pub clauses : IsCode names (IsNamedLog net log n) written
+  pub guards : ReadsAs names assumed (guard_literals net log)
+
+-- the variable is one of the log alone
+abbrev pub is_log_variable : List (ℕ × Name) → ℕ → Bool
+is_log_variable names var = unwrap_or (option_map is_of_log (name_of names var)) false
+
+-- the same truth for all variables but those of the log alone
+abbrev pub DifferInLogVariables : List (ℕ × Name) → (ℕ → Bool) → (ℕ → Bool) → Type 0
+DifferInLogVariables names given assignment = (var : ℕ) → is_log_variable names var ≡ false → assignment var ≡ given var
+
+-- the assignment makes the clauses of a log and its guards true
+pub record MakesLogTrue (assignment : ℕ → Bool) (written : List Clause) (assumed : List Lit) : Type 0 where
+  pub clauses : AllClausesTrue assignment written
+  pub guards : AllLiteralsTrue assignment assumed
+
+pub record IsExactLogCode (net : Net) (log : Log) (n : ℕ) (names : List (ℕ × Name)) (written : List Clause) (assumed : List Lit) : Type 0 where
+  -- Where clauses and guards are true, the sets of the steps, arranged by any order of the alarms that keeps the pairs, linearise the log.
+  pub sound : (assignment : ℕ → Bool) (pieces : List (List ℕ)) (alarms : List ℕ) → IsValidLog log → ListsOnce (length log.alarms) alarms → Keeps alarms log.pairs →
+      AreSteps net n (value_by names assignment) pieces → MakesLogTrue assignment written assumed → IsArranged net log n (value_by names assignment) alarms pieces
+  -- Where the sets of the steps in some order linearise the log, clauses and guards can be made true by a change of variables of the log alone.
+  pub complete : (given : ℕ → Bool) (pieces : List (List ℕ)) (order : List ℕ) → AreSteps net n (value_by names given) pieces → Linearises net log (joined pieces) order →
+      (assignment : ℕ → Bool) × DifferInLogVariables names given assignment × MakesLogTrue assignment written assumed
+  -- Whatever events happen, the clauses can be made true by such a change where no guard is assumed.
+  pub unguarded : (given : ℕ → Bool) → (assignment : ℕ → Bool) × DifferInLogVariables names given assignment × AllClausesTrue assignment written
+
+-- The code of a log is exact.
+abbrev pub LogCodeIsExact : Type 0
+LogCodeIsExact = (net : Net) (log : Log) (n : ℕ) (names : List (ℕ × Name)) (written : List Clause) (assumed : List Lit) →
+    IsLogCode net log n names written assumed → IsExactLogCode net log n names written assumed
+
+-- ---- together with the steps
+
+-- by the same names the clauses of the steps and of the log, with its guards: a question that sets no bound on faults
+pub record IsUnboundedQuestion (net : Net) (log : Log) (n : ℕ) (names : List (ℕ × Name)) (stepped written : List Clause) (assumed : List Lit) : Type 0 where
+  pub steps : IsCode names (IsNamedStep net n) stepped
+  pub log_code : IsLogCode net log n names written assumed
+
+-- the assignment makes the clauses of the steps, of the log, and its guards true
+pub record MakesQuestionTrue (assignment : ℕ → Bool) (stepped written : List Clause) (assumed : List Lit) : Type 0 where
+  pub steps : AllClausesTrue assignment stepped
+  pub log_true : MakesLogTrue assignment written assumed
+
+-- Each explanation by pieces has an assignment that makes all true, and whose event variables are those of the pieces.
+abbrev pub ExplanationsAreCoded : Type 0
+ExplanationsAreCoded = (net : Net) (log : Log) (n : ℕ) (names : List (ℕ × Name)) (stepped written : List Clause) (assumed : List Lit) (pieces : List (List ℕ)) (order : List ℕ) →
+    IsNetwork net → IsUnboundedQuestion net log n names stepped written assumed → length pieces ≡ n → IsRunBy net pieces → Linearises net log (joined pieces) order →
+    (assignment : ℕ → Bool) × AreSteps net n (value_by names assignment) pieces × MakesQuestionTrue assignment stepped written assumed
+
+-- the pieces and the order that a truth of names gives explain the log, and are its steps
+pub record IsDecoded (net : Net) (log : Log) (n : ℕ) (value : Name → Bool) (alarms : List ℕ) : Type 0 where
+  pub steps : AreSteps net n value (decoded net log value alarms n)
+  pub explains : Explains net log n (joined (decoded net log value alarms n)) (decoded_order net log value alarms n)
+
+-- Each assignment that makes all true gives an explanation, by any order of the alarms that keeps the pairs.
+abbrev pub AssignmentsExplain : Type 0
+AssignmentsExplain = (net : Net) (log : Log) (n : ℕ) (names : List (ℕ × Name)) (stepped written : List Clause) (assumed : List Lit) (assignment : ℕ → Bool) (alarms : List ℕ) →
+    IsNetwork net → IsUnboundedQuestion net log n names stepped written assumed → IsValidLog log → ListsOnce (length log.alarms) alarms → Keeps alarms log.pairs →
+    MakesQuestionTrue assignment stepped written assumed → IsDecoded net log n (value_by names assignment) alarms
