@@ -13,3 +13,4 @@ pub mod NewNames
 pub mod Numbered
 pub mod Guards
 pub mod Explained
+pub mod Vectors

@@ -21,51 +21,51 @@ use Rattle.prop_core.specs.declared.lit.Lit.{Lit}
 use Rattle.run_clauses.specs.LaidOut.{laid_out}
 use Rattle.run_clauses.specs.StepClauses.{numbers_below}
 
-numbered_from : (first : ℕ) (xs : List Name) (entry : ℕ × Name) → Contains (laid_out first xs) entry → Contains xs entry.1 × (first ≤ entry.0) × (entry.0 < first + length xs)
-numbered_from first [] entry in' = absurd (none_in_nil entry in')
-numbered_from first (x ∷ xs) entry in' = by (cons_cases (first, x) (laid_out (first + 1) xs) entry in') (numbered_from (first + 1) xs entry)
+laid_out_from : (first : ℕ) (xs : List Name) (entry : ℕ × Name) → Contains (laid_out first xs) entry → Contains xs entry.1 × (first ≤ entry.0) × (entry.0 < first + length xs)
+laid_out_from first [] entry in' = absurd (none_in_nil entry in')
+laid_out_from first (x ∷ xs) entry in' = by (cons_cases (first, x) (laid_out (first + 1) xs) entry in') (laid_out_from (first + 1) xs entry)
   where
     by : (◌≡◌ {A = ℕ × Name} (first, x) entry) ⊎ Contains (laid_out (first + 1) xs) entry → (Contains (laid_out (first + 1) xs) entry → Contains xs entry.1 × (first + 1 ≤ entry.0) × (entry.0 < first + 1 + length xs)) →
         Contains (x ∷ xs) entry.1 × (first ≤ entry.0) × (entry.0 < first + suc (length xs))
     by (inl is) later = let var : first ≡ entry.0 = ap (λ (y : ℕ × Name). y.0) is in (here_first x xs entry.1 (ap (λ (y : ℕ × Name). y.1) is), omega arith, omega arith)
     by (inr rest) later = let found = later rest in (here_later x xs entry.1 found.0, omega (arith, found.1), omega (arith, found.2))
 
-numbered_has : (first : ℕ) (xs : List Name) (k : ℕ) (x : Name) → slice_get xs k ≡ Some x → Contains (laid_out first xs) (first + k, x)
-numbered_has first [] k x h = cc
-numbered_has first (y ∷ xs) zero x h =
+laid_out_has : (first : ℕ) (xs : List Name) (k : ℕ) (x : Name) → slice_get xs k ≡ Some x → Contains (laid_out first xs) (first + k, x)
+laid_out_has first [] k x h = cc
+laid_out_has first (y ∷ xs) zero x h =
     let is : y ≡ x = cc in
     let same : first ≡ first + 0 = omega arith in
     here_first (first, y) (laid_out (first + 1) xs) (first + 0, x) (λ i. (same i, is i))
-numbered_has first (y ∷ xs) (suc k) x h =
-    let rest = numbered_has (first + 1) xs k x h in
+laid_out_has first (y ∷ xs) (suc k) x h =
+    let rest = laid_out_has (first + 1) xs k x h in
     let same : first + 1 + k ≡ first + suc k = omega arith in
     here_later (first, y) (laid_out (first + 1) xs) (first + suc k, x) (subst (λ v. Contains (laid_out (first + 1) xs) (v, x)) same rest)
 
-numbered_in : (first : ℕ) (xs : List Name) (x : Name) → Contains xs x → (var : ℕ) × Contains (laid_out first xs) (var, x)
-numbered_in first [] x in' = absurd (none_in_nil x in')
-numbered_in first (y ∷ xs) x in' = by (cons_cases y xs x in') (numbered_in (first + 1) xs x)
+laid_out_in : (first : ℕ) (xs : List Name) (x : Name) → Contains xs x → (var : ℕ) × Contains (laid_out first xs) (var, x)
+laid_out_in first [] x in' = absurd (none_in_nil x in')
+laid_out_in first (y ∷ xs) x in' = by (cons_cases y xs x in') (laid_out_in (first + 1) xs x)
   where
     by : (y ≡ x) ⊎ Contains xs x → (Contains xs x → (var : ℕ) × Contains (laid_out (first + 1) xs) (var, x)) → (var : ℕ) × Contains ((first, y) ∷ laid_out (first + 1) xs) (var, x)
     by (inl is) later = (first, here_first (first, y) (laid_out (first + 1) xs) (first, x) (λ i. (first, is i)))
     by (inr rest) later = let found = later rest in (found.0, here_later (first, y) (laid_out (first + 1) xs) (found.0, x) found.1)
 
-numbered_once : (first : ℕ) (xs : List Name) → EachPair (λ a b. a ≢ b) xs → HasEachOnce (laid_out first xs)
-numbered_once first [] once = tt
-numbered_once first (x ∷ xs) once = (
+pub laid_out_once : (first : ℕ) (xs : List Name) → EachPair (λ a b. a ≢ b) xs → HasEachOnce (laid_out first xs)
+laid_out_once first [] once = tt
+laid_out_once first (x ∷ xs) once = (
   all_of (λ (entry : ℕ × Name). (first ≢ entry.0) × (x ≢ entry.1)) (laid_out (first + 1) xs) (λ entry in'.
-      let found = numbered_from (first + 1) xs entry in' in
+      let found = laid_out_from (first + 1) xs entry in' in
       let above = found.1 in
       (λ same. omega (arith, above, same), all_at (λ y. x ≢ y) xs once.0 entry.1 found.0)),
-  numbered_once (first + 1) xs once.1,
+  laid_out_once (first + 1) xs once.1,
 )
 
 pub names_begin : NamesBegin
 names_begin net n first = record {
-  once = numbered_once first (first_names net) (first_names_are_all net n).0;
-  below = all_of (λ (entry : ℕ × Name). entry.0 < first + length (first_names net)) (laid_out first (first_names net)) (λ entry in'. (numbered_from first (first_names net) entry in').2);
+  once = laid_out_once first (first_names net) (first_names_are_all net n).0;
+  below = all_of (λ (entry : ℕ × Name). entry.0 < first + length (first_names net)) (laid_out first (first_names net)) (λ entry in'. (laid_out_from first (first_names net) entry in').2);
   exact = λ name. (
-    λ h. numbered_in first (first_names net) name (((first_names_are_all net n).1 name).0 h),
-    λ h. ((first_names_are_all net n).1 name).1 (numbered_from first (first_names net) (h.0, name) h.1).0,
+    λ h. laid_out_in first (first_names net) name (((first_names_are_all net n).1 name).0 h),
+    λ h. ((first_names_are_all net n).1 name).1 (laid_out_from first (first_names net) (h.0, name) h.1).0,
   );
 }
 
@@ -79,9 +79,9 @@ names_grow net log n first addition names are = record { once = once; below = be
     laws = names_are_new net log n addition
 
     once : HasEachOnce (names ++ laid_out first (added_names net log n addition))
-    once = pairs_append (λ a b. (a.0 ≢ b.0) × (a.1 ≢ b.1)) names (laid_out first (added_names net log n addition)) are.once (numbered_once first (added_names net log n addition) laws.once) (λ a b in' in2.
+    once = pairs_append (λ a b. (a.0 ≢ b.0) × (a.1 ≢ b.1)) names (laid_out first (added_names net log n addition)) are.once (laid_out_once first (added_names net log n addition) laws.once) (λ a b in' in2.
         let below' = all_at (λ (entry : ℕ × Name). entry.0 < first) names are.below a in' in
-        let found = numbered_from first (added_names net log n addition) b in2 in
+        let found = laid_out_from first (added_names net log n addition) b in2 in
         let above = found.1 in (
           λ same. omega (arith, below', above, same),
           λ same. laws.fresh b.1 found.0 (subst (IsLogName net log n) same ((are.exact a.1).1 (a.0, in'))),
@@ -92,21 +92,21 @@ names_grow net log n first addition names are = record { once = once; below = be
       where
         by : (entry : ℕ × Name) → Contains names entry ⊎ Contains (laid_out first (added_names net log n addition)) entry → entry.0 < first + length (added_names net log n addition)
         by entry (inl old) = let low = all_at (λ (x : ℕ × Name). x.0 < first) names are.below entry old in omega (arith, low)
-        by entry (inr fresh) = (numbered_from first (added_names net log n addition) entry fresh).2
+        by entry (inr fresh) = (laid_out_from first (added_names net log n addition) entry fresh).2
 
     to : (name : Name) → IsLogName net (with_addition log addition) n name → (var : ℕ) × Contains (names ++ laid_out first (added_names net log n addition)) (var, name)
     to name h = by ((laws.all name).0 h)
       where
         by : IsLogName net log n name ⊎ Contains (added_names net log n addition) name → (var : ℕ) × Contains (names ++ laid_out first (added_names net log n addition)) (var, name)
         by (inl old) = let found = (are.exact name).0 old in (found.0, append_left names (laid_out first (added_names net log n addition)) (found.0, name) found.1)
-        by (inr fresh) = let found = numbered_in first (added_names net log n addition) name fresh in (found.0, append_right names (laid_out first (added_names net log n addition)) (found.0, name) found.1)
+        by (inr fresh) = let found = laid_out_in first (added_names net log n addition) name fresh in (found.0, append_right names (laid_out first (added_names net log n addition)) (found.0, name) found.1)
 
     from : (name : Name) (var : ℕ) → Contains (names ++ laid_out first (added_names net log n addition)) (var, name) → IsLogName net (with_addition log addition) n name
     from name var in' = by (append_cases names (laid_out first (added_names net log n addition)) (var, name) in')
       where
         by : Contains names (var, name) ⊎ Contains (laid_out first (added_names net log n addition)) (var, name) → IsLogName net (with_addition log addition) n name
         by (inl old) = (laws.all name).1 (inl ((are.exact name).1 (var, old)))
-        by (inr fresh) = (laws.all name).1 (inr (numbered_from first (added_names net log n addition) (var, name) fresh).0)
+        by (inr fresh) = (laws.all name).1 (inr (laid_out_from first (added_names net log n addition) (var, name) fresh).0)
 
 -- places in lists in a row
 get_past : {X : Type 0} (xs ys : List X) (k : ℕ) → slice_get (xs ++ ys) (length xs + k) ≡ slice_get ys k
@@ -146,7 +146,7 @@ module _ (net : Net) (log : Log) (n first : ℕ) (new : Alarm) (names : List (�
   at : (k : ℕ) (name : Name) → slice_get (added_names net log n (alarm_added new)) k ≡ Some name → name_of (names ++ laid_out first (added_names net log n (alarm_added new))) (first + k) ≡ Some name
   at k name is =
       has_name (names ++ laid_out first (added_names net log n (alarm_added new))) (first + k, name) (names_grow net log n first (alarm_added new) names are).once
-      (append_right names (laid_out first (added_names net log n (alarm_added new))) (first + k, name) (numbered_has first (added_names net log n (alarm_added new)) k name is))
+      (append_right names (laid_out first (added_names net log n (alarm_added new))) (first + k, name) (laid_out_has first (added_names net log n (alarm_added new)) k name is))
 
   link_at : (p e j : ℕ) → slice_get (taken_events net log new) p ≡ Some e → j < 1 + n * 2 →
       slice_get (added_names net log n (alarm_added new)) (p * (1 + n * 2) + j) ≡ slice_get (link_names n (length log.alarms) e (length (chain net log e))) j

@@ -1,0 +1,215 @@
+-- Worked chains, clauses and guards, and two alarms in one step with a pair between them, coded and decoded.
+use Rattle.std.proofs.Common.{◌≡◌, ◌≢◌, ℕ, Bool, true, false, List, [], ◌∷◌, ◌++◌, refl, ◌==◌, length}
+use Rattle.std.specs.Prelude.{codes}
+use Rattle.std.specs.List.{list_all}
+use Rattle.des_base.specs.Lists.{EachPair}
+use Rattle.des_net.specs.Models.{apart, pump}
+use Rattle.log_order.specs.Log.{Alarm, Log, no_log}
+use Rattle.log_clauses.proofs.Codes.{code_begins}
+use Rattle.log_clauses.proofs.Drafts.{drafts_are_code}
+use Rattle.log_clauses.proofs.Numbered.{laid_out_once, ordered_reads}
+use Rattle.log_clauses.specs.Additions.{alarm_added, pair_added, with_addition, log_after}
+use Rattle.log_clauses.specs.Coded.{coded, opened}
+use Rattle.log_clauses.specs.Decoded.{decoded, decoded_order, alarm_at, event_at}
+use Rattle.log_clauses.specs.Drafts.{added_clauses, first_clauses}
+use Rattle.log_clauses.specs.LogClauses.{chain, matching_events, observable_events, LogClause, log_clause, guard_literals, chain_closed, takes_rest, uses_up, matched_once, done_by_match, one_match, before_if_asked}
+use Rattle.log_clauses.specs.LogCodeLaws.{IsLogCode}
+use Rattle.log_clauses.specs.LogNames.{added_names, first_names}
+use Rattle.prop_core.specs.Clauses.{Clause}
+use Rattle.prop_core.specs.NamedClauses.{named_true, named_clause_true}
+use Rattle.prop_core.specs.VariableNames.{Name, in_state, happens, asked, matches, done, unmatched, closed, reaches, some_of_first, yes, no}
+use Rattle.prop_core.specs.declared.lit.Lit.{Lit}
+use Rattle.run_clauses.specs.LaidOut.{laid_out}
+use Rattle.std.specs.Prelude.{Some, None}
+
+abbrev alarm : List ℕ → List (List ℕ) → Alarm
+alarm name labels = record { name = name; labels = labels }
+
+-- ---- chains
+
+-- the first alarm may be a trip or a beat, and the second is a beat
+abbrev beats : Log
+beats = record { alarms = alarm (codes "a1") (codes "T" ∷ codes "B" ∷ []) ∷ alarm (codes "a2") (codes "B" ∷ []) ∷ []; pairs = [] }
+
+pub beat_chain : chain pump beats 3 ≡ 0 ∷ 1 ∷ []
+beat_chain = refl
+
+pub trip_chain : chain pump beats 1 ≡ 0 ∷ []
+trip_chain = refl
+
+-- a jam isn't seen
+pub jam_chain : chain pump beats 0 ≡ []
+jam_chain = refl
+
+pub first_alarm_events : matching_events pump beats 0 ≡ 1 ∷ 3 ∷ []
+first_alarm_events = refl
+
+pub pump_observable : observable_events pump ≡ 1 ∷ 2 ∷ 3 ∷ []
+pump_observable = refl
+
+-- ---- clauses
+
+-- the first of a chain takes what happens
+pub first_takes : log_clause pump beats 2 (takes_rest 0 3 0 1) ≡ no (matches 0 3 1) ∷ yes (happens 3 1) ∷ []
+first_takes = refl
+
+-- the second takes what the first has passed on
+pub second_takes : log_clause pump beats 2 (takes_rest 1 3 1 2) ≡ no (matches 1 3 2) ∷ yes (unmatched 3 1 2) ∷ []
+second_takes = refl
+
+pub second_uses_up : log_clause pump beats 2 (uses_up 1 3 1 2) ≡ no (matches 1 3 2) ∷ no (unmatched 3 2 2) ∷ []
+second_uses_up = refl
+
+pub done_by_either : log_clause pump beats 2 (done_by_match 0 0) ≡ no (done 0 1) ∷ yes (done 0 0) ∷ yes (matches 0 1 1) ∷ yes (matches 0 3 1) ∷ []
+done_by_either = refl
+
+-- ---- guards
+
+pub guards_of_beats : guard_literals pump beats ≡ yes asked ∷ yes (closed 1 1) ∷ yes (closed 2 0) ∷ yes (closed 3 2) ∷ []
+guards_of_beats = refl
+
+-- the guards of the empty log aren't assumed for the longer one
+pub guards_of_none : guard_literals pump no_log ≡ yes asked ∷ yes (closed 1 0) ∷ yes (closed 2 0) ∷ yes (closed 3 0) ∷ []
+guards_of_none = refl
+
+-- ---- two alarms in one step, the later before the earlier
+
+abbrev x : Alarm
+x = alarm (codes "x") (codes "A" ∷ [])
+
+abbrev y : Alarm
+y = alarm (codes "y") (codes "B" ∷ [])
+
+abbrev y_before_x : Log
+y_before_x = log_after no_log (alarm_added x ∷ alarm_added y ∷ pair_added 1 0 ∷ [])
+
+-- both events happen in step 1
+abbrev both : Name → Bool
+both (in_state c q t) = true
+both (happens e t) = t == 1
+both asked = false
+both (matches i e t) = false
+both (done i t) = false
+both (unmatched e k t) = false
+both (closed e k) = false
+both (reaches i j) = false
+both (some_of_first family i) = false
+
+-- eb stands for y, and ea for x
+abbrev matched : Name → Bool
+matched = coded apart y_before_x ((1 ∷ 0 ∷ []) ∷ []) ((1 ∷ 0 ∷ []) ∷ []) both
+
+-- the clauses of the log in one step, as they come
+abbrev all_clauses : List LogClause
+all_clauses = first_clauses apart 1 ++ added_clauses apart no_log 1 (alarm_added x) ++ added_clauses apart (with_addition no_log (alarm_added x)) 1 (alarm_added y)
+    ++ added_clauses apart (log_after no_log (alarm_added x ∷ alarm_added y ∷ [])) 1 (pair_added 1 0)
+
+-- two of the empty log, eleven of each alarm, one of the pair
+pub clause_count : length all_clauses ≡ 25
+clause_count = refl
+
+pub guards_of_both : guard_literals apart y_before_x ≡ yes asked ∷ yes (closed 0 1) ∷ yes (closed 1 1) ∷ []
+guards_of_both = refl
+
+pub guards_true : list_all (named_true matched) (guard_literals apart y_before_x) ≡ true
+guards_true = refl
+
+pub clauses_true : list_all (λ which. named_clause_true matched (log_clause apart y_before_x 1 which)) all_clauses ≡ true
+clauses_true = refl
+
+pub x_is_ea : event_at apart y_before_x matched 0 0 ≡ Some 0
+x_is_ea = refl
+
+pub eb_is_y : alarm_at apart y_before_x matched 1 1 ≡ Some 1
+eb_is_y = refl
+
+pub ea_without_alarm : alarm_at apart no_log matched 0 1 ≡ None
+ea_without_alarm = refl
+
+pub decodes : decoded apart y_before_x matched (1 ∷ 0 ∷ []) 1 ≡ (1 ∷ 0 ∷ []) ∷ []
+decodes = refl
+
+pub decodes_order : decoded_order apart y_before_x matched (1 ∷ 0 ∷ []) 1 ≡ 1 ∷ 0 ∷ []
+decodes_order = refl
+
+-- ---- what is false
+
+-- with no alarm an event that happens breaks the guard of its chain
+pub empty_log_closes : named_clause_true (coded apart no_log ([] ∷ []) ([] ∷ []) both) (log_clause apart no_log 1 (chain_closed 0 0 1)) ≡ false
+empty_log_closes = refl
+
+-- and without guards nothing is broken
+pub unguarded_opens : list_all (λ which. named_clause_true (opened both) (log_clause apart y_before_x 1 which)) all_clauses ≡ true
+unguarded_opens = refl
+
+-- x a step before y is against the pair
+abbrev x_first : Name → Bool
+x_first = coded apart y_before_x ((0 ∷ []) ∷ (1 ∷ []) ∷ []) ((0 ∷ []) ∷ (1 ∷ []) ∷ []) both
+
+pub pair_broken : named_clause_true x_first (log_clause apart y_before_x 2 (before_if_asked 1 0 0)) ≡ false
+pair_broken = refl
+
+-- one alarm in two steps
+abbrev twice : Name → Bool
+twice = coded apart y_before_x ((0 ∷ []) ∷ (0 ∷ []) ∷ []) ((0 ∷ []) ∷ (0 ∷ []) ∷ []) both
+
+pub matched_twice : named_clause_true twice (log_clause apart y_before_x 2 (matched_once 0 0 1)) ≡ false
+matched_twice = refl
+
+-- one alarm for two events of a step
+abbrev for_two : Name → Bool
+for_two = coded pump beats ((1 ∷ 3 ∷ []) ∷ []) ((0 ∷ 0 ∷ []) ∷ []) both
+
+pub two_events : named_clause_true for_two (log_clause pump beats 1 (one_match 0 1 3 0)) ≡ false
+two_events = refl
+
+-- ---- drafts
+
+-- x over two steps: seven of its one link in each, two of it alone, two in each step
+pub clauses_of_x : length (added_clauses apart no_log 2 (alarm_added x)) ≡ 20
+clauses_of_x = refl
+
+pub names_of_x : added_names apart no_log 2 (alarm_added x)
+    ≡ closed 0 1 ∷ matches 0 0 1 ∷ unmatched 0 1 1 ∷ matches 0 0 2 ∷ unmatched 0 1 2 ∷ done 0 0 ∷ done 0 1 ∷ done 0 2 ∷ []
+names_of_x = refl
+
+-- an alarm that two events may be, over two steps: two links, and one clause more in each step
+pub clauses_of_two : length (added_clauses pump no_log 2 (alarm_added (alarm (codes "a1") (codes "T" ∷ codes "B" ∷ [])))) ≡ 36
+clauses_of_two = refl
+
+-- an alarm that no event can be
+pub clauses_of_none : length (added_clauses apart no_log 2 (alarm_added (alarm (codes "z") (codes "C" ∷ [])))) ≡ 6
+clauses_of_none = refl
+
+pub first_of_apart : first_names apart ≡ asked ∷ closed 0 0 ∷ closed 1 0 ∷ []
+first_of_apart = refl
+
+-- ---- a code over variables: that of the empty log
+
+abbrev names : List (ℕ × Name)
+names = laid_out 0 (happens 0 1 ∷ happens 1 1 ∷ first_names apart)
+
+abbrev not_variable : ℕ → Lit
+not_variable var = record { var = var; positive = false }
+
+abbrev written : List Clause
+written = (not_variable 3 ∷ not_variable 0 ∷ []) ∷ (not_variable 4 ∷ not_variable 1 ∷ []) ∷ []
+
+abbrev assumed : List Lit
+assumed = record { var = 2; positive = true } ∷ record { var = 3; positive = true } ∷ record { var = 4; positive = true } ∷ []
+
+differ : EachPair (λ a b. a ≢ b) (happens 0 1 ∷ happens 1 1 ∷ first_names apart)
+differ = (
+  ((λ h. cc), ((λ h. cc), ((λ h. cc), ((λ h. cc), tt)))),
+  (((λ h. cc), ((λ h. cc), ((λ h. cc), tt))), (((λ h. cc), ((λ h. cc), tt)), (((λ h. cc), tt), (tt, tt)))),
+)
+
+pub empty_code : IsLogCode apart no_log 1 names written assumed
+empty_code = record {
+  once = laid_out_once 0 (happens 0 1 ∷ happens 1 1 ∷ first_names apart) differ;
+  clauses = code_begins apart 1 names written ((drafts_are_code apart 1 names written).1 (
+    ordered_reads names (not_variable 3 ∷ not_variable 0 ∷ []) (no (closed 0 0) ∷ no (happens 0 1) ∷ []) ((refl, refl), ((refl, refl), tt)),
+    (ordered_reads names (not_variable 4 ∷ not_variable 1 ∷ []) (no (closed 1 0) ∷ no (happens 1 1) ∷ []) ((refl, refl), ((refl, refl), tt)), tt),
+  ));
+  guards = ordered_reads names assumed (guard_literals apart no_log) ((refl, refl), ((refl, refl), ((refl, refl), tt)));
+}
