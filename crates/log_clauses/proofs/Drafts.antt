@@ -13,8 +13,8 @@ use Rattle.log_clauses.proofs.Lists.{flat_has, flat_from, map_has, map_from, num
 use Rattle.log_clauses.proofs.Rules.{has_event, event_matches, shown_event}
 use Rattle.log_clauses.proofs.Stay.{range_more, matching_same}
 use Rattle.log_clauses.specs.Additions.{Addition, alarm_added, pair_added, with_addition, IsTaken, IsAlarmClause, IsAddedClause, IsFirstClause}
-use Rattle.log_clauses.specs.Drafts.{taken_events, link_clauses, match_clauses, done_clauses, alarm_clauses, added_clauses, first_clauses, DraftsAreCode, DraftsAreSmall}
-use Rattle.log_clauses.specs.LogClauses.{chain, LogClause, log_clause, chain_closed, takes_rest, uses_up, passes_on, taken_or_passed, not_done_first, stays_done, match_is_done, matched_once, done_by_match, one_match, done_if_asked, before_if_asked, IsStepNumber}
+use Rattle.log_clauses.specs.Drafts.{taken_events, link_clauses, match_clauses, done_clauses, alarm_clauses, added_clauses, first_clauses, DraftsAreCode, DraftsAreSmall, FirstClausesAreFew}
+use Rattle.log_clauses.specs.LogClauses.{chain, observable_events, LogClause, log_clause, chain_closed, takes_rest, uses_up, passes_on, taken_or_passed, not_done_first, stays_done, match_is_done, matched_once, done_by_match, one_match, done_if_asked, before_if_asked, IsStepNumber}
 use Rattle.log_order.specs.Log.{Log, Alarm, no_log}
 use Rattle.prop_core.specs.Clauses.{Clause}
 use Rattle.prop_core.specs.NamedClauses.{IsCode}
@@ -355,3 +355,10 @@ pair_small net log n i j =
 pub drafts_are_small : DraftsAreSmall
 drafts_are_small net log n (alarm_added new) = alarm_small net log n new
 drafts_are_small net log n (pair_added i j) = pair_small net log n i j
+
+pub first_clauses_are_few : FirstClausesAreFew
+first_clauses_are_few net n =
+    let all = flat_length (λ e. map (λ t. chain_closed e 0 (suc t)) (numbers_below n)) (observable_events net) n (λ e.
+    let size = length-map (numbers_below n) (λ t. chain_closed e 0 (suc t)) in let range = length-range_with_len 0 n in omega (arith, size, range)) in
+    let count = length-filter (λ e. is_some (label_of net e)) (numbers_below (length net.events)) in
+    all ∙ ap (λ m. m * n) count

@@ -3,13 +3,14 @@ use Rattle.std.proofs.Common.{◌≡◌, ◌∙◌, ℕ, suc, ◌<◌, Bool, tru
 use Rattle.std.specs.List.{list_any}
 use Rattle.std.proofs.lemmas.List.Elements.{Contains-get_or}
 use Rattle.des_net.specs.Network.{Net, IsNetwork, IsComponent, IsEvent, no_component, no_event, event_at, component_at, parts_of}
-use Rattle.des_net.specs.Width.{joined}
 use Rattle.des_net.specs.declared.parts.Part.{Part}
 use Rattle.log_order.specs.Log.{Log}
 use Rattle.log_clauses.proofs.Complete.{log_is_complete}
 use Rattle.log_clauses.proofs.Guards.{literals_by_name, read_named}
 use Rattle.log_clauses.proofs.Lists.{all_at, here_first}
+use Rattle.log_clauses.proofs.Matches.{matches_are_exact}
 use Rattle.log_clauses.proofs.Open.{log_is_open}
+use Rattle.replay.specs.Explanation.{Linearises}
 use Rattle.log_clauses.proofs.Sound.{log_is_sound}
 use Rattle.log_clauses.specs.Coded.{opened}
 use Rattle.log_clauses.specs.LogClauses.{log_clause, guard_literals}
@@ -83,6 +84,9 @@ log_code_is_exact net log n names written assumed code = record {
   complete = λ given pieces order steps linear.
       let found = log_is_complete net log n (value_by names given) pieces order steps linear in
       completed net log n names written assumed code given found.0 found.1 found.2 found.3;
+  matched = λ assignment makes.
+      let holds = log_holds net log n names written assumed code assignment (value_by names assignment) (values_match names code.once assignment) makes in
+      matches_are_exact net log n (value_by names assignment) holds.0 holds.1;
   unguarded = opened_up net log n names written assumed code;
 }
 
@@ -139,11 +143,11 @@ coded_from net log n names stepped written assumed pieces network question given
         sym (values_match names question.log_code.once assignment named.0 (happens e (suc t)) named.1) ∙ matched named.0 (happens e (suc t)) named.1 ∙ differ (happens e (suc t)) refl
 
 pub explanations_are_coded : ExplanationsAreCoded
-explanations_are_coded net log n names stepped written assumed pieces order network question count run linear =
-    let given = runs_have_steps net (joined pieces) pieces (λ name. false) network run.0 run.1 in
+explanations_are_coded net log n names stepped written assumed word order pieces network question run count cut linear =
+    let given = runs_have_steps net word pieces (λ name. false) network run cut in
     let clauses = subst (λ m. StepClausesHold net m given.0) count given.1 in
     let steps = subst (λ m. AreSteps net m given.0 pieces) count given.2 in
-    let made = log_is_complete net log n given.0 pieces order steps linear in
+    let made = log_is_complete net log n given.0 pieces order steps (subst (λ w. Linearises net log w order) cut.whole linear) in
     coded_from net log n names stepped written assumed pieces network question given.0 made.0 clauses steps made.1 made.2 made.3
 
 pub assignments_explain : AssignmentsExplain

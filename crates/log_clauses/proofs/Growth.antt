@@ -7,7 +7,7 @@ use Rattle.log_clauses.proofs.Lists.{append_left, append_right, here_first, none
 use Rattle.log_clauses.proofs.Open.{log_is_open}
 use Rattle.log_clauses.proofs.Rules.{matching_alarm, is_shown}
 use Rattle.log_clauses.proofs.Stay.{chain_is, known_stays, clause_same, matching_same}
-use Rattle.log_clauses.specs.AdditionLaws.{AdditionsAreExact, EmptyLogIsExact, AdditionsStayOpen}
+use Rattle.log_clauses.specs.AdditionLaws.{ChainsGrow, AdditionsAreExact, EmptyLogIsExact, AdditionsStayOpen}
 use Rattle.log_clauses.specs.Additions.{Addition, alarm_added, pair_added, with_addition, log_after, IsTaken, IsNewLink, IsAlarmClause, IsFirstClause}
 use Rattle.log_clauses.specs.LogClauses.{chain, LogClause, log_clause, IsLogClause, IsLink, chain_closed, takes_rest, uses_up, passes_on, taken_or_passed, not_done_first, stays_done, match_is_done, matched_once, done_by_match, one_match, done_if_asked, before_if_asked}
 use Rattle.log_clauses.specs.LogTruth.{LogClausesHold}
@@ -289,3 +289,6 @@ first_split net n (before_if_asked i j t) h = absurd (none_in_nil (i, j) h.0)
 
 pub empty_log_is_exact : EmptyLogIsExact
 empty_log_is_exact net n which = (first_split net n which, λ h. subst (λ w. IsLogClause net no_log n w) (sym h.4) (h.2, omega arith, h.3))
+
+pub chains_grow : ChainsGrow
+chains_grow net log e = record { by_alarm = λ new. chain_is net log new e; by_pair = λ i j. refl }

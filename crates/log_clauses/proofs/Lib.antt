@@ -3,6 +3,8 @@ pub mod Pieces
 pub mod Open
 pub mod Rules
 pub mod Sound
+pub mod Fronts
+pub mod Blocks
 pub mod Complete
 pub mod Matches
 pub mod Stay

@@ -1,11 +1,12 @@
 -- The names of an addition are new, and few.
 use Rattle.std.proofs.Common.{◌≡◌, ◌≢◌, ℕ, zero, suc, ◌+◌, ◌*◌, ◌<◌, ◌≤◌, Bool, true, false, List, [], ◌∷◌, ◌++◌, ◌∙◌, length, refl, sym, ap, subst, arith, Contains, map, flat_map, filter, inl, inr, ◌⊎◌, is_some, length-append, sum_by}
 use Rattle.std.proofs.lemmas.List.{length-map}
+use Rattle.std.proofs.lemmas.List.Sums.{length-filter}
 use Rattle.std.proofs.lemmas.List.FromFn.{length-range_with_len}
 use Rattle.des_base.specs.Lists.{EachPair}
 use Rattle.des_net.specs.Network.{Net, label_of}
 use Rattle.des_net.specs.QuestionSize.{at_most_one_count}
-use Rattle.log_clauses.proofs.Complete.{range_once}
+use Rattle.log_clauses.proofs.Fronts.{range_once}
 use Rattle.log_clauses.proofs.Drafts.{flat_length, sum_more, same_count, taken_count, longer, taken_is, is_taken}
 use Rattle.log_clauses.proofs.Growth.{length_split, length_end, grown, number_split, match_split, taken}
 use Rattle.log_clauses.proofs.Lists.{flat_has, flat_from, map_has, map_from, number_has, number_from, cons_cases, here_later, none_in_nil, all_of, all_at, append_cases, append_left, append_right, filter_has, filter_from, pairs_filter, pairs_append}
@@ -367,13 +368,17 @@ first_back net n name in' = by (cons_cases asked (map (λ e. closed e 0) (observ
         subst (IsLogName net no_log n) found.2 ((filter_from (λ e. is_some (label_of net e)) (numbers_below (length net.events)) found.0 found.1).0, omega arith)
 
 pub first_names_are_all : FirstNamesAreAll
-first_names_are_all net n = (
-  (
+first_names_are_all net n = record {
+  once = (
     all_of (λ b. asked ≢ b) (map (λ e. closed e 0) (observable_events net)) (λ b in' same. let found = map_from (λ e. closed e 0) (observable_events net) b in' in differ found.0 (same ∙ sym found.2)),
     pairs_map (λ e. closed e 0) (observable_events net) (pairs_filter (λ a b. a ≢ b) (λ e. is_some (label_of net e)) (numbers_below (length net.events)) (range_once 0 (length net.events))) same_event,
-  ),
-  λ name. (first_of net n name, first_back net n name),
-)
+  );
+  all = λ name. (first_of net n name, first_back net n name);
+  few =
+      let size = length-map (observable_events net) (λ e. closed e 0) in
+      let count = length-filter (λ e. is_some (label_of net e)) (numbers_below (length net.events)) in
+      omega (arith, size, count);
+}
   where
     differ : (e : ℕ) → asked ≡ closed e 0 → ⊥
     differ e h = cc

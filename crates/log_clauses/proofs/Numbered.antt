@@ -61,11 +61,11 @@ laid_out_once first (x ∷ xs) once = (
 
 pub names_begin : NamesBegin
 names_begin net n first = record {
-  once = laid_out_once first (first_names net) (first_names_are_all net n).0;
+  once = laid_out_once first (first_names net) (first_names_are_all net n).once;
   below = all_of (λ (entry : ℕ × Name). entry.0 < first + length (first_names net)) (laid_out first (first_names net)) (λ entry in'. (laid_out_from first (first_names net) entry in').2);
   exact = λ name. (
-    λ h. laid_out_in first (first_names net) name (((first_names_are_all net n).1 name).0 h),
-    λ h. ((first_names_are_all net n).1 name).1 (laid_out_from first (first_names net) (h.0, name) h.1).0,
+    λ h. laid_out_in first (first_names net) name (((first_names_are_all net n).all name).0 h),
+    λ h. ((first_names_are_all net n).all name).1 (laid_out_from first (first_names net) (h.0, name) h.1).0,
   );
 }
 

@@ -1,12 +1,22 @@
 -- The clauses of a log grow with it, and none is ever taken back.
-use Rattle.std.specs.Prelude.{◌≡◌, ◌↔◌, ◌⊎◌, ℕ, Bool, List, take}
+use Rattle.std.specs.Prelude.{◌≡◌, ◌↔◌, ◌⊎◌, ℕ, Bool, List, [], ◌∷◌, ◌++◌, filter, length, take}
 use Rattle.des_net.specs.Network.{Net}
-use Rattle.log_order.specs.Log.{Log, no_log}
-use Rattle.log_clauses.specs.Additions.{Addition, with_addition, log_after, IsAddedClause, IsFirstClause}
+use Rattle.log_order.specs.Log.{Log, Alarm, no_log}
+use Rattle.log_clauses.specs.Additions.{Addition, alarm_added, pair_added, with_addition, log_after, IsAddedClause, IsFirstClause}
 use Rattle.log_clauses.specs.Coded.{opened}
-use Rattle.log_clauses.specs.LogClauses.{LogClause, log_clause, IsLogClause}
+use Rattle.log_clauses.specs.LogClauses.{chain, LogClause, log_clause, IsLogClause}
 use Rattle.log_clauses.specs.LogTruth.{LogClausesHold}
 use Rattle.prop_core.specs.VariableNames.{Name}
+use Rattle.replay.specs.QuestionSize.{is_matching}
+
+-- The chain of an event has the new alarm at its end where it may stand for the event, and a pair changes no chain.
+pub record ChainGrows (net : Net) (log : Log) (e : ℕ) : Type 0 where
+  pub by_alarm : (new : Alarm) → chain net (with_addition log (alarm_added new)) e
+      ≡ chain net log e ++ filter (is_matching net (with_addition log (alarm_added new)) e) (length log.alarms ∷ [])
+  pub by_pair : (i j : ℕ) → chain net (with_addition log (pair_added i j)) e ≡ chain net log e
+
+abbrev pub ChainsGrow : Type 0
+ChainsGrow = (net : Net) (log : Log) (e : ℕ) → ChainGrows net log e
 
 -- The clauses of a log with an addition are those of the log before it and those that the addition brings, and the former stay as they are.
 abbrev pub AdditionsAreExact : Type 0

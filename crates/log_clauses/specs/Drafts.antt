@@ -1,7 +1,8 @@
 -- The clauses of an addition to a log as a list, in the order in which loops write them.
-use Rattle.std.specs.Prelude.{ℕ, suc, ◌+◌, ◌*◌, ◌≤◌, List, [], ◌∷◌, ◌++◌, map, flat_map, length}
+use Rattle.std.specs.Prelude.{◌≡◌, ℕ, suc, ◌+◌, ◌*◌, ◌≤◌, List, [], ◌∷◌, ◌++◌, map, flat_map, length}
 use Rattle.std.specs.List.{AllZip}
 use Rattle.des_net.specs.Network.{Net}
+use Rattle.des_net.specs.QuestionSize.{observable_count}
 use Rattle.log_order.specs.Log.{Log, Alarm, no_log}
 use Rattle.log_clauses.specs.Additions.{Addition, alarm_added, pair_added, with_addition}
 use Rattle.log_clauses.specs.LogClauses.{chain, matching_events, observable_events, LogClause, log_clause, chain_closed, takes_rest, uses_up, passes_on, taken_or_passed, not_done_first, stays_done, match_is_done, matched_once, done_by_match, one_match, done_if_asked, before_if_asked}
@@ -59,3 +60,7 @@ DraftsAreCode = (net : Net) (n : ℕ) (names : List (ℕ × Name)) (clauses : Li
 abbrev pub DraftsAreSmall : Type 0
 DraftsAreSmall = (net : Net) (log : Log) (n : ℕ) (addition : Addition) →
     length (added_clauses net log n addition) + 12 * question_size net log n ≤ 12 * question_size net (with_addition log addition) n + 12
+
+-- The empty log has a clause for each event that can be seen, in each step.
+abbrev pub FirstClausesAreFew : Type 0
+FirstClausesAreFew = (net : Net) (n : ℕ) → length (first_clauses net n) ≡ observable_count net * n

@@ -1,12 +1,13 @@
 -- What assignments of variables make the code of a log true: with its guards exactly explanations, and without them every run.
 use Rattle.std.specs.Prelude.{◌≡◌, ℕ, Bool, false, List, length, option_map, unwrap_or}
 use Rattle.des_net.specs.Network.{Net, IsNetwork}
-use Rattle.des_net.specs.Width.{joined}
+use Rattle.des_net.specs.Run.{IsRun}
+use Rattle.des_net.specs.Width.{joined, IsCutInto}
 use Rattle.log_order.specs.Log.{Log, ListsOnce, Keeps, IsValidLog}
 use Rattle.log_clauses.specs.Decoded.{decoded, decoded_order}
 use Rattle.log_clauses.specs.LogClauses.{guard_literals}
 use Rattle.log_clauses.specs.LogCodes.{IsNamedLog}
-use Rattle.log_clauses.specs.LogLaws.{IsArranged}
+use Rattle.log_clauses.specs.LogLaws.{IsArranged, AreMatched}
 use Rattle.log_clauses.specs.LogTruth.{is_of_log}
 use Rattle.prop_core.specs.Clauses.{Clause, AllClausesTrue, AllLiteralsTrue}
 use Rattle.prop_core.specs.NamedClauses.{IsCode, value_by}
@@ -14,7 +15,6 @@ use Rattle.prop_core.specs.VariableNames.{Name, name_of, HasEachOnce, ReadsAs}
 use Rattle.prop_core.specs.declared.lit.Lit.{Lit}
 use Rattle.replay.specs.Explanation.{Linearises, Explains}
 use Rattle.run_clauses.specs.StepCodes.{IsNamedStep}
-use Rattle.run_clauses.specs.StepLaws.{IsRunBy}
 use Rattle.run_clauses.specs.Steps.{AreSteps}
 
 -- by these names, each with one variable, the clauses are those of the log, and what is assumed are its guards
@@ -43,6 +43,8 @@ pub record IsExactLogCode (net : Net) (log : Log) (n : ℕ) (names : List (ℕ �
   -- Where the sets of the steps in some order linearise the log, clauses and guards can be made true by a change of variables of the log alone.
   pub complete : (given : ℕ → Bool) (pieces : List (List ℕ)) (order : List ℕ) → AreSteps net n (value_by names given) pieces → Linearises net log (joined pieces) order →
       (assignment : ℕ → Bool) × DifferInLogVariables names given assignment × MakesLogTrue assignment written assumed
+  -- Alarms and events that happen go together one by one.
+  pub matched : (assignment : ℕ → Bool) → MakesLogTrue assignment written assumed → AreMatched net log n (value_by names assignment)
   -- Whatever events happen, the clauses can be made true by such a change where no guard is assumed.
   pub unguarded : (given : ℕ → Bool) → (assignment : ℕ → Bool) × DifferInLogVariables names given assignment × AllClausesTrue assignment written
 
@@ -63,10 +65,11 @@ pub record MakesQuestionTrue (assignment : ℕ → Bool) (stepped written : List
   pub steps : AllClausesTrue assignment stepped
   pub log_true : MakesLogTrue assignment written assumed
 
--- Each explanation by pieces has an assignment that makes all true, and whose event variables are those of the pieces.
+-- Each explanation, cut into pieces, has an assignment that makes all true, and whose event variables are those of the pieces.
 abbrev pub ExplanationsAreCoded : Type 0
-ExplanationsAreCoded = (net : Net) (log : Log) (n : ℕ) (names : List (ℕ × Name)) (stepped written : List Clause) (assumed : List Lit) (pieces : List (List ℕ)) (order : List ℕ) →
-    IsNetwork net → IsUnboundedQuestion net log n names stepped written assumed → length pieces ≡ n → IsRunBy net pieces → Linearises net log (joined pieces) order →
+ExplanationsAreCoded = (net : Net) (log : Log) (n : ℕ) (names : List (ℕ × Name)) (stepped written : List Clause) (assumed : List Lit) (word order : List ℕ) (pieces : List (List ℕ)) →
+    IsNetwork net → IsUnboundedQuestion net log n names stepped written assumed →
+    IsRun net word → length pieces ≡ n → IsCutInto net word pieces → Linearises net log word order →
     (assignment : ℕ → Bool) × AreSteps net n (value_by names assignment) pieces × MakesQuestionTrue assignment stepped written assumed
 
 -- the pieces and the order that a truth of names gives explain the log, and are its steps

@@ -3,6 +3,7 @@ use Rattle.std.specs.Prelude.{◌≡◌, ◌≢◌, ◌↔◌, ◌⊎◌, ⊤, �
 use Rattle.std.specs.List.{AllByRecursion, AllZip}
 use Rattle.des_base.specs.Lists.{EachPair}
 use Rattle.des_net.specs.Network.{Net, label_of}
+use Rattle.des_net.specs.QuestionSize.{observable_count}
 use Rattle.log_order.specs.Log.{Log, Alarm, no_log}
 use Rattle.log_clauses.specs.Additions.{Addition, alarm_added, pair_added, with_addition}
 use Rattle.log_clauses.specs.Drafts.{taken_events}
@@ -55,8 +56,14 @@ abbrev pub NamesAreFew : Type 0
 NamesAreFew = (net : Net) (log : Log) (n : ℕ) (addition : Addition) →
     length (added_names net log n addition) + variable_bound net log n ≤ variable_bound net (with_addition log addition) n
 
+-- The first names are those of the empty log, each one name: one for each event that can be seen, and one.
+pub record AreFirst (net : Net) (n : ℕ) : Type 0 where
+  pub once : EachPair (λ a b. a ≢ b) (first_names net)
+  pub all : (name : Name) → IsLogName net no_log n name ↔ Contains (first_names net) name
+  pub few : length (first_names net) ≡ 1 + observable_count net
+
 abbrev pub FirstNamesAreAll : Type 0
-FirstNamesAreAll = (net : Net) (n : ℕ) → EachPair (λ a b. a ≢ b) (first_names net) × ((name : Name) → IsLogName net no_log n name ↔ Contains (first_names net) name)
+FirstNamesAreAll = (net : Net) (n : ℕ) → AreFirst net n
 
 -- ---- on variables
 

@@ -1,29 +1,40 @@
-//! The clauses of an alarm log in n parallel steps of a network.
+//! The clauses of an alarm log in n parallel steps of a network, beside those of its runs: each alarm stands for one event
+//! that can be seen, each such event has one alarm, and the first alarm of a pair is done no later than the second.
+//!
+//! Each event has a *chain* of the alarms that may stand for it. In each step it is passed along its chain until one of
+//! them takes it. A log grows at the end of its chains, so that no clause is ever taken back; what ends a chain is a
+//! *guard*, a literal that is assumed for the present log alone.
+//!
+//! It has definitions and laws alone, for the crates that write the clauses and those that read them: with the guards an
+//! assignment of the events extends to the clauses just where the sets of the steps, each written in some order, linearise
+//! the log; without a guard every assignment of the events does.
 #![tactic(auto)]
 
-ghost use Rattle.log_clauses.specs.AdditionLaws.{AdditionsAreExact, AdditionsStayOpen, EmptyLogIsExact};
-ghost use Rattle.log_clauses.specs.Drafts.{DraftsAreCode, DraftsAreSmall};
+ghost use Rattle.log_clauses.specs.AdditionLaws.{AdditionsAreExact, AdditionsStayOpen, ChainsGrow, EmptyLogIsExact};
+ghost use Rattle.log_clauses.specs.Drafts.{DraftsAreCode, DraftsAreSmall, FirstClausesAreFew};
 ghost use Rattle.log_clauses.specs.LogCodeLaws.{AssignmentsExplain, ExplanationsAreCoded, LogCodeIsExact};
 ghost use Rattle.log_clauses.specs.LogCodes.{CodeBegins, CodeGrows, CodesStay, ReadingsStay};
 ghost use Rattle.log_clauses.specs.LogLaws.{EventsAndAlarms, LogIsComplete, LogIsOpen, LogIsSound, MatchesAreExact};
 ghost use Rattle.log_clauses.specs.LogNames.{FirstNamesAreAll, NamesAreFew, NamesAreNew, NamesBegin, NamesGrow, OrderedReads, PlacesOfNames};
 
-/// Without the guards the clauses of logs go with every truth of the events.
-pub fn log_is_open()
-    ensures { LogIsOpen }
-{}
+// ---- what the clauses of a log say, by name
 
-/// What makes clauses and guards of a log true linearises it.
+/// Where clauses and guards are true, the sets of the steps linearise the log.
 pub fn log_is_sound()
     ensures { LogIsSound }
 {}
 
-/// What linearises a log has a truth of the names of the log.
+/// Where the sets of the steps linearise the log, its names have a truth that makes clauses and guards true.
 pub fn log_is_complete()
     ensures { LogIsComplete }
 {}
 
-/// Alarms and events that happen go together one by one.
+/// Without the guards the clauses of all logs go with every truth of the events.
+pub fn log_is_open()
+    ensures { LogIsOpen }
+{}
+
+/// Alarms and events that happen and can be seen go together one by one.
 pub fn matches_are_exact()
     ensures { MatchesAreExact }
 {}
@@ -33,14 +44,16 @@ pub fn events_and_alarms()
     ensures { EventsAndAlarms }
 {}
 
-/// An addition brings exactly its clauses, and changes no earlier one.
-pub fn additions_are_exact()
-    ensures { AdditionsAreExact }
-{}
+// ---- logs that grow
 
 /// The empty log has exactly the first clauses.
 pub fn empty_log_is_exact()
     ensures { EmptyLogIsExact }
+{}
+
+/// An addition brings exactly its clauses, and changes no earlier one.
+pub fn additions_are_exact()
+    ensures { AdditionsAreExact }
 {}
 
 /// The clauses of a log hold with those of all logs that it grew from, and without a guard all of them.
@@ -48,12 +61,19 @@ pub fn additions_stay_open()
     ensures { AdditionsStayOpen }
 {}
 
+/// A new alarm comes to the end of the chains of its events.
+pub fn chains_grow()
+    ensures { ChainsGrow }
+{}
+
+// ---- as code over variables
+
 /// A clause reads the same by more names.
 pub fn readings_stay()
     ensures { ReadingsStay }
 {}
 
-/// Clauses of a family are so by more names.
+/// The code of steps and that of a log are so by more names.
 pub fn codes_stay()
     ensures { CodesStay }
 {}
@@ -63,7 +83,7 @@ pub fn code_begins()
     ensures { CodeBegins }
 {}
 
-/// The code of a log with those of an addition is the code of the log with the addition.
+/// The code of a log with the clauses of an addition is that of the log with the addition.
 pub fn code_grows()
     ensures { CodeGrows }
 {}
@@ -78,6 +98,23 @@ pub fn drafts_are_small()
     ensures { DraftsAreSmall }
 {}
 
+/// So has the empty log.
+pub fn first_clauses_are_few()
+    ensures { FirstClausesAreFew }
+{}
+
+/// What reads literal by literal as a clause reads as that.
+pub fn ordered_reads()
+    ensures { OrderedReads }
+{}
+
+// ---- the names and their variables
+
+/// The first names are those of the empty log.
+pub fn first_names_are_all()
+    ensures { FirstNamesAreAll }
+{}
+
 /// The names of an addition are new, and with them a log has its names.
 pub fn names_are_new()
     ensures { NamesAreNew }
@@ -88,37 +125,29 @@ pub fn names_are_few()
     ensures { NamesAreFew }
 {}
 
-/// The first names are those of the empty log.
-pub fn first_names_are_all()
-    ensures { FirstNamesAreAll }
-{}
-
-/// The first names on fresh variables are the names of the empty log.
+/// The first names, on variables in a row, are the names of the empty log.
 pub fn names_begin()
     ensures { NamesBegin }
 {}
 
-/// The names of a log with those of an addition on fresh variables are the names of the log with the addition.
+/// The names of an addition, on fresh variables in a row, make those of a log the names of the log with the addition.
 pub fn names_grow()
     ensures { NamesGrow }
 {}
 
-/// Where the names of a new alarm stand.
+/// Where the names of a new alarm stand in this row.
 pub fn places_of_names()
     ensures { PlacesOfNames }
 {}
 
-/// What reads literal by literal as a clause reads as that.
-pub fn ordered_reads()
-    ensures { OrderedReads }
-{}
+// ---- what assignments make the code true
 
-/// The code of a log is exact: its three parts.
+/// The code of a log is exact: sound, complete, and open without its guards.
 pub fn log_code_is_exact()
     ensures { LogCodeIsExact }
 {}
 
-/// Each explanation makes the clauses of steps and log and the guards true.
+/// Each explanation makes the clauses of steps and log, and the guards, true.
 pub fn explanations_are_coded()
     ensures { ExplanationsAreCoded }
 {}

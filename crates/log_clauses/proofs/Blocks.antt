@@ -1,0 +1,115 @@
+-- An order of alarms, cut into blocks where the pieces are cut, and what stands at one place of a piece and its block.
+use Rattle.std.proofs.Common.{◌≡◌, ◌≢◌, ℕ, zero, suc, ◌<◌, true, List, [], ◌∷◌, ◌++◌, ◌∙◌, length, refl, sym, ap, subst, arith, Contains, is_some, inl, inr, ◌⊎◌, ◌&&◌, ◌==◌, get_or}
+use Rattle.std.specs.List.{AllZip}
+use Rattle.std.proofs.lemmas.Bool.{eqb-true, eq-eqb}
+use Rattle.std.proofs.lemmas.List.Elements.{filter-append}
+use Rattle.des_base.specs.Lists.{EachPair}
+use Rattle.des_net.specs.Network.{Net, label_of}
+use Rattle.des_net.specs.Width.{joined}
+use Rattle.log_clauses.proofs.Lists.{or_cases, or_left, or_right, both, and_true, cons_cases, here_first, here_later, none_in_nil, all_at}
+use Rattle.log_clauses.specs.Coded.{is_paired}
+use Rattle.log_order.specs.Log.{Log}
+use Rattle.replay.specs.Explanation.{observables, Shows}
+
+-- An order of the events of pieces, cut where the pieces are cut.
+pub cut_zip : (R : ℕ → ℕ → Type 0) (xs ys zs : List ℕ) → AllZip R (xs ++ ys) zs → (front : List ℕ) × (rest : List ℕ) × (zs ≡ front ++ rest) × AllZip R xs front × AllZip R ys rest
+cut_zip R [] ys zs h = ([], zs, refl, tt, h)
+cut_zip R (x ∷ xs) ys [] h = absurd h
+cut_zip R (x ∷ xs) ys (z ∷ zs) h = let rest = cut_zip R xs ys zs h.1 in (z ∷ rest.0, rest.1, ap (λ ws. z ∷ ws) rest.2, (h.0, rest.3), rest.4)
+
+pub record Blocks (net : Net) (log : Log) (pieces : List (List ℕ)) (order : List ℕ) : Type 0 where
+  pub blocks : List (List ℕ)
+  pub whole : order ≡ joined blocks
+  pub matched : AllZip (λ piece block. AllZip (Shows net log) (observables net piece) block) pieces blocks
+
+pub cut_order : (net : Net) (log : Log) (pieces : List (List ℕ)) (order : List ℕ) → AllZip (Shows net log) (observables net (joined pieces)) order → Blocks net log pieces order
+cut_order net log [] [] h = record { blocks = []; whole = refl; matched = tt }
+cut_order net log [] (i ∷ order) h = absurd h
+cut_order net log (piece ∷ pieces) order h =
+    let shown = subst (λ xs. AllZip (Shows net log) xs order) (filter-append (λ e. is_some (label_of net e)) piece (joined pieces)) h in
+    let cut = cut_zip (Shows net log) (observables net piece) (observables net (joined pieces)) order shown in
+    let rest = cut_order net log pieces cut.1 cut.4 in
+    record { blocks = cut.0 ∷ rest.blocks; whole = cut.2 ∙ ap (λ xs. cut.0 ++ xs) rest.whole; matched = (cut.3, rest.matched) }
+
+pub blocks_length : (R : List ℕ → List ℕ → Type 0) (xs ys : List (List ℕ)) → AllZip R xs ys → length xs ≡ length ys
+blocks_length R [] [] h = refl
+blocks_length R [] (y ∷ ys) h = absurd h
+blocks_length R (x ∷ xs) [] h = absurd h
+blocks_length R (x ∷ xs) (y ∷ ys) h = ap suc (blocks_length R xs ys h.1)
+
+pub block_at : (R : List ℕ → List ℕ → Type 0) (xs ys : List (List ℕ)) (t : ℕ) → AllZip R xs ys → t < length xs → R (get_or xs t []) (get_or ys t [])
+block_at R [] ys t h less = absurd (omega arith)
+block_at R (x ∷ xs) [] t h less = absurd h
+block_at R (x ∷ xs) (y ∷ ys) zero h less = h.0
+block_at R (x ∷ xs) (y ∷ ys) (suc t) h less = block_at R xs ys t h.1 (omega arith)
+
+-- What is paired.
+pub paired : (R : ℕ → ℕ → Type 0) (e i : ℕ) (xs js : List ℕ) → AllZip R xs js → is_paired e i xs js ≡ true → R e i × Contains xs e × Contains js i
+paired R e i [] js zip h = cc
+paired R e i (x ∷ xs) [] zip h = cc
+paired R e i (x ∷ xs) (j ∷ js) zip h = by (or_cases ((x == e) && (j == i)) (is_paired e i xs js) h) (paired R e i xs js zip.1)
+  where
+    by : ((x == e) && (j == i) ≡ true) ⊎ (is_paired e i xs js ≡ true) → (is_paired e i xs js ≡ true → R e i × Contains xs e × Contains js i) → R e i × Contains (x ∷ xs) e × Contains (j ∷ js) i
+    by (inl here) later =
+        let parts = both (x == e) (j == i) here in
+        let a = eqb-true x e parts.0 in
+        let b = eqb-true j i parts.1 in
+        (subst (λ k. R e k) b (subst (λ y. R y j) a zip.0), here_first x xs e a, here_first j js i b)
+    by (inr rest) later = let found' = later rest in (found'.0, here_later x xs e found'.1, here_later j js i found'.2)
+
+pub pair_here : (e i : ℕ) (xs js : List ℕ) → is_paired e i (e ∷ xs) (i ∷ js) ≡ true
+pair_here e i xs js = or_left ((e == e) && (i == i)) (is_paired e i xs js) (and_true (e == e) (i == i) (eq-eqb e e refl) (eq-eqb i i refl))
+
+pub partner : (R : ℕ → ℕ → Type 0) (e : ℕ) (xs js : List ℕ) → AllZip R xs js → Contains xs e → (i : ℕ) × (is_paired e i xs js ≡ true)
+partner R e [] js zip in' = absurd (none_in_nil e in')
+partner R e (x ∷ xs) [] zip in' = absurd zip
+partner R e (x ∷ xs) (j ∷ js) zip in' = by (cons_cases x xs e in') (partner R e xs js zip.1)
+  where
+    by : (x ≡ e) ⊎ Contains xs e → (Contains xs e → (i : ℕ) × (is_paired e i xs js ≡ true)) → (i : ℕ) × (is_paired e i (x ∷ xs) (j ∷ js) ≡ true)
+    by (inl is) later = (j, subst (λ y. is_paired e j (y ∷ xs) (j ∷ js) ≡ true) (sym is) (pair_here e j xs js))
+    by (inr rest) later = let found' = later rest in (found'.0, or_right ((x == e) && (j == found'.0)) (is_paired e found'.0 xs js) found'.1)
+
+pub partner_back : (R : ℕ → ℕ → Type 0) (i : ℕ) (xs js : List ℕ) → AllZip R xs js → Contains js i → (e : ℕ) × (is_paired e i xs js ≡ true)
+partner_back R i [] [] zip in' = absurd (none_in_nil i in')
+partner_back R i [] (j ∷ js) zip in' = absurd zip
+partner_back R i (x ∷ xs) [] zip in' = absurd zip
+partner_back R i (x ∷ xs) (j ∷ js) zip in' = by (cons_cases j js i in') (partner_back R i xs js zip.1)
+  where
+    by : (j ≡ i) ⊎ Contains js i → (Contains js i → (e : ℕ) × (is_paired e i xs js ≡ true)) → (e : ℕ) × (is_paired e i (x ∷ xs) (j ∷ js) ≡ true)
+    by (inl is) later = (x, subst (λ k. is_paired x i (x ∷ xs) (k ∷ js) ≡ true) (sym is) (pair_here x i xs js))
+    by (inr rest) later = let found' = later rest in (found'.0, or_right ((x == found'.0) && (j == i)) (is_paired found'.0 i xs js) found'.1)
+
+pub paired_in : (e i : ℕ) (xs js : List ℕ) → is_paired e i xs js ≡ true → Contains xs e × Contains js i
+paired_in e i [] js h = cc
+paired_in e i (x ∷ xs) [] h = cc
+paired_in e i (x ∷ xs) (j ∷ js) h = by (or_cases ((x == e) && (j == i)) (is_paired e i xs js) h) (paired_in e i xs js)
+  where
+    by : ((x == e) && (j == i) ≡ true) ⊎ (is_paired e i xs js ≡ true) → (is_paired e i xs js ≡ true → Contains xs e × Contains js i) → Contains (x ∷ xs) e × Contains (j ∷ js) i
+    by (inl here) later =
+        let parts = both (x == e) (j == i) here in
+        (here_first x xs e (eqb-true x e parts.0), here_first j js i (eqb-true j i parts.1))
+    by (inr rest) later = let found' = later rest in (here_later x xs e found'.0, here_later j js i found'.1)
+
+pub same_alarm : (e i k : ℕ) (xs js : List ℕ) → EachPair (λ a b. a ≢ b) xs → is_paired e i xs js ≡ true → is_paired e k xs js ≡ true → i ≡ k
+same_alarm e i k [] js once h l = cc
+same_alarm e i k (x ∷ xs) [] once h l = cc
+same_alarm e i k (x ∷ xs) (j ∷ js) once h l =
+    by (or_cases ((x == e) && (j == i)) (is_paired e i xs js) h) (or_cases ((x == e) && (j == k)) (is_paired e k xs js) l) (same_alarm e i k xs js once.1)
+  where
+    by : ((x == e) && (j == i) ≡ true) ⊎ (is_paired e i xs js ≡ true) → ((x == e) && (j == k) ≡ true) ⊎ (is_paired e k xs js ≡ true) → (is_paired e i xs js ≡ true → is_paired e k xs js ≡ true → i ≡ k) → i ≡ k
+    by (inl a) (inl b) later = sym (eqb-true j i (both (x == e) (j == i) a).1) ∙ eqb-true j k (both (x == e) (j == k) b).1
+    by (inl a) (inr b) later = absurd (all_at (λ y. x ≢ y) xs once.0 e (paired_in e k xs js b).0 (eqb-true x e (both (x == e) (j == i) a).0))
+    by (inr a) (inl b) later = absurd (all_at (λ y. x ≢ y) xs once.0 e (paired_in e i xs js a).0 (eqb-true x e (both (x == e) (j == k) b).0))
+    by (inr a) (inr b) later = later a b
+
+pub same_event : (e f i : ℕ) (xs js : List ℕ) → EachPair (λ a b. a ≢ b) js → is_paired e i xs js ≡ true → is_paired f i xs js ≡ true → e ≡ f
+same_event e f i [] js once h l = cc
+same_event e f i (x ∷ xs) [] once h l = cc
+same_event e f i (x ∷ xs) (j ∷ js) once h l =
+    by (or_cases ((x == e) && (j == i)) (is_paired e i xs js) h) (or_cases ((x == f) && (j == i)) (is_paired f i xs js) l) (same_event e f i xs js once.1)
+  where
+    by : ((x == e) && (j == i) ≡ true) ⊎ (is_paired e i xs js ≡ true) → ((x == f) && (j == i) ≡ true) ⊎ (is_paired f i xs js ≡ true) → (is_paired e i xs js ≡ true → is_paired f i xs js ≡ true → e ≡ f) → e ≡ f
+    by (inl a) (inl b) later = sym (eqb-true x e (both (x == e) (j == i) a).0) ∙ eqb-true x f (both (x == f) (j == i) b).0
+    by (inl a) (inr b) later = absurd (all_at (λ y. j ≢ y) js once.0 i (paired_in f i xs js b).1 (eqb-true j i (both (x == e) (j == i) a).1))
+    by (inr a) (inl b) later = absurd (all_at (λ y. j ≢ y) js once.0 i (paired_in e i xs js a).1 (eqb-true j i (both (x == f) (j == i) b).1))
+    by (inr a) (inr b) later = later a b
