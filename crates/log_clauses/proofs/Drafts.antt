@@ -1,8 +1,7 @@
 -- The listed clauses of an addition are those that it brings.
-use Rattle.std.proofs.Common.{◌≡◌, ℕ, zero, suc, ◌+◌, ◌*◌, ◌^◌, ◌<◌, ◌≤◌, Bool, true, List, [], ◌∷◌, ◌++◌, ◌∙◌, length, refl, sym, ap, subst, arith, Contains, map, flat_map, filter, inl, inr, ◌⊎◌, ◌↔◌, is_some, count_by, length-append, sum_by, get_or}
+use Rattle.std.proofs.Common.{◌≡◌, ℕ, zero, suc, ◌+◌, ◌*◌, ◌^◌, ◌<◌, ◌≤◌, Bool, true, List, [], ◌∷◌, ◌++◌, ◌∙◌, length, refl, sym, ap, subst, arith, Contains, map, flat_map, filter, inl, inr, ◌⊎◌, ◌↔◌, is_some, count_by, length-append, sum_by}
 use Rattle.std.specs.List.{AllByRecursion, AllZip, range_with_len}
 use Rattle.std.proofs.lemmas.List.{length-map}
-use Rattle.std.proofs.lemmas.List.Elements.{Contains-get_or}
 use Rattle.std.proofs.lemmas.List.Sums.{length-filter, sum_by-append, sum_by-cons}
 use Rattle.std.proofs.lemmas.List.FromFn.{length-range_with_len}
 use Rattle.std.proofs.Math.Nat.{mul-le-mul_left, pow-succ', pow-zero}
@@ -11,7 +10,7 @@ use Rattle.des_net.specs.Network.{Net, label_of}
 use Rattle.des_net.specs.QuestionSize.{touching_count, fault_event_count}
 use Rattle.log_clauses.proofs.Lists.{flat_has, flat_from, map_has, map_from, number_has, number_from, cons_cases, here_first, here_later, none_in_nil, all_of, all_at, append_cases, append_left, append_right, filter_has, filter_from, range_from, pairs_filter}
 use Rattle.log_clauses.proofs.Rules.{has_event, event_matches, shown_event}
-use Rattle.log_clauses.proofs.Stay.{range_more, matching_same}
+use Rattle.log_clauses.proofs.Stay.{with_alarm, with_pair, range_more, matching_same}
 use Rattle.log_clauses.specs.Additions.{Addition, alarm_added, pair_added, with_addition, IsTaken, IsAlarmClause, IsAddedClause, IsFirstClause}
 use Rattle.log_clauses.specs.Drafts.{taken_events, link_clauses, match_clauses, done_clauses, alarm_clauses, added_clauses, first_clauses, DraftsAreCode, DraftsAreSmall, FirstClausesAreFew}
 use Rattle.log_clauses.specs.LogClauses.{chain, observable_events, LogClause, log_clause, chain_closed, takes_rest, uses_up, passes_on, taken_or_passed, not_done_first, stays_done, match_is_done, matched_once, done_by_match, one_match, done_if_asked, before_if_asked, IsStepNumber}
@@ -80,16 +79,13 @@ match_has i t (x ∷ events) e f up in' in2 less = by (cons_cases x events e in'
 
 module _ (net : Net) (log : Log) (n : ℕ) (new : Alarm) where
   up : EachPair (λ e f. e < f) (taken_events net log new)
-  up = pairs_filter (λ e f. e < f) (λ e. is_matching net (record log { alarms = log.alarms ++ new ∷ [] }) e (length log.alarms)) (numbers_below (length net.events)) (range_up 0 (length net.events))
+  up = pairs_filter (λ e f. e < f) (λ e. is_matching net (with_alarm log new) e (length log.alarms)) (numbers_below (length net.events)) (range_up 0 (length net.events))
 
   pub taken_is : (e : ℕ) → Contains (taken_events net log new) e → IsTaken net log new e
-  taken_is e in' = event_matches net (record log { alarms = log.alarms ++ new ∷ [] }) e (length log.alarms) in'
+  taken_is e in' = event_matches net (with_alarm log new) e (length log.alarms) in'
 
   pub is_taken : (e : ℕ) → IsTaken net log new e → Contains (taken_events net log new) e
-  is_taken e h = has_event net (record log { alarms = log.alarms ++ new ∷ [] }) e (length log.alarms) h
-
-  links : ℕ → List LogClause
-  links e = flat_map (link_clauses (length log.alarms) e (length (chain net log e))) (numbers_below n)
+  is_taken e h = has_event net (with_alarm log new) e (length log.alarms) h
 
   link_wanted : (e t : ℕ) → IsTaken net log new e → t < n → AllByRecursion (IsAlarmClause net log n new) (link_clauses (length log.alarms) e (length (chain net log e)) t)
   link_wanted e t taken step = (
@@ -111,9 +107,6 @@ module _ (net : Net) (log : Log) (n : ℕ) (new : Alarm) where
       by (append_cases (flat_map (λ e. flat_map (link_clauses (length log.alarms) e (length (chain net log e))) (numbers_below n)) (taken_events net log new))
       (not_done_first (length log.alarms) ∷ done_if_asked (length log.alarms) ∷ flat_map (done_clauses (length log.alarms) (taken_events net log new)) (numbers_below n)) which in')
     where
-      wanted : LogClause → Type 0
-      wanted w = IsAlarmClause net log n new w
-
       in_step : (t : ℕ) → t < n → Contains (done_clauses (length log.alarms) (taken_events net log new) t) which → IsAlarmClause net log n new which
       in_step t step here = first (cons_cases (stays_done (length log.alarms) t) (done_by_match (length log.alarms) t ∷ match_clauses (length log.alarms) t (taken_events net log new)) which here)
         where
@@ -165,9 +158,6 @@ module _ (net : Net) (log : Log) (n : ℕ) (new : Alarm) where
       in_rest which (here_later (not_done_first (length log.alarms)) (done_if_asked (length log.alarms) ∷ flat_map (done_clauses (length log.alarms) (taken_events net log new)) (numbers_below n)) which
       (here_later (done_if_asked (length log.alarms)) (flat_map (done_clauses (length log.alarms) (taken_events net log new)) (numbers_below n)) which
       (flat_has (done_clauses (length log.alarms) (taken_events net log new)) (numbers_below n) t which (number_has n t step) there)))
-
-  at_place : (xs : List LogClause) (k : ℕ) (d : LogClause) → k < length xs → Contains xs (get_or xs k d)
-  at_place xs k d h = Contains-get_or xs k d h
 
   wanted_listed : (which : LogClause) → IsAlarmClause net log n new which → Contains (alarm_clauses net log n new) which
   wanted_listed (chain_closed e k zero) h = absurd (omega (arith, h.2.0))
@@ -295,12 +285,12 @@ square_is m = pow-succ' m 1 ∙ ap (λ k. m * k) (pow-succ' m 0 ∙ one m)
 
 module _ (net : Net) (log : Log) (n : ℕ) (new : Alarm) where
   count : ℕ
-  count = matching_count net (record log { alarms = log.alarms ++ new ∷ [] }) (length log.alarms)
+  count = matching_count net (with_alarm log new) (length log.alarms)
 
-  pub taken_count : length (taken_events net log new) ≡ matching_count net (record log { alarms = log.alarms ++ new ∷ [] }) (length log.alarms)
-  taken_count = length-filter (λ e. is_matching net (record log { alarms = log.alarms ++ new ∷ [] }) e (length log.alarms)) (numbers_below (length net.events))
+  pub taken_count : length (taken_events net log new) ≡ matching_count net (with_alarm log new) (length log.alarms)
+  taken_count = length-filter (λ e. is_matching net (with_alarm log new) e (length log.alarms)) (numbers_below (length net.events))
 
-  pub same_count : (i : ℕ) → i < length log.alarms → matching_count net (record log { alarms = log.alarms ++ new ∷ [] }) i ≡ matching_count net log i
+  pub same_count : (i : ℕ) → i < length log.alarms → matching_count net (with_alarm log new) i ≡ matching_count net log i
   same_count i h = ap (λ (p : ℕ → Bool). count_by p (numbers_below (length net.events))) (λ j e. matching_same net log new e i h j)
 
   alarm_size : length (alarm_clauses net log n new) ≡ length (taken_events net log new) * (n * 7) + (2 + n * (2 + length (match_clauses (length log.alarms) 0 (taken_events net log new))))
@@ -315,13 +305,13 @@ module _ (net : Net) (log : Log) (n : ℕ) (new : Alarm) where
       (not_done_first (length log.alarms) ∷ done_if_asked (length log.alarms) ∷ flat_map (done_clauses (length log.alarms) (taken_events net log new)) (numbers_below n)) in
       omega (arith, range, front, back, whole, moved)
 
-  few : length (alarm_clauses net log n new) ≤ 12 * (n * (matching_count net (record log { alarms = log.alarms ++ new ∷ [] }) (length log.alarms) ^ 2 + 1)) + 12
+  few : length (alarm_clauses net log n new) ≤ 12 * (n * (matching_count net (with_alarm log new) (length log.alarms) ^ 2 + 1)) + 12
   few =
       let size = alarm_size in
       let pairs = match_size (length log.alarms) 0 (taken_events net log new) in
       let bound = few_clauses n (length (taken_events net log new)) (length (match_clauses (length log.alarms) 0 (taken_events net log new))) pairs in
       let squares = square_is (length (taken_events net log new)) in
-      let same : length (taken_events net log new) * length (taken_events net log new) + 1 ≡ matching_count net (record log { alarms = log.alarms ++ new ∷ [] }) (length log.alarms) ^ 2 + 1 =
+      let same : length (taken_events net log new) * length (taken_events net log new) + 1 ≡ matching_count net (with_alarm log new) (length log.alarms) ^ 2 + 1 =
       ap (λ k. k + 1) (sym squares ∙ ap (λ k. k ^ 2) taken_count) in
       let moved = ap (λ k. 12 * (n * k) + 12) same in
       omega (arith, size, bound, moved)
@@ -329,21 +319,20 @@ module _ (net : Net) (log : Log) (n : ℕ) (new : Alarm) where
   pub longer : length (log.alarms ++ new ∷ []) ≡ suc (length log.alarms)
   longer = omega (arith, length-append log.alarms (new ∷ []))
 
-  pub alarm_small : length (alarm_clauses net log n new) + 12 * question_size net log n ≤ 12 * question_size net (record log { alarms = log.alarms ++ new ∷ [] }) n + 12
+  pub alarm_small : length (alarm_clauses net log n new) + 12 * question_size net log n ≤ 12 * question_size net (with_alarm log new) n + 12
   alarm_small =
-      let g : ℕ → ℕ = λ i. matching_count net (record log { alarms = log.alarms ++ new ∷ [] }) i ^ 2 + 1 in
-      let sum : sum_by (λ i. matching_count net (record log { alarms = log.alarms ++ new ∷ [] }) i ^ 2 + 1) (numbers_below (length (log.alarms ++ new ∷ []))) ≡
-      sum_by (λ i. matching_count net log i ^ 2 + 1) (numbers_below (length log.alarms)) + (matching_count net (record log { alarms = log.alarms ++ new ∷ [] }) (length log.alarms) ^ 2 + 1) =
-      ap (λ k. sum_by (λ i. matching_count net (record log { alarms = log.alarms ++ new ∷ [] }) i ^ 2 + 1) (numbers_below k)) longer
-      ∙ sum_more (λ i. matching_count net (record log { alarms = log.alarms ++ new ∷ [] }) i ^ 2 + 1) (λ i. matching_count net log i ^ 2 + 1) (length log.alarms) (λ i h. ap (λ k. k ^ 2 + 1) (same_count i h)) in
+      let sum : sum_by (λ i. matching_count net (with_alarm log new) i ^ 2 + 1) (numbers_below (length (log.alarms ++ new ∷ []))) ≡
+      sum_by (λ i. matching_count net log i ^ 2 + 1) (numbers_below (length log.alarms)) + (matching_count net (with_alarm log new) (length log.alarms) ^ 2 + 1) =
+      ap (λ k. sum_by (λ i. matching_count net (with_alarm log new) i ^ 2 + 1) (numbers_below k)) longer
+      ∙ sum_more (λ i. matching_count net (with_alarm log new) i ^ 2 + 1) (λ i. matching_count net log i ^ 2 + 1) (length log.alarms) (λ i h. ap (λ k. k ^ 2 + 1) (same_count i h)) in
       rw sum (grows n (sum_by (λ c. (state_count net c + touching_count net c) ^ 2) (numbers_below (length net.components)))
       (sum_by (λ i. matching_count net log i ^ 2 + 1) (numbers_below (length log.alarms))) (length log.pairs)
-      (matching_count net (record log { alarms = log.alarms ++ new ∷ [] }) (length log.alarms) ^ 2 + 1) (256 * n * fault_event_count net) (length (alarm_clauses net log n new)) few)
+      (matching_count net (with_alarm log new) (length log.alarms) ^ 2 + 1) (256 * n * fault_event_count net) (length (alarm_clauses net log n new)) few)
 
 pair_grows : (n q s r f a : ℕ) → a ≤ n → a + 12 * (n * (q + s + r) + f) ≤ 12 * (n * (q + s + (r + 1)) + f) + 12
 pair_grows n q s r f a h = omega arith
 
-pub pair_small : (net : Net) (log : Log) (n i j : ℕ) → length (map (λ t. before_if_asked i j t) (numbers_below n)) + 12 * question_size net log n ≤ 12 * question_size net (record log { pairs = log.pairs ++ (i, j) ∷ [] }) n + 12
+pub pair_small : (net : Net) (log : Log) (n i j : ℕ) → length (map (λ t. before_if_asked i j t) (numbers_below n)) + 12 * question_size net log n ≤ 12 * question_size net (with_pair log i j) n + 12
 pair_small net log n i j =
     let size = length-map (numbers_below n) (λ t. before_if_asked i j t) in
     let range = length-range_with_len 0 n in

@@ -6,7 +6,7 @@ use Rattle.des_net.specs.Network.{Net}
 use Rattle.log_clauses.proofs.Lists.{append_left, append_right, here_first, none_in_nil}
 use Rattle.log_clauses.proofs.Open.{log_is_open}
 use Rattle.log_clauses.proofs.Rules.{matching_alarm, is_shown}
-use Rattle.log_clauses.proofs.Stay.{chain_is, known_stays, clause_same, matching_same}
+use Rattle.log_clauses.proofs.Stay.{with_alarm, with_pair, chain_is, known_stays, clause_same, matching_same}
 use Rattle.log_clauses.specs.AdditionLaws.{ChainsGrow, AdditionsAreExact, EmptyLogIsExact, AdditionsStayOpen}
 use Rattle.log_clauses.specs.Additions.{Addition, alarm_added, pair_added, with_addition, log_after, IsTaken, IsNewLink, IsAlarmClause, IsFirstClause}
 use Rattle.log_clauses.specs.LogClauses.{chain, LogClause, log_clause, IsLogClause, IsLink, chain_closed, takes_rest, uses_up, passes_on, taken_or_passed, not_done_first, stays_done, match_is_done, matched_once, done_by_match, one_match, done_if_asked, before_if_asked}
@@ -51,22 +51,22 @@ length_end [] p y h = rw h refl
 length_end (z ∷ xs) p y h = ap suc (length_end xs p y h)
 
 module _ (net : Net) (log : Log) (n : ℕ) (new : Alarm) where
-  pub grown : (e : ℕ) → chain net (record log { alarms = log.alarms ++ new ∷ [] }) e ≡ chain net log e ++ filter (is_matching net (record log { alarms = log.alarms ++ new ∷ [] }) e) (length log.alarms ∷ [])
+  pub grown : (e : ℕ) → chain net (with_alarm log new) e ≡ chain net log e ++ filter (is_matching net (with_alarm log new) e) (length log.alarms ∷ [])
   grown e = chain_is net log new e
 
-  link_split : (i e k : ℕ) → IsLink net (record log { alarms = log.alarms ++ new ∷ [] }) i e k → IsLink net log i e k ⊎ IsNewLink net log new i e k
-  link_split i e k h = by (got_split (chain net log e) (is_matching net (record log { alarms = log.alarms ++ new ∷ [] }) e) (length log.alarms) k i (subst (λ xs. slice_get xs k ≡ Some i) (grown e) h))
+  link_split : (i e k : ℕ) → IsLink net (with_alarm log new) i e k → IsLink net log i e k ⊎ IsNewLink net log new i e k
+  link_split i e k h = by (got_split (chain net log e) (is_matching net (with_alarm log new) e) (length log.alarms) k i (subst (λ xs. slice_get xs k ≡ Some i) (grown e) h))
     where
-      by : (slice_get (chain net log e) k ≡ Some i) ⊎ ((k ≡ length (chain net log e)) × (i ≡ length log.alarms) × (is_matching net (record log { alarms = log.alarms ++ new ∷ [] }) e (length log.alarms) ≡ true)) →
+      by : (slice_get (chain net log e) k ≡ Some i) ⊎ ((k ≡ length (chain net log e)) × (i ≡ length log.alarms) × (is_matching net (with_alarm log new) e (length log.alarms) ≡ true)) →
           IsLink net log i e k ⊎ IsNewLink net log new i e k
       by (inl a) = inl a
       by (inr b) = inr (b.1, b.0, b.2)
 
-  link_new : (i e k : ℕ) → IsNewLink net log new i e k → IsLink net (record log { alarms = log.alarms ++ new ∷ [] }) i e k
+  link_new : (i e k : ℕ) → IsNewLink net log new i e k → IsLink net (with_alarm log new) i e k
   link_new i e k h =
-      subst (λ x. slice_get (chain net (record log { alarms = log.alarms ++ new ∷ [] }) e) k ≡ Some x) (sym h.0)
-      (subst (λ x. slice_get (chain net (record log { alarms = log.alarms ++ new ∷ [] }) e) x ≡ Some (length log.alarms)) (sym h.1)
-      (subst (λ xs. slice_get xs (length (chain net log e)) ≡ Some (length log.alarms)) (sym (grown e)) (got_end (chain net log e) (is_matching net (record log { alarms = log.alarms ++ new ∷ [] }) e) (length log.alarms) h.2)))
+      subst (λ x. slice_get (chain net (with_alarm log new) e) k ≡ Some x) (sym h.0)
+      (subst (λ x. slice_get (chain net (with_alarm log new) e) x ≡ Some (length log.alarms)) (sym h.1)
+      (subst (λ xs. slice_get xs (length (chain net log e)) ≡ Some (length log.alarms)) (sym (grown e)) (got_end (chain net log e) (is_matching net (with_alarm log new) e) (length log.alarms) h.2)))
 
   longer : length (log.alarms ++ new ∷ []) ≡ suc (length log.alarms)
   longer = omega (arith, length-append log.alarms (new ∷ []))
@@ -81,36 +81,33 @@ module _ (net : Net) (log : Log) (n : ℕ) (new : Alarm) where
   pub number_new : (i : ℕ) → i ≡ length log.alarms → i < length (log.alarms ++ new ∷ [])
   number_new i h = omega (arith, longer)
 
-  pub match_split : (e i : ℕ) → is_matching net (record log { alarms = log.alarms ++ new ∷ [] }) e i ≡ true → (is_matching net log e i ≡ true) ⊎ (i ≡ length log.alarms)
-  match_split e i h = by (number_split i (matching_alarm net (record log { alarms = log.alarms ++ new ∷ [] }) e i h))
+  pub match_split : (e i : ℕ) → is_matching net (with_alarm log new) e i ≡ true → (is_matching net log e i ≡ true) ⊎ (i ≡ length log.alarms)
+  match_split e i h = by (number_split i (matching_alarm net (with_alarm log new) e i h))
     where
       by : (i < length log.alarms) ⊎ (i ≡ length log.alarms) → (is_matching net log e i ≡ true) ⊎ (i ≡ length log.alarms)
       by (inl a) = inl (sym (matching_same net log new e i a) ∙ h)
       by (inr b) = inr b
 
-  pub taken : (e i : ℕ) → i ≡ length log.alarms → is_matching net (record log { alarms = log.alarms ++ new ∷ [] }) e i ≡ true → IsTaken net log new e
-  taken e i is h = subst (λ x. is_matching net (record log { alarms = log.alarms ++ new ∷ [] }) e x ≡ true) is h
+  pub taken : (e i : ℕ) → i ≡ length log.alarms → is_matching net (with_alarm log new) e i ≡ true → IsTaken net log new e
+  taken e i is h = subst (λ x. is_matching net (with_alarm log new) e x ≡ true) is h
 
-  pub taken_back : (e i : ℕ) → i ≡ length log.alarms → IsTaken net log new e → is_matching net (record log { alarms = log.alarms ++ new ∷ [] }) e i ≡ true
-  taken_back e i is h = subst (λ x. is_matching net (record log { alarms = log.alarms ++ new ∷ [] }) e x ≡ true) (sym is) h
+  pub taken_back : (e i : ℕ) → i ≡ length log.alarms → IsTaken net log new e → is_matching net (with_alarm log new) e i ≡ true
+  taken_back e i is h = subst (λ x. is_matching net (with_alarm log new) e x ≡ true) (sym is) h
 
-  alarm_split : (which : LogClause) → IsLogClause net (record log { alarms = log.alarms ++ new ∷ [] }) n which → IsLogClause net log n which ⊎ IsAlarmClause net log n new which
+  alarm_split : (which : LogClause) → IsLogClause net (with_alarm log new) n which → IsLogClause net log n which ⊎ IsAlarmClause net log n new which
   alarm_split (chain_closed e k t) h =
-      by (length_split (chain net log e) (is_matching net (record log { alarms = log.alarms ++ new ∷ [] }) e) (length log.alarms))
+      by (length_split (chain net log e) (is_matching net (with_alarm log new) e) (length log.alarms))
     where
-      m : List ℕ
-      m = chain net log e
-
-      by : ((j : ℕ) → j < length (chain net log e ++ filter (is_matching net (record log { alarms = log.alarms ++ new ∷ [] }) e) (length log.alarms ∷ [])) → (j < length (chain net log e)) ⊎ ((j ≡ length (chain net log e)) × (is_matching net (record log { alarms = log.alarms ++ new ∷ [] }) e (length log.alarms) ≡ true))) →
+      by : ((j : ℕ) → j < length (chain net log e ++ filter (is_matching net (with_alarm log new) e) (length log.alarms ∷ [])) → (j < length (chain net log e)) ⊎ ((j ≡ length (chain net log e)) × (is_matching net (with_alarm log new) e (length log.alarms) ≡ true))) →
           IsLogClause net log n (chain_closed e k t) ⊎ IsAlarmClause net log n new (chain_closed e k t)
       by split = at k (subst (λ xs. k ≤ length xs) (grown e) h.1)
         where
-          at : (k' : ℕ) → k' ≤ length (chain net log e ++ filter (is_matching net (record log { alarms = log.alarms ++ new ∷ [] }) e) (length log.alarms ∷ [])) →
+          at : (k' : ℕ) → k' ≤ length (chain net log e ++ filter (is_matching net (with_alarm log new) e) (length log.alarms ∷ [])) →
               IsLogClause net log n (chain_closed e k' t) ⊎ IsAlarmClause net log n new (chain_closed e k' t)
           at zero low = inl (h.0, omega arith, h.2)
           at (suc j) low = go (split j (omega (arith, low)))
             where
-              go : (j < length (chain net log e)) ⊎ ((j ≡ length (chain net log e)) × (is_matching net (record log { alarms = log.alarms ++ new ∷ [] }) e (length log.alarms) ≡ true)) →
+              go : (j < length (chain net log e)) ⊎ ((j ≡ length (chain net log e)) × (is_matching net (with_alarm log new) e (length log.alarms) ≡ true)) →
                   IsLogClause net log n (chain_closed e (suc j) t) ⊎ IsAlarmClause net log n new (chain_closed e (suc j) t)
               go (inl a) = inl (h.0, omega arith, h.2)
               go (inr b) = inr (ap suc b.0, b.1, h.2)
@@ -124,9 +121,9 @@ module _ (net : Net) (log : Log) (n : ℕ) (new : Alarm) where
       by : IsLink net log i e k ⊎ IsNewLink net log new i e k → IsLogClause net log n (uses_up i e k t) ⊎ IsAlarmClause net log n new (uses_up i e k t)
       by (inl a) = inl (a, h.1)
       by (inr b) = inr (b, h.1)
-  alarm_split (passes_on e k t) h = by (length_split (chain net log e) (is_matching net (record log { alarms = log.alarms ++ new ∷ [] }) e) (length log.alarms) k (subst (λ xs. k < length xs) (grown e) h.0))
+  alarm_split (passes_on e k t) h = by (length_split (chain net log e) (is_matching net (with_alarm log new) e) (length log.alarms) k (subst (λ xs. k < length xs) (grown e) h.0))
     where
-      by : (k < length (chain net log e)) ⊎ ((k ≡ length (chain net log e)) × (is_matching net (record log { alarms = log.alarms ++ new ∷ [] }) e (length log.alarms) ≡ true)) →
+      by : (k < length (chain net log e)) ⊎ ((k ≡ length (chain net log e)) × (is_matching net (with_alarm log new) e (length log.alarms) ≡ true)) →
           IsLogClause net log n (passes_on e k t) ⊎ IsAlarmClause net log n new (passes_on e k t)
       by (inl a) = inl (a, h.1)
       by (inr b) = inr (b.0, b.1, h.1)
@@ -165,16 +162,16 @@ module _ (net : Net) (log : Log) (n : ℕ) (new : Alarm) where
   alarm_split (done_if_asked i) h = number_split i h
   alarm_split (before_if_asked i j t) h = inl h
 
-  alarm_new : (which : LogClause) → IsAlarmClause net log n new which → IsLogClause net (record log { alarms = log.alarms ++ new ∷ [] }) n which
+  alarm_new : (which : LogClause) → IsAlarmClause net log n new which → IsLogClause net (with_alarm log new) n which
   alarm_new (chain_closed e k t) h = (
-    is_shown net (record log { alarms = log.alarms ++ new ∷ [] }) e (length log.alarms) h.1,
-    subst (λ xs. k ≤ length xs) (sym (grown e)) (let same = length_end (chain net log e) (is_matching net (record log { alarms = log.alarms ++ new ∷ [] }) e) (length log.alarms) h.1 in omega (arith, same, h.0)),
+    is_shown net (with_alarm log new) e (length log.alarms) h.1,
+    subst (λ xs. k ≤ length xs) (sym (grown e)) (let same = length_end (chain net log e) (is_matching net (with_alarm log new) e) (length log.alarms) h.1 in omega (arith, same, h.0)),
     h.2,
   )
   alarm_new (takes_rest i e k t) h = (link_new i e k h.0, h.1)
   alarm_new (uses_up i e k t) h = (link_new i e k h.0, h.1)
   alarm_new (passes_on e k t) h =
-      (subst (λ xs. k < length xs) (sym (grown e)) (let same = length_end (chain net log e) (is_matching net (record log { alarms = log.alarms ++ new ∷ [] }) e) (length log.alarms) h.1 in omega (arith, same, h.0)), h.2)
+      (subst (λ xs. k < length xs) (sym (grown e)) (let same = length_end (chain net log e) (is_matching net (with_alarm log new) e) (length log.alarms) h.1 in omega (arith, same, h.0)), h.2)
   alarm_new (taken_or_passed i e k t) h = (link_new i e k h.0, h.1)
   alarm_new (not_done_first i) h = number_new i h
   alarm_new (stays_done i t) h = (number_new i h.0, h.1)
@@ -186,7 +183,7 @@ module _ (net : Net) (log : Log) (n : ℕ) (new : Alarm) where
   alarm_new (before_if_asked i j t) h = absurd h
 
 module _ (net : Net) (log : Log) (n i j : ℕ) where
-  pair_split : (which : LogClause) → IsLogClause net (record log { pairs = log.pairs ++ (i, j) ∷ [] }) n which → IsLogClause net log n which ⊎ ((t : ℕ) × (t < n) × (which ≡ before_if_asked i j t))
+  pair_split : (which : LogClause) → IsLogClause net (with_pair log i j) n which → IsLogClause net log n which ⊎ ((t : ℕ) × (t < n) × (which ≡ before_if_asked i j t))
   pair_split (chain_closed e k t) h = inl h
   pair_split (takes_rest a e k t) h = inl h
   pair_split (uses_up a e k t) h = inl h
@@ -205,7 +202,7 @@ module _ (net : Net) (log : Log) (n i j : ℕ) where
       by (inl in') = inl (in', h.1)
       by (inr same) = inr (t, h.1, λ x. before_if_asked ((sym same x).0) ((sym same x).1) t)
 
-  pair_new : (which : LogClause) → IsLogClause net log n which → IsLogClause net (record log { pairs = log.pairs ++ (i, j) ∷ [] }) n which
+  pair_new : (which : LogClause) → IsLogClause net log n which → IsLogClause net (with_pair log i j) n which
   pair_new (chain_closed e k t) h = h
   pair_new (takes_rest a e k t) h = h
   pair_new (uses_up a e k t) h = h
@@ -220,10 +217,10 @@ module _ (net : Net) (log : Log) (n i j : ℕ) where
   pair_new (done_if_asked a) h = h
   pair_new (before_if_asked a b t) h = (append_left log.pairs ((i, j) ∷ []) (a, b) h.0, h.1)
 
-  pair_added_known : (t : ℕ) → t < n → IsLogClause net (record log { pairs = log.pairs ++ (i, j) ∷ [] }) n (before_if_asked i j t)
+  pair_added_known : (t : ℕ) → t < n → IsLogClause net (with_pair log i j) n (before_if_asked i j t)
   pair_added_known t h = (append_right log.pairs ((i, j) ∷ []) (i, j) (here_first (i, j) [] (i, j) refl), h)
 
-  pair_same : (which : LogClause) → log_clause net log n which ≡ log_clause net (record log { pairs = log.pairs ++ (i, j) ∷ [] }) n which
+  pair_same : (which : LogClause) → log_clause net log n which ≡ log_clause net (with_pair log i j) n which
   pair_same (chain_closed e k t) = refl
   pair_same (takes_rest a e k t) = refl
   pair_same (uses_up a e k t) = refl
@@ -242,15 +239,15 @@ pub additions_are_exact : AdditionsAreExact
 additions_are_exact net log n (alarm_added new) which =
     ((alarm_split net log n new which, back), clause_same net log n new which)
   where
-    back : IsLogClause net log n which ⊎ IsAlarmClause net log n new which → IsLogClause net (record log { alarms = log.alarms ++ new ∷ [] }) n which
+    back : IsLogClause net log n which ⊎ IsAlarmClause net log n new which → IsLogClause net (with_alarm log new) n which
     back (inl a) = known_stays net log n new which a
     back (inr b) = alarm_new net log n new which b
 additions_are_exact net log n (pair_added i j) which =
     ((pair_split net log n i j which, back), λ h. pair_same net log n i j which)
   where
-    back : IsLogClause net log n which ⊎ ((t : ℕ) × (t < n) × (which ≡ before_if_asked i j t)) → IsLogClause net (record log { pairs = log.pairs ++ (i, j) ∷ [] }) n which
+    back : IsLogClause net log n which ⊎ ((t : ℕ) × (t < n) × (which ≡ before_if_asked i j t)) → IsLogClause net (with_pair log i j) n which
     back (inl a) = pair_new net log n i j which a
-    back (inr b) = subst (λ w. IsLogClause net (record log { pairs = log.pairs ++ (i, j) ∷ [] }) n w) (sym b.2) (pair_added_known net log n i j b.0 b.1)
+    back (inr b) = subst (λ w. IsLogClause net (with_pair log i j) n w) (sym b.2) (pair_added_known net log n i j b.0 b.1)
 
 -- Clauses of a longer log are those of the shorter one too.
 holds_before : (net : Net) (log : Log) (n : ℕ) (addition : Addition) (value : Name → Bool) → LogClausesHold net (with_addition log addition) n value → LogClausesHold net log n value

@@ -1,5 +1,5 @@
 -- The names of an addition are new, and few.
-use Rattle.std.proofs.Common.{◌≡◌, ◌≢◌, ℕ, zero, suc, ◌+◌, ◌*◌, ◌<◌, ◌≤◌, Bool, true, false, List, [], ◌∷◌, ◌++◌, ◌∙◌, length, refl, sym, ap, subst, arith, Contains, map, flat_map, filter, inl, inr, ◌⊎◌, is_some, length-append, sum_by}
+use Rattle.std.proofs.Common.{◌≡◌, ◌≢◌, ℕ, zero, suc, ◌+◌, ◌*◌, ◌<◌, ◌≤◌, Bool, true, false, List, [], ◌∷◌, ◌∙◌, length, refl, sym, ap, subst, arith, Contains, map, flat_map, filter, inl, inr, ◌⊎◌, is_some, length-append, sum_by}
 use Rattle.std.proofs.lemmas.List.{length-map}
 use Rattle.std.proofs.lemmas.List.Sums.{length-filter}
 use Rattle.std.proofs.lemmas.List.FromFn.{length-range_with_len}
@@ -11,14 +11,14 @@ use Rattle.log_clauses.proofs.Drafts.{flat_length, sum_more, same_count, taken_c
 use Rattle.log_clauses.proofs.Growth.{length_split, length_end, grown, number_split, match_split, taken}
 use Rattle.log_clauses.proofs.Lists.{flat_has, flat_from, map_has, map_from, number_has, number_from, cons_cases, here_later, none_in_nil, all_of, all_at, append_cases, append_left, append_right, filter_has, filter_from, pairs_filter, pairs_append}
 use Rattle.log_clauses.proofs.Rules.{matching_alarm, is_shown, shown_event}
-use Rattle.log_clauses.proofs.Stay.{matching_same}
+use Rattle.log_clauses.proofs.Stay.{with_alarm, with_pair, matching_same}
 use Rattle.log_clauses.specs.Additions.{alarm_added, pair_added, IsTaken}
 use Rattle.log_clauses.specs.Drafts.{taken_events}
 use Rattle.log_clauses.specs.LogClauses.{chain, observable_events}
 use Rattle.log_clauses.specs.LogNames.{IsLogName, link_names, added_names, first_names, NamesAreNew, NamesAreFew, FirstNamesAreAll}
 use Rattle.log_order.specs.Log.{Log, Alarm, no_log}
 use Rattle.prop_core.specs.VariableNames.{Name, in_state, happens, asked, matches, done, unmatched, closed, reaches, some_of_first}
-use Rattle.replay.specs.QuestionSize.{is_matching, variable_bound, matching_count}
+use Rattle.replay.specs.QuestionSize.{is_matching, alarm_variables, variable_bound, matching_count}
 use Rattle.run_clauses.specs.StepClauses.{numbers_below}
 
 -- lists in a row, each without a repeated element, that have no element in common
@@ -116,15 +116,12 @@ link_once n i e k = (
     differ t h = cc
 
 module _ (net : Net) (log : Log) (n : ℕ) (new : Alarm) where
-  all_links : List Name
-  all_links = flat_map (λ e. link_names n (length log.alarms) e (length (chain net log e))) (taken_events net log new)
-
   added_once : EachPair (λ a b. a ≢ b) (added_names net log n (alarm_added new))
   unfolding is_done
   added_once =
       pairs_append (λ a b. a ≢ b) (flat_map (λ e. link_names n (length log.alarms) e (length (chain net log e))) (taken_events net log new)) (map (λ t. done (length log.alarms) t) (numbers_below (suc n)))
       (pairs_flat (λ e. link_names n (length log.alarms) e (length (chain net log e))) (taken_events net log new)
-      (pairs_filter (λ a b. a ≢ b) (λ e. is_matching net (record log { alarms = log.alarms ++ new ∷ [] }) e (length log.alarms)) (numbers_below (length net.events)) (range_once 0 (length net.events)))
+      (pairs_filter (λ a b. a ≢ b) (λ e. is_matching net (with_alarm log new) e (length log.alarms)) (numbers_below (length net.events)) (range_once 0 (length net.events)))
       (λ e. link_once n (length log.alarms) e (length (chain net log e)))
       (λ e f a in' in2. sym (link_event n (length log.alarms) e (length (chain net log e)) a in') ∙ link_event n (length log.alarms) f (length (chain net log f)) a in2))
       (pairs_map (λ t. done (length log.alarms) t) (numbers_below (suc n)) (range_once 0 (suc n)) same_step)
@@ -196,28 +193,28 @@ module _ (net : Net) (log : Log) (n : ℕ) (new : Alarm) where
       (flat_has (λ s. matches (length log.alarms) e (suc s) ∷ unmatched e (suc (length (chain net log e))) (suc s) ∷ []) (numbers_below n) t name (number_has n t step) there))
 
   -- the chain of e has at most one more alarm
-  chain_split : (e k : ℕ) → k ≤ length (chain net (record log { alarms = log.alarms ++ new ∷ [] }) e) → (k ≤ length (chain net log e)) ⊎ ((k ≡ suc (length (chain net log e))) × IsTaken net log new e)
+  chain_split : (e k : ℕ) → k ≤ length (chain net (with_alarm log new) e) → (k ≤ length (chain net log e)) ⊎ ((k ≡ suc (length (chain net log e))) × IsTaken net log new e)
   chain_split e zero h = inl (omega arith)
   chain_split e (suc k) h =
       let low = subst (λ xs. suc k ≤ length xs) (grown net log n new e) h in
-      by (length_split (chain net log e) (is_matching net (record log { alarms = log.alarms ++ new ∷ [] }) e) (length log.alarms) k (omega (arith, low)))
+      by (length_split (chain net log e) (is_matching net (with_alarm log new) e) (length log.alarms) k (omega (arith, low)))
     where
-      by : (k < length (chain net log e)) ⊎ ((k ≡ length (chain net log e)) × (is_matching net (record log { alarms = log.alarms ++ new ∷ [] }) e (length log.alarms) ≡ true)) →
+      by : (k < length (chain net log e)) ⊎ ((k ≡ length (chain net log e)) × (is_matching net (with_alarm log new) e (length log.alarms) ≡ true)) →
           (suc k ≤ length (chain net log e)) ⊎ ((suc k ≡ suc (length (chain net log e))) × IsTaken net log new e)
       by (inl a) = inl (omega arith)
       by (inr b) = inr (ap suc b.0, b.1)
 
-  chain_end : (e : ℕ) → IsTaken net log new e → suc (length (chain net log e)) ≤ length (chain net (record log { alarms = log.alarms ++ new ∷ [] }) e)
+  chain_end : (e : ℕ) → IsTaken net log new e → suc (length (chain net log e)) ≤ length (chain net (with_alarm log new) e)
   chain_end e h =
-      let same = length_end (chain net log e) (is_matching net (record log { alarms = log.alarms ++ new ∷ [] }) e) (length log.alarms) h in
+      let same = length_end (chain net log e) (is_matching net (with_alarm log new) e) (length log.alarms) h in
       subst (λ xs. suc (length (chain net log e)) ≤ length xs) (sym (grown net log n new e)) (omega (arith, same))
 
-  chain_keeps : (e : ℕ) → length (chain net log e) ≤ length (chain net (record log { alarms = log.alarms ++ new ∷ [] }) e)
+  chain_keeps : (e : ℕ) → length (chain net log e) ≤ length (chain net (with_alarm log new) e)
   chain_keeps e =
-      let more = length-append (chain net log e) (filter (is_matching net (record log { alarms = log.alarms ++ new ∷ [] }) e) (length log.alarms ∷ [])) in
+      let more = length-append (chain net log e) (filter (is_matching net (with_alarm log new) e) (length log.alarms ∷ [])) in
       subst (λ xs. length (chain net log e) ≤ length xs) (sym (grown net log n new e)) (omega (arith, more))
 
-  name_split : (name : Name) → IsLogName net (record log { alarms = log.alarms ++ new ∷ [] }) n name → IsLogName net log n name ⊎ Contains (added_names net log n (alarm_added new)) name
+  name_split : (name : Name) → IsLogName net (with_alarm log new) n name → IsLogName net log n name ⊎ Contains (added_names net log n (alarm_added new)) name
   name_split (in_state c q t) h = absurd h
   name_split (happens e t) h = absurd h
   name_split asked h = inl tt
@@ -251,7 +248,7 @@ module _ (net : Net) (log : Log) (n : ℕ) (new : Alarm) where
   name_split (reaches i j) h = absurd h
   name_split (some_of_first family i) h = absurd h
 
-  name_keeps : (name : Name) → IsLogName net log n name → IsLogName net (record log { alarms = log.alarms ++ new ∷ [] }) n name
+  name_keeps : (name : Name) → IsLogName net log n name → IsLogName net (with_alarm log new) n name
   name_keeps (in_state c q t) h = absurd h
   name_keeps (happens e t) h = absurd h
   name_keeps asked h = tt
@@ -262,17 +259,17 @@ module _ (net : Net) (log : Log) (n : ℕ) (new : Alarm) where
   name_keeps (reaches i j) h = absurd h
   name_keeps (some_of_first family i) h = absurd h
 
-  new_known : (name : Name) → Contains (added_names net log n (alarm_added new)) name → IsLogName net (record log { alarms = log.alarms ++ new ∷ [] }) n name
+  new_known : (name : Name) → Contains (added_names net log n (alarm_added new)) name → IsLogName net (with_alarm log new) n name
   new_known name in' = by (new_from name in')
     where
       by : ((e : ℕ) × IsTaken net log new e × (name ≡ closed e (suc (length (chain net log e)))))
           ⊎ ((e : ℕ) × (t : ℕ) × IsTaken net log new e × (t < n) × (name ≡ matches (length log.alarms) e (suc t)))
           ⊎ ((e : ℕ) × (t : ℕ) × IsTaken net log new e × (t < n) × (name ≡ unmatched e (suc (length (chain net log e))) (suc t)))
-          ⊎ ((t : ℕ) × (t ≤ n) × (name ≡ done (length log.alarms) t)) → IsLogName net (record log { alarms = log.alarms ++ new ∷ [] }) n name
-      by (inl (e, h, is)) = subst (IsLogName net (record log { alarms = log.alarms ++ new ∷ [] }) n) (sym is) (is_shown net (record log { alarms = log.alarms ++ new ∷ [] }) e (length log.alarms) h, chain_end e h)
-      by (inr (inl (e, t, h, step, is))) = subst (IsLogName net (record log { alarms = log.alarms ++ new ∷ [] }) n) (sym is) (h, (omega arith, omega arith))
-      by (inr (inr (inl (e, t, h, step, is)))) = subst (IsLogName net (record log { alarms = log.alarms ++ new ∷ [] }) n) (sym is) (omega arith, chain_end e h, (omega arith, omega arith))
-      by (inr (inr (inr (t, h, is)))) = subst (IsLogName net (record log { alarms = log.alarms ++ new ∷ [] }) n) (sym is) (let more = longer net log n new in omega (arith, more), h)
+          ⊎ ((t : ℕ) × (t ≤ n) × (name ≡ done (length log.alarms) t)) → IsLogName net (with_alarm log new) n name
+      by (inl (e, h, is)) = subst (IsLogName net (with_alarm log new) n) (sym is) (is_shown net (with_alarm log new) e (length log.alarms) h, chain_end e h)
+      by (inr (inl (e, t, h, step, is))) = subst (IsLogName net (with_alarm log new) n) (sym is) (h, (omega arith, omega arith))
+      by (inr (inr (inl (e, t, h, step, is)))) = subst (IsLogName net (with_alarm log new) n) (sym is) (omega arith, chain_end e h, (omega arith, omega arith))
+      by (inr (inr (inr (t, h, is)))) = subst (IsLogName net (with_alarm log new) n) (sym is) (let more = longer net log n new in omega (arith, more), h)
 
   -- how many they are
   names_size : length (added_names net log n (alarm_added new)) ≡ length (taken_events net log new) * (1 + n * 2) + suc n
@@ -287,17 +284,14 @@ module _ (net : Net) (log : Log) (n : ℕ) (new : Alarm) where
       omega (arith, front, back, range', whole)
 
 -- with the sums of the bound as they are
-names_small : (net : Net) (log : Log) (n : ℕ) (new : Alarm) → length (added_names net log n (alarm_added new)) + variable_bound net log n ≤ variable_bound net (record log { alarms = log.alarms ++ new ∷ [] }) n
+names_small : (net : Net) (log : Log) (n : ℕ) (new : Alarm) → length (added_names net log n (alarm_added new)) + variable_bound net log n ≤ variable_bound net (with_alarm log new) n
 names_small net log n new =
-    let g : ℕ → ℕ = λ i. n * (2 * matching_count net (record log { alarms = log.alarms ++ new ∷ [] }) i + at_most_one_count (matching_count net (record log { alarms = log.alarms ++ new ∷ [] }) i) + 1) + 1 + matching_count net (record log { alarms = log.alarms ++ new ∷ [] }) i in
-    let h : ℕ → ℕ = λ i. n * (2 * matching_count net log i + at_most_one_count (matching_count net log i) + 1) + 1 + matching_count net log i in
-    let f : ℕ → ℕ = λ k. n * (2 * k + at_most_one_count k + 1) + 1 + k in
-    let sum = sum_more (λ i. n * (2 * matching_count net (record log { alarms = log.alarms ++ new ∷ [] }) i + at_most_one_count (matching_count net (record log { alarms = log.alarms ++ new ∷ [] }) i) + 1) + 1 + matching_count net (record log { alarms = log.alarms ++ new ∷ [] }) i)
-    (λ i. n * (2 * matching_count net log i + at_most_one_count (matching_count net log i) + 1) + 1 + matching_count net log i) (length log.alarms) (λ i below. ap f (same_count net log n new i below)) in
-    let more = ap (λ k. sum_by (λ i. n * (2 * matching_count net (record log { alarms = log.alarms ++ new ∷ [] }) i + at_most_one_count (matching_count net (record log { alarms = log.alarms ++ new ∷ [] }) i) + 1) + 1 + matching_count net (record log { alarms = log.alarms ++ new ∷ [] }) i) (numbers_below k)) (longer net log n new) in
+    let sum = sum_more (λ i. alarm_variables n (matching_count net (with_alarm log new) i)) (λ i. alarm_variables n (matching_count net log i)) (length log.alarms)
+    (λ i below. ap (alarm_variables n) (same_count net log n new i below)) in
+    let more = ap (λ k. sum_by (λ i. alarm_variables n (matching_count net (with_alarm log new) i)) (numbers_below k)) (longer net log n new) in
     let size = names_size net log n new in
     let moved = ap (λ k. k * (1 + n * 2) + suc n) (taken_count net log n new) in
-    let few = names_few n (matching_count net (record log { alarms = log.alarms ++ new ∷ [] }) (length log.alarms)) (at_most_one_count (matching_count net (record log { alarms = log.alarms ++ new ∷ [] }) (length log.alarms))) in
+    let few = names_few n (matching_count net (with_alarm log new) (length log.alarms)) (at_most_one_count (matching_count net (with_alarm log new) (length log.alarms))) in
     omega (arith, sum, more, size, moved, few)
   where
     names_few : (k m o : ℕ) → m * (1 + k * 2) + suc k ≤ k * (2 * m + o + 1) + 1 + m
@@ -311,13 +305,13 @@ pub names_are_new : NamesAreNew
 names_are_new net log n (alarm_added new) =
     record { once = added_once net log n new; fresh = not_old net log n new; all = λ name. (name_split net log n new name, back name) }
   where
-    back : (name : Name) → IsLogName net log n name ⊎ Contains (added_names net log n (alarm_added new)) name → IsLogName net (record log { alarms = log.alarms ++ new ∷ [] }) n name
+    back : (name : Name) → IsLogName net log n name ⊎ Contains (added_names net log n (alarm_added new)) name → IsLogName net (with_alarm log new) n name
     back name (inl old) = name_keeps net log n new name old
     back name (inr fresh) = new_known net log n new name fresh
 names_are_new net log n (pair_added i j) =
     record { once = tt; fresh = λ name in' old. none_in_nil name in'; all = λ name. (λ h. inl (same name h), back name) }
   where
-    same : (name : Name) → IsLogName net (record log { pairs = log.pairs ++ (i, j) ∷ [] }) n name → IsLogName net log n name
+    same : (name : Name) → IsLogName net (with_pair log i j) n name → IsLogName net log n name
     same (in_state c q t) h = h
     same (happens e t) h = h
     same asked h = h
@@ -328,7 +322,7 @@ names_are_new net log n (pair_added i j) =
     same (reaches a b) h = h
     same (some_of_first family a) h = h
 
-    again : (name : Name) → IsLogName net log n name → IsLogName net (record log { pairs = log.pairs ++ (i, j) ∷ [] }) n name
+    again : (name : Name) → IsLogName net log n name → IsLogName net (with_pair log i j) n name
     again (in_state c q t) h = h
     again (happens e t) h = h
     again asked h = h
@@ -339,7 +333,7 @@ names_are_new net log n (pair_added i j) =
     again (reaches a b) h = h
     again (some_of_first family a) h = h
 
-    back : (name : Name) → IsLogName net log n name ⊎ Contains [] name → IsLogName net (record log { pairs = log.pairs ++ (i, j) ∷ [] }) n name
+    back : (name : Name) → IsLogName net log n name ⊎ Contains [] name → IsLogName net (with_pair log i j) n name
     back name (inl old) = again name old
     back name (inr none) = absurd (none_in_nil name none)
 

@@ -72,9 +72,6 @@ names_begin net n first = record {
 pub names_grow : NamesGrow
 names_grow net log n first addition names are = record { once = once; below = below; exact = λ name. (to name, λ h. from name h.0 h.1) }
   where
-    new : List Name
-    new = added_names net log n addition
-
     laws : AreNew net log n addition
     laws = names_are_new net log n addition
 

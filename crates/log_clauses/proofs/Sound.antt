@@ -78,9 +78,6 @@ zip_mapped R f (x ∷ xs) h = by (f x) refl (zip_mapped R f xs h)
 module _ (net : Net) (log : Log) (n : ℕ) (value : Name → Bool) (held : LogClausesHold net log n value) (guards : GuardsHold net log value)
     (alarms : List ℕ) (complete : ListsOnce (length log.alarms) alarms) (kept : Keeps alarms log.pairs) where
   -- of two alarms in an order the first is another, and no pair wants it the other way round
-  Goes : ℕ → ℕ → Type 0
-  Goes a b = (a ≢ b) × (Contains log.pairs (b, a) → ⊥)
-
   sorted : EachPair (λ a b. (a ≢ b) × (Contains log.pairs (b, a) → ⊥)) alarms
   sorted = from_places (λ b a. Contains log.pairs (b, a)) alarms complete.once (λ a b in' in2 pair.
       All-contains (λ (p : ℕ × ℕ). place_in alarms p.0 < place_in alarms p.1) log.pairs (b, a) (All-from_recursion (λ (p : ℕ × ℕ). place_in alarms p.0 < place_in alarms p.1) log.pairs kept) pair)
@@ -160,9 +157,6 @@ module _ (net : Net) (log : Log) (n : ℕ) (value : Name → Bool) (held : LogCl
     where
       rest : List (List ℕ)
       rest = arranged net log value alarms (suc t) pieces
-
-      p : ℕ → Bool
-      p e = is_some (label_of net e)
 
       none_hidden : filter (λ e. is_some (label_of net e)) (unobservables net piece) ≡ []
       none_hidden = filter_none (λ e. is_some (label_of net e)) (unobservables net piece) (λ e in'. flip (is_some (label_of net e)) (filter_from (λ f. not (is_some (label_of net f))) piece e in').0)

@@ -12,6 +12,12 @@ use Rattle.prop_core.specs.VariableNames.{yes, no, matches, done}
 use Rattle.replay.specs.QuestionSize.{is_matching}
 use Rattle.run_clauses.specs.StepClauses.{numbers_below}
 
+abbrev pub with_alarm : Log → Alarm → Log
+with_alarm log new = record log { alarms = log.alarms ++ new ∷ [] }
+
+abbrev pub with_pair : Log → ℕ → ℕ → Log
+with_pair log i j = record log { pairs = log.pairs ++ (i, j) ∷ [] }
+
 pub get_more : {X : Type 0} (xs ys : List X) (k : ℕ) (x : X) → slice_get xs k ≡ Some x → slice_get (xs ++ ys) k ≡ Some x
 get_more [] ys k x h = cc
 get_more (y ∷ xs) ys zero x h = h
@@ -34,24 +40,21 @@ filter_same : (p q : ℕ → Bool) (m : ℕ) (xs : List ℕ) → ((x : ℕ) → 
 filter_same p q m [] same h = refl
 filter_same p q m (x ∷ xs) same h = rw (same x h.0, filter_same p q m xs same h.1) refl
 
-pub matching_same : (net : Net) (log : Log) (new : Alarm) (e i : ℕ) → i < length log.alarms → is_matching net (record log { alarms = log.alarms ++ new ∷ [] }) e i ≡ is_matching net log e i
+pub matching_same : (net : Net) (log : Log) (new : Alarm) (e i : ℕ) → i < length log.alarms → is_matching net (with_alarm log new) e i ≡ is_matching net log e i
 matching_same net log new e i h = ap (λ o. option_map_or (λ label. list_any (bytes_eq label) (unwrap_or (option_map (λ (alarm : Alarm). alarm.labels) o) [])) (label_of net e) false) (get_same log.alarms (new ∷ []) i h)
 
 pub chain_is : (net : Net) (log : Log) (new : Alarm) (e : ℕ) →
-    chain net (record log { alarms = log.alarms ++ new ∷ [] }) e ≡ chain net log e ++ filter (is_matching net (record log { alarms = log.alarms ++ new ∷ [] }) e) (length log.alarms ∷ [])
+    chain net (with_alarm log new) e ≡ chain net log e ++ filter (is_matching net (with_alarm log new) e) (length log.alarms ∷ [])
 chain_is net log new e =
     let m = length log.alarms in
-    let p = is_matching net (record log { alarms = log.alarms ++ new ∷ [] }) e in
+    let p = is_matching net (with_alarm log new) e in
     let longer : length (log.alarms ++ new ∷ []) ≡ suc m = omega (arith, length-append log.alarms (new ∷ [])) in
     ap (λ k. filter p (range_with_len 0 k)) longer ∙ ap (filter p) (range_more 0 m) ∙ filter-append p (range_with_len 0 m) ((0 + m) ∷ [])
     ∙ ap (λ k. filter p (range_with_len 0 m) ++ filter p (k ∷ [])) (omega arith)
     ∙ ap (λ xs. xs ++ filter p (m ∷ [])) (filter_same p (is_matching net log e) m (range_with_len 0 m) (λ x h. matching_same net log new e x h) (subst (λ k. AllByRecursion (λ x. x < k) (range_with_len 0 m)) (omega arith) (range_below 0 m)))
 
-chain_more : (net : Net) (log : Log) (new : Alarm) (e : ℕ) → (more : List ℕ) × (chain net (record log { alarms = log.alarms ++ new ∷ [] }) e ≡ chain net log e ++ more)
-chain_more net log new e = (filter (is_matching net (record log { alarms = log.alarms ++ new ∷ [] }) e) (length log.alarms ∷ []), chain_is net log new e)
-
-abbrev pub with_alarm : Log → Alarm → Log
-with_alarm log new = record log { alarms = log.alarms ++ new ∷ [] }
+chain_more : (net : Net) (log : Log) (new : Alarm) (e : ℕ) → (more : List ℕ) × (chain net (with_alarm log new) e ≡ chain net log e ++ more)
+chain_more net log new e = (filter (is_matching net (with_alarm log new) e) (length log.alarms ∷ []), chain_is net log new e)
 
 pub matching_stays : (net : Net) (log : Log) (new : Alarm) (e i : ℕ) → is_matching net log e i ≡ true → is_matching net (with_alarm log new) e i ≡ true
 matching_stays net log new e i h = matching_same net log new e i (matching_alarm net log e i h) ∙ h
