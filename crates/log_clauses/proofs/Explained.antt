@@ -14,7 +14,7 @@ use Rattle.replay.specs.Explanation.{Linearises}
 use Rattle.log_clauses.proofs.Sound.{log_is_sound}
 use Rattle.log_clauses.specs.Coded.{opened}
 use Rattle.log_clauses.specs.LogClauses.{log_clause, guard_literals}
-use Rattle.log_clauses.specs.LogCodeLaws.{IsLogCode, DifferInLogVariables, MakesLogTrue, LogCodeIsExact, IsUnboundedQuestion, MakesQuestionTrue, ExplanationsAreCoded, AssignmentsExplain}
+use Rattle.log_clauses.specs.LogCodeLaws.{IsLogCode, DifferInLogVariables, MakesLogTrue, LogCodeIsExact, IsUnboundedQuestion, ExplanationsAreCoded, AssignmentsExplain, RunsStayOpen}
 use Rattle.log_clauses.specs.LogCodes.{IsNamedLog}
 use Rattle.log_clauses.specs.LogTruth.{LogClausesHold, GuardsHold, is_of_log, DifferInLog}
 use Rattle.log_clauses.specs.Decoded.{decoded}
@@ -90,6 +90,14 @@ log_code_is_exact net log n names written assumed code = record {
   unguarded = opened_up net log n names written assumed code;
 }
 
+-- variables as their names say, and those without a name false
+by_variable : List (ℕ × Name) → (Name → Bool) → ℕ → Bool
+by_variable names value = assignment_by names value (λ var. false)
+
+matched_by : (names : List (ℕ × Name)) (value : Name → Bool) → Match names (by_variable names value) value
+unfolding by_variable
+matched_by names value = assignments_match names value (λ var. false)
+
 -- The events of the steps have variables, since the clauses of the steps are there.
 some_state : (marks : List Bool) → list_any (λ mark. mark) marks ≡ true → 0 < length marks
 some_state [] h = cc
@@ -114,33 +122,23 @@ event_named net n names stepped network code e t known step = by (parts_of net e
         let there = code.all (step_clause net which) (which, (inside, omega (arith, marks, same), step), refl) in
         read_named names there.0 there.2.read (no (happens e (suc t))) there.2.by_name ((there.2.same (no (happens e (suc t)))).1 (0, omega arith, refl))
 
--- a truth of the steps that a truth of the log goes on from
-coded_from : (net : Net) (log : Log) (n : ℕ) (names : List (ℕ × Name)) (stepped written : List Clause) (assumed : List Lit) (pieces : List (List ℕ)) →
-    IsNetwork net → IsUnboundedQuestion net log n names stepped written assumed → (given value : Name → Bool) → StepClausesHold net n given → AreSteps net n given pieces →
-    DifferInLog given value → LogClausesHold net log n value → GuardsHold net log value →
-    (assignment : ℕ → Bool) × AreSteps net n (value_by names assignment) pieces × MakesQuestionTrue assignment stepped written assumed
-coded_from net log n names stepped written assumed pieces network question given value clauses steps differ holds guards = (
-  assignment,
-  same_sets net n given (value_by names assignment) pieces agree steps,
-  record {
-    steps = (code_holds (IsNamedStep net n) names stepped assignment value question.steps matched).1 (all_from_steps net n value (only_steps_matter net n given value same clauses));
-    log_true = log_true net log n names written assumed question.log_code assignment value matched holds guards;
-  },
+-- The steps of a truth that a truth of the log goes on from: by variables they are as by name.
+stepped_from : (net : Net) (log : Log) (n : ℕ) (names : List (ℕ × Name)) (stepped written : List Clause) (assumed : List Lit) (pieces : List (List ℕ)) →
+    IsNetwork net → IsUnboundedQuestion net log n names stepped written assumed → (given value : Name → Bool) → StepClausesHold net n given → AreSteps net n given pieces → DifferInLog given value →
+    AreSteps net n (value_by names (by_variable names value)) pieces × AllClausesTrue (by_variable names value) stepped
+stepped_from net log n names stepped written assumed pieces network question given value clauses steps differ = (
+  same_sets net n given (value_by names (by_variable names value)) pieces agree steps,
+  (code_holds (IsNamedStep net n) names stepped (by_variable names value) value question.steps (matched_by names value)).1
+      (all_from_steps net n value (only_steps_matter net n given value same clauses)),
 )
   where
-    assignment : ℕ → Bool
-    assignment = assignment_by names value (λ var. false)
-
-    matched : Match names assignment value
-    matched = assignments_match names value (λ var. false)
-
     same : AgreeOnSteps given value
     same = record { states = λ c q t. sym (differ (in_state c q t) refl); events = λ e t. sym (differ (happens e t) refl) }
 
-    agree : AgreeOnEvents net n given (value_by names assignment)
+    agree : AgreeOnEvents net n given (value_by names (by_variable names value))
     agree e t known step =
         let named = event_named net n names stepped network question.steps e t known step in
-        sym (values_match names question.log_code.once assignment named.0 (happens e (suc t)) named.1) ∙ matched named.0 (happens e (suc t)) named.1 ∙ differ (happens e (suc t)) refl
+        sym (values_match names question.log_code.once (by_variable names value) named.0 (happens e (suc t)) named.1) ∙ matched_by names value named.0 (happens e (suc t)) named.1 ∙ differ (happens e (suc t)) refl
 
 pub explanations_are_coded : ExplanationsAreCoded
 explanations_are_coded net log n names stepped written assumed word order pieces network question run count cut linear =
@@ -148,7 +146,24 @@ explanations_are_coded net log n names stepped written assumed word order pieces
     let clauses = subst (λ m. StepClausesHold net m given.0) count given.1 in
     let steps = subst (λ m. AreSteps net m given.0 pieces) count given.2 in
     let made = log_is_complete net log n given.0 pieces order steps (subst (λ w. Linearises net log w order) cut.whole linear) in
-    coded_from net log n names stepped written assumed pieces network question given.0 made.0 clauses steps made.1 made.2 made.3
+    let all = stepped_from net log n names stepped written assumed pieces network question given.0 made.0 clauses steps made.1 in (
+      by_variable names made.0,
+      all.0,
+      record { steps = all.1; log_true = log_true net log n names written assumed question.log_code (by_variable names made.0) made.0 (matched_by names made.0) made.2 made.3 },
+    )
+
+pub runs_stay_open : RunsStayOpen
+runs_stay_open net log n names stepped written assumed word pieces network question run count cut =
+    let given = runs_have_steps net word pieces (λ name. false) network run cut in
+    let clauses = subst (λ m. StepClausesHold net m given.0) count given.1 in
+    let steps = subst (λ m. AreSteps net m given.0 pieces) count given.2 in
+    let law = log_is_open given.0 in
+    let all = stepped_from net log n names stepped written assumed pieces network question given.0 (opened given.0) clauses steps law.0 in (
+      by_variable names (opened given.0),
+      all.0,
+      all.1,
+      written_true net log n names written assumed question.log_code (by_variable names (opened given.0)) (opened given.0) (matched_by names (opened given.0)) (λ which h. law.1 net log n which),
+    )
 
 pub assignments_explain : AssignmentsExplain
 assignments_explain net log n names stepped written assumed assignment alarms network question valid complete kept makes =

@@ -82,3 +82,9 @@ abbrev pub AssignmentsExplain : Type 0
 AssignmentsExplain = (net : Net) (log : Log) (n : ℕ) (names : List (ℕ × Name)) (stepped written : List Clause) (assumed : List Lit) (assignment : ℕ → Bool) (alarms : List ℕ) →
     IsNetwork net → IsUnboundedQuestion net log n names stepped written assumed → IsValidLog log → ListsOnce (length log.alarms) alarms → Keeps alarms log.pairs →
     MakesQuestionTrue assignment stepped written assumed → IsDecoded net log n (value_by names assignment) alarms
+
+-- Each run that fits n steps, whatever events of it can be seen, has an assignment that makes all clauses true where no guard is assumed.
+abbrev pub RunsStayOpen : Type 0
+RunsStayOpen = (net : Net) (log : Log) (n : ℕ) (names : List (ℕ × Name)) (stepped written : List Clause) (assumed : List Lit) (word : List ℕ) (pieces : List (List ℕ)) →
+    IsNetwork net → IsUnboundedQuestion net log n names stepped written assumed → IsRun net word → length pieces ≡ n → IsCutInto net word pieces →
+    (assignment : ℕ → Bool) × AreSteps net n (value_by names assignment) pieces × AllClausesTrue assignment stepped × AllClausesTrue assignment written

@@ -12,7 +12,7 @@
 
 ghost use Rattle.log_clauses.specs.AdditionLaws.{AdditionsAreExact, AdditionsStayOpen, ChainsGrow, EmptyLogIsExact};
 ghost use Rattle.log_clauses.specs.Drafts.{DraftsAreCode, DraftsAreSmall, FirstClausesAreFew};
-ghost use Rattle.log_clauses.specs.LogCodeLaws.{AssignmentsExplain, ExplanationsAreCoded, LogCodeIsExact};
+ghost use Rattle.log_clauses.specs.LogCodeLaws.{AssignmentsExplain, ExplanationsAreCoded, LogCodeIsExact, RunsStayOpen};
 ghost use Rattle.log_clauses.specs.LogCodes.{CodeBegins, CodeGrows, CodesStay, ReadingsStay};
 ghost use Rattle.log_clauses.specs.LogLaws.{EventsAndAlarms, LogIsComplete, LogIsOpen, LogIsSound, MatchesAreExact};
 ghost use Rattle.log_clauses.specs.LogNames.{FirstNamesAreAll, NamesAreFew, NamesAreNew, NamesBegin, NamesGrow, OrderedReads, PlacesOfNames};
@@ -155,4 +155,9 @@ pub fn explanations_are_coded()
 /// What makes them true gives an explanation.
 pub fn assignments_explain()
     ensures { AssignmentsExplain }
+{}
+
+/// Each run makes the clauses of steps and log true where no guard is assumed.
+pub fn runs_stay_open()
+    ensures { RunsStayOpen }
 {}
