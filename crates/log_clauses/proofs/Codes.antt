@@ -48,7 +48,7 @@ read_of names l clause read h = by (named_literal names l) refl (named_clause na
         some_is : (a b : List NamedLiteral) → Some a ≡ Some b → a ≡ b
         some_is a b q = cc
 
-named_entry : (names : List (ℕ × Name)) (var : ℕ) (name : Name) → name_of names var ≡ Some name → Contains names (var, name)
+pub named_entry : (names : List (ℕ × Name)) (var : ℕ) (name : Name) → name_of names var ≡ Some name → Contains names (var, name)
 named_entry names var name h = by (find (λ (entry : ℕ × Name). entry.0 == var) names) refl h
   where
     by : (o : Option (ℕ × Name)) → find (λ (entry : ℕ × Name). entry.0 == var) names ≡ o → option_map (λ (entry : ℕ × Name). entry.1) o ≡ Some name → Contains names (var, name)

@@ -15,4 +15,6 @@ pub mod NewNames
 pub mod Numbered
 pub mod Guards
 pub mod Explained
+pub mod BesideEvents
 pub mod Vectors
+pub mod CodeVectors

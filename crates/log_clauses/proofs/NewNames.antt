@@ -22,7 +22,7 @@ use Rattle.replay.specs.QuestionSize.{is_matching, alarm_variables, variable_bou
 use Rattle.run_clauses.specs.StepClauses.{numbers_below}
 
 -- lists in a row, each without a repeated element, that have no element in common
-pairs_flat : {Y : Type 0} (f : ℕ → List Y) (xs : List ℕ) → EachPair (λ a b. a ≢ b) xs → ((x : ℕ) → EachPair (λ a b. a ≢ b) (f x)) →
+pub pairs_flat : {Y : Type 0} (f : ℕ → List Y) (xs : List ℕ) → EachPair (λ a b. a ≢ b) xs → ((x : ℕ) → EachPair (λ a b. a ≢ b) (f x)) →
     ((x y : ℕ) (a : Y) → Contains (f x) a → Contains (f y) a → x ≡ y) → EachPair (λ a b. a ≢ b) (flat_map f xs)
 pairs_flat f [] once each apart = tt
 pairs_flat f (x ∷ xs) once each apart =
@@ -30,7 +30,7 @@ pairs_flat f (x ∷ xs) once each apart =
     let found = flat_from f xs b in2 in
     all_at (λ y. x ≢ y) xs once.0 found.0 found.1 (apart x found.0 b (subst (λ c. Contains (f x) c) same in') found.2))
 
-pairs_map : {Y : Type 0} (f : ℕ → Y) (xs : List ℕ) → EachPair (λ a b. a ≢ b) xs → ((x y : ℕ) → f x ≡ f y → x ≡ y) → EachPair (λ a b. a ≢ b) (map f xs)
+pub pairs_map : {Y : Type 0} (f : ℕ → Y) (xs : List ℕ) → EachPair (λ a b. a ≢ b) xs → ((x y : ℕ) → f x ≡ f y → x ≡ y) → EachPair (λ a b. a ≢ b) (map f xs)
 pairs_map f [] once apart = tt
 pairs_map f (x ∷ xs) once apart =
     (all_of (λ b. f x ≢ b) (map f xs) (λ b in' same. let found = map_from f xs b in' in all_at (λ y. x ≢ y) xs once.0 found.0 found.1 (apart x found.0 (same ∙ sym found.2))), pairs_map f xs once.1 apart)

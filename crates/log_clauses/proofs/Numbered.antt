@@ -21,7 +21,7 @@ use Rattle.prop_core.specs.declared.lit.Lit.{Lit}
 use Rattle.run_clauses.specs.LaidOut.{laid_out}
 use Rattle.run_clauses.specs.StepClauses.{numbers_below}
 
-laid_out_from : (first : ℕ) (xs : List Name) (entry : ℕ × Name) → Contains (laid_out first xs) entry → Contains xs entry.1 × (first ≤ entry.0) × (entry.0 < first + length xs)
+pub laid_out_from : (first : ℕ) (xs : List Name) (entry : ℕ × Name) → Contains (laid_out first xs) entry → Contains xs entry.1 × (first ≤ entry.0) × (entry.0 < first + length xs)
 laid_out_from first [] entry in' = absurd (none_in_nil entry in')
 laid_out_from first (x ∷ xs) entry in' = by (cons_cases (first, x) (laid_out (first + 1) xs) entry in') (laid_out_from (first + 1) xs entry)
   where
@@ -30,7 +30,7 @@ laid_out_from first (x ∷ xs) entry in' = by (cons_cases (first, x) (laid_out (
     by (inl is) later = let var : first ≡ entry.0 = ap (λ (y : ℕ × Name). y.0) is in (here_first x xs entry.1 (ap (λ (y : ℕ × Name). y.1) is), omega arith, omega arith)
     by (inr rest) later = let found = later rest in (here_later x xs entry.1 found.0, omega (arith, found.1), omega (arith, found.2))
 
-laid_out_has : (first : ℕ) (xs : List Name) (k : ℕ) (x : Name) → slice_get xs k ≡ Some x → Contains (laid_out first xs) (first + k, x)
+pub laid_out_has : (first : ℕ) (xs : List Name) (k : ℕ) (x : Name) → slice_get xs k ≡ Some x → Contains (laid_out first xs) (first + k, x)
 laid_out_has first [] k x h = cc
 laid_out_has first (y ∷ xs) zero x h =
     let is : y ≡ x = cc in
@@ -110,7 +110,7 @@ get_past : {X : Type 0} (xs ys : List X) (k : ℕ) → slice_get (xs ++ ys) (len
 get_past [] ys k = let same : 0 + k ≡ k = omega arith in ap (slice_get ys) same
 get_past (x ∷ xs) ys k = let same : suc (length xs) + k ≡ suc (length xs + k) = omega arith in ap (slice_get (x ∷ (xs ++ ys))) same ∙ get_past xs ys k
 
-flat_get : (f : ℕ → List Name) (xs : List ℕ) (c p x j : ℕ) → ((y : ℕ) → length (f y) ≡ c) → slice_get xs p ≡ Some x → j < c → slice_get (flat_map f xs) (p * c + j) ≡ slice_get (f x) j
+pub flat_get : (f : ℕ → List Name) (xs : List ℕ) (c p x j : ℕ) → ((y : ℕ) → length (f y) ≡ c) → slice_get xs p ≡ Some x → j < c → slice_get (flat_map f xs) (p * c + j) ≡ slice_get (f x) j
 flat_get f [] c p x j size is less = cc
 flat_get f (y ∷ xs) c zero x j size is less =
     let same : y ≡ x = cc in
@@ -127,7 +127,7 @@ range_get a zero t h = absurd (omega arith)
 range_get a (suc m) zero h = let same : a ≡ a + 0 = omega arith in ap Some same
 range_get a (suc m) (suc t) h = let same : (a + 1) + t ≡ a + suc t = omega arith in range_get (a + 1) m t (omega arith) ∙ ap Some same
 
-number_get : (m t : ℕ) → t < m → slice_get (numbers_below m) t ≡ Some t
+pub number_get : (m t : ℕ) → t < m → slice_get (numbers_below m) t ≡ Some t
 number_get m t h = let same : 0 + t ≡ t = omega arith in range_get 0 m t h ∙ ap Some same
 
 link_size : (n i e k : ℕ) → length (link_names n i e k) ≡ 1 + n * 2

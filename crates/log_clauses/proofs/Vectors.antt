@@ -1,28 +1,20 @@
 -- Worked chains, clauses and guards, and two alarms in one step with a pair between them, coded and decoded.
-use Rattle.std.proofs.Common.{◌≡◌, ◌≢◌, ℕ, Bool, true, false, List, [], ◌∷◌, ◌++◌, refl, ◌==◌, length}
+use Rattle.std.proofs.Common.{◌≡◌, ℕ, Bool, true, false, List, [], ◌∷◌, ◌++◌, refl, ◌==◌, length}
 use Rattle.std.specs.Prelude.{codes}
 use Rattle.std.specs.List.{list_all}
-use Rattle.des_base.specs.Lists.{EachPair}
 use Rattle.des_net.specs.Models.{apart, pump}
 use Rattle.log_order.specs.Log.{Alarm, Log, no_log}
-use Rattle.log_clauses.proofs.Codes.{code_begins}
-use Rattle.log_clauses.proofs.Drafts.{drafts_are_code}
-use Rattle.log_clauses.proofs.Numbered.{laid_out_once, ordered_reads}
 use Rattle.log_clauses.specs.Additions.{alarm_added, pair_added, with_addition, log_after}
 use Rattle.log_clauses.specs.Coded.{coded, opened}
 use Rattle.log_clauses.specs.Decoded.{decoded, decoded_order, alarm_at, event_at}
 use Rattle.log_clauses.specs.Drafts.{added_clauses, first_clauses}
 use Rattle.log_clauses.specs.LogClauses.{chain, matching_events, observable_events, LogClause, log_clause, guard_literals, chain_closed, takes_rest, uses_up, matched_once, done_by_match, one_match, before_if_asked}
-use Rattle.log_clauses.specs.LogCodeLaws.{IsLogCode}
 use Rattle.log_clauses.specs.LogNames.{added_names, first_names}
-use Rattle.prop_core.specs.Clauses.{Clause}
 use Rattle.prop_core.specs.NamedClauses.{named_true, named_clause_true}
 use Rattle.prop_core.specs.VariableNames.{Name, in_state, happens, asked, matches, done, unmatched, closed, reaches, some_of_first, yes, no}
-use Rattle.prop_core.specs.declared.lit.Lit.{Lit}
-use Rattle.run_clauses.specs.LaidOut.{laid_out}
 use Rattle.std.specs.Prelude.{Some, None}
 
-abbrev alarm : List ℕ → List (List ℕ) → Alarm
+abbrev pub alarm : List ℕ → List (List ℕ) → Alarm
 alarm name labels = record { name = name; labels = labels }
 
 -- ---- chains
@@ -74,7 +66,7 @@ guards_of_none = refl
 
 -- ---- two alarms in one step, the later before the earlier
 
-abbrev x : Alarm
+abbrev pub x : Alarm
 x = alarm (codes "x") (codes "A" ∷ [])
 
 abbrev y : Alarm
@@ -183,33 +175,3 @@ clauses_of_none = refl
 
 pub first_of_apart : first_names apart ≡ asked ∷ closed 0 0 ∷ closed 1 0 ∷ []
 first_of_apart = refl
-
--- ---- a code over variables: that of the empty log
-
-abbrev names : List (ℕ × Name)
-names = laid_out 0 (happens 0 1 ∷ happens 1 1 ∷ first_names apart)
-
-abbrev not_variable : ℕ → Lit
-not_variable var = record { var = var; positive = false }
-
-abbrev written : List Clause
-written = (not_variable 3 ∷ not_variable 0 ∷ []) ∷ (not_variable 4 ∷ not_variable 1 ∷ []) ∷ []
-
-abbrev assumed : List Lit
-assumed = record { var = 2; positive = true } ∷ record { var = 3; positive = true } ∷ record { var = 4; positive = true } ∷ []
-
-differ : EachPair (λ a b. a ≢ b) (happens 0 1 ∷ happens 1 1 ∷ first_names apart)
-differ = (
-  ((λ h. cc), ((λ h. cc), ((λ h. cc), ((λ h. cc), tt)))),
-  (((λ h. cc), ((λ h. cc), ((λ h. cc), tt))), (((λ h. cc), ((λ h. cc), tt)), (((λ h. cc), tt), (tt, tt)))),
-)
-
-pub empty_code : IsLogCode apart no_log 1 names written assumed
-empty_code = record {
-  once = laid_out_once 0 (happens 0 1 ∷ happens 1 1 ∷ first_names apart) differ;
-  clauses = code_begins apart 1 names written ((drafts_are_code apart 1 names written).1 (
-    ordered_reads names (not_variable 3 ∷ not_variable 0 ∷ []) (no (closed 0 0) ∷ no (happens 0 1) ∷ []) ((refl, refl), ((refl, refl), tt)),
-    (ordered_reads names (not_variable 4 ∷ not_variable 1 ∷ []) (no (closed 1 0) ∷ no (happens 1 1) ∷ []) ((refl, refl), ((refl, refl), tt)), tt),
-  ));
-  guards = ordered_reads names assumed (guard_literals apart no_log) ((refl, refl), ((refl, refl), ((refl, refl), tt)));
-}

@@ -9,3 +9,4 @@ pub mod LogCodes
 pub mod Drafts
 pub mod LogNames
 pub mod LogCodeLaws
+pub mod BesideEvents

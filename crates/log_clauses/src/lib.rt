@@ -11,6 +11,7 @@
 #![tactic(auto)]
 
 ghost use Rattle.log_clauses.specs.AdditionLaws.{AdditionsAreExact, AdditionsStayOpen, ChainsGrow, EmptyLogIsExact};
+ghost use Rattle.log_clauses.specs.BesideEvents.{LogCodeBegins, LogCodeGrows, LogCodesAre, NamesJoinEvents};
 ghost use Rattle.log_clauses.specs.Drafts.{DraftsAreCode, DraftsAreSmall, FirstClausesAreFew};
 ghost use Rattle.log_clauses.specs.LogCodeLaws.{AssignmentsExplain, ExplanationsAreCoded, LogCodeIsExact, RunsStayOpen};
 ghost use Rattle.log_clauses.specs.LogCodes.{CodeBegins, CodeGrows, CodesStay, ReadingsStay};
@@ -138,6 +139,28 @@ pub fn names_grow()
 /// Where the names of a new alarm stand in this row.
 pub fn places_of_names()
     ensures { PlacesOfNames }
+{}
+
+// ---- the code of a log beside the variables of the events
+
+/// The names of a log go together with those of the events on earlier variables.
+pub fn names_join_events()
+    ensures { NamesJoinEvents }
+{}
+
+/// The first clauses, on the next variables, are the code of the empty log.
+pub fn log_code_begins()
+    ensures { LogCodeBegins }
+{}
+
+/// A draft on later variables makes the code of a log that of the log with the addition.
+pub fn log_code_grows()
+    ensures { LogCodeGrows }
+{}
+
+/// What has grown so is with its guards a code of the log.
+pub fn log_codes_are()
+    ensures { LogCodesAre }
 {}
 
 // ---- what assignments make the code true
