@@ -118,40 +118,38 @@ module _ (net : Net) (log : Log) (value : Name → Bool) (pieces : List (List �
   front_once t = once_left (joined (take t blocks)) (joined (drop t blocks)) (subst (λ xs. EachPair (λ i j. i ≢ j) xs) (front_and_rest blocks t) once)
 
   clause_true : (which : LogClause) → IsLogClause net log (length pieces) which → named_clause_true (coded net log pieces blocks value) (log_clause net log (length pieces) which) ≡ true
-  clause_true (chain_closed e k zero) h = absurd (omega (arith, h.2.0))
-  clause_true (chain_closed e k (suc t)) h =
+  clause_true (chain_closed e k t) h =
       c_not_two (k == length (chain net log e)) (coded net log pieces blocks value (remaining e k (suc t))) (λ shut is.
-      let step : t < length pieces = omega (arith, h.2.1) in
+      let step : t < length pieces = h.2 in
       let open' = rest_from e k (suc t) is in
       let found' = someone e t step h.0 open'.0 in
       let all : take k (chain net log e) ≡ chain net log e = (let same = eqb-true k (length (chain net log e)) shut in take_all k (chain net log e) (omega (arith, same))) in
       open'.1 found'.0 (subst (λ xs. Contains xs found'.0) (sym all) (in_chain net log e found'.0 (stands_match found'.0 e t step found'.1))) found'.1)
-  clause_true (takes_rest i e k zero) h = absurd (omega (arith, h.1.0))
-  clause_true (takes_rest i e k (suc t)) h =
+  clause_true (takes_rest i e k t) h =
       c_implied (stands net pieces blocks i e (suc t)) (coded net log pieces blocks value (remaining e k (suc t))) (λ is.
-      let step : t < length pieces = omega (arith, h.1.1) in
+      let step : t < length pieces = h.1 in
       rest_to e k (suc t) (stands_happens i e t step is) (λ j in' other.
       let same = same_alarm e j i (observables net (get_or pieces t [])) (get_or blocks t []) (shown_once t step) other is in
       take_not (chain net log e) k i (chain_once net log e) h.0 (subst (λ x. Contains (take k (chain net log e)) x) same in')))
   clause_true (uses_up i e k t) h =
-      c_not_two (stands net pieces blocks i e t) (coded net log pieces blocks value (remaining e (suc k) t)) (λ is rest.
-      (rest_from e (suc k) t rest).1 i (take_has (chain net log e) k (suc k) i h.0 (omega arith)) is)
+      c_not_two (stands net pieces blocks i e (suc t)) (coded net log pieces blocks value (remaining e (suc k) (suc t))) (λ is rest.
+      (rest_from e (suc k) (suc t) rest).1 i (take_has (chain net log e) k (suc k) i h.0 (omega arith)) is)
   clause_true (passes_on e k t) h =
-      c_implied (coded net log pieces blocks value (remaining e (suc k) t)) (coded net log pieces blocks value (remaining e k t)) (λ rest.
-      let open' = rest_from e (suc k) t rest in
-      rest_to e k t open'.0 (λ i in' is. open'.1 i (take_grows (chain net log e) k i in') is))
+      c_implied (coded net log pieces blocks value (remaining e (suc k) (suc t))) (coded net log pieces blocks value (remaining e k (suc t))) (λ rest.
+      let open' = rest_from e (suc k) (suc t) rest in
+      rest_to e k (suc t) open'.0 (λ i in' is. open'.1 i (take_grows (chain net log e) k i in') is))
   clause_true (taken_or_passed i e k t) h =
-      c_one_of (coded net log pieces blocks value (remaining e k t)) (stands net pieces blocks i e t) (coded net log pieces blocks value (remaining e (suc k) t)) (λ rest.
-      let open' = rest_from e k t rest in by (stands net pieces blocks i e t) refl open'.0 open'.1)
+      c_one_of (coded net log pieces blocks value (remaining e k (suc t))) (stands net pieces blocks i e (suc t)) (coded net log pieces blocks value (remaining e (suc k) (suc t))) (λ rest.
+      let open' = rest_from e k (suc t) rest in by (stands net pieces blocks i e (suc t)) refl open'.0 open'.1)
     where
-      by : (b : Bool) → stands net pieces blocks i e t ≡ b → value (happens e t) ≡ true → ((j : ℕ) → Contains (take k (chain net log e)) j → stands net pieces blocks j e t ≡ true → ⊥) →
-          (stands net pieces blocks i e t ≡ true) ⊎ (coded net log pieces blocks value (remaining e (suc k) t) ≡ true)
+      by : (b : Bool) → stands net pieces blocks i e (suc t) ≡ b → value (happens e (suc t)) ≡ true → ((j : ℕ) → Contains (take k (chain net log e)) j → stands net pieces blocks j e (suc t) ≡ true → ⊥) →
+          (stands net pieces blocks i e (suc t) ≡ true) ⊎ (coded net log pieces blocks value (remaining e (suc k) (suc t)) ≡ true)
       by true is there none = inl is
-      by false is there none = inr (rest_to e (suc k) t there (λ j in' other. at j other (take_last (chain net log e) k j i h.0 in')))
+      by false is there none = inr (rest_to e (suc k) (suc t) there (λ j in' other. at j other (take_last (chain net log e) k j i h.0 in')))
         where
-          at : (j : ℕ) → stands net pieces blocks j e t ≡ true → Contains (take k (chain net log e)) j ⊎ (i ≡ j) → ⊥
+          at : (j : ℕ) → stands net pieces blocks j e (suc t) ≡ true → Contains (take k (chain net log e)) j ⊎ (i ≡ j) → ⊥
           at j other (inl early) = none j early other
-          at j other (inr same) = clash (stands net pieces blocks j e t) other (subst (λ x. stands net pieces blocks x e t ≡ false) same is)
+          at j other (inr same) = clash (stands net pieces blocks j e (suc t)) other (subst (λ x. stands net pieces blocks x e (suc t) ≡ false) same is)
   clause_true (not_done_first i) h = refl
   clause_true (stays_done i t) h =
       c_implied (coded net log pieces blocks value (done i t)) (coded net log pieces blocks value (done i (suc t))) (λ is.

@@ -1,5 +1,5 @@
 -- The listed clauses of an addition are those that it brings.
-use Rattle.std.proofs.Common.{◌≡◌, ℕ, zero, suc, ◌+◌, ◌*◌, ◌^◌, ◌<◌, ◌≤◌, Bool, true, List, [], ◌∷◌, ◌++◌, ◌∙◌, length, refl, sym, ap, subst, arith, Contains, map, flat_map, filter, inl, inr, ◌⊎◌, ◌↔◌, is_some, count_by, length-append, sum_by}
+use Rattle.std.proofs.Common.{◌≡◌, ℕ, zero, suc, ◌+◌, ◌*◌, ◌^◌, ◌<◌, ◌≤◌, Bool, true, List, [], ◌∷◌, ◌++◌, ◌∙◌, length, refl, sym, ap, subst, arith, Contains, map, flat_map, inl, inr, ◌⊎◌, ◌↔◌, is_some, count_by, length-append, sum_by}
 use Rattle.std.specs.List.{AllByRecursion, AllZip, range_with_len}
 use Rattle.std.proofs.lemmas.List.{length-map}
 use Rattle.std.proofs.lemmas.List.Sums.{length-filter, sum_by-append, sum_by-cons}
@@ -13,7 +13,7 @@ use Rattle.log_clauses.proofs.Rules.{has_event, event_matches, shown_event}
 use Rattle.log_clauses.proofs.Stay.{with_alarm, with_pair, range_more, matching_same}
 use Rattle.log_clauses.specs.Additions.{Addition, alarm_added, pair_added, with_addition, IsTaken, IsAlarmClause, IsAddedClause, IsFirstClause}
 use Rattle.log_clauses.specs.Drafts.{taken_events, link_clauses, match_clauses, done_clauses, alarm_clauses, added_clauses, first_clauses, DraftsAreCode, DraftsAreSmall, FirstClausesAreFew}
-use Rattle.log_clauses.specs.LogClauses.{chain, observable_events, LogClause, log_clause, chain_closed, takes_rest, uses_up, passes_on, taken_or_passed, not_done_first, stays_done, match_is_done, matched_once, done_by_match, one_match, done_if_asked, before_if_asked, IsStepNumber}
+use Rattle.log_clauses.specs.LogClauses.{chain, observable_events, LogClause, log_clause, chain_closed, takes_rest, uses_up, passes_on, taken_or_passed, not_done_first, stays_done, match_is_done, matched_once, done_by_match, one_match, done_if_asked, before_if_asked}
 use Rattle.log_order.specs.Log.{Log, Alarm, no_log}
 use Rattle.prop_core.specs.Clauses.{Clause}
 use Rattle.prop_core.specs.NamedClauses.{IsCode}
@@ -89,14 +89,14 @@ module _ (net : Net) (log : Log) (n : ℕ) (new : Alarm) where
 
   link_wanted : (e t : ℕ) → IsTaken net log new e → t < n → AllByRecursion (IsAlarmClause net log n new) (link_clauses (length log.alarms) e (length (chain net log e)) t)
   link_wanted e t taken step = (
-    (refl, taken, (omega arith, omega arith)),
+    (refl, taken, step),
     (
-      ((refl, refl, taken), (omega arith, omega arith)),
+      ((refl, refl, taken), step),
       (
-        ((refl, refl, taken), (omega arith, omega arith)),
+        ((refl, refl, taken), step),
         (
-          (refl, taken, (omega arith, omega arith)),
-          (((refl, refl, taken), (omega arith, omega arith)), ((refl, taken, step), ((refl, taken, step), tt))),
+          (refl, taken, step),
+          (((refl, refl, taken), step), ((refl, taken, step), ((refl, taken, step), tt))),
         ),
       ),
     ),
@@ -160,29 +160,24 @@ module _ (net : Net) (log : Log) (n : ℕ) (new : Alarm) where
       (flat_has (done_clauses (length log.alarms) (taken_events net log new)) (numbers_below n) t which (number_has n t step) there)))
 
   wanted_listed : (which : LogClause) → IsAlarmClause net log n new which → Contains (alarm_clauses net log n new) which
-  wanted_listed (chain_closed e k zero) h = absurd (omega (arith, h.2.0))
-  wanted_listed (chain_closed e k (suc t)) h =
-      subst (λ x. Contains (alarm_clauses net log n new) (chain_closed e x (suc t))) (sym h.0)
-      (in_links e t (chain_closed e (suc (length (chain net log e))) (suc t)) h.1 (omega (arith, h.2.1)) (0, omega arith, refl))
-  wanted_listed (takes_rest i e k zero) h = absurd (omega (arith, h.1.0))
-  wanted_listed (takes_rest i e k (suc t)) h =
-      subst (λ x. Contains (alarm_clauses net log n new) (takes_rest x e k (suc t))) (sym h.0.0)
-      (subst (λ x. Contains (alarm_clauses net log n new) (takes_rest (length log.alarms) e x (suc t))) (sym h.0.1)
-      (in_links e t (takes_rest (length log.alarms) e (length (chain net log e)) (suc t)) h.0.2 (omega (arith, h.1.1)) (1, omega arith, refl)))
-  wanted_listed (uses_up i e k zero) h = absurd (omega (arith, h.1.0))
-  wanted_listed (uses_up i e k (suc t)) h =
-      subst (λ x. Contains (alarm_clauses net log n new) (uses_up x e k (suc t))) (sym h.0.0)
-      (subst (λ x. Contains (alarm_clauses net log n new) (uses_up (length log.alarms) e x (suc t))) (sym h.0.1)
-      (in_links e t (uses_up (length log.alarms) e (length (chain net log e)) (suc t)) h.0.2 (omega (arith, h.1.1)) (2, omega arith, refl)))
-  wanted_listed (passes_on e k zero) h = absurd (omega (arith, h.2.0))
-  wanted_listed (passes_on e k (suc t)) h =
-      subst (λ x. Contains (alarm_clauses net log n new) (passes_on e x (suc t))) (sym h.0)
-      (in_links e t (passes_on e (length (chain net log e)) (suc t)) h.1 (omega (arith, h.2.1)) (3, omega arith, refl))
-  wanted_listed (taken_or_passed i e k zero) h = absurd (omega (arith, h.1.0))
-  wanted_listed (taken_or_passed i e k (suc t)) h =
-      subst (λ x. Contains (alarm_clauses net log n new) (taken_or_passed x e k (suc t))) (sym h.0.0)
-      (subst (λ x. Contains (alarm_clauses net log n new) (taken_or_passed (length log.alarms) e x (suc t))) (sym h.0.1)
-      (in_links e t (taken_or_passed (length log.alarms) e (length (chain net log e)) (suc t)) h.0.2 (omega (arith, h.1.1)) (4, omega arith, refl)))
+  wanted_listed (chain_closed e k t) h =
+      subst (λ x. Contains (alarm_clauses net log n new) (chain_closed e x t)) (sym h.0)
+      (in_links e t (chain_closed e (suc (length (chain net log e))) t) h.1 h.2 (0, omega arith, refl))
+  wanted_listed (takes_rest i e k t) h =
+      subst (λ x. Contains (alarm_clauses net log n new) (takes_rest x e k t)) (sym h.0.0)
+      (subst (λ x. Contains (alarm_clauses net log n new) (takes_rest (length log.alarms) e x t)) (sym h.0.1)
+      (in_links e t (takes_rest (length log.alarms) e (length (chain net log e)) t) h.0.2 h.1 (1, omega arith, refl)))
+  wanted_listed (uses_up i e k t) h =
+      subst (λ x. Contains (alarm_clauses net log n new) (uses_up x e k t)) (sym h.0.0)
+      (subst (λ x. Contains (alarm_clauses net log n new) (uses_up (length log.alarms) e x t)) (sym h.0.1)
+      (in_links e t (uses_up (length log.alarms) e (length (chain net log e)) t) h.0.2 h.1 (2, omega arith, refl)))
+  wanted_listed (passes_on e k t) h =
+      subst (λ x. Contains (alarm_clauses net log n new) (passes_on e x t)) (sym h.0)
+      (in_links e t (passes_on e (length (chain net log e)) t) h.1 h.2 (3, omega arith, refl))
+  wanted_listed (taken_or_passed i e k t) h =
+      subst (λ x. Contains (alarm_clauses net log n new) (taken_or_passed x e k t)) (sym h.0.0)
+      (subst (λ x. Contains (alarm_clauses net log n new) (taken_or_passed (length log.alarms) e x t)) (sym h.0.1)
+      (in_links e t (taken_or_passed (length log.alarms) e (length (chain net log e)) t) h.0.2 h.1 (4, omega arith, refl)))
   wanted_listed (not_done_first i) h = subst (λ x. Contains (alarm_clauses net log n new) (not_done_first x)) (sym h) (in_rest (not_done_first (length log.alarms)) (0, omega arith, refl))
   wanted_listed (stays_done i t) h = subst (λ x. Contains (alarm_clauses net log n new) (stays_done x t)) (sym h.0) (in_steps t (stays_done (length log.alarms) t) h.1 (0, omega arith, refl))
   wanted_listed (match_is_done i e t) h =
@@ -211,18 +206,16 @@ first_listed net n which = (to, λ h. from h.0 h.1 h.2 h.3 h.4)
   where
     to : Contains (first_clauses net n) which → IsFirstClause net n which
     to in' =
-        let event = flat_from (λ e. map (λ t. chain_closed e 0 (suc t)) (numbers_below n)) (filter (λ e. is_some (label_of net e)) (numbers_below (length net.events))) which in' in
-        let step = map_from (λ t. chain_closed event.0 0 (suc t)) (numbers_below n) which event.2 in
-        let below = number_from n step.0 step.1 in
-        (event.0, suc step.0, (filter_from (λ e. is_some (label_of net e)) (numbers_below (length net.events)) event.0 event.1).0, (omega arith, omega (arith, below)), sym step.2)
+        let event = flat_from (λ e. map (λ t. chain_closed e 0 t) (numbers_below n)) (observable_events net) which in' in
+        let step = map_from (λ t. chain_closed event.0 0 t) (numbers_below n) which event.2 in
+        (event.0, step.0, (filter_from (λ e. is_some (label_of net e)) (numbers_below (length net.events)) event.0 event.1).0, number_from n step.0 step.1, sym step.2)
 
-    from : (e t : ℕ) → is_some (label_of net e) ≡ true → IsStepNumber n t → which ≡ chain_closed e 0 t → Contains (first_clauses net n) which
-    from e zero shown step is = absurd (omega (arith, step.0))
-    from e (suc t) shown step is =
+    from : (e t : ℕ) → is_some (label_of net e) ≡ true → t < n → which ≡ chain_closed e 0 t → Contains (first_clauses net n) which
+    from e t shown step is =
         subst (λ w. Contains (first_clauses net n) w) (sym is)
-        (flat_has (λ f. map (λ s. chain_closed f 0 (suc s)) (numbers_below n)) (filter (λ f. is_some (label_of net f)) (numbers_below (length net.events))) e (chain_closed e 0 (suc t))
+        (flat_has (λ f. map (λ s. chain_closed f 0 s) (numbers_below n)) (observable_events net) e (chain_closed e 0 t)
         (filter_has (λ f. is_some (label_of net f)) (numbers_below (length net.events)) e shown (number_has (length net.events) e (shown_event net e shown)))
-        (map_has (λ s. chain_closed e 0 (suc s)) (numbers_below n) t (number_has n t (omega (arith, step.1)))))
+        (map_has (λ s. chain_closed e 0 s) (numbers_below n) t (number_has n t step)))
 
 pub drafts_are_code : DraftsAreCode
 drafts_are_code net n names clauses = (
@@ -347,7 +340,7 @@ drafts_are_small net log n (pair_added i j) = pair_small net log n i j
 
 pub first_clauses_are_few : FirstClausesAreFew
 first_clauses_are_few net n =
-    let all = flat_length (λ e. map (λ t. chain_closed e 0 (suc t)) (numbers_below n)) (observable_events net) n (λ e.
-    let size = length-map (numbers_below n) (λ t. chain_closed e 0 (suc t)) in let range = length-range_with_len 0 n in omega (arith, size, range)) in
+    let all = flat_length (λ e. map (λ t. chain_closed e 0 t) (numbers_below n)) (observable_events net) n (λ e.
+    let size = length-map (numbers_below n) (λ t. chain_closed e 0 t) in let range = length-range_with_len 0 n in omega (arith, size, range)) in
     let count = length-filter (λ e. is_some (label_of net e)) (numbers_below (length net.events)) in
     all ∙ ap (λ m. m * n) count

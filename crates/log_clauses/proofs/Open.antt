@@ -21,10 +21,10 @@ all_open : (value : Name → Bool) (net : Net) (log : Log) (n : ℕ) (which : Lo
 all_open value net log n (chain_closed e k t) = refl
 all_open value net log n (takes_rest i e k t) = refl
 all_open value net log n (uses_up i e k t) = refl
-all_open value net log n (passes_on e zero t) = itself (value (happens e t))
-all_open value net log n (passes_on e (suc k) t) = itself (value (happens e t))
-all_open value net log n (taken_or_passed i e zero t) = passed (value (happens e t))
-all_open value net log n (taken_or_passed i e (suc k) t) = passed (value (happens e t))
+all_open value net log n (passes_on e zero t) = itself (value (happens e (suc t)))
+all_open value net log n (passes_on e (suc k) t) = itself (value (happens e (suc t)))
+all_open value net log n (taken_or_passed i e zero t) = passed (value (happens e (suc t)))
+all_open value net log n (taken_or_passed i e (suc k) t) = passed (value (happens e (suc t)))
 all_open value net log n (not_done_first i) = refl
 all_open value net log n (stays_done i t) = refl
 all_open value net log n (match_is_done i e t) = refl

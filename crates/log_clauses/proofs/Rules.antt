@@ -147,14 +147,14 @@ module _ (net : Net) (log : Log) (n : ℕ) (value : Name → Bool) (held : LogCl
   ascends e k (suc m) t h inside step is = by (cases_lt k (suc m)) (λ above. ascends e k m t above (omega arith) step)
     where
       by : (k < suc m) ⊎ (suc m ≤ k) → (k ≤ m → value (remaining e m (suc t)) ≡ true → value (remaining e k (suc t)) ≡ true) → value (remaining e k (suc t)) ≡ true
-      by (inl below) later = later (omega arith) (implied (value (remaining e (suc m) (suc t))) (value (remaining e m (suc t))) (held (passes_on e m (suc t)) (omega arith, (omega arith, omega arith))) is)
+      by (inl below) later = later (omega arith) (implied (value (remaining e (suc m) (suc t))) (value (remaining e m (suc t))) (held (passes_on e m t) (omega arith, omega arith)) is)
       by (inr past) later = let same : k ≡ suc m = omega arith in rw same is
 
   pub match_happens : (i e k t : ℕ) → IsLink net log i e k → t < n → value (matches i e (suc t)) ≡ true → value (happens e (suc t)) ≡ true
   match_happens i e k t link step is =
       let within = slice_get_within (chain net log e) k i link in
       ascends e 0 k t (omega arith) (omega (arith, within)) step
-      (implied (value (matches i e (suc t))) (value (remaining e k (suc t))) (held (takes_rest i e k (suc t)) (link, (omega arith, omega arith))) is)
+      (implied (value (matches i e (suc t))) (value (remaining e k (suc t))) (held (takes_rest i e k t) (link, omega arith)) is)
 
   pub alarm_happens : (i e t : ℕ) → is_matching net log e i ≡ true → t < n → value (matches i e (suc t)) ≡ true → value (happens e (suc t)) ≡ true
   alarm_happens i e t matching step is =
@@ -164,9 +164,9 @@ module _ (net : Net) (log : Log) (n : ℕ) (value : Name → Bool) (held : LogCl
   one_alarm_less : (i j e k l t : ℕ) → IsLink net log i e k → IsLink net log j e l → k < l → t < n → value (matches i e (suc t)) ≡ true → value (matches j e (suc t)) ≡ true → ⊥
   one_alarm_less i j e k l t first second less step here there =
       let within = slice_get_within (chain net log e) l j second in
-      not_two (value (matches i e (suc t))) (value (remaining e (suc k) (suc t))) (held (uses_up i e k (suc t)) (first, (omega arith, omega arith))) here
+      not_two (value (matches i e (suc t))) (value (remaining e (suc k) (suc t))) (held (uses_up i e k t) (first, omega arith)) here
       (ascends e (suc k) l t (omega arith) (omega (arith, within)) step
-      (implied (value (matches j e (suc t))) (value (remaining e l (suc t))) (held (takes_rest j e l (suc t)) (second, (omega arith, omega arith))) there))
+      (implied (value (matches j e (suc t))) (value (remaining e l (suc t))) (held (takes_rest j e l t) (second, omega arith)) there))
 
   -- an event in a step has one alarm at most
   pub one_alarm : (i j e t : ℕ) → is_matching net log e i ≡ true → is_matching net log e j ≡ true → t < n → value (matches i e (suc t)) ≡ true → value (matches j e (suc t)) ≡ true → i ≡ j
@@ -192,11 +192,11 @@ module _ (net : Net) (log : Log) (n : ℕ) (value : Name → Bool) (held : LogCl
   taken_from zero e k t count shown shut step is =
       let same : k ≡ length (chain net log e) = omega arith in
       absurd (not_two (value (closed e (length (chain net log e)))) (value (remaining e (length (chain net log e)) (suc t)))
-      (held (chain_closed e (length (chain net log e)) (suc t)) (shown, omega arith, (omega arith, omega arith))) shut (subst (λ x. value (remaining e x (suc t)) ≡ true) same is))
+      (held (chain_closed e (length (chain net log e)) t) (shown, omega arith, omega arith)) shut (subst (λ x. value (remaining e x (suc t)) ≡ true) same is))
   taken_from (suc m) e k t count shown shut step is =
       let at = got_at (chain net log e) k (omega arith) in
       by at.0 at.1 (one_of (value (remaining e k (suc t))) (value (matches at.0 e (suc t))) (value (remaining e (suc k) (suc t)))
-      (held (taken_or_passed at.0 e k (suc t)) (at.1, (omega arith, omega arith))) is) (taken_from m e (suc k) t (omega arith) shown shut step)
+      (held (taken_or_passed at.0 e k t) (at.1, omega arith)) is) (taken_from m e (suc k) t (omega arith) shown shut step)
     where
       by : (i : ℕ) → IsLink net log i e k → (value (matches i e (suc t)) ≡ true) ⊎ (value (remaining e (suc k) (suc t)) ≡ true) →
           (value (remaining e (suc k) (suc t)) ≡ true → (i' : ℕ) × (is_matching net log e i' ≡ true) × (value (matches i' e (suc t)) ≡ true)) → (i' : ℕ) × (is_matching net log e i' ≡ true) × (value (matches i' e (suc t)) ≡ true)

@@ -42,14 +42,14 @@ pump_observable = refl
 -- ---- clauses
 
 -- the first of a chain takes what happens
-pub first_takes : log_clause pump beats 2 (takes_rest 0 3 0 1) ≡ no (matches 0 3 1) ∷ yes (happens 3 1) ∷ []
+pub first_takes : log_clause pump beats 2 (takes_rest 0 3 0 0) ≡ no (matches 0 3 1) ∷ yes (happens 3 1) ∷ []
 first_takes = refl
 
 -- the second takes what the first has passed on
-pub second_takes : log_clause pump beats 2 (takes_rest 1 3 1 2) ≡ no (matches 1 3 2) ∷ yes (unmatched 3 1 2) ∷ []
+pub second_takes : log_clause pump beats 2 (takes_rest 1 3 1 1) ≡ no (matches 1 3 2) ∷ yes (unmatched 3 1 2) ∷ []
 second_takes = refl
 
-pub second_uses_up : log_clause pump beats 2 (uses_up 1 3 1 2) ≡ no (matches 1 3 2) ∷ no (unmatched 3 2 2) ∷ []
+pub second_uses_up : log_clause pump beats 2 (uses_up 1 3 1 1) ≡ no (matches 1 3 2) ∷ no (unmatched 3 2 2) ∷ []
 second_uses_up = refl
 
 pub done_by_either : log_clause pump beats 2 (done_by_match 0 0) ≡ no (done 0 1) ∷ yes (done 0 0) ∷ yes (matches 0 1 1) ∷ yes (matches 0 3 1) ∷ []
@@ -127,7 +127,7 @@ decodes_order = refl
 -- ---- what is false
 
 -- with no alarm an event that happens breaks the guard of its chain
-pub empty_log_closes : named_clause_true (coded apart no_log ([] ∷ []) ([] ∷ []) both) (log_clause apart no_log 1 (chain_closed 0 0 1)) ≡ false
+pub empty_log_closes : named_clause_true (coded apart no_log ([] ∷ []) ([] ∷ []) both) (log_clause apart no_log 1 (chain_closed 0 0 0)) ≡ false
 empty_log_closes = refl
 
 -- and without guards nothing is broken

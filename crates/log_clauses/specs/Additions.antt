@@ -2,7 +2,7 @@
 use Rattle.std.specs.Prelude.{◌≡◌, ℕ, suc, ◌<◌, List, [], ◌∷◌, ◌++◌, length, IsTrue, is_some}
 use Rattle.des_net.specs.Network.{Net, label_of}
 use Rattle.log_order.specs.Log.{Log, Alarm}
-use Rattle.log_clauses.specs.LogClauses.{chain, LogClause, chain_closed, takes_rest, uses_up, passes_on, taken_or_passed, not_done_first, stays_done, match_is_done, matched_once, done_by_match, one_match, done_if_asked, before_if_asked, IsStepNumber}
+use Rattle.log_clauses.specs.LogClauses.{chain, LogClause, chain_closed, takes_rest, uses_up, passes_on, taken_or_passed, not_done_first, stays_done, match_is_done, matched_once, done_by_match, one_match, done_if_asked, before_if_asked}
 use Rattle.replay.specs.QuestionSize.{is_matching}
 
 -- one alarm at the end, or one pair
@@ -29,11 +29,11 @@ IsNewLink net log new i e k = (i ≡ length log.alarms) × (k ≡ length (chain 
 
 -- The clauses that a new alarm brings: none of events that it can't stand for.
 abbrev pub IsAlarmClause : Net → Log → ℕ → Alarm → LogClause → Type 0
-IsAlarmClause net log n new (chain_closed e k t) = (k ≡ suc (length (chain net log e))) × IsTaken net log new e × IsStepNumber n t
-IsAlarmClause net log n new (takes_rest i e k t) = IsNewLink net log new i e k × IsStepNumber n t
-IsAlarmClause net log n new (uses_up i e k t) = IsNewLink net log new i e k × IsStepNumber n t
-IsAlarmClause net log n new (passes_on e k t) = (k ≡ length (chain net log e)) × IsTaken net log new e × IsStepNumber n t
-IsAlarmClause net log n new (taken_or_passed i e k t) = IsNewLink net log new i e k × IsStepNumber n t
+IsAlarmClause net log n new (chain_closed e k t) = (k ≡ suc (length (chain net log e))) × IsTaken net log new e × (t < n)
+IsAlarmClause net log n new (takes_rest i e k t) = IsNewLink net log new i e k × (t < n)
+IsAlarmClause net log n new (uses_up i e k t) = IsNewLink net log new i e k × (t < n)
+IsAlarmClause net log n new (passes_on e k t) = (k ≡ length (chain net log e)) × IsTaken net log new e × (t < n)
+IsAlarmClause net log n new (taken_or_passed i e k t) = IsNewLink net log new i e k × (t < n)
 IsAlarmClause net log n new (not_done_first i) = i ≡ length log.alarms
 IsAlarmClause net log n new (stays_done i t) = (i ≡ length log.alarms) × (t < n)
 IsAlarmClause net log n new (match_is_done i e t) = (i ≡ length log.alarms) × IsTaken net log new e × (t < n)
@@ -50,4 +50,4 @@ IsAddedClause net log n (pair_added i j) which = (t : ℕ) × (t < n) × (which 
 
 -- the clauses of the empty log: no event that can be seen happens where all chains are closed
 abbrev pub IsFirstClause : Net → ℕ → LogClause → Type 0
-IsFirstClause net n which = (e : ℕ) × (t : ℕ) × IsTrue (is_some (label_of net e)) × IsStepNumber n t × (which ≡ chain_closed e 0 t)
+IsFirstClause net n which = (e : ℕ) × (t : ℕ) × IsTrue (is_some (label_of net e)) × (t < n) × (which ≡ chain_closed e 0 t)

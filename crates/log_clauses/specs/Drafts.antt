@@ -19,7 +19,7 @@ taken_events net log new = matching_events net (with_addition log (alarm_added n
 
 -- of alarm i, which comes after k alarms in the chain of event e, and the step after t steps
 abbrev pub link_clauses : ℕ → ℕ → ℕ → ℕ → List LogClause
-link_clauses i e k t = chain_closed e (suc k) (suc t) ∷ takes_rest i e k (suc t) ∷ uses_up i e k (suc t) ∷ passes_on e k (suc t) ∷ taken_or_passed i e k (suc t)
+link_clauses i e k t = chain_closed e (suc k) t ∷ takes_rest i e k t ∷ uses_up i e k t ∷ passes_on e k t ∷ taken_or_passed i e k t
     ∷ match_is_done i e t ∷ matched_once i e t ∷ []
 
 -- no two of these events for alarm i in the step after t steps
@@ -44,7 +44,7 @@ added_clauses net log n (pair_added i j) = map (λ t. before_if_asked i j t) (nu
 
 -- the clauses of the empty log
 abbrev pub first_clauses : Net → ℕ → List LogClause
-first_clauses net n = flat_map (λ e. map (λ t. chain_closed e 0 (suc t)) (numbers_below n)) (observable_events net)
+first_clauses net n = flat_map (λ e. map (λ t. chain_closed e 0 t) (numbers_below n)) (observable_events net)
 
 -- one after another the clauses are these, by name
 abbrev pub AreListed : Net → Log → ℕ → List (ℕ × Name) → List Clause → List LogClause → Type 0

@@ -1,4 +1,5 @@
 -- The clauses of an alarm log in n steps of a network, by name: each alarm stands for one event that can be seen, each such event has one alarm, and pairs don't step back.
+-- Observations beside the clauses of runs are as in Grastien, Anbulagan, Rintanen and Kelareva, "Diagnosis of discrete-event systems using satisfiability algorithms", 2007; the chains, by which a log grows, are our own.
 use Rattle.std.specs.Prelude.{◌≡◌, ℕ, suc, ◌<◌, ◌≤◌, List, [], ◌∷◌, map, filter, length, Some, slice_get, is_some, Contains, IsTrue}
 use Rattle.des_net.specs.Network.{Net, label_of}
 use Rattle.log_order.specs.Log.{Log}
@@ -18,7 +19,7 @@ matching_events net log i = filter (λ e. is_matching net log e i) (numbers_belo
 abbrev pub observable_events : Net → List ℕ
 observable_events net = filter (λ e. is_some (label_of net e)) (numbers_below (length net.events))
 
--- Which clause of the log it is. Of the first five t is the number of a step, from 1 on; of the others step t leads from what holds after t steps to what holds after t + 1.
+-- Which clause of the log it is. Step t leads from what holds after t steps to what holds after t + 1.
 pub data LogClause : Type 0 where
   chain_closed : (e k t : ℕ) → LogClause
   takes_rest : (i e k t : ℕ) → LogClause
@@ -36,15 +37,15 @@ pub data LogClause : Type 0 where
 
 abbrev pub log_clause : Net → Log → ℕ → LogClause → List NamedLiteral
 -- where the chain of e is closed after k alarms, one of these has taken e
-log_clause net log n (chain_closed e k t) = no (closed e k) ∷ no (remaining e k t) ∷ []
+log_clause net log n (chain_closed e k t) = no (closed e k) ∷ no (remaining e k (suc t)) ∷ []
 -- Alarm i, which has k before it in the chain, takes e only where these have passed it on,
-log_clause net log n (takes_rest i e k t) = no (matches i e t) ∷ yes (remaining e k t) ∷ []
+log_clause net log n (takes_rest i e k t) = no (matches i e (suc t)) ∷ yes (remaining e k (suc t)) ∷ []
 -- and doesn't pass it on;
-log_clause net log n (uses_up i e k t) = no (matches i e t) ∷ no (remaining e (suc k) t) ∷ []
+log_clause net log n (uses_up i e k t) = no (matches i e (suc t)) ∷ no (remaining e (suc k) (suc t)) ∷ []
 -- what k + 1 alarms have passed on k have;
-log_clause net log n (passes_on e k t) = no (remaining e (suc k) t) ∷ yes (remaining e k t) ∷ []
+log_clause net log n (passes_on e k t) = no (remaining e (suc k) (suc t)) ∷ yes (remaining e k (suc t)) ∷ []
 -- and what comes to alarm i it takes or passes on.
-log_clause net log n (taken_or_passed i e k t) = no (remaining e k t) ∷ yes (matches i e t) ∷ yes (remaining e (suc k) t) ∷ []
+log_clause net log n (taken_or_passed i e k t) = no (remaining e k (suc t)) ∷ yes (matches i e (suc t)) ∷ yes (remaining e (suc k) (suc t)) ∷ []
 -- An alarm is done from its match on, and has one match.
 log_clause net log n (not_done_first i) = no (done i 0) ∷ []
 log_clause net log n (stays_done i t) = no (done i t) ∷ yes (done i (suc t)) ∷ []
@@ -60,17 +61,13 @@ log_clause net log n (before_if_asked i j t) = no asked ∷ no (done j (suc t)) 
 abbrev pub IsLink : Net → Log → ℕ → ℕ → ℕ → Type 0
 IsLink net log i e k = slice_get (chain net log e) k ≡ Some i
 
--- t is the number of one of n steps
-abbrev pub IsStepNumber : ℕ → ℕ → Type 0
-IsStepNumber n t = (1 ≤ t) × (t ≤ n)
-
 -- For which numbers it is written. A chain is closed after each number of alarms that it has ever had.
 abbrev pub IsLogClause : Net → Log → ℕ → LogClause → Type 0
-IsLogClause net log n (chain_closed e k t) = IsTrue (is_some (label_of net e)) × (k ≤ length (chain net log e)) × IsStepNumber n t
-IsLogClause net log n (takes_rest i e k t) = IsLink net log i e k × IsStepNumber n t
-IsLogClause net log n (uses_up i e k t) = IsLink net log i e k × IsStepNumber n t
-IsLogClause net log n (passes_on e k t) = (k < length (chain net log e)) × IsStepNumber n t
-IsLogClause net log n (taken_or_passed i e k t) = IsLink net log i e k × IsStepNumber n t
+IsLogClause net log n (chain_closed e k t) = IsTrue (is_some (label_of net e)) × (k ≤ length (chain net log e)) × (t < n)
+IsLogClause net log n (takes_rest i e k t) = IsLink net log i e k × (t < n)
+IsLogClause net log n (uses_up i e k t) = IsLink net log i e k × (t < n)
+IsLogClause net log n (passes_on e k t) = (k < length (chain net log e)) × (t < n)
+IsLogClause net log n (taken_or_passed i e k t) = IsLink net log i e k × (t < n)
 IsLogClause net log n (not_done_first i) = i < length log.alarms
 IsLogClause net log n (stays_done i t) = (i < length log.alarms) × (t < n)
 IsLogClause net log n (match_is_done i e t) = IsTrue (is_matching net log e i) × (t < n)

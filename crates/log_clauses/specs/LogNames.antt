@@ -7,13 +7,17 @@ use Rattle.des_net.specs.QuestionSize.{observable_count}
 use Rattle.log_order.specs.Log.{Log, Alarm, no_log}
 use Rattle.log_clauses.specs.Additions.{Addition, alarm_added, pair_added, with_addition}
 use Rattle.log_clauses.specs.Drafts.{taken_events}
-use Rattle.log_clauses.specs.LogClauses.{chain, observable_events, IsStepNumber}
+use Rattle.log_clauses.specs.LogClauses.{chain, observable_events}
 use Rattle.prop_core.specs.Clauses.{Clause}
 use Rattle.prop_core.specs.VariableNames.{Name, in_state, happens, asked, matches, done, unmatched, closed, reaches, some_of_first, NamedLiteral, HasEachOnce, name_of, ReadsAs}
 use Rattle.prop_core.specs.declared.lit.Lit.{Lit}
 use Rattle.replay.specs.QuestionSize.{is_matching, variable_bound}
 use Rattle.run_clauses.specs.LaidOut.{laid_out}
 use Rattle.run_clauses.specs.StepClauses.{numbers_below}
+
+-- t is the number of one of n steps, counted from 1
+abbrev pub IsStepNumber : ℕ → ℕ → Type 0
+IsStepNumber n t = (1 ≤ t) × (t ≤ n)
 
 -- the names of a log, apart from those of the steps
 abbrev pub IsLogName : Net → Log → ℕ → Name → Type 0
