@@ -1,6 +1,7 @@
 pub mod Lists
 pub mod Pieces
 pub mod Open
+pub mod ReadNames
 pub mod Rules
 pub mod Sound
 pub mod Fronts

@@ -77,6 +77,6 @@ IsLogClause net log n (one_match i e f t) = IsTrue (is_matching net log e i) × 
 IsLogClause net log n (done_if_asked i) = i < length log.alarms
 IsLogClause net log n (before_if_asked i j t) = Contains log.pairs (i, j) × (t < n)
 
--- What is assumed for this log, and never for a longer one: it is asked for, and the chain of each event that can be seen ends after its present alarms.
+-- What is assumed for this log: it is asked for, and the chain of each event that can be seen ends after its present alarms. Where a chain grows, its earlier end is assumed no more.
 abbrev pub guard_literals : Net → Log → List NamedLiteral
 guard_literals net log = yes asked ∷ map (λ e. yes (closed e (length (chain net log e)))) (observable_events net)

@@ -6,7 +6,7 @@ use Rattle.log_order.specs.Log.{Log, ListsOnce, Keeps, IsValidLog}
 use Rattle.log_clauses.specs.Coded.{opened}
 use Rattle.log_clauses.specs.Decoded.{arranged, arranged_order, alarm_at, event_at}
 use Rattle.log_clauses.specs.LogClauses.{LogClause, log_clause}
-use Rattle.log_clauses.specs.LogTruth.{LogClausesHold, GuardsHold, DifferInLog}
+use Rattle.log_clauses.specs.LogTruth.{LogClausesHold, GuardsHold, DifferInLog, AgreeOnLog}
 use Rattle.prop_core.specs.NamedClauses.{named_clause_true}
 use Rattle.prop_core.specs.VariableNames.{Name, happens, matches}
 use Rattle.replay.specs.Explanation.{Linearises}
@@ -75,3 +75,8 @@ MatchesAreExact = (net : Net) (log : Log) (n : ℕ) (value : Name → Bool) → 
 abbrev pub EventsAndAlarms : Type 0
 EventsAndAlarms = (net : Net) (log : Log) (n : ℕ) (value : Name → Bool) → LogClausesHold net log n value → GuardsHold net log value →
     (i e t : ℕ) → t < n → alarm_at net log value e (suc t) ≡ Some i ↔ event_at net log value t i ≡ Some e
+
+-- The clauses of a log and its guards read no names but those of the log and of events.
+abbrev pub OnlyLogMatters : Type 0
+OnlyLogMatters = (net : Net) (log : Log) (n : ℕ) (value other : Name → Bool) → AgreeOnLog value other →
+    (LogClausesHold net log n value → LogClausesHold net log n other) × (GuardsHold net log value → GuardsHold net log other)

@@ -1,11 +1,12 @@
 -- When names by their truth make the clauses of a log true, and its guards.
-use Rattle.std.specs.Prelude.{◌≡◌, ℕ, Bool, true, false, IsTrue}
+use Rattle.std.specs.Prelude.{◌≡◌, ℕ, Bool, true, false, ◌||◌, IsTrue}
 use Rattle.std.specs.List.{AllByRecursion}
 use Rattle.des_net.specs.Network.{Net}
 use Rattle.log_order.specs.Log.{Log}
 use Rattle.log_clauses.specs.LogClauses.{LogClause, log_clause, IsLogClause, guard_literals}
 use Rattle.prop_core.specs.NamedClauses.{named_true, named_clause_true}
 use Rattle.prop_core.specs.VariableNames.{Name, in_state, happens, asked, matches, done, unmatched, closed, reaches, some_of_first}
+use Rattle.run_clauses.specs.Steps.{is_event}
 
 -- each clause of the log is true
 abbrev pub LogClausesHold : Net → Log → ℕ → (Name → Bool) → Type 0
@@ -30,3 +31,7 @@ is_of_log (some_of_first family i) = false
 -- the same truth for all names but those of a log
 abbrev pub DifferInLog : (Name → Bool) → (Name → Bool) → Type 0
 DifferInLog given value = (name : Name) → is_of_log name ≡ false → value name ≡ given name
+
+-- the same truth for all names that clauses of logs have, and guards
+abbrev pub AgreeOnLog : (Name → Bool) → (Name → Bool) → Type 0
+AgreeOnLog value other = (name : Name) → is_event name || is_of_log name ≡ true → value name ≡ other name

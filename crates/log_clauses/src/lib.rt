@@ -15,7 +15,7 @@ ghost use Rattle.log_clauses.specs.BesideEvents.{LogCodeBegins, LogCodeGrows, Lo
 ghost use Rattle.log_clauses.specs.Drafts.{DraftsAreCode, DraftsAreSmall, FirstClausesAreFew};
 ghost use Rattle.log_clauses.specs.LogCodeLaws.{AssignmentsExplain, ExplanationsAreCoded, LogCodeIsExact, RunsStayOpen};
 ghost use Rattle.log_clauses.specs.LogCodes.{CodeBegins, CodeGrows, CodesStay, ReadingsStay};
-ghost use Rattle.log_clauses.specs.LogLaws.{EventsAndAlarms, LogIsComplete, LogIsOpen, LogIsSound, MatchesAreExact};
+ghost use Rattle.log_clauses.specs.LogLaws.{EventsAndAlarms, LogIsComplete, LogIsOpen, LogIsSound, MatchesAreExact, OnlyLogMatters};
 ghost use Rattle.log_clauses.specs.LogNames.{FirstNamesAreAll, NamesAreFew, NamesAreNew, NamesBegin, NamesGrow, OrderedReads, PlacesOfNames};
 
 // ---- what the clauses of a log say, by name
@@ -33,6 +33,11 @@ pub fn log_is_complete()
 /// Without the guards the clauses of all logs go with every truth of the events.
 pub fn log_is_open()
     ensures { LogIsOpen }
+{}
+
+/// The clauses of a log and its guards read names of the log and of events only.
+pub fn only_log_matters()
+    ensures { OnlyLogMatters }
 {}
 
 /// Alarms and events that happen and can be seen go together one by one.

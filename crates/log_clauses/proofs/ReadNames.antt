@@ -1,0 +1,53 @@
+-- The names that clauses of logs and guards have.
+use Rattle.std.proofs.Common.{◌≡◌, ℕ, zero, suc, Bool, true, List, [], ◌∷◌, length, refl, sym, ap, map, IsTrue, ◌||◌, ◌∙◌}
+use Rattle.std.specs.List.{AllByRecursion}
+use Rattle.des_net.specs.Network.{Net}
+use Rattle.log_order.specs.Log.{Log}
+use Rattle.log_clauses.specs.LogClauses.{chain, matching_events, observable_events, LogClause, log_clause, guard_literals, chain_closed, takes_rest, uses_up, passes_on, taken_or_passed, not_done_first, stays_done, match_is_done, matched_once, done_by_match, one_match, done_if_asked, before_if_asked}
+use Rattle.log_clauses.specs.LogLaws.{OnlyLogMatters}
+use Rattle.log_clauses.specs.LogTruth.{is_of_log, AgreeOnLog}
+use Rattle.prop_core.specs.NamedClauses.{same_sign, named_true, named_clause_true}
+use Rattle.prop_core.specs.VariableNames.{Name, NamedLiteral, yes, remaining, matches, closed}
+use Rattle.run_clauses.specs.Steps.{is_event}
+
+remaining_read : (e k t : ℕ) → is_event (remaining e k t) || is_of_log (remaining e k t) ≡ true
+remaining_read e zero t = refl
+remaining_read e (suc k) t = refl
+
+each_read : (name : ℕ → Name) (xs : List ℕ) → ((x : ℕ) → is_event (name x) || is_of_log (name x) ≡ true) → AllByRecursion (λ m. is_event m.name || is_of_log m.name ≡ true) (map (λ x. yes (name x)) xs)
+each_read name [] read = tt
+each_read name (x ∷ xs) read = (read x, each_read name xs read)
+
+clause_read : (net : Net) (log : Log) (n : ℕ) (which : LogClause) → AllByRecursion (λ m. is_event m.name || is_of_log m.name ≡ true) (log_clause net log n which)
+clause_read net log n (chain_closed e k t) = (refl, (remaining_read e k (suc t), tt))
+clause_read net log n (takes_rest i e k t) = (refl, (remaining_read e k (suc t), tt))
+clause_read net log n (uses_up i e k t) = (refl, (refl, tt))
+clause_read net log n (passes_on e k t) = (refl, (remaining_read e k (suc t), tt))
+clause_read net log n (taken_or_passed i e k t) = (remaining_read e k (suc t), (refl, (refl, tt)))
+clause_read net log n (not_done_first i) = (refl, tt)
+clause_read net log n (stays_done i t) = (refl, (refl, tt))
+clause_read net log n (match_is_done i e t) = (refl, (refl, tt))
+clause_read net log n (matched_once i e t) = (refl, (refl, tt))
+clause_read net log n (done_by_match i t) = (refl, (refl, each_read (λ e. matches i e (suc t)) (matching_events net log i) (λ e. refl)))
+clause_read net log n (one_match i e f t) = (refl, (refl, tt))
+clause_read net log n (done_if_asked i) = (refl, (refl, tt))
+clause_read net log n (before_if_asked i j t) = (refl, (refl, (refl, tt)))
+
+same_clause : (value other : Name → Bool) → AgreeOnLog value other → (literals : List NamedLiteral) → AllByRecursion (λ m. is_event m.name || is_of_log m.name ≡ true) literals →
+    named_clause_true value literals ≡ named_clause_true other literals
+same_clause value other agree [] read = refl
+same_clause value other agree (m ∷ literals) read =
+    ap (λ b. same_sign m.positive b || named_clause_true value literals) (agree m.name read.0)
+    ∙ ap (λ b. named_true other m || b) (same_clause value other agree literals read.1)
+
+same_guards : (value other : Name → Bool) → AgreeOnLog value other → (literals : List NamedLiteral) → AllByRecursion (λ m. is_event m.name || is_of_log m.name ≡ true) literals →
+    AllByRecursion (λ m. IsTrue (named_true value m)) literals → AllByRecursion (λ m. IsTrue (named_true other m)) literals
+same_guards value other agree [] read all = tt
+same_guards value other agree (m ∷ literals) read all =
+    (sym (ap (same_sign m.positive) (agree m.name read.0)) ∙ all.0, same_guards value other agree literals read.1 all.1)
+
+pub only_log_matters : OnlyLogMatters
+only_log_matters net log n value other agree = (
+  λ held which h. sym (same_clause value other agree (log_clause net log n which) (clause_read net log n which)) ∙ held which h,
+  same_guards value other agree (guard_literals net log) (refl, each_read (λ e. closed e (length (chain net log e))) (observable_events net) (λ e. refl)),
+)
