@@ -6,10 +6,11 @@ use Rattle.std.proofs.lemmas.List.Elements.{filter-append}
 use Rattle.des_base.specs.Lists.{EachPair}
 use Rattle.des_net.specs.Network.{Net, label_of}
 use Rattle.des_net.specs.Width.{joined}
-use Rattle.log_clauses.proofs.Lists.{or_cases, or_left, or_right, both, and_true, cons_cases, here_first, here_later, none_in_nil, all_at}
+use Rattle.log_clauses.proofs.Lists.{or_cases, or_left, both, and_true, cons_cases, here_first, here_later, none_in_nil, all_at}
 use Rattle.log_clauses.specs.Coded.{is_paired}
 use Rattle.log_order.specs.Log.{Log}
 use Rattle.replay.specs.Explanation.{observables, Shows}
+use Rattle.run_clauses.proofs.StepLemmas.{or_right}
 
 -- An order of the events of pieces, cut where the pieces are cut.
 pub cut_zip : (R : ℕ → ℕ → Type 0) (xs ys zs : List ℕ) → AllZip R (xs ++ ys) zs → (front : List ℕ) × (rest : List ℕ) × (zs ≡ front ++ rest) × AllZip R xs front × AllZip R ys rest

@@ -5,7 +5,7 @@ use Rattle.std.proofs.lemmas.Bool.{eqb-true, eq-eqb}
 use Rattle.des_base.specs.Lists.{EachPair}
 use Rattle.des_net.specs.Network.{Net, label_of}
 use Rattle.des_net.specs.Width.{joined}
-use Rattle.log_clauses.proofs.Lists.{clash, as_false, or_left, or_right, both, and_true, filter_has, filter_from, all_at, pairs_filter, append_cases, append_left, append_right}
+use Rattle.log_clauses.proofs.Lists.{clash, as_false, or_left, both, and_true, filter_has, filter_from, all_at, pairs_filter, append_cases, append_left, append_right}
 use Rattle.log_clauses.proofs.Pieces.{IsStepSet, AreFrom, piece_is, pieces_are_steps}
 use Rattle.log_clauses.proofs.Rules.{shown_matches, shown_event, in_chain, has_event}
 use Rattle.log_clauses.specs.Coded.{stands, coded}
@@ -17,20 +17,15 @@ use Rattle.prop_core.specs.NamedClauses.{named_true, named_clause_true}
 use Rattle.prop_core.specs.VariableNames.{Name, yes, in_state, happens, asked, matches, done, unmatched, closed, reaches, some_of_first, remaining}
 use Rattle.replay.specs.Explanation.{observables, Shows, Linearises}
 use Rattle.replay.specs.QuestionSize.{is_matching}
-use Rattle.run_clauses.proofs.StepLemmas.{found, among}
+use Rattle.run_clauses.proofs.StepLemmas.{found, among, mapped, or_right, two_negations}
 use Rattle.run_clauses.specs.StepClauses.{numbers_below}
-use Rattle.log_clauses.proofs.Fronts.{any_has, has_any, mapped_true, take_has, take_grows, take_last, take_not, range_once, apart_append, once_left, block_once, next_front, front_and_rest, place_inside, inside_place}
+use Rattle.log_clauses.proofs.Fronts.{any_has, has_any, take_has, take_grows, take_last, take_not, range_once, apart_append, once_left, block_once, next_front, front_and_rest, place_inside, inside_place}
 use Rattle.log_clauses.proofs.Blocks.{cut_order, blocks_length, block_at, paired, partner, partner_back, paired_in, same_alarm, same_event}
 
 -- clauses of one, two and three literals
 pub c_implied : (a b : Bool) → (a ≡ true → b ≡ true) → not a || (b || false) ≡ true
 c_implied true b h = or_left b false (h refl)
 c_implied false b h = refl
-
-pub c_not_two : (a b : Bool) → (a ≡ true → b ≡ true → ⊥) → not a || (not b || false) ≡ true
-c_not_two true true h = absurd (h refl refl)
-c_not_two true false h = refl
-c_not_two false b h = refl
 
 c_one_of : (a b c : Bool) → (a ≡ true → (b ≡ true) ⊎ (c ≡ true)) → not a || (b || (c || false)) ≡ true
 c_one_of true true c h = refl
@@ -119,7 +114,7 @@ module _ (net : Net) (log : Log) (value : Name → Bool) (pieces : List (List �
 
   clause_true : (which : LogClause) → IsLogClause net log (length pieces) which → named_clause_true (coded net log pieces blocks value) (log_clause net log (length pieces) which) ≡ true
   clause_true (chain_closed e k t) h =
-      c_not_two (k == length (chain net log e)) (coded net log pieces blocks value (remaining e k (suc t))) (λ shut is.
+      two_negations (k == length (chain net log e)) (coded net log pieces blocks value (remaining e k (suc t))) (λ shut is.
       let step : t < length pieces = h.2 in
       let open' = rest_from e k (suc t) is in
       let found' = someone e t step h.0 open'.0 in
@@ -132,7 +127,7 @@ module _ (net : Net) (log : Log) (value : Name → Bool) (pieces : List (List �
       let same = same_alarm e j i (observables net (get_or pieces t [])) (get_or blocks t []) (shown_once t step) other is in
       take_not (chain net log e) k i (chain_once net log e) h.0 (subst (λ x. Contains (take k (chain net log e)) x) same in')))
   clause_true (uses_up i e k t) h =
-      c_not_two (stands net pieces blocks i e (suc t)) (coded net log pieces blocks value (remaining e (suc k) (suc t))) (λ is rest.
+      two_negations (stands net pieces blocks i e (suc t)) (coded net log pieces blocks value (remaining e (suc k) (suc t))) (λ is rest.
       (rest_from e (suc k) (suc t) rest).1 i (take_has (chain net log e) k (suc k) i h.0 (omega arith)) is)
   clause_true (passes_on e k t) h =
       c_implied (coded net log pieces blocks value (remaining e (suc k) (suc t))) (coded net log pieces blocks value (remaining e k (suc t))) (λ rest.
@@ -159,7 +154,7 @@ module _ (net : Net) (log : Log) (value : Name → Bool) (pieces : List (List �
       done_to i (suc t) (subst (λ xs. Contains xs i) (sym (next t h.1)) (append_right (joined (take t blocks)) (get_or blocks t []) i
       (paired_in e i (observables net (get_or pieces t [])) (get_or blocks t []) is).1)))
   clause_true (matched_once i e t) h =
-      c_not_two (stands net pieces blocks i e (suc t)) (coded net log pieces blocks value (done i t)) (λ is before.
+      two_negations (stands net pieces blocks i e (suc t)) (coded net log pieces blocks value (done i t)) (λ is before.
       apart_append (joined (take t blocks)) (get_or blocks t []) i (subst (λ xs. EachPair (λ a b. a ≢ b) xs) (next t h.1) (front_once (suc t))) (done_from i t before)
       (paired_in e i (observables net (get_or pieces t [])) (get_or blocks t []) is).1)
   clause_true (done_by_match i t) h =
@@ -172,9 +167,9 @@ module _ (net : Net) (log : Log) (value : Name → Bool) (pieces : List (List �
       by (inl early) = inl (done_to i t early)
       by (inr now) =
           let found' = partner_back (Shows net log) i (observables net (get_or pieces t [])) (get_or blocks t []) (zipped t h.1) now in
-          inr (mapped_true (coded net log pieces blocks value) (λ e. matches i e (suc t)) (matching_events net log i) found'.0 (has_event net log found'.0 i (stands_match i found'.0 t h.1 found'.1)) found'.1)
+          inr (mapped (coded net log pieces blocks value) (λ e. matches i e (suc t)) (matching_events net log i) found'.0 (has_event net log found'.0 i (stands_match i found'.0 t h.1 found'.1)) found'.1)
   clause_true (one_match i e f t) h =
-      c_not_two (stands net pieces blocks i e (suc t)) (stands net pieces blocks i f (suc t)) (λ is other.
+      two_negations (stands net pieces blocks i e (suc t)) (stands net pieces blocks i f (suc t)) (λ is other.
       let same = same_event e f i (observables net (get_or pieces t [])) (get_or blocks t []) (block_once blocks t once) is other in
       let less = h.2 in omega (arith, same, less))
   clause_true (done_if_asked i) h =

@@ -8,7 +8,7 @@ use Rattle.std.proofs.Math.Nat.{mul-le-mul_left, pow-succ', pow-zero}
 use Rattle.des_base.specs.Lists.{EachPair}
 use Rattle.des_net.specs.Network.{Net, label_of}
 use Rattle.des_net.specs.QuestionSize.{touching_count, fault_event_count}
-use Rattle.log_clauses.proofs.Lists.{flat_has, flat_from, map_has, map_from, number_has, number_from, cons_cases, here_first, here_later, none_in_nil, all_of, all_at, append_cases, append_left, append_right, filter_has, filter_from, range_from, pairs_filter}
+use Rattle.log_clauses.proofs.Lists.{flat_has, flat_from, map_has, map_from, cons_cases, here_first, here_later, none_in_nil, all_of, all_at, append_cases, append_left, append_right, filter_has, filter_from, range_from, pairs_filter}
 use Rattle.log_clauses.proofs.Rules.{has_event, event_matches, shown_event}
 use Rattle.log_clauses.proofs.Stay.{with_alarm, with_pair, range_more, matching_same}
 use Rattle.log_clauses.specs.Additions.{Addition, alarm_added, pair_added, with_addition, IsTaken, IsAlarmClause, IsAddedClause, IsFirstClause}
@@ -20,6 +20,7 @@ use Rattle.prop_core.specs.NamedClauses.{IsCode}
 use Rattle.prop_core.specs.VariableNames.{Name, NamedLiteral, ReadsAs}
 use Rattle.replay.specs.QuestionSize.{is_matching, question_size, matching_count}
 use Rattle.run_clauses.specs.StepClauses.{numbers_below, state_count}
+use Rattle.run_clauses.proofs.Lists.{from_numbers, in_numbers}
 
 range_up : (a m : ℕ) → EachPair (λ x y. x < y) (range_with_len a m)
 range_up a zero = tt
@@ -124,7 +125,7 @@ module _ (net : Net) (log : Log) (n : ℕ) (new : Alarm) where
       rest_of (inl is) = subst (IsAlarmClause net log n new) is refl
       rest_of (inr there) =
           let found = flat_from (done_clauses (length log.alarms) (taken_events net log new)) (numbers_below n) which there in
-          in_step found.0 (number_from n found.0 found.1) found.2
+          in_step found.0 (from_numbers n found.0 found.1) found.2
 
       after : (not_done_first (length log.alarms) ≡ which) ⊎ Contains (done_if_asked (length log.alarms) ∷ flat_map (done_clauses (length log.alarms) (taken_events net log new)) (numbers_below n)) which → IsAlarmClause net log n new which
       after (inl is) = subst (IsAlarmClause net log n new) is refl
@@ -136,7 +137,7 @@ module _ (net : Net) (log : Log) (n : ℕ) (new : Alarm) where
           let event = flat_from (λ e. flat_map (link_clauses (length log.alarms) e (length (chain net log e))) (numbers_below n)) (taken_events net log new) which there in
           let step = flat_from (link_clauses (length log.alarms) event.0 (length (chain net log event.0))) (numbers_below n) which event.2 in
           all_at (IsAlarmClause net log n new) (link_clauses (length log.alarms) event.0 (length (chain net log event.0)) step.0)
-          (link_wanted event.0 step.0 (taken_is event.0 event.1) (number_from n step.0 step.1)) which step.2
+          (link_wanted event.0 step.0 (taken_is event.0 event.1) (from_numbers n step.0 step.1)) which step.2
       by (inr there) = after (cons_cases (not_done_first (length log.alarms)) (done_if_asked (length log.alarms) ∷ flat_map (done_clauses (length log.alarms) (taken_events net log new)) (numbers_below n)) which there)
 
   -- where a link's clause stands
@@ -145,7 +146,7 @@ module _ (net : Net) (log : Log) (n : ℕ) (new : Alarm) where
       append_left (flat_map (λ f. flat_map (link_clauses (length log.alarms) f (length (chain net log f))) (numbers_below n)) (taken_events net log new))
       (not_done_first (length log.alarms) ∷ done_if_asked (length log.alarms) ∷ flat_map (done_clauses (length log.alarms) (taken_events net log new)) (numbers_below n)) which
       (flat_has (λ f. flat_map (link_clauses (length log.alarms) f (length (chain net log f))) (numbers_below n)) (taken_events net log new) e which (is_taken e taken)
-      (flat_has (link_clauses (length log.alarms) e (length (chain net log e))) (numbers_below n) t which (number_has n t step) there))
+      (flat_has (link_clauses (length log.alarms) e (length (chain net log e))) (numbers_below n) t which (in_numbers n t step) there))
 
   in_rest : (which : LogClause) → Contains (not_done_first (length log.alarms) ∷ done_if_asked (length log.alarms) ∷ flat_map (done_clauses (length log.alarms) (taken_events net log new)) (numbers_below n)) which →
       Contains (alarm_clauses net log n new) which
@@ -157,7 +158,7 @@ module _ (net : Net) (log : Log) (n : ℕ) (new : Alarm) where
   in_steps t which step there =
       in_rest which (here_later (not_done_first (length log.alarms)) (done_if_asked (length log.alarms) ∷ flat_map (done_clauses (length log.alarms) (taken_events net log new)) (numbers_below n)) which
       (here_later (done_if_asked (length log.alarms)) (flat_map (done_clauses (length log.alarms) (taken_events net log new)) (numbers_below n)) which
-      (flat_has (done_clauses (length log.alarms) (taken_events net log new)) (numbers_below n) t which (number_has n t step) there)))
+      (flat_has (done_clauses (length log.alarms) (taken_events net log new)) (numbers_below n) t which (in_numbers n t step) there)))
 
   wanted_listed : (which : LogClause) → IsAlarmClause net log n new which → Contains (alarm_clauses net log n new) which
   wanted_listed (chain_closed e k t) h =
@@ -197,8 +198,8 @@ module _ (net : Net) (log : Log) (n : ℕ) (new : Alarm) where
 added_listed : (net : Net) (log : Log) (n : ℕ) (addition : Addition) (which : LogClause) → Contains (added_clauses net log n addition) which ↔ IsAddedClause net log n addition which
 added_listed net log n (alarm_added new) which = (listed_wanted net log n new which, wanted_listed net log n new which)
 added_listed net log n (pair_added i j) which = (
-  λ in'. let found = map_from (λ t. before_if_asked i j t) (numbers_below n) which in' in (found.0, number_from n found.0 found.1, sym found.2),
-  λ h. subst (λ w. Contains (map (λ t. before_if_asked i j t) (numbers_below n)) w) (sym h.2) (map_has (λ t. before_if_asked i j t) (numbers_below n) h.0 (number_has n h.0 h.1)),
+  λ in'. let found = map_from (λ t. before_if_asked i j t) (numbers_below n) which in' in (found.0, from_numbers n found.0 found.1, sym found.2),
+  λ h. subst (λ w. Contains (map (λ t. before_if_asked i j t) (numbers_below n)) w) (sym h.2) (map_has (λ t. before_if_asked i j t) (numbers_below n) h.0 (in_numbers n h.0 h.1)),
 )
 
 first_listed : (net : Net) (n : ℕ) (which : LogClause) → Contains (first_clauses net n) which ↔ IsFirstClause net n which
@@ -208,14 +209,14 @@ first_listed net n which = (to, λ h. from h.0 h.1 h.2 h.3 h.4)
     to in' =
         let event = flat_from (λ e. map (λ t. chain_closed e 0 t) (numbers_below n)) (observable_events net) which in' in
         let step = map_from (λ t. chain_closed event.0 0 t) (numbers_below n) which event.2 in
-        (event.0, step.0, (filter_from (λ e. is_some (label_of net e)) (numbers_below (length net.events)) event.0 event.1).0, number_from n step.0 step.1, sym step.2)
+        (event.0, step.0, (filter_from (λ e. is_some (label_of net e)) (numbers_below (length net.events)) event.0 event.1).0, from_numbers n step.0 step.1, sym step.2)
 
     from : (e t : ℕ) → is_some (label_of net e) ≡ true → t < n → which ≡ chain_closed e 0 t → Contains (first_clauses net n) which
     from e t shown step is =
         subst (λ w. Contains (first_clauses net n) w) (sym is)
         (flat_has (λ f. map (λ s. chain_closed f 0 s) (numbers_below n)) (observable_events net) e (chain_closed e 0 t)
-        (filter_has (λ f. is_some (label_of net f)) (numbers_below (length net.events)) e shown (number_has (length net.events) e (shown_event net e shown)))
-        (map_has (λ s. chain_closed e 0 s) (numbers_below n) t (number_has n t step)))
+        (filter_has (λ f. is_some (label_of net f)) (numbers_below (length net.events)) e shown (in_numbers (length net.events) e (shown_event net e shown)))
+        (map_has (λ s. chain_closed e 0 s) (numbers_below n) t (in_numbers n t step)))
 
 pub drafts_are_code : DraftsAreCode
 drafts_are_code net n names clauses = (
@@ -267,7 +268,7 @@ sum_more g h a same =
     let last = sum_by-cons g (0 + a) [] in
     let zero_add : 0 + a ≡ a = omega arith in
     let at = ap g zero_add in
-    let front = sum_agree g h (numbers_below a) (λ x in'. same x (number_from a x in')) in
+    let front = sum_agree g h (numbers_below a) (λ x in'. same x (from_numbers a x in')) in
     omega (arith, split, parts, last, at, front)
 
 square_is : (m : ℕ) → m ^ 2 ≡ m * m

@@ -1,13 +1,12 @@
 -- Tests over lists, fronts of a list, and lists in a row.
-use Rattle.std.proofs.Common.{◌≡◌, ◌≢◌, ℕ, zero, suc, ◌+◌, ◌<◌, Bool, true, false, List, [], ◌∷◌, ◌++◌, ◌∙◌, length, Some, refl, sym, ap, arith, Contains, map, slice_get, inl, inr, ◌⊎◌, ◌||◌, ◌==◌, take, drop, get_or}
+use Rattle.std.proofs.Common.{◌≡◌, ◌≢◌, ℕ, zero, suc, ◌+◌, ◌<◌, Bool, true, false, List, [], ◌∷◌, ◌++◌, ◌∙◌, length, Some, refl, sym, ap, arith, Contains, slice_get, inl, inr, ◌⊎◌, ◌||◌, ◌==◌, take, drop, get_or}
 use Rattle.std.specs.List.{list_any, range_with_len}
 use Rattle.std.proofs.lemmas.Bool.{eqb-true, eqb-false}
 use Rattle.des_base.specs.Lists.{EachPair}
 use Rattle.des_net.specs.Width.{joined}
-use Rattle.log_clauses.proofs.Lists.{or_cases, or_left, or_right, cons_cases, here_first, here_later, none_in_nil, got_contains, range_from, all_of, all_at, append_left, append_right}
+use Rattle.log_clauses.proofs.Lists.{or_cases, or_left, cons_cases, here_first, here_later, none_in_nil, got_contains, range_from, all_of, all_at, append_left, append_right}
 use Rattle.log_order.specs.Log.{place_in}
-use Rattle.prop_core.specs.NamedClauses.{named_true}
-use Rattle.prop_core.specs.VariableNames.{Name, yes}
+use Rattle.run_clauses.proofs.StepLemmas.{or_right}
 
 -- tests over lists
 pub any_has : {X : Type 0} (p : X → Bool) (xs : List X) → list_any p xs ≡ true → (x : X) × Contains xs x × (p x ≡ true)
@@ -25,14 +24,6 @@ has_any p (y ∷ xs) x in' h = by (cons_cases y xs x in') (λ rest. has_any p xs
     by : (y ≡ x) ⊎ Contains xs x → (Contains xs x → list_any p xs ≡ true) → p y || list_any p xs ≡ true
     by (inl is) later = or_left (p y) (list_any p xs) (ap p is ∙ h)
     by (inr rest) later = or_right (p y) (list_any p xs) (later rest)
-
-pub mapped_true : (value : Name → Bool) (name : ℕ → Name) (xs : List ℕ) (x : ℕ) → Contains xs x → value (name x) ≡ true → list_any (named_true value) (map (λ y. yes (name y)) xs) ≡ true
-mapped_true value name [] x in' h = absurd (none_in_nil x in')
-mapped_true value name (y ∷ xs) x in' h = by (cons_cases y xs x in') (λ rest. mapped_true value name xs x rest h)
-  where
-    by : (y ≡ x) ⊎ Contains xs x → (Contains xs x → list_any (named_true value) (map (λ z. yes (name z)) xs) ≡ true) → value (name y) || list_any (named_true value) (map (λ z. yes (name z)) xs) ≡ true
-    by (inl is) later = or_left (value (name y)) (list_any (named_true value) (map (λ z. yes (name z)) xs)) (ap (λ z. value (name z)) is ∙ h)
-    by (inr rest) later = or_right (value (name y)) (list_any (named_true value) (map (λ z. yes (name z)) xs)) (later rest)
 
 -- fronts of a list
 pub take_has : {X : Type 0} (xs : List X) (j k : ℕ) (x : X) → slice_get xs j ≡ Some x → j < k → Contains (take k xs) x

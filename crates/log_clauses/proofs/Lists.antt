@@ -4,7 +4,6 @@ use Rattle.std.specs.List.{AllByRecursion, AllZip, range_with_len}
 use Rattle.std.proofs.lemmas.Bool.{eqb-true, eqb-false, eq-eqb, cases_lt}
 use Rattle.des_base.specs.Lists.{EachPair}
 use Rattle.log_order.specs.Log.{place_in}
-use Rattle.run_clauses.specs.StepClauses.{numbers_below}
 
 pub clash : {A : Type 0} (b : Bool) → b ≡ true → b ≡ false → A
 clash true h k = cc
@@ -21,10 +20,6 @@ or_cases false b h = inr h
 pub or_left : (a b : Bool) → a ≡ true → a || b ≡ true
 or_left true b h = refl
 or_left false b h = cc
-
-pub or_right : (a b : Bool) → b ≡ true → a || b ≡ true
-or_right true b h = refl
-or_right false b h = h
 
 pub both : (a b : Bool) → a && b ≡ true → (a ≡ true) × (b ≡ true)
 both true b h = (refl, h)
@@ -256,9 +251,3 @@ map_from f (z ∷ xs) y in' = by (cons_cases (f z) (map f xs) y in') (map_from f
     by : (f z ≡ y) ⊎ Contains (map f xs) y → (Contains (map f xs) y → (x : _) × Contains xs x × (f x ≡ y)) → (x : _) × Contains (z ∷ xs) x × (f x ≡ y)
     by (inl is) later = (z, here_first z xs z refl, is)
     by (inr rest) later = let found = later rest in (found.0, here_later z xs found.0 found.1, found.2)
-
-pub number_has : (n t : ℕ) → t < n → Contains (numbers_below n) t
-number_has n t h = range_has 0 n t (omega arith) (omega arith)
-
-pub number_from : (n t : ℕ) → Contains (numbers_below n) t → t < n
-number_from n t in' = let below = (range_from 0 n t in').1 in omega (arith, below)

@@ -9,7 +9,7 @@ use Rattle.des_net.specs.QuestionSize.{at_most_one_count}
 use Rattle.log_clauses.proofs.Fronts.{range_once}
 use Rattle.log_clauses.proofs.Drafts.{flat_length, sum_more, same_count, taken_count, longer, taken_is, is_taken}
 use Rattle.log_clauses.proofs.Growth.{length_split, length_end, grown, number_split, match_split, taken}
-use Rattle.log_clauses.proofs.Lists.{flat_has, flat_from, map_has, map_from, number_has, number_from, cons_cases, here_later, none_in_nil, all_of, all_at, append_cases, append_left, append_right, filter_has, filter_from, pairs_filter, pairs_append}
+use Rattle.log_clauses.proofs.Lists.{flat_has, flat_from, map_has, map_from, cons_cases, here_later, none_in_nil, all_of, all_at, append_cases, append_left, append_right, filter_has, filter_from, pairs_filter, pairs_append}
 use Rattle.log_clauses.proofs.Rules.{matching_alarm, is_shown, shown_event}
 use Rattle.log_clauses.proofs.Stay.{with_alarm, with_pair, matching_same}
 use Rattle.log_clauses.specs.Additions.{alarm_added, pair_added, IsTaken}
@@ -20,6 +20,7 @@ use Rattle.log_order.specs.Log.{Log, Alarm, no_log}
 use Rattle.prop_core.specs.VariableNames.{Name, in_state, happens, asked, matches, done, unmatched, closed, reaches, some_of_first}
 use Rattle.replay.specs.QuestionSize.{is_matching, alarm_variables, variable_bound, matching_count}
 use Rattle.run_clauses.specs.StepClauses.{numbers_below}
+use Rattle.run_clauses.proofs.Lists.{from_numbers, in_numbers}
 
 -- lists in a row, each without a repeated element, that have no element in common
 pub pairs_flat : {Y : Type 0} (f : ℕ → List Y) (xs : List ℕ) → EachPair (λ a b. a ≢ b) xs → ((x : ℕ) → EachPair (λ a b. a ≢ b) (f x)) →
@@ -68,7 +69,7 @@ link_from n i e k name in' = by (cons_cases (closed e (suc k)) (flat_map (λ t. 
     by (inl is) = inl (sym is)
     by (inr rest) =
         let found = flat_from (λ t. matches i e (suc t) ∷ unmatched e (suc k) (suc t) ∷ []) (numbers_below n) name rest in
-        inr (found.0, number_from n found.0 found.1, two found.0 (cons_cases (matches i e (suc found.0)) (unmatched e (suc k) (suc found.0) ∷ []) name found.2))
+        inr (found.0, from_numbers n found.0 found.1, two found.0 (cons_cases (matches i e (suc found.0)) (unmatched e (suc k) (suc found.0) ∷ []) name found.2))
 
 link_event : (n i e k : ℕ) (name : Name) → Contains (link_names n i e k) name → event_of name ≡ e
 unfolding event_of
@@ -167,7 +168,7 @@ module _ (net : Net) (log : Log) (n : ℕ) (new : Alarm) where
           at e taken' (inr (t, h, inr is)) = inr (inr (inl (e, t, taken', h, is)))
       by (inr there) =
           let step = map_from (λ t. done (length log.alarms) t) (numbers_below (suc n)) name there in
-          let below = number_from (suc n) step.0 step.1 in
+          let below = from_numbers (suc n) step.0 step.1 in
           inr (inr (inr (step.0, omega (arith, below), sym step.2)))
 
   not_old : (name : Name) → Contains (added_names net log n (alarm_added new)) name → IsLogName net log n name → ⊥
@@ -190,7 +191,7 @@ module _ (net : Net) (log : Log) (n : ℕ) (new : Alarm) where
   in_two : (e t : ℕ) (name : Name) → IsTaken net log new e → t < n → Contains (matches (length log.alarms) e (suc t) ∷ unmatched e (suc (length (chain net log e))) (suc t) ∷ []) name → Contains (added_names net log n (alarm_added new)) name
   in_two e t name h step there =
       in_links e name h (here_later (closed e (suc (length (chain net log e)))) (flat_map (λ s. matches (length log.alarms) e (suc s) ∷ unmatched e (suc (length (chain net log e))) (suc s) ∷ []) (numbers_below n)) name
-      (flat_has (λ s. matches (length log.alarms) e (suc s) ∷ unmatched e (suc (length (chain net log e))) (suc s) ∷ []) (numbers_below n) t name (number_has n t step) there))
+      (flat_has (λ s. matches (length log.alarms) e (suc s) ∷ unmatched e (suc (length (chain net log e))) (suc s) ∷ []) (numbers_below n) t name (in_numbers n t step) there))
 
   -- the chain of e has at most one more alarm
   chain_split : (e k : ℕ) → k ≤ length (chain net (with_alarm log new) e) → (k ≤ length (chain net log e)) ⊎ ((k ≡ suc (length (chain net log e))) × IsTaken net log new e)
@@ -231,7 +232,7 @@ module _ (net : Net) (log : Log) (n : ℕ) (new : Alarm) where
       by (inl a) = inl (a, h.1)
       by (inr b) = inr (subst (λ x. Contains (added_names net log n (alarm_added new)) (done x t)) (sym b)
           (append_right (flat_map (λ f. link_names n (length log.alarms) f (length (chain net log f))) (taken_events net log new)) (map (λ s. done (length log.alarms) s) (numbers_below (suc n))) (done (length log.alarms) t)
-          (map_has (λ s. done (length log.alarms) s) (numbers_below (suc n)) t (number_has (suc n) t (omega (arith, h.1))))))
+          (map_has (λ s. done (length log.alarms) s) (numbers_below (suc n)) t (in_numbers (suc n) t (omega (arith, h.1))))))
   name_split (unmatched e k zero) h = absurd (omega (arith, h.2.0))
   name_split (unmatched e k (suc t)) h = by (chain_split e k h.1)
     where
@@ -348,7 +349,7 @@ first_of net n (unmatched e k t) h = absurd (omega (arith, h.0, h.1))
 first_of net n (closed e k) h =
     let none : k ≡ 0 = omega (arith, h.1) in
     subst (λ x. Contains (first_names net) (closed e x)) (sym none)
-    (here_later asked (map (λ f. closed f 0) (observable_events net)) (closed e 0) (map_has (λ f. closed f 0) (observable_events net) e (filter_has (λ f. is_some (label_of net f)) (numbers_below (length net.events)) e h.0 (number_has (length net.events) e (shown_event net e h.0)))))
+    (here_later asked (map (λ f. closed f 0) (observable_events net)) (closed e 0) (map_has (λ f. closed f 0) (observable_events net) e (filter_has (λ f. is_some (label_of net f)) (numbers_below (length net.events)) e h.0 (in_numbers (length net.events) e (shown_event net e h.0)))))
 first_of net n (reaches i j) h = absurd h
 first_of net n (some_of_first family i) h = absurd h
 

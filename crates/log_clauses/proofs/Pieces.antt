@@ -3,10 +3,11 @@ use Rattle.std.proofs.Common.{◌≡◌, ◌≢◌, ◌↔◌, ℕ, zero, suc, �
 use Rattle.std.specs.Prelude.{⊤}
 use Rattle.des_base.specs.Lists.{EachPair}
 use Rattle.des_net.specs.Network.{Net}
-use Rattle.log_clauses.proofs.Lists.{filter_has, filter_from, number_has, number_from}
+use Rattle.log_clauses.proofs.Lists.{filter_has, filter_from}
 use Rattle.prop_core.specs.VariableNames.{Name, happens}
 use Rattle.run_clauses.specs.StepClauses.{numbers_below}
 use Rattle.run_clauses.specs.Steps.{events_at, IsOrderOf, AreSteps}
+use Rattle.run_clauses.proofs.Lists.{from_numbers, in_numbers}
 
 -- the piece has the events that are true in the step after t steps, and no event twice
 pub record IsStepSet (net : Net) (value : Name → Bool) (t : ℕ) (piece : List ℕ) : Type 0 where
@@ -29,12 +30,12 @@ order_of : (net : Net) (value : Name → Bool) (t : ℕ) (piece : List ℕ) → 
 order_of net value t piece is = record { once = is.once; same = λ e. (to e, from e) }
   where
     to : (e : ℕ) → Contains piece e → Contains (events_at net value (suc t)) e
-    to e in' = let h = (is.exact e).0 in' in filter_has (λ f. value (happens f (suc t))) (numbers_below (length net.events)) e h.1 (number_has (length net.events) e h.0)
+    to e in' = let h = (is.exact e).0 in' in filter_has (λ f. value (happens f (suc t))) (numbers_below (length net.events)) e h.1 (in_numbers (length net.events) e h.0)
 
     from : (e : ℕ) → Contains (events_at net value (suc t)) e → Contains piece e
     from e in' =
         let found = filter_from (λ f. value (happens f (suc t))) (numbers_below (length net.events)) e in' in
-        (is.exact e).1 (number_from (length net.events) e found.1, found.0)
+        (is.exact e).1 (from_numbers (length net.events) e found.1, found.0)
 
 piece_of : (net : Net) (value : Name → Bool) (t : ℕ) (piece : List ℕ) → IsOrderOf (events_at net value (suc t)) piece → IsStepSet net value t piece
 piece_of net value t piece is = record { once = is.once; exact = λ e. (to e, from e) }
@@ -42,10 +43,10 @@ piece_of net value t piece is = record { once = is.once; exact = λ e. (to e, fr
     to : (e : ℕ) → Contains piece e → (e < length net.events) × (value (happens e (suc t)) ≡ true)
     to e in' =
         let found = filter_from (λ f. value (happens f (suc t))) (numbers_below (length net.events)) e ((is.same e).0 in') in
-        (number_from (length net.events) e found.1, found.0)
+        (from_numbers (length net.events) e found.1, found.0)
 
     from : (e : ℕ) → (e < length net.events) × (value (happens e (suc t)) ≡ true) → Contains piece e
-    from e h = (is.same e).1 (filter_has (λ f. value (happens f (suc t))) (numbers_below (length net.events)) e h.1 (number_has (length net.events) e h.0))
+    from e h = (is.same e).1 (filter_has (λ f. value (happens f (suc t))) (numbers_below (length net.events)) e h.1 (in_numbers (length net.events) e h.0))
 
 pieces_of : (net : Net) (value : Name → Bool) (s : ℕ) (pieces : List (List ℕ)) → ((t : ℕ) → t < length pieces → IsStepSet net value (s + t) (get_or pieces t [])) → AreFrom net value s pieces
 pieces_of net value s [] each = tt

@@ -18,21 +18,13 @@ use Rattle.replay.specs.Explanation.{Shows}
 use Rattle.replay.specs.Matching.{has_label}
 use Rattle.replay.specs.QuestionSize.{is_matching}
 use Rattle.run_clauses.specs.StepClauses.{numbers_below}
+use Rattle.run_clauses.proofs.Lists.{neither, never}
 
 -- clauses of one, two and three literals
-not_one : (a : Bool) → not a || false ≡ true → a ≡ true → ⊥
-not_one true h k = cc
-not_one false h k = cc
-
 pub implied : (a b : Bool) → not a || (b || false) ≡ true → a ≡ true → b ≡ true
 implied true true h k = refl
 implied true false h k = cc
 implied false b h k = cc
-
-pub not_two : (a b : Bool) → not a || (not b || false) ≡ true → a ≡ true → b ≡ true → ⊥
-not_two true true h k l = cc
-not_two true false h k l = cc
-not_two false b h k l = cc
 
 one_of : (a b c : Bool) → not a || (b || (c || false)) ≡ true → a ≡ true → (b ≡ true) ⊎ (c ≡ true)
 one_of true true c h k = inl refl
@@ -164,7 +156,7 @@ module _ (net : Net) (log : Log) (n : ℕ) (value : Name → Bool) (held : LogCl
   one_alarm_less : (i j e k l t : ℕ) → IsLink net log i e k → IsLink net log j e l → k < l → t < n → value (matches i e (suc t)) ≡ true → value (matches j e (suc t)) ≡ true → ⊥
   one_alarm_less i j e k l t first second less step here there =
       let within = slice_get_within (chain net log e) l j second in
-      not_two (value (matches i e (suc t))) (value (remaining e (suc k) (suc t))) (held (uses_up i e k t) (first, omega arith)) here
+      neither (value (matches i e (suc t))) (value (remaining e (suc k) (suc t))) (held (uses_up i e k t) (first, omega arith)) here
       (ascends e (suc k) l t (omega arith) (omega (arith, within)) step
       (implied (value (matches j e (suc t))) (value (remaining e l (suc t))) (held (takes_rest j e l t) (second, omega arith)) there))
 
@@ -191,7 +183,7 @@ module _ (net : Net) (log : Log) (n : ℕ) (value : Name → Bool) (held : LogCl
       value (remaining e k (suc t)) ≡ true → (i : ℕ) × (is_matching net log e i ≡ true) × (value (matches i e (suc t)) ≡ true)
   taken_from zero e k t count shown shut step is =
       let same : k ≡ length (chain net log e) = omega arith in
-      absurd (not_two (value (closed e (length (chain net log e)))) (value (remaining e (length (chain net log e)) (suc t)))
+      absurd (neither (value (closed e (length (chain net log e)))) (value (remaining e (length (chain net log e)) (suc t)))
       (held (chain_closed e (length (chain net log e)) t) (shown, omega arith, omega arith)) shut (subst (λ x. value (remaining e x (suc t)) ≡ true) same is))
   taken_from (suc m) e k t count shown shut step is =
       let at = got_at (chain net log e) k (omega arith) in
@@ -212,7 +204,7 @@ module _ (net : Net) (log : Log) (n : ℕ) (value : Name → Bool) (held : LogCl
 
   -- what is done was matched
   pub matched_before : (m i : ℕ) → i < length log.alarms → m ≤ n → value (done i m) ≡ true → (t : ℕ) × (t < m) × (e : ℕ) × (is_matching net log e i ≡ true) × (value (matches i e (suc t)) ≡ true)
-  matched_before zero i known inside is = absurd (not_one (value (done i 0)) (held (not_done_first i) known) is)
+  matched_before zero i known inside is = absurd (never (value (done i 0)) (held (not_done_first i) known) is)
   matched_before (suc m) i known inside is =
       by (either_rest (value (done i (suc m))) (value (done i m)) (list_any (named_true value) (map (λ e. yes (matches i e (suc m))) (matching_events net log i)))
       (held (done_by_match i m) (known, omega arith)) is) (matched_before m i known (omega arith))
@@ -230,7 +222,7 @@ module _ (net : Net) (log : Log) (n : ℕ) (value : Name → Bool) (held : LogCl
   not_done_before i e s t matching less step before is =
       let gap = difference (suc s) t (omega arith) in
       let same = gap.1 in
-      not_two (value (matches i e (suc t))) (value (done i t)) (held (matched_once i e t) (matching, step)) is
+      neither (value (matches i e (suc t))) (value (done i t)) (held (matched_once i e t) (matching, step)) is
       (subst (λ x. value (done i x) ≡ true) same (done_later gap.0 i (suc s) (matching_alarm net log e i matching) (omega (arith, same)) before))
     where
       difference : (a b : ℕ) → a ≤ b → (d : ℕ) × (a + d ≡ b)
@@ -245,8 +237,8 @@ module _ (net : Net) (log : Log) (n : ℕ) (value : Name → Bool) (held : LogCl
   one_event i e f t first second step here there = by (cases_lt e f) (cases_lt f e)
     where
       by : (e < f) ⊎ (f ≤ e) → (f < e) ⊎ (e ≤ f) → e ≡ f
-      by (inl less) other = absurd (not_two (value (matches i e (suc t))) (value (matches i f (suc t))) (held (one_match i e f t) (first, second, less, step)) here there)
-      by (inr h) (inl less) = absurd (not_two (value (matches i f (suc t))) (value (matches i e (suc t))) (held (one_match i f e t) (second, first, less, step)) there here)
+      by (inl less) other = absurd (neither (value (matches i e (suc t))) (value (matches i f (suc t))) (held (one_match i e f t) (first, second, less, step)) here there)
+      by (inr h) (inl less) = absurd (neither (value (matches i f (suc t))) (value (matches i e (suc t))) (held (one_match i f e t) (second, first, less, step)) there here)
       by (inr h) (inr k) = omega arith
 
   module _ (guards : GuardsHold net log value) where

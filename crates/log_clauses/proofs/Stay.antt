@@ -1,5 +1,5 @@
 -- What a longer log keeps of a shorter one.
-use Rattle.std.proofs.Common.{◌≡◌, ℕ, zero, suc, ◌+◌, ◌<◌, ◌≤◌, Bool, true, false, List, [], ◌∷◌, ◌++◌, ◌∙◌, length, Some, refl, sym, ap, subst, arith, map, slice_get, filter, option_map, unwrap_or, length-append, add-zero}
+use Rattle.std.proofs.Common.{◌≡◌, ℕ, zero, suc, ◌+◌, ◌<◌, ◌≤◌, Bool, true, false, List, [], ◌∷◌, ◌++◌, ◌∙◌, length, refl, sym, ap, subst, arith, map, slice_get, filter, option_map, unwrap_or, length-append, add-zero}
 use Rattle.std.specs.Prelude.{bytes_eq}
 use Rattle.std.specs.Option.{option_map_or}
 use Rattle.std.specs.List.{AllByRecursion, list_any, range_with_len}
@@ -11,17 +11,13 @@ use Rattle.log_order.specs.Log.{Log, Alarm}
 use Rattle.prop_core.specs.VariableNames.{yes, no, matches, done}
 use Rattle.replay.specs.QuestionSize.{is_matching}
 use Rattle.run_clauses.specs.StepClauses.{numbers_below}
+use Rattle.run_clauses.proofs.Lists.{get_more}
 
 abbrev pub with_alarm : Log → Alarm → Log
 with_alarm log new = record log { alarms = log.alarms ++ new ∷ [] }
 
 abbrev pub with_pair : Log → ℕ → ℕ → Log
 with_pair log i j = record log { pairs = log.pairs ++ (i, j) ∷ [] }
-
-pub get_more : {X : Type 0} (xs ys : List X) (k : ℕ) (x : X) → slice_get xs k ≡ Some x → slice_get (xs ++ ys) k ≡ Some x
-get_more [] ys k x h = cc
-get_more (y ∷ xs) ys zero x h = h
-get_more (y ∷ xs) ys (suc k) x h = get_more xs ys k x h
 
 pub get_same : {X : Type 0} (xs ys : List X) (k : ℕ) → k < length xs → slice_get (xs ++ ys) k ≡ slice_get xs k
 get_same [] ys k h = absurd (omega arith)
