@@ -1,0 +1,268 @@
+-- The clauses of all pairs of a list.
+use Rattle.std.proofs.Common.{◌≡◌, ℕ, zero, suc, ◌+◌, ◌*◌, ◌-◌, ◌<◌, ◌≤◌, ◌∙◌, Bool, true, false, List, [], ◌∷◌, ◌++◌, map, length, take, drop, Some, refl, sym, ap, subst, arith, slice_get, IsTrue, not, ◌||◌, append_assoc, append-nil, length-append, get_or}
+use Rattle.std.proofs.Math.Nat.{suc-mul, mul-suc}
+use Rattle.std.proofs.lemmas.List.{length-map, length-take-le, take-append-drop}
+use Rattle.std.proofs.lemmas.Option.{slice_get-get_or}
+use Rattle.std.specs.Bool.{beq}
+use Rattle.std.specs.List.{AllByRecursion}
+use Rattle.des_base.specs.Lists.{EachPair}
+use Rattle.prop_core.specs.declared.lit.Lit.{Lit}
+use Rattle.prop_core.specs.Clauses.{Clause, negation, literal_true, clause_true, AllClausesTrue}
+use Rattle.prop_core.specs.NamedClauses.{IsCode, One, Each}
+use Rattle.prop_core.specs.VariableNames.{Name, NamedLiteral, no}
+use Rattle.prop_core.proofs.FamilyLemmas.{all_append, code_each_none, code_each_more, code_one, reads_two}
+use Rattle.card_counter.specs.AtMostOne.{AreNotBothTrue, not_both, pairs_after, excluded_pairs, PairsExclude, AddsAtMostOne, AreNamed, ExcludedNames, PairsExcludeNames}
+
+-- ---- lists
+
+pub all_split : {X : Type 0} (P : X → Type 0) (xs ys : List X) → AllByRecursion P (xs ++ ys) → AllByRecursion P xs × AllByRecursion P ys
+all_split P [] ys all = (tt, all)
+all_split P (x ∷ xs) ys all = let rest = all_split P xs ys all.1 in ((all.0, rest.0), rest.1)
+
+pub all_change : {X : Type 0} (P Q : X → Type 0) (xs : List X) → ((x : X) → P x → Q x) → AllByRecursion P xs → AllByRecursion Q xs
+all_change P Q [] to all = tt
+all_change P Q (x ∷ xs) to all = (to x all.0, all_change P Q xs to all.1)
+
+pub all_both : {X : Type 0} (P Q : X → Type 0) (xs : List X) → AllByRecursion P xs → AllByRecursion Q xs → AllByRecursion (λ x. P x × Q x) xs
+all_both P Q [] first second = tt
+all_both P Q (x ∷ xs) first second = ((first.0, second.0), all_both P Q xs first.1 second.1)
+
+pub some_at : {X : Type 0} (xs : List X) (k : ℕ) → k < length xs → (x : X) × (slice_get xs k ≡ Some x)
+some_at [] k h = absurd (omega arith)
+some_at (x ∷ xs) zero h = (x, refl)
+some_at (x ∷ xs) (suc k) h = some_at xs k (omega arith)
+
+-- one more element of a front
+pub take_more : {X : Type 0} (xs : List X) (k : ℕ) (x : X) → slice_get xs k ≡ Some x → take (suc k) xs ≡ take k xs ++ x ∷ []
+take_more [] k x h = cc
+take_more (y ∷ xs) zero x h = let same : y ≡ x = cc in ap (λ z. z ∷ []) same
+take_more (y ∷ xs) (suc k) x h = ap (λ rest. y ∷ rest) (take_more xs k x h)
+
+pub map_append : {X Y : Type 0} (f : X → Y) (xs ys : List X) → map f (xs ++ ys) ≡ map f xs ++ map f ys
+map_append f [] ys = refl
+map_append f (x ∷ xs) ys = ap (λ rest. f x ∷ rest) (map_append f xs ys)
+
+-- ---- the pairs of a longer list
+
+pub pairs_append : (earlier xs ys : List Lit) → pairs_after earlier (xs ++ ys) ≡ pairs_after earlier xs ++ pairs_after (earlier ++ xs) ys
+pairs_append earlier [] ys = ap (λ zs. pairs_after zs ys) (sym (append-nil earlier))
+pairs_append earlier (x ∷ xs) ys =
+    ap (λ rest. map (not_both x) earlier ++ rest) (pairs_append (earlier ++ x ∷ []) xs ys)
+    ∙ ap (λ zs. map (not_both x) earlier ++ (pairs_after (earlier ++ x ∷ []) xs ++ pairs_after zs ys)) (append_assoc earlier (x ∷ []) xs)
+    ∙ sym (append_assoc (map (not_both x) earlier) (pairs_after (earlier ++ x ∷ []) xs) (pairs_after (earlier ++ x ∷ xs) ys))
+
+pub pairs_more : (xs : List Lit) (x : Lit) → excluded_pairs (xs ++ x ∷ []) ≡ excluded_pairs xs ++ map (not_both x) xs
+pairs_more xs x = pairs_append [] xs (x ∷ []) ∙ ap (λ ys. excluded_pairs xs ++ ys) (append-nil (map (not_both x) xs))
+
+pub pairs_take : (inputs : List Lit) (k : ℕ) (x : Lit) → slice_get inputs k ≡ Some x → excluded_pairs (take (suc k) inputs) ≡ excluded_pairs (take k inputs) ++ map (not_both x) (take k inputs)
+pairs_take inputs k x h = ap excluded_pairs (take_more inputs k x h) ∙ pairs_more (take k inputs) x
+
+pub pairs_next : (inputs : List Lit) (k : ℕ) (d : Lit) → k < length inputs → excluded_pairs (take (k + 1) inputs) ≡ excluded_pairs (take k inputs) ++ map (not_both (get_or inputs k d)) (take k inputs)
+pairs_next inputs k d h =
+    let next : k + 1 ≡ suc k = omega arith in
+    rw next (pairs_take inputs k (get_or inputs k d) (slice_get-get_or inputs k d h))
+
+-- ---- what they say
+
+negation_true : (a b : Bool) → beq a (not b) ≡ true → beq a b ≡ true → ⊥
+negation_true true true h k = cc
+negation_true true false h k = cc
+negation_true false true h k = cc
+negation_true false false h k = cc
+
+negation_from : (a b : Bool) → (beq a b ≡ true → ⊥) → beq a (not b) ≡ true
+negation_from true true h = absurd (h refl)
+negation_from true false h = refl
+negation_from false true h = refl
+negation_from false false h = absurd (h refl)
+
+two_true : (a b : Bool) → a || (b || false) ≡ true → (a ≡ false → b ≡ true)
+two_true true b h e = cc
+two_true false true h e = refl
+two_true false false h e = cc
+
+module _ (value : ℕ → Bool) where
+  excludes : (x y : Lit) → IsTrue (clause_true value (not_both x y)) → AreNotBothTrue value y x
+  excludes x y h first second = by (literal_true value (negation y)) refl (literal_true value (negation x)) refl h
+    where
+      by : (a : Bool) → literal_true value (negation y) ≡ a → (b : Bool) → literal_true value (negation x) ≡ b → a || (b || false) ≡ true → ⊥
+      by true e b f g = negation_true (value y.var) y.positive e first
+      by false e true f g = negation_true (value x.var) x.positive f second
+      by false e false f g = cc
+
+  excluded : (x y : Lit) → AreNotBothTrue value y x → IsTrue (clause_true value (not_both x y))
+  excluded x y apart = by (literal_true value y) refl
+    where
+      by : (a : Bool) → literal_true value y ≡ a → IsTrue (clause_true value (not_both x y))
+      by true e = let other = negation_from (value x.var) x.positive (apart e) in by_last (literal_true value (negation y)) other
+        where
+          by_last : (b : Bool) → literal_true value (negation x) ≡ true → b || (literal_true value (negation x) || false) ≡ true
+          by_last true f = refl
+          by_last false f = rw f refl
+      by false e = let other = negation_from (value y.var) y.positive (λ h. cc) in rw other refl
+
+  each_excludes : (x : Lit) (earlier : List Lit) → AllClausesTrue value (map (not_both x) earlier) → AllByRecursion (λ y. AreNotBothTrue value y x) earlier
+  each_excludes x [] all = tt
+  each_excludes x (y ∷ earlier) all = (excludes x y all.0, each_excludes x earlier all.1)
+
+  each_excluded : (x : Lit) (earlier : List Lit) → AllByRecursion (λ y. AreNotBothTrue value y x) earlier → AllClausesTrue value (map (not_both x) earlier)
+  each_excluded x [] all = tt
+  each_excluded x (y ∷ earlier) all = (excluded x y all.0, each_excluded x earlier all.1)
+
+  -- each later input with each earlier one
+  abbrev Across : List Lit → List Lit → Type 0
+  Across earlier later = AllByRecursion (λ x. AllByRecursion (λ y. AreNotBothTrue value y x) earlier) later
+
+  pairs_say : (earlier later : List Lit) → AllClausesTrue value (pairs_after earlier later) → Across earlier later × EachPair (AreNotBothTrue value) later
+  pairs_say earlier [] all = (tt, tt)
+  pairs_say earlier (x ∷ later) all =
+      let both = all_split (λ clause. IsTrue (clause_true value clause)) (map (not_both x) earlier) (pairs_after (earlier ++ x ∷ []) later) all in
+      let rest = pairs_say (earlier ++ x ∷ []) later both.1 in (
+        (
+          each_excludes x earlier both.0,
+          all_change (λ z. AllByRecursion (λ y. AreNotBothTrue value y z) (earlier ++ x ∷ [])) (λ z. AllByRecursion (λ y. AreNotBothTrue value y z) earlier) later
+              (λ z h. (all_split (λ y. AreNotBothTrue value y z) earlier (x ∷ []) h).0) rest.0,
+        ),
+        (
+          all_change (λ z. AllByRecursion (λ y. AreNotBothTrue value y z) (earlier ++ x ∷ [])) (AreNotBothTrue value x) later
+              (λ z h. (all_split (λ y. AreNotBothTrue value y z) earlier (x ∷ []) h).1.0) rest.0,
+          rest.1,
+        ),
+      )
+
+  pairs_said : (earlier later : List Lit) → Across earlier later → EachPair (AreNotBothTrue value) later → AllClausesTrue value (pairs_after earlier later)
+  pairs_said earlier [] across pairs = tt
+  pairs_said earlier (x ∷ later) across pairs =
+      all_append (λ clause. IsTrue (clause_true value clause)) (map (not_both x) earlier) (pairs_after (earlier ++ x ∷ []) later)
+      (each_excluded x earlier across.0)
+      (pairs_said (earlier ++ x ∷ []) later
+      (all_change (λ z. AllByRecursion (λ y. AreNotBothTrue value y z) earlier × AreNotBothTrue value x z) (λ z. AllByRecursion (λ y. AreNotBothTrue value y z) (earlier ++ x ∷ [])) later
+      (λ z h. all_append (λ y. AreNotBothTrue value y z) earlier (x ∷ []) h.0 (h.1, tt))
+      (all_both (λ z. AllByRecursion (λ y. AreNotBothTrue value y z) earlier) (AreNotBothTrue value x) later across.1 pairs.0)) pairs.1)
+
+  none_across : (later : List Lit) → Across [] later
+  none_across [] = tt
+  none_across (x ∷ later) = (tt, none_across later)
+
+pub pairs_exclude : PairsExclude
+pairs_exclude value inputs = ((λ all. (pairs_say value [] inputs all).1), (λ pairs. pairs_said value [] inputs (none_across value inputs) pairs))
+
+pub adds_at_most_one : (inputs : List Lit) (old new : List Clause) → new ≡ old ++ excluded_pairs inputs → AddsAtMostOne inputs old new
+adds_at_most_one inputs old new whole = subst (AddsAtMostOne inputs old) (sym whole) (λ value. (
+  (λ all. let both = all_split (λ clause. IsTrue (clause_true value clause)) old (excluded_pairs inputs) all in (both.0, (pairs_exclude value inputs).0 both.1)),
+  (λ both. all_append (λ clause. IsTrue (clause_true value clause)) old (excluded_pairs inputs) both.0 ((pairs_exclude value inputs).1 both.1)),
+))
+
+-- ---- by name
+
+module _ (names : List (ℕ × Name)) (name : ℕ → Name) (inputs : List Lit) (named : AreNamed names name inputs) where
+  abbrev Excluded : ℕ → ℕ → List NamedLiteral → Type 0
+  Excluded r q = One (no (name q) ∷ no (name r) ∷ [])
+
+  one_pair : (q r : ℕ) (y x : Lit) → slice_get inputs q ≡ Some y → slice_get inputs r ≡ Some x → IsCode names (Excluded r q) (not_both x y ∷ [])
+  one_pair q r y x at_q at_r =
+      let first = named q y at_q in
+      let second = named r x at_r in
+      let y_is : negation y ≡ record { var = y.var; positive = false } = ap (λ b. record { var = y.var; positive = not b }) first.0 in
+      let x_is : negation x ≡ record { var = x.var; positive = false } = ap (λ b. record { var = x.var; positive = not b }) second.0 in
+      let reads = reads_two names y.var x.var (name q) (name r) first.1 second.1 in
+      code_one names (not_both x y) (no (name q) ∷ no (name r) ∷ []) (rw (y_is, x_is) reads)
+
+  one_row : (r : ℕ) (x : Lit) → slice_get inputs r ≡ Some x → (k : ℕ) → k ≤ length inputs → IsCode names (Each k (Excluded r)) (map (not_both x) (take k inputs))
+  one_row r x at_r zero inside = code_each_none names (Excluded r)
+  one_row r x at_r (suc k) inside =
+      let at = some_at inputs k (omega arith) in
+      let row = one_row r x at_r k (omega arith) in
+      let more = code_each_more names (Excluded r) k (map (not_both x) (take k inputs)) (not_both x at.0 ∷ []) row (one_pair k r at.0 x at.1 at_r) in
+      let whole : map (not_both x) (take (suc k) inputs) ≡ map (not_both x) (take k inputs) ++ not_both x at.0 ∷ [] = ap (map (not_both x)) (take_more inputs k at.0 at.1) ∙ map_append (not_both x) (take k inputs) (at.0 ∷ []) in
+      let next : k + 1 ≡ suc k = omega arith in
+      rw whole (subst (λ n. IsCode names (Each n (Excluded r)) (map (not_both x) (take k inputs) ++ not_both x at.0 ∷ [])) next more)
+
+  all_rows : (k : ℕ) → k ≤ length inputs → IsCode names (ExcludedNames k name) (excluded_pairs (take k inputs))
+  all_rows zero inside = code_each_none names (λ r. Each r (Excluded r))
+  all_rows (suc k) inside =
+      let at = some_at inputs k (omega arith) in
+      let before = all_rows k (omega arith) in
+      let row = one_row k at.0 at.1 k (omega arith) in
+      let more = code_each_more names (λ r. Each r (Excluded r)) k (excluded_pairs (take k inputs)) (map (not_both at.0) (take k inputs)) before row in
+      let whole = pairs_take inputs k at.0 at.1 in
+      let next : k + 1 ≡ suc k = omega arith in
+      rw whole (subst (λ n. IsCode names (ExcludedNames n name) (excluded_pairs (take k inputs) ++ map (not_both at.0) (take k inputs))) next more)
+
+pub pairs_exclude_names : PairsExcludeNames
+pairs_exclude_names names name inputs named =
+    let whole = take_whole inputs in
+    subst (λ xs. IsCode names (ExcludedNames (length inputs) name) (excluded_pairs xs)) whole (all_rows names name inputs named (length inputs) (omega arith))
+  where
+    take_whole : (xs : List Lit) → take (length xs) xs ≡ xs
+    take_whole [] = refl
+    take_whole (x ∷ xs) = ap (λ rest. x ∷ rest) (take_whole xs)
+
+-- ---- how many they are
+
+next_product : (n : ℕ) → suc n * n ≡ n * (n - 1) + (n + n)
+next_product zero = refl
+next_product (suc n) =
+    let less : suc n - 1 ≡ n = omega arith in
+    rw less (omega (arith, suc-mul (suc n) (suc n), mul-suc (suc n) n))
+
+count_after : (earlier later : List Lit) →
+    length (pairs_after earlier later) + length (pairs_after earlier later) + length earlier * (length earlier - 1) ≡ (length earlier + length later) * (length earlier + length later - 1)
+count_after earlier [] = let same : length earlier + 0 ≡ length earlier = omega arith in rw same (omega arith)
+count_after earlier (x ∷ later) =
+    let rest = count_after (earlier ++ x ∷ []) later in
+    let longer : length (earlier ++ x ∷ []) ≡ suc (length earlier) = omega (arith, length-append earlier (x ∷ [])) in
+    let less : suc (length earlier) - 1 ≡ length earlier = omega arith in
+    let sum : suc (length earlier) + length later ≡ length earlier + suc (length later) = omega arith in
+    let here = simp (longer, less, sum) at rest in
+    omega (arith, here, next_product (length earlier), length-append (map (not_both x) earlier) (pairs_after (earlier ++ x ∷ []) later), length-map earlier (not_both x))
+
+pub pairs_count : (inputs : List Lit) → length (excluded_pairs inputs) + length (excluded_pairs inputs) ≡ length inputs * (length inputs - 1)
+pairs_count inputs =
+    let sum : 0 + length inputs ≡ length inputs = omega arith in
+    let here = rw sum at (count_after [] inputs) in
+    omega (arith, here)
+
+-- the pairs of a place and of those before it are within all
+pub pairs_within : (inputs : List Lit) (k : ℕ) → k < length inputs → length (excluded_pairs (take k inputs)) + k ≤ length (excluded_pairs inputs)
+pairs_within inputs k h =
+    let at = some_at inputs k h in
+    let front = pairs_take inputs k at.0 at.1 in
+    let whole : excluded_pairs (take (suc k) inputs ++ drop (suc k) inputs) ≡ excluded_pairs inputs = ap excluded_pairs (take-append-drop (suc k) inputs) in
+    let parts = pairs_append [] (take (suc k) inputs) (drop (suc k) inputs) in
+    omega (
+      arith,
+      ap length front,
+      ap length whole,
+      ap length parts,
+      length-append (excluded_pairs (take k inputs)) (map (not_both at.0) (take k inputs)),
+      length-append (excluded_pairs (take (suc k) inputs)) (pairs_after (take (suc k) inputs) (drop (suc k) inputs)),
+      length-map (take k inputs) (not_both at.0),
+      length-take-le k inputs (omega arith),
+    )
+
+-- ---- one more place
+
+pub push_next : (inputs : List Lit) (k : ℕ) (d : Lit) (old mid new : List Clause) → k < length inputs → mid ≡ old ++ excluded_pairs (take k inputs) →
+    new ≡ mid ++ map (not_both (get_or inputs k d)) (take k inputs) → new ≡ old ++ excluded_pairs (take (k + 1) inputs)
+push_next inputs k d old mid new h before now =
+    now ∙ ap (λ xs. xs ++ map (not_both (get_or inputs k d)) (take k inputs)) before
+    ∙ append_assoc old (excluded_pairs (take k inputs)) (map (not_both (get_or inputs k d)) (take k inputs))
+    ∙ ap (λ xs. old ++ xs) (sym (pairs_next inputs k d h))
+
+pub pairs_next_count : (inputs : List Lit) (k : ℕ) → k < length inputs → length (excluded_pairs (take (k + 1) inputs)) ≡ length (excluded_pairs (take k inputs)) + length (take k inputs)
+pairs_next_count inputs k h =
+    let at = some_at inputs k h in
+    omega (
+      arith,
+      ap length (pairs_next inputs k at.0 h),
+      length-append (excluded_pairs (take k inputs)) (map (not_both (get_or inputs k at.0)) (take k inputs)),
+      length-map (take k inputs) (not_both (get_or inputs k at.0)),
+    )
+
+-- the pairs of a place have room where all have
+pub has_room : (inputs : List Lit) (k spare start : ℕ) → k < length inputs → spare + length (excluded_pairs (take k inputs)) ≡ start → length (excluded_pairs inputs) ≤ start → length (take k inputs) ≤ spare
+has_room inputs k spare start h used room = omega (arith, pairs_within inputs k h, length-take-le k inputs (omega arith))
+
+pub has_room_twice : (inputs : List Lit) (k spare start : ℕ) → k < length inputs → spare + 2 * length (excluded_pairs (take k inputs)) ≡ start → 2 * length (excluded_pairs inputs) ≤ start → 2 * length (take k inputs) ≤ spare
+has_room_twice inputs k spare start h used room = omega (arith, pairs_within inputs k h, length-take-le k inputs (omega arith))
