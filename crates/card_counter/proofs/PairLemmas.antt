@@ -11,36 +11,8 @@ use Rattle.prop_core.specs.Clauses.{Clause, negation, literal_true, clause_true,
 use Rattle.prop_core.specs.NamedClauses.{IsCode, One, Each}
 use Rattle.prop_core.specs.VariableNames.{Name, NamedLiteral, no}
 use Rattle.prop_core.proofs.FamilyLemmas.{all_append, code_each_none, code_each_more, code_one, reads_two}
+use Rattle.card_counter.proofs.ListLemmas.{all_split, all_change, all_both, some_at, take_more, map_append}
 use Rattle.card_counter.specs.AtMostOne.{AreNotBothTrue, not_both, pairs_after, excluded_pairs, PairsExclude, AddsAtMostOne, AreNamed, ExcludedNames, PairsExcludeNames}
-
--- ---- lists
-
-pub all_split : {X : Type 0} (P : X → Type 0) (xs ys : List X) → AllByRecursion P (xs ++ ys) → AllByRecursion P xs × AllByRecursion P ys
-all_split P [] ys all = (tt, all)
-all_split P (x ∷ xs) ys all = let rest = all_split P xs ys all.1 in ((all.0, rest.0), rest.1)
-
-pub all_change : {X : Type 0} (P Q : X → Type 0) (xs : List X) → ((x : X) → P x → Q x) → AllByRecursion P xs → AllByRecursion Q xs
-all_change P Q [] to all = tt
-all_change P Q (x ∷ xs) to all = (to x all.0, all_change P Q xs to all.1)
-
-pub all_both : {X : Type 0} (P Q : X → Type 0) (xs : List X) → AllByRecursion P xs → AllByRecursion Q xs → AllByRecursion (λ x. P x × Q x) xs
-all_both P Q [] first second = tt
-all_both P Q (x ∷ xs) first second = ((first.0, second.0), all_both P Q xs first.1 second.1)
-
-pub some_at : {X : Type 0} (xs : List X) (k : ℕ) → k < length xs → (x : X) × (slice_get xs k ≡ Some x)
-some_at [] k h = absurd (omega arith)
-some_at (x ∷ xs) zero h = (x, refl)
-some_at (x ∷ xs) (suc k) h = some_at xs k (omega arith)
-
--- one more element of a front
-pub take_more : {X : Type 0} (xs : List X) (k : ℕ) (x : X) → slice_get xs k ≡ Some x → take (suc k) xs ≡ take k xs ++ x ∷ []
-take_more [] k x h = cc
-take_more (y ∷ xs) zero x h = let same : y ≡ x = cc in ap (λ z. z ∷ []) same
-take_more (y ∷ xs) (suc k) x h = ap (λ rest. y ∷ rest) (take_more xs k x h)
-
-pub map_append : {X Y : Type 0} (f : X → Y) (xs ys : List X) → map f (xs ++ ys) ≡ map f xs ++ map f ys
-map_append f [] ys = refl
-map_append f (x ∷ xs) ys = ap (λ rest. f x ∷ rest) (map_append f xs ys)
 
 -- ---- the pairs of a longer list
 

@@ -1,1 +1,5 @@
 pub mod AtMostOne
+pub mod CounterClauses
+pub mod CounterState
+pub mod Counting
+pub mod Rows

@@ -1,5 +1,5 @@
 ghost use Rattle.std.specs.Prelude.{◌≡◌, ◌+◌, ◌*◌, ◌≤◌, ◌++◌, length, map, OnOk, OnErr};
-ghost use Rattle.card_counter.specs.AtMostOne.{not_both, excluded_pairs, PairsExclude, AddsAtMostOne, PairsExcludeNames};
+ghost use Rattle.card_counter.specs.AtMostOne.{not_both, excluded_pairs, AddsAtMostOne};
 
 use des_base::Memory;
 use prop_core::{Clauses, Lit, Vars};
@@ -44,13 +44,3 @@ fn exclude_each(earlier: &[Lit], later: Lit, out: &mut Clauses)
         out.push_reserved(&[input.negated(), later.negated()]);
     }
 }
-
-/// A law: the clauses of all pairs are true exactly where at most one input is.
-pub fn pairs_exclude()
-    ensures { PairsExclude }
-{}
-
-/// A law: by name, the clauses of all pairs exclude each two of the names.
-pub fn pairs_exclude_names()
-    ensures { PairsExcludeNames }
-{}

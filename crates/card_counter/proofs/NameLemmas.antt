@@ -1,0 +1,73 @@
+-- The variables of a counter and their names.
+use Rattle.std.proofs.Common.{◌≡◌, ◌≢◌, ℕ, zero, suc, ◌<◌, ◌∙◌, Bool, true, false, List, [], ◌∷◌, map, length, Option, None, Some, refl, sym, ap, subst, arith, Contains, ◌==◌}
+use Rattle.std.specs.List.{AllByRecursion, range_with_len}
+use Rattle.std.proofs.lemmas.Bool.{ne_eqb, eq-eqb}
+use Rattle.prop_core.specs.VariableNames.{Name, reaches, HasEachOnce, name_of}
+use Rattle.card_counter.proofs.ListLemmas.{all_at, flat_contains, flat_of, map_contains, map_of, pairs_flat, pairs_map}
+use Rattle.card_counter.specs.CounterState.{CounterState, IsPlace, IsCounter, variable, numbers_below, counter_names}
+use Rattle.card_counter.specs.Counting.{AreCounterNames, CounterNamesStand}
+
+-- the name of a variable that stands among the names
+pub named_by_entry : (names : List (ℕ × Name)) → HasEachOnce names → (var : ℕ) (name : Name) → Contains names (var, name) → name_of names var ≡ Some name
+named_by_entry [] once var name (k, below, is) = absurd (omega arith)
+named_by_entry (entry ∷ names) once var name (zero, below, is) =
+    let v : entry.0 ≡ var = ap (λ (e : ℕ × Name). e.0) is in
+    let n : entry.1 ≡ name = ap (λ (e : ℕ × Name). e.1) is in
+    rw (eq-eqb entry.0 var v) (ap Some n)
+named_by_entry (entry ∷ names) once var name (suc k, below, is) =
+    let there : Contains names (var, name) = (k, omega arith, is) in
+    let other = all_at (λ b. (entry.0 ≢ b.0) × (entry.1 ≢ b.1)) names (var, name) once.0 there in
+    rw (ne_eqb entry.0 var other.0) (named_by_entry names once.1 var name there)
+
+pub no_name : (names : List (ℕ × Name)) (var : ℕ) → AllByRecursion (λ entry. entry.0 ≢ var) names → name_of names var ≡ None
+no_name [] var other = refl
+no_name (entry ∷ names) var other = rw (ne_eqb entry.0 var other.0) (no_name names var other.1)
+
+module _ (state : CounterState) where
+  abbrev entry : ℕ → ℕ → ℕ × Name
+  entry j i = (variable state i j, reaches (suc i) (suc j))
+
+  abbrev row : ℕ → List (ℕ × Name)
+  row j = map (entry j) (numbers_below (length state.inputs))
+
+  pub entry_there : (i j : ℕ) → IsPlace state i j → Contains (counter_names state) (variable state i j, reaches (suc i) (suc j))
+  entry_there i j place = flat_contains row (length state.columns) j (entry j i) place.column (map_contains (entry j) (length state.inputs) i place.input)
+
+  pub entry_only : (e : ℕ × Name) → Contains (counter_names state) e → (i : ℕ) × (j : ℕ) × IsPlace state i j × (e ≡ (variable state i j, reaches (suc i) (suc j)))
+  entry_only e here =
+      let column = flat_of row (length state.columns) e here in
+      let input = map_of (entry column.0) (length state.inputs) e column.2 in
+      (input.0, column.0, record { input = input.1; column = column.1 }, sym input.2)
+
+  abbrev Differ : ℕ × Name → ℕ × Name → Type 0
+  Differ a b = (a.0 ≢ b.0) × (a.1 ≢ b.1)
+
+  entries_differ : IsCounter state → (i j k l : ℕ) → IsPlace state i j → IsPlace state k l → ((i ≡ k) × (j ≡ l) → ⊥) → Differ (entry j i) (entry l k)
+  entries_differ counter i j k l here there other = (
+    (λ same. other (counter.apart i j k l here there same)),
+    (λ same. other (input_same i j k l same, column_same i j k l same)),
+  )
+    where
+      input_same : (i j k l : ℕ) → reaches (suc i) (suc j) ≡ reaches (suc k) (suc l) → i ≡ k
+      input_same i j k l same = cc
+
+      column_same : (i j k l : ℕ) → reaches (suc i) (suc j) ≡ reaches (suc k) (suc l) → j ≡ l
+      column_same i j k l same = cc
+
+  entries_once : IsCounter state → HasEachOnce (counter_names state)
+  entries_once counter = pairs_flat Differ row (length state.columns)
+      (λ j h. pairs_map Differ (entry j) (length state.inputs) (λ i k less inside.
+      entries_differ counter i j k j (record { input = omega arith; column = h }) (record { input = inside; column = h }) (λ same. let e = same.0 in omega arith)))
+      (λ j l a b less h here there.
+      let first = map_of (entry j) (length state.inputs) a here in
+      let second = map_of (entry l) (length state.inputs) b there in
+      let differ = entries_differ counter first.0 j second.0 l (record { input = first.1; column = omega arith }) (record { input = second.1; column = h }) (λ same. let e = same.1 in omega arith) in
+      subst (λ x. Differ x b) first.2 (subst (Differ (entry j first.0)) second.2 differ))
+
+pub counter_names_stand : CounterNamesStand
+counter_names_stand state counter = record {
+  once = entries_once state counter;
+  there = entry_there state;
+  only = entry_only state;
+  called = λ names once within i j place. named_by_entry names once (variable state i j) (reaches (suc i) (suc j)) (within (variable state i j, reaches (suc i) (suc j)) (entry_there state i j place));
+}

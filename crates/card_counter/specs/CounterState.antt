@@ -1,0 +1,121 @@
+-- A counter: its inputs, the variables of its columns, and its clauses.
+use Rattle.std.specs.Prelude.{◌≡◌, ◌≢◌, ℕ, zero, suc, ◌+◌, ◌-◌, ◌<◌, ◌≤◌, true, false, List, [], ◌∷◌, ◌++◌, map, flat_map, length, Option, None, Some, slice_index_or, Contains}
+use Rattle.std.specs.List.{range_with_len}
+use Rattle.prop_core.specs.declared.lit.Lit.{Lit}
+use Rattle.prop_core.specs.Clauses.{Clause, negation, HasValues}
+use Rattle.prop_core.specs.VariableNames.{Name, reaches}
+
+-- the inputs, and for each column its variables, one for each input
+pub record CounterState : Type 0 where
+  pub inputs : List Lit
+  pub columns : List (List ℕ)
+
+abbrev pub numbers_below : ℕ → List ℕ
+numbers_below n = range_with_len 0 n
+
+abbrev pub column_at : List (List ℕ) → ℕ → List ℕ
+column_at columns j = slice_index_or columns j []
+
+abbrev pub var_at : List ℕ → ℕ → ℕ
+var_at column i = slice_index_or column i 0
+
+-- the variable of column j at input i: of the first i + 1 inputs at least j + 1 are true
+abbrev pub variable : CounterState → ℕ → ℕ → ℕ
+variable state i j = var_at (column_at state.columns j) i
+
+-- there is this input, and this column
+pub record IsPlace (state : CounterState) (i j : ℕ) : Type 0 where
+  pub input : i < length state.inputs
+  pub column : j < length state.columns
+
+-- What a counter keeps: a variable for each place, no two alike, and none of an input.
+pub record IsCounter (state : CounterState) : Type 0 where
+  pub filled : 0 < length state.columns → 0 < length state.inputs
+  pub full : (j : ℕ) → j < length state.columns → length (column_at state.columns j) ≡ length state.inputs
+  pub apart : (i j k l : ℕ) → IsPlace state i j → IsPlace state k l → variable state i j ≡ variable state k l → (i ≡ k) × (j ≡ l)
+  pub new : (i j : ℕ) (input : Lit) → IsPlace state i j → Contains state.inputs input → input.var ≢ variable state i j
+
+-- all its variables were made, and those of its inputs
+pub record IsMade (count : ℕ) (state : CounterState) : Type 0 where
+  pub inputs : HasValues count state.inputs
+  pub columns : (i j : ℕ) → IsPlace state i j → variable state i j < count
+
+-- ---- clauses
+
+abbrev pub positive : ℕ → Lit
+positive var = record { var = var; positive = true }
+
+abbrev pub negative : ℕ → Lit
+negative var = record { var = var; positive = false }
+
+-- that inputs reach a number: always so, never so, or as the truth of a variable says
+pub data Reached : Type 0 where
+  always : Reached
+  never : Reached
+  told_by : (var : ℕ) → Reached
+
+-- the inputs before place i reach the number of this column
+abbrev pub reached_in : List ℕ → ℕ → Reached
+reached_in column zero = never
+reached_in column (suc i) = told_by (var_at column i)
+
+-- the inputs before place i reach the number of the column before, if there is one, and 0 if not
+abbrev pub reached_before : Option (List ℕ) → ℕ → Reached
+reached_before None i = always
+reached_before (Some column) i = reached_in column i
+
+-- the clause, under a premise
+abbrev pub under : Reached → Clause → List Clause
+under always clause = clause ∷ []
+under never clause = []
+under (told_by var) clause = (negative var ∷ clause) ∷ []
+
+-- what a column says of input i: it keeps what was reached, and a true input reaches one more
+abbrev pub place_clauses : Lit → Option (List ℕ) → List ℕ → ℕ → List Clause
+place_clauses input before column i =
+    under (reached_in column i) (positive (var_at column i) ∷ [])
+    ++ under (reached_before before i) (negation input ∷ positive (var_at column i) ∷ [])
+
+abbrev pub no_input : Lit
+no_input = record { var = 0; positive = false }
+
+abbrev pub input_at : List Lit → ℕ → Lit
+input_at inputs i = slice_index_or inputs i no_input
+
+-- the clauses of a column, input by input
+abbrev pub column_clauses : List Lit → Option (List ℕ) → List ℕ → List Clause
+column_clauses inputs before column = flat_map (λ i. place_clauses (input_at inputs i) before column i) (numbers_below (length inputs))
+
+-- the column before column j
+abbrev pub column_before : List (List ℕ) → ℕ → Option (List ℕ)
+column_before columns zero = None
+column_before columns (suc j) = Some (column_at columns j)
+
+-- all clauses of the counter, column by column
+abbrev pub counter_clauses : CounterState → List Clause
+counter_clauses state =
+    flat_map (λ j. column_clauses state.inputs (column_before state.columns j) (column_at state.columns j)) (numbers_below (length state.columns))
+
+-- the literal that at most k inputs are true, where there is a column k
+abbrev pub bound_literal : CounterState → ℕ → Lit
+bound_literal state k = negative (variable state (length state.inputs - 1) k)
+
+-- ---- one more column, with variables in a row
+
+abbrev pub with_column : CounterState → ℕ → CounterState
+with_column state first = record { inputs = state.inputs; columns = state.columns ++ range_with_len first (length state.inputs) ∷ [] }
+
+-- the clauses of that column
+abbrev pub next_clauses : CounterState → ℕ → List Clause
+next_clauses state first = column_clauses state.inputs (column_before state.columns (length state.columns)) (range_with_len first (length state.inputs))
+
+-- A column more has its clauses behind those of the others.
+abbrev pub ColumnsAddClauses : Type 0
+ColumnsAddClauses = (state : CounterState) (first : ℕ) → counter_clauses (with_column state first) ≡ counter_clauses state ++ next_clauses state first
+
+-- ---- names
+
+-- the variables of the counter, each with its name
+abbrev pub counter_names : CounterState → List (ℕ × Name)
+counter_names state =
+    flat_map (λ j. map (λ i. (variable state i j, reaches (suc i) (suc j))) (numbers_below (length state.inputs))) (numbers_below (length state.columns))

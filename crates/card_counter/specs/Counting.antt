@@ -1,0 +1,94 @@
+-- What the clauses of a counter say: how many of its inputs are true.
+use Rattle.std.specs.Prelude.{◌≡◌, ◌≢◌, ◌↔◌, ℕ, suc, ◌<◌, ◌≤◌, nat_le, Bool, true, false, List, length, take, count_by, Some, Contains, IsTrue}
+use Rattle.prop_core.specs.declared.lit.Lit.{Lit}
+use Rattle.prop_core.specs.Clauses.{literal_true, AllClausesTrue}
+use Rattle.prop_core.specs.NamedClauses.{named_true, AllHold, IsCode}
+use Rattle.prop_core.specs.VariableNames.{Name, in_state, happens, asked, matches, done, unmatched, closed, reaches, some_of_first, NamedLiteral, HasEachOnce, name_of, named_clause}
+use Rattle.card_counter.specs.CounterClauses.{IsNamedColumn, IsNamedCount}
+use Rattle.card_counter.specs.CounterState.{CounterState, IsPlace, IsCounter, variable, counter_clauses, bound_literal, with_column, next_clauses, counter_names}
+
+-- how many of the inputs are true
+abbrev pub true_count : (ℕ → Bool) → List Lit → ℕ
+true_count value inputs = count_by (literal_true value) inputs
+
+-- ---- over assignments
+
+-- the same truth for each variable that is none of the counter's own
+abbrev pub AgreeOutside : CounterState → (ℕ → Bool) → (ℕ → Bool) → Type 0
+AgreeOutside state given assignment = (var : ℕ) → ((i j : ℕ) → IsPlace state i j → var ≢ variable state i j) → assignment var ≡ given var
+
+-- a change of the counter's own variables alone makes it hold
+abbrev pub Extends : CounterState → (ℕ → Bool) → ((ℕ → Bool) → Type 0) → Type 0
+Extends state given holds = (assignment : ℕ → Bool) × AgreeOutside state given assignment × holds assignment
+
+-- An assignment extends to the clauses, and with at most k inputs as an assumption too exactly where at most k are true.
+pub record Counts (state : CounterState) (given : ℕ → Bool) : Type 0 where
+  pub free : Extends state given (λ assignment. AllClausesTrue assignment (counter_clauses state))
+  pub bounded : (k : ℕ) → k < length state.columns →
+      Extends state given (λ assignment. AllClausesTrue assignment (counter_clauses state) × IsTrue (literal_true assignment (bound_literal state k))) ↔ true_count given state.inputs ≤ k
+
+abbrev pub CounterIsExact : Type 0
+CounterIsExact = (state : CounterState) → IsCounter state → (given : ℕ → Bool) → Counts state given
+
+-- ---- by name
+
+abbrev pub is_count : Name → Bool
+is_count (in_state c q t) = false
+is_count (happens e t) = false
+is_count asked = false
+is_count (matches i e t) = false
+is_count (done i t) = false
+is_count (unmatched e k t) = false
+is_count (closed e k) = false
+is_count (reaches i j) = true
+is_count (some_of_first family i) = false
+
+-- the truth of names where the first i inputs reach j just where so many of them are true
+abbrev pub counted : List NamedLiteral → (Name → Bool) → Name → Bool
+counted inputs value (in_state c q t) = value (in_state c q t)
+counted inputs value (happens e t) = value (happens e t)
+counted inputs value asked = value asked
+counted inputs value (matches i e t) = value (matches i e t)
+counted inputs value (done i t) = value (done i t)
+counted inputs value (unmatched e k t) = value (unmatched e k t)
+counted inputs value (closed e k) = value (closed e k)
+counted inputs value (reaches i j) = nat_le j (count_by (named_true value) (take i inputs))
+counted inputs value (some_of_first family i) = value (some_of_first family i)
+
+-- Whatever the truth of the inputs, the count makes the clauses true, with at most k where at most k inputs are true; and where the clauses are true, at most k says so.
+pub record CountsByName (inputs : List NamedLiteral) (value : Name → Bool) : Type 0 where
+  pub others : (name : Name) → is_count name ≡ false → counted inputs value name ≡ value name
+  pub free : ((x : NamedLiteral) → Contains inputs x → is_count x.name ≡ false) → (columns : ℕ) → AllHold (IsNamedCount inputs columns) (counted inputs value)
+  pub bound : (k : ℕ) → count_by (named_true value) inputs ≤ k → counted inputs value (reaches (length inputs) (suc k)) ≡ false
+  pub few : (columns k : ℕ) → AllHold (IsNamedCount inputs columns) value → k < columns → value (reaches (length inputs) (suc k)) ≡ false → count_by (named_true value) inputs ≤ k
+
+abbrev pub NamedCountIsExact : Type 0
+NamedCountIsExact = (inputs : List NamedLiteral) (value : Name → Bool) → CountsByName inputs value
+
+-- ---- from variables to names
+
+-- By these names the inputs read as those, and each variable of a column is called by what it counts.
+pub record IsNamedBy (names : List (ℕ × Name)) (inputs : List NamedLiteral) (state : CounterState) : Type 0 where
+  pub inputs_read : named_clause names state.inputs ≡ Some inputs
+  pub called : (i j : ℕ) → IsPlace state i j → name_of names (variable state i j) ≡ Some (reaches (suc i) (suc j))
+
+-- The clauses of a counter are, by name, those of its columns.
+abbrev pub CounterIsCode : Type 0
+CounterIsCode = (names : List (ℕ × Name)) (inputs : List NamedLiteral) (state : CounterState) → IsNamedBy names inputs state →
+    IsCode names (IsNamedCount inputs (length state.columns)) (counter_clauses state)
+
+-- The clauses that a column more brings are those of this column.
+abbrev pub ColumnIsCode : Type 0
+ColumnIsCode = (names : List (ℕ × Name)) (inputs : List NamedLiteral) (state : CounterState) (first : ℕ) → IsNamedBy names inputs (with_column state first) →
+    IsCode names (IsNamedColumn inputs (length state.columns)) (next_clauses state first)
+
+-- The names of a counter have each variable and each name once; and by names that have them all its variables are called so.
+pub record AreCounterNames (state : CounterState) : Type 0 where
+  pub once : HasEachOnce (counter_names state)
+  pub there : (i j : ℕ) → IsPlace state i j → Contains (counter_names state) (variable state i j, reaches (suc i) (suc j))
+  pub only : (entry : ℕ × Name) → Contains (counter_names state) entry → (i : ℕ) × (j : ℕ) × IsPlace state i j × (entry ≡ (variable state i j, reaches (suc i) (suc j)))
+  pub called : (names : List (ℕ × Name)) → HasEachOnce names → ((entry : ℕ × Name) → Contains (counter_names state) entry → Contains names entry) →
+      (i j : ℕ) → IsPlace state i j → name_of names (variable state i j) ≡ Some (reaches (suc i) (suc j))
+
+abbrev pub CounterNamesStand : Type 0
+CounterNamesStand = (state : CounterState) → IsCounter state → AreCounterNames state

@@ -1,0 +1,43 @@
+ghost use Rattle.card_counter.specs.AtMostOne.{PairsExclude, PairsExcludeNames};
+ghost use Rattle.card_counter.specs.CounterState.{ColumnsAddClauses};
+ghost use Rattle.card_counter.specs.Counting.{CounterIsExact, NamedCountIsExact, CounterIsCode, ColumnIsCode, CounterNamesStand};
+
+/// A law: the clauses of all pairs are true exactly where at most one input is.
+pub fn pairs_exclude()
+    ensures { PairsExclude }
+{}
+
+/// A law: by name, the clauses of all pairs exclude each two of the names.
+pub fn pairs_exclude_names()
+    ensures { PairsExcludeNames }
+{}
+
+/// A law: a column more has its clauses behind those of the others.
+pub fn columns_add_clauses()
+    ensures { ColumnsAddClauses }
+{}
+
+/// A law: an assignment extends to a counter's clauses, and with "at most k" exactly where at most k inputs are true.
+pub fn counter_is_exact()
+    ensures { CounterIsExact }
+{}
+
+/// The same law by the names of variables.
+pub fn named_count_is_exact()
+    ensures { NamedCountIsExact }
+{}
+
+/// A law: the clauses of a counter are, by name, those of its columns.
+pub fn counter_is_code()
+    ensures { CounterIsCode }
+{}
+
+/// A law: the clauses that a column more brings are, by name, those of this column.
+pub fn column_is_code()
+    ensures { ColumnIsCode }
+{}
+
+/// A law: a counter's variables have their names, each once.
+pub fn counter_names_stand()
+    ensures { CounterNamesStand }
+{}
