@@ -1,16 +1,17 @@
 -- The clauses of a counter, by the names of its variables.
-use Rattle.std.proofs.Common.{◌≡◌, ℕ, zero, suc, ◌+◌, ◌<◌, ◌≤◌, ◌∙◌, ◌⊎◌, inl, inr, Bool, List, [], ◌∷◌, ◌++◌, flat_map, length, Option, None, Some, refl, sym, ap, subst, arith, slice_get, option_map, not}
+use Rattle.std.proofs.Common.{◌≡◌, ℕ, zero, suc, ◌+◌, ◌<◌, ◌≤◌, ◌∙◌, ◌⊎◌, inl, inr, List, [], ◌∷◌, ◌++◌, flat_map, length, Option, None, Some, refl, sym, ap, subst, arith, slice_get, option_map, not}
 use Rattle.std.specs.List.{range_with_len}
+use Rattle.std.proofs.lemmas.Bool.{cases_order}
 use Rattle.prop_core.specs.declared.lit.Lit.{Lit}
 use Rattle.prop_core.specs.Clauses.{Clause, negation}
-use Rattle.prop_core.specs.NamedClauses.{IsCode, Each, Both, One}
+use Rattle.prop_core.specs.NamedClauses.{IsCode, Each, Both, One, Appends}
 use Rattle.prop_core.specs.VariableNames.{Name, NamedLiteral, yes, no, reaches, name_of, named_literal, with_literal, named_clause}
 use Rattle.prop_core.proofs.FamilyLemmas.{code_none, code_one, code_append, code_same, code_each_none, code_each_more, reads_whole}
 use Rattle.card_counter.proofs.ListLemmas.{flat_next}
 use Rattle.card_counter.proofs.States.{before_front, at_end, one_more_column}
-use Rattle.card_counter.specs.CounterClauses.{CountClause, counts_on, counts_up, opposite, unless_reached, count_clause, IsNamedColumn, IsNamedCount}
-use Rattle.card_counter.specs.CounterState.{CounterState, IsPlace, variable, var_at, column_at, column_before, positive, negative, reached_in, reached_before, under, place_clauses, input_at, no_input, column_clauses, counter_clauses, with_column, next_clauses, numbers_below}
-use Rattle.card_counter.specs.Counting.{IsNamedBy, CounterIsCode, ColumnIsCode}
+use Rattle.card_counter.specs.CounterClauses.{counts_on, counts_up, opposite, count_clause, IsNamedColumn, IsNamedCount}
+use Rattle.card_counter.specs.CounterState.{CounterState, IsPlace, variable, column_at, column_before, positive, negative, reached_in, reached_before, under, place_clauses, input_at, column_clauses, counter_clauses, with_column, next_clauses}
+use Rattle.card_counter.specs.Counting.{NamedColumnsGrow, IsNamedBy, CounterIsCode, ColumnIsCode}
 
 -- a list for each number is a family for each
 pub code_flat : (names : List (ℕ × Name)) (F : ℕ → List NamedLiteral → Type 0) (f : ℕ → List Clause) (n : ℕ) → ((i : ℕ) → i < n → IsCode names (F i) (f i)) → IsCode names (Each n F) (flat_map f (range_with_len 0 n))
@@ -164,3 +165,51 @@ column_is_code names read state first named =
     let code = column_code names read (with_column state first) named (length state.columns) (omega (arith, one_more_column state.columns column)) in
     subst (λ c. IsCode names (IsNamedColumn read (length state.columns)) (column_clauses state.inputs c column)) (before_front state.columns column (length state.columns) (omega arith))
     (subst (λ c. IsCode names (IsNamedColumn read (length state.columns)) (column_clauses state.inputs (column_before (state.columns ++ column ∷ []) (length state.columns)) c)) (at_end state.columns column) code)
+
+-- ---- column by column
+
+pub named_columns_grow : NamedColumnsGrow
+named_columns_grow inputs = record {
+  begins = none;
+  grows = λ columns named. (to columns named, back columns named);
+}
+  where
+    none : (named : List NamedLiteral) → IsNamedCount inputs 0 named → ⊥
+    none named (counts_on i j, is, of, same) = let one = is.2 in omega arith
+    none named (counts_up i j x, is, of, same) = omega arith
+
+    to : (columns : ℕ) (named : List NamedLiteral) → IsNamedCount inputs (suc columns) named → IsNamedCount inputs columns named ⊎ IsNamedColumn inputs columns named
+    to columns named (counts_on i j, is, of, same) = by (cases_order j (suc columns))
+      where
+        by : (j ≡ suc columns) ⊎ ((j < suc columns) ⊎ (suc columns < j)) → IsNamedCount inputs columns named ⊎ IsNamedColumn inputs columns named
+        by (inl last) = inr (counts_on i j, is, last, same)
+        by (inr (inl less)) = inl (counts_on i j, is, omega arith, same)
+        by (inr (inr more)) = absurd (omega arith)
+    to columns named (counts_up i j x, is, of, same) = by (cases_order j columns)
+      where
+        by : (j ≡ columns) ⊎ ((j < columns) ⊎ (columns < j)) → IsNamedCount inputs columns named ⊎ IsNamedColumn inputs columns named
+        by (inl last) = inr (counts_up i j x, is, last, same)
+        by (inr (inl less)) = inl (counts_up i j x, is, less, same)
+        by (inr (inr more)) = absurd (omega arith)
+
+    back : (columns : ℕ) (named : List NamedLiteral) → IsNamedCount inputs columns named ⊎ IsNamedColumn inputs columns named → IsNamedCount inputs (suc columns) named
+    back columns named (inl (counts_on i j, is, of, same)) = (counts_on i j, is, omega arith, same)
+    back columns named (inl (counts_up i j x, is, of, same)) = (counts_up i j x, is, omega arith, same)
+    back columns named (inr (counts_on i j, is, of, same)) = (counts_on i j, is, omega arith, same)
+    back columns named (inr (counts_up i j x, is, of, same)) = (counts_up i j x, is, omega arith, same)
+
+-- a counter's code, from none and by a column more
+pub count_code_begins : (names : List (ℕ × Name)) (inputs : List NamedLiteral) → IsCode names (IsNamedCount inputs 0) []
+count_code_begins names inputs = code_none names (IsNamedCount inputs 0) (named_columns_grow inputs).begins
+
+pub count_code_grows : (names : List (ℕ × Name)) (inputs : List NamedLiteral) (columns : ℕ) (clauses more : List Clause) →
+    IsCode names (IsNamedCount inputs columns) clauses → IsCode names (IsNamedColumn inputs columns) more → IsCode names (IsNamedCount inputs (suc columns)) (clauses ++ more)
+count_code_grows names inputs columns clauses more before column =
+    code_same names (Both (IsNamedCount inputs columns) (IsNamedColumn inputs columns)) (IsNamedCount inputs (suc columns)) (clauses ++ more)
+    (λ named is. ((named_columns_grow inputs).grows columns named).1 is) (λ named is. ((named_columns_grow inputs).grows columns named).0 is)
+    (code_append names (IsNamedCount inputs columns) (IsNamedColumn inputs columns) clauses more before column)
+
+-- the same for a list that grows
+pub appends_column : (names : List (ℕ × Name)) (inputs : List NamedLiteral) (state : CounterState) (first : ℕ) (old new : List Clause) → IsNamedBy names inputs (with_column state first) →
+    new ≡ old ++ next_clauses state first → Appends names (IsNamedColumn inputs (length state.columns)) old new
+appends_column names inputs state first old new named whole = record { more = next_clauses state first; whole = whole; code = column_is_code names inputs state first named }

@@ -1,6 +1,6 @@
 -- What a counter's rules make of any inputs.
-use Rattle.std.proofs.Common.{◌≡◌, ℕ, zero, suc, ◌+◌, ◌-◌, ◌<◌, ◌≤◌, Bool, true, false, List, [], ◌∷◌, ◌∙◌, length, Some, refl, sym, ap, arith, slice_get, cond, inl, inr, ◌⊎◌, take, count_by, nat_le}
-use Rattle.std.proofs.lemmas.Bool.{leb-true, le-leb, cases_lt}
+use Rattle.std.proofs.Common.{◌≡◌, ℕ, zero, suc, ◌+◌, ◌<◌, ◌≤◌, Bool, true, false, List, [], ◌∷◌, length, Some, refl, ap, arith, slice_get, cond, inl, inr, ◌⊎◌, take, count_by, nat_le}
+use Rattle.std.proofs.lemmas.Bool.{leb-true, le-leb}
 use Rattle.std.proofs.lemmas.List.Sums.{sum_by-cons}
 use Rattle.card_counter.proofs.ListLemmas.{some_at}
 

@@ -1,20 +1,19 @@
 -- The clauses of a counter say how many of its inputs are true.
-use Rattle.std.proofs.Common.{cond, ◌+◌, ◌≡◌, ◌≢◌, ℕ, zero, suc, ◌-◌, ◌<◌, ◌≤◌, ◌∙◌, ◌⊎◌, inl, inr, Bool, true, false, List, [], ◌∷◌, ◌++◌, length, Option, None, Some, refl, sym, ap, subst, arith, slice_get, Contains, IsTrue, not, ◌||◌, take, take_all, count_by, nat_le, unwrap_or, option_map}
+use Rattle.std.proofs.Common.{cond, ◌+◌, ◌≡◌, ◌≢◌, ℕ, zero, suc, ◌-◌, ◌<◌, ◌≤◌, ◌∙◌, ◌⊎◌, inl, inr, Bool, true, false, List, [], ◌∷◌, length, Some, refl, sym, ap, subst, arith, slice_get, Contains, IsTrue, not, ◌||◌, take, take_all, count_by, nat_le, unwrap_or, option_map}
 use Rattle.std.specs.Bool.{beq}
-use Rattle.std.specs.List.{AllByRecursion, list_any}
-use Rattle.std.proofs.lemmas.Bool.{leb-true, le-leb, cases_lt}
+use Rattle.std.proofs.lemmas.Bool.{leb-true, cases_lt}
 use Rattle.std.proofs.lemmas.Option.{slice_get-get_or}
 use Rattle.prop_core.specs.declared.lit.Lit.{Lit}
 use Rattle.prop_core.specs.Clauses.{Clause, negation, literal_true, clause_true, AllClausesTrue}
 use Rattle.prop_core.specs.NamedClauses.{same_sign, named_true, named_clause_true, assignment_by, AllHold}
-use Rattle.prop_core.specs.VariableNames.{Name, in_state, happens, asked, matches, done, unmatched, closed, reaches, some_of_first, NamedLiteral, yes, no, name_of}
+use Rattle.prop_core.specs.VariableNames.{Name, in_state, happens, asked, matches, done, unmatched, closed, reaches, some_of_first, NamedLiteral}
 use Rattle.prop_core.proofs.FamilyLemmas.{all_append}
-use Rattle.card_counter.proofs.ListLemmas.{all_split, all_from, contains_at, some_at, flat_each, flat_from}
+use Rattle.card_counter.proofs.ListLemmas.{all_split, all_from, contains_at, flat_each, flat_from}
 use Rattle.card_counter.proofs.Counts.{count_cons, Reaches, reached, counting}
 use Rattle.card_counter.proofs.NameLemmas.{no_name, counter_names_stand}
-use Rattle.card_counter.specs.CounterClauses.{CountClause, counts_on, counts_up, opposite, unless_reached, count_clause, IsCountClause, IsOfColumns, IsNamedCount}
-use Rattle.card_counter.specs.CounterState.{CounterState, IsPlace, IsCounter, variable, var_at, column_at, column_before, positive, negative, Reached, always, never, told_by, reached_in, reached_before, under, place_clauses, input_at, no_input, column_clauses, counter_clauses, bound_literal, counter_names}
-use Rattle.card_counter.specs.Counting.{true_count, AgreeOutside, Extends, Counts, CounterIsExact, is_count, counted, CountsByName, NamedCountIsExact}
+use Rattle.card_counter.specs.CounterClauses.{CountClause, counts_on, counts_up, opposite, count_clause, IsCountClause, IsOfColumns, IsNamedCount}
+use Rattle.card_counter.specs.CounterState.{CounterState, IsPlace, IsCounter, variable, column_at, column_before, positive, Reached, always, never, told_by, reached_in, reached_before, under, place_clauses, input_at, no_input, column_clauses, counter_clauses, bound_literal, counter_names}
+use Rattle.card_counter.specs.Counting.{true_count, AgreeOutside, Extends, CounterIsExact, is_count, counted, NamedCountIsExact}
 
 -- ---- clauses with premises
 
@@ -247,9 +246,9 @@ module _ (state : CounterState) (counter : IsCounter state) where
           omega (arith, count, whole given some, few))
 
 pub counter_is_exact : CounterIsExact
-counter_is_exact state counter given = record {
-  free = (counting_by state given, outside state counter given, holds state counter given);
-  bounded = λ k h. (bounded_to state counter given k h, bounded_back state counter given k h);
+counter_is_exact state counter = record {
+  free = λ given. (counting_by state given, outside state counter given, holds state counter given);
+  bounded = λ k h given. (bounded_to state counter given k h, bounded_back state counter given k h);
 }
 
 -- ---- by name

@@ -6,3 +6,4 @@ pub mod NameLemmas
 pub mod CodeLemmas
 pub mod Exact
 pub mod RowLemmas
+pub mod Vectors

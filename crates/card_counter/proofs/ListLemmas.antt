@@ -1,5 +1,5 @@
 -- Lists: facts of all elements, fronts, and lists that are put together number by number.
-use Rattle.std.proofs.Common.{◌≡◌, ℕ, zero, suc, ◌+◌, ◌<◌, ◌≤◌, ◌∙◌, List, [], ◌∷◌, ◌++◌, map, flat_map, length, take, Some, refl, sym, ap, subst, arith, slice_get, Contains, get_or, append-nil, append_assoc, ◌⊎◌, inl, inr}
+use Rattle.std.proofs.Common.{◌≡◌, ℕ, zero, suc, ◌+◌, ◌<◌, ◌∙◌, List, [], ◌∷◌, ◌++◌, map, flat_map, length, take, Some, refl, sym, ap, subst, arith, slice_get, Contains, append-nil, append_assoc, ◌⊎◌, inl, inr}
 use Rattle.std.specs.List.{AllByRecursion, range_with_len}
 use Rattle.std.proofs.lemmas.List.Elements.{Contains-append_left, Contains-append_right, Contains-append_cases}
 use Rattle.std.proofs.lemmas.Bool.{cases_order}
@@ -104,6 +104,10 @@ flat_of f (suc n) x here = by (Contains-append_cases (flat_map f (range_with_len
 pub map_as_flat : {X : Type 0} (f : ℕ → X) (ns : List ℕ) → map f ns ≡ flat_map (λ i. f i ∷ []) ns
 map_as_flat f [] = refl
 map_as_flat f (n ∷ ns) = ap (λ rest. f n ∷ rest) (map_as_flat f ns)
+
+pub map_same : {X : Type 0} (f g : ℕ → X) (n : ℕ) → ((i : ℕ) → i < n → f i ≡ g i) → map f (range_with_len 0 n) ≡ map g (range_with_len 0 n)
+map_same f g n same =
+    map_as_flat f (range_with_len 0 n) ∙ flat_same (λ i. f i ∷ []) (λ i. g i ∷ []) n (λ i h. ap (λ x. x ∷ []) (same i h)) ∙ sym (map_as_flat g (range_with_len 0 n))
 
 pub map_contains : {X : Type 0} (f : ℕ → X) (n i : ℕ) → i < n → Contains (map f (range_with_len 0 n)) (f i)
 map_contains f n i h = subst (λ xs. Contains xs (f i)) (sym (map_as_flat f (range_with_len 0 n))) (flat_contains (λ k. f k ∷ []) n i (f i) h (0, omega arith, refl))

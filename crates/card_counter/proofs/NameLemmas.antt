@@ -1,11 +1,11 @@
 -- The variables of a counter and their names.
-use Rattle.std.proofs.Common.{◌≡◌, ◌≢◌, ℕ, zero, suc, ◌<◌, ◌∙◌, Bool, true, false, List, [], ◌∷◌, map, length, Option, None, Some, refl, sym, ap, subst, arith, Contains, ◌==◌}
-use Rattle.std.specs.List.{AllByRecursion, range_with_len}
+use Rattle.std.proofs.Common.{◌≡◌, ◌≢◌, ℕ, zero, suc, List, [], ◌∷◌, map, length, None, Some, refl, sym, ap, subst, arith, Contains}
+use Rattle.std.specs.List.{AllByRecursion}
 use Rattle.std.proofs.lemmas.Bool.{ne_eqb, eq-eqb}
 use Rattle.prop_core.specs.VariableNames.{Name, reaches, HasEachOnce, name_of}
 use Rattle.card_counter.proofs.ListLemmas.{all_at, flat_contains, flat_of, map_contains, map_of, pairs_flat, pairs_map}
 use Rattle.card_counter.specs.CounterState.{CounterState, IsPlace, IsCounter, variable, numbers_below, counter_names}
-use Rattle.card_counter.specs.Counting.{AreCounterNames, CounterNamesStand}
+use Rattle.card_counter.specs.Counting.{CounterNamesStand}
 
 -- the name of a variable that stands among the names
 pub named_by_entry : (names : List (ℕ × Name)) → HasEachOnce names → (var : ℕ) (name : Name) → Contains names (var, name) → name_of names var ≡ Some name

@@ -8,7 +8,7 @@ use Rattle.std.specs.List.{AllByRecursion}
 use Rattle.des_base.specs.Lists.{EachPair}
 use Rattle.prop_core.specs.declared.lit.Lit.{Lit}
 use Rattle.prop_core.specs.Clauses.{Clause, negation, literal_true, clause_true, AllClausesTrue}
-use Rattle.prop_core.specs.NamedClauses.{IsCode, One, Each}
+use Rattle.prop_core.specs.NamedClauses.{IsCode, One, Each, Appends}
 use Rattle.prop_core.specs.VariableNames.{Name, NamedLiteral, no}
 use Rattle.prop_core.proofs.FamilyLemmas.{all_append, code_each_none, code_each_more, code_one, reads_two}
 use Rattle.card_counter.proofs.ListLemmas.{all_split, all_change, all_both, some_at, take_more, map_append}
@@ -169,6 +169,11 @@ pairs_exclude_names names name inputs named =
     take_whole : (xs : List Lit) → take (length xs) xs ≡ xs
     take_whole [] = refl
     take_whole (x ∷ xs) = ap (λ rest. x ∷ rest) (take_whole xs)
+
+-- the same for a list that grows
+pub appends_pairs : (names : List (ℕ × Name)) (name : ℕ → Name) (inputs : List Lit) (old new : List Clause) → AreNamed names name inputs → new ≡ old ++ excluded_pairs inputs →
+    Appends names (ExcludedNames (length inputs) name) old new
+appends_pairs names name inputs old new named whole = record { more = excluded_pairs inputs; whole = whole; code = pairs_exclude_names names name inputs named }
 
 -- ---- how many they are
 

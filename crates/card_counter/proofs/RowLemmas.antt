@@ -1,6 +1,5 @@
 -- Columns whose variables stand in a row.
 use Rattle.std.proofs.Common.{◌≡◌, ℕ, zero, suc, ◌+◌, ◌-◌, ◌<◌, ◌≤◌, ◌∙◌, List, [], ◌∷◌, ◌++◌, map, flat_map, length, Option, None, Some, refl, sym, ap, subst, arith, slice_get, option_map, append_assoc, length-append, All, get_or}
-use Rattle.std.specs.List.{range_with_len}
 use Rattle.std.proofs.lemmas.List.{length-map}
 use Rattle.std.proofs.lemmas.List.FromFn.{get_or-range_with_len}
 use Rattle.std.proofs.lemmas.List.Elements.{All-append}
@@ -9,7 +8,7 @@ use Rattle.prop_core.specs.declared.lit.Lit.{Lit}
 use Rattle.prop_core.specs.Clauses.{Clause, negation}
 use Rattle.card_counter.proofs.ListLemmas.{flat_next, map_append}
 use Rattle.card_counter.proofs.States.{grown_is_counter, grown_is_made}
-use Rattle.card_counter.specs.CounterState.{CounterState, IsCounter, IsMade, Reached, told_by, reached_in, reached_before, under, positive, negative, variable, var_at, column_at, column_before, place_clauses, input_at, column_clauses, bound_literal, with_column, next_clauses, numbers_below}
+use Rattle.card_counter.specs.CounterState.{CounterState, IsCounter, IsMade, told_by, reached_in, reached_before, under, positive, negative, var_at, column_at, column_before, place_clauses, input_at, column_clauses, bound_literal, with_column, next_clauses, numbers_below}
 use Rattle.card_counter.specs.Rows.{column_from, counter_of, reached_from, reached_by, kept_clauses, counted_clauses}
 
 in_row : (n first i : ℕ) → i < n → var_at (column_from n first) i ≡ first + i

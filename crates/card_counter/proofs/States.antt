@@ -1,5 +1,5 @@
 -- A counter with one column more.
-use Rattle.std.proofs.Common.{◌≡◌, ℕ, zero, suc, ◌+◌, ◌<◌, ◌≤◌, ◌∙◌, ◌⊎◌, inl, inr, List, [], ◌∷◌, ◌++◌, flat_map, length, Some, refl, sym, ap, subst, arith, Contains, length-append}
+use Rattle.std.proofs.Common.{◌≡◌, ℕ, zero, suc, ◌+◌, ◌<◌, ◌≤◌, ◌∙◌, ◌⊎◌, inl, inr, List, [], ◌∷◌, ◌++◌, map, flat_map, length, Some, refl, sym, ap, arith, Contains, length-append}
 use Rattle.std.specs.List.{range_with_len}
 use Rattle.std.proofs.Math.ListN.{get_or-append}
 use Rattle.std.proofs.Math.Seq.{get_or-append_seam}
@@ -8,8 +8,9 @@ use Rattle.std.proofs.lemmas.List.Elements.{All-contains, All-weaker}
 use Rattle.std.proofs.lemmas.List.FromFn.{get_or-range_with_len, length-range_with_len}
 use Rattle.prop_core.specs.declared.lit.Lit.{Lit}
 use Rattle.prop_core.specs.Clauses.{Clause, HasValues}
-use Rattle.card_counter.proofs.ListLemmas.{flat_same, flat_next}
-use Rattle.card_counter.specs.CounterState.{CounterState, IsPlace, IsCounter, IsMade, variable, var_at, column_at, column_before, column_clauses, counter_clauses, with_column, next_clauses, ColumnsAddClauses, numbers_below}
+use Rattle.prop_core.specs.VariableNames.{Name, reaches}
+use Rattle.card_counter.proofs.ListLemmas.{flat_same, flat_next, map_same}
+use Rattle.card_counter.specs.CounterState.{CounterState, IsPlace, IsCounter, IsMade, variable, var_at, column_at, column_before, column_clauses, with_column, next_clauses, ColumnsAddClauses, numbers_below, next_names, ColumnsAddNames}
 
 pub one_more_column : {X : Type 0} (xs : List X) (x : X) → length (xs ++ x ∷ []) ≡ suc (length xs)
 one_more_column xs x = omega (arith, length-append xs (x ∷ []))
@@ -114,6 +115,30 @@ grown_is_counter state first counter made some = record {
         let below : input.var < first = All-contains (λ (l : Lit). l.var < first) state.inputs input made.inputs in' in
         let here : variable (with_column state first) i j ≡ first + i = ap (variable (with_column state first) i) last ∙ variable_last state first i inside in
         omega (arith, below, here, same)
+
+pub columns_add_names : ColumnsAddNames
+columns_add_names state first =
+    ap (λ n. flat_map after (numbers_below n)) (one_more_column state.columns column)
+    ∙ flat_next after (length state.columns)
+    ∙ ap (λ xs. xs ++ after (length state.columns)) (flat_same after before (length state.columns) same)
+    ∙ ap (λ xs. flat_map before (numbers_below (length state.columns)) ++ xs) last
+  where
+    column : List ℕ
+    column = range_with_len first (length state.inputs)
+
+    after : ℕ → List (ℕ × Name)
+    after j = map (λ i. (variable (with_column state first) i j, reaches (suc i) (suc j))) (numbers_below (length state.inputs))
+
+    before : ℕ → List (ℕ × Name)
+    before j = map (λ i. (variable state i j, reaches (suc i) (suc j))) (numbers_below (length state.inputs))
+
+    same : (j : ℕ) → j < length state.columns → after j ≡ before j
+    same j h = ap (λ c. map (λ i. (var_at c i, reaches (suc i) (suc j))) (numbers_below (length state.inputs))) (at_front state.columns column j h)
+
+    last : after (length state.columns) ≡ next_names state first
+    last = map_same (λ i. (variable (with_column state first) i (length state.columns), reaches (suc i) (suc (length state.columns))))
+        (λ i. (first + i, reaches (suc i) (suc (length state.columns)))) (length state.inputs)
+        (λ i h. ap (λ v. (v, reaches (suc i) (suc (length state.columns)))) (variable_last state first i h))
 
 -- what was made stays so
 pub made_later : (n m : ℕ) (state : CounterState) → n ≤ m → IsMade n state → IsMade m state

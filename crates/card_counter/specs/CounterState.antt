@@ -1,5 +1,5 @@
 -- A counter: its inputs, the variables of its columns, and its clauses.
-use Rattle.std.specs.Prelude.{◌≡◌, ◌≢◌, ℕ, zero, suc, ◌+◌, ◌-◌, ◌<◌, ◌≤◌, true, false, List, [], ◌∷◌, ◌++◌, map, flat_map, length, Option, None, Some, slice_index_or, Contains}
+use Rattle.std.specs.Prelude.{◌≡◌, ◌≢◌, ℕ, zero, suc, ◌+◌, ◌-◌, ◌<◌, true, false, List, [], ◌∷◌, ◌++◌, map, flat_map, length, Option, None, Some, slice_index_or, Contains}
 use Rattle.std.specs.List.{range_with_len}
 use Rattle.prop_core.specs.declared.lit.Lit.{Lit}
 use Rattle.prop_core.specs.Clauses.{Clause, negation, HasValues}
@@ -119,3 +119,11 @@ ColumnsAddClauses = (state : CounterState) (first : ℕ) → counter_clauses (wi
 abbrev pub counter_names : CounterState → List (ℕ × Name)
 counter_names state =
     flat_map (λ j. map (λ i. (variable state i j, reaches (suc i) (suc j))) (numbers_below (length state.inputs))) (numbers_below (length state.columns))
+
+-- the variables of a column more, each with its name
+abbrev pub next_names : CounterState → ℕ → List (ℕ × Name)
+next_names state first = map (λ i. (first + i, reaches (suc i) (suc (length state.columns)))) (numbers_below (length state.inputs))
+
+-- A column more has its names behind those of the others.
+abbrev pub ColumnsAddNames : Type 0
+ColumnsAddNames = (state : CounterState) (first : ℕ) → counter_names (with_column state first) ≡ counter_names state ++ next_names state first

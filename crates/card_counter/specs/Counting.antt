@@ -1,5 +1,5 @@
 -- What the clauses of a counter say: how many of its inputs are true.
-use Rattle.std.specs.Prelude.{◌≡◌, ◌≢◌, ◌↔◌, ℕ, suc, ◌<◌, ◌≤◌, nat_le, Bool, true, false, List, length, take, count_by, Some, Contains, IsTrue}
+use Rattle.std.specs.Prelude.{◌≡◌, ◌≢◌, ◌↔◌, ◌⊎◌, ℕ, suc, ◌<◌, ◌≤◌, nat_le, Bool, true, false, List, length, take, count_by, Some, Contains, IsTrue}
 use Rattle.prop_core.specs.declared.lit.Lit.{Lit}
 use Rattle.prop_core.specs.Clauses.{literal_true, AllClausesTrue}
 use Rattle.prop_core.specs.NamedClauses.{named_true, AllHold, IsCode}
@@ -21,14 +21,18 @@ AgreeOutside state given assignment = (var : ℕ) → ((i j : ℕ) → IsPlace s
 abbrev pub Extends : CounterState → (ℕ → Bool) → ((ℕ → Bool) → Type 0) → Type 0
 Extends state given holds = (assignment : ℕ → Bool) × AgreeOutside state given assignment × holds assignment
 
--- An assignment extends to the clauses, and with at most k inputs as an assumption too exactly where at most k are true.
-pub record Counts (state : CounterState) (given : ℕ → Bool) : Type 0 where
-  pub free : Extends state given (λ assignment. AllClausesTrue assignment (counter_clauses state))
-  pub bounded : (k : ℕ) → k < length state.columns →
-      Extends state given (λ assignment. AllClausesTrue assignment (counter_clauses state) × IsTrue (literal_true assignment (bound_literal state k))) ↔ true_count given state.inputs ≤ k
+-- With this literal as an assumption the clauses can be made true exactly where at most k inputs are true.
+abbrev pub Bounds : CounterState → Lit → ℕ → Type 0
+Bounds state bound k = (given : ℕ → Bool) →
+    Extends state given (λ assignment. AllClausesTrue assignment (counter_clauses state) × IsTrue (literal_true assignment bound)) ↔ true_count given state.inputs ≤ k
+
+-- The clauses alone can be made true whatever the inputs are, and each column has its bound.
+pub record Counts (state : CounterState) : Type 0 where
+  pub free : (given : ℕ → Bool) → Extends state given (λ assignment. AllClausesTrue assignment (counter_clauses state))
+  pub bounded : (k : ℕ) → k < length state.columns → Bounds state (bound_literal state k) k
 
 abbrev pub CounterIsExact : Type 0
-CounterIsExact = (state : CounterState) → IsCounter state → (given : ℕ → Bool) → Counts state given
+CounterIsExact = (state : CounterState) → IsCounter state → Counts state
 
 -- ---- by name
 
@@ -64,6 +68,16 @@ pub record CountsByName (inputs : List NamedLiteral) (value : Name → Bool) : T
 
 abbrev pub NamedCountIsExact : Type 0
 NamedCountIsExact = (inputs : List NamedLiteral) (value : Name → Bool) → CountsByName inputs value
+
+-- ---- column by column
+
+-- The clauses of no columns are none; a column more has its own and those before.
+pub record ColumnsGrow (inputs : List NamedLiteral) : Type 0 where
+  pub begins : (named : List NamedLiteral) → IsNamedCount inputs 0 named → ⊥
+  pub grows : (columns : ℕ) (named : List NamedLiteral) → IsNamedCount inputs (suc columns) named ↔ IsNamedCount inputs columns named ⊎ IsNamedColumn inputs columns named
+
+abbrev pub NamedColumnsGrow : Type 0
+NamedColumnsGrow = (inputs : List NamedLiteral) → ColumnsGrow inputs
 
 -- ---- from variables to names
 

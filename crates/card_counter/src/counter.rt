@@ -1,6 +1,7 @@
 ghost use Rattle.std.specs.Prelude.{◌≡◌, ◌+◌, ◌*◌, ◌-◌, ◌<◌, ◌≤◌, ◌++◌, [], length, map, option_map, OnOk, OnErr, IfOk, IfSome};
 ghost use Rattle.prop_core.specs.Clauses.{HasValues};
 ghost use Rattle.card_counter.specs.CounterState.{IsCounter, IsMade, with_column, next_clauses, bound_literal, column_clauses};
+ghost use Rattle.card_counter.specs.Counting.{Counts, Bounds};
 ghost use Rattle.card_counter.specs.Rows.{column_from, kept_clauses, counted_clauses};
 
 use des_base::{Memory, VAR_LIMIT};
@@ -58,7 +59,8 @@ impl Counter {
         self.firsts.len() as u32
     }
 
-    /// Adds a column: a new variable for each input, and clauses that say what they count.
+    /// Adds a column: a new variable for each input, and clauses that say what they count. It uses up room where some was
+    /// reserved.
     pub fn add_column(&mut self, vars: &mut Vars, out: &mut Clauses) -> Result<(), Memory>
         requires some { 1 ≤ length self.old.inputs }
         requires few { length self.old.columns < 256 }
@@ -69,6 +71,7 @@ impl Counter {
         ensures vars { OnOk result (vars.new ≡ vars.old + length self.old.inputs) }
         ensures made_still { OnOk result (IsMade vars.new self.new) }
         ensures counter { IsCounter self.new }
+        ensures exact { OnOk result (Counts self.new) }
         ensures err_counter { OnErr result (self.new ≡ self.old) }
         ensures err_clauses { OnErr result (out.new ≡ out.old) }
         ensures err_vars { OnErr result (vars.new ≡ vars.old) }
@@ -87,9 +90,13 @@ impl Counter {
     pub fn bound_lit(&self, k: u32) -> Lit
         requires { k < length self.now.columns }
         ensures literal { result ≡ bound_literal self.now k }
+        ensures exact { Bounds self.now result k }
         ensures counter { IsCounter self.now }
     {
-        Lit::new(self.firsts[k as usize] + (self.inputs.len() as u32 - 1), false)
+        Lit::new(
+            self.firsts[k as usize] + (self.inputs.len() as u32 - 1),
+            false,
+        )
     }
 }
 

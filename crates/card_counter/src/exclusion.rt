@@ -4,7 +4,8 @@ ghost use Rattle.card_counter.specs.AtMostOne.{not_both, excluded_pairs, AddsAtM
 use des_base::Memory;
 use prop_core::{Clauses, Lit, Vars};
 
-/// Adds that at most one of the inputs is true: a clause for each pair. It makes no variables.
+/// Adds that at most one of the inputs is true: a clause for each pair. It makes no variables, and uses up room where some
+/// was reserved.
 pub fn at_most_one(inputs: &[Lit], vars: &mut Vars, out: &mut Clauses) -> Result<(), Memory>
     ensures pairs { OnOk result (out.new.clauses ≡ out.old.clauses ++ excluded_pairs inputs.now) }
     ensures exact { OnOk result (AddsAtMostOne inputs.now out.old.clauses out.new.clauses) }

@@ -1,6 +1,6 @@
 ghost use Rattle.card_counter.specs.AtMostOne.{PairsExclude, PairsExcludeNames};
-ghost use Rattle.card_counter.specs.CounterState.{ColumnsAddClauses};
-ghost use Rattle.card_counter.specs.Counting.{CounterIsExact, NamedCountIsExact, CounterIsCode, ColumnIsCode, CounterNamesStand};
+ghost use Rattle.card_counter.specs.CounterState.{ColumnsAddClauses, ColumnsAddNames};
+ghost use Rattle.card_counter.specs.Counting.{CounterIsExact, NamedCountIsExact, NamedColumnsGrow, CounterIsCode, ColumnIsCode, CounterNamesStand};
 
 /// A law: the clauses of all pairs are true exactly where at most one input is.
 pub fn pairs_exclude()
@@ -40,4 +40,14 @@ pub fn column_is_code()
 /// A law: a counter's variables have their names, each once.
 pub fn counter_names_stand()
     ensures { CounterNamesStand }
+{}
+
+/// A law: a column more has its names behind those of the others.
+pub fn columns_add_names()
+    ensures { ColumnsAddNames }
+{}
+
+/// A law: by name, the clauses of no columns are none, and a column more has its own and those before.
+pub fn named_columns_grow()
+    ensures { NamedColumnsGrow }
 {}

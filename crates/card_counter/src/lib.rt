@@ -1,4 +1,13 @@
 //! "At most one" and "at most k" of some literals are true, said in clauses.
+//!
+//! - *At most one* is a clause for each pair of inputs.
+//! - *At most k* is said by a counter, after Sinz (CP 2005): in column j the variable at input i stands for "of the inputs up
+//!   to this one at least j + 1 are true". A counter grows by columns, and says with k + 1 of them that at most k inputs are
+//!   true: this is one literal, which is to be assumed and is no clause, so that the next bound can be asked for without writing
+//!   anything again.
+//!
+//! Both are exact: by a change of new variables alone the clauses can be made true exactly where so few inputs are. Clauses
+//! of both are known as well by the names of their variables, whichever variables those are.
 #![tactic(auto)]
 
 mod counter;
@@ -8,6 +17,10 @@ mod laws;
 pub use counter::Counter;
 pub use exclusion::at_most_one;
 pub use laws::{
-    column_is_code, columns_add_clauses, counter_is_code, counter_is_exact, counter_names_stand,
-    named_count_is_exact, pairs_exclude, pairs_exclude_names,
+    column_is_code, columns_add_clauses, columns_add_names, counter_is_code, counter_is_exact,
+    counter_names_stand, named_columns_grow, named_count_is_exact, pairs_exclude,
+    pairs_exclude_names,
 };
+
+#[cfg(test)]
+mod tests;

@@ -1,5 +1,6 @@
 use Rattle.std.proofs.Common.{rules, arith, length, ap, ◌≡◌}
 use Rattle.card_counter.specs.CounterState.{CounterState}
+use Rattle.card_counter.proofs.Exact.{counter_is_exact}
 use Rattle.card_counter.proofs.RowLemmas.{IsAdded, added_counter, added_made, added_small, added_clauses, one_more_count}
 use Rattle.card_counter.proofs.counter.Counter.add_column.Goals as goal
 
@@ -31,3 +32,9 @@ returns-clause-counter c =
     let added : IsAdded c.args.self.now c.args.vars.now c.self.inside.inputs.items c.self.inside.firsts.items c.push.new.self.items c.fresh-first.result =
     record { view = c.self.view_is; pushed = search rules; start = c.fresh-first.ensures.first; some = c.requires.some; made = c.requires.made } in
     added_counter _ _ _ _ _ _ added c.self.invariant.counter
+
+pub returns-clause-exact : goal.returns-clause-exact
+returns-clause-exact c =
+    let added : IsAdded c.args.self.now c.args.vars.now c.self.inside.inputs.items c.self.inside.firsts.items c.push.new.self.items c.fresh-first.result =
+    record { view = c.self.view_is; pushed = search rules; start = c.fresh-first.ensures.first; some = c.requires.some; made = c.requires.made } in
+    counter_is_exact _ (added_counter _ _ _ _ _ _ added c.self.invariant.counter)

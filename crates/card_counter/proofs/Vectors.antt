@@ -1,0 +1,89 @@
+-- Worked rows: the clauses of a few inputs, and what they count, by computation.
+use Rattle.std.proofs.Common.{◌≡◌, ℕ, Bool, true, false, List, [], ◌∷◌, refl, ◌==◌, map}
+use Rattle.prop_core.specs.declared.lit.Lit.{Lit}
+use Rattle.prop_core.specs.VariableNames.{reaches, happens, yes, no}
+use Rattle.card_counter.specs.AtMostOne.{excluded_pairs}
+use Rattle.card_counter.specs.CounterClauses.{counts_on, counts_up, count_clause}
+use Rattle.card_counter.specs.CounterState.{CounterState, positive, negative, counter_clauses, counter_names, bound_literal, with_column, next_clauses, next_names}
+use Rattle.card_counter.specs.Counting.{true_count, counted}
+use Rattle.card_counter.specs.Rows.{counter_of}
+
+-- ---- pairs
+
+none : excluded_pairs [] ≡ []
+none = refl
+
+single : excluded_pairs (positive 4 ∷ []) ≡ []
+single = refl
+
+three : excluded_pairs (positive 4 ∷ negative 5 ∷ positive 6 ∷ []) ≡ (negative 4 ∷ positive 5 ∷ []) ∷ (negative 4 ∷ negative 6 ∷ []) ∷ (positive 5 ∷ negative 6 ∷ []) ∷ []
+three = refl
+
+-- ---- a counter of two inputs, the second one negative, with columns from 5 and from 7 on
+
+two_inputs : List Lit
+two_inputs = positive 3 ∷ negative 4 ∷ []
+
+start : CounterState
+unfolding two_inputs
+start = record { inputs = two_inputs; columns = [] }
+
+columns_in_row : with_column (with_column start 5) 7 ≡ counter_of two_inputs (5 ∷ 7 ∷ [])
+unfolding start two_inputs
+columns_in_row = refl
+
+first_column : next_clauses start 5 ≡ (negative 3 ∷ positive 5 ∷ []) ∷ (negative 5 ∷ positive 6 ∷ []) ∷ (positive 4 ∷ positive 6 ∷ []) ∷ []
+unfolding start two_inputs
+first_column = refl
+
+second_column : next_clauses (with_column start 5) 7 ≡ (negative 7 ∷ positive 8 ∷ []) ∷ (negative 5 ∷ positive 4 ∷ positive 8 ∷ []) ∷ []
+unfolding start two_inputs
+second_column = refl
+
+all_clauses : counter_clauses (with_column (with_column start 5) 7)
+    ≡ (negative 3 ∷ positive 5 ∷ []) ∷ (negative 5 ∷ positive 6 ∷ []) ∷ (positive 4 ∷ positive 6 ∷ []) ∷ (negative 7 ∷ positive 8 ∷ []) ∷ (negative 5 ∷ positive 4 ∷ positive 8 ∷ []) ∷ []
+unfolding start two_inputs
+all_clauses = refl
+
+bounds : map (bound_literal (with_column (with_column start 5) 7)) (0 ∷ 1 ∷ []) ≡ negative 6 ∷ negative 8 ∷ []
+unfolding start two_inputs
+bounds = refl
+
+names : counter_names (with_column (with_column start 5) 7) ≡ (5, reaches 1 1) ∷ (6, reaches 2 1) ∷ (7, reaches 1 2) ∷ (8, reaches 2 2) ∷ []
+unfolding start two_inputs
+names = refl
+
+more_names : next_names (with_column start 5) 7 ≡ (7, reaches 1 2) ∷ (8, reaches 2 2) ∷ []
+unfolding start two_inputs
+more_names = refl
+
+-- ---- counts
+
+-- variable 3 alone is true, and with it the second input
+only_three : ℕ → Bool
+only_three var = var == 3
+
+both_true : true_count only_three (positive 3 ∷ negative 4 ∷ []) ≡ 2
+unfolding only_three
+both_true = refl
+
+repeated : true_count only_three (positive 3 ∷ positive 3 ∷ negative 3 ∷ positive 5 ∷ []) ≡ 2
+unfolding only_three
+repeated = refl
+
+-- ---- by name
+
+second_counts : count_clause (counts_up 1 1 (no (happens 7 2))) ≡ no (reaches 1 1) ∷ yes (happens 7 2) ∷ yes (reaches 2 2) ∷ []
+second_counts = refl
+
+first_counts : count_clause (counts_up 0 0 (yes (happens 7 1))) ≡ no (happens 7 1) ∷ yes (reaches 1 1) ∷ []
+first_counts = refl
+
+keeps : count_clause (counts_on 1 2) ≡ no (reaches 1 2) ∷ yes (reaches 2 2) ∷ []
+keeps = refl
+
+counted_so : counted (yes (happens 0 1) ∷ no (happens 1 1) ∷ []) (λ name. true) (reaches 2 1) ≡ true
+counted_so = refl
+
+counted_not : counted (yes (happens 0 1) ∷ no (happens 1 1) ∷ []) (λ name. true) (reaches 2 2) ≡ false
+counted_not = refl
