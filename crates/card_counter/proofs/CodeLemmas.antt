@@ -1,17 +1,19 @@
 -- The clauses of a counter, by the names of its variables.
-use Rattle.std.proofs.Common.{◌≡◌, ℕ, zero, suc, ◌+◌, ◌<◌, ◌≤◌, ◌∙◌, ◌⊎◌, inl, inr, List, [], ◌∷◌, ◌++◌, flat_map, length, Option, None, Some, refl, sym, ap, subst, arith, slice_get, option_map, not}
+use Rattle.std.proofs.Common.{Bool, ◌==◌, ◌≢◌, true, false, Contains, ◌≡◌, ℕ, zero, suc, ◌+◌, ◌<◌, ◌≤◌, ◌∙◌, ◌⊎◌, inl, inr, List, [], ◌∷◌, ◌++◌, flat_map, length, Option, None, Some, refl, sym, ap, subst, arith, slice_get, option_map, not}
 use Rattle.std.specs.List.{range_with_len}
 use Rattle.std.proofs.lemmas.Bool.{cases_order}
 use Rattle.prop_core.specs.declared.lit.Lit.{Lit}
 use Rattle.prop_core.specs.Clauses.{Clause, negation}
 use Rattle.prop_core.specs.NamedClauses.{IsCode, Each, Both, One, Appends}
-use Rattle.prop_core.specs.VariableNames.{Name, NamedLiteral, yes, no, reaches, name_of, named_literal, with_literal, named_clause}
+use Rattle.prop_core.specs.VariableNames.{HasEachOnce, Name, NamedLiteral, yes, no, reaches, name_of, named_literal, with_literal, named_clause}
 use Rattle.prop_core.proofs.FamilyLemmas.{code_none, code_one, code_append, code_same, code_each_none, code_each_more, reads_whole}
-use Rattle.card_counter.proofs.ListLemmas.{flat_next}
-use Rattle.card_counter.proofs.States.{before_front, at_end, one_more_column}
+use Rattle.std.proofs.lemmas.List.Elements.{Contains-append_right}
+use Rattle.card_counter.proofs.NameLemmas.{named_by_entry}
+use Rattle.card_counter.proofs.ListLemmas.{all_at, map_of, map_contains, pairs_put, pairs_map, flat_next}
+use Rattle.card_counter.proofs.States.{place_cases, variable_before, variable_last, before_front, at_end, one_more_column}
 use Rattle.card_counter.specs.CounterClauses.{counts_on, counts_up, opposite, count_clause, IsNamedColumn, IsNamedCount}
-use Rattle.card_counter.specs.CounterState.{CounterState, IsPlace, variable, column_at, column_before, positive, negative, reached_in, reached_before, under, place_clauses, input_at, column_clauses, counter_clauses, with_column, next_clauses}
-use Rattle.card_counter.specs.Counting.{NamedColumnsGrow, IsNamedBy, CounterIsCode, ColumnIsCode}
+use Rattle.card_counter.specs.CounterState.{next_names, CounterState, IsPlace, variable, column_at, column_before, positive, negative, reached_in, reached_before, under, place_clauses, input_at, column_clauses, counter_clauses, with_column, next_clauses}
+use Rattle.card_counter.specs.Counting.{NamesGrow, NamedColumnsGrow, IsNamedBy, CounterIsCode, ColumnIsCode}
 
 -- a list for each number is a family for each
 pub code_flat : (names : List (ℕ × Name)) (F : ℕ → List NamedLiteral → Type 0) (f : ℕ → List Clause) (n : ℕ) → ((i : ℕ) → i < n → IsCode names (F i) (f i)) → IsCode names (Each n F) (flat_map f (range_with_len 0 n))
@@ -213,3 +215,64 @@ count_code_grows names inputs columns clauses more before column =
 pub appends_column : (names : List (ℕ × Name)) (inputs : List NamedLiteral) (state : CounterState) (first : ℕ) (old new : List Clause) → IsNamedBy names inputs (with_column state first) →
     new ≡ old ++ next_clauses state first → Appends names (IsNamedColumn inputs (length state.columns)) old new
 appends_column names inputs state first old new named whole = record { more = next_clauses state first; whole = whole; code = column_is_code names inputs state first named }
+
+-- ---- further names
+
+found_more : (names more : List (ℕ × Name)) (var : ℕ) (name : Name) → name_of names var ≡ Some name → name_of (names ++ more) var ≡ Some name
+found_more [] more var name h = cc
+found_more (entry ∷ names) more var name h = by (entry.0 == var) refl (found_more names more var name)
+  where
+    by : (b : Bool) → (entry.0 == var) ≡ b → (name_of names var ≡ Some name → name_of (names ++ more) var ≡ Some name) → name_of ((entry ∷ names) ++ more) var ≡ Some name
+    by true e later = rw e (rw e at h)
+    by false e later = rw e (later (rw e at h))
+
+literal_more : (names more : List (ℕ × Name)) (l : Lit) (m : NamedLiteral) → named_literal names l ≡ Some m → named_literal (names ++ more) l ≡ Some m
+literal_more names more l m h = by (name_of names l.var) refl h
+  where
+    by : (o : Option Name) → name_of names l.var ≡ o → option_map (λ (name : Name). record { name = name; positive = l.positive }) o ≡ Some m → named_literal (names ++ more) l ≡ Some m
+    by None e is = cc
+    by (Some name) e is = rw (found_more names more l.var name e) is
+
+read_more : (names more : List (ℕ × Name)) (inputs : List Lit) (read : List NamedLiteral) → named_clause names inputs ≡ Some read → named_clause (names ++ more) inputs ≡ Some read
+read_more names more [] read h = h
+read_more names more (l ∷ inputs) read h =
+    let first = first_read (named_literal names l) (named_clause names inputs) read h in
+    ap (λ o. with_literal o (named_clause (names ++ more) inputs)) (literal_more names more l first.0 first.2)
+    ∙ ap (with_literal (Some first.0)) (read_more names more inputs first.1 first.3)
+    ∙ ap Some (sym first.4)
+
+abbrev Differ : ℕ × Name → ℕ × Name → Type 0
+Differ a b = (a.0 ≢ b.0) × (a.1 ≢ b.1)
+
+pub names_grow : NamesGrow
+names_grow names read state first once below none named = (all_once, record { inputs_read = read_more names more state.inputs read named.inputs_read; called = called })
+  where
+    more : List (ℕ × Name)
+    more = next_names state first
+
+    entry : ℕ → ℕ × Name
+    entry i = (first + i, reaches (suc i) (suc (length state.columns)))
+
+    across : (a b : ℕ × Name) → Contains names a → Contains more b → Differ a b
+    across a b here there =
+        let at = map_of entry (length state.inputs) b there in
+        let made : a.0 < first = all_at (λ (e : ℕ × Name). e.0 < first) names a below here in
+        let other = all_at (λ (e : ℕ × Name). (i : ℕ) → e.1 ≢ reaches i (suc (length state.columns))) names a none here in
+        let var : first + at.0 ≡ b.0 = ap (λ (e : ℕ × Name). e.0) at.2 in
+        let name : reaches (suc at.0) (suc (length state.columns)) ≡ b.1 = ap (λ (e : ℕ × Name). e.1) at.2 in
+        ((λ same. omega (arith, made, var, same)), (λ same. other (suc at.0) (same ∙ sym name)))
+
+    all_once : HasEachOnce (names ++ more)
+    all_once = pairs_put Differ names more once
+        (pairs_map Differ entry (length state.inputs) (λ i k less inside. ((λ same. omega arith), (λ same. let e : i ≡ k = cc in omega arith)))) across
+
+    called : (i j : ℕ) → IsPlace (with_column state first) i j → name_of (names ++ more) (variable (with_column state first) i j) ≡ Some (reaches (suc i) (suc j))
+    called i j place = by (place_cases state first i j place)
+      where
+        by : IsPlace state i j ⊎ ((i < length state.inputs) × (j ≡ length state.columns)) → name_of (names ++ more) (variable (with_column state first) i j) ≡ Some (reaches (suc i) (suc j))
+        by (inl before) = ap (name_of (names ++ more)) (variable_before state first i j before) ∙ found_more names more (variable state i j) (reaches (suc i) (suc j)) (named.called i j before)
+        by (inr (inside, last)) =
+            let is : variable (with_column state first) i j ≡ first + i = ap (variable (with_column state first) i) last ∙ variable_last state first i inside in
+            ap (name_of (names ++ more)) is
+            ∙ named_by_entry (names ++ more) all_once (first + i) (reaches (suc i) (suc (length state.columns))) (Contains-append_right names more (entry i) (map_contains entry (length state.inputs) i inside))
+            ∙ ap (λ k. Some (reaches (suc i) (suc k))) (sym last)

@@ -1,11 +1,12 @@
 -- What the clauses of a counter say: how many of its inputs are true.
-use Rattle.std.specs.Prelude.{◌≡◌, ◌≢◌, ◌↔◌, ◌⊎◌, ℕ, suc, ◌<◌, ◌≤◌, nat_le, Bool, true, false, List, length, take, count_by, Some, Contains, IsTrue}
+use Rattle.std.specs.Prelude.{◌++◌, ◌≡◌, ◌≢◌, ◌↔◌, ◌⊎◌, ℕ, suc, ◌<◌, ◌≤◌, nat_le, Bool, true, false, List, length, take, count_by, Some, Contains, IsTrue}
+use Rattle.std.specs.List.{AllByRecursion}
 use Rattle.prop_core.specs.declared.lit.Lit.{Lit}
 use Rattle.prop_core.specs.Clauses.{literal_true, AllClausesTrue}
 use Rattle.prop_core.specs.NamedClauses.{named_true, AllHold, IsCode}
 use Rattle.prop_core.specs.VariableNames.{Name, in_state, happens, asked, matches, done, unmatched, closed, reaches, some_of_first, NamedLiteral, HasEachOnce, name_of, named_clause}
 use Rattle.card_counter.specs.CounterClauses.{IsNamedColumn, IsNamedCount}
-use Rattle.card_counter.specs.CounterState.{CounterState, IsPlace, IsCounter, variable, counter_clauses, bound_literal, with_column, next_clauses, counter_names}
+use Rattle.card_counter.specs.CounterState.{next_names, CounterState, IsPlace, IsCounter, variable, counter_clauses, bound_literal, with_column, next_clauses, counter_names}
 
 -- how many of the inputs are true
 abbrev pub true_count : (ℕ → Bool) → List Lit → ℕ
@@ -106,3 +107,13 @@ pub record AreCounterNames (state : CounterState) : Type 0 where
 
 abbrev pub CounterNamesStand : Type 0
 CounterNamesStand = (state : CounterState) → IsCounter state → AreCounterNames state
+
+-- the names have none of this column
+abbrev pub HasNoneOf : List (ℕ × Name) → ℕ → Type 0
+HasNoneOf names column = AllByRecursion (λ entry. (i : ℕ) → entry.1 ≢ reaches i (suc column)) names
+
+-- Names that stand for a counter, all of variables that were made before, stand with those of a column more for the counter with it.
+abbrev pub NamesGrow : Type 0
+NamesGrow = (names : List (ℕ × Name)) (inputs : List NamedLiteral) (state : CounterState) (first : ℕ) → HasEachOnce names → AllByRecursion (λ entry. entry.0 < first) names →
+    HasNoneOf names (length state.columns) → IsNamedBy names inputs state →
+    HasEachOnce (names ++ next_names state first) × IsNamedBy (names ++ next_names state first) inputs (with_column state first)

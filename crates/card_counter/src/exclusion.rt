@@ -12,6 +12,7 @@ pub fn at_most_one(inputs: &[Lit], vars: &mut Vars, out: &mut Clauses) -> Result
     ensures vars { vars.new ≡ vars.old }
     ensures err { OnErr result (out.new ≡ out.old) }
 {
+    // Pairs need no new variables.
     let _ = vars;
     let count = inputs.len();
     let Some(lits) = count.checked_mul(count.saturating_sub(1)) else {

@@ -1,6 +1,6 @@
 ghost use Rattle.card_counter.specs.AtMostOne.{PairsExclude, PairsExcludeNames};
 ghost use Rattle.card_counter.specs.CounterState.{ColumnsAddClauses, ColumnsAddNames};
-ghost use Rattle.card_counter.specs.Counting.{CounterIsExact, NamedCountIsExact, NamedColumnsGrow, CounterIsCode, ColumnIsCode, CounterNamesStand};
+ghost use Rattle.card_counter.specs.Counting.{NamesGrow, CounterIsExact, NamedCountIsExact, NamedColumnsGrow, CounterIsCode, ColumnIsCode, CounterNamesStand};
 
 /// A law: the clauses of all pairs are true exactly where at most one input is.
 pub fn pairs_exclude()
@@ -50,4 +50,9 @@ pub fn columns_add_names()
 /// A law: by name, the clauses of no columns are none, and a column more has its own and those before.
 pub fn named_columns_grow()
     ensures { NamedColumnsGrow }
+{}
+
+/// A law: names that stand for a counter stand, with those of a column more, for the counter with it.
+pub fn names_grow()
+    ensures { NamesGrow }
 {}
