@@ -1,0 +1,65 @@
+-- A search under way, step by step.
+use Rattle.std.proofs.Common.{◌≡◌, ◌∙◌, ℕ, ◌+◌, ◌-◌, ◌*◌, ◌<◌, ◌≤◌, Bool, true, false, ◌++◌, ◌∷◌, [], List, refl, ap, sym, length, take, arith, subst}
+use Rattle.std.specs.Prelude.{Option, Some, None, Result, Ok, Err, IfOk, IfNone, ◌⊎◌}
+use Rattle.std.specs.List.{list_all}
+use Rattle.std.proofs.lemmas.Grind.{common_steps}
+use Rattle.prop_core.specs.declared.lit.Lit.{Lit}
+use Rattle.prop_core.specs.Clauses.{is_true, is_open}
+use Rattle.prop_core.proofs.Literals.{literal_of}
+use Rattle.proof_ledger.specs.Book.{BookEntry}
+use Rattle.sat_order.specs.Waiting.{waits}
+use Rattle.sat_prop.specs.TrailState.{TrailState}
+use Rattle.sat_prop.specs.Changes.{Propagates, with_literal}
+use Rattle.sat_prop.specs.Kept.{IsTrailState}
+use Rattle.sat_prop.proofs.Fronts.{front_length}
+use Rattle.sat_prop.proofs.Justifying.{room_for}
+use Rattle.sat_solve.specs.Solving.{IsUnderWay, IsLonger, WithRoom, to_do}
+use Rattle.sat_solve.proofs.Booking.{smaller_paid, smaller_grown}
+use Rattle.sat_solve.proofs.Standing.{serving_grown, under_grown, serving_decided, under_decided}
+use Rattle.sat_solve.proofs.Retreating.{waiting_grown, waiting_decided}
+
+-- propagation
+pub under_way_grown : (assumed : List Lit) (waiting : List Bool) (vars spare : ℕ) (t u : TrailState) (book : List BookEntry) → IsUnderWay assumed waiting vars spare t book → Propagates t u → IsTrailState t → IsTrailState u → IsUnderWay assumed waiting vars spare u book
+under_way_grown assumed waiting vars spare t u book w p ts us = record {
+  clauses = p.clauses ∙ w.clauses;
+  serving = serving_grown vars spare t u w.serving p ts us;
+  under = under_grown assumed vars t u w.under p ts us;
+  waiting_open = waiting_grown waiting t u vars w.waiting_open p;
+}
+
+-- a decision
+pub under_way_decided : (assumed : List Lit) (before waiting : List Bool) (vars spare : ℕ) (t u : TrailState) (book : List BookEntry) (l : Lit) → IsUnderWay assumed before vars spare t book → IsTrailState t → u ≡ with_literal t l None → l.var < vars → (is_true assumed l ≡ true) ⊎ (list_all (is_true t.literals) assumed ≡ true)
+    → ((other : ℕ) → other < vars → (other ≡ l.var → ⊥) → is_open t.literals (literal_of other false) ≡ true → waits waiting other ≡ true) → IsUnderWay assumed waiting vars spare u book
+under_way_decided assumed before waiting vars spare t u book l w s e b o f = record {
+  clauses = ap (λ (x : TrailState). x.clauses) e ∙ w.clauses;
+  serving = serving_decided vars spare t u l w.serving e b;
+  under = under_decided assumed vars t u l w.under s.justified.same e o;
+  waiting_open = rw (ap (λ (x : TrailState). x.literals) e) (waiting_decided waiting t.literals l vars f);
+}
+
+pub longer_decided : (t u : TrailState) (l : Lit) (vars : ℕ) → IsTrailState t → is_open t.literals l ≡ true → l.var < vars → vars ≤ t.vars → u ≡ with_literal t l None → IsLonger t u
+longer_decided t u l vars s o b h e =
+    let r = room_for t.clauses t.attached t.literals t.reasons t.vars l s.justified o (omega arith) in
+    let n : length u.literals ≡ length t.literals + 1 = rw e (grind (arith, common_steps)) in
+    let v : u.vars ≡ t.vars = ap (λ (x : TrailState). x.vars) e in
+    record { longer = n; within = omega arith }
+
+-- what there is to do falls
+pub less_decided : (t u w : TrailState) (left : ℕ) → Propagates t u → IsLonger u w → w.vars ≡ u.vars → to_do left w < to_do left t
+less_decided t u w left p l e =
+    let v : w.vars ≡ t.vars = e ∙ p.vars in
+    let k = front_length t.literals u.literals p.literals in
+    let a = l.longer in
+    let b = l.within in
+    rw v (smaller_grown left t.vars (length w.literals) (length t.literals) (omega arith) (omega arith))
+
+pub less_paid : (t u w : TrailState) (left last : ℕ) → Propagates t u → w.vars ≡ u.vars → last + 1 ≡ left → to_do last w < to_do left t
+less_paid t u w left last p e h =
+    let v : w.vars ≡ t.vars = e ∙ p.vars in
+    rw v (smaller_paid left last t.vars (length w.literals) (length t.literals) h)
+
+-- what holds where a step goes on
+pub goes_on_with : {A E : Type 0} (r : Result (Option A) E) (P Q : Type 0) → IfOk r (λ o. IfNone o P) → (P → Q) → IfOk r (λ o. IfNone o Q)
+goes_on_with (Ok (Some a)) P Q h f = tt
+goes_on_with (Ok None) P Q h f = f h
+goes_on_with (Err e) P Q h f = tt

@@ -1,0 +1,57 @@
+-- What a search leaves in the book, and what its answers mean.
+use Rattle.std.specs.Prelude.{◌≡◌, ℕ, ◌+◌, Bool, true, false, List, ◌++◌, ◌∷◌, [], length, count_by}
+use Rattle.std.specs.List.{list_any, list_all}
+use Rattle.prop_core.specs.declared.lit.Lit.{Lit}
+use Rattle.prop_core.specs.Clauses.{Clause, negation, is_true, value_in, AllClausesTrue, AllLiteralsTrue}
+use Rattle.prop_core.specs.Trail.{has_var, Clashes}
+use Rattle.proof_ledger.specs.Book.{BookEntry, axiomatic, learnt, final, mark, clauses_of}
+use Rattle.proof_ledger.specs.Fresh.{occurs, is_learnt, AreFresh}
+use Rattle.sat_solve.specs.declared.answer.Answer.{Answer}
+use Rattle.sat_solve.specs.declared.answer.Answer.TheVariants.{Sat, Unsat, Spent}
+
+-- each variable of the book's clauses occurs in an axiom
+abbrev pub HasAxiomVars : List BookEntry → Type 0
+HasAxiomVars book = (var : ℕ) → list_any (has_var var) (clauses_of book) ≡ true → occurs var book ≡ true
+
+abbrev pub is_derived : BookEntry → Bool
+is_derived (axiomatic clause) = false
+is_derived (learnt clause hints) = true
+is_derived (final clause hints) = true
+is_derived (mark number) = false
+
+-- Derived entries alone were put, and as many learnt ones as conflicts were paid. Where all variables occurred in axioms, they
+-- still do, and each learnt clause was fresh.
+pub record IsSearched (old new : List BookEntry) (left_old left_new : ℕ) : Type 0 where
+  pub since : List BookEntry
+  pub whole : new ≡ old ++ since
+  pub derived : list_all is_derived since ≡ true
+  pub count : ℕ
+  pub paid : count + left_new ≡ left_old
+  pub number : count_by is_learnt since ≡ count
+  pub learnt_entries : HasAxiomVars old → AreFresh old since count
+  pub known : HasAxiomVars old → HasAxiomVars new
+
+-- the values make all clauses of the book and all assumptions true
+pub record IsModel (values : List Bool) (book : List BookEntry) (assumed : List Lit) : Type 0 where
+  pub clauses : AllClausesTrue (value_in values) (clauses_of book)
+  pub assumptions : AllLiteralsTrue (value_in values) assumed
+
+-- The book's last entry is a final one: the clause of this number, of negated assumptions alone.
+pub record IsRefuted (book : List BookEntry) (assumed : List Lit) (number : ℕ) : Type 0 where
+  pub earlier : List BookEntry
+  pub clause : Clause
+  pub hints : List ℕ
+  pub last : book ≡ earlier ++ final clause hints ∷ []
+  pub numbered : number ≡ length (clauses_of book)
+  pub negated : list_all (λ l. is_true assumed (negation l)) clause ≡ true
+
+-- Nothing is left at a further conflict.
+pub record IsSpent (book : List BookEntry) (assumed : List Lit) (left : ℕ) : Type 0 where
+  pub nothing : left ≡ 0
+  pub clashes : Clashes (clauses_of book) assumed
+
+-- what an answer means
+abbrev pub IsAnswer : List Bool → List BookEntry → List Lit → ℕ → Answer → Type 0
+IsAnswer values book assumed left Sat = IsModel values book assumed
+IsAnswer values book assumed left (Unsat number) = IsRefuted book assumed number
+IsAnswer values book assumed left Spent = IsSpent book assumed left

@@ -1,0 +1,12 @@
+use prop_core::ClauseId;
+
+/// How a search ends.
+#[derive(Clone, Copy, Debug, PartialEq, Eq)]
+pub enum Answer {
+    /// An assignment makes all clauses and all assumptions true.
+    Sat,
+    /// No assignment does: this final clause of the book holds negated assumptions alone.
+    Unsat(ClauseId),
+    /// Nothing was left at a further conflict.
+    Spent,
+}

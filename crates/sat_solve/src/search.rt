@@ -1,0 +1,357 @@
+ghost use Rattle.std.specs.Prelude.{◌≡◌, ℕ, ◌<◌, ◌≤◌, ◌+◌, length, true, false, IfOk, IfSome, IfNone, OnOk, OnErr, MatchResult, Ok};
+ghost use Rattle.prop_core.specs.Clauses.{is_open, is_true, value_in, HasValues};
+ghost use Rattle.proof_ledger.specs.Book.{clauses_of};
+ghost use Rattle.sat_order.specs.Rank.{IsRanked};
+ghost use Rattle.sat_order.specs.Waiting.{waits};
+ghost use Rattle.sat_prop.specs.TrailState.{literal_at};
+ghost use Rattle.sat_prop.specs.Levels.{level_of, level_at};
+ghost use Rattle.sat_prop.specs.Quiet.{IsConflict, AreQuiet};
+ghost use Rattle.sat_prop.specs.Changes.{IsKeptUpTo};
+ghost use Rattle.sat_solve.specs.Searching.{IsSearched};
+ghost use Rattle.sat_solve.specs.Solving.{AreCompatible, IsServing, IsUnder, AreWaiting, IsUnderWay, IsLonger, to_do, IsPaid, IsFound, IsUnsettled, IsEnded, IsAtRest};
+
+use crate::answer::Answer;
+use crate::ending::{dismiss, further_decision, makes_true, next_assumption, refute};
+use des_base::{Memory, VAR_LIMIT};
+use proof_ledger::Ledger;
+use prop_core::{Assignment, ClauseId, Lit};
+use sat_learn::Learner;
+use sat_order::Order;
+use sat_prop::{Propagated, Trail};
+
+// Takes the first waiting variable that is open. Those that come before it and are not open wait no longer.
+fn pick<R: Fn(u32) -> u64>(trail: &Trail, order: &mut Order<R>) -> Option<u32>
+    requires ranked { IsRanked R.pre R.post order.old }
+    requires waiting { AreWaiting order.old.waiting trail.now.literals (length order.old.waiting) }
+    ensures ranked { IsRanked R.pre R.post order.new }
+    ensures rank { order.new.rank ≡ order.old.rank }
+    ensures variables { length order.new.waiting ≡ length order.old.waiting }
+    ensures known { IfSome result (λ var. var < length order.old.waiting) }
+    ensures undecided { IfSome result (λ var. is_open trail.now.literals (record { var = var; positive = false }) ≡ true) }
+    ensures others { IfSome result (λ var. (other : ℕ) → other < length order.old.waiting → (other ≡ var → ⊥) → is_open trail.now.literals (record { var = other; positive = false }) ≡ true → waits order.new.waiting other ≡ true) }
+    ensures none { IfNone result ((var : ℕ) → var < length order.old.waiting → is_open trail.now.literals (record { var = var; positive = false }) ≡ false) }
+{
+    while let Some(var) = order.take() {
+        if trail.value(var).is_none() {
+            return Some(var);
+        }
+    }
+    None
+}
+
+// Goes back to a level, and lets the variables wait that become open.
+pub fn retreat<R: Fn(u32) -> u64>(trail: &mut Trail, order: &mut Order<R>, level: u32)
+    requires level { level ≤ level_of trail.old.reasons }
+    requires ranked { IsRanked R.pre R.post order.old }
+    requires known { HasValues (length order.old.waiting) trail.old.literals }
+    requires waiting { AreWaiting order.old.waiting trail.old.literals (length order.old.waiting) }
+    ensures trail { IsKeptUpTo trail.old trail.new level }
+    ensures ranked { IsRanked R.pre R.post order.new }
+    ensures rank { order.new.rank ≡ order.old.rank }
+    ensures variables { length order.new.waiting ≡ length order.old.waiting }
+    ensures waiting { AreWaiting order.new.waiting trail.new.literals (length order.old.waiting) }
+{
+    let _literals = trail.literals();
+    for place in 0..trail.len() {
+        release(trail, order, place, level);
+    }
+    trail.back_to(level);
+}
+
+// Lets the variable at a place wait where its literal stands above a level.
+fn release<R: Fn(u32) -> u64>(trail: &Trail, order: &mut Order<R>, place: u32, level: u32)
+    requires place { place < length trail.now.literals }
+    requires ranked { IsRanked R.pre R.post order.old }
+    requires known { HasValues (length order.old.waiting) trail.now.literals }
+    ensures ranked { IsRanked R.pre R.post order.new }
+    ensures rank { order.new.rank ≡ order.old.rank }
+    ensures variables { length order.new.waiting ≡ length order.old.waiting }
+    ensures kept { (var : ℕ) → waits order.old.waiting var ≡ true → waits order.new.waiting var ≡ true }
+    ensures back { level < level_at trail.now.reasons place → waits order.new.waiting (literal_at trail.now.literals place).var ≡ true }
+{
+    let var = trail.literal(place).var;
+    if level < trail.level_of(var) {
+        order.put_back(var);
+    }
+}
+
+// Learns from a further conflict, and goes back.
+fn pay<R: Fn(u32) -> u64>(
+    trail: &mut Trail,
+    order: &mut Order<R>,
+    learner: &mut Learner,
+    book: &mut Ledger,
+    conflict: ClauseId,
+    assumptions: &[Lit],
+    spare: usize,
+    left: &mut u64,
+) -> Result<(), Memory>
+    requires clauses { trail.old.clauses ≡ clauses_of book.old.entries }
+    requires serving { IsServing (length order.old.waiting) spare trail.old }
+    requires under { IsUnder assumptions.now (length order.old.waiting) trail.old }
+    requires ranked { IsRanked R.pre R.post order.old }
+    requires waiting { AreWaiting order.old.waiting trail.old.literals (length order.old.waiting) }
+    requires conflict { IsConflict trail.old conflict }
+    requires decided { 0 < level_of trail.old.reasons }
+    requires some { 0 < left.old }
+    ensures clauses { trail.new.clauses ≡ clauses_of book.new.entries }
+    ensures serving { IsServing (length order.old.waiting) spare trail.new }
+    ensures under { IsUnder assumptions.now (length order.old.waiting) trail.new }
+    ensures vars { trail.new.vars ≡ trail.old.vars }
+    ensures ranked { IsRanked R.pre R.post order.new }
+    ensures rank { order.new.rank ≡ order.old.rank }
+    ensures variables { length order.new.waiting ≡ length order.old.waiting }
+    ensures waiting { AreWaiting order.new.waiting trail.new.literals (length order.old.waiting) }
+    ensures paid { OnOk result (IsPaid book.old.entries book.new.entries left.old left.new) }
+    ensures err { OnErr result (book.new ≡ book.old) }
+    ensures unpaid { OnErr result (left.new ≡ left.old) }
+{
+    let _literals = trail.literals();
+    trail.reserve_clauses(spare + 1)?;
+    let learnt = learner.analyse(trail, book.clauses(), conflict)?;
+    let id = book.put_learnt(learnt.clause.as_slice(), learnt.hints.as_slice())?;
+    *left -= 1;
+    retreat(trail, order, learnt.level);
+    trail.attach(book.clauses(), id);
+    Ok(())
+}
+
+// Keeps the values of the variables below a number.
+pub fn keep_values(trail: &Trail, vars: u32, assignment: &mut Assignment)
+    requires limit { vars ≤ VAR_LIMIT }
+    requires room { vars ≤ length assignment.old }
+    ensures room { length assignment.new ≡ length assignment.old }
+    ensures values { (var : ℕ) → var < vars → value_in assignment.new var ≡ is_true trail.now.literals (record { var = var; positive = true }) }
+{
+    for var in 0..vars {
+        assignment.set(var, makes_true(trail, Lit::new(var, true)));
+    }
+}
+
+// What is done at a conflict. Answers, or goes on.
+fn at_conflict<R: Fn(u32) -> u64>(
+    trail: &mut Trail,
+    order: &mut Order<R>,
+    learner: &mut Learner,
+    book: &mut Ledger,
+    conflict: ClauseId,
+    assumptions: &[Lit],
+    spare: usize,
+    left: &mut u64,
+) -> Result<Option<Answer>, Memory>
+    requires under_way { IsUnderWay assumptions.now order.old.waiting (length order.old.waiting) spare trail.old book.old.entries }
+    requires ranked { IsRanked R.pre R.post order.old }
+    requires conflict { IsConflict trail.old conflict }
+    ensures searched { IsSearched book.old.entries book.new.entries left.old left.new }
+    ensures goes_on { IfOk result (λ answer. IfNone answer (IsUnderWay assumptions.now order.new.waiting (length order.old.waiting) spare trail.new book.new.entries)) }
+    ensures paid { IfOk result (λ answer. IfNone answer (left.new + 1 ≡ left.old)) }
+    ensures ended { IfOk result (λ answer. IfSome answer (IsEnded assumptions.now (length order.old.waiting) spare trail.new book.new.entries left.new)) }
+    ensures clauses { OnErr result (trail.new.clauses ≡ clauses_of book.new.entries) }
+    ensures serving { IsServing (length order.old.waiting) spare trail.new }
+    ensures vars { trail.new.vars ≡ trail.old.vars }
+    ensures ranked { IsRanked R.pre R.post order.new }
+    ensures rank { order.new.rank ≡ order.old.rank }
+    ensures variables { length order.new.waiting ≡ length order.old.waiting }
+    ensures waiting { AreWaiting order.new.waiting trail.new.literals (length order.old.waiting) }
+{
+    let _literals = trail.literals();
+    match further_decision(trail, assumptions) {
+        None => {
+            let last = refute(trail, learner, book, conflict, assumptions, spare)?;
+            Ok(Some(Answer::Unsat(last)))
+        }
+        Some(_) if *left == 0 => Ok(Some(Answer::Spent)),
+        Some(_) => {
+            pay(
+                trail,
+                order,
+                learner,
+                book,
+                conflict,
+                assumptions,
+                spare,
+                left,
+            )?;
+            Ok(None)
+        }
+    }
+}
+
+// What is done where propagation has nothing to do. Answers, or decides and goes on.
+fn at_rest<R: Fn(u32) -> u64>(
+    trail: &mut Trail,
+    order: &mut Order<R>,
+    learner: &mut Learner,
+    book: &mut Ledger,
+    assumptions: &[Lit],
+    spare: usize,
+) -> Result<Option<Answer>, Memory>
+    requires under_way { IsUnderWay assumptions.now order.old.waiting (length order.old.waiting) spare trail.old book.old.entries }
+    requires ranked { IsRanked R.pre R.post order.old }
+    requires compatible { AreCompatible assumptions.now }
+    requires quiet { AreQuiet trail.old.clauses trail.old.attached trail.old.literals }
+    ensures searched { (left : ℕ) → IsSearched book.old.entries book.new.entries left left }
+    ensures goes_on { IfOk result (λ answer. IfNone answer (IsUnderWay assumptions.now order.new.waiting (length order.old.waiting) spare trail.new book.new.entries)) }
+    ensures decided { IfOk result (λ answer. IfNone answer (IsLonger trail.old trail.new)) }
+    ensures ended { (left : ℕ) → IfOk result (λ answer. IfSome answer (IsEnded assumptions.now (length order.old.waiting) spare trail.new book.new.entries left)) }
+    ensures clauses { OnErr result (trail.new.clauses ≡ clauses_of book.new.entries) }
+    ensures serving { IsServing (length order.old.waiting) spare trail.new }
+    ensures vars { trail.new.vars ≡ trail.old.vars }
+    ensures ranked { IsRanked R.pre R.post order.new }
+    ensures rank { order.new.rank ≡ order.old.rank }
+    ensures variables { length order.new.waiting ≡ length order.old.waiting }
+    ensures waiting { AreWaiting order.new.waiting trail.new.literals (length order.old.waiting) }
+{
+    let _literals = trail.literals();
+    match next_assumption(trail, assumptions) {
+        Some(lit) if makes_true(trail, lit.negated()) => {
+            let last = dismiss(trail, learner, book, lit, assumptions, spare)?;
+            Ok(Some(Answer::Unsat(last)))
+        }
+        Some(lit) => {
+            trail.decide(lit);
+            Ok(None)
+        }
+        None => match pick(trail, order) {
+            None => Ok(Some(Answer::Sat)),
+            Some(var) => {
+                trail.decide(Lit::new(var, false));
+                Ok(None)
+            }
+        },
+    }
+}
+
+// Propagates, and does what is then to be done.
+fn step<R: Fn(u32) -> u64>(
+    trail: &mut Trail,
+    order: &mut Order<R>,
+    learner: &mut Learner,
+    book: &mut Ledger,
+    assumptions: &[Lit],
+    spare: usize,
+    left: &mut u64,
+) -> Result<Option<Answer>, Memory>
+    requires under_way { IsUnderWay assumptions.now order.old.waiting (length order.old.waiting) spare trail.old book.old.entries }
+    requires ranked { IsRanked R.pre R.post order.old }
+    requires compatible { AreCompatible assumptions.now }
+    ensures searched { IsSearched book.old.entries book.new.entries left.old left.new }
+    ensures goes_on { IfOk result (λ answer. IfNone answer (IsUnderWay assumptions.now order.new.waiting (length order.old.waiting) spare trail.new book.new.entries)) }
+    ensures less { IfOk result (λ answer. IfNone answer (to_do left.new trail.new < to_do left.old trail.old)) }
+    ensures ended { IfOk result (λ answer. IfSome answer (IsEnded assumptions.now (length order.old.waiting) spare trail.new book.new.entries left.new)) }
+    ensures clauses { OnErr result (trail.new.clauses ≡ clauses_of book.new.entries) }
+    ensures serving { IsServing (length order.old.waiting) spare trail.new }
+    ensures ranked { IsRanked R.pre R.post order.new }
+    ensures rank { order.new.rank ≡ order.old.rank }
+    ensures variables { length order.new.waiting ≡ length order.old.waiting }
+    ensures waiting { AreWaiting order.new.waiting trail.new.literals (length order.old.waiting) }
+{
+    let _before = trail.literals();
+    let found = trail.propagate(book.clauses());
+    let _after = trail.literals();
+    match found {
+        Propagated::Conflict(id) => {
+            at_conflict(trail, order, learner, book, id, assumptions, spare, left)
+        }
+        Propagated::Quiet => at_rest(trail, order, learner, book, assumptions, spare),
+    }
+}
+
+// Searches until there is an answer, and leaves the trail as it stands then.
+pub fn search<R: Fn(u32) -> u64>(
+    trail: &mut Trail,
+    order: &mut Order<R>,
+    learner: &mut Learner,
+    book: &mut Ledger,
+    assumptions: &[Lit],
+    spare: usize,
+    left: &mut u64,
+) -> Result<Answer, Memory>
+    requires clauses { trail.old.clauses ≡ clauses_of book.old.entries }
+    requires serving { IsServing (length order.old.waiting) spare trail.old }
+    requires under { IsUnder assumptions.now (length order.old.waiting) trail.old }
+    requires ranked { IsRanked R.pre R.post order.old }
+    requires waiting { AreWaiting order.old.waiting trail.old.literals (length order.old.waiting) }
+    requires compatible { AreCompatible assumptions.now }
+    ensures searched { IsSearched book.old.entries book.new.entries left.old left.new }
+    ensures found { IfOk result (IsFound assumptions.now (length order.old.waiting) trail.new book.new.entries left.new) }
+    ensures unsettled { IfOk result (IsUnsettled spare trail.new book.new.entries) }
+    ensures clauses { OnErr result (trail.new.clauses ≡ clauses_of book.new.entries) }
+    ensures serving { IsServing (length order.old.waiting) spare trail.new }
+    ensures ranked { IsRanked R.pre R.post order.new }
+    ensures rank { order.new.rank ≡ order.old.rank }
+    ensures variables { length order.new.waiting ≡ length order.old.waiting }
+    ensures waiting { AreWaiting order.new.waiting trail.new.literals (length order.old.waiting) }
+{
+    'more: loop {
+        if let Some(answer) = step(trail, order, learner, book, assumptions, spare, left)? {
+            return Ok(answer);
+        }
+    }
+}
+
+// Goes back to level 0, after the values of a model were kept, and attaches a final clause.
+pub fn settle<R: Fn(u32) -> u64>(
+    trail: &mut Trail,
+    order: &mut Order<R>,
+    assignment: &mut Assignment,
+    book: &Ledger,
+    vars: u32,
+    spare: usize,
+    found: &Result<Answer, Memory>,
+)
+    requires unsettled { MatchResult found.now (IsUnsettled spare trail.old book.now.entries) (λ memory. trail.old.clauses ≡ clauses_of book.now.entries) }
+    requires serving { IsServing vars spare trail.old }
+    requires ranked { IsRanked R.pre R.post order.old }
+    requires variables { length order.old.waiting ≡ vars }
+    requires waiting { AreWaiting order.old.waiting trail.old.literals vars }
+    requires limit { vars ≤ VAR_LIMIT }
+    requires values { vars ≤ length assignment.old }
+    ensures rest { IsAtRest order.new.waiting trail.new assignment.new vars spare }
+    ensures clauses { trail.new.clauses ≡ clauses_of book.now.entries }
+    ensures values { found.now ≡ Ok Answer.Sat → (var : ℕ) → var < vars → value_in assignment.new var ≡ is_true trail.old.literals (record { var = var; positive = true }) }
+    ensures ranked { IsRanked R.pre R.post order.new }
+    ensures rank { order.new.rank ≡ order.old.rank }
+{
+    let _literals = trail.literals();
+    match found {
+        Ok(answer) => conclude(trail, order, assignment, book, vars, spare, *answer),
+        Err(_) => retreat(trail, order, 0),
+    }
+}
+
+fn conclude<R: Fn(u32) -> u64>(
+    trail: &mut Trail,
+    order: &mut Order<R>,
+    assignment: &mut Assignment,
+    book: &Ledger,
+    vars: u32,
+    spare: usize,
+    answer: Answer,
+)
+    requires unsettled { IsUnsettled spare trail.old book.now.entries answer }
+    requires serving { IsServing vars spare trail.old }
+    requires ranked { IsRanked R.pre R.post order.old }
+    requires variables { length order.old.waiting ≡ vars }
+    requires waiting { AreWaiting order.old.waiting trail.old.literals vars }
+    requires limit { vars ≤ VAR_LIMIT }
+    requires values { vars ≤ length assignment.old }
+    ensures rest { IsAtRest order.new.waiting trail.new assignment.new vars spare }
+    ensures clauses { trail.new.clauses ≡ clauses_of book.now.entries }
+    ensures values { answer ≡ Answer.Sat → (var : ℕ) → var < vars → value_in assignment.new var ≡ is_true trail.old.literals (record { var = var; positive = true }) }
+    ensures ranked { IsRanked R.pre R.post order.new }
+    ensures rank { order.new.rank ≡ order.old.rank }
+{
+    let _literals = trail.literals();
+    match answer {
+        Answer::Sat => {
+            keep_values(trail, vars, assignment);
+            retreat(trail, order, 0);
+        }
+        Answer::Spent => retreat(trail, order, 0),
+        Answer::Unsat(id) => {
+            retreat(trail, order, 0);
+            trail.attach(book.clauses(), id);
+        }
+    }
+}
