@@ -7,3 +7,4 @@ pub mod Clashing
 pub mod Retreating
 pub mod Adopting
 pub mod Joining
+mod Vectors

@@ -1,0 +1,103 @@
+-- A worked search over all four clauses of two variables, by computation: its trail, its further conflict, what it leaves in
+-- the book, and what its answer means.
+use Rattle.std.proofs.Common.{◌≡◌, ℕ, List, [], ◌∷◌, ◌++◌, refl, true, false, map, length, arith}
+use Rattle.std.specs.Prelude.{Some, None}
+use Rattle.std.specs.List.{IsDistinct}
+use Rattle.prop_core.specs.declared.lit.Lit.{Lit}
+use Rattle.prop_core.specs.Clauses.{Clause}
+use Rattle.prop_core.specs.Trail.{Placed, IsTrail, Clashes}
+use Rattle.proof_ledger.specs.Book.{BookEntry, axiomatic, learnt, final}
+use Rattle.proof_ledger.specs.Fresh.{IsFreshClause, AreFresh}
+use Rattle.sat_solve.specs.Searching.{IsModel, IsRefuted, IsSpent}
+
+abbrev yes : ℕ → Lit
+yes var = record { var = var; positive = true }
+
+abbrev no : ℕ → Lit
+no var = record { var = var; positive = false }
+
+abbrev decided : Lit → Placed
+decided l = record { literal = l; reason = None }
+
+abbrev forced : Lit → Clause → Placed
+forced l c = record { literal = l; reason = Some c }
+
+-- the first variable implies the second, and its negation
+abbrev two : List Clause
+two = (no 0 ∷ yes 1 ∷ []) ∷ (no 0 ∷ no 1 ∷ []) ∷ []
+
+-- the first variable is decided, and the first clause forces the second
+abbrev worked : List Placed
+worked = decided (yes 0) ∷ forced (yes 1) (no 0 ∷ yes 1 ∷ []) ∷ []
+
+worked_is_trail : IsTrail two worked
+unfolding IsDistinct
+worked_is_trail = record { once = ((refl, tt), (tt, tt)); each = (refl, (((0, omega arith, refl), refl), tt)) }
+
+-- The second clause is false then. With no assumption this is a further conflict.
+conflict_is_further : Clashes two []
+conflict_is_further = record {
+  trail = worked;
+  is_trail = worked_is_trail;
+  assumes = refl;
+  decision = yes 0;
+  decided = (0, omega arith, refl);
+  further = refl;
+  conflict = no 0 ∷ no 1 ∷ [];
+  among = (1, omega arith, refl);
+  false_now = refl;
+}
+
+-- where nothing is left, this is what a search was spent on
+spent : IsSpent (map axiomatic two) [] 0
+spent = record { nothing = refl; clashes = conflict_is_further }
+
+abbrev four : List BookEntry
+four = map axiomatic ((yes 0 ∷ yes 1 ∷ []) ∷ (no 0 ∷ yes 1 ∷ []) ∷ (yes 0 ∷ no 1 ∷ []) ∷ (no 0 ∷ no 1 ∷ []) ∷ [])
+
+-- propagation had not found the first variable in the four clauses
+first_is_fresh : AreFresh four (learnt (yes 0 ∷ []) (1 ∷ 3 ∷ []) ∷ []) 1
+unfolding IsDistinct
+first_is_fresh = record {
+  number = refl;
+  each = (
+    record {
+      some = omega arith;
+      once = (tt, tt);
+      known = refl;
+      found = yes 0;
+      taken = [];
+      taken_once = tt;
+      alone = refl;
+      left_open = refl;
+      quiet = refl;
+    },
+    tt,
+  );
+}
+
+-- with it they are refuted
+refuted : IsRefuted (four ++ learnt (yes 0 ∷ []) (1 ∷ 3 ∷ []) ∷ final [] (5 ∷ 2 ∷ 4 ∷ []) ∷ []) [] 6
+refuted = record {
+  earlier = four ++ learnt (yes 0 ∷ []) (1 ∷ 3 ∷ []) ∷ [];
+  clause = [];
+  hints = 5 ∷ 2 ∷ 4 ∷ [];
+  last = refl;
+  numbered = refl;
+  negated = refl;
+}
+
+-- under the assumption that the first variable is true, two clauses refute it with its negation alone
+assumption_refuted : IsRefuted (map axiomatic two ++ final (no 0 ∷ []) (1 ∷ 2 ∷ []) ∷ []) (yes 0 ∷ []) 3
+assumption_refuted = record {
+  earlier = map axiomatic two;
+  clause = no 0 ∷ [];
+  hints = 1 ∷ 2 ∷ [];
+  last = refl;
+  numbered = refl;
+  negated = refl;
+}
+
+-- and without it they have a model
+model : IsModel (false ∷ true ∷ []) (map axiomatic two) (yes 1 ∷ [])
+model = record { clauses = (refl, (refl, tt)); assumptions = (refl, tt) }
