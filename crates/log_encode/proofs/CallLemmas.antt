@@ -1,0 +1,369 @@
+-- What the calls of a log's code need of it and give, over plain values.
+use Rattle.std.proofs.Common.{◌≡◌, ◌⊎◌, inl, inr, ℕ, zero, suc, ◌+◌, ◌*◌, ◌-◌, ◌<◌, ◌≤◌, ◌∙◌, Bool, true, false, List, [], ◌∷◌, ◌++◌, length, map, filter, find, Option, Some, None, refl, sym, ap, subst, arith, slice_get, slice_index_or, Contains, All, IfSome, ◌==◌, ◌&&◌}
+use Rattle.std.specs.List.{AllByRecursion, range_with_len}
+use Rattle.std.proofs.lemmas.List.Elements.{All-from_recursion}
+use Rattle.des_base.specs.declared.TheConstants.{VAR_LIMIT}
+use Rattle.des_net.specs.Network.{Net}
+use Rattle.log_order.specs.Log.{no_log}
+use Rattle.log_clauses.specs.Additions.{alarm_added, with_addition}
+use Rattle.log_clauses.specs.LogClauses.{chain, observable_events, guard_literals, matching_events}
+use Rattle.log_clauses.specs.Decoded.{alarm_at}
+use Rattle.log_clauses.specs.LogCodes.{IsNamedLog, IsNamedAdded}
+use Rattle.log_clauses.specs.LogNames.{first_names, ReadsInOrder}
+use Rattle.log_clauses.proofs.Lists.{all_of, contains_got, none_in_nil, cons_cases, clash, as_false, filter_has, filter_from, got_contains}
+use Rattle.run_clauses.proofs.Lists.{in_numbers}
+use Rattle.log_clauses.proofs.Numbered.{ordered_reads}
+use Rattle.log_encode.proofs.CodeLemmas.{empty_is_coded, grown_is_coded}
+use Rattle.log_encode.proofs.DraftLemmas.{lifted, asked_named, first_written, alarm_brings}
+use Rattle.log_encode.proofs.EndLemmas.{empty_ends, observables_known, ends_events, ends_count}
+use Rattle.log_encode.proofs.GrowLemmas.{taken_width, new_vars, new_alarm, ends_with_alarm}
+use Rattle.log_encode.proofs.TakenLemmas.{map_count}
+use Rattle.log_encode.proofs.VariableLemmas.{link_is_small}
+use Rattle.log_encode.specs.AlarmState.{AlarmState, variables_of, is_matched}
+use Rattle.log_encode.specs.AlarmVariables.{IsWithin, variable_count, match_variable}
+use Rattle.log_encode.specs.CodedLog.{CodedLog, code_names, read_names, empty_code, code_after, addition_width, nameless, IsCodedLog}
+use Rattle.log_encode.specs.declared.log_code.LogCode.TheInside.{Inside}
+use Rattle.log_encode.specs.Drafted.{LogCodeState, DraftState, IsDraftOf}
+use Rattle.log_encode.specs.declared.taken.ChainEnd.{ChainEnd}
+use Rattle.log_encode.specs.declared.taken.Taken.{Taken}
+use Rattle.log_encode.specs.View.{IsChainEnd, IsRest, AreEnds, IsAlarm, AreKept, IsLogCode, coded_of, coded, code_view}
+use Rattle.log_encode.specs.Written.{has_any_label, taken_from, first_ends, guards_of, all_closed_written, alarm_written, ends_after, HasRest, link_from, link_of, holds}
+use Rattle.prop_core.specs.declared.grid.Grid.{Grid}
+use Rattle.prop_core.specs.declared.lit.Lit.{Lit}
+use Rattle.prop_core.specs.Clauses.{Clause}
+use Rattle.prop_core.specs.NamedClauses.{Appends, IsCode, value_by}
+use Rattle.prop_core.proofs.NameLemmas.{values_match}
+use Rattle.replay.specs.QuestionSize.{question_size, is_matching}
+use Rattle.run_clauses.specs.StepClauses.{numbers_below}
+use Rattle.std.specs.Option.{option_map_or}
+use Rattle.std.proofs.lemmas.Bool.{eqb-true, eq-eqb}
+use Rattle.log_encode.specs.declared.alarm_vars.AlarmVars.{AlarmVars}
+use Rattle.prop_core.specs.VariableNames.{ReadsAs, name_of, yes, closed, matches}
+
+-- ---- the empty log
+
+-- what is at hand when the code of the empty log is made
+pub record IsBeginning (net : Net) (grid : Grid) (asked : ℕ) (chain_ends : List ChainEnd) : Type 0 where
+  pub events : grid.events ≡ length net.events
+  pub made : grid.first + grid.events * grid.steps ≤ asked
+  pub few : asked + length (first_names net) ≤ VAR_LIMIT
+  pub begun : chain_ends ≡ first_ends (suc asked) (observable_events net)
+
+all_known : (net : Net) (grid : Grid) (chain_ends : List ChainEnd) → grid.events ≡ length net.events → map (λ (end : ChainEnd). end.event) chain_ends ≡ observable_events net → AllByRecursion (λ (end : ChainEnd). end.event < grid.events) chain_ends
+all_known net grid chain_ends size are = all_of (λ (end : ChainEnd). end.event < grid.events) chain_ends (λ end here.
+    let got = contains_got chain_ends end here in
+    let known = observables_known net chain_ends are got.0 end got.1 in
+    omega (arith, known, size))
+
+first_events : (net : Net) (grid : Grid) (asked : ℕ) (chain_ends : List ChainEnd) → IsBeginning net grid asked chain_ends → map (λ (end : ChainEnd). end.event) chain_ends ≡ observable_events net
+first_events net grid asked chain_ends is = ap (map (λ (end : ChainEnd). end.event)) is.begun ∙ ends_events (suc asked) (observable_events net)
+
+pub first_known : (net : Net) (grid : Grid) (asked : ℕ) (chain_ends : List ChainEnd) → IsBeginning net grid asked chain_ends → All (λ (end : ChainEnd). end.event < grid.events) chain_ends
+first_known net grid asked chain_ends is = All-from_recursion (λ (end : ChainEnd). end.event < grid.events) chain_ends (all_known net grid chain_ends is.events (first_events net grid asked chain_ends is))
+
+pub first_guards : (net : Net) (grid : Grid) (asked : ℕ) (chain_ends : List ChainEnd) → IsBeginning net grid asked chain_ends → length (guards_of asked chain_ends) ≡ length (first_names net)
+first_guards net grid asked chain_ends is =
+    let ends' = map_count (λ (end : ChainEnd). holds end.closed) chain_ends in
+    let begun = ap length is.begun ∙ ends_count (suc asked) (observable_events net) in
+    let names = map_count (λ e. closed e 0) (observable_events net) in
+    omega (arith, ends', begun, names)
+
+pub first_kept : (net : Net) (grid : Grid) (asked vars : ℕ) (chain_ends : List ChainEnd) (guards : List Lit) (alarms : List AlarmState) (pairs : List (ℕ × ℕ)) → IsBeginning net grid asked chain_ends →
+    guards ≡ guards_of asked chain_ends → alarms ≡ [] → pairs ≡ [] → vars ≡ asked + length (first_names net) → AreKept (coded_of net grid asked vars alarms pairs) chain_ends guards alarms
+first_kept net grid asked vars chain_ends guards alarms pairs is g a p v =
+    rw (g, a, p, v) (record {
+      log = empty_is_coded net grid asked is.events is.made is.few;
+      chains = subst (λ xs. AreEnds (empty_code net grid asked) xs (guards_of asked xs)) (sym is.begun) (empty_ends net grid asked);
+      alarms = λ i alarm at. cc;
+    })
+
+pub first_is_empty : (net : Net) (grid : Grid) (asked vars : ℕ) (alarms : List AlarmState) (pairs : List (ℕ × ℕ)) → alarms ≡ [] → pairs ≡ [] → vars ≡ asked + length (first_names net) → coded_of net grid asked vars alarms pairs ≡ empty_code net grid asked
+first_is_empty net grid asked vars alarms pairs a p v = rw (a, p, v) refl
+
+pub first_appends : (net : Net) (grid : Grid) (asked : ℕ) (chain_ends : List ChainEnd) (old made new : List Clause) → IsBeginning net grid asked chain_ends → made ≡ all_closed_written grid chain_ends → new ≡ old ++ made →
+    Appends (read_names (empty_code net grid asked)) (IsNamedLog net no_log grid.steps) old new
+first_appends net grid asked chain_ends old made new is written appended = record {
+  more = made;
+  whole = appended;
+  code = subst (IsCode (read_names (empty_code net grid asked)) (IsNamedLog net no_log grid.steps)) (sym written)
+      (first_written net grid asked chain_ends (empty_is_coded net grid asked is.events is.made is.few) (first_events net grid asked chain_ends is) (all_known net grid chain_ends is.events (first_events net grid asked chain_ends is))
+      (subst (AllByRecursion (IsChainEnd (empty_code net grid asked))) (sym is.begun) (empty_ends net grid asked).each));
+}
+
+-- ---- guards
+
+ends_read : (code : CodedLog) (chain_ends : List ChainEnd) → IsCodedLog code → AllByRecursion (IsChainEnd code) chain_ends →
+    ReadsInOrder (read_names code) (map (λ (end : ChainEnd). holds end.closed) chain_ends) (map (λ e. yes (closed e (length (chain code.net code.log e)))) (map (λ (end : ChainEnd). end.event) chain_ends))
+ends_read code [] coded all = tt
+ends_read code (end ∷ chain_ends) coded all = ((lifted code end.closed _ coded all.0.closing, refl), ends_read code chain_ends coded all.1)
+
+pub guards_read : (code : CodedLog) (chain_ends : List ChainEnd) (guards : List Lit) → IsCodedLog code → AreEnds code chain_ends guards → ReadsAs (read_names code) guards (guard_literals code.net code.log)
+guards_read code chain_ends guards coded are =
+    ordered_reads (read_names code) guards (guard_literals code.net code.log)
+    (subst (λ gs. ReadsInOrder (read_names code) gs (guard_literals code.net code.log)) (sym are.guarding) (
+      (lifted code code.asked _ coded (asked_named code), refl),
+      subst (λ es. ReadsInOrder (read_names code) (map (λ (end : ChainEnd). holds end.closed) chain_ends) (map (λ e. yes (closed e (length (chain code.net code.log e)))) es)) are.events (ends_read code chain_ends coded are.each),
+    ))
+
+-- ---- an alarm that is there
+
+pub alarm_at_place : (alarms : List AlarmState) (i : ℕ) (d : AlarmState) → i < length alarms → slice_get alarms i ≡ Some (slice_index_or alarms i d)
+alarm_at_place [] i d h = absurd (omega arith)
+alarm_at_place (x ∷ alarms) zero d h = refl
+alarm_at_place (x ∷ alarms) (suc i) d h = alarm_at_place alarms i d (omega arith)
+
+pub alarm_within : (code : CodedLog) (i : ℕ) (alarm : AlarmState) → IsCodedLog code → IsAlarm code i alarm → IsWithin (variables_of code.grid.steps alarm)
+alarm_within code i alarm coded is = omega (arith, is.within, coded.few)
+
+-- ---- a draft of an alarm
+
+pub record IsDrafting (code : CodedLog) (labels : List (List ℕ)) (first : ℕ) (chain_ends : List ChainEnd) (guards : List Lit) : Type 0 where
+  pub coded : IsCodedLog code
+  pub chains : AreEnds code chain_ends guards
+  pub above : code.vars ≤ first
+  pub few : first + addition_width code (alarm_added (nameless labels)) ≤ VAR_LIMIT
+
+pub draft_known : (code : CodedLog) (labels : List (List ℕ)) (first : ℕ) (chain_ends : List ChainEnd) (guards : List Lit) → IsDrafting code labels first chain_ends guards → AllByRecursion (λ (end : ChainEnd). end.event < code.grid.events) chain_ends
+draft_known code labels first chain_ends guards is = all_known code.net code.grid chain_ends is.coded.events is.chains.events
+
+pub draft_known_events : (code : CodedLog) (labels : List (List ℕ)) (first : ℕ) (chain_ends : List ChainEnd) (guards : List Lit) → IsDrafting code labels first chain_ends guards → All (λ (end : ChainEnd). end.event < length code.net.events) chain_ends
+draft_known_events code labels first chain_ends guards is =
+    All-from_recursion (λ (end : ChainEnd). end.event < length code.net.events) chain_ends
+    (subst (λ k. AllByRecursion (λ (end : ChainEnd). end.event < k) chain_ends) is.coded.events (draft_known code labels first chain_ends guards is))
+
+pub draft_within : (code : CodedLog) (labels : List (List ℕ)) (first : ℕ) (chain_ends : List ChainEnd) (guards : List Lit) → IsDrafting code labels first chain_ends guards →
+    first + variable_count (length (taken_from code.net labels chain_ends)) code.grid.steps ≤ VAR_LIMIT
+draft_within code labels first chain_ends guards is = omega (arith, is.few, taken_width code labels chain_ends is.chains.events)
+
+has_rest : (code : CodedLog) (end : ChainEnd) → IsCodedLog code → end.event < code.grid.events → IsChainEnd code end → HasRest code.grid (record { event = end.event; last = end.last })
+has_rest code end coded known is = record { event = known; last = by end.last is.rest }
+  where
+    by : (last : Option ℕ) → IsRest code end.event last → IfSome last (λ first. first + code.grid.steps * 2 ≤ VAR_LIMIT)
+    by None r = tt
+    by (Some first) r = omega (arith, r.0, coded.few)
+
+rests : (code : CodedLog) (labels : List (List ℕ)) (chain_ends : List ChainEnd) → IsCodedLog code → AllByRecursion (λ (end : ChainEnd). end.event < code.grid.events) chain_ends → AllByRecursion (IsChainEnd code) chain_ends → AllByRecursion (HasRest code.grid) (taken_from code.net labels chain_ends)
+rests code labels [] coded known all = tt
+rests code labels (end ∷ chain_ends) coded known all = by (has_any_label code.net labels end.event) refl (rests code labels chain_ends coded known.1 all.1)
+  where
+    by : (b : Bool) → has_any_label code.net labels end.event ≡ b → AllByRecursion (HasRest code.grid) (taken_from code.net labels chain_ends) → AllByRecursion (HasRest code.grid) (taken_from code.net labels (end ∷ chain_ends))
+    by true is later = rw is (has_rest code end coded known.0 all.0, later)
+    by false is later = rw is later
+
+pub draft_rests : (code : CodedLog) (labels : List (List ℕ)) (first : ℕ) (chain_ends : List ChainEnd) (guards : List Lit) → IsDrafting code labels first chain_ends guards → All (HasRest code.grid) (taken_from code.net labels chain_ends)
+draft_rests code labels first chain_ends guards is = All-from_recursion (HasRest code.grid) (taken_from code.net labels chain_ends) (rests code labels chain_ends is.coded (draft_known code labels first chain_ends guards is) is.chains.each)
+
+pub begins : (net : Net) (grid : Grid) (vars asked : ℕ) (chain_ends : List ChainEnd) → asked ≡ vars → grid.events ≡ length net.events → grid.first + grid.events * grid.steps ≤ vars → vars + length (first_names net) ≤ VAR_LIMIT →
+    chain_ends ≡ first_ends (suc asked) (observable_events net) → IsBeginning net grid asked chain_ends
+begins net grid vars asked chain_ends same events made few begun = record { events = events; made = omega (arith, made, same); few = omega (arith, few, same); begun = begun }
+
+pub guards_len : (net : Net) (grid : Grid) (asked len : ℕ) (chain_ends slice : List ChainEnd) (guards : List Lit) → IsBeginning net grid asked chain_ends → slice ≡ chain_ends → guards ≡ guards_of asked slice → length guards ≡ len → len ≡ length (first_names net)
+guards_len net grid asked len chain_ends slice guards is same made count = sym count ∙ ap length (made ∙ ap (guards_of asked) same) ∙ first_guards net grid asked chain_ends is
+
+-- the alarm of a number, and the code that it stands in
+pub found_alarm : (a : Inside) (state : LogCodeState) (i : ℕ) (alarm : AlarmState) → code_view a ≡ state → IsLogCode a → i < length state.code.log.alarms → alarm ≡ slice_index_or a.alarms.items i alarm → IsAlarm state.code i alarm × IsCodedLog state.code
+found_alarm a state i alarm view inv known at =
+    subst (λ (s : LogCodeState). i < length s.code.log.alarms → IsAlarm s.code i alarm × IsCodedLog s.code) view
+    (λ known. (inv.kept.alarms i alarm (alarm_at_place a.alarms.items i alarm (omega (arith, known, map_count (λ (x : AlarmState). nameless x.labels) a.alarms.items)) ∙ ap (λ x. Some x) (sym at)), inv.kept.log))
+    known
+
+-- ---- which alarm is matched
+
+pub link_below : (k : ℕ) (takes : List Taken) (e link : ℕ) → link_from k takes e ≡ Some link → link < k + length takes
+link_below k [] e link h = cc
+link_below k (taken ∷ takes) e link h = by (taken.event == e) refl h (link_below (suc k) takes e link)
+  where
+    by : (b : Bool) → (taken.event == e) ≡ b → link_from k (taken ∷ takes) e ≡ Some link → (link_from (suc k) takes e ≡ Some link → link < suc k + length takes) → link < k + suc (length takes)
+    by true is at later = let same : k ≡ link = cc (rw is at at) in omega (arith, same)
+    by false is at later = let rest = later (rw is at at) in omega (arith, rest)
+
+pub match_below : (vars : AlarmVars) (link t : ℕ) → link < vars.links → t < vars.steps → match_variable vars link t < vars.start + variable_count vars.links vars.steps
+match_below vars link t h time = let bound = link_is_small vars.links (1 + vars.steps * 2) link h in omega (arith, bound)
+
+-- the link of an event is where it stands
+link_event : (k : ℕ) (takes : List Taken) (e link : ℕ) → link_from k takes e ≡ Some link → (p : ℕ) × (link ≡ k + p) × (slice_get (map (λ (taken : Taken). taken.event) takes) p ≡ Some e)
+link_event k [] e link h = cc
+link_event k (taken ∷ takes) e link h = by (taken.event == e) refl h (link_event (suc k) takes e link)
+  where
+    by : (b : Bool) → (taken.event == e) ≡ b → link_from k (taken ∷ takes) e ≡ Some link → (link_from (suc k) takes e ≡ Some link → (p : ℕ) × (link ≡ suc k + p) × (slice_get (map (λ (x : Taken). x.event) takes) p ≡ Some e)) →
+        (p : ℕ) × (link ≡ k + p) × (slice_get (map (λ (x : Taken). x.event) (taken ∷ takes)) p ≡ Some e)
+    by true is at later = let same : k ≡ link = cc (rw is at at) in (0, omega (arith, same), ap (λ x. Some x) (eqb-true taken.event e is))
+    by false is at later = let rest = later (rw is at at) in (suc rest.0, omega (arith, rest.1), rest.2)
+
+-- an event without a link isn't there
+link_none : (k : ℕ) (takes : List Taken) (e : ℕ) → link_from k takes e ≡ None → Contains (map (λ (taken : Taken). taken.event) takes) e → ⊥
+link_none k [] e h here = none_in_nil e here
+link_none k (taken ∷ takes) e h here = by (taken.event == e) refl h (cons_cases taken.event (map (λ (x : Taken). x.event) takes) e here) (link_none (suc k) takes e)
+  where
+    by : (b : Bool) → (taken.event == e) ≡ b → link_from k (taken ∷ takes) e ≡ None → (taken.event ≡ e) ⊎ Contains (map (λ (x : Taken). x.event) takes) e →
+        (link_from (suc k) takes e ≡ None → Contains (map (λ (x : Taken). x.event) takes) e → ⊥) → ⊥
+    by true is at which later = cc (rw is at at)
+    by false is at (inl same) later = clash (taken.event == e) (eq-eqb taken.event e same) is
+    by false is at (inr rest) later = later (rw is at at) rest
+
+-- alarm k may stand for the event, and does in the step
+abbrev pub stands_for : CodedLog → (ℕ → Bool) → ℕ → ℕ → ℕ → Bool
+stands_for code value e t k = is_matching code.net code.log e k && value_by (code_names code) value (matches k e t)
+
+pub matched_is : (code : CodedLog) (i : ℕ) (alarm : AlarmState) (value : ℕ → Bool) (e step : ℕ) → IsCodedLog code → IsAlarm code i alarm → e < length code.net.events → 1 ≤ step → step ≤ code.grid.steps →
+    is_matched code.grid.steps alarm value e (step - 1) ≡ stands_for code value e step i
+matched_is code i alarm value e step coded is known from_one within = by (link_of alarm.takes e) refl
+  where
+    by : (o : Option ℕ) → link_of alarm.takes e ≡ o → option_map_or (λ link. value (match_variable (variables_of code.grid.steps alarm) link (step - 1))) o false ≡ stands_for code value e step i
+    by None at = sym (and_false (is_matching code.net code.log e i) (value_by (code_names code) value (matches i e step)) (as_false (is_matching code.net code.log e i) (λ passes.
+        link_none 0 alarm.takes e at (subst (λ es. Contains es e) (sym is.events) (filter_has (λ x. is_matching code.net code.log x i) (numbers_below (length code.net.events)) e passes (in_numbers (length code.net.events) e known))))))
+      where
+        and_false : (a b : Bool) → a ≡ false → a && b ≡ false
+        and_false true b h = cc
+        and_false false b h = refl
+    by (Some link) at =
+        let found = link_event 0 alarm.takes e link at in
+        let place : link ≡ found.0 = omega (arith, found.1) in
+        let there : slice_get (matching_events code.net code.log i) found.0 ≡ Some e = subst (λ es. slice_get es found.0 ≡ Some e) is.events found.2 in
+        let passes : is_matching code.net code.log e i ≡ true = (filter_from (λ x. is_matching code.net code.log x i) (numbers_below (length code.net.events)) e (got_contains (matching_events code.net code.log i) found.0 e there)).0 in
+        let step_is : suc (step - 1) ≡ step = omega arith in
+        let named : name_of (code_names code) (match_variable (variables_of code.grid.steps alarm) link (step - 1)) ≡ Some (matches i e step) =
+        subst (λ p. name_of (code_names code) (match_variable (variables_of code.grid.steps alarm) p (step - 1)) ≡ Some (matches i e step)) (sym place)
+        (subst (λ t. name_of (code_names code) (match_variable (variables_of code.grid.steps alarm) found.0 (step - 1)) ≡ Some (matches i e t)) step_is (is.matching found.0 e (step - 1) there (omega arith))) in
+        let valued = values_match (code_names code) coded.names.once value (match_variable (variables_of code.grid.steps alarm) link (step - 1)) (matches i e step) named in
+        rw passes valued
+
+-- the first of the numbers that pass both tests
+find_from : (p q : ℕ → Bool) (a m k : ℕ) → a ≤ k → k < a + m → q k && p k ≡ true → ((j : ℕ) → a ≤ j → j < k → q j && p j ≡ false) → find p (filter q (range_with_len a m)) ≡ Some k
+find_from p q a zero k above within hit before = absurd (omega (arith, above, within))
+find_from p q a (suc m) k above within hit before = by (q a) refl (p a) refl (cases_eq a k) (λ other. find_from p q (a + 1) m k (omega (arith, above, other)) (omega (arith, within)) hit (λ j high low. before j (omega (arith, high)) low))
+  where
+    cases_eq : (x y : ℕ) → (x == y ≡ true) ⊎ (x == y ≡ false)
+    cases_eq x y = which (x == y)
+      where
+        which : (b : Bool) → (b ≡ true) ⊎ (b ≡ false)
+        which true = inl refl
+        which false = inr refl
+
+    here : a ≡ k → (q a && p a) ≡ true
+    here same = subst (λ x. (q x && p x) ≡ true) (sym same) hit
+
+    other_of : a == k ≡ false → a ≡ k → ⊥
+    other_of h same = clash (a == k) (eq-eqb a k same) h
+
+    by : (b : Bool) → q a ≡ b → (d : Bool) → p a ≡ d → (a == k ≡ true) ⊎ (a == k ≡ false) → ((a ≡ k → ⊥) → find p (filter q (range_with_len (a + 1) m)) ≡ Some k) → find p (filter q (range_with_len a (suc m))) ≡ Some k
+    by true e true f (inl same) later = rw (e, f) (ap (λ x. Some x) (eqb-true a k same))
+    by true e true f (inr other) later = let none = before a (omega arith) (omega (arith, above, other_of other)) in clash (q a && p a) (rw (e, f) refl) none
+    by true e false f (inl same) later = clash (q a && p a) (here (eqb-true a k same)) (rw (e, f) refl)
+    by true e false f (inr other) later = rw (e, f) (later (other_of other))
+    by false e d f (inl same) later = clash (q a && p a) (here (eqb-true a k same)) (rw e refl)
+    by false e d f (inr other) later = rw e (later (other_of other))
+
+pub find_hit : (p q : ℕ → Bool) (m k : ℕ) → k < m → q k && p k ≡ true → ((j : ℕ) → j < k → q j && p j ≡ false) → find p (filter q (numbers_below m)) ≡ Some k
+find_hit p q m k within hit before = find_from p q 0 m k (omega arith) (omega (arith, within)) hit (λ j high low. before j low)
+
+find_nothing : (p q : ℕ → Bool) (a m : ℕ) → ((j : ℕ) → a ≤ j → j < a + m → q j && p j ≡ false) → find p (filter q (range_with_len a m)) ≡ None
+find_nothing p q a zero none = refl
+find_nothing p q a (suc m) none = by (q a) refl (p a) refl (find_nothing p q (a + 1) m (λ j high low. none j (omega (arith, high)) (omega (arith, low)))) (none a (omega arith) (omega arith))
+  where
+    by : (b : Bool) → q a ≡ b → (d : Bool) → p a ≡ d → find p (filter q (range_with_len (a + 1) m)) ≡ None → (q a && p a) ≡ false → find p (filter q (range_with_len a (suc m))) ≡ None
+    by true e true f rest miss = clash (q a && p a) (rw (e, f) refl) miss
+    by true e false f rest miss = rw (e, f) rest
+    by false e d f rest miss = rw e rest
+
+pub find_miss : (p q : ℕ → Bool) (m : ℕ) → ((j : ℕ) → j < m → q j && p j ≡ false) → find p (filter q (numbers_below m)) ≡ None
+find_miss p q m none = find_nothing p q 0 m (λ j high low. none j (omega (arith, low)))
+
+-- ---- the draft itself
+
+pub drafting : (a : Inside) (state : LogCodeState) (labels : List (List ℕ)) (first : ℕ) → code_view a ≡ state → IsLogCode a → state.code.vars ≤ first → first + addition_width state.code (alarm_added (nameless labels)) ≤ VAR_LIMIT →
+    IsDrafting (coded a) labels first a.ends.items a.guards.items
+drafting a state labels first view inv made few = record {
+  coded = inv.kept.log;
+  chains = inv.kept.chains;
+  above = subst (λ (s : LogCodeState). s.code.vars ≤ first) (sym view) made;
+  few = subst (λ (s : LogCodeState). first + addition_width s.code (alarm_added (nameless labels)) ≤ VAR_LIMIT) (sym view) few;
+}
+
+pub taken_are : (a : Inside) (state : LogCodeState) (net : Net) (labels : List (List ℕ)) (slice : List ChainEnd) (takes : List Taken) → code_view a ≡ state → net ≡ state.code.net → slice ≡ a.ends.items → takes ≡ taken_from net labels slice →
+    takes ≡ taken_from (coded a).net labels a.ends.items
+taken_are a state net labels slice takes view same sliced is =
+    is ∙ ap (λ n. taken_from n labels slice) (same ∙ sym (ap (λ (s : LogCodeState). s.code.net) view)) ∙ ap (taken_from (coded a).net labels) sliced
+
+-- what the draft of an alarm keeps for its commit
+pub record IsReadyAlarm (code : CodedLog) (first : ℕ) (labels : List (List ℕ)) (takes : List Taken) (after : List ChainEnd) (guards : List Lit) : Type 0 where
+  pub alarm : IsAlarm (code_after code (alarm_added (nameless labels)) first) (length code.log.alarms) (record { labels = labels; takes = takes; start = first })
+  pub chains : AreEnds (code_after code (alarm_added (nameless labels)) first) after guards
+
+pub ready_alarm : (code : CodedLog) (labels : List (List ℕ)) (first links : ℕ) (chain_ends after : List ChainEnd) (guards then : List Lit) (takes : List Taken) → IsDrafting code labels first chain_ends guards → takes ≡ taken_from code.net labels chain_ends → links ≡ length takes →
+    after ≡ ends_after (new_vars code first links) 0 chain_ends takes → then ≡ guards_of code.asked after → IsReadyAlarm code first labels takes after then
+ready_alarm code labels first links chain_ends after guards then takes is t l e g =
+    rw (g, e, l, t) (record { alarm = new_alarm code labels first chain_ends is.coded is.above is.chains.events; chains = ends_with_alarm code labels first chain_ends guards is.coded is.above is.chains })
+
+pub draft_brings : (code : CodedLog) (labels : List (List ℕ)) (first links : ℕ) (chain_ends : List ChainEnd) (guards : List Lit) (takes : List Taken) (clauses : List Clause) → IsDrafting code labels first chain_ends guards → takes ≡ taken_from code.net labels chain_ends → links ≡ length takes →
+    clauses ≡ alarm_written code.grid code.asked (new_vars code first links) takes →
+    IsCode (read_names (code_after code (alarm_added (nameless labels)) first)) (IsNamedAdded code.net code.log code.grid.steps (alarm_added (nameless labels))) clauses
+    × (length clauses + 12 * question_size code.net code.log code.grid.steps ≤ 12 * question_size code.net (with_addition code.log (alarm_added (nameless labels))) code.grid.steps + 12)
+draft_brings code labels first links chain_ends guards takes clauses is t l w =
+    rw (w, l, t) (alarm_brings code labels first chain_ends is.coded (grown_is_coded code (alarm_added (nameless labels)) first is.coded is.above is.few) is.above is.chains.events (draft_known code labels first chain_ends guards is) is.chains.each)
+
+pub draft_width : (code : CodedLog) (labels : List (List ℕ)) (first links : ℕ) (chain_ends : List ChainEnd) (guards : List Lit) (takes : List Taken) → IsDrafting code labels first chain_ends guards → takes ≡ taken_from code.net labels chain_ends → links ≡ length takes →
+    addition_width code (alarm_added (nameless labels)) ≡ variable_count links code.grid.steps
+draft_width code labels first links chain_ends guards takes is t l = rw (l, t) (taken_width code labels chain_ends is.chains.events)
+
+-- no alarm so far stands for the event
+pub record NoneSoFar (state : LogCodeState) (value : ℕ → Bool) (e step number : ℕ) : Type 0 where
+  pub none : (k : ℕ) → k < number → stands_for state.code value e step k ≡ false
+
+pub none_at_first : (state : LogCodeState) (value : ℕ → Bool) (e step : ℕ) → NoneSoFar state value e step 0
+none_at_first state value e step = record { none = λ k h. absurd (omega arith) }
+
+pub none_more : (state : LogCodeState) (value : ℕ → Bool) (e step number : ℕ) → NoneSoFar state value e step number → stands_for state.code value e step number ≡ false → NoneSoFar state value e step (number + 1)
+none_more state value e step number is miss = record { none = λ k h. by k (k == number) refl h }
+  where
+    by : (k : ℕ) → (b : Bool) → (k == number) ≡ b → k < number + 1 → stands_for state.code value e step k ≡ false
+    by k true same h = subst (λ x. stands_for state.code value e step x ≡ false) (sym (eqb-true k number same)) miss
+    by k false other h = is.none k (omega (arith, h, λ (same : k ≡ number). clash {A = ⊥} (k == number) (eq-eqb k number same) other))
+
+-- the alarm of a number in a code that is kept
+pub kept_alarm : (a : Inside) (state : LogCodeState) (i : ℕ) (alarm : AlarmState) → code_view a ≡ state → IsLogCode a → i < length a.alarms.items → slice_get a.alarms.items i ≡ Some alarm → IsAlarm state.code i alarm × IsCodedLog state.code
+kept_alarm a state i alarm view inv known at = subst (λ (s : LogCodeState). IsAlarm s.code i alarm × IsCodedLog s.code) view (inv.kept.alarms i alarm at, inv.kept.log)
+
+pub kept_count : (a : Inside) (state : LogCodeState) → code_view a ≡ state → IsLogCode a → (length state.code.log.alarms ≡ length a.alarms.items) × IsCodedLog state.code
+kept_count a state view inv = subst (λ (s : LogCodeState). (length s.code.log.alarms ≡ length a.alarms.items) × IsCodedLog s.code) view (map_count (λ (x : AlarmState). nameless x.labels) a.alarms.items, inv.kept.log)
+
+pub found_first : (state : LogCodeState) (value : ℕ → Bool) (e step number : ℕ) → NoneSoFar state value e step number → number < length state.code.log.alarms → stands_for state.code value e step number ≡ true →
+    Some number ≡ alarm_at state.code.net state.code.log (value_by (code_names state.code) value) e step
+found_first state value e step number is known hit =
+    sym (find_hit (λ i. value_by (code_names state.code) value (matches i e step)) (is_matching state.code.net state.code.log e) (length state.code.log.alarms) number known hit is.none)
+
+pub found_none : (state : LogCodeState) (value : ℕ → Bool) (e step number : ℕ) → NoneSoFar state value e step number → length state.code.log.alarms ≤ number → None ≡ alarm_at state.code.net state.code.log (value_by (code_names state.code) value) e step
+found_none state value e step number is all =
+    sym (find_miss (λ i. value_by (code_names state.code) value (matches i e step)) (is_matching state.code.net state.code.log e) (length state.code.log.alarms) (λ k h. is.none k (omega (arith, h))))
+
+-- the alarm of a turn of the loop
+pub turned_alarm : (a : Inside) (state : LogCodeState) (slice : List AlarmState) (i : ℕ) (alarm : AlarmState) → code_view a ≡ state → IsLogCode a → slice ≡ a.alarms.items → i < length slice → alarm ≡ slice_index_or slice i alarm → IsAlarm state.code i alarm × IsCodedLog state.code
+turned_alarm a state slice i alarm view inv same within at =
+    kept_alarm a state i alarm view inv (subst (λ xs. i < length xs) same within) (subst (λ xs. slice_get xs i ≡ Some alarm) same (alarm_at_place slice i alarm within ∙ ap (λ x. Some x) (sym at)))
+
+pub turned_count : (a : Inside) (state : LogCodeState) (slice : List AlarmState) → code_view a ≡ state → IsLogCode a → slice ≡ a.alarms.items → length state.code.log.alarms ≡ length slice
+turned_count a state slice view inv same = (kept_count a state view inv).0 ∙ ap length (sym same)
+
+-- the same by an equal code and equal labels
+pub ready_change : (code value : CodedLog) (labels kept : List (List ℕ)) (first : ℕ) (takes : List Taken) (after : List ChainEnd) (guards : List Lit) → code ≡ value → kept ≡ labels → IsReadyAlarm code first labels takes after guards →
+    IsAlarm (code_after value (alarm_added (nameless kept)) first) (length value.log.alarms) (record { labels = kept; takes = takes; start = first }) × AreEnds (code_after value (alarm_added (nameless kept)) first) after guards
+ready_change code value labels kept first takes after guards same alike ready =
+    rw alike (subst (λ (k : CodedLog). IsAlarm (code_after k (alarm_added (nameless labels)) first) (length k.log.alarms) (record { labels = labels; takes = takes; start = first }) × AreEnds (code_after k (alarm_added (nameless labels)) first) after guards) same
+    (ready.alarm, ready.chains))
+
+-- a draft of the code is one of an equal code
+pub draft_of : (code value : CodedLog) (labels : List (List ℕ)) (first width : ℕ) (clauses : List Clause) (draft : DraftState) → code ≡ value →
+    IsCode (read_names (code_after code (alarm_added (nameless labels)) first)) (IsNamedAdded code.net code.log code.grid.steps (alarm_added (nameless labels))) clauses
+    × (length clauses + 12 * question_size code.net code.log code.grid.steps ≤ 12 * question_size code.net (with_addition code.log (alarm_added (nameless labels))) code.grid.steps + 12) →
+    addition_width code (alarm_added (nameless labels)) ≡ width → draft.code ≡ value → draft.addition ≡ alarm_added (nameless labels) → draft.first ≡ first → draft.vars ≡ width → draft.clauses ≡ clauses →
+    IsDraftOf value (alarm_added (nameless labels)) first draft
+draft_of code value labels first width clauses draft same brings wide of adds begun vars written =
+    subst (λ (k : CodedLog). draft.code ≡ k → IsDraftOf k (alarm_added (nameless labels)) first draft) same
+    (λ of. record {
+      made_by = of;
+      adds = adds;
+      begins = begun;
+      width = vars ∙ sym wide;
+      brings = subst (IsCode (read_names (code_after code (alarm_added (nameless labels)) first)) (IsNamedAdded code.net code.log code.grid.steps (alarm_added (nameless labels)))) (sym written) brings.0;
+      small = let few = brings.1 in let long = ap length written in omega (arith, few, long);
+    }) of

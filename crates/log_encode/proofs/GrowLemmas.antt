@@ -1,0 +1,176 @@
+-- The ends of chains with a new alarm, and its own variables.
+use Rattle.std.proofs.Common.{◌≡◌, ◌≢◌, ℕ, zero, suc, ◌+◌, ◌*◌, ◌<◌, ◌≤◌, ◌∙◌, Bool, true, false, List, [], ◌∷◌, ◌++◌, length, map, filter, Some, refl, sym, ap, subst, arith, slice_get, length-append, ◌==◌, if◌then◌else◌, append_assoc}
+use Rattle.std.specs.List.{AllByRecursion, range_with_len}
+use Rattle.std.proofs.lemmas.Bool.{eq-eqb, false_from_ne_true, eqb-true}
+use Rattle.des_base.specs.Lists.{EachPair}
+use Rattle.des_net.specs.Network.{Net, label_of}
+use Rattle.log_order.specs.Log.{Log, Alarm}
+use Rattle.log_clauses.specs.Additions.{alarm_added, with_addition}
+use Rattle.log_clauses.specs.Drafts.{taken_events}
+use Rattle.log_clauses.specs.LogClauses.{chain, observable_events}
+use Rattle.log_clauses.specs.LogNames.{HasPlaces}
+use Rattle.log_clauses.proofs.Lists.{pairs_filter}
+use Rattle.log_clauses.proofs.Numbered.{places_of_names}
+use Rattle.log_encode.proofs.CodeLemmas.{names_with_alarm, raised}
+use Rattle.log_encode.proofs.StayLemmas.{end_stays, chain_joined}
+use Rattle.log_encode.proofs.TakenLemmas.{taken_are_events, taken_is_filter, width_is, map_count}
+use Rattle.log_encode.proofs.VariableLemmas.{link_is_small}
+use Rattle.log_encode.specs.AlarmVariables.{variable_count}
+use Rattle.log_encode.specs.CodedLog.{CodedLog, code_names, code_after, addition_width, nameless, IsCodedLog}
+use Rattle.log_encode.specs.declared.alarm_vars.AlarmVars.{AlarmVars}
+use Rattle.log_encode.specs.declared.taken.ChainEnd.{ChainEnd}
+use Rattle.log_encode.specs.declared.taken.Taken.{Taken}
+use Rattle.log_encode.specs.View.{IsChainEnd, AreEnds, IsAlarm}
+use Rattle.log_encode.specs.Written.{has_any_label, taken_from, end_after, ends_after, guards_of}
+use Rattle.prop_core.specs.declared.lit.Lit.{Lit}
+use Rattle.prop_core.specs.VariableNames.{name_of, closed, remaining, done}
+use Rattle.std.specs.Prelude.{is_some}
+use Rattle.run_clauses.specs.StepClauses.{numbers_below}
+
+-- each chain whose event has one of the labels gets a link
+abbrev lengthened : Net → List (List ℕ) → AlarmVars → ℕ → List ChainEnd → List ChainEnd
+lengthened net labels vars link [] = []
+lengthened net labels vars link (end ∷ ends) =
+    if has_any_label net labels end.event then end_after vars link end.event ∷ lengthened net labels vars (suc link) ends else end ∷ lengthened net labels vars link ends
+
+untaken : (vars : AlarmVars) (link : ℕ) (end : ChainEnd) (ends : List ChainEnd) (takes : List Taken) → AllByRecursion (λ (taken : Taken). end.event ≢ taken.event) takes →
+    ends_after vars link (end ∷ ends) takes ≡ end ∷ ends_after vars link ends takes
+untaken vars link end ends [] others = refl
+untaken vars link end ends (taken ∷ takes) others =
+    let other : (taken.event == end.event) ≡ false = false_from_ne_true _ (λ same. others.0 (sym (eqb-true taken.event end.event same))) in
+    rw other refl
+
+taken_others : (net : Net) (labels : List (List ℕ)) (e : ℕ) (ends : List ChainEnd) → AllByRecursion (λ f. e ≢ f) (map (λ (end : ChainEnd). end.event) ends) → AllByRecursion (λ (taken : Taken). e ≢ taken.event) (taken_from net labels ends)
+taken_others net labels e [] others = tt
+taken_others net labels e (end ∷ ends) others = by (has_any_label net labels end.event) refl (taken_others net labels e ends others.1)
+  where
+    by : (b : Bool) → has_any_label net labels end.event ≡ b → AllByRecursion (λ (taken : Taken). e ≢ taken.event) (taken_from net labels ends) → AllByRecursion (λ (taken : Taken). e ≢ taken.event) (taken_from net labels (end ∷ ends))
+    by true is later = rw is (others.0, later)
+    by false is later = rw is later
+
+-- the loop does just that, since no event stands twice
+after_is : (net : Net) (labels : List (List ℕ)) (vars : AlarmVars) (link : ℕ) (ends : List ChainEnd) → EachPair (λ e f. e ≢ f) (map (λ (end : ChainEnd). end.event) ends) →
+    ends_after vars link ends (taken_from net labels ends) ≡ lengthened net labels vars link ends
+after_is net labels vars link [] once = refl
+after_is net labels vars link (end ∷ ends) once = by (has_any_label net labels end.event) refl (λ k. after_is net labels vars k ends once.1)
+  where
+    by : (b : Bool) → has_any_label net labels end.event ≡ b → ((k : ℕ) → ends_after vars k ends (taken_from net labels ends) ≡ lengthened net labels vars k ends) →
+        ends_after vars link (end ∷ ends) (taken_from net labels (end ∷ ends)) ≡ lengthened net labels vars link (end ∷ ends)
+    by true is later =
+        let same : (end.event == end.event) ≡ true = eq-eqb end.event end.event refl in
+        rw (is, same) (ap (λ xs. end_after vars link end.event ∷ xs) (later (suc link)))
+    by false is later = rw is (untaken vars link end ends (taken_from net labels ends) (taken_others net labels end.event ends once.0) ∙ ap (λ xs. end ∷ xs) (later link))
+
+range_once : (a m : ℕ) → EachPair (λ e f. e ≢ f) (range_with_len a m)
+range_once a zero = tt
+range_once a (suc m) = (others (a + 1) m (omega arith), range_once (a + 1) m)
+  where
+    others : (b k : ℕ) → a < b → AllByRecursion (λ f. a ≢ f) (range_with_len b k)
+    others b zero h = tt
+    others b (suc k) h = (λ same. omega (arith, same, h), others (b + 1) k (omega arith))
+
+pub observables_once : (net : Net) → EachPair (λ e f. e ≢ f) (observable_events net)
+observables_once net = pairs_filter (λ e f. e ≢ f) (λ e. is_some (label_of net e)) (numbers_below (length net.events)) (range_once 0 (length net.events))
+
+pub lengthened_events : (net : Net) (labels : List (List ℕ)) (vars : AlarmVars) (link : ℕ) (ends : List ChainEnd) → map (λ (end : ChainEnd). end.event) (lengthened net labels vars link ends) ≡ map (λ (end : ChainEnd). end.event) ends
+lengthened_events net labels vars link [] = refl
+lengthened_events net labels vars link (end ∷ ends) = by (has_any_label net labels end.event) refl (λ k. lengthened_events net labels vars k ends)
+  where
+    by : (b : Bool) → has_any_label net labels end.event ≡ b → ((k : ℕ) → map (λ (x : ChainEnd). x.event) (lengthened net labels vars k ends) ≡ map (λ (x : ChainEnd). x.event) ends) → map (λ (x : ChainEnd). x.event) (lengthened net labels vars link (end ∷ ends)) ≡ end.event ∷ map (λ (x : ChainEnd). x.event) ends
+    by true is later = rw is (ap (λ xs. end.event ∷ xs) (later (suc link)))
+    by false is later = rw is (ap (λ xs. end.event ∷ xs) (later link))
+
+abbrev pub new_vars : CodedLog → ℕ → ℕ → AlarmVars
+new_vars code first links = record { start = first; links = links; steps = code.grid.steps }
+
+-- the names of the longer log, where they are
+pub places : (code : CodedLog) (labels : List (List ℕ)) (first : ℕ) → IsCodedLog code → code.vars ≤ first → HasPlaces code.net code.log code.grid.steps first (nameless labels) (code_names (code_after code (alarm_added (nameless labels)) first))
+places code labels first coded above =
+    subst (HasPlaces code.net code.log code.grid.steps first (nameless labels)) (sym (names_with_alarm code (nameless labels) first coded.each))
+    (places_of_names code.net code.log code.grid.steps first (nameless labels) (code_names code) (raised code.net code.log code.grid.steps code.vars first (code_names code) above coded.names))
+
+joined_count : (net : Net) (log : Log) (new : Alarm) (e : ℕ) → has_any_label net new.labels e ≡ true → length (chain net (with_addition log (alarm_added new)) e) ≡ suc (length (chain net log e))
+joined_count net log new e h = ap length (chain_joined net log new e h) ∙ omega (arith, length-append (chain net log e) (length log.alarms ∷ []))
+
+pub get_at : (before after : List ℕ) (e : ℕ) → slice_get (before ++ e ∷ after) (length before) ≡ Some e
+get_at [] after e = refl
+get_at (x ∷ before) after e = get_at before after e
+
+-- a chain that the alarm joins
+joined_end : (code : CodedLog) (labels : List (List ℕ)) (first links link e : ℕ) → IsCodedLog code → code.vars ≤ first → has_any_label code.net labels e ≡ true →
+    slice_get (taken_events code.net code.log (nameless labels)) link ≡ Some e → link < links → addition_width code (alarm_added (nameless labels)) ≡ variable_count links code.grid.steps →
+    IsChainEnd (code_after code (alarm_added (nameless labels)) first) (end_after (new_vars code first links) link e)
+joined_end code labels first links link e coded above h at inside width =
+    let there = places code labels first coded above in
+    let count = joined_count code.net code.log (nameless labels) e h in
+    let bound = link_is_small links (1 + code.grid.steps * 2) link inside in record {
+      closing = subst (λ k. name_of (code_names (code_after code (alarm_added (nameless labels)) first)) (first + link * (1 + code.grid.steps * 2)) ≡ Some (closed e k)) (sym count) (there.closing link e at);
+      rest = (
+        omega (arith, bound, width),
+        λ t time.
+            let var : first + (link * (1 + code.grid.steps * 2) + suc (t * 2 + 1)) ≡ first + (link * (1 + code.grid.steps * 2) + suc (0 * 2 + 1)) + t * 2 = omega arith in
+            subst (λ v. name_of (code_names (code_after code (alarm_added (nameless labels)) first)) v ≡ Some (remaining e (length (chain code.net (with_addition code.log (alarm_added (nameless labels))) e)) (suc t))) var
+            (subst (λ k. name_of (code_names (code_after code (alarm_added (nameless labels)) first)) (first + (link * (1 + code.grid.steps * 2) + suc (t * 2 + 1))) ≡ Some (remaining e k (suc t))) (sym count) (there.passing link e t at time)),
+      );
+    }
+
+-- all ends, after the links before
+ends_grow : (code : CodedLog) (labels : List (List ℕ)) (first links : ℕ) (before : List ℕ) (ends : List ChainEnd) → IsCodedLog code → code.vars ≤ first →
+    addition_width code (alarm_added (nameless labels)) ≡ variable_count links code.grid.steps → length (taken_events code.net code.log (nameless labels)) ≡ links →
+    taken_events code.net code.log (nameless labels) ≡ before ++ filter (has_any_label code.net labels) (map (λ (end : ChainEnd). end.event) ends) → AllByRecursion (IsChainEnd code) ends →
+    AllByRecursion (IsChainEnd (code_after code (alarm_added (nameless labels)) first)) (lengthened code.net labels (new_vars code first links) (length before) ends)
+ends_grow code labels first links before [] coded above width count are all = tt
+ends_grow code labels first links before (end ∷ ends) coded above width count are all =
+    by (has_any_label code.net labels end.event) refl (λ earlier same. ends_grow code labels first links earlier ends coded above width count same all.1)
+  where
+    by : (b : Bool) → has_any_label code.net labels end.event ≡ b →
+        ((earlier : List ℕ) → taken_events code.net code.log (nameless labels) ≡ earlier ++ filter (has_any_label code.net labels) (map (λ (x : ChainEnd). x.event) ends) →
+        AllByRecursion (IsChainEnd (code_after code (alarm_added (nameless labels)) first)) (lengthened code.net labels (new_vars code first links) (length earlier) ends)) → AllByRecursion (IsChainEnd (code_after code (alarm_added (nameless labels)) first)) (lengthened code.net labels (new_vars code first links) (length before) (end ∷ ends))
+    by true is later =
+        let split : taken_events code.net code.log (nameless labels) ≡ before ++ end.event ∷ filter (has_any_label code.net labels) (map (λ (x : ChainEnd). x.event) ends) = are ∙ rw is refl in
+        let at : slice_get (taken_events code.net code.log (nameless labels)) (length before) ≡ Some end.event = rw split (get_at before (filter (has_any_label code.net labels) (map (λ (x : ChainEnd). x.event) ends)) end.event) in
+        let inside : length before < links = omega (arith, count, ap length split, length-append before (end.event ∷ filter (has_any_label code.net labels) (map (λ (x : ChainEnd). x.event) ends))) in
+        let one : length (before ++ end.event ∷ []) ≡ suc (length before) = omega (arith, length-append before (end.event ∷ [])) in
+        let rest = later (before ++ end.event ∷ []) (split ∙ sym (append_assoc before (end.event ∷ []) (filter (has_any_label code.net labels) (map (λ (x : ChainEnd). x.event) ends)))) in
+        rw is (
+          joined_end code labels first links (length before) end.event coded above is at inside width,
+          subst (λ k. AllByRecursion (IsChainEnd (code_after code (alarm_added (nameless labels)) first)) (lengthened code.net labels (new_vars code first links) k ends)) one rest,
+        )
+    by false is later =
+        let same : taken_events code.net code.log (nameless labels) ≡ before ++ filter (has_any_label code.net labels) (map (λ (x : ChainEnd). x.event) ends) = are ∙ rw is refl in
+        rw is (end_stays code (nameless labels) first end coded above is all.0, later before same)
+
+pub taken_count : (code : CodedLog) (labels : List (List ℕ)) (ends : List ChainEnd) → map (λ (end : ChainEnd). end.event) ends ≡ observable_events code.net →
+    length (taken_events code.net code.log (nameless labels)) ≡ length (taken_from code.net labels ends)
+taken_count code labels ends are = ap length (sym (taken_are_events code.net code.log labels ends are)) ∙ map_count (λ (taken : Taken). taken.event) (taken_from code.net labels ends)
+
+pub taken_width : (code : CodedLog) (labels : List (List ℕ)) (ends : List ChainEnd) → map (λ (end : ChainEnd). end.event) ends ≡ observable_events code.net →
+    addition_width code (alarm_added (nameless labels)) ≡ variable_count (length (taken_from code.net labels ends)) code.grid.steps
+taken_width code labels ends are = width_is code.net code.log code.grid.steps labels (taken_from code.net labels ends) (taken_are_events code.net code.log labels ends are)
+
+pub ends_with_alarm : (code : CodedLog) (labels : List (List ℕ)) (first : ℕ) (ends : List ChainEnd) (guards : List Lit) → IsCodedLog code → code.vars ≤ first → AreEnds code ends guards →
+    AreEnds (code_after code (alarm_added (nameless labels)) first)
+    (ends_after (new_vars code first (length (taken_from code.net labels ends))) 0 ends (taken_from code.net labels ends))
+    (guards_of code.asked (ends_after (new_vars code first (length (taken_from code.net labels ends))) 0 ends (taken_from code.net labels ends)))
+ends_with_alarm code labels first ends guards coded above are =
+    let vars = new_vars code first (length (taken_from code.net labels ends)) in
+    let once : EachPair (λ e f. e ≢ f) (map (λ (end : ChainEnd). end.event) ends) = subst (EachPair (λ e f. e ≢ f)) (sym are.events) (observables_once code.net) in
+    let is = after_is code.net labels vars 0 ends once in
+    let found : taken_events code.net code.log (nameless labels) ≡ filter (has_any_label code.net labels) (map (λ (end : ChainEnd). end.event) ends) =
+    sym (taken_are_events code.net code.log labels ends are.events) ∙ taken_is_filter code.net labels ends in record {
+      events = ap (map (λ (end : ChainEnd). end.event)) is ∙ lengthened_events code.net labels vars 0 ends ∙ are.events;
+      each = subst (AllByRecursion (IsChainEnd (code_after code (alarm_added (nameless labels)) first))) (sym is)
+          (ends_grow code labels first (length (taken_from code.net labels ends)) [] ends coded above (taken_width code labels ends are.events) (taken_count code labels ends are.events) found are.each);
+      guarding = refl;
+    }
+
+pub new_alarm : (code : CodedLog) (labels : List (List ℕ)) (first : ℕ) (ends : List ChainEnd) → IsCodedLog code → code.vars ≤ first → map (λ (end : ChainEnd). end.event) ends ≡ observable_events code.net →
+    IsAlarm (code_after code (alarm_added (nameless labels)) first) (length code.log.alarms) (record { labels = labels; takes = taken_from code.net labels ends; start = first })
+new_alarm code labels first ends coded above are =
+    let there = places code labels first coded above in
+    let width = taken_width code labels ends are in record {
+      events = taken_are_events code.net code.log labels ends are;
+      within = omega (arith, width);
+      matching = λ p e t at time. there.matching p e t at time;
+      being_done = λ t time. subst (λ k. name_of (code_names (code_after code (alarm_added (nameless labels)) first)) (first + (k * (1 + code.grid.steps * 2) + t)) ≡ Some (done (length code.log.alarms) t)) (taken_count code labels ends are) (there.being_done t time);
+    }

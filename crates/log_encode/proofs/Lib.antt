@@ -1,0 +1,14 @@
+pub mod VariableLemmas
+pub mod LoopLemmas
+pub mod Naming
+pub mod CodeLemmas
+pub mod EndLemmas
+pub mod TakenLemmas
+pub mod StayLemmas
+pub mod GrowLemmas
+pub mod PairLists
+pub mod Reading
+pub mod DraftLemmas
+pub mod CallLemmas
+pub mod CommitLemmas
+pub mod WrittenLemmas

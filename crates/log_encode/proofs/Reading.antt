@@ -1,0 +1,167 @@
+-- What is written of a log reads as its clauses, by the names of its variables.
+use Rattle.std.proofs.Common.{◌≡◌, ℕ, zero, suc, ◌+◌, ◌<◌, ◌≤◌, Bool, true, false, List, [], ◌∷◌, ◌++◌, length, map, flat_map, Some, refl, sym, ap, subst, arith, slice_get}
+use Rattle.std.specs.List.{AllZip, range_with_len}
+use Rattle.card_counter.specs.AtMostOne.{not_both}
+use Rattle.des_net.specs.Network.{Net}
+use Rattle.log_order.specs.Log.{Log}
+use Rattle.log_clauses.specs.Drafts.{link_clauses, match_clauses, done_clauses}
+use Rattle.log_clauses.specs.LogClauses.{LogClause, log_clause, matching_events, one_match, not_done_first, done_if_asked}
+use Rattle.log_clauses.proofs.Lists.{zip_append}
+use Rattle.log_clauses.proofs.Numbered.{ordered_reads}
+use Rattle.log_encode.proofs.PairLists.{pairs_by_first}
+use Rattle.log_encode.specs.AlarmVariables.{match_variable, done_variable}
+use Rattle.log_encode.specs.declared.alarm_vars.AlarmVars.{AlarmVars}
+use Rattle.log_encode.specs.declared.writing.LinkVars.{LinkVars}
+use Rattle.log_encode.specs.Written.{holds, fails, link_written, matches_at, ends_written}
+use Rattle.prop_core.specs.declared.lit.Lit.{Lit}
+use Rattle.prop_core.specs.Clauses.{Clause}
+use Rattle.prop_core.specs.VariableNames.{Name, NamedLiteral, ReadsAs, name_of, yes, no, asked, matches, done, closed, remaining}
+use Rattle.run_clauses.specs.StepClauses.{numbers_below}
+
+-- ---- lists side by side
+
+pub zip_flat : {A B : Type 0} (R : A → B → Type 0) (f : ℕ → List A) (g : ℕ → List B) (a k : ℕ) → ((t : ℕ) → t < a + k → AllZip R (f t) (g t)) → AllZip R (flat_map f (range_with_len a k)) (flat_map g (range_with_len a k))
+zip_flat R f g a zero each = tt
+zip_flat R f g a (suc k) each = zip_append R (f a) (g a) (flat_map f (range_with_len (a + 1) k)) (flat_map g (range_with_len (a + 1) k)) (each a (omega arith)) (zip_flat R f g (a + 1) k (λ t h. each t (omega (arith, h))))
+
+-- numbered things beside the elements of a list
+pub zip_numbered : {A B : Type 0} (R : A → B → Type 0) (f : ℕ → A) (g : ℕ → B) (a : ℕ) (xs : List ℕ) → ((p x : ℕ) → slice_get xs p ≡ Some x → R (f (a + p)) (g x)) → AllZip R (map f (range_with_len a (length xs))) (map g xs)
+zip_numbered R f g a [] each = tt
+zip_numbered R f g a (x ∷ xs) each = (
+  subst (λ k. R (f k) (g x)) (omega arith) (each 0 x refl),
+  zip_numbered R f g (a + 1) xs (λ p y at. subst (λ k. R (f k) (g y)) (omega arith) (each (suc p) y at)),
+)
+
+pub zip_count : {A B : Type 0} (R : A → B → Type 0) (xs : List A) (ys : List B) → AllZip R xs ys → length xs ≡ length ys
+zip_count R [] [] h = refl
+zip_count R [] (y ∷ ys) h = absurd h
+zip_count R (x ∷ xs) [] h = absurd h
+zip_count R (x ∷ xs) (y ∷ ys) h = ap suc (zip_count R xs ys h.1)
+
+-- ---- clauses of one to three literals
+
+abbrev pub Reads : Net → Log → ℕ → List (ℕ × Name) → Clause → LogClause → Type 0
+Reads net log n names clause which = ReadsAs names clause (log_clause net log n which)
+
+pub reads_one : (names : List (ℕ × Name)) (v : ℕ) (a : Bool) (x : Name) → name_of names v ≡ Some x → ReadsAs names (record { var = v; positive = a } ∷ []) (record { name = x; positive = a } ∷ [])
+reads_one names v a x h = ordered_reads names (record { var = v; positive = a } ∷ []) (record { name = x; positive = a } ∷ []) ((h, refl), tt)
+
+pub reads_two : (names : List (ℕ × Name)) (v w : ℕ) (a b : Bool) (x y : Name) → name_of names v ≡ Some x → name_of names w ≡ Some y →
+    ReadsAs names (record { var = v; positive = a } ∷ record { var = w; positive = b } ∷ []) (record { name = x; positive = a } ∷ record { name = y; positive = b } ∷ [])
+reads_two names v w a b x y h k = ordered_reads names (record { var = v; positive = a } ∷ record { var = w; positive = b } ∷ []) (record { name = x; positive = a } ∷ record { name = y; positive = b } ∷ []) ((h, refl), ((k, refl), tt))
+
+pub reads_three : (names : List (ℕ × Name)) (u v w : ℕ) (a b c : Bool) (x y z : Name) → name_of names u ≡ Some x → name_of names v ≡ Some y → name_of names w ≡ Some z →
+    ReadsAs names (record { var = u; positive = a } ∷ record { var = v; positive = b } ∷ record { var = w; positive = c } ∷ [])
+    (record { name = x; positive = a } ∷ record { name = y; positive = b } ∷ record { name = z; positive = c } ∷ [])
+reads_three names u v w a b c x y z h k l =
+    ordered_reads names (record { var = u; positive = a } ∷ record { var = v; positive = b } ∷ record { var = w; positive = c } ∷ [])
+    (record { name = x; positive = a } ∷ record { name = y; positive = b } ∷ record { name = z; positive = c } ∷ []) ((h, refl), ((k, refl), ((l, refl), tt)))
+
+-- ---- a link in one step
+
+pub record AreLinkNames (names : List (ℕ × Name)) (i e k t : ℕ) (v : LinkVars) : Type 0 where
+  pub closing : name_of names v.closed ≡ Some (closed e (suc k))
+  pub rest : name_of names v.rest ≡ Some (remaining e k (suc t))
+  pub matching : name_of names v.matched ≡ Some (matches i e (suc t))
+  pub passing : name_of names v.passed ≡ Some (remaining e (suc k) (suc t))
+  pub before : name_of names v.before ≡ Some (done i t)
+  pub after : name_of names v.after ≡ Some (done i (suc t))
+
+pub link_reads : (net : Net) (log : Log) (n : ℕ) (names : List (ℕ × Name)) (i e k t : ℕ) (v : LinkVars) → AreLinkNames names i e k t v → AllZip (Reads net log n names) (link_written v) (link_clauses i e k t)
+link_reads net log n names i e k t v are = (
+  reads_two names v.closed v.passed false false _ _ are.closing are.passing,
+  (
+    reads_two names v.matched v.rest false true _ _ are.matching are.rest,
+    (
+      reads_two names v.matched v.passed false false _ _ are.matching are.passing,
+      (
+        reads_two names v.passed v.rest false true _ _ are.passing are.rest,
+        (
+          reads_three names v.rest v.matched v.passed false true true _ _ _ are.rest are.matching are.passing,
+          (
+            reads_two names v.matched v.after false true _ _ are.matching are.after,
+            (reads_two names v.matched v.before false false _ _ are.matching are.before, tt),
+          ),
+        ),
+      ),
+    ),
+  ),
+)
+
+-- ---- whether the alarm is matched
+
+pub record AreAlarmNames (names : List (ℕ × Name)) (n i : ℕ) (events : List ℕ) (vars : AlarmVars) : Type 0 where
+  pub links : vars.links ≡ length events
+  pub steps : vars.steps ≡ n
+  pub matching : (p e t : ℕ) → slice_get events p ≡ Some e → t < n → name_of names (match_variable vars p t) ≡ Some (matches i e (suc t))
+  pub being_done : (t : ℕ) → t ≤ n → name_of names (done_variable vars t) ≡ Some (done i t)
+
+abbrev IsNamed : List (ℕ × Name) → Lit → NamedLiteral → Type 0
+IsNamed names l m = (name_of names l.var ≡ Some m.name) × (l.positive ≡ m.positive)
+
+-- what is written in a step, with the pairs in another order
+abbrev pub step_by_first : AlarmVars → ℕ → List Clause
+step_by_first vars t = (fails (done_variable vars t) ∷ holds (done_variable vars (suc t)) ∷ [])
+    ∷ (fails (done_variable vars (suc t)) ∷ holds (done_variable vars t) ∷ matches_at vars t) ∷ pairs_by_first (matches_at vars t)
+
+-- one match with each later one
+one_with : (net : Net) (log : Log) (n : ℕ) (names : List (ℕ × Name)) (i t v e : ℕ) (f : ℕ → ℕ) (a : ℕ) (events : List ℕ) → name_of names v ≡ Some (matches i e (suc t)) →
+    ((p x : ℕ) → slice_get events p ≡ Some x → name_of names (f (a + p)) ≡ Some (matches i x (suc t))) →
+    AllZip (Reads net log n names) (map (λ (y : Lit). not_both y (holds v)) (map (λ p. holds (f p)) (range_with_len a (length events)))) (map (λ x. one_match i e x t) events)
+one_with net log n names i t v e f a [] here each = tt
+one_with net log n names i t v e f a (x ∷ events) here each = (
+  reads_two names v (f a) false false _ _ here (subst (λ k. name_of names (f k) ≡ Some (matches i x (suc t))) (omega arith) (each 0 x refl)),
+  one_with net log n names i t v e f (a + 1) events here (λ p y at. subst (λ k. name_of names (f k) ≡ Some (matches i y (suc t))) (omega arith) (each (suc p) y at)),
+)
+
+pairs_read : (net : Net) (log : Log) (n : ℕ) (names : List (ℕ × Name)) (i t : ℕ) (f : ℕ → ℕ) (a : ℕ) (events : List ℕ) → ((p x : ℕ) → slice_get events p ≡ Some x → name_of names (f (a + p)) ≡ Some (matches i x (suc t))) →
+    AllZip (Reads net log n names) (pairs_by_first (map (λ p. holds (f p)) (range_with_len a (length events)))) (match_clauses i t events)
+pairs_read net log n names i t f a [] each = tt
+pairs_read net log n names i t f a (e ∷ events) each =
+    let here : name_of names (f a) ≡ Some (matches i e (suc t)) = subst (λ k. name_of names (f k) ≡ Some (matches i e (suc t))) (omega arith) (each 0 e refl) in
+    let later : (p x : ℕ) → slice_get events p ≡ Some x → name_of names (f (a + 1 + p)) ≡ Some (matches i x (suc t)) = λ p x at. subst (λ k. name_of names (f k) ≡ Some (matches i x (suc t))) (omega arith) (each (suc p) x at) in
+    zip_append (Reads net log n names) (map (λ (y : Lit). not_both y (holds (f a))) (map (λ p. holds (f p)) (range_with_len (a + 1) (length events)))) (map (λ x. one_match i e x t) events)
+    (pairs_by_first (map (λ p. holds (f p)) (range_with_len (a + 1) (length events)))) (match_clauses i t events)
+    (one_with net log n names i t (f a) e f (a + 1) events here later) (pairs_read net log n names i t f (a + 1) events later)
+
+-- done after a step, by a match there or before
+by_match_reads : (names : List (ℕ × Name)) (n i t : ℕ) (events : List ℕ) (vars : AlarmVars) → t < n → AreAlarmNames names n i events vars →
+    ReadsAs names (fails (done_variable vars (suc t)) ∷ holds (done_variable vars t) ∷ matches_at vars t) (no (done i (suc t)) ∷ yes (done i t) ∷ map (λ e. yes (matches i e (suc t))) events)
+by_match_reads names n i t events vars time are =
+    let matched : AllZip (IsNamed names) (map (λ p. holds (match_variable vars p t)) (range_with_len 0 (length events))) (map (λ e. yes (matches i e (suc t))) events) =
+    zip_numbered (IsNamed names) (λ p. holds (match_variable vars p t)) (λ e. yes (matches i e (suc t))) 0 events
+    (λ p e at. (subst (λ q. name_of names (match_variable vars q t) ≡ Some (matches i e (suc t))) (omega arith) (are.matching p e t at time), refl)) in
+    ordered_reads names (fails (done_variable vars (suc t)) ∷ holds (done_variable vars t) ∷ matches_at vars t) (no (done i (suc t)) ∷ yes (done i t) ∷ map (λ e. yes (matches i e (suc t))) events) (
+      (are.being_done (suc t) (omega arith), refl),
+      (
+        (are.being_done t (omega arith), refl),
+        subst (λ k. AllZip (IsNamed names) (map (λ p. holds (match_variable vars p t)) (range_with_len 0 k)) (map (λ e. yes (matches i e (suc t))) events)) (sym are.links) matched,
+      ),
+    )
+
+step_reads : (net : Net) (log : Log) (n : ℕ) (names : List (ℕ × Name)) (i t : ℕ) (events : List ℕ) (vars : AlarmVars) → t < n → matching_events net log i ≡ events → AreAlarmNames names n i events vars →
+    AllZip (Reads net log n names) (step_by_first vars t) (done_clauses i events t)
+step_reads net log n names i t events vars time same are = (
+  reads_two names (done_variable vars t) (done_variable vars (suc t)) false true _ _ (are.being_done t (omega arith)) (are.being_done (suc t) (omega arith)),
+  (
+    subst (λ es. ReadsAs names (fails (done_variable vars (suc t)) ∷ holds (done_variable vars t) ∷ matches_at vars t) (no (done i (suc t)) ∷ yes (done i t) ∷ map (λ e. yes (matches i e (suc t))) es)) (sym same) (by_match_reads names n i t events vars time are),
+    subst (λ k. AllZip (Reads net log n names) (pairs_by_first (map (λ p. holds (match_variable vars p t)) (range_with_len 0 k))) (match_clauses i t events)) (sym are.links)
+        (pairs_read net log n names i t (λ p. match_variable vars p t) 0 events (λ p e at. subst (λ q. name_of names (match_variable vars q t) ≡ Some (matches i e (suc t))) (omega arith) (are.matching p e t at time))),
+  ),
+)
+
+-- all steps, after the two ends
+abbrev pub done_by_first : ℕ → AlarmVars → List Clause
+done_by_first ask vars = ends_written ask vars ++ flat_map (step_by_first vars) (numbers_below vars.steps)
+
+pub done_reads : (net : Net) (log : Log) (n : ℕ) (names : List (ℕ × Name)) (i ask : ℕ) (events : List ℕ) (vars : AlarmVars) → name_of names ask ≡ Some asked → matching_events net log i ≡ events → AreAlarmNames names n i events vars →
+    AllZip (Reads net log n names) (done_by_first ask vars) (not_done_first i ∷ done_if_asked i ∷ flat_map (done_clauses i events) (numbers_below n))
+done_reads net log n names i ask events vars asks same are =
+    let last : name_of names (done_variable vars vars.steps) ≡ Some (done i n) = subst (λ k. name_of names (done_variable vars k) ≡ Some (done i n)) (sym are.steps) (are.being_done n (omega arith)) in (
+      reads_one names (done_variable vars 0) false _ (are.being_done 0 (omega arith)),
+      (
+        reads_two names ask (done_variable vars vars.steps) false true _ _ asks last,
+        subst (λ k. AllZip (Reads net log n names) (flat_map (step_by_first vars) (numbers_below k)) (flat_map (done_clauses i events) (numbers_below n))) (sym are.steps)
+            (zip_flat (Reads net log n names) (step_by_first vars) (done_clauses i events) 0 n (λ t h. step_reads net log n names i t events vars (omega (arith, h)) same are)),
+      ),
+    )

@@ -1,0 +1,83 @@
+-- The laws on what was written for a log.
+use Rattle.std.proofs.Common.{◌≡◌, ◌↔◌, ◌⊎◌, inl, inr, ℕ, zero, suc, List, [], ◌∷◌, ◌++◌, length, map, refl, sym, ap, subst, arith, Contains, slice_get, option_map, unwrap_or}
+use Rattle.std.specs.List.{AllZip}
+use Rattle.std.specs.Prelude.{IsSomeAnd}
+use Rattle.des_net.specs.Network.{Net, label_of}
+use Rattle.log_order.specs.Log.{Log, Alarm, ListsOnce, labels_of}
+use Rattle.log_clauses.specs.Additions.{Addition, alarm_added, pair_added}
+use Rattle.log_clauses.specs.LogCodes.{AreAmong}
+use Rattle.log_clauses.specs.LogNames.{added_names}
+use Rattle.log_clauses.proofs.Codes.{code_grows}
+use Rattle.log_clauses.proofs.Explained.{log_code_is_exact}
+use Rattle.log_clauses.proofs.Lists.{append_cases, append_left, append_right}
+use Rattle.log_encode.proofs.CodeLemmas.{beside, grown_is_coded, names_with_alarm}
+use Rattle.log_encode.proofs.TakenLemmas.{map_count}
+use Rattle.log_encode.specs.CodedLog.{CodedLog, code_names, read_names, code_after, without_names, nameless, IsCodedLog}
+use Rattle.log_encode.specs.WrittenLog.{WrittenGrows, WrittenIsExact, NamesDontMatter}
+use Rattle.prop_core.specs.VariableNames.{Name}
+use Rattle.replay.specs.Explanation.{Shows, Linearises, observables}
+use Rattle.run_clauses.specs.LaidOut.{laid_out, event_block}
+
+-- the names of a code are among those of a longer one
+names_stay : (code : CodedLog) (addition : Addition) (first : ℕ) → IsCodedLog code → (entry : ℕ × Name) → Contains (code_names code) entry → Contains (code_names (code_after code addition first)) entry
+names_stay code (alarm_added new) first coded entry here =
+    subst (λ names. Contains names entry) (sym (names_with_alarm code new first coded.each)) (append_left (code_names code) (laid_out first (added_names code.net code.log code.grid.steps (alarm_added new))) entry here)
+names_stay code (pair_added i j) first coded entry here = here
+
+among : (code : CodedLog) (addition : Addition) (first : ℕ) → IsCodedLog code → AreAmong (read_names code) (read_names (code_after code addition first))
+among code addition first coded entry here = by (append_cases events (code_names code) entry here)
+  where
+    events : List (ℕ × Name)
+    events = laid_out code.grid.first (event_block code.grid.steps (length code.net.events))
+
+    by : Contains events entry ⊎ Contains (code_names code) entry → Contains (events ++ code_names (code_after code addition first)) entry
+    by (inl event) = append_left events (code_names (code_after code addition first)) entry event
+    by (inr own) = append_right events (code_names (code_after code addition first)) entry (names_stay code addition first coded entry own)
+
+pub written_grows : WrittenGrows
+written_grows code addition draft written is made follows =
+    let grown = grown_is_coded code addition draft.first is.coded follows.above (omega (arith, follows.few, made.width)) in record {
+      coded = grown;
+      clauses = code_grows code.net code.log code.grid.steps addition (read_names code) (read_names (code_after code addition draft.first)) written draft.clauses (beside (code_after code addition draft.first) grown).once
+          (among code addition draft.first is.coded) is.clauses made.brings;
+    }
+
+pub written_is_exact : WrittenIsExact
+written_is_exact code written guards is read =
+    log_code_is_exact code.net code.log code.grid.steps (read_names code) written guards (record { once = (beside code is.coded).once; clauses = is.clauses; guards = read })
+
+-- ---- names
+
+labels_same : (log : Log) (i : ℕ) → labels_of (without_names log) i ≡ labels_of log i
+labels_same log i = by log.alarms i
+  where
+    by : (alarms : List Alarm) (k : ℕ) → unwrap_or (option_map (λ (a : Alarm). a.labels) (slice_get (map (λ (a : Alarm). nameless a.labels) alarms) k)) [] ≡ unwrap_or (option_map (λ (a : Alarm). a.labels) (slice_get alarms k)) []
+    by [] k = refl
+    by (x ∷ alarms) zero = refl
+    by (x ∷ alarms) (suc k) = by alarms k
+
+shows_same : (net : Net) (log : Log) (e i : ℕ) → Shows net log e i ≡ Shows net (without_names log) e i
+shows_same net log e i = ap (λ ls. IsSomeAnd (label_of net e) (Contains ls)) (sym (labels_same log i))
+
+zip_same : (net : Net) (log : Log) (es is : List ℕ) → AllZip (Shows net log) es is ↔ AllZip (Shows net (without_names log)) es is
+zip_same net log [] [] = (λ h. h, λ h. h)
+zip_same net log [] (i ∷ is) = (λ h. h, λ h. h)
+zip_same net log (e ∷ es) [] = (λ h. h, λ h. h)
+zip_same net log (e ∷ es) (i ∷ is) =
+    let rest = zip_same net log es is in
+    (λ h. (subst (λ P. P) (shows_same net log e i) h.0, rest.0 h.1), λ h. (subst (λ P. P) (sym (shows_same net log e i)) h.0, rest.1 h.1))
+
+count_same : (log : Log) → length (without_names log).alarms ≡ length log.alarms
+count_same log = map_count (λ (a : Alarm). nameless a.labels) log.alarms
+
+linear_same : (net : Net) (log : Log) (word order : List ℕ) → Linearises net log word order ↔ Linearises net (without_names log) word order
+linear_same net log word order = (
+  λ h. record { complete = subst (λ k. ListsOnce k order) (sym (count_same log)) h.complete; shown = (zip_same net log (observables net word) order).0 h.shown; kept = h.kept },
+  λ h. record { complete = subst (λ k. ListsOnce k order) (count_same log) h.complete; shown = (zip_same net log (observables net word) order).1 h.shown; kept = h.kept },
+)
+
+pub names_dont_matter : NamesDontMatter
+names_dont_matter net log n word order = (
+  λ h. record { run = h.run; fits = h.fits; linear = (linear_same net log word order).0 h.linear },
+  λ h. record { run = h.run; fits = h.fits; linear = (linear_same net log word order).1 h.linear },
+)

@@ -1,0 +1,14 @@
+use Rattle.std.proofs.Common.{subst, sym}
+use Rattle.log_clauses.specs.LogClauses.{guard_literals}
+use Rattle.log_encode.proofs.CallLemmas.{guards_read}
+use Rattle.log_encode.specs.CodedLog.{read_names}
+use Rattle.log_encode.specs.Drafted.{LogCodeState}
+use Rattle.log_encode.specs.View.{coded, AreEnds}
+use Rattle.log_encode.proofs.log_code.LogCode.guards.Goals as goal
+use Rattle.prop_core.specs.VariableNames.{ReadsAs}
+
+pub returns-clause-guards : goal.returns-clause-guards
+returns-clause-guards c =
+    subst (λ (s : LogCodeState). ReadsAs (read_names s.code) c.as_slice.result.now (guard_literals s.code.net s.code.log)) c.self.view_is
+    (guards_read (coded c.self.inside) c.self.inside.ends.items c.as_slice.result.now c.self.invariant.kept.log
+    (subst (AreEnds (coded c.self.inside) c.self.inside.ends.items) (sym c.as_slice.ensures.value) c.self.invariant.kept.chains))

@@ -1,0 +1,8 @@
+use Rattle.std.proofs.Common.{◌≡◌, map}
+use Rattle.des_net.specs.QuestionSize.{numbers_below}
+use Rattle.log_encode.specs.AlarmVariables.{match_variable}
+use Rattle.log_encode.specs.Written.{holds}
+use Rattle.log_encode.proofs.writing.matches_at.Given as goal
+
+abbrev pub invariant-loop-link : goal.invariant-loop-link
+invariant-loop-link l = l.lits.items ≡ map (λ link. holds (match_variable l.fn.vars link l.fn.step)) (numbers_below l.link)

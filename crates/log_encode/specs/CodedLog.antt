@@ -1,0 +1,80 @@
+-- The code of an alarm log: which variables stand for the names of the log.
+use Rattle.std.specs.Prelude.{ℕ, ◌+◌, ◌*◌, ◌≡◌, ◌≤◌, List, [], ◌∷◌, ◌++◌, map, length}
+use Rattle.std.specs.List.{AllByRecursion}
+use Rattle.des_base.specs.declared.TheConstants.{VAR_LIMIT}
+use Rattle.des_net.specs.Network.{Net}
+use Rattle.log_order.specs.Log.{Log, Alarm, no_log}
+use Rattle.log_clauses.specs.Additions.{Addition, alarm_added, pair_added, with_addition}
+use Rattle.log_clauses.specs.BesideEvents.{with_events}
+use Rattle.log_clauses.specs.LogNames.{added_names, first_names, AreLogNames}
+use Rattle.prop_core.specs.declared.grid.Grid.{Grid}
+use Rattle.prop_core.specs.VariableNames.{Name}
+use Rattle.run_clauses.specs.LaidOut.{laid_out}
+
+-- The network, the variables of its events, and the log, whose alarms have no names here; the variable that asks for the log, which is its first, the first variable of each alarm, and a number above all its variables.
+pub record CodedLog : Type 0 where
+  pub net : Net
+  pub grid : Grid
+  pub log : Log
+  pub asked : ℕ
+  pub starts : List ℕ
+  pub vars : ℕ
+
+-- an alarm with these labels, and without a name
+abbrev pub nameless : List (List ℕ) → Alarm
+nameless labels = record { name = []; labels = labels }
+
+-- the log, its alarms without their names
+abbrev pub without_names : Log → Log
+without_names log = record { alarms = map (λ (alarm : Alarm). nameless alarm.labels) log.alarms; pairs = log.pairs }
+
+-- ---- its variables
+
+-- those of alarms that are added to a log, each beginning at its first
+abbrev pub names_from : Net → ℕ → Log → List Alarm → List ℕ → List (ℕ × Name)
+names_from net n log [] starts = []
+names_from net n log (alarm ∷ alarms) [] = []
+names_from net n log (alarm ∷ alarms) (start ∷ starts) =
+    laid_out start (added_names net log n (alarm_added alarm)) ++ names_from net n (with_addition log (alarm_added alarm)) alarms starts
+
+-- the variables that the code made, and what they stand for
+abbrev pub code_names : CodedLog → List (ℕ × Name)
+code_names code = laid_out code.asked (first_names code.net) ++ names_from code.net code.grid.steps no_log code.log.alarms code.starts
+
+-- those that its clauses have: of the events too
+abbrev pub read_names : CodedLog → List (ℕ × Name)
+read_names code = with_events code.net code.grid.steps code.grid.first (code_names code)
+
+-- ---- how it grows
+
+-- of no alarms
+abbrev pub empty_code : Net → Grid → ℕ → CodedLog
+empty_code net grid asked = record { net = net; grid = grid; log = no_log; asked = asked; starts = []; vars = asked + length (first_names net) }
+
+-- how many variables an addition takes
+abbrev pub addition_width : CodedLog → Addition → ℕ
+addition_width code addition = length (added_names code.net code.log code.grid.steps addition)
+
+abbrev pub starts_after : List ℕ → Addition → ℕ → List ℕ
+starts_after starts (alarm_added new) first = starts ++ first ∷ []
+starts_after starts (pair_added i j) first = starts
+
+-- with an addition whose variables begin at a number
+abbrev pub code_after : CodedLog → Addition → ℕ → CodedLog
+code_after code addition first = record code {
+  log = with_addition code.log addition;
+  starts = starts_after code.starts addition first;
+  vars = first + addition_width code addition;
+}
+
+-- ---- what is always so
+
+-- The grid is that of the network's events, made before. Exactly the names of the log have variables, each one, and no variable stands twice; they are made after those of the grid. Each alarm has a variable at least.
+pub record IsCodedLog (code : CodedLog) : Type 0 where
+  pub events : code.grid.events ≡ length code.net.events
+  pub made : code.grid.first + code.grid.events * code.grid.steps ≤ code.asked
+  pub names : AreLogNames code.net code.log code.grid.steps code.vars (code_names code)
+  pub after : AllByRecursion (λ entry. code.asked ≤ entry.0) (code_names code)
+  pub few : code.vars ≤ VAR_LIMIT
+  pub each : length code.starts ≡ length code.log.alarms
+  pub alarms : length code.log.alarms ≤ code.vars

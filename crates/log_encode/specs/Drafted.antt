@@ -1,0 +1,36 @@
+-- A draft of an addition to the log, and what stands ready for it.
+use Rattle.std.specs.Prelude.{◌≡◌, ℕ, ◌+◌, ◌*◌, ◌≤◌, List, length}
+use Rattle.log_clauses.specs.Additions.{Addition, alarm_added, pair_added, with_addition}
+use Rattle.log_clauses.specs.LogCodes.{IsNamedAdded}
+use Rattle.log_encode.specs.CodedLog.{CodedLog, code_after, addition_width, read_names}
+use Rattle.prop_core.specs.Clauses.{Clause}
+use Rattle.prop_core.specs.NamedClauses.{IsCode}
+use Rattle.replay.specs.QuestionSize.{question_size}
+
+-- a code, and for how many more alarms and pairs there is room in it
+pub record LogCodeState : Type 0 where
+  pub code : CodedLog
+  pub spare_alarms : ℕ
+  pub spare_pairs : ℕ
+
+-- the code that it was made by, what it adds, its first variable, how many it takes, and its clauses
+pub record DraftState : Type 0 where
+  pub code : CodedLog
+  pub addition : Addition
+  pub first : ℕ
+  pub vars : ℕ
+  pub clauses : List Clause
+
+-- a draft of this addition to the code: its variables are those of the new names, and by the names of the longer log its clauses are those that the addition brings
+pub record IsDraftOf (code : CodedLog) (addition : Addition) (first : ℕ) (draft : DraftState) : Type 0 where
+  pub made_by : draft.code ≡ code
+  pub adds : draft.addition ≡ addition
+  pub begins : draft.first ≡ first
+  pub width : draft.vars ≡ addition_width code addition
+  pub brings : IsCode (read_names (code_after code addition first)) (IsNamedAdded code.net code.log code.grid.steps addition) draft.clauses
+  pub small : length draft.clauses + 12 * question_size code.net code.log code.grid.steps ≤ 12 * question_size code.net (with_addition code.log addition) code.grid.steps + 12
+
+-- there is room for what the addition adds
+abbrev pub HasRoomFor : LogCodeState → Addition → Type 0
+HasRoomFor state (alarm_added new) = 1 ≤ state.spare_alarms
+HasRoomFor state (pair_added i j) = 1 ≤ state.spare_pairs

@@ -1,0 +1,7 @@
+pub mod AlarmVariables
+pub mod Written
+pub mod AlarmState
+pub mod CodedLog
+pub mod Drafted
+pub mod View
+pub mod WrittenLog

@@ -1,0 +1,97 @@
+-- What a log's code and a draft are, and what their fields keep.
+use Rattle.std.specs.Prelude.{◌≡◌, ℕ, suc, ◌+◌, ◌*◌, ◌<◌, ◌≤◌, ⊤, List, map, length, Option, Some, None, slice_get, vec_len, vec_capacity}
+use Rattle.std.specs.List.{AllByRecursion}
+use Rattle.des_base.specs.declared.TheConstants.{VAR_LIMIT}
+use Rattle.des_net.specs.Network.{Net}
+use Rattle.log_clauses.specs.Additions.{Addition, alarm_added, pair_added}
+use Rattle.log_clauses.specs.LogClauses.{chain, matching_events, observable_events}
+use Rattle.log_encode.specs.declared.draft.Change.{Change}
+use Rattle.log_encode.specs.declared.draft.Change.TheVariants.{Alarm, Pair}
+use Rattle.log_encode.specs.declared.draft.Draft.TheInside.{Inside as DraftInside}
+use Rattle.log_encode.specs.declared.log_code.LogCode.TheInside.{Inside}
+use Rattle.log_encode.specs.declared.taken.ChainEnd.{ChainEnd}
+use Rattle.log_encode.specs.declared.taken.Taken.{Taken}
+use Rattle.log_encode.specs.AlarmState.{AlarmState, variables_of}
+use Rattle.log_encode.specs.AlarmVariables.{match_variable, done_variable, variable_count}
+use Rattle.log_encode.specs.CodedLog.{CodedLog, nameless, code_names, IsCodedLog, code_after, addition_width}
+use Rattle.log_encode.specs.Drafted.{LogCodeState, DraftState}
+use Rattle.log_encode.specs.Written.{guards_of}
+use Rattle.prop_core.specs.declared.grid.Grid.{Grid}
+use Rattle.prop_core.specs.declared.lit.Lit.{Lit}
+use Rattle.prop_core.specs.VariableNames.{name_of, matches, done, closed, remaining}
+
+-- ---- the code
+
+abbrev pub coded_of : Net → Grid → ℕ → ℕ → List AlarmState → List (ℕ × ℕ) → CodedLog
+coded_of net grid asked vars alarms pairs = record {
+  net = net;
+  grid = grid;
+  log = record { alarms = map (λ (alarm : AlarmState). nameless alarm.labels) alarms; pairs = pairs };
+  asked = asked;
+  starts = map (λ (alarm : AlarmState). alarm.start) alarms;
+  vars = vars;
+}
+
+abbrev pub coded : Inside → CodedLog
+coded a = coded_of a.net.value a.grid a.asked a.vars a.alarms.items a.pairs.items
+
+abbrev pub code_view : Inside → LogCodeState
+code_view a = record { code = coded a; spare_alarms = a.spare_alarms; spare_pairs = a.spare_pairs }
+
+-- what comes to the end of a chain: the event itself where the chain has no alarm, else what its last one passes on
+abbrev pub IsRest : CodedLog → ℕ → Option ℕ → Type 0
+IsRest code e None = length (chain code.net code.log e) ≡ 0
+IsRest code e (Some first) = (first + code.grid.steps * 2 ≤ code.vars)
+    × ((t : ℕ) → t < code.grid.steps → name_of (code_names code) (first + t * 2) ≡ Some (remaining e (length (chain code.net code.log e)) (suc t)))
+
+pub record IsChainEnd (code : CodedLog) (end : ChainEnd) : Type 0 where
+  pub closing : name_of (code_names code) end.closed ≡ Some (closed end.event (length (chain code.net code.log end.event)))
+  pub rest : IsRest code end.event end.last
+
+-- the ends of the chains of all events that can be seen, and the guards
+pub record AreEnds (code : CodedLog) (ends : List ChainEnd) (guards : List Lit) : Type 0 where
+  pub events : map (λ (end : ChainEnd). end.event) ends ≡ observable_events code.net
+  pub each : AllByRecursion (IsChainEnd code) ends
+  pub guarding : guards ≡ guards_of code.asked ends
+
+-- alarm i takes the events that it may stand for, and its variables are its own
+pub record IsAlarm (code : CodedLog) (i : ℕ) (alarm : AlarmState) : Type 0 where
+  pub events : map (λ (taken : Taken). taken.event) alarm.takes ≡ matching_events code.net code.log i
+  pub within : alarm.start + variable_count (length alarm.takes) code.grid.steps ≤ code.vars
+  pub matching : (p e t : ℕ) → slice_get (matching_events code.net code.log i) p ≡ Some e → t < code.grid.steps →
+      name_of (code_names code) (match_variable (variables_of code.grid.steps alarm) p t) ≡ Some (matches i e (suc t))
+  pub being_done : (t : ℕ) → t ≤ code.grid.steps → name_of (code_names code) (done_variable (variables_of code.grid.steps alarm) t) ≡ Some (done i t)
+
+-- what is kept beside a code
+pub record AreKept (code : CodedLog) (ends : List ChainEnd) (guards : List Lit) (states : List AlarmState) : Type 0 where
+  pub log : IsCodedLog code
+  pub chains : AreEnds code ends guards
+  pub alarms : (i : ℕ) (alarm : AlarmState) → slice_get states i ≡ Some alarm → IsAlarm code i alarm
+
+pub record IsLogCode (a : Inside) : Type 0 where
+  pub kept : AreKept (coded a) a.ends.items a.guards.items a.alarms.items
+  pub room_for_alarms : vec_len a.alarms + a.spare_alarms ≤ vec_capacity a.alarms
+  pub room_for_pairs : vec_len a.pairs + a.spare_pairs ≤ vec_capacity a.pairs
+
+-- ---- a draft
+
+abbrev pub addition_of : Change → Addition
+addition_of (Alarm alarm ends guards) = alarm_added (nameless alarm.labels)
+addition_of (Pair first second) = pair_added first second
+
+abbrev pub draft_view : DraftInside → DraftState
+draft_view a = record { code = a.code.value.code; addition = addition_of a.change; first = a.first; vars = a.vars; clauses = a.clauses.clauses }
+
+-- the alarm, the ends of chains and the guards are those of the longer log
+abbrev pub IsReadyChange : CodedLog → ℕ → Change → Type 0
+IsReadyChange code first (Alarm alarm ends guards) =
+    (alarm.start ≡ first)
+    × IsAlarm (code_after code (alarm_added (nameless alarm.labels)) first) (length code.log.alarms) alarm
+    × AreEnds (code_after code (alarm_added (nameless alarm.labels)) first) ends.items guards.items
+IsReadyChange code first (Pair i j) = ⊤
+
+pub record IsReadyDraft (a : DraftInside) : Type 0 where
+  pub change : IsReadyChange a.code.value.code a.first a.change
+  pub after : a.code.value.code.vars ≤ a.first
+  pub width : a.vars ≡ addition_width a.code.value.code (addition_of a.change)
+  pub few : a.first + a.vars ≤ VAR_LIMIT

@@ -1,0 +1,132 @@
+-- The clauses that are written for a log, as lists over variables. What they say by name is told in `log_clauses`.
+use Rattle.std.specs.Prelude.{ℕ, suc, ◌+◌, ◌*◌, Bool, true, false, List, [], ◌∷◌, ◌++◌, map, flat_map, Option, Some, None, bytes_eq, if◌then◌else◌, ◌==◌, ◌<◌, ◌≤◌, IfSome}
+use Rattle.std.specs.List.{list_any}
+use Rattle.std.specs.Option.{option_map_or}
+use Rattle.des_base.specs.declared.TheConstants.{VAR_LIMIT}
+use Rattle.des_net.specs.Network.{Net, label_of}
+use Rattle.des_net.specs.QuestionSize.{numbers_below}
+use Rattle.prop_core.specs.declared.grid.Grid.{Grid}
+use Rattle.prop_core.specs.declared.lit.Lit.{Lit}
+use Rattle.prop_core.specs.Clauses.{Clause}
+use Rattle.prop_core.specs.Grids.{grid_variable}
+use Rattle.card_counter.specs.AtMostOne.{excluded_pairs}
+use Rattle.log_encode.specs.declared.alarm_vars.AlarmVars.{AlarmVars}
+use Rattle.log_encode.specs.declared.taken.Taken.{Taken}
+use Rattle.log_encode.specs.declared.taken.ChainEnd.{ChainEnd}
+use Rattle.log_encode.specs.declared.writing.LinkVars.{LinkVars}
+use Rattle.log_encode.specs.AlarmVariables.{closed_variable, match_variable, passed_variable, done_variable}
+
+abbrev pub holds : ℕ → Lit
+holds var = record { var = var; positive = true }
+
+abbrev pub fails : ℕ → Lit
+fails var = record { var = var; positive = false }
+
+-- the event has one of the labels
+abbrev pub has_any_label : Net → List (List ℕ) → ℕ → Bool
+has_any_label net labels e = option_map_or (λ label. list_any (bytes_eq label) labels) (label_of net e) false
+
+-- the ends of chains whose events have one of the labels
+abbrev pub taken_from : Net → List (List ℕ) → List ChainEnd → List Taken
+taken_from net labels [] = []
+taken_from net labels (end ∷ ends) =
+    if has_any_label net labels end.event then record { event = end.event; last = end.last } ∷ taken_from net labels ends
+    else taken_from net labels ends
+
+-- the number of the first link of the event, counted on from this one
+abbrev pub link_from : ℕ → List Taken → ℕ → Option ℕ
+link_from link [] e = None
+link_from link (taken ∷ takes) e = if taken.event == e then Some link else link_from (suc link) takes e
+
+abbrev pub link_of : List Taken → ℕ → Option ℕ
+link_of takes e = link_from 0 takes e
+
+-- the end of a chain after a link
+abbrev pub end_after : AlarmVars → ℕ → ℕ → ChainEnd
+end_after vars link e = record { event = e; closed = closed_variable vars link; last = Some (passed_variable vars link 0) }
+
+-- the ends of all chains, where those of the events that are taken, in the same order, get a link each, from a number on
+abbrev pub ends_after : AlarmVars → ℕ → List ChainEnd → List Taken → List ChainEnd
+ends_after vars link [] takes = []
+ends_after vars link (end ∷ ends) [] = end ∷ ends_after vars link ends []
+ends_after vars link (end ∷ ends) (taken ∷ takes) =
+    if taken.event == end.event then end_after vars link end.event ∷ ends_after vars (suc link) ends takes
+    else end ∷ ends_after vars link ends (taken ∷ takes)
+
+-- what comes to the end of a chain: what its last alarm passes on, or the event itself
+abbrev pub rest_variable : Grid → ℕ → Option ℕ → ℕ → ℕ
+rest_variable grid e None t = grid_variable grid e (suc t)
+rest_variable grid e (Some first) t = first + t * 2
+
+-- the event is in the grid, and what its last alarm passes on is within the limit of variables
+pub record HasRest (grid : Grid) (taken : Taken) : Type 0 where
+  pub event : taken.event < grid.events
+  pub last : IfSome taken.last (λ first. first + grid.steps * 2 ≤ VAR_LIMIT)
+
+-- ---- a link in one step
+
+abbrev pub link_written : LinkVars → List Clause
+link_written v = (fails v.closed ∷ fails v.passed ∷ []) ∷ (fails v.matched ∷ holds v.rest ∷ []) ∷ (fails v.matched ∷ fails v.passed ∷ [])
+    ∷ (fails v.passed ∷ holds v.rest ∷ []) ∷ (fails v.rest ∷ holds v.matched ∷ holds v.passed ∷ []) ∷ (fails v.matched ∷ holds v.after ∷ []) ∷ (fails v.matched ∷ fails v.before ∷ []) ∷ []
+
+-- the variables of a link in the step after t steps
+abbrev pub link_variables : Grid → AlarmVars → ℕ → Taken → ℕ → LinkVars
+link_variables grid vars link taken t = record {
+  closed = closed_variable vars link;
+  rest = rest_variable grid taken.event taken.last t;
+  matched = match_variable vars link t;
+  passed = passed_variable vars link t;
+  before = done_variable vars t;
+  after = done_variable vars (suc t);
+}
+
+abbrev pub steps_of_link : Grid → AlarmVars → ℕ → Taken → ℕ → List Clause
+steps_of_link grid vars link taken n = flat_map (λ t. link_written (link_variables grid vars link taken t)) (numbers_below n)
+
+-- the links from a number on
+abbrev pub links_written : Grid → AlarmVars → ℕ → List Taken → List Clause
+links_written grid vars link [] = []
+links_written grid vars link (taken ∷ takes) = steps_of_link grid vars link taken vars.steps ++ links_written grid vars (suc link) takes
+
+-- ---- whether the alarm is matched
+
+abbrev pub matches_at : AlarmVars → ℕ → List Lit
+matches_at vars t = map (λ link. holds (match_variable vars link t)) (numbers_below vars.links)
+
+abbrev pub step_written : AlarmVars → ℕ → List Clause
+step_written vars t = (fails (done_variable vars t) ∷ holds (done_variable vars (suc t)) ∷ [])
+    ∷ (fails (done_variable vars (suc t)) ∷ holds (done_variable vars t) ∷ matches_at vars t) ∷ excluded_pairs (matches_at vars t)
+
+abbrev pub ends_written : ℕ → AlarmVars → List Clause
+ends_written asked vars = (fails (done_variable vars 0) ∷ []) ∷ (fails asked ∷ holds (done_variable vars vars.steps) ∷ []) ∷ []
+
+abbrev pub done_written : ℕ → AlarmVars → List Clause
+done_written asked vars = ends_written asked vars ++ flat_map (step_written vars) (numbers_below vars.steps)
+
+-- all that is written of an alarm
+abbrev pub alarm_written : Grid → ℕ → AlarmVars → List Taken → List Clause
+alarm_written grid asked vars takes = links_written grid vars 0 takes ++ done_written asked vars
+
+-- ---- a pair, and the empty log
+
+-- chains without alarms, whose ends have variables in a row
+abbrev pub first_ends : ℕ → List ℕ → List ChainEnd
+first_ends var [] = []
+first_ends var (e ∷ events) = record { event = e; closed = var; last = None } ∷ first_ends (suc var) events
+
+abbrev pub guards_of : ℕ → List ChainEnd → List Lit
+guards_of asked ends = holds asked ∷ map (λ (end : ChainEnd). holds end.closed) ends
+
+-- that the first alarm, whose done variables begin here, is matched no later than the second
+abbrev pub pair_written : ℕ → ℕ → ℕ → ℕ → List Clause
+pair_written asked first second n = map (λ t. fails asked ∷ fails (second + suc t) ∷ holds (first + suc t) ∷ []) (numbers_below n)
+
+-- that an event whose chain ends doesn't happen
+abbrev pub closed_first : Grid → ChainEnd → ℕ → List Clause
+closed_first grid end n = map (λ t. fails end.closed ∷ fails (grid_variable grid end.event (suc t)) ∷ []) (numbers_below n)
+
+abbrev pub closed_written : Grid → ChainEnd → List Clause
+closed_written grid end = closed_first grid end grid.steps
+
+abbrev pub all_closed_written : Grid → List ChainEnd → List Clause
+all_closed_written grid ends = flat_map (closed_written grid) ends

@@ -1,0 +1,40 @@
+-- The clauses that were written for a log, from the first on, and what they are good for.
+use Rattle.std.specs.Prelude.{◌↔◌, ℕ, ◌+◌, ◌≤◌, List, ◌++◌}
+use Rattle.des_base.specs.declared.TheConstants.{VAR_LIMIT}
+use Rattle.des_net.specs.Network.{Net}
+use Rattle.log_order.specs.Log.{Log}
+use Rattle.log_clauses.specs.Additions.{Addition}
+use Rattle.log_clauses.specs.LogClauses.{guard_literals}
+use Rattle.log_clauses.specs.LogCodeLaws.{IsExactLogCode}
+use Rattle.log_clauses.specs.LogCodes.{IsNamedLog}
+use Rattle.log_encode.specs.CodedLog.{CodedLog, read_names, code_after, without_names, IsCodedLog}
+use Rattle.log_encode.specs.Drafted.{DraftState, IsDraftOf}
+use Rattle.prop_core.specs.declared.lit.Lit.{Lit}
+use Rattle.prop_core.specs.Clauses.{Clause}
+use Rattle.prop_core.specs.NamedClauses.{IsCode}
+use Rattle.prop_core.specs.VariableNames.{ReadsAs}
+use Rattle.replay.specs.Explanation.{Explains}
+
+-- by the names of the code's variables the clauses are those of its log
+pub record IsWritten (code : CodedLog) (written : List Clause) : Type 0 where
+  pub coded : IsCodedLog code
+  pub clauses : IsCode (read_names code) (IsNamedLog code.net code.log code.grid.steps) written
+
+-- the variables of the draft come after those of the code, within the limit
+pub record Follows (code : CodedLog) (draft : DraftState) : Type 0 where
+  pub above : code.vars ≤ draft.first
+  pub few : draft.first + draft.vars ≤ VAR_LIMIT
+
+-- With the clauses of a draft that is committed they are those of the longer log.
+abbrev pub WrittenGrows : Type 0
+WrittenGrows = (code : CodedLog) (addition : Addition) (draft : DraftState) (written : List Clause) → IsWritten code written → IsDraftOf code addition draft.first draft → Follows code draft →
+    IsWritten (code_after code addition draft.first) (written ++ draft.clauses)
+
+-- With the guards they are exact: the explanations of the log, and without the guards every run.
+abbrev pub WrittenIsExact : Type 0
+WrittenIsExact = (code : CodedLog) (written : List Clause) (guards : List Lit) → IsWritten code written → ReadsAs (read_names code) guards (guard_literals code.net code.log) →
+    IsExactLogCode code.net code.log code.grid.steps (read_names code) written guards
+
+-- The names of alarms don't matter for what explains a log.
+abbrev pub NamesDontMatter : Type 0
+NamesDontMatter = (net : Net) (log : Log) (n : ℕ) (word order : List ℕ) → Explains net log n word order ↔ Explains net (without_names log) n word order

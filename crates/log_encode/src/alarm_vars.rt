@@ -1,0 +1,75 @@
+ghost use Rattle.std.specs.Prelude.{◌≡◌, ◌<◌, ◌≤◌};
+ghost use Rattle.log_encode.specs.AlarmVariables.{closed_variable, match_variable, passed_variable, done_variable, variable_count, IsWithin};
+
+// Where the variables of an alarm stand: for each event that it may stand for, its link, one that ends the event's chain
+// after it, and for each step one that matches it to the event and one that passes the event on. Behind the links stand those
+// that say within how many steps it is done.
+#[derive(Clone, Copy, Debug)]
+pub struct AlarmVars {
+    pub start: u32,
+    pub links: u32,
+    pub steps: u32,
+}
+
+impl AlarmVars {
+    // How many they are.
+    #[tactic(auto, using(crate::proofs::VariableLemmas::count_is_small))]
+    pub fn count(self) -> u32
+        requires { IsWithin self }
+        ensures { result ≡ variable_count self.links self.steps }
+    {
+        self.links * (1 + self.steps * 2) + (1 + self.steps)
+    }
+
+    // Ends the chain after a link.
+    #[tactic(auto, using(crate::proofs::VariableLemmas::link_is_small))]
+    pub fn closed(self, link: u32) -> u32
+        requires within { IsWithin self }
+        requires link { link < self.links }
+        ensures { result ≡ closed_variable self link }
+    {
+        self.start + link * (1 + self.steps * 2)
+    }
+
+    // Matches the alarm to the event of a link in the step after so many.
+    #[tactic(auto, using(crate::proofs::VariableLemmas::link_is_small))]
+    pub fn matched(self, link: u32, step: u32) -> u32
+        requires within { IsWithin self }
+        requires link { link < self.links }
+        requires step { step < self.steps }
+        ensures { result ≡ match_variable self link step }
+    {
+        self.start + (link * (1 + self.steps * 2) + (1 + step * 2))
+    }
+
+    // Passes the event of a link on in the step after so many.
+    #[tactic(auto, using(crate::proofs::VariableLemmas::link_is_small))]
+    pub fn passed(self, link: u32, step: u32) -> u32
+        requires within { IsWithin self }
+        requires link { link < self.links }
+        requires step { step < self.steps }
+        ensures { result ≡ passed_variable self link step }
+    {
+        self.start + (link * (1 + self.steps * 2) + (1 + (step * 2 + 1)))
+    }
+
+    // The first of those that pass the event of a link on.
+    #[tactic(auto, using(crate::proofs::VariableLemmas::link_is_small))]
+    pub fn first_passed(self, link: u32) -> u32
+        requires within { IsWithin self }
+        requires link { link < self.links }
+        ensures { result ≡ passed_variable self link 0 }
+    {
+        self.start + (link * (1 + self.steps * 2) + 2)
+    }
+
+    // Says that the alarm is matched within so many steps.
+    #[tactic(auto, using(crate::proofs::VariableLemmas::count_is_small))]
+    pub fn done(self, steps: u32) -> u32
+        requires within { IsWithin self }
+        requires step { steps ≤ self.steps }
+        ensures { result ≡ done_variable self steps }
+    {
+        self.start + (self.links * (1 + self.steps * 2) + steps)
+    }
+}

@@ -1,0 +1,304 @@
+ghost use Rattle.std.specs.Prelude.{◌≡◌, ◌<◌, ◌≤◌, ◌+◌, ◌*◌, ◌++◌, ◌∷◌, [], ℕ, Some, length, vec_len, vec_capacity, IfOk, OnOk, OnErr};
+ghost use Rattle.log_order.specs.Log.{no_log};
+ghost use Rattle.log_clauses.specs.Additions.{alarm_added, pair_added};
+ghost use Rattle.log_clauses.specs.Decoded.{alarm_at};
+ghost use Rattle.log_clauses.specs.LogClauses.{guard_literals};
+ghost use Rattle.log_clauses.specs.LogCodes.{IsNamedLog};
+ghost use Rattle.log_clauses.specs.LogNames.{first_names};
+ghost use Rattle.prop_core.specs.Clauses.{value_in};
+ghost use Rattle.prop_core.specs.NamedClauses.{Appends, value_by};
+ghost use Rattle.prop_core.specs.VariableNames.{ReadsAs, name_of, done};
+ghost use Rattle.log_encode.specs.AlarmState.{variables_of, is_matched};
+ghost use Rattle.log_encode.specs.AlarmVariables.{IsWithin, variable_count};
+ghost use Rattle.log_encode.specs.CodedLog.{IsCodedLog, empty_code, code_after, code_names, read_names, nameless, addition_width};
+ghost use Rattle.log_encode.specs.Drafted.{IsDraftOf, HasRoomFor};
+
+use crate::alarm_code::{AlarmCode, copy_labels};
+use crate::alarm_vars::AlarmVars;
+use crate::chains::{first_ends, guards_of};
+use crate::draft::{Change, Draft};
+use crate::taken::{ChainEnd, ends_after, taken_by};
+use crate::writing::{write_all_closed, write_done, write_links, write_pair};
+use des_base::{EventId, Memory, Name, VAR_LIMIT};
+use des_net::Network;
+use prop_core::{Assignment, Clauses, Grid, Lit, Vars};
+use std::alloc::Global;
+use std::marker::Model;
+use std::snapshot::Snapshot;
+
+/// The code of an alarm log: the variables that stand for what the log says, and its guards.
+///
+/// It grows by drafts. Each is made by the code as it stands, then room is reserved for it, and then it is committed. Its
+/// clauses go to whoever keeps them, and its variables are made by whoever counts them.
+#[derive(Drop)]
+pub struct LogCode {
+    alloc: Global,
+    net: Snapshot<Network>,
+    grid: Grid,
+    asked: u32,
+    ends: Vec<ChainEnd>,
+    guards: Vec<Lit>,
+    alarms: Vec<AlarmCode>,
+    pairs: Vec<(u32, u32)>,
+    vars: u32,
+    spare_alarms: usize,
+    spare_pairs: usize,
+}
+
+impl Model for LogCode {
+    ghost use Rattle.log_encode.specs.Drafted.{LogCodeState};
+
+    ghost Value = { LogCodeState };
+
+    ghost use Rattle.log_encode.specs.View.{code_view, IsLogCode};
+
+    ghost view = { code_view };
+
+    ghost invariant = { IsLogCode };
+}
+
+impl LogCode {
+    /// The code of the empty log. It appends its clauses, and makes its variables.
+    pub fn new(
+        alloc: Global,
+        net: &Network,
+        grid: Grid,
+        vars: &mut Vars,
+        out: &mut Clauses,
+    ) -> Result<LogCode, Memory>
+        requires events { grid.events ≡ length net.now.events }
+        requires made { grid.first + grid.events * grid.steps ≤ vars.old }
+        requires few { vars.old + length (first_names net.now) ≤ VAR_LIMIT }
+        ensures code { IfOk result (λ made. made.code ≡ empty_code net.now grid vars.old) }
+        ensures vars { OnOk result (vars.new ≡ vars.old + length (first_names net.now)) }
+        ensures written { OnOk result (Appends (read_names (empty_code net.now grid vars.old)) (IsNamedLog net.now no_log grid.steps) out.old.clauses out.new.clauses) }
+        ensures same_vars { OnErr result (vars.new ≡ vars.old) }
+        ensures same_clauses { OnErr result (out.new ≡ out.old) }
+    {
+        let asked = vars.count();
+        let ends = first_ends(alloc, net, asked)?;
+        let guards = guards_of(alloc, asked, ends.as_slice())?;
+        let mut clauses = Clauses::new(alloc);
+        write_all_closed(grid, ends.as_slice(), &mut clauses)?;
+        out.append(&clauses)?;
+        vars.fresh(guards.len() as u32);
+        Ok(LogCode {
+            alloc,
+            net: Snapshot::of(net),
+            grid,
+            asked,
+            ends,
+            guards,
+            alarms: Vec::new(alloc),
+            pairs: Vec::new(alloc),
+            vars: vars.count(),
+            spare_alarms: 0,
+            spare_pairs: 0,
+        })
+    }
+
+    /// Drafts an alarm with these labels.
+    pub fn draft_alarm(
+        &self,
+        net: &Network,
+        labels: &[Name],
+        first_var: u32,
+    ) -> Result<Draft, Memory>
+        requires net { net.now ≡ self.now.code.net }
+        requires made { self.now.code.vars ≤ first_var }
+        requires few { first_var + addition_width self.now.code (alarm_added (nameless labels.now)) ≤ VAR_LIMIT }
+        ensures { IfOk result (IsDraftOf self.now.code (alarm_added (nameless labels.now)) first_var) }
+    {
+        let takes = taken_by(self.alloc, net, self.ends.as_slice(), labels)?;
+        let vars = AlarmVars {
+            start: first_var,
+            links: takes.len() as u32,
+            steps: self.grid.steps,
+        };
+        let mut fresh = Vars::new();
+        fresh.fresh(first_var);
+        fresh.fresh(vars.count());
+        let mut clauses = Clauses::new(self.alloc);
+        write_links(self.grid, vars, takes.as_slice(), &mut clauses)?;
+        write_done(self.alloc, self.asked, vars, &mut fresh, &mut clauses)?;
+        let ends = ends_after(self.alloc, self.ends.as_slice(), vars, takes.as_slice())?;
+        let guards = guards_of(self.alloc, self.asked, ends.as_slice())?;
+        let labels = copy_labels(self.alloc, labels)?;
+        Ok(Draft {
+            code: Snapshot::of(self),
+            change: Change::Alarm {
+                alarm: AlarmCode {
+                    labels,
+                    takes,
+                    start: first_var,
+                },
+                ends,
+                guards,
+            },
+            first: first_var,
+            vars: fresh.count() - first_var,
+            clauses,
+        })
+    }
+
+    /// Drafts a pair of alarms, "the first before the second".
+    pub fn draft_before(&self, first: u32, second: u32, first_var: u32) -> Result<Draft, Memory>
+        requires first { first < length self.now.code.log.alarms }
+        requires second { second < length self.now.code.log.alarms }
+        requires made { self.now.code.vars ≤ first_var }
+        requires few { first_var ≤ VAR_LIMIT }
+        ensures { IfOk result (IsDraftOf self.now.code (pair_added first second) first_var) }
+    {
+        let mut clauses = Clauses::new(self.alloc);
+        write_pair(
+            self.asked,
+            self.done(first),
+            self.done(second),
+            self.grid.steps,
+            &mut clauses,
+        )?;
+        Ok(Draft {
+            code: Snapshot::of(self),
+            change: Change::Pair(first, second),
+            first: first_var,
+            vars: 0,
+            clauses,
+        })
+    }
+
+    /// Sees to it that there is room for a draft.
+    pub fn reserve(&mut self, draft: &Draft) -> Result<(), Memory>
+        ensures code { self.new.code ≡ self.old.code }
+        ensures room { OnOk result (HasRoomFor self.new draft.now.addition) }
+        ensures err { OnErr result (self.new ≡ self.old) }
+    {
+        match &draft.change {
+            Change::Alarm { .. } => {
+                self.alarms.reserve(1)?;
+                self.spare_alarms = self.spare_alarms.max(1);
+            }
+            Change::Pair(_, _) => {
+                self.pairs.reserve(1)?;
+                self.spare_pairs = self.spare_pairs.max(1);
+            }
+        }
+        Ok(())
+    }
+
+    /// Makes the addition of a draft.
+    pub fn commit(&mut self, draft: Draft)
+        requires made_by { draft.code ≡ self.old.code }
+        requires room { HasRoomFor self.old draft.addition }
+        ensures { self.new.code ≡ code_after self.old.code draft.addition draft.first }
+    {
+        let Draft {
+            code: _,
+            change,
+            first,
+            vars,
+            clauses: _,
+        } = draft;
+        self.vars = first + vars;
+        match change {
+            Change::Alarm {
+                alarm,
+                ends,
+                guards,
+            } => {
+                self.ends = ends;
+                self.guards = guards;
+                push_alarm(&mut self.alarms, alarm);
+                self.spare_alarms -= 1;
+            }
+            Change::Pair(first, second) => {
+                push_pair(&mut self.pairs, (first, second));
+                self.spare_pairs -= 1;
+            }
+        }
+    }
+
+    /// The guards, which are to be assumed for the present log.
+    pub fn guards(&self) -> &[Lit]
+        ensures guards { ReadsAs (read_names self.now.code) result.now (guard_literals self.now.code.net self.now.code.log) }
+        ensures whole { IsCodedLog self.now.code }
+    {
+        self.guards.as_slice()
+    }
+
+    /// A number above all its variables.
+    pub fn vars(&self) -> u32
+        ensures { result ≡ self.now.code.vars }
+    {
+        self.vars
+    }
+
+    /// The alarm that stands for an event in a step, counted from 1. Where the clauses and the guards are true, it is the one such
+    /// alarm, and there is one wherever the event can be seen and happens.
+    pub fn alarm_of(&self, assign: &Assignment, event: EventId, step: u32) -> Option<u32>
+        requires event { event < length self.now.code.net.events }
+        requires from_one { 1 ≤ step }
+        requires step { step ≤ self.now.code.grid.steps }
+        requires values { self.now.code.vars ≤ length assign.now }
+        ensures { result ≡ alarm_at self.now.code.net self.now.code.log (value_by (code_names self.now.code) (value_in assign.now)) event step }
+    {
+        for (number, alarm) in self.alarms.iter().enumerate() {
+            if self.is_matched(alarm, assign, event, step - 1) {
+                return Some(number as u32);
+            }
+        }
+        None
+    }
+
+    // Whether the alarm stands for the event in the step after so many.
+    fn is_matched(&self, alarm: &AlarmCode, assign: &Assignment, event: EventId, step: u32) -> bool
+        requires step { step < self.now.code.grid.steps }
+        requires within { IsWithin (variables_of self.now.code.grid.steps alarm.now) }
+        requires values { alarm.now.start + variable_count (length alarm.now.takes) self.now.code.grid.steps ≤ length assign.now }
+        ensures { result ≡ is_matched self.now.code.grid.steps alarm.now (value_in assign.now) event step }
+    {
+        match alarm.link_of(event) {
+            Some(link) => assign.value(self.vars_of(alarm).matched(link, step)),
+            None => false,
+        }
+    }
+
+    fn vars_of(&self, alarm: &AlarmCode) -> AlarmVars
+        requires { IsWithin (variables_of self.now.code.grid.steps alarm.now) }
+        ensures { result ≡ variables_of self.now.code.grid.steps alarm.now }
+    {
+        AlarmVars {
+            start: alarm.start,
+            links: alarm.takes.len() as u32,
+            steps: self.grid.steps,
+        }
+    }
+
+    // Says that the alarm is matched within 0 steps, with those for more steps behind it.
+    fn done(&self, alarm: u32) -> u32
+        requires { alarm < length self.now.code.log.alarms }
+        ensures within { result + self.now.code.grid.steps < self.now.code.vars }
+        ensures names { (t : ℕ) → t ≤ self.now.code.grid.steps → name_of (code_names self.now.code) (result + t) ≡ Some (done alarm t) }
+    {
+        self.vars_of(&self.alarms[alarm as usize]).done(0)
+    }
+}
+
+// Adds an alarm in room that is there.
+fn push_alarm(alarms: &mut Vec<AlarmCode>, alarm: AlarmCode)
+    requires { vec_len alarms.old < vec_capacity alarms.old }
+    ensures added { alarms.new.items ≡ alarms.old.items ++ alarm ∷ [] }
+    ensures len { vec_len alarms.new ≡ vec_len alarms.old + 1 }
+    ensures capacity { vec_capacity alarms.old ≤ vec_capacity alarms.new }
+{
+    alarms.push(alarm).unwrap();
+}
+
+// Adds a pair in room that is there.
+fn push_pair(pairs: &mut Vec<(u32, u32)>, pair: (u32, u32))
+    requires { vec_len pairs.old < vec_capacity pairs.old }
+    ensures added { pairs.new.items ≡ pairs.old.items ++ pair ∷ [] }
+    ensures len { vec_len pairs.new ≡ vec_len pairs.old + 1 }
+    ensures capacity { vec_capacity pairs.old ≤ vec_capacity pairs.new }
+{
+    pairs.push(pair).unwrap();
+}

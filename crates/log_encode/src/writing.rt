@@ -1,0 +1,225 @@
+ghost use Rattle.std.specs.Prelude.{◌≡◌, ◌<◌, ◌≤◌, ◌+◌, ◌*◌, ◌++◌, ◌∷◌, [], true, false, length, All, IfOk, OnOk};
+ghost use Rattle.des_base.specs.declared.TheConstants.{VAR_LIMIT};
+ghost use Rattle.log_encode.specs.AlarmVariables.{IsWithin};
+ghost use Rattle.log_encode.specs.Written.{all_closed_written, closed_written, done_written, ends_written, link_variables, link_written, links_written, matches_at, pair_written, step_written, steps_of_link, HasRest};
+
+use crate::alarm_vars::AlarmVars;
+use crate::taken::{ChainEnd, Taken};
+use card_counter::at_most_one;
+use des_base::Memory;
+use prop_core::{Clauses, Grid, Lit, Vars};
+use std::alloc::Global;
+
+// The variables of a link in one step: the chain ends after it, the event comes to it, it takes the event, it passes it on, and
+// its alarm is matched before the step and after.
+#[derive(Clone, Copy, Debug)]
+pub struct LinkVars {
+    pub closed: u32,
+    pub rest: u32,
+    pub matched: u32,
+    pub passed: u32,
+    pub before: u32,
+    pub after: u32,
+}
+
+fn holds(var: u32) -> Lit
+    ensures { result ≡ record { var = var; positive = true } }
+{
+    Lit {
+        var,
+        positive: true,
+    }
+}
+
+fn fails(var: u32) -> Lit
+    ensures { result ≡ record { var = var; positive = false } }
+{
+    Lit {
+        var,
+        positive: false,
+    }
+}
+
+// A link in one step.
+fn write_link(link: LinkVars, out: &mut Clauses) -> Result<(), Memory>
+    ensures { OnOk result (out.new.clauses ≡ out.old.clauses ++ link_written link) }
+{
+    out.push(&[fails(link.closed), fails(link.passed)])?;
+    out.push(&[fails(link.matched), holds(link.rest)])?;
+    out.push(&[fails(link.matched), fails(link.passed)])?;
+    out.push(&[fails(link.passed), holds(link.rest)])?;
+    out.push(&[fails(link.rest), holds(link.matched), holds(link.passed)])?;
+    out.push(&[fails(link.matched), holds(link.after)])?;
+    out.push(&[fails(link.matched), fails(link.before)])?;
+    Ok(())
+}
+
+fn link_vars(grid: Grid, vars: AlarmVars, link: u32, taken: &Taken, step: u32) -> LinkVars
+    requires within { IsWithin vars }
+    requires steps { vars.steps ≡ grid.steps }
+    requires link { link < vars.links }
+    requires step { step < vars.steps }
+    requires few { grid.first + grid.events * grid.steps ≤ VAR_LIMIT }
+    requires rest { HasRest grid taken.now }
+    ensures { result ≡ link_variables grid vars link taken.now step }
+{
+    LinkVars {
+        closed: vars.closed(link),
+        rest: taken.rest(grid, step),
+        matched: vars.matched(link, step),
+        passed: vars.passed(link, step),
+        before: vars.done(step),
+        after: vars.done(step + 1),
+    }
+}
+
+// A link in all steps.
+#[tactic(auto, using(crate::proofs::LoopLemmas::flat_more_on))]
+fn write_steps(
+    grid: Grid,
+    vars: AlarmVars,
+    link: u32,
+    taken: &Taken,
+    out: &mut Clauses,
+) -> Result<(), Memory>
+    requires within { IsWithin vars }
+    requires steps { vars.steps ≡ grid.steps }
+    requires link { link < vars.links }
+    requires few { grid.first + grid.events * grid.steps ≤ VAR_LIMIT }
+    requires rest { HasRest grid taken.now }
+    ensures { OnOk result (out.new.clauses ≡ out.old.clauses ++ steps_of_link grid vars link taken.now vars.steps) }
+{
+    for step in 0..vars.steps {
+        write_link(link_vars(grid, vars, link, taken, step), out)?;
+    }
+    Ok(())
+}
+
+// All links.
+pub fn write_links(
+    grid: Grid,
+    vars: AlarmVars,
+    takes: &[Taken],
+    out: &mut Clauses,
+) -> Result<(), Memory>
+    requires within { IsWithin vars }
+    requires steps { vars.steps ≡ grid.steps }
+    requires links { vars.links ≡ length takes.now }
+    requires few { grid.first + grid.events * grid.steps ≤ VAR_LIMIT }
+    requires rest { All (HasRest grid) takes.now }
+    ensures { OnOk result (out.new.clauses ≡ out.old.clauses ++ links_written grid vars 0 takes.now) }
+{
+    for (link, taken) in takes.iter().enumerate() {
+        write_steps(grid, vars, link as u32, taken, out)?;
+    }
+    Ok(())
+}
+
+// That the alarm is matched to the events of its links in a step, one literal each.
+#[tactic(auto, using(crate::proofs::LoopLemmas::map_more))]
+fn matches_at(alloc: Global, vars: AlarmVars, step: u32) -> Result<Vec<Lit>, Memory>
+    requires within { IsWithin vars }
+    requires step { step < vars.steps }
+    ensures { IfOk result (λ lits. lits.items ≡ matches_at vars step) }
+{
+    let mut lits = Vec::new(alloc);
+    for link in 0..vars.links {
+        lits.push(holds(vars.matched(link, step)))?;
+    }
+    Ok(lits)
+}
+
+// Whether the alarm is matched after a step: where it was before, or one of its events is its match there, and one at most.
+fn write_step(
+    alloc: Global,
+    vars: AlarmVars,
+    step: u32,
+    fresh: &mut Vars,
+    out: &mut Clauses,
+) -> Result<(), Memory>
+    requires within { IsWithin vars }
+    requires step { step < vars.steps }
+    ensures fresh { fresh.new ≡ fresh.old }
+    ensures written { OnOk result (out.new.clauses ≡ out.old.clauses ++ step_written vars step) }
+{
+    let matches = matches_at(alloc, vars, step)?;
+    let before = vars.done(step);
+    let after = vars.done(step + 1);
+    out.push(&[fails(before), holds(after)])?;
+    let mut by_match = Vec::new(alloc);
+    by_match.push(fails(after))?;
+    by_match.push(holds(before))?;
+    by_match.extend_from_slice(matches.as_slice())?;
+    out.push(by_match.as_slice())?;
+    at_most_one(matches.as_slice(), fresh, out)
+}
+
+// Whether the alarm is matched, within all numbers of steps: at first it isn't, and at last it is where the log is asked for.
+#[tactic(auto, using(crate::proofs::LoopLemmas::flat_more_after))]
+pub fn write_done(
+    alloc: Global,
+    asked: u32,
+    vars: AlarmVars,
+    fresh: &mut Vars,
+    out: &mut Clauses,
+) -> Result<(), Memory>
+    requires { IsWithin vars }
+    ensures fresh { fresh.new ≡ fresh.old }
+    ensures written { OnOk result (out.new.clauses ≡ out.old.clauses ++ done_written asked vars) }
+{
+    out.push(&[fails(vars.done(0))])?;
+    out.push(&[fails(asked), holds(vars.done(vars.steps))])?;
+    for step in 0..vars.steps {
+        write_step(alloc, vars, step, fresh, out)?;
+    }
+    Ok(())
+}
+
+// That the first alarm is matched no later than the second where the log is asked for. Each begins with its own variable for 0
+// steps.
+#[tactic(auto, using(crate::proofs::LoopLemmas::map_more_on))]
+pub fn write_pair(
+    asked: u32,
+    first: u32,
+    second: u32,
+    steps: u32,
+    out: &mut Clauses,
+) -> Result<(), Memory>
+    requires first { first + steps < VAR_LIMIT }
+    requires second { second + steps < VAR_LIMIT }
+    ensures { OnOk result (out.new.clauses ≡ out.old.clauses ++ pair_written asked first second steps) }
+{
+    for step in 0..steps {
+        out.push(&[
+            fails(asked),
+            fails(second + (step + 1)),
+            holds(first + (step + 1)),
+        ])?;
+    }
+    Ok(())
+}
+
+// That an event whose chain ends doesn't happen, for a chain without alarms.
+#[tactic(auto, using(crate::proofs::LoopLemmas::map_more_on))]
+fn write_closed(grid: Grid, end: &ChainEnd, out: &mut Clauses) -> Result<(), Memory>
+    requires event { end.now.event < grid.events }
+    requires few { grid.first + grid.events * grid.steps ≤ VAR_LIMIT }
+    ensures { OnOk result (out.new.clauses ≡ out.old.clauses ++ closed_written grid end.now) }
+{
+    for step in 0..grid.steps {
+        out.push(&[fails(end.closed), fails(grid.var(end.event.0, step + 1))])?;
+    }
+    Ok(())
+}
+
+// The same for all chains.
+pub fn write_all_closed(grid: Grid, ends: &[ChainEnd], out: &mut Clauses) -> Result<(), Memory>
+    requires known { All (λ end. end.event < grid.events) ends.now }
+    requires few { grid.first + grid.events * grid.steps ≤ VAR_LIMIT }
+    ensures { OnOk result (out.new.clauses ≡ out.old.clauses ++ all_closed_written grid ends.now) }
+{
+    for end in ends {
+        write_closed(grid, end, out)?;
+    }
+    Ok(())
+}
