@@ -1,6 +1,6 @@
 -- The clauses of a book as they are attached, one after another.
-use Rattle.std.proofs.Common.{◌≡◌, ◌∙◌, ℕ, ◌+◌, ◌-◌, ◌<◌, ◌≤◌, Bool, true, false, ◌++◌, ◌∷◌, [], List, refl, ap, sym, length, take, drop, zero, suc, get_or, arith, subst, inl, inr, ⊎_elim, eqb}
-use Rattle.std.specs.Prelude.{Option, Some, None, ◌⊎◌, Contains, IfSome}
+use Rattle.std.proofs.Common.{◌≡◌, ◌∙◌, ℕ, ◌+◌, ◌-◌, ◌<◌, ◌≤◌, Bool, false, ◌++◌, ◌∷◌, [], List, refl, ap, sym, length, take, drop, zero, suc, get_or, arith, subst, inl, inr, ⊎_elim, eqb}
+use Rattle.std.specs.Prelude.{Option, Some, ◌⊎◌, Contains, IfSome}
 use Rattle.std.specs.List.{AllByRecursion}
 use Rattle.std.proofs.lemmas.Grind.{common_steps}
 use Rattle.std.proofs.lemmas.Bool.{ne_eqb}

@@ -1,9 +1,9 @@
 -- The book as a search adds to it.
-use Rattle.std.proofs.Common.{◌≡◌, ◌∙◌, ℕ, ◌+◌, ◌-◌, ◌*◌, ◌<◌, ◌≤◌, Bool, true, false, ◌||◌, ◌++◌, ◌∷◌, [], List, refl, ap, sym, length, arith, subst, append_assoc, ⊎_elim}
-use Rattle.std.specs.Prelude.{count_by, ◌⊎◌}
+use Rattle.std.proofs.Common.{◌≡◌, ◌∙◌, ℕ, ◌+◌, ◌-◌, ◌*◌, ◌<◌, ◌≤◌, Bool, true, false, ◌||◌, ◌++◌, ◌∷◌, [], List, refl, ap, sym, arith, subst, append_assoc, ⊎_elim}
+use Rattle.std.specs.Prelude.{count_by}
 use Rattle.std.specs.List.{list_any, list_all, filter_map}
 use Rattle.std.proofs.lemmas.Grind.{common_steps}
-use Rattle.std.proofs.lemmas.Bool.{and_from, or_cases, or_left}
+use Rattle.std.proofs.lemmas.Bool.{and_from, or_cases}
 use Rattle.std.proofs.lemmas.List.{append-nil}
 use Rattle.std.proofs.lemmas.List.Folds.{list_all-append, list_any-append}
 use Rattle.std.proofs.lemmas.List.Elements.{filter_map-append}
@@ -12,7 +12,7 @@ use Rattle.prop_core.specs.Clauses.{Clause}
 use Rattle.prop_core.specs.Trail.{has_var}
 use Rattle.prop_core.proofs.Literals.{has_back, all_at}
 use Rattle.proof_ledger.specs.Book.{BookEntry, learnt, final, clause_of, clauses_of, axiom_of, axioms_of, EachAfter}
-use Rattle.proof_ledger.specs.Fresh.{occurs, is_learnt, IfLearnt, IsFreshClause, AreFresh}
+use Rattle.proof_ledger.specs.Fresh.{is_learnt, IfLearnt, IsFreshClause}
 use Rattle.sat_learn.specs.Seen.{is_known_var}
 use Rattle.sat_solve.specs.Searching.{HasAxiomVars, is_derived, IsSearched}
 use Rattle.sat_solve.specs.Solving.{IsPaid, IsClosed}

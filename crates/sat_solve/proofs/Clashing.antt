@@ -1,7 +1,7 @@
 -- Closing clauses, and further conflicts.
-use Rattle.std.proofs.Common.{◌≡◌, ◌∙◌, ℕ, ◌+◌, ◌-◌, ◌<◌, ◌≤◌, Bool, true, false, ◌++◌, ◌∷◌, [], List, refl, ap, sym, map, length, take, zero, suc, get_or, arith, subst, ⊎_elim, append_assoc}
-use Rattle.std.specs.Prelude.{Option, Some, None, ◌⊎◌, Contains, is_none, Result, Ok, Err, IfOk, OnOk}
-use Rattle.std.specs.List.{list_any, list_all}
+use Rattle.std.proofs.Common.{◌≡◌, ◌∙◌, ℕ, ◌-◌, ◌<◌, true, false, ◌++◌, ◌∷◌, [], List, refl, ap, sym, length, take, zero, suc, get_or, arith, subst, ⊎_elim, append_assoc}
+use Rattle.std.specs.Prelude.{Option, Some, None, Contains, is_none, Result, Ok, Err, IfOk, OnOk}
+use Rattle.std.specs.List.{list_all}
 use Rattle.std.proofs.lemmas.Grind.{common_steps}
 use Rattle.std.proofs.lemmas.Bool.{or_cases}
 use Rattle.std.proofs.lemmas.List.{append-nil}
@@ -12,8 +12,8 @@ use Rattle.prop_core.specs.Derivation.{clause_numbered}
 use Rattle.prop_core.specs.Trail.{no_literal, HasVarsOnce, Placed, literals_of, HasReason, EachPlaced, IsTrail, Clashes}
 use Rattle.prop_core.proofs.Literals.{same_is, all_from, all_at, true_longer}
 use Rattle.proof_ledger.specs.Book.{BookEntry, final, clauses_of}
-use Rattle.sat_prop.specs.TrailState.{TrailState, literal_at, reason_at, IsJustified}
-use Rattle.sat_prop.specs.Quiet.{IsConflict, IsQuietAtDecisions}
+use Rattle.sat_prop.specs.TrailState.{TrailState}
+use Rattle.sat_prop.specs.Quiet.{IsConflict}
 use Rattle.sat_prop.specs.Kept.{IsTrailState}
 use Rattle.sat_prop.proofs.Fronts.{number_of}
 use Rattle.sat_prop.proofs.Justifying.{justified_once}

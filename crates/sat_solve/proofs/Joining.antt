@@ -1,5 +1,5 @@
 -- A learnt clause is put and joins the trail, which went back.
-use Rattle.std.proofs.Common.{◌≡◌, ◌∙◌, ℕ, ◌+◌, ◌≤◌, true, ◌++◌, ◌∷◌, [], List, refl, ap, sym, length, subst, arith}
+use Rattle.std.proofs.Common.{◌≡◌, ◌∙◌, ℕ, ◌+◌, true, ◌++◌, ◌∷◌, [], List, ap, sym, length, subst, arith}
 use Rattle.std.specs.Prelude.{max}
 use Rattle.std.specs.List.{list_all}
 use Rattle.prop_core.specs.Clauses.{Clause}

@@ -1,5 +1,5 @@
 -- A trail on which no variable is open gives a model.
-use Rattle.std.proofs.Common.{◌≡◌, ◌∙◌, ℕ, ◌<◌, Bool, true, false, not, ◌&&◌, ◌∷◌, [], List, refl, ap, sym, subst, ⊎_elim, inl, inr, IsTrue}
+use Rattle.std.proofs.Common.{◌≡◌, ◌∙◌, ℕ, ◌<◌, Bool, true, false, not, ◌&&◌, ◌∷◌, [], List, refl, ap, sym, subst, ⊎_elim, inl, inr}
 use Rattle.std.specs.Prelude.{◌⊎◌, Result, Ok, Err, IfOk}
 use Rattle.std.specs.List.{list_any, list_all, AllByRecursion}
 use Rattle.std.proofs.lemmas.Bool.{and_parts, and_cases, cases_Bool, or_right}
@@ -8,7 +8,7 @@ use Rattle.prop_core.specs.Clauses.{Clause, negation, same_literal, is_true, is_
 use Rattle.prop_core.specs.Derivation.{standing}
 use Rattle.prop_core.specs.Trail.{is_quiet}
 use Rattle.prop_core.proofs.Entailed.{same_itself}
-use Rattle.prop_core.proofs.Literals.{literal_of, literal_is, below_at, all_at, any_from, AreConsistent}
+use Rattle.prop_core.proofs.Literals.{literal_of, literal_is, below_at, any_from, AreConsistent}
 use Rattle.prop_core.proofs.Forcing.{falsified_from}
 use Rattle.proof_ledger.specs.Book.{BookEntry, clauses_of}
 use Rattle.sat_prop.specs.TrailState.{TrailState}
@@ -17,7 +17,7 @@ use Rattle.sat_prop.proofs.Justifying.{justified_consistent}
 use Rattle.sat_solve.specs.declared.answer.Answer.{Answer}
 use Rattle.sat_solve.specs.declared.answer.Answer.TheVariants.{Sat, Unsat, Spent}
 use Rattle.sat_solve.specs.Searching.{IsModel, IsAnswer}
-use Rattle.sat_solve.specs.Solving.{IsServing, IsUnder, IsComplete, IsFound, IsUnsettled}
+use Rattle.sat_solve.specs.Solving.{IsServing, IsComplete, IsFound, IsUnsettled}
 use Rattle.sat_solve.proofs.Paying.{all_quiet_from}
 
 -- the values of the variables below a number are those of the trail

@@ -1,22 +1,22 @@
 -- A learnt clause: it is fresh, it joins quietly, and the trail serves on.
-use Rattle.std.proofs.Common.{◌≡◌, ◌∙◌, ℕ, ◌+◌, ◌-◌, ◌<◌, ◌≤◌, Bool, true, false, not, ◌&&◌, ◌||◌, ◌++◌, ◌∷◌, [], List, refl, ap, sym, length, take, zero, suc, get_or, arith, subst, inl, inr, ⊎_elim, eqb}
-use Rattle.std.specs.Prelude.{Option, Some, None, ◌⊎◌, Contains, is_none, slice_get, IfSome}
+use Rattle.std.proofs.Common.{◌≡◌, ◌∙◌, ℕ, ◌+◌, ◌-◌, ◌<◌, ◌≤◌, Bool, true, false, ◌||◌, ◌++◌, ◌∷◌, [], List, refl, ap, sym, length, take, suc, get_or, arith, subst, ⊎_elim, eqb}
+use Rattle.std.specs.Prelude.{Option, Some, None, Contains, is_none, slice_get, IfSome}
 use Rattle.std.specs.List.{list_any, list_all, AllByRecursion}
 use Rattle.std.proofs.lemmas.Grind.{common_steps}
-use Rattle.std.proofs.lemmas.Bool.{and_parts, and_from, or_cases, or_right, or_left, cases_lt, cases_eq, ne_eqb}
+use Rattle.std.proofs.lemmas.Bool.{and_from, or_cases, or_right, or_left, cases_lt, ne_eqb}
 use Rattle.std.proofs.lemmas.Option.{slice_get-get_or}
 use Rattle.prop_core.specs.declared.lit.Lit.{Lit}
-use Rattle.prop_core.specs.Clauses.{Clause, negation, same_literal, is_true, is_false, is_open, HasValues}
+use Rattle.prop_core.specs.Clauses.{Clause, same_literal, is_false, HasValues}
 use Rattle.prop_core.specs.Derivation.{standing, clause_numbered}
-use Rattle.prop_core.specs.Trail.{no_literal, has_var, HasVarsOnce, is_quiet, all_quiet, is_forced_by}
+use Rattle.prop_core.specs.Trail.{no_literal, has_var, HasVarsOnce, is_quiet, all_quiet}
 use Rattle.prop_core.proofs.Entailed.{same_itself}
 use Rattle.prop_core.proofs.Literals.{same_is, below_at, below_var, below_from, has_back, all_from, all_at, once_apart, open_shorter, open_var, place_found}
 use Rattle.prop_core.proofs.Forcing.{quiet_two}
-use Rattle.proof_ledger.specs.Book.{BookEntry, learnt, final, clauses_of}
+use Rattle.proof_ledger.specs.Book.{BookEntry, learnt, clauses_of}
 use Rattle.proof_ledger.specs.Fresh.{occurs, IsFreshClause}
-use Rattle.sat_prop.specs.TrailState.{TrailState, literal_at, reason_at, IsJustified}
-use Rattle.sat_prop.specs.Levels.{level_of, level_at, IsCut}
-use Rattle.sat_prop.specs.Quiet.{stands, AreQuiet, IsQuietAtDecisions}
+use Rattle.sat_prop.specs.TrailState.{TrailState, reason_at, IsJustified}
+use Rattle.sat_prop.specs.Levels.{level_at, IsCut}
+use Rattle.sat_prop.specs.Quiet.{stands, AreQuiet}
 use Rattle.sat_prop.specs.Changes.{IsFront, IsKeptUpTo, with_clause}
 use Rattle.sat_prop.specs.Kept.{IsTrailState}
 use Rattle.sat_prop.proofs.Fronts.{split_last, contains_more}
@@ -26,7 +26,7 @@ use Rattle.sat_learn.specs.Seen.{is_known_var}
 use Rattle.sat_learn.specs.Learnt.{IsLearnt}
 use Rattle.sat_learn.proofs.Beginning.{quiet_at}
 use Rattle.sat_solve.specs.Searching.{HasAxiomVars}
-use Rattle.sat_solve.specs.Solving.{AllJoined, IsServing, IsUnder, IsPaid, IsClosed, IsUnattached}
+use Rattle.sat_solve.specs.Solving.{AllJoined, IsServing, IsUnder, IsClosed, IsUnattached}
 use Rattle.sat_solve.proofs.Booking.{clauses_of-learnt, clauses_of-final}
 
 none_is : (o : Option ℕ) → o ≡ None → is_none o ≡ false → ⊥

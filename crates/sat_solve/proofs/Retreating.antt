@@ -1,7 +1,7 @@
 -- Variables that wait, as the trail grows and goes back.
-use Rattle.std.proofs.Common.{◌≡◌, ◌∙◌, ℕ, ◌+◌, ◌-◌, ◌<◌, ◌≤◌, Bool, true, false, ◌++◌, ◌∷◌, [], List, refl, ap, sym, length, take, get_or, arith, subst, inl, inr, ⊎_elim, cond, slice_set}
-use Rattle.std.specs.Prelude.{Option, Some, None, ◌⊎◌, count_by, is_none, slice_get, max, replicate}
-use Rattle.std.specs.List.{list_any, list_all, AllByRecursion}
+use Rattle.std.proofs.Common.{◌≡◌, ◌∙◌, ℕ, ◌+◌, ◌-◌, ◌<◌, ◌≤◌, Bool, true, false, ◌++◌, ◌∷◌, [], List, refl, ap, sym, length, take, get_or, arith, subst, ⊎_elim, cond, slice_set}
+use Rattle.std.specs.Prelude.{Option, Some, None, count_by, slice_get, max, replicate}
+use Rattle.std.specs.List.{list_all, AllByRecursion}
 use Rattle.std.specs.Bool.{beq}
 use Rattle.std.proofs.Math.ListN.{set}
 use Rattle.std.proofs.lemmas.Grind.{common_steps}
@@ -11,14 +11,14 @@ use Rattle.std.proofs.lemmas.Option.{slice_get_within, get_or_from_slice_get}
 use Rattle.des_base.specs.declared.TheConstants.{VAR_LIMIT}
 use Rattle.prop_core.specs.declared.lit.Lit.{Lit}
 use Rattle.std.proofs.Math.Nat.{le-max_left, le-max_right, max-le, max-eq_left, max-eq_right}
-use Rattle.prop_core.specs.Clauses.{Clause, negation, is_true, is_false, is_open, HasValues}
+use Rattle.prop_core.specs.Clauses.{Clause, is_true, is_open, HasValues}
 use Rattle.prop_core.specs.Trail.{no_literal, has_var}
 use Rattle.prop_core.proofs.Entailed.{same_itself}
-use Rattle.prop_core.proofs.Literals.{literal_of, literal_is, open_parts, open_from, open_var, open_shorter, place_found, true_at, true_more, has_at, below_at, AreConsistent}
+use Rattle.prop_core.proofs.Literals.{literal_of, open_parts, open_from, open_var, open_shorter, place_found, true_at, true_more, has_at, below_at, AreConsistent}
 use Rattle.sat_order.specs.Waiting.{waits}
 use Rattle.sat_prop.specs.TrailState.{TrailState, literal_at, value_by, StandsAt}
 use Rattle.sat_prop.specs.Levels.{level_of, level_at, IsCut}
-use Rattle.sat_prop.specs.Changes.{IsKeptUpTo, Propagates, with_literal, with_clause}
+use Rattle.sat_prop.specs.Changes.{IsKeptUpTo, Propagates, with_clause}
 use Rattle.sat_prop.proofs.Fronts.{front_length}
 use Rattle.sat_prop.proofs.Leveling.{level_front, level_step}
 use Rattle.sat_prop.proofs.Seeing.{value_agrees, value_denies, value_lacks}

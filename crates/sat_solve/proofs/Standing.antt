@@ -1,24 +1,24 @@
 -- A trail that serves a search, through propagation and decisions.
-use Rattle.std.proofs.Common.{◌≡◌, ◌∙◌, ℕ, ◌+◌, ◌-◌, ◌*◌, ◌<◌, ◌≤◌, Bool, true, false, not, ◌++◌, ◌∷◌, [], List, refl, ap, sym, length, take, drop, zero, suc, get_or, arith, subst, inl, inr, ⊎_elim, cond}
-use Rattle.std.specs.Prelude.{Option, Some, None, ◌⊎◌, Contains, is_none}
-use Rattle.std.specs.List.{list_any, list_all, AllByRecursion, All}
+use Rattle.std.proofs.Common.{◌≡◌, ◌∙◌, ℕ, ◌+◌, ◌-◌, ◌*◌, ◌<◌, ◌≤◌, Bool, true, false, not, ◌++◌, ◌∷◌, [], List, refl, ap, sym, length, take, drop, zero, suc, get_or, arith, subst, ⊎_elim, cond}
+use Rattle.std.specs.Prelude.{Option, Some, None, ◌⊎◌, is_none}
+use Rattle.std.specs.List.{list_any, list_all, AllByRecursion}
 use Rattle.std.proofs.lemmas.Grind.{common_steps}
 use Rattle.std.proofs.lemmas.Bool.{and_parts, cases_lt}
 use Rattle.std.proofs.lemmas.List.Sums.{sum_by-take-drop}
 use Rattle.std.proofs.lemmas.List.Elements.{All-from_get_or, All-get_or, All-push, All-take}
 use Rattle.std.proofs.lemmas.Option.{get_or_from_slice_get}
 use Rattle.prop_core.specs.declared.lit.Lit.{Lit}
-use Rattle.prop_core.specs.Clauses.{Clause, negation, same_literal, is_true, is_false, is_open, HasValues}
+use Rattle.prop_core.specs.Clauses.{Clause, same_literal, is_true, is_false, is_open, HasValues}
 use Rattle.prop_core.specs.Trail.{no_literal}
-use Rattle.prop_core.proofs.Literals.{below_at, place_found, true_at, all_at, open_from}
+use Rattle.prop_core.proofs.Literals.{below_at, place_found, true_at, all_at}
 use Rattle.sat_prop.specs.TrailState.{TrailState, literal_at, reason_at, IsJustified}
 use Rattle.sat_prop.specs.Levels.{level_of}
 use Rattle.sat_prop.specs.Changes.{Propagates, IsKeptUpTo, with_literal}
 use Rattle.sat_prop.specs.Kept.{IsTrailState}
 use Rattle.sat_prop.proofs.Fronts.{split_last, front_at, front_take, front_length, number_of}
-use Rattle.sat_prop.proofs.Justifying.{room_for, justified_once, length_le}
+use Rattle.sat_prop.proofs.Justifying.{room_for, justified_once}
 use Rattle.sat_learn.proofs.Closing.{false_stands}
-use Rattle.sat_solve.specs.Solving.{AllJoined, AssumedFirst, IsServing, IsUnder, IsNext, AreAssumed, AreCompatible}
+use Rattle.sat_solve.specs.Solving.{AssumedFirst, IsServing, IsUnder, IsNext, AreAssumed, AreCompatible}
 use Rattle.sat_solve.proofs.Booking.{smaller_grown}
 
 abbrev no_reason : Option ℕ

@@ -1,5 +1,5 @@
 -- A search under way, step by step.
-use Rattle.std.proofs.Common.{◌≡◌, ◌∙◌, ℕ, ◌+◌, ◌-◌, ◌*◌, ◌<◌, ◌≤◌, Bool, true, false, ◌++◌, ◌∷◌, [], List, refl, ap, sym, length, take, arith, subst}
+use Rattle.std.proofs.Common.{◌≡◌, ◌∙◌, ℕ, ◌+◌, ◌<◌, ◌≤◌, Bool, true, false, List, ap, length, arith}
 use Rattle.std.specs.Prelude.{Option, Some, None, Result, Ok, Err, IfOk, IfNone, ◌⊎◌}
 use Rattle.std.specs.List.{list_all}
 use Rattle.std.proofs.lemmas.Grind.{common_steps}
@@ -13,7 +13,7 @@ use Rattle.sat_prop.specs.Changes.{Propagates, with_literal}
 use Rattle.sat_prop.specs.Kept.{IsTrailState}
 use Rattle.sat_prop.proofs.Fronts.{front_length}
 use Rattle.sat_prop.proofs.Justifying.{room_for}
-use Rattle.sat_solve.specs.Solving.{IsUnderWay, IsLonger, WithRoom, to_do}
+use Rattle.sat_solve.specs.Solving.{IsUnderWay, IsLonger, to_do}
 use Rattle.sat_solve.proofs.Booking.{smaller_paid, smaller_grown}
 use Rattle.sat_solve.proofs.Standing.{serving_grown, under_grown, serving_decided, under_decided}
 use Rattle.sat_solve.proofs.Retreating.{waiting_grown, waiting_decided}

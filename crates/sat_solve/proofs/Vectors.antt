@@ -1,13 +1,13 @@
 -- A worked search over all four clauses of two variables, by computation: its trail, its further conflict, what it leaves in
 -- the book, and what its answer means.
-use Rattle.std.proofs.Common.{◌≡◌, ℕ, List, [], ◌∷◌, ◌++◌, refl, true, false, map, length, arith}
+use Rattle.std.proofs.Common.{ℕ, List, [], ◌∷◌, ◌++◌, refl, true, false, map, arith}
 use Rattle.std.specs.Prelude.{Some, None}
 use Rattle.std.specs.List.{IsDistinct}
 use Rattle.prop_core.specs.declared.lit.Lit.{Lit}
 use Rattle.prop_core.specs.Clauses.{Clause}
 use Rattle.prop_core.specs.Trail.{Placed, IsTrail, Clashes}
 use Rattle.proof_ledger.specs.Book.{BookEntry, axiomatic, learnt, final}
-use Rattle.proof_ledger.specs.Fresh.{IsFreshClause, AreFresh}
+use Rattle.proof_ledger.specs.Fresh.{AreFresh}
 use Rattle.sat_solve.specs.Searching.{IsModel, IsRefuted, IsSpent}
 
 abbrev yes : ℕ → Lit

@@ -1,6 +1,6 @@
 -- How the solver's parts stand to one another.
 use Rattle.std.specs.Prelude.{◌≡◌, ℕ, ◌+◌, ◌-◌, ◌*◌, ◌<◌, ◌≤◌, ◌⊎◌, Bool, true, false, List, [], ◌∷◌, ◌++◌, take, length, Option, None, Contains}
-use Rattle.std.specs.List.{list_any, list_all, AllByRecursion}
+use Rattle.std.specs.List.{list_all, AllByRecursion}
 use Rattle.des_base.specs.declared.TheConstants.{VAR_LIMIT}
 use Rattle.prop_core.specs.declared.lit.Lit.{Lit}
 use Rattle.prop_core.specs.Clauses.{Clause, negation, is_true, is_false, is_open, HasValues}

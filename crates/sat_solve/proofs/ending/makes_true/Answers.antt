@@ -1,4 +1,4 @@
-use Rattle.std.proofs.Common.{◌≡◌, sym}
+use Rattle.std.proofs.Common.{sym}
 use Rattle.sat_prop.proofs.Justifying.{justified_consistent}
 use Rattle.sat_solve.proofs.Retreating.{value_is, value_not}
 use Rattle.sat_solve.proofs.ending.makes_true.Goals as goal

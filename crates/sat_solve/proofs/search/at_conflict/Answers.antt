@@ -1,4 +1,4 @@
-use Rattle.std.proofs.Common.{◌≡◌, ◌∙◌, ℕ, List, sym, ap, length, subst}
+use Rattle.std.proofs.Common.{ap, length}
 use Rattle.sat_prop.specs.TrailState.{TrailState}
 use Rattle.sat_solve.proofs.Booking.{searched_none, searched_paid, searched_closed}
 use Rattle.sat_solve.proofs.Clashing.{clash_from, refuted_from}

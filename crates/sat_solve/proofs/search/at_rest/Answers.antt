@@ -1,9 +1,8 @@
-use Rattle.std.proofs.Common.{◌≡◌, ◌∙◌, ℕ, ◌<◌, ◌≤◌, List, sym, ap, length, true, false, inl, inr, arith, subst}
+use Rattle.std.proofs.Common.{◌∙◌, sym, ap, length, false, inl, inr, arith, subst}
 use Rattle.std.specs.Prelude.{None}
 use Rattle.prop_core.specs.declared.lit.Lit.{Lit}
 use Rattle.prop_core.specs.Clauses.{is_true}
 use Rattle.prop_core.proofs.Literals.{open_from, literal_of}
-use Rattle.proof_ledger.specs.Book.{BookEntry, clauses_of}
 use Rattle.proof_ledger.specs.Kept.{LedgerState}
 use Rattle.sat_prop.specs.TrailState.{TrailState}
 use Rattle.sat_prop.specs.Changes.{with_literal}

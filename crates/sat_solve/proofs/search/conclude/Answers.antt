@@ -1,11 +1,10 @@
-use Rattle.std.proofs.Common.{◌≡◌, ◌∙◌, ℕ, ◌+◌, ◌-◌, ◌<◌, ◌≤◌, ◌∷◌, ◌++◌, [], Bool, List, refl, sym, ap, subst, length, true, false, inl, inr, arith}
+use Rattle.std.proofs.Common.{◌≡◌, ◌∙◌, ◌∷◌, ◌++◌, [], List, sym, ap, subst, length, true, arith}
 use Rattle.prop_core.specs.Clauses.{Clause}
-use Rattle.sat_prop.specs.TrailState.{TrailState}
 use Rattle.sat_learn.specs.Seen.{is_known_var}
 use Rattle.sat_solve.specs.Solving.{IsUnsettled, IsUnattached}
 use Rattle.std.specs.List.{list_all}
 use Rattle.sat_solve.proofs.Paying.{known_last}
-use Rattle.sat_solve.proofs.Retreating.{rest_back, rest_attached, more_room}
+use Rattle.sat_solve.proofs.Retreating.{rest_back, rest_attached}
 use Rattle.sat_solve.proofs.search.conclude.Goals as goal
 
 pub attach-requires-clause-known : goal.attach-requires-clause-known

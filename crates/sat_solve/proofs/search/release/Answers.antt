@@ -1,4 +1,4 @@
-use Rattle.sat_solve.proofs.Retreating.{read_var, read_below, read_stands, read_at}
+use Rattle.sat_solve.proofs.Retreating.{read_var, read_below}
 use Rattle.sat_solve.proofs.search.release.Goals as goal
 
 pub level_of-requires : goal.level_of-requires

@@ -1,5 +1,4 @@
 use Rattle.std.specs.Prelude.{◌≡◌, ℕ, ◌<◌, true, length}
-use Rattle.prop_core.specs.Clauses.{is_open}
 use Rattle.sat_order.specs.Rank.{IsRanked}
 use Rattle.sat_order.specs.Waiting.{waits}
 use Rattle.sat_prop.specs.TrailState.{literal_at}

@@ -1,4 +1,4 @@
-use Rattle.std.proofs.Common.{◌≡◌, ◌∙◌, ℕ, length, subst}
+use Rattle.std.proofs.Common.{◌∙◌, ℕ, length, subst}
 use Rattle.std.specs.Prelude.{Option, IfNone}
 use Rattle.sat_solve.specs.declared.answer.Answer.{Answer}
 use Rattle.sat_solve.specs.Solving.{IsUnderWay}

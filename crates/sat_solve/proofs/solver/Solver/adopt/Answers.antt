@@ -1,4 +1,4 @@
-use Rattle.std.proofs.Common.{◌≡◌, ◌∙◌, ℕ, ◌+◌, ◌-◌, ◌<◌, ◌≤◌, refl, sym, ap, length, arith}
+use Rattle.std.proofs.Common.{◌≡◌, ◌∙◌, ◌+◌, ◌-◌, refl, sym, ap, length, arith}
 use Rattle.proof_ledger.specs.Book.{clauses_of}
 use Rattle.sat_prop.specs.Levels.{level_of}
 use Rattle.sat_solve.specs.Solving.{SolverState}

@@ -1,5 +1,4 @@
-use Rattle.std.proofs.Common.{◌≡◌, ◌∙◌, ℕ, ◌+◌, ◌-◌, ◌≤◌, ◌++◌, Bool, List, refl, sym, ap, subst, length, arith}
-use Rattle.std.specs.Prelude.{max}
+use Rattle.std.proofs.Common.{◌≡◌, ◌∙◌, ◌-◌, ◌≤◌, sym, ap, length, arith}
 use Rattle.sat_prop.specs.TrailState.{TrailState}
 use Rattle.sat_solve.proofs.Retreating.{wider_room, wider_vars, wider_both, rest_wider, rest_more, room_given, vars_given, longer_with}
 use Rattle.std.proofs.Math.Nat.{max-le, le-max_right}

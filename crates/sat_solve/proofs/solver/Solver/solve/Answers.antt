@@ -1,4 +1,4 @@
-use Rattle.std.proofs.Common.{◌≡◌, ◌∙◌, ℕ, ◌<◌, sym, ap, subst, length, arith}
+use Rattle.std.proofs.Common.{◌≡◌, ◌∙◌, ℕ, sym, ap, subst, length, arith}
 use Rattle.prop_core.specs.Clauses.{HasValues}
 use Rattle.sat_solve.specs.Solving.{SolverState}
 use Rattle.sat_solve.proofs.Modeling.{answers_from}

@@ -1,5 +1,4 @@
-use Rattle.std.proofs.Common.{◌≡◌, ◌∙◌, ℕ, ◌+◌, ◌≤◌, List, sym, subst, length, arith}
-use Rattle.prop_core.specs.Clauses.{HasValues}
+use Rattle.std.proofs.Common.{◌≡◌, ◌∙◌, arith}
 use Rattle.std.proofs.Math.Nat.{le-max_right}
 use Rattle.sat_solve.proofs.Adopting.{HasOneMore, one_more}
 use Rattle.sat_solve.proofs.Retreating.{grown_is}

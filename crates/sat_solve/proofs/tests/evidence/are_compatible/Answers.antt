@@ -1,4 +1,4 @@
-use Rattle.std.proofs.Common.{◌≡◌, ◌∙◌, sym}
+use Rattle.std.proofs.Common.{◌∙◌, sym}
 use Rattle.sat_solve.proofs.Standing.{compatible_from}
 use Rattle.sat_solve.proofs.tests.evidence.are_compatible.Goals as goal
 
