@@ -1,0 +1,60 @@
+-- What the refutation of a question decides.
+use Rattle.std.proofs.Common.{◌≡◌, ℕ, suc, ◌<◌, ◌≤◌, ◌⊎◌, inl, inr, Bool, true, false, not, List, [], ◌∷◌, None, Some, subst, arith, IsTrue}
+use Rattle.std.proofs.lemmas.Bool.{cases_lt}
+use Rattle.std.specs.Bool.{beq}
+use Rattle.des_net.specs.Network.{Net}
+use Rattle.des_net.specs.Run.{fault_count}
+use Rattle.log_clauses.proofs.Lists.{all_at, or_cases}
+use Rattle.log_order.specs.Log.{Log}
+use Rattle.prop_core.specs.Clauses.{Clause, literal_true, clause_true, negation, AllLiteralsTrue}
+use Rattle.prop_core.specs.declared.lit.Lit.{Lit}
+use Rattle.replay.specs.Explanation.{NeedsFaults}
+use Rattle.run_decode.proofs.Questions.{question_is_faithful}
+use Rattle.run_decode.specs.Decided.{IsRefuted, Entails, NegatesOnly, FaithfulDecides, RefutedIsDecided, NoneIsLeast, QuestionIsDecided}
+use Rattle.run_decode.specs.Faithful.{IsFaithful}
+
+above : (net : Net) (log : Log) (n b : ℕ) (clauses : List Clause) (assumed : List Lit) → IsFaithful clauses assumed net log n (Some b) → IsRefuted clauses assumed → NeedsFaults net log n (suc b)
+above net log n b clauses assumed faithful refuted word order explains = by (cases_lt b (fault_count net word))
+  where
+    by : (b < fault_count net word) ⊎ (fault_count net word ≤ b) → suc b ≤ fault_count net word
+    by (inl more) = omega (arith, more)
+    by (inr few) = absurd (let found = faithful.complete word order explains few in refuted found.0 found.1)
+
+pub faithful_decides : FaithfulDecides
+faithful_decides net log n None clauses assumed faithful refuted = λ word order explains. let found = faithful.complete word order explains tt in refuted found.0 found.1
+faithful_decides net log n (Some b) clauses assumed faithful refuted =
+    let needs = above net log n b clauses assumed faithful refuted in record {
+      above = needs;
+      least = λ explained. record { reached = explained; least = needs };
+      many = λ is faults explained. record { faults = faults; explained = explained; above = subst (λ c. NeedsFaults net log n (suc c)) is needs };
+    }
+
+pub none_is_least : NoneIsLeast
+none_is_least net log n explained = record { reached = explained; least = λ word order explains. omega arith }
+
+-- ---- by a clause of negated assumptions
+
+opposite : (a b : Bool) → beq a (not b) ≡ true → beq a b ≡ true → ⊥
+opposite true true h k = cc
+opposite true false h k = cc
+opposite false true h k = cc
+opposite false false h k = cc
+
+-- where the assumptions are true, a clause of their negations is not
+not_true : (assignment : ℕ → Bool) (assumed : List Lit) → AllLiteralsTrue assignment assumed → (clause : Clause) → NegatesOnly assumed clause → clause_true assignment clause ≡ true → ⊥
+not_true assignment assumed all [] negates h = cc
+not_true assignment assumed all (l ∷ clause) negates h = by (or_cases (literal_true assignment l) (clause_true assignment clause) h) (not_true assignment assumed all clause negates.1)
+  where
+    by : (literal_true assignment l ≡ true) ⊎ (clause_true assignment clause ≡ true) → (clause_true assignment clause ≡ true → ⊥) → ⊥
+    by (inl here) later = opposite (assignment l.var) l.positive (all_at (λ m. IsTrue (literal_true assignment m)) assumed all (negation l) negates.0) here
+    by (inr rest) later = later rest
+
+pub refuted_by : (clauses : List Clause) (assumed : List Lit) (clause : Clause) → Entails clauses clause → NegatesOnly assumed clause → IsRefuted clauses assumed
+refuted_by clauses assumed clause entails negates assignment makes = not_true assignment assumed makes.assumed_true clause negates (entails assignment makes.clauses_true)
+
+pub refuted_is_decided : RefutedIsDecided
+refuted_is_decided net log n bound clauses assumed clause faithful entails negates = faithful_decides net log n bound clauses assumed faithful (refuted_by clauses assumed clause entails negates)
+
+pub question_is_decided : QuestionIsDecided
+question_is_decided net log n bound names clauses assumed clause network valid asks entails negates =
+    refuted_is_decided net log n bound clauses assumed clause (question_is_faithful net log n bound names clauses assumed network valid asks) entails negates

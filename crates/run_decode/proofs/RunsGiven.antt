@@ -1,0 +1,87 @@
+-- The runs that assignments give, and how many faults they have.
+use Rattle.std.proofs.Common.{◌≡◌, ◌∙◌, ℕ, Bool, true, false, List, [], ◌∷◌, length, Option, Some, None, refl, sym, ap, subst, arith, cond, count_by, option_map}
+use Rattle.std.specs.Bool.{beq}
+use Rattle.card_counter.proofs.Counts.{count_cons}
+use Rattle.des_net.specs.Network.{Net, IsNetwork}
+use Rattle.log_clauses.proofs.Codes.{read_of}
+use Rattle.log_clauses.proofs.Explained.{assignments_explain}
+use Rattle.log_clauses.proofs.Sound.{log_is_sound}
+use Rattle.log_clauses.specs.Decoded.{decoded}
+use Rattle.log_clauses.specs.LogCodeLaws.{IsDecoded}
+use Rattle.log_clauses.specs.LogTruth.{LogClausesHold, GuardsHold}
+use Rattle.log_order.specs.Log.{Log, ListsOnce, Keeps, IsValidLog}
+use Rattle.prop_core.proofs.NameLemmas.{values_match}
+use Rattle.prop_core.specs.Clauses.{literal_true}
+use Rattle.prop_core.specs.NamedClauses.{same_sign, named_true, Match, value_by}
+use Rattle.prop_core.specs.VariableNames.{Name, NamedLiteral, HasEachOnce, name_of, named_literal, named_clause}
+use Rattle.prop_core.specs.declared.lit.Lit.{Lit}
+use Rattle.run_clauses.proofs.Exact.{sets_in_order}
+use Rattle.run_clauses.proofs.Sound.{steps_are_sound}
+use Rattle.run_clauses.specs.Steps.{StepClausesHold, step_sets}
+use Rattle.run_decode.proofs.Faults.{faults_are_inputs}
+use Rattle.run_decode.specs.DecodedRuns.{GivesExplanation, DecodedExplains}
+use Rattle.run_decode.specs.Drawn.{fault_inputs}
+
+-- ---- by name
+
+pub decoded_by_name : (net : Net) (log : Log) (n : ℕ) (value : Name → Bool) (alarms : List ℕ) → IsNetwork net → IsValidLog log → ListsOnce (length log.alarms) alarms → Keeps alarms log.pairs →
+    StepClausesHold net n value → LogClausesHold net log n value → GuardsHold net log value → IsDecoded net log n value alarms
+decoded_by_name net log n value alarms network valid complete kept steps logged guards =
+    let arranged' = log_is_sound net log n value (step_sets net n value) alarms valid complete kept (sets_in_order net n value) logged guards in
+    let run = steps_are_sound net n value (decoded net log value alarms n) network steps arranged'.steps in
+    record {
+      steps = arranged'.steps;
+      explains = record { run = run.0; fits = (decoded net log value alarms n, arranged'.steps.count, run.1); linear = arranged'.linear };
+    }
+
+-- ---- by variable
+
+sign_is : (a b : Bool) → beq a b ≡ same_sign b a
+sign_is true true = refl
+sign_is true false = refl
+sign_is false true = refl
+sign_is false false = refl
+
+some_literal : (a b : NamedLiteral) → Some a ≡ Some b → a ≡ b
+some_literal a b h = cc
+
+-- a literal that reads as another has its truth
+literal_is : (names : List (ℕ × Name)) (assignment : ℕ → Bool) (value : Name → Bool) (l : Lit) (m : NamedLiteral) → Match names assignment value → named_literal names l ≡ Some m → literal_true assignment l ≡ named_true value m
+literal_is names assignment value l m match h = by (name_of names l.var) refl h
+  where
+    by : (o : Option Name) → name_of names l.var ≡ o → option_map (λ (name : Name). record { name = name; positive = l.positive }) o ≡ Some m → literal_true assignment l ≡ named_true value m
+    by None e is = cc
+    by (Some name) e is =
+        subst (λ x. literal_true assignment l ≡ named_true value x) (some_literal (record { name = name; positive = l.positive }) m is)
+        (sign_is (assignment l.var) l.positive ∙ ap (same_sign l.positive) (match l.var name e))
+
+-- as many literals are true as names that they read as
+count_read : (names : List (ℕ × Name)) (assignment : ℕ → Bool) (value : Name → Bool) → Match names assignment value → (literals : List Lit) (read : List NamedLiteral) → named_clause names literals ≡ Some read →
+    count_by (literal_true assignment) literals ≡ count_by (named_true value) read
+count_read names assignment value match [] read h = ap (count_by (named_true value)) (none_is read h)
+  where
+    none_is : (r : List NamedLiteral) → Some [] ≡ Some r → [] ≡ r
+    none_is r q = cc
+count_read names assignment value match (l ∷ literals) read h =
+    let parts = read_of names l literals read h in
+    let here = literal_is names assignment value l parts.first match parts.literal in
+    let rest = count_read names assignment value match literals parts.rest parts.later in
+    let left = count_cons (literal_true assignment) l literals in
+    let right = count_cons (named_true value) parts.first parts.rest in
+    let same = ap {B = ℕ} (λ b. cond b 1 0) here in
+    let sum : count_by (literal_true assignment) (l ∷ literals) ≡ count_by (named_true value) (parts.first ∷ parts.rest) = omega (arith, rest, left, right, same) in
+    sum ∙ ap (count_by (named_true value)) (sym parts.whole)
+
+pub gives_explanation : (net : Net) (log : Log) (n : ℕ) (names : List (ℕ × Name)) (assignment : ℕ → Bool) (alarms : List ℕ) → HasEachOnce names → IsDecoded net log n (value_by names assignment) alarms →
+    GivesExplanation net log n names assignment alarms
+gives_explanation net log n names assignment alarms once gives =
+    let faults = faults_are_inputs net n (value_by names assignment) (decoded net log (value_by names assignment) alarms n) gives.steps in record {
+      gives = gives;
+      faults = faults;
+      fault_variables = λ inputs read. faults ∙ sym (count_read names assignment (value_by names assignment) (values_match names once assignment) inputs (fault_inputs net n) read);
+    }
+
+pub decoded_explains : DecodedExplains
+decoded_explains net log n names stepped written assumed assignment alarms network question valid complete kept makes =
+    gives_explanation net log n names assignment alarms question.log_code.once
+    (assignments_explain net log n names stepped written assumed assignment alarms network question valid complete kept makes)

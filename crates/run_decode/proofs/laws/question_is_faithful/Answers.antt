@@ -1,0 +1,5 @@
+use Rattle.run_decode.proofs.Questions.{question_is_faithful}
+use Rattle.run_decode.proofs.laws.question_is_faithful.Goals as goal
+
+pub returns : goal.returns
+returns c = question_is_faithful

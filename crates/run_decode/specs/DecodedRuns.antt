@@ -1,0 +1,40 @@
+-- The run that an assignment gives, and its faults.
+use Rattle.std.specs.Prelude.{◌≡◌, ℕ, Bool, List, length, Some, count_by}
+use Rattle.card_counter.specs.Counting.{true_count}
+use Rattle.des_net.specs.Network.{Net, IsNetwork}
+use Rattle.des_net.specs.Run.{fault_count}
+use Rattle.des_net.specs.Width.{joined}
+use Rattle.log_clauses.specs.Decoded.{decoded}
+use Rattle.log_clauses.specs.LogCodeLaws.{IsDecoded, IsUnboundedQuestion, MakesQuestionTrue}
+use Rattle.log_order.specs.Log.{Log, ListsOnce, Keeps, IsValidLog}
+use Rattle.prop_core.specs.Clauses.{Clause}
+use Rattle.prop_core.specs.NamedClauses.{named_true, value_by}
+use Rattle.prop_core.specs.VariableNames.{Name, named_clause}
+use Rattle.prop_core.specs.declared.lit.Lit.{Lit}
+use Rattle.run_clauses.specs.Steps.{AreSteps}
+use Rattle.run_decode.specs.Drawn.{fault_inputs}
+
+-- how many fault events happen in the steps, by the truth of their names
+abbrev pub true_faults : Net → ℕ → (Name → Bool) → ℕ
+true_faults net n value = count_by (named_true value) (fault_inputs net n)
+
+-- The events of the steps, each step in whatever order, have as many faults as names of fault events are true.
+abbrev pub FaultsAreInputs : Type 0
+FaultsAreInputs = (net : Net) (n : ℕ) (value : Name → Bool) (pieces : List (List ℕ)) → AreSteps net n value pieces → fault_count net (joined pieces) ≡ true_faults net n value
+
+-- the literals are, by these names, the inputs of the counter
+abbrev pub AreFaultLiterals : List (ℕ × Name) → Net → ℕ → List Lit → Type 0
+AreFaultLiterals names net n inputs = named_clause names inputs ≡ Some (fault_inputs net n)
+
+-- The pieces and the order of alarms that the assignment gives explain the log, with as many faults as fault variables are true.
+pub record GivesExplanation (net : Net) (log : Log) (n : ℕ) (names : List (ℕ × Name)) (assignment : ℕ → Bool) (alarms : List ℕ) : Type 0 where
+  pub gives : IsDecoded net log n (value_by names assignment) alarms
+  pub faults : fault_count net (joined (decoded net log (value_by names assignment) alarms n)) ≡ true_faults net n (value_by names assignment)
+  pub fault_variables : (inputs : List Lit) → AreFaultLiterals names net n inputs →
+      fault_count net (joined (decoded net log (value_by names assignment) alarms n)) ≡ true_count assignment inputs
+
+-- So it does where it makes the clauses of the steps and of the log true, and the guards, by any order of the alarms that keeps the pairs.
+abbrev pub DecodedExplains : Type 0
+DecodedExplains = (net : Net) (log : Log) (n : ℕ) (names : List (ℕ × Name)) (stepped written : List Clause) (assumed : List Lit) (assignment : ℕ → Bool) (alarms : List ℕ) →
+    IsNetwork net → IsUnboundedQuestion net log n names stepped written assumed → IsValidLog log → ListsOnce (length log.alarms) alarms → Keeps alarms log.pairs →
+    MakesQuestionTrue assignment stepped written assumed → GivesExplanation net log n names assignment alarms

@@ -1,0 +1,6 @@
+pub mod Faithful
+pub mod Drawn
+pub mod Question
+pub mod DecodedRuns
+pub mod Decided
+pub mod QuestionLaws

@@ -1,0 +1,47 @@
+-- A question as code: by one naming all clauses of the steps, of the log, and of some columns of the counter of faults.
+use Rattle.std.specs.Prelude.{ℕ, ◌<◌, ⊤, List, length, Option, Some, None}
+use Rattle.card_counter.specs.CounterClauses.{IsNamedCount}
+use Rattle.des_net.specs.Network.{Net}
+use Rattle.log_clauses.specs.LogCodes.{IsNamedLog, AreAmong}
+use Rattle.log_order.specs.Log.{Log}
+use Rattle.prop_core.specs.Clauses.{Clause}
+use Rattle.prop_core.specs.NamedClauses.{IsCode, Both}
+use Rattle.prop_core.specs.VariableNames.{Name, NamedLiteral, HasEachOnce, ReadsAs}
+use Rattle.prop_core.specs.declared.lit.Lit.{Lit}
+use Rattle.run_clauses.specs.StepCodes.{IsNamedStep}
+use Rattle.run_decode.specs.Drawn.{fault_inputs, assumption_literals}
+
+-- the clauses of the steps, of the log, and of so many columns of the counter
+abbrev pub IsNamedQuestion : Net → Log → ℕ → ℕ → List NamedLiteral → Type 0
+IsNamedQuestion net log n columns = Both (IsNamedStep net n) (Both (IsNamedLog net log n) (IsNamedCount (fault_inputs net n) columns))
+
+-- by these names, each with one variable, the clauses are those, all of them and no others
+pub record IsQuestion (net : Net) (log : Log) (n columns : ℕ) (names : List (ℕ × Name)) (clauses : List Clause) : Type 0 where
+  pub once : HasEachOnce names
+  pub code : IsCode names (IsNamedQuestion net log n columns) clauses
+
+-- where the counter has an input, it has the column of the bound
+abbrev pub HasColumn : Net → ℕ → ℕ → Option ℕ → Type 0
+HasColumn net n columns None = ⊤
+HasColumn net n columns (Some b) = 0 < length (fault_inputs net n) → b < columns
+
+-- The clauses are those of a question, and what is assumed asks it within the bound.
+pub record Asks (net : Net) (log : Log) (n : ℕ) (bound : Option ℕ) (names : List (ℕ × Name)) (clauses : List Clause) (assumed : List Lit) : Type 0 where
+  pub columns : ℕ
+  pub question : IsQuestion net log n columns names clauses
+  pub column : HasColumn net n columns bound
+  pub assumes : ReadsAs names assumed (assumption_literals net log n bound)
+
+-- ---- from its parts
+
+-- by some of these names the clauses are those of a family
+pub record IsPart (names : List (ℕ × Name)) (family : List NamedLiteral → Type 0) (written : List Clause) : Type 0 where
+  pub own : List (ℕ × Name)
+  pub among : AreAmong own names
+  pub code : IsCode own family written
+
+-- by some of these names the literals read as those
+pub record IsReadAmong (names : List (ℕ × Name)) (literals : List Lit) (named : List NamedLiteral) : Type 0 where
+  pub own : List (ℕ × Name)
+  pub among : AreAmong own names
+  pub reads : ReadsAs own literals named

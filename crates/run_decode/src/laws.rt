@@ -1,0 +1,71 @@
+ghost use Rattle.run_decode.specs.Decided.{FaithfulDecides, NoneIsLeast, QuestionIsDecided, RefutedIsDecided};
+ghost use Rattle.run_decode.specs.DecodedRuns.{DecodedExplains, FaultsAreInputs};
+ghost use Rattle.run_decode.specs.QuestionLaws.{InstancesStay, PartsAreAssumed, PartsMakeQuestion, QuestionGivesExplanations, QuestionIsDrawn, QuestionIsFaithful};
+
+// ---- what a question says
+
+/// A law: what asks a question, over a network and a valid log, is faithful.
+pub fn question_is_faithful()
+    ensures { QuestionIsFaithful }
+{}
+
+/// A law: what asks a question is drawn from its families.
+pub fn question_is_drawn()
+    ensures { QuestionIsDrawn }
+{}
+
+/// A law: an instance stays one when the log gets an alarm or a pair, and further variables get names.
+pub fn instances_stay()
+    ensures { InstancesStay }
+{}
+
+// ---- a question from its parts
+
+/// A law: the clauses of the steps, of the log and of the counter together are those of a question.
+pub fn parts_make_question()
+    ensures { PartsMakeQuestion }
+{}
+
+/// A law: guards and bound together are the assumptions of a question.
+pub fn parts_are_assumed()
+    ensures { PartsAreAssumed }
+{}
+
+// ---- what its refutation decides
+
+/// A law: a faithful question that is refuted is decided.
+pub fn faithful_decides()
+    ensures { FaithfulDecides }
+{}
+
+/// A law: a clause of negated assumptions that a faithful question's clauses entail decides it.
+pub fn refuted_is_decided()
+    ensures { RefutedIsDecided }
+{}
+
+/// A law: it decides what clauses and assumptions ask.
+pub fn question_is_decided()
+    ensures { QuestionIsDecided }
+{}
+
+/// A law: an explanation without a fault has the least number of them.
+pub fn none_is_least()
+    ensures { NoneIsLeast }
+{}
+
+// ---- what its assignments give
+
+/// A law: the events of the steps have as many faults as inputs of the counter are true.
+pub fn faults_are_inputs()
+    ensures { FaultsAreInputs }
+{}
+
+/// A law: an assignment that makes the clauses of steps and log and the guards true gives an explanation, with as many faults as fault variables are true.
+pub fn decoded_explains()
+    ensures { DecodedExplains }
+{}
+
+/// A law: one that makes a whole question true gives an explanation within its bound.
+pub fn question_gives_explanations()
+    ensures { QuestionGivesExplanations }
+{}

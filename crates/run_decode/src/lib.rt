@@ -1,0 +1,19 @@
+//! From the clauses of a question to runs, and back: what an assignment of the variables says of a network and its alarm log.
+//!
+//! - A *question* is, by one naming of its variables, all clauses of n steps of a network, of a log, and of some columns of a
+//!   counter of faults. It assumes the guards of the log and, where there is a bound, the literal for at most so many faults.
+//! - A question is *faithful*: its assignments are, with the assumptions, just the explanations of the log within the bound;
+//!   without them some assignment makes the clauses true; and the assumptions don't contradict each other.
+//! - It is *drawn* from the families: each clause is, by what its variables stand for, one of them, and the assumptions are
+//!   guards and bound. So no clause states an answer by itself.
+//! - A refuted question decides: nothing explains the log, or all that does has more faults than the bound.
+//! - An assignment that makes all true gives an explanation, with as many faults as fault variables are true.
+#![tactic(auto)]
+
+mod laws;
+
+pub use laws::{
+    decoded_explains, faithful_decides, faults_are_inputs, instances_stay, none_is_least,
+    parts_are_assumed, parts_make_question, question_gives_explanations, question_is_decided,
+    question_is_drawn, question_is_faithful, refuted_is_decided,
+};
