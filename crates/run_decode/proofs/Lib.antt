@@ -6,3 +6,6 @@ pub mod Questions
 pub mod Decided
 pub mod Parts
 pub mod Growth
+pub mod Reading
+pub mod Nameless
+pub mod Vectors

@@ -5,11 +5,12 @@ use Rattle.des_net.specs.Network.{Net, IsNetwork}
 use Rattle.des_net.specs.Run.{fault_count}
 use Rattle.des_net.specs.Width.{joined}
 use Rattle.log_clauses.specs.Decoded.{decoded}
+use Rattle.log_clauses.specs.LogCodes.{AreAmong}
 use Rattle.log_clauses.specs.LogCodeLaws.{IsDecoded, IsUnboundedQuestion, MakesQuestionTrue}
 use Rattle.log_order.specs.Log.{Log, ListsOnce, Keeps, IsValidLog}
 use Rattle.prop_core.specs.Clauses.{Clause}
 use Rattle.prop_core.specs.NamedClauses.{named_true, value_by}
-use Rattle.prop_core.specs.VariableNames.{Name, named_clause}
+use Rattle.prop_core.specs.VariableNames.{Name, HasEachOnce, named_clause}
 use Rattle.prop_core.specs.declared.lit.Lit.{Lit}
 use Rattle.run_clauses.specs.Steps.{AreSteps}
 use Rattle.run_decode.specs.Drawn.{fault_inputs}
@@ -38,3 +39,7 @@ abbrev pub DecodedExplains : Type 0
 DecodedExplains = (net : Net) (log : Log) (n : ℕ) (names : List (ℕ × Name)) (stepped written : List Clause) (assumed : List Lit) (assignment : ℕ → Bool) (alarms : List ℕ) →
     IsNetwork net → IsUnboundedQuestion net log n names stepped written assumed → IsValidLog log → ListsOnce (length log.alarms) alarms → Keeps alarms log.pairs →
     MakesQuestionTrue assignment stepped written assumed → GivesExplanation net log n names assignment alarms
+
+-- Literals that are the inputs of the counter by some of the names are so by all.
+abbrev pub FaultLiteralsStay : Type 0
+FaultLiteralsStay = (own names : List (ℕ × Name)) (net : Net) (n : ℕ) (inputs : List Lit) → HasEachOnce names → AreAmong own names → AreFaultLiterals own net n inputs → AreFaultLiterals names net n inputs

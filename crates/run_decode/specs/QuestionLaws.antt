@@ -1,11 +1,13 @@
 -- Clauses and assumptions that ask a question say what it asks, and are drawn from its families.
-use Rattle.std.specs.Prelude.{◌↔◌, ◌⊎◌, ℕ, Bool, List, ◌++◌, length, Option, Contains}
+use Rattle.std.specs.Prelude.{◌≡◌, ◌↔◌, ◌⊎◌, ℕ, ◌<◌, Bool, List, [], ◌∷◌, ◌++◌, length, Option, Some, Contains}
 use Rattle.des_net.specs.Network.{Net, IsNetwork}
 use Rattle.des_net.specs.Run.{fault_count}
 use Rattle.des_net.specs.Width.{joined}
 use Rattle.card_counter.specs.CounterClauses.{IsNamedCount}
+use Rattle.card_counter.specs.CounterState.{CounterState, IsCounter, bound_literal}
+use Rattle.card_counter.specs.Counting.{IsNamedBy}
 use Rattle.log_clauses.specs.Additions.{Addition, with_addition}
-use Rattle.log_clauses.specs.Decoded.{decoded}
+use Rattle.log_clauses.specs.Decoded.{decoded, decoded_order}
 use Rattle.log_clauses.specs.LogClauses.{guard_literals}
 use Rattle.log_clauses.specs.LogCodes.{IsNamedLog, AreAmong}
 use Rattle.log_encode.specs.CodedLog.{without_names}
@@ -62,12 +64,19 @@ PartsAreAssumed = (net : Net) (log : Log) (n : ℕ) (bound : Option ℕ) (names 
     IsReadAmong names guards (guard_literals net log) → IsReadAmong names bounds (bound_literals net n bound) →
     ReadsAs names (guards ++ bounds) (assumption_literals net log n bound)
 
+-- the literal for at most so many, by a counter of the faults, is the bound
+abbrev pub BoundIsRead : Type 0
+BoundIsRead = (net : Net) (n : ℕ) (names : List (ℕ × Name)) (state : CounterState) (k : ℕ) → IsCounter state → IsNamedBy names (fault_inputs net n) state → k < length state.columns →
+    ReadsAs names (bound_literal state k ∷ []) (bound_literals net n (Some k))
+
 -- ---- the names of alarms
 
--- What a question asks, and what it is drawn from, doesn't depend on the names of the alarms.
-pub record IsAsWithNames (net : Net) (log : Log) (n : ℕ) (bound : Option ℕ) (clauses : List Clause) (assumed : List Lit) : Type 0 where
-  pub faithful : IsFaithful clauses assumed net (without_names log) n bound → IsFaithful clauses assumed net log n bound
-  pub drawn : IsDrawn clauses assumed net (without_names log) n bound → IsDrawn clauses assumed net log n bound
+-- What is asked, and what it is drawn from, is the same without the names of the alarms; so are the runs that truths of names give.
+pub record IsAsWithoutNames (net : Net) (log : Log) (n : ℕ) : Type 0 where
+  pub asks : (bound : Option ℕ) (names : List (ℕ × Name)) (clauses : List Clause) (assumed : List Lit) → Asks net log n bound names clauses assumed ↔ Asks net (without_names log) n bound names clauses assumed
+  pub instances : (names : List (ℕ × Name)) (clause : Clause) → IsInstance net log n names clause ↔ IsInstance net (without_names log) n names clause
+  pub pieces : (value : Name → Bool) (alarms : List ℕ) → decoded net log value alarms n ≡ decoded net (without_names log) value alarms n
+  pub orders : (value : Name → Bool) (alarms : List ℕ) → decoded_order net log value alarms n ≡ decoded_order net (without_names log) value alarms n
 
 abbrev pub AlarmNamesDontMatter : Type 0
-AlarmNamesDontMatter = (net : Net) (log : Log) (n : ℕ) (bound : Option ℕ) (clauses : List Clause) (assumed : List Lit) → IsAsWithNames net log n bound clauses assumed
+AlarmNamesDontMatter = (net : Net) (log : Log) (n : ℕ) → IsAsWithoutNames net log n

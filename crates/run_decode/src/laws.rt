@@ -1,6 +1,6 @@
 ghost use Rattle.run_decode.specs.Decided.{FaithfulDecides, NoneIsLeast, QuestionIsDecided, RefutedIsDecided};
-ghost use Rattle.run_decode.specs.DecodedRuns.{DecodedExplains, FaultsAreInputs};
-ghost use Rattle.run_decode.specs.QuestionLaws.{InstancesStay, PartsAreAssumed, PartsMakeQuestion, QuestionGivesExplanations, QuestionIsDrawn, QuestionIsFaithful};
+ghost use Rattle.run_decode.specs.DecodedRuns.{DecodedExplains, FaultLiteralsStay, FaultsAreInputs};
+ghost use Rattle.run_decode.specs.QuestionLaws.{AlarmNamesDontMatter, BoundIsRead, InstancesStay, PartsAreAssumed, PartsMakeQuestion, QuestionGivesExplanations, QuestionIsDrawn, QuestionIsFaithful};
 
 // ---- what a question says
 
@@ -29,6 +29,21 @@ pub fn parts_make_question()
 /// A law: guards and bound together are the assumptions of a question.
 pub fn parts_are_assumed()
     ensures { PartsAreAssumed }
+{}
+
+/// A law: a counter's literal for at most so many is the bound.
+pub fn bound_is_read()
+    ensures { BoundIsRead }
+{}
+
+/// A law: literals that are the inputs of the counter by some names are so by more.
+pub fn fault_literals_stay()
+    ensures { FaultLiteralsStay }
+{}
+
+/// A law: what is asked doesn't depend on the names of the alarms.
+pub fn alarm_names_dont_matter()
+    ensures { AlarmNamesDontMatter }
 {}
 
 // ---- what its refutation decides

@@ -13,7 +13,8 @@
 mod laws;
 
 pub use laws::{
-    decoded_explains, faithful_decides, faults_are_inputs, instances_stay, none_is_least,
-    parts_are_assumed, parts_make_question, question_gives_explanations, question_is_decided,
-    question_is_drawn, question_is_faithful, refuted_is_decided,
+    alarm_names_dont_matter, bound_is_read, decoded_explains, faithful_decides,
+    fault_literals_stay, faults_are_inputs, instances_stay, none_is_least, parts_are_assumed,
+    parts_make_question, question_gives_explanations, question_is_decided, question_is_drawn,
+    question_is_faithful, refuted_is_decided,
 };

@@ -1,0 +1,148 @@
+-- The names of alarms don't matter: two logs with the same labels and pairs have the same clauses, guards, and runs that truths of names give.
+use Rattle.std.proofs.Common.{◌≡◌, ◌∙◌, ℕ, zero, suc, ◌<◌, ◌≤◌, inl, inr, Bool, false, List, [], ◌∷◌, ◌++◌, length, Option, Some, refl, sym, ap, subst, Contains, map, filter, filter_map, slice_get, is_some, option_map, unwrap_or}
+use Rattle.std.specs.Prelude.{bytes_eq, find}
+use Rattle.std.specs.List.{list_any}
+use Rattle.std.specs.Option.{option_map_or}
+use Rattle.std.proofs.lemmas.List.{length-map}
+use Rattle.des_net.specs.Network.{Net, label_of}
+use Rattle.log_clauses.specs.Decoded.{event_at, arranged, arranged_order}
+use Rattle.log_clauses.specs.LogClauses.{chain, matching_events, observable_events, LogClause, log_clause, IsLogClause, chain_closed, takes_rest, uses_up, passes_on, taken_or_passed, not_done_first, stays_done, match_is_done, matched_once, done_by_match, one_match, done_if_asked, before_if_asked}
+use Rattle.log_clauses.specs.LogCodes.{IsNamedLog}
+use Rattle.log_encode.specs.CodedLog.{without_names, nameless}
+use Rattle.log_order.specs.Log.{Log, Alarm, labels_of}
+use Rattle.prop_core.proofs.FamilyLemmas.{code_same}
+use Rattle.prop_core.specs.Clauses.{Clause}
+use Rattle.prop_core.specs.VariableNames.{Name, matches, done, asked, closed, NamedLiteral, yes, no, ReadsAs}
+use Rattle.prop_core.specs.declared.lit.Lit.{Lit}
+use Rattle.replay.specs.QuestionSize.{is_matching}
+use Rattle.run_clauses.specs.StepClauses.{numbers_below}
+use Rattle.run_clauses.specs.Steps.{step_sets}
+use Rattle.run_decode.specs.Drawn.{IsNamedClause, IsInstance, bound_literals, assumption_literals}
+use Rattle.run_decode.specs.Question.{IsNamedQuestion, Asks}
+use Rattle.run_decode.specs.QuestionLaws.{AlarmNamesDontMatter}
+
+-- the same labels and pairs
+record AreAlike (log other : Log) : Type 0 where
+  labels : (i : ℕ) → labels_of log i ≡ labels_of other i
+  count : length log.alarms ≡ length other.alarms
+  pairs : log.pairs ≡ other.pairs
+
+without_alike : (log : Log) → AreAlike log (without_names log)
+without_alike log = record { labels = λ i. by log.alarms i; count = sym (length-map log.alarms (λ (a : Alarm). nameless a.labels)); pairs = refl }
+  where
+    by : (alarms : List Alarm) (i : ℕ) → unwrap_or (option_map (λ (a : Alarm). a.labels) (slice_get alarms i)) [] ≡ unwrap_or (option_map (λ (a : Alarm). a.labels) (slice_get (map (λ (a : Alarm). nameless a.labels) alarms) i)) []
+    by [] i = refl
+    by (x ∷ alarms) zero = refl
+    by (x ∷ alarms) (suc i) = by alarms i
+
+alike_back : (log other : Log) → AreAlike log other → AreAlike other log
+alike_back log other alike = record { labels = λ i. sym (alike.labels i); count = sym alike.count; pairs = sym alike.pairs }
+
+filter_alike : (p q : ℕ → Bool) (xs : List ℕ) → ((x : ℕ) → p x ≡ q x) → filter p xs ≡ filter q xs
+filter_alike p q [] same = refl
+filter_alike p q (x ∷ xs) same = rw (same x, filter_alike p q xs same) refl
+
+mapped_alike : (f g : ℕ → Option ℕ) (xs : List ℕ) → ((x : ℕ) → f x ≡ g x) → filter_map f xs ≡ filter_map g xs
+mapped_alike f g [] same = refl
+mapped_alike f g (x ∷ xs) same = rw (same x, mapped_alike f g xs same) refl
+
+module _ (net : Net) (log other : Log) (alike : AreAlike log other) where
+  matching_alike : (e i : ℕ) → is_matching net log e i ≡ is_matching net other e i
+  matching_alike e i = ap (λ ls. option_map_or (λ label. list_any (bytes_eq label) ls) (label_of net e) false) (alike.labels i)
+
+  chain_alike : (e : ℕ) → chain net log e ≡ chain net other e
+  chain_alike e = filter_alike (is_matching net log e) (is_matching net other e) (numbers_below (length log.alarms)) (λ i. matching_alike e i) ∙ ap (λ m. filter (is_matching net other e) (numbers_below m)) alike.count
+
+  events_alike : (i : ℕ) → matching_events net log i ≡ matching_events net other i
+  events_alike i = filter_alike (λ e. is_matching net log e i) (λ e. is_matching net other e i) (numbers_below (length net.events)) (λ e. matching_alike e i)
+
+  -- ---- clauses and guards
+
+  known_alike : (n : ℕ) (which : LogClause) → IsLogClause net log n which → IsLogClause net other n which
+  known_alike n (chain_closed e k t) h = (h.0, subst (λ c. k ≤ length c) (chain_alike e) h.1, h.2)
+  known_alike n (takes_rest i e k t) h = (subst (λ c. slice_get c k ≡ Some i) (chain_alike e) h.0, h.1)
+  known_alike n (uses_up i e k t) h = (subst (λ c. slice_get c k ≡ Some i) (chain_alike e) h.0, h.1)
+  known_alike n (passes_on e k t) h = (subst (λ c. k < length c) (chain_alike e) h.0, h.1)
+  known_alike n (taken_or_passed i e k t) h = (subst (λ c. slice_get c k ≡ Some i) (chain_alike e) h.0, h.1)
+  known_alike n (not_done_first i) h = subst (λ m. i < m) alike.count h
+  known_alike n (stays_done i t) h = (subst (λ m. i < m) alike.count h.0, h.1)
+  known_alike n (match_is_done i e t) h = (sym (matching_alike e i) ∙ h.0, h.1)
+  known_alike n (matched_once i e t) h = (sym (matching_alike e i) ∙ h.0, h.1)
+  known_alike n (done_by_match i t) h = (subst (λ m. i < m) alike.count h.0, h.1)
+  known_alike n (one_match i e f t) h = (sym (matching_alike e i) ∙ h.0, sym (matching_alike f i) ∙ h.1, h.2, h.3)
+  known_alike n (done_if_asked i) h = subst (λ m. i < m) alike.count h
+  known_alike n (before_if_asked i j t) h = (subst (λ ps. Contains ps (i, j)) alike.pairs h.0, h.1)
+
+  clause_alike : (n : ℕ) (which : LogClause) → log_clause net log n which ≡ log_clause net other n which
+  clause_alike n (chain_closed e k t) = refl
+  clause_alike n (takes_rest i e k t) = refl
+  clause_alike n (uses_up i e k t) = refl
+  clause_alike n (passes_on e k t) = refl
+  clause_alike n (taken_or_passed i e k t) = refl
+  clause_alike n (not_done_first i) = refl
+  clause_alike n (stays_done i t) = refl
+  clause_alike n (match_is_done i e t) = refl
+  clause_alike n (matched_once i e t) = refl
+  clause_alike n (done_by_match i t) = ap (λ es. no (done i (suc t)) ∷ yes (done i t) ∷ map (λ e. yes (matches i e (suc t))) es) (events_alike i)
+  clause_alike n (one_match i e f t) = refl
+  clause_alike n (done_if_asked i) = refl
+  clause_alike n (before_if_asked i j t) = refl
+
+  log_alike : (n : ℕ) (named : List NamedLiteral) → IsNamedLog net log n named → IsNamedLog net other n named
+  log_alike n named (which, is, same) = (which, known_alike n which is, sym (clause_alike n which) ∙ same)
+
+  ends_alike : (es : List ℕ) → map (λ e. yes (closed e (length (chain net log e)))) es ≡ map (λ e. yes (closed e (length (chain net other e)))) es
+  ends_alike [] = refl
+  ends_alike (e ∷ es) = rw (chain_alike e, ends_alike es) refl
+
+  assumptions_alike : (n : ℕ) (bound : Option ℕ) → assumption_literals net log n bound ≡ assumption_literals net other n bound
+  assumptions_alike n bound = ap (λ ends. (yes asked ∷ ends) ++ bound_literals net n bound) (ends_alike (observable_events net))
+
+  named_alike : (n : ℕ) (named : List NamedLiteral) → IsNamedClause net log n named → IsNamedClause net other n named
+  named_alike n named (inl is) = inl is
+  named_alike n named (inr (inl is)) = inr (inl (log_alike n named is))
+  named_alike n named (inr (inr is)) = inr (inr is)
+
+  instance_alike : (n : ℕ) (names : List (ℕ × Name)) (clause : Clause) → IsInstance net log n names clause → IsInstance net other n names clause
+  instance_alike n names clause (named, is, reads) = (named, named_alike n named is, reads)
+
+  question_alike : (n columns : ℕ) (named : List NamedLiteral) → IsNamedQuestion net log n columns named → IsNamedQuestion net other n columns named
+  question_alike n columns named (inl is) = inl is
+  question_alike n columns named (inr (inl is)) = inr (inl (log_alike n named is))
+  question_alike n columns named (inr (inr is)) = inr (inr is)
+
+  -- ---- runs
+
+  event_alike : (value : Name → Bool) (t i : ℕ) → event_at net log value t i ≡ event_at net other value t i
+  event_alike value t i = ap (λ es. find (λ e. value (matches i e (suc t))) es) (events_alike i)
+
+  arranged_alike : (value : Name → Bool) (alarms : List ℕ) (t : ℕ) (pieces : List (List ℕ)) → arranged net log value alarms t pieces ≡ arranged net other value alarms t pieces
+  arranged_alike value alarms t [] = refl
+  arranged_alike value alarms t (piece ∷ pieces) = rw (mapped_alike (event_at net log value t) (event_at net other value t) alarms (event_alike value t), arranged_alike value alarms (suc t) pieces) refl
+
+  orders_alike : (value : Name → Bool) (alarms : List ℕ) (t : ℕ) (pieces : List (List ℕ)) → arranged_order net log value alarms t pieces ≡ arranged_order net other value alarms t pieces
+  orders_alike value alarms t [] = refl
+  orders_alike value alarms t (piece ∷ pieces) =
+      rw (filter_alike (λ i. is_some (event_at net log value t i)) (λ i. is_some (event_at net other value t i)) alarms (λ i. ap is_some (event_alike value t i)), orders_alike value alarms (suc t) pieces) refl
+
+asks_alike : (net : Net) (log other : Log) → AreAlike log other → AreAlike other log → (n : ℕ) (bound : Option ℕ) (names : List (ℕ × Name)) (clauses : List Clause) (assumed : List Lit) →
+    Asks net log n bound names clauses assumed → Asks net other n bound names clauses assumed
+asks_alike net log other alike back n bound names clauses assumed asks = record {
+  columns = asks.columns;
+  question = record {
+    once = asks.question.once;
+    code = code_same names (IsNamedQuestion net log n asks.columns) (IsNamedQuestion net other n asks.columns) clauses (question_alike net log other alike n asks.columns) (question_alike net other log back n asks.columns) asks.question.code;
+  };
+  column = asks.column;
+  assumes = subst (λ named. ReadsAs names assumed named) (assumptions_alike net log other alike n bound) asks.assumes;
+}
+
+pub alarm_names_dont_matter : AlarmNamesDontMatter
+alarm_names_dont_matter net log n =
+    let to = without_alike log in
+    let back = alike_back log (without_names log) to in record {
+      asks = λ bound names clauses assumed. (asks_alike net log (without_names log) to back n bound names clauses assumed, asks_alike net (without_names log) log back to n bound names clauses assumed);
+      instances = λ names clause. (instance_alike net log (without_names log) to n names clause, instance_alike net (without_names log) log back n names clause);
+      pieces = λ value alarms. arranged_alike net log (without_names log) to value alarms 0 (step_sets net n value);
+      orders = λ value alarms. orders_alike net log (without_names log) to value alarms 0 (step_sets net n value);
+    }

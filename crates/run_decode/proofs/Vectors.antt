@@ -1,0 +1,158 @@
+-- Worked inputs of the counter, bounds and assumptions; clauses that are instances, and one that isn't.
+use Rattle.std.proofs.Common.{◌≡◌, ℕ, suc, ◌⊎◌, inl, inr, true, false, List, [], ◌∷◌, Some, None, refl, ap, sym, subst, ◌∙◌, arith, Contains, map}
+use Rattle.card_counter.specs.CounterClauses.{CountClause, counts_on, counts_up, count_clause, unless_reached, opposite}
+use Rattle.des_net.specs.Models.{apart, pump}
+use Rattle.log_clauses.proofs.Lists.{cons_cases, none_in_nil, here_first, here_later, append_right}
+use Rattle.log_clauses.specs.LogClauses.{LogClause, log_clause, chain_closed, takes_rest, uses_up, passes_on, taken_or_passed, not_done_first, stays_done, match_is_done, matched_once, done_by_match, one_match, done_if_asked, before_if_asked}
+use Rattle.log_order.specs.Log.{no_log}
+use Rattle.prop_core.proofs.FamilyLemmas.{reads_whole}
+use Rattle.prop_core.specs.VariableNames.{Name, in_state, happens, asked, matches, done, unmatched, closed, reaches, NamedLiteral, yes, no, named_clause}
+use Rattle.prop_core.specs.declared.lit.Lit.{Lit}
+use Rattle.run_clauses.specs.StepClauses.{StepClause, step_clause, IsStepClause, some_state, one_state, not_at_start, moves, stays, not_both, numbers_below, state_count}
+use Rattle.run_decode.specs.Drawn.{fault_inputs, bound_literals, assumption_literals, IsNamedClause, IsInstance}
+
+-- ---- inputs, bounds and assumptions
+
+-- the pump jams in the first step, or in the second
+pub pump_inputs : fault_inputs pump 2 ≡ yes (happens 0 1) ∷ yes (happens 0 2) ∷ []
+pump_inputs = refl
+
+pub inputs_without_faults : fault_inputs apart 2 ≡ []
+inputs_without_faults = refl
+
+pub inputs_without_steps : fault_inputs pump 0 ≡ []
+inputs_without_steps = refl
+
+pub no_jam : bound_literals pump 2 (Some 0) ≡ no (reaches 2 1) ∷ []
+no_jam = refl
+
+pub one_jam : bound_literals pump 2 (Some 1) ≡ no (reaches 2 2) ∷ []
+one_jam = refl
+
+pub many_jams : bound_literals pump 2 (Some 255) ≡ no (reaches 2 256) ∷ []
+many_jams = refl
+
+pub without_bound : bound_literals pump 2 None ≡ []
+without_bound = refl
+
+-- where nothing can fail there is nothing to bound
+pub bound_without_faults : bound_literals apart 2 (Some 0) ≡ []
+bound_without_faults = refl
+
+pub pump_assumptions : assumption_literals pump no_log 2 (Some 0) ≡ yes asked ∷ yes (closed 1 0) ∷ yes (closed 2 0) ∷ yes (closed 3 0) ∷ no (reaches 2 1) ∷ []
+pump_assumptions = refl
+
+-- ---- instances
+
+abbrev names : List (ℕ × Name)
+names = (0, happens 0 1) ∷ (1, happens 0 2) ∷ (2, reaches 1 1) ∷ (3, reaches 2 1) ∷ []
+
+abbrev positive : ℕ → Lit
+positive var = record { var = var; positive = true }
+
+abbrev negative : ℕ → Lit
+negative var = record { var = var; positive = false }
+
+-- a jam in the second step makes one of two
+pub counts_second : IsInstance pump no_log 2 names (negative 1 ∷ positive 3 ∷ [])
+counts_second = (
+  no (happens 0 2) ∷ yes (reaches 2 1) ∷ [],
+  inr (inr (counts_up 1 0 (yes (happens 0 2)), (refl, inl refl), refl)),
+  reads_whole names (negative 1 ∷ positive 3 ∷ []) (no (happens 0 2) ∷ yes (reaches 2 1) ∷ []) refl,
+)
+
+-- the same clause with its literals in another order, one of them twice
+pub counts_second_twice : IsInstance pump no_log 2 names (positive 3 ∷ negative 1 ∷ positive 3 ∷ [])
+counts_second_twice = (
+  no (happens 0 2) ∷ yes (reaches 2 1) ∷ [],
+  inr (inr (counts_up 1 0 (yes (happens 0 2)), (refl, inl refl), refl)),
+  record { read = yes (reaches 2 1) ∷ no (happens 0 2) ∷ yes (reaches 2 1) ∷ []; by_name = refl; same = λ x. (to x, from x) },
+)
+  where
+    to : (x : NamedLiteral) → Contains (yes (reaches 2 1) ∷ no (happens 0 2) ∷ yes (reaches 2 1) ∷ []) x → Contains (no (happens 0 2) ∷ yes (reaches 2 1) ∷ []) x
+    to x in' = by (cons_cases (yes (reaches 2 1)) (no (happens 0 2) ∷ yes (reaches 2 1) ∷ []) x in')
+      where
+        by : (yes (reaches 2 1) ≡ x) ⊎ Contains (no (happens 0 2) ∷ yes (reaches 2 1) ∷ []) x → Contains (no (happens 0 2) ∷ yes (reaches 2 1) ∷ []) x
+        by (inl is) = here_later (no (happens 0 2)) (yes (reaches 2 1) ∷ []) x (here_first (yes (reaches 2 1)) [] x is)
+        by (inr rest) = rest
+
+    from : (x : NamedLiteral) → Contains (no (happens 0 2) ∷ yes (reaches 2 1) ∷ []) x → Contains (yes (reaches 2 1) ∷ no (happens 0 2) ∷ yes (reaches 2 1) ∷ []) x
+    from x in' = here_later (yes (reaches 2 1)) (no (happens 0 2) ∷ yes (reaches 2 1) ∷ []) x in'
+
+-- ---- and one that isn't
+
+-- all literals of the clause have this name
+abbrev HaveName : List NamedLiteral → Type 0
+HaveName clause = (m : NamedLiteral) → Contains clause m → happens 0 1 ≡ m.name
+
+states_no : (c t : ℕ) (qs : List ℕ) → HaveName (map (λ q. yes (in_state c q t)) qs) → Contains (map (λ q. yes (in_state c q t)) qs) (no (happens 0 1)) → ⊥
+states_no c t [] each in' = none_in_nil (no (happens 0 1)) in'
+states_no c t (q ∷ qs) each in' = let same = each (yes (in_state c q t)) (0, omega arith, refl) in cc
+
+event_of : Name → ℕ
+event_of (happens e t) = e
+event_of name = 0
+
+not_of_steps : (which : StepClause) → IsStepClause pump 2 which → HaveName (step_clause pump which) → Contains (step_clause pump which) (no (happens 0 1)) → ⊥
+unfolding event_of
+not_of_steps (some_state c t) known each in' = states_no c t (numbers_below (state_count pump c)) each in'
+not_of_steps (one_state c q r t) known each in' = let same = each (no (in_state c q t)) (0, omega arith, refl) in cc
+not_of_steps (not_at_start c q) known each in' = let same = each (no (in_state c q 0)) (0, omega arith, refl) in cc
+not_of_steps (moves e c a q t) known each in' = let same = each (no (in_state c q t)) (1, omega arith, refl) in cc
+not_of_steps (stays c q t) known each in' = let same = each (no (in_state c q t)) (0, omega arith, refl) in cc
+not_of_steps (not_both e f t) (c, first, second, differ, below) each in' =
+    let one = ap event_of (each (no (happens e (suc t))) (0, omega arith, refl)) in
+    let two = ap event_of (each (no (happens f (suc t))) (1, omega arith, refl)) in
+    differ (sym one ∙ two)
+
+not_of_log : (which : LogClause) → HaveName (log_clause pump no_log 2 which) → ⊥
+not_of_log (chain_closed e k t) each = let same = each (no (closed e k)) (0, omega arith, refl) in cc
+not_of_log (takes_rest i e k t) each = let same = each (no (matches i e (suc t))) (0, omega arith, refl) in cc
+not_of_log (uses_up i e k t) each = let same = each (no (matches i e (suc t))) (0, omega arith, refl) in cc
+not_of_log (passes_on e k t) each = let same = each (no (unmatched e (suc k) (suc t))) (0, omega arith, refl) in cc
+not_of_log (taken_or_passed i e k t) each = let same = each (yes (matches i e (suc t))) (1, omega arith, refl) in cc
+not_of_log (not_done_first i) each = let same = each (no (done i 0)) (0, omega arith, refl) in cc
+not_of_log (stays_done i t) each = let same = each (no (done i t)) (0, omega arith, refl) in cc
+not_of_log (match_is_done i e t) each = let same = each (no (matches i e (suc t))) (0, omega arith, refl) in cc
+not_of_log (matched_once i e t) each = let same = each (no (matches i e (suc t))) (0, omega arith, refl) in cc
+not_of_log (done_by_match i t) each = let same = each (no (done i (suc t))) (0, omega arith, refl) in cc
+not_of_log (one_match i e f t) each = let same = each (no (matches i e (suc t))) (0, omega arith, refl) in cc
+not_of_log (done_if_asked i) each = let same = each (no asked) (0, omega arith, refl) in cc
+not_of_log (before_if_asked i j t) each = let same = each (no asked) (0, omega arith, refl) in cc
+
+not_of_counter : (which : CountClause) → HaveName (count_clause which) → ⊥
+not_of_counter (counts_on i j) each = let same = each (no (reaches i j)) (0, omega arith, refl) in cc
+not_of_counter (counts_up i j x) each =
+    let same = each (yes (reaches (suc i) (suc j)))
+    (append_right (unless_reached i j) (opposite x ∷ yes (reaches (suc i) (suc j)) ∷ []) (yes (reaches (suc i) (suc j))) (1, omega arith, refl)) in
+    cc
+
+-- a clause that states by itself that the pump doesn't jam in the first step is none
+pub statement_is_no_instance : IsInstance pump no_log 2 names (negative 0 ∷ []) → ⊥
+statement_is_no_instance (named, is, reads) = by is
+  where
+    read_is : (read : List NamedLiteral) → named_clause names (negative 0 ∷ []) ≡ Some read → no (happens 0 1) ∷ [] ≡ read
+    read_is read h = some_is (no (happens 0 1) ∷ []) read h
+      where
+        some_is : (a b : List NamedLiteral) → Some a ≡ Some b → a ≡ b
+        some_is a b q = cc
+
+    only : (m : NamedLiteral) → Contains named m → no (happens 0 1) ≡ m
+    only m in' = at (cons_cases (no (happens 0 1)) [] m (subst (λ read. Contains read m) (sym (read_is reads.read reads.by_name)) ((reads.same m).1 in')))
+      where
+        at : (no (happens 0 1) ≡ m) ⊎ Contains [] m → no (happens 0 1) ≡ m
+        at (inl same) = same
+        at (inr none) = absurd (none_in_nil m none)
+
+    there : Contains named (no (happens 0 1))
+    there = (reads.same (no (happens 0 1))).0 (subst (λ read. Contains read (no (happens 0 1))) (read_is reads.read reads.by_name) (0, omega arith, refl))
+
+    -- no literal of another name stands in it
+    name_is : (m : NamedLiteral) → Contains named m → happens 0 1 ≡ m.name
+    name_is m in' = ap (λ (l : NamedLiteral). l.name) (only m in')
+
+    by : IsNamedClause pump no_log 2 named → ⊥
+    by (inl (which, known, same)) = not_of_steps which known
+        (λ m in'. name_is m (subst (λ clause. Contains clause m) same in')) (subst (λ clause. Contains clause (no (happens 0 1))) (sym same) there)
+    by (inr (inl (which, known, same))) = not_of_log which (λ m in'. name_is m (subst (λ clause. Contains clause m) same in'))
+    by (inr (inr (which, known, same))) = not_of_counter which (λ m in'. name_is m (subst (λ clause. Contains clause m) same in'))
