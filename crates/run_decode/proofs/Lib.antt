@@ -9,3 +9,4 @@ pub mod Growth
 pub mod Reading
 pub mod Nameless
 pub mod Vectors
+pub mod WholeNames

@@ -4,3 +4,4 @@ pub mod Question
 pub mod DecodedRuns
 pub mod Decided
 pub mod QuestionLaws
+pub mod WholeNaming

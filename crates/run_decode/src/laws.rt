@@ -1,5 +1,6 @@
 ghost use Rattle.run_decode.specs.Decided.{FaithfulDecides, NoneIsLeast, QuestionIsDecided, RefutedIsDecided};
 ghost use Rattle.run_decode.specs.DecodedRuns.{DecodedExplains, FaultLiteralsStay, FaultsAreInputs};
+ghost use Rattle.run_decode.specs.WholeNaming.{TogetherAsk, TogetherBegins, TogetherGrow, TogetherOneNaming};
 ghost use Rattle.run_decode.specs.QuestionLaws.{AlarmNamesDontMatter, BoundIsRead, InstancesStay, PartsAreAssumed, PartsMakeQuestion, QuestionGivesExplanations, QuestionIsDrawn, QuestionIsFaithful};
 
 // ---- what a question says
@@ -44,6 +45,28 @@ pub fn fault_literals_stay()
 /// A law: what is asked doesn't depend on the names of the alarms.
 pub fn alarm_names_dont_matter()
     ensures { AlarmNamesDontMatter }
+{}
+
+// ---- a question that is coded on variables of its own
+
+/// A law: steps, log and counter that are coded together have one naming.
+pub fn together_one_naming()
+    ensures { TogetherOneNaming }
+{}
+
+/// A law: steps, log and a counter without columns are coded together.
+pub fn together_begins()
+    ensures { TogetherBegins }
+{}
+
+/// A law: so they are after an addition to the log, and after a column more.
+pub fn together_grow()
+    ensures { TogetherGrow }
+{}
+
+/// A law: by their naming their clauses ask a question, with the guards and, for a bound, the counter's literal.
+pub fn together_ask()
+    ensures { TogetherAsk }
 {}
 
 // ---- what its refutation decides

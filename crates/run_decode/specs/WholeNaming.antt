@@ -1,0 +1,84 @@
+-- One naming for a question whose steps, log and counter are coded on variables of their own: each part names its own, and the events of the log are those of the steps.
+use Rattle.std.specs.Prelude.{◌≡◌, ◌≢◌, ◌↔◌, ◌⊎◌, ℕ, ◌+◌, ◌<◌, ◌≤◌, List, [], ◌∷◌, ◌++◌, length, Contains, None, Some}
+use Rattle.card_counter.specs.CounterState.{CounterState, IsCounter, IsMade, IsPlace, variable, counter_names, counter_clauses, bound_literal, with_column}
+use Rattle.card_counter.specs.Counting.{IsNamedBy}
+use Rattle.des_base.specs.declared.TheConstants.{VAR_LIMIT}
+use Rattle.log_clauses.specs.Additions.{Addition}
+use Rattle.log_clauses.specs.LogClauses.{guard_literals}
+use Rattle.log_clauses.specs.LogCodes.{AreAmong}
+use Rattle.log_encode.specs.CodedLog.{CodedLog, code_names as log_names, read_names, code_after, addition_width, IsCodedLog}
+use Rattle.log_encode.specs.WrittenLog.{IsWritten}
+use Rattle.prop_core.specs.Clauses.{Clause}
+use Rattle.prop_core.specs.NamedClauses.{IsCode}
+use Rattle.prop_core.specs.VariableNames.{Name, HasEachOnce, ReadsAs}
+use Rattle.prop_core.specs.declared.lit.Lit.{Lit}
+use Rattle.run_clauses.specs.StepCodes.{IsNamedStep}
+use Rattle.run_decode.specs.DecodedRuns.{AreFaultLiterals}
+use Rattle.run_decode.specs.Drawn.{fault_inputs}
+use Rattle.run_decode.specs.Question.{IsQuestion, Asks}
+use Rattle.step_encode.specs.Coded.{CodedSteps, code_names as step_names, code_grid, variable_count}
+use Rattle.step_encode.specs.FaultInputs.{fault_literals}
+
+-- the variables of the steps, of the log, and of the counter, each with its name
+abbrev pub whole_names : CodedSteps → CodedLog → CounterState → List (ℕ × Name)
+whole_names steps code counter = step_names steps ++ (log_names code ++ counter_names counter)
+
+-- no variable of the log is one of the counter
+abbrev pub AreApart : CodedLog → CounterState → Type 0
+AreApart code counter = (entry : ℕ × Name) (i j : ℕ) → Contains (log_names code) entry → IsPlace counter i j → entry.0 ≢ variable counter i j
+
+-- The log is coded beside the events of the steps, in the same network; the counter counts the faults of the steps, on later variables; and log and counter have no variable in common.
+pub record AreCodedTogether (steps : CodedSteps) (code : CodedLog) (counter : CounterState) : Type 0 where
+  pub net : code.net ≡ steps.net
+  pub grid : code.grid ≡ code_grid steps
+  pub logged : IsCodedLog code
+  pub counted : IsCounter counter
+  pub inputs : counter.inputs ≡ fault_literals steps.net (code_grid steps)
+  pub later : (i j : ℕ) → IsPlace counter i j → steps.first + variable_count steps.net steps.steps ≤ variable counter i j
+  pub apart : AreApart code counter
+
+-- No name and no variable stands twice; the parts keep their names, and the inputs of the counter read as the fault events in all steps.
+pub record HaveOneNaming (steps : CodedSteps) (code : CodedLog) (counter : CounterState) : Type 0 where
+  pub once : HasEachOnce (whole_names steps code counter)
+  pub of_steps : AreAmong (step_names steps) (whole_names steps code counter)
+  pub of_log : AreAmong (read_names code) (whole_names steps code counter)
+  pub of_faults : AreFaultLiterals (whole_names steps code counter) steps.net steps.steps (fault_literals steps.net (code_grid steps))
+  pub of_counter : IsNamedBy (whole_names steps code counter) (fault_inputs steps.net steps.steps) counter
+
+-- What is coded together has one naming.
+abbrev pub TogetherOneNaming : Type 0
+TogetherOneNaming = (steps : CodedSteps) (code : CodedLog) (counter : CounterState) → AreCodedTogether steps code counter → HaveOneNaming steps code counter
+
+-- ---- how it grows
+
+-- A counter without columns has no variables of its own.
+abbrev pub TogetherBegins : Type 0
+TogetherBegins = (steps : CodedSteps) (code : CodedLog) (counter : CounterState) → code.net ≡ steps.net → code.grid ≡ code_grid steps → IsCodedLog code →
+    counter ≡ record { inputs = fault_literals steps.net (code_grid steps); columns = [] } → AreCodedTogether steps code counter
+
+-- The log may get an addition on variables after those of the counter, and the counter a column on variables after those of the log.
+pub record GrowTogether (steps : CodedSteps) (code : CodedLog) (counter : CounterState) (first : ℕ) : Type 0 where
+  pub by_addition : (addition : Addition) → first + addition_width code addition ≤ VAR_LIMIT → AreCodedTogether steps (code_after code addition first) counter
+  pub by_column : 0 < length counter.inputs → AreCodedTogether steps code (with_column counter first)
+
+abbrev pub TogetherGrow : Type 0
+TogetherGrow = (steps : CodedSteps) (code : CodedLog) (counter : CounterState) (first : ℕ) → AreCodedTogether steps code counter → code.vars ≤ first → IsMade first counter → GrowTogether steps code counter first
+
+-- ---- the question
+
+-- the clauses are those of the three parts, in whatever order
+pub record AreClausesOf (steps : CodedSteps) (code : CodedLog) (counter : CounterState) (clauses : List Clause) : Type 0 where
+  pub stepped : List Clause
+  pub written : List Clause
+  pub step_code : IsCode (step_names steps) (IsNamedStep steps.net steps.steps) stepped
+  pub log_code : IsWritten code written
+  pub same : (clause : Clause) → Contains clauses clause ↔ Contains stepped clause ⊎ (Contains written clause ⊎ Contains (counter_clauses counter) clause)
+
+-- With the guards they ask without a bound, and with the counter's literal for at most k besides, they ask within k.
+pub record AskTogether (steps : CodedSteps) (code : CodedLog) (counter : CounterState) (clauses : List Clause) (guards : List Lit) : Type 0 where
+  pub unbounded : Asks steps.net code.log steps.steps None (whole_names steps code counter) clauses guards
+  pub bounded : (k : ℕ) → k < length counter.columns → Asks steps.net code.log steps.steps (Some k) (whole_names steps code counter) clauses (guards ++ bound_literal counter k ∷ [])
+
+abbrev pub TogetherAsk : Type 0
+TogetherAsk = (steps : CodedSteps) (code : CodedLog) (counter : CounterState) (clauses : List Clause) (guards : List Lit) → AreCodedTogether steps code counter → AreClausesOf steps code counter clauses →
+    ReadsAs (read_names code) guards (guard_literals code.net code.log) → AskTogether steps code counter clauses guards
