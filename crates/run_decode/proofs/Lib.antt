@@ -9,4 +9,5 @@ pub mod Growth
 pub mod Reading
 pub mod Nameless
 pub mod Vectors
+pub mod RunNames
 pub mod WholeNames

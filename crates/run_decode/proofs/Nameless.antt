@@ -5,13 +5,14 @@ use Rattle.std.specs.List.{list_any}
 use Rattle.std.specs.Option.{option_map_or}
 use Rattle.std.proofs.lemmas.List.{length-map}
 use Rattle.des_net.specs.Network.{Net, label_of}
-use Rattle.log_clauses.specs.Decoded.{event_at, arranged, arranged_order}
-use Rattle.log_clauses.specs.LogClauses.{chain, matching_events, observable_events, LogClause, log_clause, IsLogClause, chain_closed, takes_rest, uses_up, passes_on, taken_or_passed, not_done_first, stays_done, match_is_done, matched_once, done_by_match, one_match, done_if_asked, before_if_asked}
+use Rattle.log_clauses.specs.Decoded.{alarm_at, event_at, arranged, arranged_order}
+use Rattle.log_clauses.specs.LogClauses.{guard_literals, chain, matching_events, observable_events, LogClause, log_clause, IsLogClause, chain_closed, takes_rest, uses_up, passes_on, taken_or_passed, not_done_first, stays_done, match_is_done, matched_once, done_by_match, one_match, done_if_asked, before_if_asked}
 use Rattle.log_clauses.specs.LogCodes.{IsNamedLog}
 use Rattle.log_encode.specs.CodedLog.{without_names, nameless}
 use Rattle.log_order.specs.Log.{Log, Alarm, labels_of}
 use Rattle.prop_core.proofs.FamilyLemmas.{code_same}
 use Rattle.prop_core.specs.Clauses.{Clause}
+use Rattle.prop_core.specs.NamedClauses.{IsCode}
 use Rattle.prop_core.specs.VariableNames.{Name, matches, done, asked, closed, NamedLiteral, yes, no, ReadsAs}
 use Rattle.prop_core.specs.declared.lit.Lit.{Lit}
 use Rattle.replay.specs.QuestionSize.{is_matching}
@@ -146,3 +147,16 @@ alarm_names_dont_matter net log n =
       pieces = λ value alarms. arranged_alike net log (without_names log) to value alarms 0 (step_sets net n value);
       orders = λ value alarms. orders_alike net log (without_names log) to value alarms 0 (step_sets net n value);
     }
+
+-- the code of a log without the names of its alarms, and its guards, are those of the log
+pub nameless_code : (net : Net) (log : Log) (n : ℕ) (names : List (ℕ × Name)) (clauses : List Clause) → IsCode names (IsNamedLog net (without_names log) n) clauses → IsCode names (IsNamedLog net log n) clauses
+nameless_code net log n names clauses code =
+    let to = without_alike log in
+    code_same names (IsNamedLog net (without_names log) n) (IsNamedLog net log n) clauses (log_alike net (without_names log) log (alike_back log (without_names log) to) n) (log_alike net log (without_names log) to n) code
+
+pub nameless_guards : (net : Net) (log : Log) (names : List (ℕ × Name)) (guards : List Lit) → ReadsAs names guards (guard_literals net (without_names log)) → ReadsAs names guards (guard_literals net log)
+nameless_guards net log names guards reads =
+    subst (λ ends. ReadsAs names guards (yes asked ∷ ends)) (sym (ends_alike net log (without_names log) (without_alike log) (observable_events net))) reads
+
+pub nameless_alarm : (net : Net) (log : Log) (value : Name → Bool) (e t : ℕ) → alarm_at net log value e t ≡ alarm_at net (without_names log) value e t
+nameless_alarm net log value e t = ap (λ is. find (λ i. value (matches i e t)) is) (chain_alike net log (without_names log) (without_alike log) e)

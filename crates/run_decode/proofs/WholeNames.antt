@@ -1,96 +1,37 @@
 -- Steps, log and counter by one naming.
-use Rattle.std.proofs.Common.{◌≡◌, ◌≢◌, ◌∙◌, ℕ, zero, suc, ◌+◌, ◌*◌, ◌<◌, ◌≤◌, ◌⊎◌, inl, inr, Bool, true, false, ◌||◌, List, [], ◌∷◌, ◌++◌, length, Option, None, Some, refl, sym, ap, subst, arith, Contains, map, flat_map, add-zero, append-nil}
-use Rattle.std.specs.List.{AllByRecursion}
+use Rattle.std.proofs.Common.{◌≡◌, ◌≢◌, ◌∙◌, ℕ, suc, ◌+◌, ◌*◌, ◌<◌, ◌≤◌, ◌⊎◌, inl, inr, true, false, List, [], ◌∷◌, ◌++◌, length, None, Some, refl, sym, ap, subst, arith, Contains, append-nil}
 use Rattle.card_counter.proofs.CodeLemmas.{counter_is_code}
 use Rattle.card_counter.proofs.NameLemmas.{counter_names_stand}
 use Rattle.card_counter.proofs.States.{place_cases, variable_before, variable_last, grown_is_counter, none_is_counter}
 use Rattle.card_counter.specs.CounterClauses.{IsNamedCount}
 use Rattle.card_counter.specs.CounterState.{CounterState, IsCounter, IsMade, IsPlace, variable, counter_names, counter_clauses, bound_literal, with_column}
-use Rattle.des_base.specs.Lists.{EachPair}
-use Rattle.des_net.specs.Network.{Net}
-use Rattle.log_clauses.proofs.Codes.{has_name}
-use Rattle.log_clauses.proofs.Lists.{append_cases, append_left, append_right, flat_from, map_from, all_at, pairs_append}
+use Rattle.log_clauses.proofs.Lists.{append_cases, append_left, append_right, all_at, pairs_append}
 use Rattle.log_clauses.proofs.Numbered.{laid_out_from}
 use Rattle.log_clauses.specs.Additions.{Addition, alarm_added, pair_added}
 use Rattle.log_clauses.specs.LogClauses.{guard_literals}
 use Rattle.log_clauses.specs.LogCodes.{IsNamedLog, AreAmong}
 use Rattle.log_clauses.specs.LogNames.{IsLogName, added_names}
 use Rattle.log_encode.proofs.CodeLemmas.{names_with_alarm, asked_below, grown_is_coded}
-use Rattle.log_encode.specs.CodedLog.{CodedLog, code_names as log_names, read_names, code_after, IsCodedLog}
-use Rattle.log_order.specs.Log.{Log}
+use Rattle.log_encode.specs.CodedLog.{CodedLog, code_names as log_names, read_names, code_after}
 use Rattle.prop_core.specs.Clauses.{Clause}
 use Rattle.prop_core.specs.NamedClauses.{IsCode}
-use Rattle.prop_core.specs.VariableNames.{Name, in_state, happens, asked, matches, done, unmatched, closed, reaches, some_of_first, HasEachOnce, ReadsAs, named_clause}
+use Rattle.prop_core.specs.VariableNames.{Name, reaches, HasEachOnce, ReadsAs, named_clause}
 use Rattle.prop_core.specs.declared.grid.Grid.{Grid}
 use Rattle.prop_core.specs.declared.lit.Lit.{Lit}
 use Rattle.run_clauses.proofs.LaidOut.{steps_are_laid_out}
-use Rattle.run_clauses.specs.LaidOut.{laid_out, states_of, state_block, event_block, step_names as names_of_steps}
-use Rattle.run_clauses.specs.StepClauses.{numbers_below, state_count}
-use Rattle.run_clauses.specs.StepCodes.{IsNamedStep}
-use Rattle.run_clauses.specs.Steps.{is_state, is_event}
+use Rattle.run_clauses.specs.LaidOut.{laid_out, event_block}
 use Rattle.run_decode.proofs.Parts.{parts_make_question, parts_are_assumed}
+use Rattle.run_decode.proofs.RunNames.{is_step, Differ, step_entry, log_entry, steps_and_log, events_among}
 use Rattle.run_decode.proofs.Reading.{fault_literals_stay, bound_is_read}
-use Rattle.run_decode.specs.Drawn.{fault_inputs, bound_literals, assumption_literals}
-use Rattle.run_decode.specs.Question.{IsPart, IsReadAmong, IsQuestion, Asks}
-use Rattle.run_decode.specs.WholeNaming.{whole_names, AreApart, AreCodedTogether, HaveOneNaming, TogetherOneNaming, TogetherBegins, TogetherGrow, AreClausesOf, AskTogether, TogetherAsk}
+use Rattle.run_decode.specs.Drawn.{fault_inputs, assumption_literals}
+use Rattle.run_decode.specs.Question.{IsReadAmong, IsQuestion}
+use Rattle.run_decode.specs.WholeNaming.{whole_names, AreApart, AreCodedTogether, HaveOneNaming, TogetherOneNaming, TogetherBegins, TogetherGrow, AreClausesOf, TogetherAsk}
 use Rattle.step_encode.proofs.Codes.{grid_ends}
 use Rattle.step_encode.proofs.FaultLemmas.{faults_read}
 use Rattle.step_encode.specs.Coded.{CodedSteps, code_names as step_names, code_grid, variable_count}
 use Rattle.step_encode.specs.FaultInputs.{fault_literals}
 
--- ---- no name is one of two parts
-
-abbrev is_step : Name → Bool
-is_step name = is_state name || is_event name
-
-states_are_steps : (net : Net) (n c : ℕ) (name : Name) → Contains (states_of net n c) name → is_step name ≡ true
-states_are_steps net n c name in' =
-    let at = flat_from (λ t. map (λ q. in_state c q t) (numbers_below (state_count net c))) (numbers_below (suc n)) name in' in
-    let state = map_from (λ q. in_state c q at.0) (numbers_below (state_count net c)) name at.2 in
-    subst (λ x. is_step x ≡ true) state.2 refl
-
-names_are_steps : (net : Net) (n : ℕ) (name : Name) → Contains (names_of_steps net n) name → is_step name ≡ true
-names_are_steps net n name in' = by (append_cases (state_block net n (length net.components)) (event_block n (length net.events)) name in')
-  where
-    by : Contains (state_block net n (length net.components)) name ⊎ Contains (event_block n (length net.events)) name → is_step name ≡ true
-    by (inl of_states) = let at = flat_from (states_of net n) (numbers_below (length net.components)) name of_states in states_are_steps net n at.0 name at.2
-    by (inr of_events) =
-        let at = flat_from (λ e. map (λ t. happens e (suc t)) (numbers_below n)) (numbers_below (length net.events)) name of_events in
-        let step = map_from (λ t. happens at.0 (suc t)) (numbers_below n) name at.2 in
-        subst (λ x. is_step x ≡ true) step.2 refl
-
-no_log_name : (net : Net) (log : Log) (n : ℕ) (name : Name) → is_step name ≡ true → IsLogName net log n name → ⊥
-no_log_name net log n (in_state c q t) h is = is
-no_log_name net log n (happens e t) h is = is
-no_log_name net log n asked h is = cc
-no_log_name net log n (matches i e t) h is = cc
-no_log_name net log n (done i t) h is = cc
-no_log_name net log n (unmatched e k t) h is = cc
-no_log_name net log n (closed e k) h is = cc
-no_log_name net log n (reaches i j) h is = is
-no_log_name net log n (some_of_first family i) h is = is
-
--- ---- one naming
-
-rows_join : (first : ℕ) (xs ys : List Name) → laid_out first (xs ++ ys) ≡ laid_out first xs ++ laid_out (first + length xs) ys
-rows_join first [] ys = ap (λ k. laid_out k ys) (sym (add-zero first))
-rows_join first (x ∷ xs) ys = ap (λ rest. (first, x) ∷ rest) (rows_join (first + 1) xs ys ∙ ap (λ k. laid_out (first + 1) xs ++ laid_out k ys) (omega arith))
-
-abbrev Differ : ℕ × Name → ℕ × Name → Type 0
-Differ a b = (a.0 ≢ b.0) × (a.1 ≢ b.1)
-
 module _ (steps : CodedSteps) (code : CodedLog) (counter : CounterState) (together : AreCodedTogether steps code counter) where
-  -- where a variable of the steps stands
-  step_entry : (entry : ℕ × Name) → Contains (step_names steps) entry → (is_step entry.1 ≡ true) × (entry.0 < steps.first + variable_count steps.net steps.steps)
-  step_entry entry in' = let row = laid_out_from steps.first (names_of_steps steps.net steps.steps) entry in' in (names_are_steps steps.net steps.steps entry.1 row.0, row.2)
-
-  log_entry : (entry : ℕ × Name) → Contains (log_names code) entry → IsLogName code.net code.log code.grid.steps entry.1 × (steps.first + variable_count steps.net steps.steps ≤ entry.0)
-  log_entry entry in' =
-      let made = subst (λ (grid : Grid). grid.first + grid.events * grid.steps ≤ code.asked) together.grid together.logged.made in
-      let after = all_at (λ (e : ℕ × Name). code.asked ≤ e.0) (log_names code) together.logged.after entry in' in
-      let ends = grid_ends steps in
-      ((together.logged.names.exact entry.1).1 (entry.0, in'), omega (arith, made, after, ends))
-
   record IsCounterEntry (entry : ℕ × Name) : Type 0 where
     input : ℕ
     column : ℕ
@@ -100,17 +41,9 @@ module _ (steps : CodedSteps) (code : CodedLog) (counter : CounterState) (togeth
   counter_entry : (entry : ℕ × Name) → Contains (counter_names counter) entry → IsCounterEntry entry
   counter_entry entry in' = let found = (counter_names_stand counter together.counted).only entry in' in record { input = found.0; column = found.1; place = found.2; is = found.3 }
 
-  steps_and_log : (x y : ℕ × Name) → Contains (step_names steps) x → Contains (log_names code) y → Differ x y
-  steps_and_log x y of_steps of_log =
-      let one = step_entry x of_steps in
-      let two = log_entry y of_log in (
-        λ same. omega (arith, one.1, two.1, same),
-        λ same. no_log_name code.net code.log code.grid.steps y.1 (subst (λ name. is_step name ≡ true) same one.0) two.0,
-      )
-
   steps_and_counter : (x y : ℕ × Name) → Contains (step_names steps) x → Contains (counter_names counter) y → Differ x y
   steps_and_counter x y of_steps of_counter =
-      let one = step_entry x of_steps in
+      let one = step_entry steps code together.beside x of_steps in
       let two = counter_entry y of_counter in
       let later = together.later two.input two.column two.place in
       let var = ap (λ (e : ℕ × Name). e.0) two.is in
@@ -124,7 +57,7 @@ module _ (steps : CodedSteps) (code : CodedLog) (counter : CounterState) (togeth
 
   log_and_counter : (x y : ℕ × Name) → Contains (log_names code) x → Contains (counter_names counter) y → Differ x y
   log_and_counter x y of_log of_counter =
-      let one = log_entry x of_log in
+      let one = log_entry steps code together.beside x of_log in
       let two = counter_entry y of_counter in
       let var = ap (λ (e : ℕ × Name). e.0) two.is in
       let name = ap (λ (e : ℕ × Name). e.1) two.is in (
@@ -135,11 +68,11 @@ module _ (steps : CodedSteps) (code : CodedLog) (counter : CounterState) (togeth
   names_once : HasEachOnce (whole_names steps code counter)
   names_once =
       pairs_append Differ (step_names steps) (log_names code ++ counter_names counter) (steps_are_laid_out steps.net steps.steps steps.first).once
-      (pairs_append Differ (log_names code) (counter_names counter) together.logged.names.once (counter_names_stand counter together.counted).once log_and_counter)
+      (pairs_append Differ (log_names code) (counter_names counter) together.beside.logged.names.once (counter_names_stand counter together.counted).once log_and_counter)
       (λ x y of_steps rest. by x y of_steps (append_cases (log_names code) (counter_names counter) y rest))
     where
       by : (x y : ℕ × Name) → Contains (step_names steps) x → Contains (log_names code) y ⊎ Contains (counter_names counter) y → Differ x y
-      by x y of_steps (inl of_log) = steps_and_log x y of_steps of_log
+      by x y of_steps (inl of_log) = steps_and_log steps code together.beside x y of_steps of_log
       by x y of_steps (inr of_counter) = steps_and_counter x y of_steps of_counter
 
   steps_among : AreAmong (step_names steps) (whole_names steps code counter)
@@ -151,20 +84,11 @@ module _ (steps : CodedSteps) (code : CodedLog) (counter : CounterState) (togeth
   counter_among : AreAmong (counter_names counter) (whole_names steps code counter)
   counter_among entry in' = append_right (step_names steps) (log_names code ++ counter_names counter) entry (append_right (log_names code) (counter_names counter) entry in')
 
-  -- the events that the log names are those of the steps
-  events_among : AreAmong (laid_out code.grid.first (event_block code.grid.steps (length code.net.events))) (step_names steps)
-  events_among entry in' =
-      let states = state_block steps.net steps.steps (length steps.net.components) in
-      let events = event_block steps.steps (length steps.net.events) in
-      let of_grid = subst (λ (grid : Grid). Contains (laid_out grid.first (event_block grid.steps (length code.net.events))) entry) together.grid in' in
-      let of_net = subst (λ (net : Net). Contains (laid_out (steps.first + length states) (event_block steps.steps (length net.events))) entry) together.net of_grid in
-      subst (λ row. Contains row entry) (sym (rows_join steps.first states events)) (append_right (laid_out steps.first states) (laid_out (steps.first + length states) events) entry of_net)
-
   read_among : AreAmong (read_names code) (whole_names steps code counter)
   read_among entry in' = by (append_cases (laid_out code.grid.first (event_block code.grid.steps (length code.net.events))) (log_names code) entry in')
     where
       by : Contains (laid_out code.grid.first (event_block code.grid.steps (length code.net.events))) entry ⊎ Contains (log_names code) entry → Contains (whole_names steps code counter) entry
-      by (inl event) = steps_among entry (events_among entry event)
+      by (inl event) = steps_among entry (events_among steps code together.beside entry event)
       by (inr own) = log_among entry own
 
 pub together_one_naming : TogetherOneNaming
@@ -188,11 +112,9 @@ no_place : (inputs : List Lit) (counter : CounterState) → counter ≡ record {
 no_place inputs counter is i j place = let none = ap (λ (c : CounterState). length c.columns) is in let below = place.column in omega (arith, none, below)
 
 pub together_begins : TogetherBegins
-together_begins steps code counter net grid logged is =
+together_begins steps code counter beside is =
     let none = no_place (fault_literals steps.net (code_grid steps)) counter is in record {
-      net = net;
-      grid = grid;
-      logged = logged;
+      beside = beside;
       counted = subst IsCounter (sym is) (none_is_counter (fault_literals steps.net (code_grid steps)));
       inputs = ap (λ (c : CounterState). c.inputs) is;
       later = λ i j place. absurd (none i j place);
@@ -203,7 +125,7 @@ module _ (steps : CodedSteps) (code : CodedLog) (counter : CounterState) (first 
   -- the variables of an addition come after those of the counter
   apart_by_addition : (addition : Addition) → AreApart (code_after code addition first) counter
   apart_by_addition (alarm_added new) entry i j in' place =
-      by (append_cases (log_names code) (laid_out first (added_names code.net code.log code.grid.steps (alarm_added new))) entry (subst (λ names. Contains names entry) (names_with_alarm code new first together.logged.each) in'))
+      by (append_cases (log_names code) (laid_out first (added_names code.net code.log code.grid.steps (alarm_added new))) entry (subst (λ names. Contains names entry) (names_with_alarm code new first together.beside.logged.each) in'))
     where
       by : Contains (log_names code) entry ⊎ Contains (laid_out first (added_names code.net code.log code.grid.steps (alarm_added new))) entry → entry.0 ≢ variable counter i j
       by (inl old) = together.apart entry i j old place
@@ -219,9 +141,9 @@ module _ (steps : CodedSteps) (code : CodedLog) (counter : CounterState) (first 
     where
       begins : steps.first + variable_count steps.net steps.steps ≤ first
       begins =
-          let before = subst (λ (grid : Grid). grid.first + grid.events * grid.steps ≤ code.asked) together.grid together.logged.made in
+          let before = subst (λ (grid : Grid). grid.first + grid.events * grid.steps ≤ code.asked) together.beside.grid together.beside.logged.made in
           let ends = grid_ends steps in
-          let asked' = asked_below code together.logged in
+          let asked' = asked_below code together.beside.logged in
           omega (arith, before, ends, asked', above)
 
       by : IsPlace counter i j ⊎ ((i < length counter.inputs) × (j ≡ length counter.columns)) → steps.first + variable_count steps.net steps.steps ≤ variable (with_column counter first) i j
@@ -237,24 +159,20 @@ module _ (steps : CodedSteps) (code : CodedLog) (counter : CounterState) (first 
       by (inl old) = λ same. together.apart entry i j in' old (same ∙ variable_before counter first i j old)
       by (inr (below, is)) =
           let last = subst (λ k. variable (with_column counter first) i k ≡ first + i) (sym is) (variable_last counter first i below) in
-          let low = all_at (λ (e : ℕ × Name). e.0 < code.vars) (log_names code) together.logged.names.below entry in' in
+          let low = all_at (λ (e : ℕ × Name). e.0 < code.vars) (log_names code) together.beside.logged.names.below entry in' in
           λ same. omega (arith, low, last, same, above)
 
 pub together_grow : TogetherGrow
 together_grow steps code counter first together above made = record {
   by_addition = λ addition few. record {
-    net = together.net;
-    grid = together.grid;
-    logged = grown_is_coded code addition first together.logged above few;
+    beside = record { net = together.beside.net; grid = together.beside.grid; logged = grown_is_coded code addition first together.beside.logged above few };
     counted = together.counted;
     inputs = together.inputs;
     later = together.later;
     apart = apart_by_addition steps code counter first together above made addition;
   };
   by_column = λ some. record {
-    net = together.net;
-    grid = together.grid;
-    logged = together.logged;
+    beside = together.beside;
     counted = grown_is_counter counter first together.counted made some;
     inputs = together.inputs;
     later = column_is_later steps code counter first together above made;
@@ -266,7 +184,7 @@ together_grow steps code counter first together above made = record {
 
 module _ (steps : CodedSteps) (code : CodedLog) (counter : CounterState) (clauses : List Clause) (together : AreCodedTogether steps code counter) (are : AreClausesOf steps code counter clauses) where
   steps_same : code.grid.steps ≡ steps.steps
-  steps_same = ap (λ (grid : Grid). grid.steps) together.grid
+  steps_same = ap (λ (grid : Grid). grid.steps) together.beside.grid
 
   naming : HaveOneNaming steps code counter
   naming = together_one_naming steps code counter together
@@ -274,7 +192,7 @@ module _ (steps : CodedSteps) (code : CodedLog) (counter : CounterState) (clause
   log_code : IsCode (read_names code) (IsNamedLog steps.net code.log steps.steps) are.written
   log_code =
       subst (λ m. IsCode (read_names code) (IsNamedLog steps.net code.log m) are.written) steps_same
-      (subst (λ net. IsCode (read_names code) (IsNamedLog net code.log code.grid.steps) are.written) together.net are.log_code.clauses)
+      (subst (λ net. IsCode (read_names code) (IsNamedLog net code.log code.grid.steps) are.written) together.beside.net are.log_code.clauses)
 
   count_code : IsCode (whole_names steps code counter) (IsNamedCount (fault_inputs steps.net steps.steps) (length counter.columns)) (counter_clauses counter)
   count_code = counter_is_code (whole_names steps code counter) (fault_inputs steps.net steps.steps) counter naming.of_counter
@@ -289,7 +207,7 @@ module _ (steps : CodedSteps) (code : CodedLog) (counter : CounterState) (clause
 
   module _ (guards : List Lit) (read : ReadsAs (read_names code) guards (guard_literals code.net code.log)) where
     guards_read : IsReadAmong (whole_names steps code counter) guards (guard_literals steps.net code.log)
-    guards_read = record { own = read_names code; among = naming.of_log; reads = subst (λ net. ReadsAs (read_names code) guards (guard_literals net code.log)) together.net read }
+    guards_read = record { own = read_names code; among = naming.of_log; reads = subst (λ net. ReadsAs (read_names code) guards (guard_literals net code.log)) together.beside.net read }
 
     no_bound : ReadsAs (whole_names steps code counter) (guards ++ []) (assumption_literals steps.net code.log steps.steps None)
     no_bound = parts_are_assumed steps.net code.log steps.steps None (whole_names steps code counter) guards [] naming.once guards_read

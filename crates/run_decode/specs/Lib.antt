@@ -4,4 +4,5 @@ pub mod Question
 pub mod DecodedRuns
 pub mod Decided
 pub mod QuestionLaws
+pub mod RunNaming
 pub mod WholeNaming

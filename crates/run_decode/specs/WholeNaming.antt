@@ -6,7 +6,7 @@ use Rattle.des_base.specs.declared.TheConstants.{VAR_LIMIT}
 use Rattle.log_clauses.specs.Additions.{Addition}
 use Rattle.log_clauses.specs.LogClauses.{guard_literals}
 use Rattle.log_clauses.specs.LogCodes.{AreAmong}
-use Rattle.log_encode.specs.CodedLog.{CodedLog, code_names as log_names, read_names, code_after, addition_width, IsCodedLog}
+use Rattle.log_encode.specs.CodedLog.{CodedLog, code_names as log_names, read_names, code_after, addition_width}
 use Rattle.log_encode.specs.WrittenLog.{IsWritten}
 use Rattle.prop_core.specs.Clauses.{Clause}
 use Rattle.prop_core.specs.NamedClauses.{IsCode}
@@ -15,7 +15,8 @@ use Rattle.prop_core.specs.declared.lit.Lit.{Lit}
 use Rattle.run_clauses.specs.StepCodes.{IsNamedStep}
 use Rattle.run_decode.specs.DecodedRuns.{AreFaultLiterals}
 use Rattle.run_decode.specs.Drawn.{fault_inputs}
-use Rattle.run_decode.specs.Question.{IsQuestion, Asks}
+use Rattle.run_decode.specs.Question.{Asks}
+use Rattle.run_decode.specs.RunNaming.{IsCodedBeside}
 use Rattle.step_encode.specs.Coded.{CodedSteps, code_names as step_names, code_grid, variable_count}
 use Rattle.step_encode.specs.FaultInputs.{fault_literals}
 
@@ -29,9 +30,7 @@ AreApart code counter = (entry : ℕ × Name) (i j : ℕ) → Contains (log_name
 
 -- The log is coded beside the events of the steps, in the same network; the counter counts the faults of the steps, on later variables; and log and counter have no variable in common.
 pub record AreCodedTogether (steps : CodedSteps) (code : CodedLog) (counter : CounterState) : Type 0 where
-  pub net : code.net ≡ steps.net
-  pub grid : code.grid ≡ code_grid steps
-  pub logged : IsCodedLog code
+  pub beside : IsCodedBeside steps code
   pub counted : IsCounter counter
   pub inputs : counter.inputs ≡ fault_literals steps.net (code_grid steps)
   pub later : (i j : ℕ) → IsPlace counter i j → steps.first + variable_count steps.net steps.steps ≤ variable counter i j
@@ -53,7 +52,7 @@ TogetherOneNaming = (steps : CodedSteps) (code : CodedLog) (counter : CounterSta
 
 -- A counter without columns has no variables of its own.
 abbrev pub TogetherBegins : Type 0
-TogetherBegins = (steps : CodedSteps) (code : CodedLog) (counter : CounterState) → code.net ≡ steps.net → code.grid ≡ code_grid steps → IsCodedLog code →
+TogetherBegins = (steps : CodedSteps) (code : CodedLog) (counter : CounterState) → IsCodedBeside steps code →
     counter ≡ record { inputs = fault_literals steps.net (code_grid steps); columns = [] } → AreCodedTogether steps code counter
 
 -- The log may get an addition on variables after those of the counter, and the counter a column on variables after those of the log.

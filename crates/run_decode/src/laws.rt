@@ -1,5 +1,6 @@
 ghost use Rattle.run_decode.specs.Decided.{FaithfulDecides, NoneIsLeast, QuestionIsDecided, RefutedIsDecided};
 ghost use Rattle.run_decode.specs.DecodedRuns.{DecodedExplains, FaultLiteralsStay, FaultsAreInputs};
+ghost use Rattle.run_decode.specs.RunNaming.{BesideOneNaming, CodedAlarmsStand, CodedRunsExplain, TruthsAreRead};
 ghost use Rattle.run_decode.specs.WholeNaming.{TogetherAsk, TogetherBegins, TogetherGrow, TogetherOneNaming};
 ghost use Rattle.run_decode.specs.QuestionLaws.{AlarmNamesDontMatter, BoundIsRead, InstancesStay, PartsAreAssumed, PartsMakeQuestion, QuestionGivesExplanations, QuestionIsDrawn, QuestionIsFaithful};
 
@@ -106,4 +107,26 @@ pub fn decoded_explains()
 /// A law: one that makes a whole question true gives an explanation within its bound.
 pub fn question_gives_explanations()
     ensures { QuestionGivesExplanations }
+{}
+
+// ---- and so for steps and a log as they were coded
+
+/// A law: steps and a log that is coded beside their events have one naming.
+pub fn beside_one_naming()
+    ensures { BesideOneNaming }
+{}
+
+/// A law: the truth of names by it is that of the variables of events, and of the alarms by the log's own names.
+pub fn truths_are_read()
+    ensures { TruthsAreRead }
+{}
+
+/// A law: an assignment that makes their clauses and the guards true gives an explanation, with as many faults as variables of fault events are true.
+pub fn coded_runs_explain()
+    ensures { CodedRunsExplain }
+{}
+
+/// A law: there the alarm of an event by the log's own names is the one that stands for it.
+pub fn coded_alarms_stand()
+    ensures { CodedAlarmsStand }
 {}
