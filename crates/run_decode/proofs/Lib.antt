@@ -11,3 +11,9 @@ pub mod Nameless
 pub mod Vectors
 pub mod RunNames
 pub mod WholeNames
+pub mod DecodeNames
+pub mod DecodeTable
+pub mod DecodeLoops
+pub mod DecodeRuns
+pub mod DecodeOrder
+pub mod DecodeBounds

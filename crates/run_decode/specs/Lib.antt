@@ -6,3 +6,4 @@ pub mod Decided
 pub mod QuestionLaws
 pub mod RunNaming
 pub mod WholeNaming
+pub mod Decoding

@@ -7,10 +7,11 @@
 //! - It is *drawn* from the families: each clause is, by what its variables stand for, one of them, and the assumptions are
 //!   guards and bound. So no clause states an answer by itself.
 //! - A refuted question decides: nothing explains the log, or all that does has more faults than the bound.
-//! - An assignment that makes all true gives an explanation, with as many faults as fault variables are true.
+//! - An assignment that makes all true gives an explanation, with as many faults as fault variables are true: [`decode`] reads it.
 #![tactic(auto)]
 
 mod laws;
+mod runs;
 
 pub use laws::{
     alarm_names_dont_matter, beside_one_naming, bound_is_read, coded_alarms_stand,
@@ -20,3 +21,4 @@ pub use laws::{
     refuted_is_decided, together_ask, together_begins, together_grow, together_one_naming,
     truths_are_read,
 };
+pub use runs::decode;
