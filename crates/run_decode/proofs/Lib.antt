@@ -17,3 +17,4 @@ pub mod DecodeLoops
 pub mod DecodeRuns
 pub mod DecodeOrder
 pub mod DecodeBounds
+pub mod NamingVectors
