@@ -17,4 +17,5 @@ pub mod DecodeLoops
 pub mod DecodeRuns
 pub mod DecodeOrder
 pub mod DecodeBounds
+pub mod WholeClauses
 pub mod NamingVectors

@@ -1,13 +1,14 @@
 -- One naming for a question whose steps, log and counter are coded on variables of their own: each part names its own, and the events of the log are those of the steps.
 use Rattle.std.specs.Prelude.{◌≡◌, ◌≢◌, ◌↔◌, ◌⊎◌, ℕ, ◌+◌, ◌<◌, ◌≤◌, List, [], ◌∷◌, ◌++◌, length, Contains, None, Some}
-use Rattle.card_counter.specs.CounterState.{CounterState, IsCounter, IsMade, IsPlace, variable, counter_names, counter_clauses, bound_literal, with_column}
+use Rattle.card_counter.specs.CounterState.{CounterState, IsCounter, IsMade, IsPlace, variable, counter_names, counter_clauses, next_clauses, bound_literal, with_column}
 use Rattle.card_counter.specs.Counting.{IsNamedBy}
 use Rattle.des_base.specs.declared.TheConstants.{VAR_LIMIT}
 use Rattle.log_clauses.specs.Additions.{Addition}
 use Rattle.log_clauses.specs.LogClauses.{guard_literals}
 use Rattle.log_clauses.specs.LogCodes.{AreAmong}
 use Rattle.log_encode.specs.CodedLog.{CodedLog, code_names as log_names, read_names, code_after, addition_width}
-use Rattle.log_encode.specs.WrittenLog.{IsWritten}
+use Rattle.log_encode.specs.Drafted.{DraftState, IsDraftOf}
+use Rattle.log_encode.specs.WrittenLog.{IsWritten, Follows}
 use Rattle.prop_core.specs.Clauses.{Clause}
 use Rattle.prop_core.specs.NamedClauses.{IsCode}
 use Rattle.prop_core.specs.VariableNames.{Name, HasEachOnce, ReadsAs}
@@ -72,6 +73,19 @@ pub record AreClausesOf (steps : CodedSteps) (code : CodedLog) (counter : Counte
   pub step_code : IsCode (step_names steps) (IsNamedStep steps.net steps.steps) stepped
   pub log_code : IsWritten code written
   pub same : (clause : Clause) → Contains clauses clause ↔ Contains stepped clause ⊎ (Contains written clause ⊎ Contains (counter_clauses counter) clause)
+
+-- Before the counter has a column, those of the steps and of the log are all.
+abbrev pub ClausesBegin : Type 0
+ClausesBegin = (steps : CodedSteps) (code : CodedLog) (counter : CounterState) (stepped written : List Clause) → counter.columns ≡ [] →
+    IsCode (step_names steps) (IsNamedStep steps.net steps.steps) stepped → IsWritten code written → AreClausesOf steps code counter (stepped ++ written)
+
+-- The clauses of a draft, and those of a column more, come behind them.
+pub record AreJoinedBy (steps : CodedSteps) (code : CodedLog) (counter : CounterState) (clauses : List Clause) : Type 0 where
+  pub drafts : (addition : Addition) (draft : DraftState) → IsDraftOf code addition draft.first draft → Follows code draft → AreClausesOf steps (code_after code addition draft.first) counter (clauses ++ draft.clauses)
+  pub columns : (first : ℕ) → AreClausesOf steps code (with_column counter first) (clauses ++ next_clauses counter first)
+
+abbrev pub ClausesGrow : Type 0
+ClausesGrow = (steps : CodedSteps) (code : CodedLog) (counter : CounterState) (clauses : List Clause) → AreClausesOf steps code counter clauses → AreJoinedBy steps code counter clauses
 
 -- With the guards they ask without a bound, and with the counter's literal for at most k besides, they ask within k.
 pub record AskTogether (steps : CodedSteps) (code : CodedLog) (counter : CounterState) (clauses : List Clause) (guards : List Lit) : Type 0 where
