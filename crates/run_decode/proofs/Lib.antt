@@ -18,4 +18,5 @@ pub mod DecodeRuns
 pub mod DecodeOrder
 pub mod DecodeBounds
 pub mod WholeClauses
+pub mod FewNames
 pub mod NamingVectors

@@ -1,5 +1,5 @@
 -- The names of alarms don't matter: two logs with the same labels and pairs have the same clauses, guards, and runs that truths of names give.
-use Rattle.std.proofs.Common.{◌≡◌, ◌∙◌, ℕ, zero, suc, ◌<◌, ◌≤◌, inl, inr, Bool, false, List, [], ◌∷◌, ◌++◌, length, Option, Some, refl, sym, ap, subst, Contains, map, filter, filter_map, slice_get, is_some, option_map, unwrap_or}
+use Rattle.std.proofs.Common.{◌≡◌, ◌+◌, sum_by, count_by, ◌∙◌, ℕ, zero, suc, ◌<◌, ◌≤◌, inl, inr, Bool, false, List, [], ◌∷◌, ◌++◌, length, Option, Some, refl, sym, ap, subst, Contains, map, filter, filter_map, slice_get, is_some, option_map, unwrap_or}
 use Rattle.std.specs.Prelude.{bytes_eq, find}
 use Rattle.std.specs.List.{list_any}
 use Rattle.std.specs.Option.{option_map_or}
@@ -15,7 +15,8 @@ use Rattle.prop_core.specs.Clauses.{Clause}
 use Rattle.prop_core.specs.NamedClauses.{IsCode}
 use Rattle.prop_core.specs.VariableNames.{Name, matches, done, asked, closed, NamedLiteral, yes, no, ReadsAs}
 use Rattle.prop_core.specs.declared.lit.Lit.{Lit}
-use Rattle.replay.specs.QuestionSize.{is_matching}
+use Rattle.des_net.specs.QuestionSize.{step_variables, observable_count, counter_size}
+use Rattle.replay.specs.QuestionSize.{is_matching, alarm_variables, variable_bound}
 use Rattle.run_clauses.specs.StepClauses.{numbers_below}
 use Rattle.run_clauses.specs.Steps.{step_sets}
 use Rattle.run_decode.specs.Drawn.{IsNamedClause, IsInstance, bound_literals, assumption_literals}
@@ -160,3 +161,14 @@ nameless_guards net log names guards reads =
 
 pub nameless_alarm : (net : Net) (log : Log) (value : Name → Bool) (e t : ℕ) → alarm_at net log value e t ≡ alarm_at net (without_names log) value e t
 nameless_alarm net log value e t = ap (λ is. find (λ i. value (matches i e t)) is) (chain_alike net log (without_names log) (without_alike log) e)
+
+-- nor do they for the bound on the variables
+pub nameless_bound : (net : Net) (log : Log) (n : ℕ) → variable_bound net log n ≡ variable_bound net (without_names log) n
+nameless_bound net log n =
+    let alike = without_alike log in
+    let matching : is_matching net log ≡ is_matching net (without_names log) = λ j. λ e i. matching_alike net log (without_names log) alike e i j in
+    ap (λ m. bound_by m (length log.alarms)) matching ∙ ap (λ c. bound_by (is_matching net (without_names log)) c) alike.count
+  where
+    bound_by : (ℕ → ℕ → Bool) → ℕ → ℕ
+    bound_by m c = step_variables net n + 1 + observable_count net
+        + sum_by (λ i. alarm_variables n (count_by (λ e. m e i) (numbers_below (length net.events)))) (numbers_below c) + counter_size net n

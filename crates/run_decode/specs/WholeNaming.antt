@@ -6,7 +6,9 @@ use Rattle.des_base.specs.declared.TheConstants.{VAR_LIMIT}
 use Rattle.log_clauses.specs.Additions.{Addition}
 use Rattle.log_clauses.specs.LogClauses.{guard_literals}
 use Rattle.log_clauses.specs.LogCodes.{AreAmong}
-use Rattle.log_encode.specs.CodedLog.{CodedLog, code_names as log_names, read_names, code_after, addition_width}
+use Rattle.log_order.specs.Log.{Log}
+use Rattle.replay.specs.QuestionSize.{variable_bound}
+use Rattle.log_encode.specs.CodedLog.{without_names, CodedLog, code_names as log_names, read_names, code_after, addition_width}
 use Rattle.log_encode.specs.Drafted.{DraftState, IsDraftOf}
 use Rattle.log_encode.specs.WrittenLog.{IsWritten, Follows}
 use Rattle.prop_core.specs.Clauses.{Clause}
@@ -95,3 +97,8 @@ pub record AskTogether (steps : CodedSteps) (code : CodedLog) (counter : Counter
 abbrev pub TogetherAsk : Type 0
 TogetherAsk = (steps : CodedSteps) (code : CodedLog) (counter : CounterState) (clauses : List Clause) (guards : List Lit) → AreCodedTogether steps code counter → AreClausesOf steps code counter clauses →
     ReadsAs (read_names code) guards (guard_literals code.net code.log) → AskTogether steps code counter clauses guards
+
+-- Up to 256 columns it has no more variables than the bound on the variables of a question says.
+abbrev pub TogetherAreFew : Type 0
+TogetherAreFew = (steps : CodedSteps) (code : CodedLog) (counter : CounterState) (log : Log) → AreCodedTogether steps code counter → code.log ≡ without_names log → length counter.columns ≤ 256 →
+    length (whole_names steps code counter) ≤ variable_bound steps.net log steps.steps

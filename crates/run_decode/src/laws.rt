@@ -1,7 +1,7 @@
 ghost use Rattle.run_decode.specs.Decided.{FaithfulDecides, NoneIsLeast, QuestionIsDecided, RefutedIsDecided};
 ghost use Rattle.run_decode.specs.DecodedRuns.{DecodedExplains, FaultLiteralsStay, FaultsAreInputs};
 ghost use Rattle.run_decode.specs.RunNaming.{BesideOneNaming, CodedAlarmsStand, CodedRunsExplain, TruthsAreRead};
-ghost use Rattle.run_decode.specs.WholeNaming.{ClausesBegin, ClausesGrow, TogetherAsk, TogetherBegins, TogetherGrow, TogetherOneNaming};
+ghost use Rattle.run_decode.specs.WholeNaming.{ClausesBegin, ClausesGrow, TogetherAreFew, TogetherAsk, TogetherBegins, TogetherGrow, TogetherOneNaming};
 ghost use Rattle.run_decode.specs.QuestionLaws.{AlarmNamesDontMatter, BoundIsRead, InstancesStay, PartsAreAssumed, PartsMakeQuestion, QuestionGivesExplanations, QuestionIsDrawn, QuestionIsFaithful};
 
 // ---- what a question says
@@ -63,6 +63,11 @@ pub fn together_begins()
 /// A law: so they are after an addition to the log, and after a column more.
 pub fn together_grow()
     ensures { TogetherGrow }
+{}
+
+/// A law: up to 256 columns they have no more variables than the bound on those of a question.
+pub fn together_are_few()
+    ensures { TogetherAreFew }
 {}
 
 /// A law: their clauses are those of the steps and of the log before the counter has a column.

@@ -1,0 +1,143 @@
+-- How many variables a question takes.
+use Rattle.std.proofs.Common.{◌≡◌, ◌∙◌, ℕ, zero, suc, ◌+◌, ◌*◌, ◌≤◌, List, [], ◌∷◌, ◌++◌, length, refl, sym, ap, subst, arith, map, flat_map, sum_by, length-append, append-nil, append_assoc}
+use Rattle.std.proofs.lemmas.List.FromFn.{length-range_with_len, length-map-range_with_len}
+use Rattle.std.proofs.lemmas.List.Sums.{sum_by-append, length-filter}
+use Rattle.card_counter.specs.CounterState.{CounterState, counter_names, variable}
+use Rattle.des_net.specs.Network.{Net, is_fault}
+use Rattle.des_net.specs.QuestionSize.{state_number, at_most_one_count, step_variables, counter_size, fault_event_count}
+use Rattle.log_clauses.proofs.NewNames.{names_are_few, first_names_are_all}
+use Rattle.log_clauses.proofs.Stay.{range_more}
+use Rattle.log_clauses.specs.Additions.{alarm_added}
+use Rattle.log_clauses.specs.LogNames.{first_names, added_names}
+use Rattle.log_encode.specs.CodedLog.{CodedLog, names_from, code_names as log_names}
+use Rattle.log_order.specs.Log.{Log, Alarm, no_log}
+use Rattle.prop_core.specs.declared.grid.Grid.{Grid}
+use Rattle.prop_core.specs.VariableNames.{Name, reaches}
+use Rattle.replay.specs.QuestionSize.{variable_bound}
+use Rattle.run_clauses.proofs.LaidOut.{steps_are_laid_out}
+use Rattle.run_clauses.specs.LaidOut.{laid_out, state_block, step_names as names_of_steps}
+use Rattle.run_clauses.specs.StepClauses.{numbers_below, state_count}
+use Rattle.run_decode.proofs.Nameless.{nameless_bound}
+use Rattle.run_decode.specs.WholeNaming.{TogetherAreFew}
+use Rattle.step_encode.proofs.Codes.{names_end}
+use Rattle.step_encode.specs.Coded.{code_names as step_names, code_grid}
+use Rattle.step_encode.specs.FaultInputs.{fault_events, event_literals, fault_literals}
+
+row_length : (first : ℕ) (names : List Name) → length (laid_out first names) ≡ length names
+row_length first [] = refl
+row_length first (name ∷ names) = ap suc (row_length (first + 1) names)
+
+-- lists of one length each
+flat_length : {X : Type 0} (f : ℕ → List X) (m : ℕ) → ((x : ℕ) → length (f x) ≡ m) → (xs : List ℕ) → length (flat_map f xs) ≡ length xs * m
+flat_length f m each [] = sym (zero_times m)
+  where
+    zero_times : (k : ℕ) → 0 * k ≡ 0
+    zero_times k = omega arith
+flat_length f m each (x ∷ xs) =
+    let rest = flat_length f m each xs in
+    let here = each x in
+    let whole = length-append (f x) (flat_map f xs) in
+    let more = suc_times (length xs) m in
+    omega (arith, rest, here, whole, more)
+  where
+    suc_times : (a k : ℕ) → suc a * k ≡ k + a * k
+    suc_times a k = grind arith
+
+-- ---- the steps
+
+-- the states of a component, and what an "at most one" of them may take
+abbrev component_variables : Net → ℕ → ℕ
+component_variables net c = state_number net c + at_most_one_count (state_number net c)
+
+states_few : (net : Net) (n k : ℕ) → length (state_block net n k) ≤ (n + 1) * sum_by (component_variables net) (numbers_below k)
+states_few net n zero = omega arith
+states_few net n (suc k) =
+    let before = states_few net n k in
+    let next : k + 1 ≡ suc k = omega arith in
+    let width = subst (λ m. length (state_block net n m) ≡ length (state_block net n k) + suc n * state_count net k) next ((steps_are_laid_out net n 0).width k) in
+    let sum = ap (sum_by (component_variables net)) (range_more 0 k) ∙ sum_by-append (component_variables net) (numbers_below k) ((0 + k) ∷ []) in
+    let last : sum_by (component_variables net) ((0 + k) ∷ []) ≡ component_variables net k = one k in
+    let spread = times_more n (sum_by (component_variables net) (numbers_below k)) (state_number net k) (at_most_one_count (state_number net k)) in
+    let total : sum_by (component_variables net) (numbers_below (suc k)) ≡ sum_by (component_variables net) (numbers_below k) + component_variables net k = omega (arith, sum, last) in
+    subst (λ m. length (state_block net n (suc k)) ≤ (n + 1) * m) (sym total) (omega (arith, before, width, spread))
+  where
+    one : (k' : ℕ) → sum_by (component_variables net) ((0 + k') ∷ []) ≡ component_variables net k'
+    one k' = let same : 0 + k' ≡ k' = omega arith in ap (λ c. 0 + component_variables net c) same ∙ add_nothing (component_variables net k')
+      where
+        add_nothing : (a : ℕ) → 0 + a ≡ a
+        add_nothing a = omega arith
+
+    times_more : (m a s x : ℕ) → (m + 1) * a + suc m * s ≤ (m + 1) * (a + (s + x))
+    times_more m a s x = grind arith
+
+steps_few : (net : Net) (n : ℕ) → length (names_of_steps net n) ≤ step_variables net n
+steps_few net n =
+    let states = states_few net n (length net.components) in
+    let ends = names_end net n in
+    let events = times_more (length net.events) n (at_most_one_count (length net.events)) in
+    omega (arith, states, ends, events)
+  where
+    times_more : (e n' x : ℕ) → e * n' ≤ n' * (e + x)
+    times_more e n' x = grind arith
+
+-- ---- the log
+
+of_alarms : List Alarm → Log
+of_alarms alarms = record { alarms = alarms; pairs = [] }
+
+alarms_few : (net : Net) (n : ℕ) (before alarms : List Alarm) (starts : List ℕ) → length starts ≡ length alarms →
+    length (names_from net n (of_alarms before) alarms starts) + variable_bound net (of_alarms before) n ≤ variable_bound net (of_alarms (before ++ alarms)) n
+unfolding of_alarms
+alarms_few net n before [] starts same =
+    subst (λ xs. 0 + variable_bound net (of_alarms before) n ≤ variable_bound net (of_alarms xs) n) (sym (append-nil before)) (omega arith)
+alarms_few net n before (alarm ∷ alarms) [] same = absurd (omega (arith, same))
+alarms_few net n before (alarm ∷ alarms) (start ∷ starts) same =
+    let rest = alarms_few net n (before ++ alarm ∷ []) alarms starts (omega (arith, same)) in
+    let moved = subst (λ xs. length (names_from net n (of_alarms (before ++ alarm ∷ [])) alarms starts) + variable_bound net (of_alarms (before ++ alarm ∷ [])) n ≤ variable_bound net (of_alarms xs) n) (append_assoc before (alarm ∷ []) alarms) rest in
+    let few = names_are_few net (of_alarms before) n (alarm_added alarm) in
+    let row = row_length start (added_names net (of_alarms before) n (alarm_added alarm)) in
+    let whole = length-append (laid_out start (added_names net (of_alarms before) n (alarm_added alarm))) (names_from net n (of_alarms (before ++ alarm ∷ [])) alarms starts) in
+    omega (arith, moved, few, row, whole)
+
+log_few : (code : CodedLog) (n : ℕ) → code.grid.steps ≡ n → length code.starts ≡ length code.log.alarms →
+    length (log_names code) + step_variables code.net n + counter_size code.net n ≤ variable_bound code.net code.log n
+unfolding of_alarms
+log_few code n is same =
+    subst (λ m. length (log_names code) + step_variables code.net m + counter_size code.net m ≤ variable_bound code.net code.log m) is
+    (let few = alarms_few code.net code.grid.steps [] code.log.alarms code.starts same in
+    let first = (first_names_are_all code.net code.grid.steps).few in
+    let row = row_length code.asked (first_names code.net) in
+    let whole = length-append (laid_out code.asked (first_names code.net)) (names_from code.net code.grid.steps no_log code.log.alarms code.starts) in
+    omega (arith, few, first, row, whole))
+
+-- ---- the counter
+
+inputs_count : (net : Net) (grid : Grid) → length (fault_literals net grid) ≡ fault_event_count net * grid.steps
+inputs_count net grid =
+    flat_length (event_literals grid) grid.steps (λ e. length-map-range_with_len (λ t. _) 0 grid.steps) (fault_events net)
+    ∙ ap (λ m. m * grid.steps) (length-filter (is_fault net) (numbers_below (length net.events)))
+
+counter_count : (counter : CounterState) → length (counter_names counter) ≡ length counter.columns * length counter.inputs
+counter_count counter =
+    flat_length (λ j. map (λ i. (variable counter i j, reaches (suc i) (suc j))) (numbers_below (length counter.inputs))) (length counter.inputs)
+    (λ j. length-map-range_with_len (λ i. (variable counter i j, reaches (suc i) (suc j))) 0 (length counter.inputs)) (numbers_below (length counter.columns))
+    ∙ ap (λ m. m * length counter.inputs) (length-range_with_len 0 (length counter.columns))
+
+columns_few : (k f n : ℕ) → k ≤ 256 → k * (f * n) ≤ 256 * n * f
+columns_few k f n few = grind (arith, few)
+
+-- ---- all
+
+pub together_are_few : TogetherAreFew
+together_are_few steps code counter log together nameless few =
+    let names = steps_few steps.net steps.steps in
+    let row = row_length steps.first (names_of_steps steps.net steps.steps) in
+    let logged = subst (λ net. length (log_names code) + step_variables net steps.steps + counter_size net steps.steps ≤ variable_bound net code.log steps.steps) together.beside.net
+    (log_few code steps.steps (ap (λ (grid : Grid). grid.steps) together.beside.grid) together.beside.logged.each) in
+    let bound = ap (λ (l : Log). variable_bound steps.net l steps.steps) nameless ∙ sym (nameless_bound steps.net log steps.steps) in
+    let inputs = ap length together.inputs ∙ inputs_count steps.net (code_grid steps) in
+    let counted = counter_count counter ∙ ap (λ m. length counter.columns * m) inputs in
+    let columns = columns_few (length counter.columns) (fault_event_count steps.net) steps.steps few in
+    let two = length-append (step_names steps) (log_names code ++ counter_names counter) in
+    let three = length-append (log_names code) (counter_names counter) in
+    omega (arith, names, row, logged, bound, counted, columns, two, three)
