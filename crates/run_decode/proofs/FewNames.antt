@@ -19,7 +19,7 @@ use Rattle.run_clauses.specs.LaidOut.{laid_out, state_block, step_names as names
 use Rattle.run_clauses.specs.StepClauses.{numbers_below, state_count}
 use Rattle.run_decode.proofs.Nameless.{nameless_bound}
 use Rattle.run_decode.specs.WholeNaming.{TogetherAreFew}
-use Rattle.step_encode.proofs.Codes.{names_end}
+use Rattle.step_encode.proofs.Codes.{names_end, variables_are_counted}
 use Rattle.step_encode.specs.Coded.{code_names as step_names, code_grid}
 use Rattle.step_encode.specs.FaultInputs.{fault_events, event_literals, fault_literals}
 
@@ -75,7 +75,7 @@ steps_few net n =
     let states = states_few net n (length net.components) in
     let ends = names_end net n in
     let events = times_more (length net.events) n (at_most_one_count (length net.events)) in
-    omega (arith, states, ends, events)
+    omega (arith, states, ends, events, variables_are_counted net n)
   where
     times_more : (e n' x : ℕ) → e * n' ≤ n' * (e + x)
     times_more e n' x = grind arith
