@@ -16,7 +16,8 @@ import sys
 import tempfile
 import time
 
-HERE = os.path.dirname(os.path.abspath(__file__))
+from scratch import built
+
 USED = ["des_base", "prop_core", "proof_ledger", "sat_order", "sat_prop", "sat_learn", "sat_solve"]
 
 
@@ -27,34 +28,6 @@ def pigeonhole(holes):
         for p in range(holes + 1):
             clauses += [[-(p * holes + h + 1), -(q * holes + h + 1)] for q in range(p + 1, holes + 1)]
     return clauses
-
-
-def built(folder):
-    """The program, built in a scratch repository."""
-    for name in USED:
-        shutil.copytree(os.path.join(HERE, "..", "crates", name), os.path.join(folder, "crates", name), dirs_exist_ok=True,
-                        ignore=shutil.ignore_patterns("out", "must-fail", "tests", "tests.rt"))
-        root = os.path.join(folder, "crates", name, "src", "lib.rt")
-        with open(root, encoding="utf-8") as f:
-            text = f.read()
-        with open(root, "w", encoding="utf-8") as f:
-            f.write(re.sub(r"#\[cfg\(test\)\]\s*mod tests;\s*", "", text))
-    with open(os.path.join(HERE, "..", "crates.txt"), encoding="utf-8") as f:
-        lines = [line for line in f if line.split(":")[0] in USED]
-    with open(os.path.join(folder, "crates.txt"), "w", encoding="utf-8") as f:
-        f.writelines(lines + ["pigeonholes: " + " ".join(USED) + "\n"])
-    with open(os.path.join(HERE, "pigeonholes.program"), encoding="utf-8") as f:
-        pieces = re.split(r"^==== (.*)\n", f.read(), flags=re.M)
-    for path, text in zip(pieces[1::2], pieces[2::2]):
-        whole = os.path.join(folder, path)
-        os.makedirs(os.path.dirname(whole), exist_ok=True)
-        with open(whole, "w", encoding="utf-8") as f:
-            f.write(text)
-    crate = os.path.join(folder, "crates", "pigeonholes")
-    run = subprocess.run(["rt", "run", "--", "3"], cwd=crate, capture_output=True, text=True)
-    if run.returncode != 0:
-        sys.exit(run.stdout + run.stderr)
-    return os.path.join(crate, "out", "pigeonholes")
 
 
 def timed(*words):
@@ -78,7 +51,7 @@ def minisat(folder, holes):
 
 
 def main(holes, folder):
-    program = built(folder)
+    program = built(folder, "pigeonholes", USED, "3")
     print("| Holes | Conflicts | Seconds | MiniSat's conflicts | its seconds |")
     print("|---|---|---|---|---|")
     for count in range(3, holes + 1):
