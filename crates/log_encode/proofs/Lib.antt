@@ -12,3 +12,4 @@ pub mod DraftLemmas
 pub mod CallLemmas
 pub mod CommitLemmas
 pub mod WrittenLemmas
+pub mod Widths

@@ -1,0 +1,10 @@
+use Rattle.std.proofs.Common.{◌∙◌, ap, arith}
+use Rattle.log_encode.proofs.tests.grown.Grown.add_alarm.Goals as goal
+use Rattle.log_encode.proofs.Widths.{one_more_alarm}
+use Rattle.log_encode.specs.CodedLog.{CodedLog, code_after}
+
+pub returns-clause-alarms : goal.returns-clause-alarms
+returns-clause-alarms g c =
+    let more = one_more_alarm c.args.self.now.code.code c.commit.new.self.code c.in_ok-draft.draft _ _ c.in_ok-draft.ensures
+    (c.commit.ensures ∙ ap (λ (k : CodedLog). code_after k c.in_ok-draft.draft.addition c.in_ok-draft.draft.first) c.in_ok-reserve.ensures.code) in
+    omega (arith, c.requires.alarms, more)
