@@ -10,6 +10,7 @@ use des_net::Network;
 use prop_core::Lit;
 use std::alloc::Global;
 
+// Whether the event has a label.
 fn is_observable(net: &Network, event: u32) -> bool
     requires { event < length net.now.events }
     ensures { result ≡ is_some (label_of net.now event) }

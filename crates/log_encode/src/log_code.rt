@@ -97,7 +97,9 @@ impl LogCode {
         })
     }
 
-    /// Drafts an alarm with these labels.
+    /// Drafts an alarm with these labels, in the network that the code was made for.
+    ///
+    /// Its variables begin at `first_var`: make them by one `fresh` before the draft is committed.
     pub fn draft_alarm(
         &self,
         net: &Network,
@@ -115,6 +117,7 @@ impl LogCode {
             links: takes.len() as u32,
             steps: self.grid.steps,
         };
+        // The count as it will be once the caller has made the variables.
         let mut fresh = Vars::new();
         fresh.fresh(first_var);
         fresh.fresh(vars.count());
@@ -141,7 +144,7 @@ impl LogCode {
         })
     }
 
-    /// Drafts a pair of alarms, "the first before the second".
+    /// Drafts a pair of alarms, "the first before the second". It takes no variables, and may stand between alarms of one step.
     pub fn draft_before(&self, first: u32, second: u32, first_var: u32) -> Result<Draft, Memory>
         requires first { first < length self.now.code.log.alarms }
         requires second { second < length self.now.code.log.alarms }
@@ -262,6 +265,7 @@ impl LogCode {
         }
     }
 
+    // Where the variables of an alarm stand.
     fn vars_of(&self, alarm: &AlarmCode) -> AlarmVars
         requires { IsWithin (variables_of self.now.code.grid.steps alarm.now) }
         ensures { result ≡ variables_of self.now.code.grid.steps alarm.now }

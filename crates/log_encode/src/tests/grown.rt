@@ -11,7 +11,7 @@ use std::test::Fail;
 
 // The variables of the events are the first ones.
 #[derive(Drop)]
-pub struct Grown {
+pub(super) struct Grown {
     pub grid: Grid,
     pub code: LogCode,
     pub vars: Vars,
@@ -21,7 +21,7 @@ pub struct Grown {
 
 // The code of the empty log.
 #[tactic(auto, using(crate::proofs::Widths::first_names_fit))]
-pub fn begun(rt: &impl Abort, alloc: Global, net: &Network, steps: u32) -> Result<Grown, Fail>
+pub(super) fn begun(rt: &impl Abort, alloc: Global, net: &Network, steps: u32) -> Result<Grown, Fail>
     ensures net { IfOk result (λ grown. grown.code.code.net ≡ net.now) }
     ensures grid { IfOk result (λ grown. grown.code.code.grid ≡ grown.grid) }
     ensures vars { IfOk result (λ grown. grown.code.code.vars ≡ grown.vars) }
@@ -54,7 +54,7 @@ pub fn begun(rt: &impl Abort, alloc: Global, net: &Network, steps: u32) -> Resul
 impl Grown {
     // Adds an alarm with these labels, and tells how many variables it takes and how many clauses it brings.
     #[tactic(auto, using(crate::proofs::Widths::alarm_fits))]
-    pub fn add_alarm(
+    pub(super) fn add_alarm(
         &mut self,
         rt: &impl Abort,
         alloc: Global,
@@ -87,7 +87,7 @@ impl Grown {
     }
 
     // The same for a pair.
-    pub fn add_pair(
+    pub(super) fn add_pair(
         &mut self,
         rt: &impl Abort,
         net: &Network,
@@ -143,7 +143,7 @@ impl Grown {
 }
 
 // The code of a log with these labels of each alarm, and these pairs.
-pub fn grown_log(
+pub(super) fn grown_log(
     rt: &impl Abort,
     alloc: Global,
     net: &Network,

@@ -35,7 +35,7 @@ fn add_component(
 }
 
 // A network with an event for each of these labels. An event with an empty one can't be seen.
-pub fn apart(rt: &impl Abort, alloc: Global, labels: &[&str]) -> Result<Network, Fail> {
+pub(super) fn apart(rt: &impl Abort, alloc: Global, labels: &[&str]) -> Result<Network, Fail> {
     let mut builder = Builder::new(alloc);
     for (names, label) in NAMES.iter().zip(labels) {
         add_component(&mut builder, alloc, *names, *label)?;
@@ -46,7 +46,7 @@ pub fn apart(rt: &impl Abort, alloc: Global, labels: &[&str]) -> Result<Network,
     }
 }
 
-pub fn names_of(alloc: Global, texts: &[&str]) -> Result<NameList, Fail> {
+pub(super) fn names_of(alloc: Global, texts: &[&str]) -> Result<NameList, Fail> {
     let mut names = NameList::new(alloc);
     for text in texts {
         names.push(name(alloc, *text)?)?;

@@ -9,15 +9,15 @@ use std::alloc::Global;
 use std::process::Abort;
 use std::test::Fail;
 
-pub fn is_true(bits: u32, lit: Lit) -> bool {
+pub(super) fn is_true(bits: u32, lit: Lit) -> bool {
     lit.var < 32 && (bits >> lit.var & 1 == 1) == lit.positive
 }
 
-pub fn all_true(bits: u32, lits: &[Lit]) -> bool {
+pub(super) fn all_true(bits: u32, lits: &[Lit]) -> bool {
     lits.iter().all(|lit| is_true(bits, *lit))
 }
 
-pub fn clauses_true(bits: u32, clauses: &Clauses) -> bool {
+pub(super) fn clauses_true(bits: u32, clauses: &Clauses) -> bool {
     for before in 0..clauses.len() {
         let clause = clauses.clause(ClauseId(before + 1));
         if !clause.iter().any(|lit| is_true(bits, *lit)) {
@@ -36,7 +36,7 @@ fn can_hold(clauses: &Clauses, given: u32, made: u32, further: u32) -> bool
 }
 
 // Whether every set of the first so many variables goes with the clauses.
-pub fn all_go(rt: &impl Abort, clauses: &Clauses, made: u32, vars: u32) -> bool {
+pub(super) fn all_go(rt: &impl Abort, clauses: &Clauses, made: u32, vars: u32) -> bool {
     assert!(rt; made < 16);
     let further = vars.saturating_sub(made);
     assert!(rt; further < 24);
@@ -85,7 +85,7 @@ impl Grown {
     }
 
     // What is told of all events, step by step within each.
-    pub fn told(&self, alloc: Global, net: &Network, bits: u32) -> Result<Vec<u8>, Fail>
+    pub(super) fn told(&self, alloc: Global, net: &Network, bits: u32) -> Result<Vec<u8>, Fail>
         requires net { self.now.code.code.net ≡ net.now }
         requires grid { self.now.code.code.grid ≡ self.now.grid }
     {
@@ -127,7 +127,7 @@ impl Grown {
     }
 
     // Whether just these texts are told, in any order.
-    pub fn tells_just(
+    pub(super) fn tells_just(
         &self,
         rt: &impl Abort,
         alloc: Global,
@@ -151,12 +151,12 @@ fn is_among(texts: &Vec<Vec<u8>>, text: &[u8]) -> bool {
 }
 
 // How many of some literals are among others.
-pub fn shared(some: &[Lit], others: &[Lit]) -> usize {
+pub(super) fn shared(some: &[Lit], others: &[Lit]) -> usize {
     some.iter().filter(|lit| others.contains(*lit)).count()
 }
 
 // The literals of both.
-pub fn joined(alloc: Global, some: &[Lit], more: &[Lit]) -> Result<LitList, Fail> {
+pub(super) fn joined(alloc: Global, some: &[Lit], more: &[Lit]) -> Result<LitList, Fail> {
     let mut all = LitList::new(alloc);
     for lit in some {
         all.push(*lit)?;

@@ -14,7 +14,7 @@ use std::alloc::Global;
 
 // A question with some assumptions: the first so many variables, by their signs.
 #[derive(Clone, Copy)]
-pub struct Question {
+pub(super) struct Question {
     pub budget: u64,
     pub count: u32,
     pub signs: u64,
@@ -22,7 +22,7 @@ pub struct Question {
 }
 
 impl Question {
-    pub fn new(budget: u64, count: u32, signs: u64, satisfiable: bool) -> Question {
+    pub(super) fn new(budget: u64, count: u32, signs: u64, satisfiable: bool) -> Question {
         let wanted = if satisfiable {
             Wanted::Satisfiable
         } else {
@@ -38,7 +38,7 @@ impl Question {
 }
 
 // Whether all questions are answered rightly, where all clauses are there from the start.
-pub fn at_once<R: Fn(u32) -> u64>(
+pub(super) fn at_once<R: Fn(u32) -> u64>(
     alloc: Global,
     order: Order<R>,
     vars: u32,
@@ -52,7 +52,7 @@ pub fn at_once<R: Fn(u32) -> u64>(
 }
 
 // The same, where a quarter of the clauses comes after the early questions.
-pub fn asked<R: Fn(u32) -> u64>(
+pub(super) fn asked<R: Fn(u32) -> u64>(
     alloc: Global,
     order: Order<R>,
     vars: u32,

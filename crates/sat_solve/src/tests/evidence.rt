@@ -15,14 +15,14 @@ use std::alloc::Global;
 
 // The answer that a question should have.
 #[derive(Clone, Copy, PartialEq, Eq)]
-pub enum Wanted {
+pub(super) enum Wanted {
     Satisfiable,
     Unsatisfiable,
     Spent,
 }
 
 // Puts a clause into the book, and lets the solver adopt it.
-pub fn add<R: Fn(u32) -> u64>(
+pub(super) fn add<R: Fn(u32) -> u64>(
     solver: &mut Solver<R>,
     book: &mut Ledger,
     clause: &[Lit],
@@ -41,7 +41,7 @@ pub fn add<R: Fn(u32) -> u64>(
 }
 
 // Asks, and sees whether the answer is the one that is wanted, is shown, and was paid for.
-pub fn is_right<R: Fn(u32) -> u64>(
+pub(super) fn is_right<R: Fn(u32) -> u64>(
     alloc: Global,
     solver: &mut Solver<R>,
     book: &mut Ledger,
@@ -98,14 +98,14 @@ fn is_model(clauses: &Clauses, values: &Assignment, vars: u32, assumptions: &[Li
     true
 }
 
-pub fn are_below(literals: &[Lit], vars: u32) -> bool
+pub(super) fn are_below(literals: &[Lit], vars: u32) -> bool
     ensures { result ≡ true → HasValues vars literals.now }
 {
     literals.iter().all(|lit| lit.var < vars)
 }
 
 // Whether no two of the literals are negations of each other.
-pub fn are_compatible(literals: &[Lit]) -> bool
+pub(super) fn are_compatible(literals: &[Lit]) -> bool
     ensures { result ≡ true → AreCompatible literals.now }
 {
     none_negated(literals, literals)

@@ -7,7 +7,7 @@ use std::alloc::Global;
 
 // Clauses of three literals each, drawn by a linear congruential generator: of its upper 31 bits, the lowest is the sign of a
 // literal, and the others, modulo the number of variables, are its variable.
-pub fn drawn(alloc: Global, seed: u64, vars: u32, count: u32) -> Result<Clauses, Memory> {
+pub(super) fn drawn(alloc: Global, seed: u64, vars: u32, count: u32) -> Result<Clauses, Memory> {
     let mut clauses = Clauses::new(alloc);
     let mut state = seed;
     for _ in 0..count {
@@ -33,7 +33,7 @@ fn draw(state: &mut u64, vars: u32) -> Lit {
 }
 
 // The first so many variables, with the signs that the bits of a number give.
-pub fn signed(alloc: Global, count: u32, signs: u64) -> Result<LitList, Memory> {
+pub(super) fn signed(alloc: Global, count: u32, signs: u64) -> Result<LitList, Memory> {
     let mut literals = LitList::new(alloc);
     let mut rest = signs;
     for var in 0..count {
@@ -47,7 +47,7 @@ pub fn signed(alloc: Global, count: u32, signs: u64) -> Result<LitList, Memory> 
 }
 
 // Each of some pigeons whose variable is true, the first variables, has a hole of its own.
-pub fn pigeonholes(alloc: Global, pigeons: u32, holes: u32) -> Result<Clauses, Memory>
+pub(super) fn pigeonholes(alloc: Global, pigeons: u32, holes: u32) -> Result<Clauses, Memory>
     requires pigeons { pigeons < 100 }
     requires holes { holes < 100 }
 {
@@ -92,7 +92,7 @@ fn in_hole(pigeons: u32, holes: u32, pigeon: u32, hole: u32, positive: bool) -> 
 }
 
 // Two sums modulo 2 of all inputs, the one upwards and the other downwards: the variables 0 and 1 are the sums.
-pub fn sums(alloc: Global, inputs: u32) -> Result<Clauses, Memory>
+pub(super) fn sums(alloc: Global, inputs: u32) -> Result<Clauses, Memory>
     requires { inputs < 100 }
 {
     let mut clauses = Clauses::new(alloc);
@@ -138,7 +138,7 @@ fn add_same(clauses: &mut Clauses, one: u32, two: u32) -> Result<(), Memory> {
 }
 
 // Clauses of the first two variables, by their signs.
-pub fn pairs(alloc: Global, signs: &[(bool, bool)]) -> Result<Clauses, Memory> {
+pub(super) fn pairs(alloc: Global, signs: &[(bool, bool)]) -> Result<Clauses, Memory> {
     let mut clauses = Clauses::new(alloc);
     for (one, two) in signs {
         clauses.push([literal(0, *one), literal(1, *two)].as_slice())?;
