@@ -50,6 +50,13 @@ impl Counter {
         })
     }
 
+    /// How many inputs there are.
+    pub fn inputs(&self) -> usize
+        ensures { result ≡ length self.now.inputs }
+    {
+        self.inputs.len()
+    }
+
     /// How many columns there are.
     pub fn columns(&self) -> u32
         ensures columns { result ≡ length self.now.columns }
