@@ -1,4 +1,5 @@
 pub mod Booking
+pub mod Putting
 pub mod Standing
 pub mod Stepping
 pub mod Paying

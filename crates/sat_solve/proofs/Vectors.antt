@@ -8,7 +8,8 @@ use Rattle.prop_core.specs.Clauses.{Clause}
 use Rattle.prop_core.specs.Trail.{Placed, IsTrail, Clashes}
 use Rattle.proof_ledger.specs.Book.{BookEntry, axiomatic, learnt, final}
 use Rattle.proof_ledger.specs.Fresh.{AreFresh}
-use Rattle.sat_solve.specs.Searching.{IsModel, IsRefuted, IsSpent}
+use Rattle.sat_solve.specs.declared.answer.Answer.TheVariants.{Unsat}
+use Rattle.sat_solve.specs.Searching.{HasPut, IsModel, IsRefuted, IsSpent}
 
 abbrev yes : ℕ → Lit
 yes var = record { var = var; positive = true }
@@ -85,6 +86,20 @@ refuted = record {
   last = refl;
   numbered = refl;
   negated = refl;
+}
+
+-- one learnt entry, and then the final one
+refuted_put : HasPut four (four ++ learnt (yes 0 ∷ []) (1 ∷ 3 ∷ []) ∷ final [] (5 ∷ 2 ∷ 4 ∷ []) ∷ []) (Unsat 6)
+refuted_put = record {
+  since = learnt (yes 0 ∷ []) (1 ∷ 3 ∷ []) ∷ final [] (5 ∷ 2 ∷ 4 ∷ []) ∷ [];
+  whole = refl;
+  put = record {
+    before = learnt (yes 0 ∷ []) (1 ∷ 3 ∷ []) ∷ [];
+    clause = [];
+    hints = 5 ∷ 2 ∷ 4 ∷ [];
+    whole = refl;
+    all_learnt = refl;
+  };
 }
 
 -- under the assumption that the first variable is true, two clauses refute it with its negation alone

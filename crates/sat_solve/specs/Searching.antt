@@ -31,6 +31,31 @@ pub record IsSearched (old new : List BookEntry) (left_old left_new : ℕ) : Typ
   pub learnt_entries : HasAxiomVars old → AreFresh old since count
   pub known : HasAxiomVars old → HasAxiomVars new
 
+-- learnt entries alone
+abbrev pub AreLearnt : List BookEntry → Type 0
+AreLearnt entries = list_all is_learnt entries ≡ true
+
+-- learnt entries, and then one final entry
+pub record IsClosedByFinal (since : List BookEntry) : Type 0 where
+  pub before : List BookEntry
+  pub clause : Clause
+  pub hints : List ℕ
+  pub whole : since ≡ before ++ final clause hints ∷ []
+  pub all_learnt : AreLearnt before
+
+-- what a search puts for its answer
+abbrev pub IsPutFor : Answer → List BookEntry → Type 0
+IsPutFor Sat since = AreLearnt since
+IsPutFor (Unsat number) since = IsClosedByFinal since
+IsPutFor Spent since = AreLearnt since
+
+-- What a search put is what it puts for its answer. The final entry after Unsat is the one that `IsRefuted` speaks of: both are
+-- the book's last.
+pub record HasPut (old new : List BookEntry) (answer : Answer) : Type 0 where
+  pub since : List BookEntry
+  pub whole : new ≡ old ++ since
+  pub put : IsPutFor answer since
+
 -- the values make all clauses of the book and all assumptions true
 pub record IsModel (values : List Bool) (book : List BookEntry) (assumed : List Lit) : Type 0 where
   pub clauses : AllClausesTrue (value_in values) (clauses_of book)

@@ -14,7 +14,7 @@ use Rattle.sat_prop.specs.Quiet.{AreQuiet}
 use Rattle.sat_learn.specs.Seen.{is_known_var}
 use Rattle.sat_solve.specs.declared.answer.Answer.{Answer}
 use Rattle.sat_solve.specs.declared.answer.Answer.TheVariants.{Sat, Unsat, Spent}
-use Rattle.sat_solve.specs.Searching.{HasAxiomVars, IsRefuted, IsSpent}
+use Rattle.sat_solve.specs.Searching.{HasAxiomVars, AreLearnt, IsRefuted, IsSpent}
 
 -- The order of the variables, the clauses that were adopted, the values of the last model, the number of variables, and for
 -- how many more clauses there is room.
@@ -114,6 +114,12 @@ pub record IsPaid (old new : List BookEntry) (left_old left_new : ℕ) : Type 0 
   pub paid : left_new + 1 ≡ left_old
   pub fresh : HasAxiomVars old → IsFreshClause old clause
   pub known : list_all (λ l. is_known_var (clauses_of old) l.var) clause ≡ true
+
+-- a search that goes on has put learnt entries alone
+pub record HasLearnt (old new : List BookEntry) : Type 0 where
+  pub since : List BookEntry
+  pub whole : new ≡ old ++ since
+  pub all_learnt : AreLearnt since
 
 -- a final entry is put, of negated assumptions alone
 pub record IsClosed (assumed : List Lit) (old new : List BookEntry) (number : ℕ) : Type 0 where

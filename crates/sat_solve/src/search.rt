@@ -7,8 +7,8 @@ ghost use Rattle.sat_prop.specs.TrailState.{literal_at};
 ghost use Rattle.sat_prop.specs.Levels.{level_of, level_at};
 ghost use Rattle.sat_prop.specs.Quiet.{IsConflict, AreQuiet};
 ghost use Rattle.sat_prop.specs.Changes.{IsKeptUpTo};
-ghost use Rattle.sat_solve.specs.Searching.{IsSearched};
-ghost use Rattle.sat_solve.specs.Solving.{AreCompatible, IsServing, IsUnder, AreWaiting, IsUnderWay, IsLonger, to_do, IsPaid, IsFound, IsUnsettled, IsEnded, IsAtRest};
+ghost use Rattle.sat_solve.specs.Searching.{IsSearched, HasPut};
+ghost use Rattle.sat_solve.specs.Solving.{AreCompatible, IsServing, IsUnder, AreWaiting, IsUnderWay, IsLonger, to_do, HasLearnt, IsPaid, IsFound, IsUnsettled, IsEnded, IsAtRest};
 
 use crate::answer::Answer;
 use crate::ending::{dismiss, further_decision, makes_true, next_assumption, refute};
@@ -143,6 +143,8 @@ fn at_conflict<R: Fn(u32) -> u64>(
     requires ranked { IsRanked R.pre R.post order.old }
     requires conflict { IsConflict trail.old conflict }
     ensures searched { IsSearched book.old.entries book.new.entries left.old left.new }
+    ensures learnt { IfOk result (λ answer. IfNone answer (HasLearnt book.old.entries book.new.entries)) }
+    ensures put { IfOk result (λ answer. IfSome answer (HasPut book.old.entries book.new.entries)) }
     ensures goes_on { IfOk result (λ answer. IfNone answer (IsUnderWay assumptions.now order.new.waiting (length order.old.waiting) spare trail.new book.new.entries)) }
     ensures paid { IfOk result (λ answer. IfNone answer (left.new + 1 ≡ left.old)) }
     ensures ended { IfOk result (λ answer. IfSome answer (IsEnded assumptions.now (length order.old.waiting) spare trail.new book.new.entries left.new)) }
@@ -191,6 +193,8 @@ fn at_rest<R: Fn(u32) -> u64>(
     requires compatible { AreCompatible assumptions.now }
     requires quiet { AreQuiet trail.old.clauses trail.old.attached trail.old.literals }
     ensures searched { (left : ℕ) → IsSearched book.old.entries book.new.entries left left }
+    ensures learnt { IfOk result (λ answer. IfNone answer (HasLearnt book.old.entries book.new.entries)) }
+    ensures put { IfOk result (λ answer. IfSome answer (HasPut book.old.entries book.new.entries)) }
     ensures goes_on { IfOk result (λ answer. IfNone answer (IsUnderWay assumptions.now order.new.waiting (length order.old.waiting) spare trail.new book.new.entries)) }
     ensures decided { IfOk result (λ answer. IfNone answer (IsLonger trail.old trail.new)) }
     ensures ended { (left : ℕ) → IfOk result (λ answer. IfSome answer (IsEnded assumptions.now (length order.old.waiting) spare trail.new book.new.entries left)) }
@@ -236,6 +240,8 @@ fn step<R: Fn(u32) -> u64>(
     requires ranked { IsRanked R.pre R.post order.old }
     requires compatible { AreCompatible assumptions.now }
     ensures searched { IsSearched book.old.entries book.new.entries left.old left.new }
+    ensures learnt { IfOk result (λ answer. IfNone answer (HasLearnt book.old.entries book.new.entries)) }
+    ensures put { IfOk result (λ answer. IfSome answer (HasPut book.old.entries book.new.entries)) }
     ensures goes_on { IfOk result (λ answer. IfNone answer (IsUnderWay assumptions.now order.new.waiting (length order.old.waiting) spare trail.new book.new.entries)) }
     ensures less { IfOk result (λ answer. IfNone answer (to_do left.new trail.new < to_do left.old trail.old)) }
     ensures ended { IfOk result (λ answer. IfSome answer (IsEnded assumptions.now (length order.old.waiting) spare trail.new book.new.entries left.new)) }
@@ -274,6 +280,7 @@ pub fn search<R: Fn(u32) -> u64>(
     requires waiting { AreWaiting order.old.waiting trail.old.literals (length order.old.waiting) }
     requires compatible { AreCompatible assumptions.now }
     ensures searched { IsSearched book.old.entries book.new.entries left.old left.new }
+    ensures put { IfOk result (HasPut book.old.entries book.new.entries) }
     ensures found { IfOk result (IsFound assumptions.now (length order.old.waiting) trail.new book.new.entries left.new) }
     ensures unsettled { IfOk result (IsUnsettled spare trail.new book.new.entries) }
     ensures clauses { OnErr result (trail.new.clauses ≡ clauses_of book.new.entries) }

@@ -4,7 +4,7 @@ ghost use Rattle.prop_core.specs.Clauses.{HasValues};
 ghost use Rattle.proof_ledger.specs.Book.{clauses_of};
 ghost use Rattle.sat_order.specs.Rank.{IsRanked};
 ghost use Rattle.sat_prop.specs.Changes.{IsFront};
-ghost use Rattle.sat_solve.specs.Searching.{IsSearched, IsAnswer};
+ghost use Rattle.sat_solve.specs.Searching.{IsSearched, HasPut, IsAnswer};
 ghost use Rattle.sat_solve.specs.Solving.{AreCompatible};
 
 use crate::answer::Answer;
@@ -117,6 +117,7 @@ impl<R: Fn(u32) -> u64> Solver<R> {
         requires known { HasValues self.old.vars assumptions.now }
         requires compatible { AreCompatible assumptions.now }
         ensures searched { IsSearched book.old.entries book.new.entries left.old left.new }
+        ensures put { IfOk result (HasPut book.old.entries book.new.entries) }
         ensures answer { IfOk result (IsAnswer self.new.assignment book.new.entries assumptions.now left.new) }
         ensures adopted { self.new.adopted ≡ clauses_of book.new.entries }
         ensures ranked { IsRanked R.pre R.post self.new.order }

@@ -1,6 +1,7 @@
 use Rattle.std.proofs.Common.{ap, length}
 use Rattle.sat_prop.specs.TrailState.{TrailState}
 use Rattle.sat_solve.proofs.Booking.{searched_none, searched_paid, searched_closed}
+use Rattle.sat_solve.proofs.Putting.{learnt_one, put_closed}
 use Rattle.sat_solve.proofs.Clashing.{clash_from, refuted_from}
 use Rattle.sat_solve.proofs.Paying.{unattached_from}
 use Rattle.sat_solve.proofs.Retreating.{serving_roomier}
@@ -38,3 +39,11 @@ returns-in-Some-clause-ended g c =
 pub returns-in_ok-pay-in-Some-2-clause-searched : goal.returns-in_ok-pay-in-Some-2-clause-searched
 returns-in_ok-pay-in-Some-2-clause-searched g c =
     searched_paid c.args.book.now.entries c.args.book.now.entries c.pay.new.book.entries c.args.left.now c.args.left.now c.pay.new.left (searched_none c.args.book.now.entries c.args.left.now) c.in_ok-pay-in-Some-2.ensures.paid
+
+pub returns-in_ok-pay-in-Some-2-clause-learnt : goal.returns-in_ok-pay-in-Some-2-clause-learnt
+returns-in_ok-pay-in-Some-2-clause-learnt g c =
+    learnt_one c.args.book.now.entries c.pay.new.book.entries c.args.left.now c.pay.new.left c.in_ok-pay-in-Some-2.ensures.paid
+
+pub returns-in_ok-last-in-None-clause-put : goal.returns-in_ok-last-in-None-clause-put
+returns-in_ok-last-in-None-clause-put g c =
+    put_closed c.args.assumptions.now c.args.book.now.entries c.refute.new.book.entries c.in_ok-last-in-None.last c.in_ok-last-in-None.ensures.closed

@@ -8,6 +8,7 @@ use Rattle.sat_prop.specs.TrailState.{TrailState}
 use Rattle.sat_prop.specs.Changes.{with_literal}
 use Rattle.sat_solve.specs.Searching.{IsSearched}
 use Rattle.sat_solve.proofs.Booking.{searched_none, searched_closed}
+use Rattle.sat_solve.proofs.Putting.{put_closed}
 use Rattle.sat_solve.proofs.Paying.{unattached_from}
 use Rattle.sat_solve.proofs.Clashing.{refuted_from}
 use Rattle.sat_solve.proofs.Standing.{next_forced, next_assumed, assumed_small}
@@ -78,3 +79,7 @@ returns-in-Some-pick-clause-decided g c =
 
 pub returns-in-Some-pick-clause-serving : goal.returns-in-Some-pick-clause-serving
 returns-in-Some-pick-clause-serving g c = (returns-in-Some-pick-clause-goes_on g c).serving
+
+pub returns-in_ok-last-in-Some-clause-put : goal.returns-in_ok-last-in-Some-clause-put
+returns-in_ok-last-in-Some-clause-put g c =
+    put_closed c.args.assumptions.now c.args.book.now.entries c.dismiss.new.book.entries c.in_ok-last-in-Some.last c.in_ok-last-in-Some.ensures.closed
