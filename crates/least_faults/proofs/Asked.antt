@@ -1,0 +1,260 @@
+-- What a question comes to: what it leaves in the book, and what its answer means.
+use Rattle.std.proofs.Common.{◌≡◌, ◌≢◌, ◌∙◌, ℕ, ◌+◌, ◌<◌, ◌≤◌, ◌⊎◌, inl, inr, Bool, true, false, List, [], ◌∷◌, ◌++◌, length, Option, None, Some, IfSome, IfNone, map, refl, sym, ap, subst, arith, Contains, count_by, IsTrue, append-nil, append_assoc}
+use Rattle.std.specs.Prelude.{⊤}
+use Rattle.std.proofs.lemmas.List.{append_cancel_left}
+use Rattle.std.specs.List.{list_any, list_all}
+use Rattle.card_counter.proofs.Exact.{counter_is_exact}
+use Rattle.card_counter.specs.Counting.{true_count}
+use Rattle.card_counter.specs.CounterState.{CounterState, counter_clauses, bound_literal}
+use Rattle.des_net.specs.Network.{Net, IsNetwork}
+use Rattle.least_faults.proofs.Assuming.{negates_only}
+use Rattle.least_faults.proofs.Entailing.{final_entailed}
+use Rattle.least_faults.proofs.Posing.{poses}
+use Rattle.least_faults.proofs.Putting.{counted_more, none_learnt, none_marked, none_final, derived_unmarked, same_axioms, learnt_no_final, no_final_in, none_joined, only_final, same_last}
+use Rattle.least_faults.specs.declared.answer.Best.{Best}
+use Rattle.least_faults.specs.declared.asking.Asked.{Asked}
+use Rattle.least_faults.specs.declared.asking.Asked.TheVariants.{Explained, Refuted, Spent}
+use Rattle.least_faults.specs.Answers.{IsExplanation}
+use Rattle.least_faults.specs.Asking.{AreAssumptions, bound_part, IsSearching, ArePut, HasAsked}
+use Rattle.least_faults.specs.Evidence.{is_final}
+use Rattle.least_faults.specs.Growing.{AddsAxioms}
+use Rattle.least_faults.specs.Parts.{AreParts, AreReady}
+use Rattle.log_clauses.proofs.Lists.{all_at, all_of, append_cases, append_left, append_right, here_first}
+use Rattle.log_encode.specs.CodedLog.{CodedLog, without_names}
+use Rattle.log_order.specs.Log.{Log, IsValidLog}
+use Rattle.proof_ledger.specs.Book.{BookEntry, axiomatic, learnt, final, mark, axioms_of, clauses_of, is_mark, IsValidBook}
+use Rattle.proof_ledger.specs.Fresh.{is_learnt}
+use Rattle.prop_core.specs.Clauses.{Clause, clause_true, literal_true, AllClausesTrue, AllLiteralsTrue}
+use Rattle.prop_core.specs.declared.lit.Lit.{Lit}
+use Rattle.run_decode.proofs.Decided.{refuted_is_decided}
+use Rattle.run_decode.specs.Decided.{NegatesOnly, Entails}
+use Rattle.run_decode.specs.Faithful.{IsWithin, IsFaithful}
+use Rattle.run_decode.specs.Decoding.{IsTrueRun}
+use Rattle.sat_solve.specs.Searching.{IsSearched, HasPut, IsRefuted}
+use Rattle.sat_solve.specs.declared.answer.Answer.TheVariants as solver
+use Rattle.step_encode.specs.Coded.{CodedSteps}
+
+-- ---- what is put
+
+pub searching_axioms : (old new : List BookEntry) (left : ℕ) → AddsAxioms old new → IsSearching old new left left
+searching_axioms old new left adds = record {
+  since = map axiomatic adds.axioms;
+  whole = adds.more;
+  unmarked = λ number. none_marked number adds.axioms;
+  paid = (let none = none_learnt adds.axioms in omega (arith, none));
+}
+
+both_whole : (old mid new : List BookEntry) (before after : ℕ) → (adds : AddsAxioms old mid) → (searched : IsSearched mid new before after) → new ≡ old ++ (map axiomatic adds.axioms ++ searched.since)
+both_whole old mid new before after adds searched = searched.whole ∙ ap (λ b. b ++ searched.since) adds.more ∙ append_assoc old (map axiomatic adds.axioms) searched.since
+
+both_unmarked : (old mid new : List BookEntry) (before after : ℕ) → (adds : AddsAxioms old mid) → (searched : IsSearched mid new before after) → (number : ℕ) → count_by (is_mark number) (map axiomatic adds.axioms ++ searched.since) ≡ 0
+both_unmarked old mid new before after adds searched number =
+    let count = counted_more (is_mark number) (map axiomatic adds.axioms) searched.since in
+    let one = none_marked number adds.axioms in
+    let two = derived_unmarked number searched.since searched.derived in
+    omega (arith, count, one, two)
+
+both_paid : (old mid new : List BookEntry) (before after : ℕ) → (adds : AddsAxioms old mid) → (searched : IsSearched mid new before after) → count_by is_learnt (map axiomatic adds.axioms ++ searched.since) + after ≡ before
+both_paid old mid new before after adds searched =
+    let count = counted_more is_learnt (map axiomatic adds.axioms) searched.since in
+    let none = none_learnt adds.axioms in
+    omega (arith, count, none, searched.number, searched.paid)
+
+pub searching_both : (old mid new : List BookEntry) (before after : ℕ) → AddsAxioms old mid → IsSearched mid new before after → IsSearching old new before after
+searching_both old mid new before after adds searched = record {
+  since = map axiomatic adds.axioms ++ searched.since;
+  whole = both_whole old mid new before after adds searched;
+  unmarked = both_unmarked old mid new before after adds searched;
+  paid = both_paid old mid new before after adds searched;
+}
+
+pub ready_after : (steps : CodedSteps) (code : CodedLog) (counter : CounterState) (vars before after : ℕ) (adopted kept : List Clause) (values more : ℕ) (mid new : List BookEntry) → AreReady steps code counter vars adopted values mid →
+    IsSearched mid new before after → kept ≡ clauses_of new → more ≡ values → AreReady steps code counter vars kept more new
+ready_after steps code counter vars before after adopted kept values more mid new ready searched all same = record {
+  parts = subst (AreParts steps code counter vars) (sym (ap axioms_of searched.whole ∙ same_axioms mid searched.since searched.derived)) ready.parts;
+  adopted_all = all;
+  enough = subst (λ v. vars ≤ v) (sym same) ready.enough;
+}
+
+-- ---- a model
+
+axioms_true : (value : ℕ → Bool) (book : List BookEntry) → AllClausesTrue value (clauses_of book) → AllClausesTrue value (axioms_of book)
+axioms_true value [] all = tt
+axioms_true value (axiomatic clause ∷ book) all = (all.0, axioms_true value book all.1)
+axioms_true value (learnt clause hints ∷ book) all = axioms_true value book all.1
+axioms_true value (final clause hints ∷ book) all = axioms_true value book all.1
+axioms_true value (mark number ∷ book) all = axioms_true value book all
+
+-- what makes the book true makes the axioms true from which a search began
+pub begun_true : (value : ℕ → Bool) (mid new : List BookEntry) (before after : ℕ) → IsSearched mid new before after → AllClausesTrue value (clauses_of new) → AllClausesTrue value (axioms_of mid)
+begun_true value mid new before after searched all = subst (AllClausesTrue value) (ap axioms_of searched.whole ∙ same_axioms mid searched.since searched.derived) (axioms_true value new all)
+
+-- a model of the axioms and the assumptions gives a run
+pub true_run : (steps : CodedSteps) (code : CodedLog) (counter : CounterState) (vars : ℕ) (axioms : List Clause) (bound : Option ℕ) (assumed : List Lit) (value : ℕ → Bool) → AreParts steps code counter vars axioms →
+    AreAssumptions code counter bound assumed → AllClausesTrue value axioms → AllLiteralsTrue value assumed → IsTrueRun steps code value
+true_run steps code counter vars axioms bound assumed value parts assumptions all literals = record {
+  guards = assumptions.guards;
+  makes = record {
+    stepped = parts.clauses.stepped;
+    written = parts.clauses.written;
+    step_code = parts.clauses.step_code;
+    log_code = parts.clauses.log_code;
+    guards_read = assumptions.read;
+    makes = record {
+      steps = all_of (λ c. IsTrue (clause_true value c)) parts.clauses.stepped (λ clause in'. all_at (λ c. IsTrue (clause_true value c)) axioms all clause ((parts.clauses.same clause).1 (inl in')));
+      log_true = record {
+        clauses = all_of (λ c. IsTrue (clause_true value c)) parts.clauses.written (λ clause in'. all_at (λ c. IsTrue (clause_true value c)) axioms all clause ((parts.clauses.same clause).1 (inr (inl in'))));
+        guards = all_of (λ l. IsTrue (literal_true value l)) assumptions.guards
+            (λ l in'. all_at (λ l'. IsTrue (literal_true value l')) assumed literals l (subst (λ xs. Contains xs l) (sym assumptions.whole) (append_left assumptions.guards (bound_part counter bound) l in')));
+      };
+    };
+  };
+}
+
+-- ---- what is answered
+
+module _ (steps : CodedSteps) (code : CodedLog) (counter : CounterState) (vars : ℕ) (net : Net) (log : Log) (mid : List BookEntry) (parts : AreParts steps code counter vars (axioms_of mid))
+    (of_net : steps.net ≡ net) (network : IsNetwork net) (valid : IsValidLog log) (same : code.log ≡ without_names log) (bound : Option ℕ) (assumed : List Lit) (assumptions : AreAssumptions code counter bound assumed)
+    (old new : List BookEntry) (before after : ℕ) (adds : AddsAxioms old mid) (searched : IsSearched mid new before after) where
+  now_axioms : axioms_of new ≡ axioms_of mid
+  now_axioms = ap axioms_of searched.whole ∙ same_axioms mid searched.since searched.derived
+
+  -- the entries that a search put are those that its answer says
+  same_since : (since : List BookEntry) → new ≡ mid ++ since → since ≡ searched.since
+  same_since since whole = append_cancel_left mid since searched.since (sym whole ∙ searched.whole)
+
+  no_final : list_all is_learnt searched.since ≡ true → list_any is_final (map axiomatic adds.axioms ++ searched.since) ≡ false
+  no_final all_learnt = none_joined (map axiomatic adds.axioms) searched.since (none_final adds.axioms) (learnt_no_final searched.since all_learnt)
+
+  -- without a bound no axiom is added
+  alone : (b : Option ℕ) → IfNone b (adds.axioms ≡ []) → list_all is_learnt searched.since ≡ true → IfNone b (list_all is_learnt (map axiomatic adds.axioms ++ searched.since) ≡ true)
+  alone None none all_learnt = ap (λ axioms. list_all is_learnt (map axiomatic axioms ++ searched.since)) none ∙ all_learnt
+  alone (Some k) none all_learnt = tt
+
+  if_none : (b : Option ℕ) (P Q : Type 0) → (P → Q) → IfNone b P → IfNone b Q
+  if_none None P Q f p = f p
+  if_none (Some k) P Q f p = tt
+
+  -- where nothing is refuted
+  put_learnt : (asked : Asked) → IfNone bound (adds.axioms ≡ []) → list_all is_learnt searched.since ≡ true → ArePut code counter bound (map axiomatic adds.axioms ++ searched.since) asked
+  put_learnt asked none all_learnt = record {
+    finals = λ clause hints in'. absurd (no_final_in (map axiomatic adds.axioms ++ searched.since) clause hints (no_final all_learnt) in');
+    none = λ not. no_final all_learnt;
+    unbounded = if_none bound (list_all is_learnt (map axiomatic adds.axioms ++ searched.since) ≡ true) (asked ≢ Refuted → list_all is_learnt (map axiomatic adds.axioms ++ searched.since) ≡ true) (λ p not. p) (alone bound none all_learnt);
+  }
+
+  pub asked_spent : IfNone bound (adds.axioms ≡ []) → HasPut mid new solver.Spent → after ≡ 0 → HasAsked code counter net log steps.steps bound old new before after Spent
+  asked_spent none put nothing = record {
+    since = map axiomatic adds.axioms ++ searched.since;
+    whole = both_whole old mid new before after adds searched;
+    unmarked = both_unmarked old mid new before after adds searched;
+    paid = both_paid old mid new before after adds searched;
+    put = put_learnt Spent none (subst (λ xs. list_all is_learnt xs ≡ true) (same_since put.since put.whole) put.put);
+    means = nothing;
+  }
+
+  -- ---- an explanation
+
+  -- no more inputs are true than the bound says
+  few_true : (value : ℕ → Bool) (k : ℕ) → k < length counter.columns → AllClausesTrue value (axioms_of mid) → IsTrue (literal_true value (bound_literal counter k)) → true_count value counter.inputs ≤ k
+  few_true value k less axioms within =
+      ((counter_is_exact counter parts.together.counted).bounded k less value).0
+      (value, (λ var other. refl), (all_of (λ c. IsTrue (clause_true value c)) (counter_clauses counter) (λ clause in'. all_at (λ c. IsTrue (clause_true value c)) (axioms_of mid) axioms clause ((parts.clauses.same clause).1 (inr (inr in')))), within))
+
+  is_within : (value : ℕ → Bool) (b : Option ℕ) (xs : List Lit) → xs ≡ assumptions.guards ++ bound_part counter b → IfSome b (λ k. k < length counter.columns) → AllClausesTrue value (axioms_of mid) → AllLiteralsTrue value xs →
+      (faults : ℕ) → faults ≡ true_count value counter.inputs → IsWithin b faults
+  is_within value None xs whole column axioms literals faults count = tt
+  is_within value (Some k) xs whole column axioms literals faults count =
+      let there = append_right assumptions.guards (bound_literal counter k ∷ []) (bound_literal counter k) (here_first (bound_literal counter k) [] (bound_literal counter k) refl) in
+      let within = all_at (λ l. IsTrue (literal_true value l)) xs literals (bound_literal counter k) (subst (λ ys. Contains ys (bound_literal counter k)) (sym whole) there) in
+      let few = few_true value k column axioms within in
+      omega (arith, few, count)
+
+  some_true : (value : ℕ → Bool) (inputs : List Lit) → 0 < true_count value inputs → 0 < length inputs
+  some_true value [] more = more
+  some_true value (l ∷ inputs) more = omega arith
+
+  pub asked_explained : (value : ℕ → Bool) (best : Best) → IfNone bound (adds.axioms ≡ []) → HasPut mid new solver.Sat → AllClausesTrue value (axioms_of mid) → AllLiteralsTrue value assumed →
+      IsExplanation net log steps.steps best → best.faults ≡ true_count value counter.inputs → HasAsked code counter net log steps.steps bound old new before after (Explained best)
+  asked_explained value best none put axioms literals given count = record {
+    since = map axiomatic adds.axioms ++ searched.since;
+    whole = both_whole old mid new before after adds searched;
+    unmarked = both_unmarked old mid new before after adds searched;
+    paid = both_paid old mid new before after adds searched;
+    put = put_learnt (Explained best) none (subst (λ xs. list_all is_learnt xs ≡ true) (same_since put.since put.whole) put.put);
+    means = record {
+      given = given;
+      within = is_within value bound assumed assumptions.whole assumptions.column axioms literals best.faults count;
+      counted = λ more. some_true value counter.inputs (omega (arith, more, count));
+    };
+  }
+
+  -- ---- a refusal
+
+  refused : Refuted ≢ Refuted → ⊥
+  refused not = not refl
+
+  pub asked_refuted : (number : ℕ) → HasPut mid new (solver.Unsat number) → IsRefuted new assumed number → IsValidBook new → HasAsked code counter net log steps.steps bound old new before after Refuted
+  asked_refuted number put refuted whole = record {
+    since = map axiomatic adds.axioms ++ searched.since;
+    whole = both_whole old mid new before after adds searched;
+    unmarked = both_unmarked old mid new before after adds searched;
+    paid = both_paid old mid new before after adds searched;
+    put = record {
+      finals = λ clause hints in'. (assumed, assumptions, negates clause hints in');
+      none = λ not. absurd (refused not);
+      unbounded = if_none bound (⊤) (Refuted ≢ Refuted → list_all is_learnt (map axiomatic adds.axioms ++ searched.since) ≡ true) (λ p not. absurd (refused not)) (given bound);
+    };
+    means = record {
+      assumed = assumed;
+      assumptions = assumptions;
+      refuted = record {
+        earlier = map axiomatic adds.axioms ++ put.put.before;
+        clause = put.put.clause;
+        hints = put.put.hints;
+        later = [];
+        whole = ap (λ xs. map axiomatic adds.axioms ++ xs) (sym same_put ∙ put.put.whole) ∙ sym (append_assoc (map axiomatic adds.axioms) put.put.before (final put.put.clause put.put.hints ∷ []));
+        last = refl;
+        negates = last_negates;
+      };
+      decided = refuted_is_decided net log steps.steps bound (axioms_of mid) assumed put.put.clause faithful
+          (subst (λ axioms. Entails axioms put.put.clause) now_axioms (final_entailed new put.put.clause put.put.hints whole there)) last_negates;
+    };
+  }
+    where
+      faithful : IsFaithful (axioms_of mid) assumed net log steps.steps bound
+      faithful = subst (λ net'. IsFaithful (axioms_of mid) assumed net' log steps.steps bound) of_net
+          (poses steps code counter vars (axioms_of mid) bound assumed parts assumptions log (subst IsNetwork (sym of_net) network) valid same).faithful
+
+      same_put : put.since ≡ searched.since
+      same_put = same_since put.since put.whole
+
+      given : (b : Option ℕ) → IfNone b ⊤
+      given None = tt
+      given (Some k) = tt
+
+      new_is : new ≡ (mid ++ put.put.before) ++ final put.put.clause put.put.hints ∷ []
+      new_is = put.whole ∙ ap (λ xs. mid ++ xs) put.put.whole ∙ sym (append_assoc mid put.put.before (final put.put.clause put.put.hints ∷ []))
+
+      last_negates : NegatesOnly assumed put.put.clause
+      last_negates = subst (NegatesOnly assumed) (same_last refuted.earlier (mid ++ put.put.before) refuted.clause put.put.clause refuted.hints put.put.hints (sym refuted.last ∙ new_is)) (negates_only assumed refuted.clause refuted.negated)
+
+      there : Contains new (final put.put.clause put.put.hints)
+      there = subst (λ xs. Contains xs (final put.put.clause put.put.hints)) (sym new_is)
+          (append_right (mid ++ put.put.before) (final put.put.clause put.put.hints ∷ []) (final put.put.clause put.put.hints) (here_first (final put.put.clause put.put.hints) [] (final put.put.clause put.put.hints) refl))
+
+      negates : (clause : Clause) (hints : List ℕ) → Contains (map axiomatic adds.axioms ++ searched.since) (final clause hints) → NegatesOnly assumed clause
+      negates clause hints in' = by (append_cases (map axiomatic adds.axioms) searched.since (final clause hints) in')
+        where
+          by : Contains (map axiomatic adds.axioms) (final clause hints) ⊎ Contains searched.since (final clause hints) → NegatesOnly assumed clause
+          by (inl first) = absurd (no_final_in (map axiomatic adds.axioms) clause hints (none_final adds.axioms) first)
+          by (inr here) = subst (NegatesOnly assumed) (sym (only_final put.since clause hints put.put (subst (λ xs. Contains xs (final clause hints)) (sym same_put) here))) last_negates
+
+-- where the book stayed as it was, no axiom was added
+pub none_added : (bound : Option ℕ) (old mid : List BookEntry) → (adds : AddsAxioms old mid) → IfNone bound (mid ≡ old) → IfNone bound (adds.axioms ≡ [])
+none_added (Some k) old mid adds same = tt
+none_added None old mid adds same = empty adds.axioms (append_cancel_left old (map axiomatic adds.axioms) [] (sym adds.more ∙ same ∙ sym (append-nil old)))
+  where
+    empty : (clauses : List Clause) → map axiomatic clauses ≡ [] → clauses ≡ []
+    empty [] is = refl
+    empty (c ∷ clauses) is = cc

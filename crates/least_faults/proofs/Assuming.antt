@@ -1,0 +1,90 @@
+-- What a question assumes: variables that were made, no contradiction, and the same where the counter gets a column.
+use Rattle.std.proofs.Common.{◌≡◌, ◌≢◌, ◌∙◌, ℕ, ◌<◌, ◌≤◌, true, false, ◌⊎◌, inl, inr, List, [], ◌∷◌, ◌++◌, length, Option, None, Some, slice_index_or, refl, sym, ap, arith, Contains, zero, suc, ◌-◌, length-append}
+use Rattle.std.specs.List.{list_all}
+use Rattle.card_counter.specs.CounterState.{CounterState, column_at, var_at, bound_literal, negative}
+use Rattle.des_base.specs.Lists.{EachPair}
+use Rattle.least_faults.proofs.Below.{read_below, names_below}
+use Rattle.least_faults.specs.Asking.{AreAssumptions}
+use Rattle.least_faults.specs.Evidence.{IsPosed}
+use Rattle.least_faults.specs.Growing.{KeepsColumns}
+use Rattle.least_faults.specs.Parts.{AreParts}
+use Rattle.des_net.specs.Network.{Net}
+use Rattle.log_clauses.proofs.Lists.{or_cases, both, all_at, as_false, here_first, here_later}
+use Rattle.log_encode.specs.CodedLog.{CodedLog}
+use Rattle.log_order.specs.Log.{Log}
+use Rattle.prop_core.proofs.Literals.{same_is, not_self, negation_twice}
+use Rattle.prop_core.specs.Clauses.{Clause, HasValues, is_true, is_false, negation, same_literal}
+use Rattle.prop_core.specs.declared.lit.Lit.{Lit}
+use Rattle.run_decode.specs.Decided.{NegatesOnly}
+use Rattle.run_decode.specs.WholeNaming.{whole_names}
+use Rattle.sat_solve.specs.Solving.{AreCompatible}
+use Rattle.step_encode.specs.Coded.{CodedSteps}
+
+pub assumed_below : (steps : CodedSteps) (code : CodedLog) (counter : CounterState) (vars : ℕ) (axioms clauses : List Clause) (assumed : List Lit) (net : Net) (log : Log) (n : ℕ) (bound : Option ℕ) →
+    AreParts steps code counter vars axioms → IsPosed (whole_names steps code counter) clauses assumed net log n bound → HasValues vars assumed
+assumed_below steps code counter vars axioms clauses assumed net log n bound parts posed =
+    read_below vars (whole_names steps code counter) assumed posed.assumes.read (names_below steps code counter vars axioms parts) posed.assumes.by_name
+
+-- a literal that is true under a list is in it
+pub true_there : (taken : List Lit) (l : Lit) → is_true taken l ≡ true → Contains taken l
+true_there [] l h = cc
+true_there (x ∷ taken) l h = by (or_cases (same_literal l x) (is_true taken l) h) (true_there taken l)
+  where
+    by : (same_literal l x ≡ true) ⊎ (is_true taken l ≡ true) → (is_true taken l ≡ true → Contains taken l) → Contains (x ∷ taken) l
+    by (inl same) later = here_first x taken l (sym (same_is l x same))
+    by (inr rest) later = here_later x taken l (later rest)
+
+pub negates_only : (assumed : List Lit) (clause : Clause) → list_all (λ l. is_true assumed (negation l)) clause ≡ true → NegatesOnly assumed clause
+negates_only assumed [] h = tt
+negates_only assumed (l ∷ clause) h =
+    let parts = both (is_true assumed (negation l)) (list_all (λ l'. is_true assumed (negation l')) clause) h in
+    (true_there assumed (negation l) parts.0, negates_only assumed clause parts.1)
+
+-- ---- no contradiction
+
+not_both : (l x : Lit) → same_literal l x ≡ true → same_literal (negation l) x ≡ true → ⊥
+not_both l x same other = clash (sym (ap (λ y. same_literal (negation l) y) (same_is l x same)) ∙ not_self l)
+  where
+    clash : same_literal (negation l) x ≡ false → ⊥
+    clash e = cc
+
+opposites : (assumed : List Lit) (l : Lit) → EachPair (λ a b. a ≢ negation b) assumed → is_true assumed l ≡ true → is_true assumed (negation l) ≡ true → ⊥
+opposites [] l apart h k = cc
+opposites (x ∷ assumed) l apart h k = by (or_cases (same_literal l x) (is_true assumed l) h) (or_cases (same_literal (negation l) x) (is_true assumed (negation l)) k) (opposites assumed l apart.1)
+  where
+    first : (y : Lit) → is_true assumed y ≡ true → x ≡ negation y → ⊥
+    first y in' is = all_at (λ b. x ≢ negation b) assumed apart.0 y (true_there assumed y in') is
+
+    by : (same_literal l x ≡ true) ⊎ (is_true assumed l ≡ true) → (same_literal (negation l) x ≡ true) ⊎ (is_true assumed (negation l) ≡ true) → (is_true assumed l ≡ true → is_true assumed (negation l) ≡ true → ⊥) → ⊥
+    by (inl same) (inl other) later = not_both l x same other
+    by (inl same) (inr other) later = first (negation l) other (sym (same_is l x same) ∙ sym (negation_twice l))
+    by (inr same) (inl other) later = first l same (sym (same_is (negation l) x other))
+    by (inr same) (inr other) later = later same other
+
+pub compatible : (assumed : List Lit) → EachPair (λ a b. a ≢ negation b) assumed → AreCompatible assumed
+compatible assumed apart l h = as_false (is_false assumed l) (λ k. opposites assumed l apart h k)
+
+-- ---- where the counter gets a column
+
+index_front : {X : Type 0} (xs ys : List X) (k : ℕ) (d : X) → k < length xs → slice_index_or (xs ++ ys) k d ≡ slice_index_or xs k d
+index_front [] ys k d less = absurd (omega (arith, less))
+index_front (x ∷ xs) ys zero d less = refl
+index_front (x ∷ xs) ys (suc k) d less = index_front xs ys k d (omega (arith, less))
+
+bound_stays : (old new : CounterState) (k : ℕ) → KeepsColumns old new → k < length old.columns → bound_literal new k ≡ bound_literal old k
+bound_stays old new k keeps less =
+    ap (λ (inputs : List Lit). negative (var_at (column_at new.columns k) (length inputs - 1))) keeps.inputs
+    ∙ ap (λ (columns : List (List ℕ)). negative (var_at (column_at columns k) (length old.inputs - 1))) keeps.more
+    ∙ ap (λ (column : List ℕ). negative (var_at column (length old.inputs - 1))) (index_front old.columns keeps.columns k [] less)
+
+pub assumptions_stay : (code : CodedLog) (old new : CounterState) (bound : Option ℕ) (assumed : List Lit) → KeepsColumns old new → AreAssumptions code old bound assumed → AreAssumptions code new bound assumed
+assumptions_stay code old new None assumed keeps assumptions = record { guards = assumptions.guards; read = assumptions.read; whole = assumptions.whole; column = tt }
+assumptions_stay code old new (Some k) assumed keeps assumptions = record {
+  guards = assumptions.guards;
+  read = assumptions.read;
+  whole = assumptions.whole ∙ ap (λ l. assumptions.guards ++ l ∷ []) (sym (bound_stays old new k keeps assumptions.column));
+  column = (let count = ap length keeps.more ∙ length-append old.columns keeps.columns in omega (arith, count, assumptions.column));
+}
+
+pub below_more : (few many : ℕ) (clause : Clause) → few ≤ many → HasValues few clause → HasValues many clause
+below_more few many clause more below k d less = let here = below k d less in omega (arith, here, more)

@@ -1,0 +1,17 @@
+pub mod Posing
+pub mod AxiomLists
+pub mod QuestionRoom
+pub mod CodedAlarms
+pub mod Beginning
+pub mod Below
+pub mod FewClauses
+pub mod Columns
+pub mod Entailing
+pub mod KnownEvents
+pub mod Assuming
+pub mod Staying
+pub mod Telling
+pub mod Putting
+pub mod Asked
+pub mod Climbing
+pub mod Closing

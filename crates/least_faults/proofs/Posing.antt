@@ -1,0 +1,51 @@
+-- What the parts of a question ask, with what is assumed: it is faithful and drawn from its families, whatever the names of the log's alarms.
+use Rattle.std.proofs.Common.{ℕ, ◌<◌, List, ◌++◌, length, Option, Some, None, IfSome, sym, subst, append-nil}
+use Rattle.card_counter.specs.CounterState.{CounterState}
+use Rattle.least_faults.specs.Asking.{AreAssumptions, Pose, bound_part}
+use Rattle.least_faults.specs.Evidence.{IsPosed}
+use Rattle.least_faults.specs.Parts.{AreParts}
+use Rattle.des_net.specs.Network.{Net, IsNetwork}
+use Rattle.log_clauses.proofs.Lists.{all_of, all_at}
+use Rattle.log_encode.specs.CodedLog.{CodedLog}
+use Rattle.log_order.specs.Log.{Log, IsValidLog}
+use Rattle.prop_core.specs.Clauses.{Clause}
+use Rattle.prop_core.specs.VariableNames.{Name, NamedLiteral, ReadsAs}
+use Rattle.prop_core.specs.declared.lit.Lit.{Lit}
+use Rattle.run_decode.proofs.Nameless.{alarm_names_dont_matter}
+use Rattle.run_decode.proofs.Questions.{instances_of, question_is_faithful}
+use Rattle.run_decode.proofs.WholeNames.{together_ask}
+use Rattle.run_decode.specs.Drawn.{IsInstance}
+use Rattle.run_decode.specs.Question.{Asks, IsNamedQuestion}
+use Rattle.run_decode.specs.WholeNaming.{whole_names, AskTogether}
+use Rattle.step_encode.specs.Coded.{CodedSteps}
+
+-- what asks a question poses it by the same names
+asks_poses : (net : Net) (log : Log) (n : ℕ) (bound : Option ℕ) (names : List (ℕ × Name)) (clauses : List Clause) (assumed : List Lit) →
+    IsNetwork net → IsValidLog log → Asks net log n bound names clauses assumed → IsPosed names clauses assumed net log n bound
+asks_poses net log n bound names clauses assumed network valid asks = record {
+  faithful = question_is_faithful net log n bound names clauses assumed network valid asks;
+  once = asks.question.once;
+  instances = all_of (IsInstance net log n names) clauses (λ clause here.
+      let found = all_at (λ c. (named : List NamedLiteral) × IsNamedQuestion net log n asks.columns named × ReadsAs names c named) clauses asks.question.code.only clause here in
+      (found.0, instances_of net log n asks.columns found.0 found.1, found.2));
+  assumes = asks.assumes;
+}
+
+-- parts and assumptions ask
+parts_ask : (steps : CodedSteps) (code : CodedLog) (counter : CounterState) (vars : ℕ) (axioms : List Clause) (bound : Option ℕ) (assumed : List Lit) → AreParts steps code counter vars axioms →
+    AreAssumptions code counter bound assumed → Asks steps.net code.log steps.steps bound (whole_names steps code counter) axioms assumed
+parts_ask steps code counter vars axioms bound assumed parts assumptions = subst (Asks steps.net code.log steps.steps bound (whole_names steps code counter) axioms) (sym assumptions.whole) (by bound assumptions.column)
+  where
+    ask : AskTogether steps code counter axioms assumptions.guards
+    ask = together_ask steps code counter axioms assumptions.guards parts.together parts.clauses assumptions.read
+
+    by : (b : Option ℕ) → IfSome b (λ k. k < length counter.columns) → Asks steps.net code.log steps.steps b (whole_names steps code counter) axioms (assumptions.guards ++ bound_part counter b)
+    by None there = subst (Asks steps.net code.log steps.steps None (whole_names steps code counter) axioms) (sym (append-nil assumptions.guards)) ask.unbounded
+    by (Some k) there = ask.bounded k there
+
+pub poses : (steps : CodedSteps) (code : CodedLog) (counter : CounterState) (vars : ℕ) (axioms : List Clause) (bound : Option ℕ) (assumed : List Lit) → AreParts steps code counter vars axioms →
+    AreAssumptions code counter bound assumed → Pose steps code counter axioms bound assumed
+poses steps code counter vars axioms bound assumed parts assumptions log network valid same =
+    asks_poses steps.net log steps.steps bound (whole_names steps code counter) axioms assumed network valid
+    (((alarm_names_dont_matter steps.net log steps.steps).asks bound (whole_names steps code counter) axioms assumed).1
+    (subst (λ l. Asks steps.net l steps.steps bound (whole_names steps code counter) axioms assumed) same (parts_ask steps code counter vars axioms bound assumed parts assumptions)))

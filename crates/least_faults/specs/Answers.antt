@@ -1,0 +1,68 @@
+-- What is found of the least number of faults that explains a log, and what each answer means.
+use Rattle.std.specs.Prelude.{◌≡◌, ℕ, suc, ◌<◌, ◌≤◌, true, List, [], ◌∷◌, ◌++◌, Option, Some, None, IfSome, IfNone, count_by}
+use Rattle.std.specs.List.{list_all}
+use Rattle.des_net.specs.Network.{Net}
+use Rattle.des_net.specs.Run.{fault_count}
+use Rattle.least_faults.specs.declared.answer.Best.{Best}
+use Rattle.least_faults.specs.declared.answer.Found.{Found}
+use Rattle.least_faults.specs.declared.answer.Found.TheVariants.{Explained, Absent, Many, Undecided}
+use Rattle.least_faults.specs.Evidence.{HasFinal, IsEvidence}
+use Rattle.log_order.specs.Log.{Log}
+use Rattle.proof_ledger.specs.Book.{BookEntry, mark, axioms_of, is_mark}
+use Rattle.proof_ledger.specs.Fresh.{is_learnt}
+use Rattle.prop_core.specs.Clauses.{Clause}
+use Rattle.prop_core.specs.VariableNames.{Name, ReadsAs}
+use Rattle.prop_core.specs.declared.lit.Lit.{Lit}
+use Rattle.replay.specs.Explanation.{Explains, NeedsFaults, IsLeast, IsAbsent, IsMany}
+use Rattle.replay.specs.Matching.{IsWellMatched, order_of}
+use Rattle.replay.specs.Traced.{word_of}
+use Rattle.run_decode.specs.Drawn.{assumption_literals}
+
+-- a run that explains the log, and the number of its faults
+pub record IsExplanation (net : Net) (log : Log) (n : ℕ) (best : Best) : Type 0 where
+  pub matched : IsWellMatched net log best.run
+  pub explains : Explains net log n (word_of best.run) (order_of log best.run)
+  pub faults : fault_count net (word_of best.run) ≡ best.faults
+
+-- ---- the answers, with what the entries since the question was opened show
+
+-- no explanation has fewer faults, which the book shows
+pub record IsLeastFound (names : List (ℕ × Name)) (axioms : List Clause) (since : List BookEntry) (net : Net) (log : Log) (n : ℕ) (best : Best) : Type 0 where
+  pub given : IsExplanation net log n best
+  pub few : best.faults ≤ 255
+  pub least : IsLeast net log n best.faults
+  pub evidence : (b : ℕ) → best.faults ≡ suc b → IsEvidence names axioms since net log n (Some b)
+
+-- nothing explains the log
+pub record IsAbsentFound (names : List (ℕ × Name)) (axioms : List Clause) (since : List BookEntry) (net : Net) (log : Log) (n : ℕ) : Type 0 where
+  pub absent : IsAbsent net log n
+  pub evidence : IsEvidence names axioms since net log n None
+
+-- all that explains the log has more than 255 faults
+pub record IsManyFound (names : List (ℕ × Name)) (axioms : List Clause) (since : List BookEntry) (net : Net) (log : Log) (n : ℕ) (best : Best) : Type 0 where
+  pub given : IsExplanation net log n best
+  pub above : 255 < best.faults
+  pub many : IsMany net log n
+  pub evidence : IsEvidence names axioms since net log n (Some 255)
+
+-- The budget was spent on learnt entries. All explanations have at least lo faults, and lo is one more than the greatest bound that a final entry refutes, or 0; an explanation that is known has more. Where none is known, nothing but learnt entries was put.
+pub record IsUndecidedFound (names : List (ℕ × Name)) (axioms : List Clause) (since : List BookEntry) (net : Net) (log : Log) (n budget lo : ℕ) (best : Option Best) : Type 0 where
+  pub spent : count_by is_learnt since ≡ budget
+  pub above : NeedsFaults net log n lo
+  pub evidence : (b : ℕ) → lo ≡ suc b → IsEvidence names axioms since net log n (Some b)
+  pub greatest : (b : ℕ) (assumed : List Lit) → ReadsAs names assumed (assumption_literals net log n (Some b)) → HasFinal since assumed → b < lo
+  pub given : IfSome best (λ run. IsExplanation net log n run × (lo < run.faults))
+  pub unknown : IfNone best ((lo ≡ 0) × (list_all is_learnt since ≡ true))
+
+abbrev pub IsFound : List (ℕ × Name) → List Clause → List BookEntry → Net → Log → ℕ → ℕ → Found → Type 0
+IsFound names axioms since net log n budget (Explained best) = IsLeastFound names axioms since net log n best
+IsFound names axioms since net log n budget Absent = IsAbsentFound names axioms since net log n
+IsFound names axioms since net log n budget (Many best) = IsManyFound names axioms since net log n best
+IsFound names axioms since net log n budget (Undecided lo best) = IsUndecidedFound names axioms since net log n budget lo best
+
+-- The question was opened by a mark 0 and closed by a mark 1, and the entries between show what was found.
+pub record IsAnswered (names : List (ℕ × Name)) (net : Net) (log : Log) (n budget : ℕ) (old new : List BookEntry) (answer : Found) : Type 0 where
+  pub since : List BookEntry
+  pub whole : new ≡ old ++ mark 0 ∷ since ++ mark 1 ∷ []
+  pub unmarked : (number : ℕ) → count_by (is_mark number) since ≡ 0
+  pub found : IsFound names (axioms_of new) since net log n budget answer

@@ -1,0 +1,84 @@
+-- One question of a search: what it assumes, what it leaves in the book, and what its answer means.
+use Rattle.std.specs.Prelude.{◌≡◌, ◌≢◌, ℕ, ◌+◌, ◌<◌, true, false, List, [], ◌∷◌, ◌++◌, length, Option, Some, None, IfSome, IfNone, Contains, count_by}
+use Rattle.std.specs.List.{list_all, list_any}
+use Rattle.card_counter.specs.CounterState.{CounterState, bound_literal}
+use Rattle.des_net.specs.Network.{Net, IsNetwork}
+use Rattle.least_faults.specs.declared.answer.Best.{Best}
+use Rattle.least_faults.specs.declared.asking.Asked.{Asked}
+use Rattle.least_faults.specs.declared.asking.Asked.TheVariants.{Explained, Refuted, Spent}
+use Rattle.least_faults.specs.Answers.{IsExplanation}
+use Rattle.least_faults.specs.Evidence.{IsPosed, is_final, HasLastFinal}
+use Rattle.log_clauses.specs.LogClauses.{guard_literals}
+use Rattle.log_encode.specs.CodedLog.{CodedLog, read_names, without_names}
+use Rattle.log_order.specs.Log.{Log, IsValidLog}
+use Rattle.proof_ledger.specs.Book.{BookEntry, final, is_mark}
+use Rattle.proof_ledger.specs.Fresh.{is_learnt}
+use Rattle.prop_core.specs.Clauses.{Clause}
+use Rattle.prop_core.specs.VariableNames.{ReadsAs}
+use Rattle.prop_core.specs.declared.lit.Lit.{Lit}
+use Rattle.run_decode.specs.Decided.{Decides, NegatesOnly}
+use Rattle.run_decode.specs.Faithful.{IsWithin}
+use Rattle.run_decode.specs.WholeNaming.{whole_names}
+use Rattle.step_encode.specs.Coded.{CodedSteps}
+
+-- ---- what is assumed
+
+abbrev pub bound_part : CounterState → Option ℕ → List Lit
+bound_part counter None = []
+bound_part counter (Some k) = bound_literal counter k ∷ []
+
+-- the guards of the log, and the counter's literal for the bound
+pub record AreAssumptions (code : CodedLog) (counter : CounterState) (bound : Option ℕ) (assumed : List Lit) : Type 0 where
+  pub guards : List Lit
+  pub read : ReadsAs (read_names code) guards (guard_literals code.net code.log)
+  pub whole : assumed ≡ guards ++ bound_part counter bound
+  pub column : IfSome bound (λ k. k < length counter.columns)
+
+-- Together with the axioms they ask which explanations there are within the bound, whatever the names of the log's alarms.
+abbrev pub Pose : CodedSteps → CodedLog → CounterState → List Clause → Option ℕ → List Lit → Type 0
+Pose steps code counter axioms bound assumed = (log : Log) → IsNetwork steps.net → IsValidLog log → code.log ≡ without_names log →
+    IsPosed (whole_names steps code counter) axioms assumed steps.net log steps.steps bound
+
+-- ---- what is put down
+
+-- no marks were put, and as many learnt entries as were paid for
+pub record IsSearching (old new : List BookEntry) (left_old left_new : ℕ) : Type 0 where
+  pub since : List BookEntry
+  pub whole : new ≡ old ++ since
+  pub unmarked : (number : ℕ) → count_by (is_mark number) since ≡ 0
+  pub paid : count_by is_learnt since + left_new ≡ left_old
+
+-- Each final entry negates assumptions with the bound alone, and there is none where nothing is refuted. Without a bound learnt entries alone are put then.
+pub record ArePut (code : CodedLog) (counter : CounterState) (bound : Option ℕ) (since : List BookEntry) (asked : Asked) : Type 0 where
+  pub finals : (clause : Clause) (hints : List ℕ) → Contains since (final clause hints) → (assumed : List Lit) × AreAssumptions code counter bound assumed × NegatesOnly assumed clause
+  pub none : asked ≢ Refuted → list_any is_final since ≡ false
+  pub unbounded : IfNone bound (asked ≢ Refuted → list_all is_learnt since ≡ true)
+
+-- ---- what was answered
+
+-- the last final entry refutes the question, which decides it
+pub record IsRefusal (code : CodedLog) (counter : CounterState) (net : Net) (log : Log) (n : ℕ) (bound : Option ℕ) (since : List BookEntry) : Type 0 where
+  pub assumed : List Lit
+  pub assumptions : AreAssumptions code counter bound assumed
+  pub refuted : HasLastFinal since assumed
+  pub decided : Decides net log n bound
+
+-- an explanation within the bound, whose faults are inputs of the counter
+pub record IsWitness (counter : CounterState) (net : Net) (log : Log) (n : ℕ) (bound : Option ℕ) (best : Best) : Type 0 where
+  pub given : IsExplanation net log n best
+  pub within : IsWithin bound best.faults
+  pub counted : 0 < best.faults → 0 < length counter.inputs
+
+abbrev pub Means : CodedLog → CounterState → Net → Log → ℕ → Option ℕ → List BookEntry → ℕ → Asked → Type 0
+Means code counter net log n bound since left (Explained best) = IsWitness counter net log n bound best
+Means code counter net log n bound since left Refuted = IsRefusal code counter net log n bound since
+Means code counter net log n bound since left Spent = left ≡ 0
+
+-- all of it
+pub record HasAsked (code : CodedLog) (counter : CounterState) (net : Net) (log : Log) (n : ℕ) (bound : Option ℕ) (old new : List BookEntry) (left_old left_new : ℕ) (asked : Asked) : Type 0 where
+  pub since : List BookEntry
+  pub whole : new ≡ old ++ since
+  pub unmarked : (number : ℕ) → count_by (is_mark number) since ≡ 0
+  pub paid : count_by is_learnt since + left_new ≡ left_old
+  pub put : ArePut code counter bound since asked
+  pub means : Means code counter net log n bound since left_new asked

@@ -1,0 +1,48 @@
+-- What in a book shows that nothing explains a log within a bound on the faults.
+use Rattle.std.specs.Prelude.{◌≡◌, ℕ, Bool, true, false, List, ◌∷◌, ◌++◌, Option, Contains}
+use Rattle.std.specs.List.{AllByRecursion, list_any}
+use Rattle.des_net.specs.Network.{Net}
+use Rattle.log_order.specs.Log.{Log}
+use Rattle.proof_ledger.specs.Book.{BookEntry, axiomatic, learnt, final, mark}
+use Rattle.prop_core.specs.Clauses.{Clause}
+use Rattle.prop_core.specs.VariableNames.{Name, HasEachOnce, ReadsAs}
+use Rattle.prop_core.specs.declared.lit.Lit.{Lit}
+use Rattle.run_decode.specs.Decided.{NegatesOnly}
+use Rattle.run_decode.specs.Drawn.{IsInstance, assumption_literals}
+use Rattle.run_decode.specs.Faithful.{IsFaithful}
+
+-- By these names clauses and assumptions ask which explanations there are within the bound: they are faithful, each clause is of a family, and what is assumed are, as a set, the guards and the bound.
+pub record IsPosed (names : List (ℕ × Name)) (clauses : List Clause) (assumed : List Lit) (net : Net) (log : Log) (n : ℕ) (bound : Option ℕ) : Type 0 where
+  pub faithful : IsFaithful clauses assumed net log n bound
+  pub once : HasEachOnce names
+  pub instances : AllByRecursion (IsInstance net log n names) clauses
+  pub assumes : ReadsAs names assumed (assumption_literals net log n bound)
+
+abbrev pub is_final : BookEntry → Bool
+is_final (axiomatic clause) = false
+is_final (learnt clause hints) = false
+is_final (final clause hints) = true
+is_final (mark number) = false
+
+-- some final entry has no literals but negations of assumptions
+pub record HasFinal (entries : List BookEntry) (assumed : List Lit) : Type 0 where
+  pub clause : Clause
+  pub hints : List ℕ
+  pub there : Contains entries (final clause hints)
+  pub negates : NegatesOnly assumed clause
+
+-- the last final entry has
+pub record HasLastFinal (entries : List BookEntry) (assumed : List Lit) : Type 0 where
+  pub earlier : List BookEntry
+  pub clause : Clause
+  pub hints : List ℕ
+  pub later : List BookEntry
+  pub whole : entries ≡ earlier ++ final clause hints ∷ later
+  pub last : list_any is_final later ≡ false
+  pub negates : NegatesOnly assumed clause
+
+-- The last of these final entries refutes the question within the bound, which the axioms pose.
+pub record IsEvidence (names : List (ℕ × Name)) (axioms : List Clause) (entries : List BookEntry) (net : Net) (log : Log) (n : ℕ) (bound : Option ℕ) : Type 0 where
+  pub assumed : List Lit
+  pub posed : IsPosed names axioms assumed net log n bound
+  pub refuted : HasLastFinal entries assumed

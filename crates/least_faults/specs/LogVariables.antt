@@ -1,0 +1,18 @@
+-- At most so many variables has the code of a log, apart from those of the steps.
+use Rattle.std.specs.Prelude.{ℕ, ◌+◌, length, sum_by}
+use Rattle.des_net.specs.Network.{Net}
+use Rattle.des_net.specs.QuestionSize.{numbers_below, observable_count}
+use Rattle.log_order.specs.Log.{Log}
+use Rattle.replay.specs.QuestionSize.{alarm_variables, matching_count}
+
+-- those of the first k alarms
+abbrev pub variables_of_first : Net → Log → ℕ → ℕ → ℕ
+variables_of_first net log n k = sum_by (λ i. alarm_variables n (matching_count net log i)) (numbers_below k)
+
+-- those of all alarms
+abbrev pub variables_of_alarms : Net → Log → ℕ → ℕ
+variables_of_alarms net log n = variables_of_first net log n (length log.alarms)
+
+-- and those of the empty log
+abbrev pub log_variables : Net → Log → ℕ → ℕ
+log_variables net log n = 1 + observable_count net + variables_of_alarms net log n

@@ -1,0 +1,23 @@
+use replay::Run;
+
+/// A run that explains an alarm log, and how many faults it has.
+#[derive(Drop)]
+pub struct Best {
+    /// At how many places of the run there is a fault event.
+    pub faults: u32,
+    /// The run, with the alarms for which its events stand.
+    pub run: Run,
+}
+
+/// What is found of the least number of faults that explains an alarm log.
+#[derive(Drop)]
+pub enum Found {
+    /// No explanation has fewer faults; there are at most 255.
+    Explained(Best),
+    /// Nothing explains the log.
+    Absent,
+    /// Each explanation has more than 255 faults. This is one of them.
+    Many(Best),
+    /// The budget was spent. Each explanation has at least `lo` faults; one that is known has more.
+    Undecided { lo: u32, best: Option<Best> },
+}

@@ -1,0 +1,22 @@
+//! The least number of faults that explains an alarm log, by a search upwards from 0 with evidence in a book.
+//!
+//! - [`build`] writes the clauses of a question into a book: the steps of a network, its log, and a counter of its faults.
+//! - [`bound`] gives the literal for at most so many faults, and adds what columns the counter lacks for it.
+//! - [`least`] asks without a bound, and then with the bounds 0, 1 and so on, as long as a run that is known has more faults.
+//!   Each bound that is refuted leaves a final clause of negated assumptions in the book.
+#![tactic(auto)]
+
+mod answer;
+mod asking;
+mod axioms;
+mod bounding;
+mod building;
+mod encode;
+mod parts;
+mod searching;
+
+pub use answer::{Best, Found};
+pub use bounding::bound;
+pub use building::build;
+pub use parts::{Parts, Unbuilt};
+pub use searching::least;

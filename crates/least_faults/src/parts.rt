@@ -1,0 +1,27 @@
+use card_counter::Counter;
+use log_encode::LogCode;
+use prop_core::Vars;
+use sat_solve::Solver;
+use step_encode::StepCode;
+
+/// The parts of a question whose clauses stand in a book.
+#[derive(Drop)]
+pub struct Parts<R> {
+    /// The code of the steps.
+    pub step: StepCode,
+    /// The code of the log.
+    pub code: LogCode,
+    /// The counter of the faults, with the columns that were needed so far.
+    pub counter: Counter,
+    /// The variables of all three.
+    pub vars: Vars,
+    /// The solver, which has adopted the book.
+    pub solver: Solver<R>,
+}
+
+/// Memory was wanting, and nothing was built. The book may hold some of the axioms.
+#[derive(Drop)]
+pub struct Unbuilt<R> {
+    /// The solver, without clauses.
+    pub solver: Solver<R>,
+}
