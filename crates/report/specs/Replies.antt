@@ -1,0 +1,87 @@
+-- The texts of replies. Each line ends with a line feed.
+use Rattle.std.specs.Prelude.{⊤, ℕ, ◌<◌, All, IfSome, List, [], ◌∷◌, ◌++◌, length, codes, decimal, flat_map, Option, Some, None, slice_index_or}
+use Rattle.des_net.specs.Network.{Net}
+use Rattle.least_faults.specs.declared.answer.Best.{Best}
+use Rattle.least_faults.specs.declared.answer.Found.{Found}
+use Rattle.least_faults.specs.declared.answer.Found.TheVariants.{Explained, Absent, Many, Undecided}
+use Rattle.proof_ledger.specs.declared.checker.Checked.{Checked}
+use Rattle.proof_ledger.specs.declared.checker.Checked.TheVariants.{Verified, Rejected}
+use Rattle.replay.specs.declared.replaying.Replayed.{Replayed}
+use Rattle.replay.specs.declared.replaying.Replayed.TheVariants.{Accepted, Stuck as AtEvent, BadAlarm, Missing, Order, TooWide}
+use Rattle.replay.specs.declared.run.RunStep.{RunStep}
+use Rattle.replay.specs.Traced.{word_of}
+use Rattle.replay.specs.declared.tracing.Traced.{Traced}
+use Rattle.replay.specs.declared.tracing.Traced.TheVariants.{Ran, Stuck}
+
+-- ---- lines
+
+-- words, a number and the end of the line
+abbrev pub numbered : List ℕ → ℕ → List ℕ
+numbered words n = words ++ decimal n ++ 10 ∷ []
+
+-- words, two numbers and the end of the line
+abbrev pub placed : List ℕ → ℕ → ℕ → List ℕ
+placed words first second = words ++ decimal first ++ 32 ∷ decimal second ++ 10 ∷ []
+
+-- words, a name and the end of the line
+abbrev pub named : List ℕ → List ℕ → List ℕ
+named words name = words ++ name ++ 10 ∷ []
+
+-- words, two names and the end of the line
+abbrev pub paired : List ℕ → List ℕ → List ℕ → List ℕ
+paired words first second = words ++ first ++ 32 ∷ second ++ 10 ∷ []
+
+-- ---- answers of one line
+
+abbrev pub text_of_traced : Traced → List ℕ
+text_of_traced (Ran faults) = numbered (codes "RAN ") faults
+text_of_traced (Stuck at) = numbered (codes "REJECTED STUCK ") at
+
+-- alarms are told by their names
+abbrev pub text_of_replayed : List (List ℕ) → Replayed → List ℕ
+text_of_replayed names (Accepted faults) = numbered (codes "ACCEPTED ") faults
+text_of_replayed names (AtEvent at) = numbered (codes "REJECTED STUCK ") at
+text_of_replayed names (BadAlarm at) = numbered (codes "REJECTED ALARM ") at
+text_of_replayed names (Missing alarm) = named (codes "REJECTED MISSING ") (slice_index_or names alarm [])
+text_of_replayed names (Order first second) = paired (codes "REJECTED ORDER ") (slice_index_or names first []) (slice_index_or names second [])
+text_of_replayed names (TooWide pieces) = numbered (codes "REJECTED WIDE ") pieces
+
+abbrev pub text_of_checked : Checked → List ℕ
+text_of_checked Verified = codes "VERIFIED\n"
+text_of_checked (Rejected line kind) = placed (codes "REJECTED ") line kind
+
+-- ---- runs
+
+-- a space and the name of an alarm, where there is one
+abbrev pub text_of_alarm : Option (List ℕ) → List ℕ
+text_of_alarm (Some name) = 32 ∷ name
+text_of_alarm None = []
+
+-- the name of the event, and of the alarm where it has one
+abbrev pub text_of_step : Net → RunStep → List ℕ
+text_of_step net step = slice_index_or net.event_names step.event [] ++ text_of_alarm step.alarm ++ 10 ∷ []
+
+-- the number of the events, and then a line for each
+abbrev pub text_of_run : Net → List RunStep → List ℕ
+text_of_run net steps = numbered (codes "run ") (length steps) ++ flat_map (text_of_step net) steps
+
+-- ---- what was found of the least number of faults
+
+-- the faults that are needed, those of the run that is known, and the run
+abbrev pub text_of_bounds : Net → ℕ → Option Best → List ℕ
+text_of_bounds net lo (Some best) = placed (codes "UNDECIDED ") lo best.faults ++ text_of_run net best.run
+text_of_bounds net lo None = codes "UNDECIDED " ++ decimal lo ++ codes " -\n"
+
+-- by the number of steps within which it was asked
+abbrev pub text_of_found : Net → ℕ → Found → List ℕ
+text_of_found net n (Explained best) = numbered (codes "EXPLAINED ") best.faults ++ text_of_run net best.run
+text_of_found net n Absent = numbered (codes "NONE ") n
+text_of_found net n (Many best) = codes "MANY 255\n" ++ text_of_run net best.run
+text_of_found net n (Undecided lo best) = text_of_bounds net lo best
+
+-- the events of the run that is told, if one is, are the network's
+abbrev pub EventsKnown : Net → Found → Type 0
+EventsKnown net (Explained best) = All (λ e. e < length net.events) (word_of best.run)
+EventsKnown net Absent = ⊤
+EventsKnown net (Many best) = All (λ e. e < length net.events) (word_of best.run)
+EventsKnown net (Undecided lo best) = IfSome best (λ known. All (λ e. e < length net.events) (word_of known.run))

@@ -1,0 +1,21 @@
+//! The texts of replies.
+//!
+//! A reply tells what was found, each part of it on a line that ends with a line feed: a word that says which answer it is,
+//! and then numbers and names. `specs/Replies.antt` says the text of each answer. Each printer appends it whole or, where
+//! memory is wanting, appends nothing.
+#![tactic(auto)]
+
+mod checked;
+mod found;
+mod pieces;
+mod replayed;
+mod run;
+#[cfg(test)]
+mod tests;
+mod traced;
+
+pub use checked::print_checked;
+pub use found::print_found;
+pub use replayed::print_replayed;
+pub use run::print_run;
+pub use traced::print_traced;

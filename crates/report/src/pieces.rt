@@ -1,0 +1,86 @@
+// The pieces of lines. Where memory is wanting, some of what is to be appended may be there.
+ghost use Rattle.std.specs.Prelude.{◌≡◌, ◌++◌, decimal, take, OnErr, OnOk};
+ghost use Rattle.report.specs.Appending.{Extends};
+ghost use Rattle.report.specs.Replies.{numbered, placed, named, paired};
+
+use des_base::Memory;
+
+/// Appends the text.
+pub fn push_text(text: &str, out: &mut Vec<u8>) -> Result<(), Memory>
+    ensures ok { OnOk result (out.new.items ≡ out.old.items ++ text.now) }
+    ensures kept { Extends out.old.items out.new.items }
+{
+    out.extend_from_slice(text.as_bytes())?;
+    Ok(())
+}
+
+/// Appends the decimal digits of the number.
+#[tactic(auto, using(std::proofs::lemmas::Fmt::decimal_step, std::proofs::lemmas::Fmt::decimal_digit))]
+pub fn push_decimal(n: u64, out: &mut Vec<u8>) -> Result<(), Memory>
+    ensures ok { OnOk result (out.new.items ≡ out.old.items ++ decimal n) }
+    ensures kept { Extends out.old.items out.new.items }
+{
+    if n < 10 {
+        out.push(b'0' + n as u8)?;
+        return Ok(());
+    }
+    push_decimal(n / 10, out)?;
+    out.push(b'0' + (n % 10) as u8)?;
+    Ok(())
+}
+
+/// Appends words, a number and the end of the line.
+pub fn push_numbered(words: &str, n: u64, out: &mut Vec<u8>) -> Result<(), Memory>
+    ensures ok { OnOk result (out.new.items ≡ out.old.items ++ numbered words.now n) }
+    ensures kept { Extends out.old.items out.new.items }
+{
+    push_text(words, out)?;
+    push_decimal(n, out)?;
+    push_text("\n", out)
+}
+
+/// Appends words, two numbers and the end of the line.
+pub fn push_placed(words: &str, first: u64, second: u64, out: &mut Vec<u8>) -> Result<(), Memory>
+    ensures ok { OnOk result (out.new.items ≡ out.old.items ++ placed words.now first second) }
+    ensures kept { Extends out.old.items out.new.items }
+{
+    push_text(words, out)?;
+    push_decimal(first, out)?;
+    push_numbered(" ", second, out)
+}
+
+/// Appends words, a name and the end of the line.
+pub fn push_named(words: &str, name: &str, out: &mut Vec<u8>) -> Result<(), Memory>
+    ensures ok { OnOk result (out.new.items ≡ out.old.items ++ named words.now name.now) }
+    ensures kept { Extends out.old.items out.new.items }
+{
+    push_text(words, out)?;
+    push_text(name, out)?;
+    push_text("\n", out)
+}
+
+/// Appends words, two names and the end of the line.
+pub fn push_paired(words: &str, first: &str, second: &str, out: &mut Vec<u8>) -> Result<(), Memory>
+    ensures ok { OnOk result (out.new.items ≡ out.old.items ++ paired words.now first.now second.now) }
+    ensures kept { Extends out.old.items out.new.items }
+{
+    push_text(words, out)?;
+    push_text(first, out)?;
+    push_named(" ", second, out)
+}
+
+/// Hands on how it went. Where memory was wanting, what stands behind the first `before` bytes is cut off.
+pub fn whole_or_nothing(
+    pushed: Result<(), Memory>,
+    before: usize,
+    out: &mut Vec<u8>,
+) -> Result<(), Memory>
+    ensures same { result ≡ pushed }
+    ensures ok { OnOk result (out.new.items ≡ out.old.items) }
+    ensures err { OnErr result (out.new.items ≡ take before out.old.items) }
+{
+    if pushed.is_err() {
+        out.truncate(before);
+    }
+    pushed
+}
