@@ -21,7 +21,12 @@ pub(super) struct Grown {
 
 // The code of the empty log.
 #[tactic(auto, using(crate::proofs::Widths::first_names_fit))]
-pub(super) fn begun(rt: &impl Abort, alloc: Global, net: &Network, steps: u32) -> Result<Grown, Fail>
+pub(super) fn begun(
+    rt: &impl Abort,
+    alloc: Global,
+    net: &Network,
+    steps: u32,
+) -> Result<Grown, Fail>
     ensures net { IfOk result (λ grown. grown.code.code.net ≡ net.now) }
     ensures grid { IfOk result (λ grown. grown.code.code.grid ≡ grown.grid) }
     ensures vars { IfOk result (λ grown. grown.code.code.vars ≡ grown.vars) }
