@@ -1,4 +1,11 @@
-// Sizes of questions that were worked by hand, on networks and logs of a few rows and of many.
+// Sizes of questions that were worked by hand, on networks and logs of a few rows and of many; and their answers.
+mod asking;
+mod decoding;
+mod models;
+mod questions;
+mod shown;
+mod touching;
+
 use crate::{SIZE_LIMIT, question_size};
 use des_base::{ActionId, CompId, Name, StateId};
 use des_net::{Builder, Network, Part};

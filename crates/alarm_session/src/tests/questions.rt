@@ -1,0 +1,86 @@
+// Questions that were worked by hand, each with two tests and two ranks that are stored.
+use super::asking::{Answer, Question, asked_by_list, asked_plainly};
+use super::models::{
+    EMPTY, LATER_ALARM_EXCUSES, NO_WAY_BETWEEN_STARTS, SECOND_BEFORE_FIRST, SECOND_START_PERMITS,
+    TWO_APART, TWO_MEET, VALVE, alarm_log, network,
+};
+use std::test::Fail;
+
+const TWO_TRIPS: &str = "alarm,a1,T\nalarm,a2,F\nalarm,a3,T\nbefore,a1,a2\nbefore,a2,a3\n";
+
+const THREE_BACKWARDS: &str = "alarm,x,A\nalarm,y,B\nbefore,y,x\nalarm,z,C\nbefore,z,y\n";
+
+// A model, a log, the steps, the budget, and the answer.
+type Row = (&'static str, &'static str, u32, u64, Answer);
+
+const QUESTIONS: [Row; 17] = [
+    (VALVE, "", 0, 1000, Answer::Explained(0)),
+    (VALVE, "alarm,a1,T\n", 2, 1000, Answer::Explained(1)),
+    (VALVE, "alarm,a1,T\n", 1, 1000, Answer::Absent),
+    (VALVE, TWO_TRIPS, 5, 1000, Answer::Explained(2)),
+    (VALVE, TWO_TRIPS, 4, 1000, Answer::Absent),
+    (VALVE, "alarm,a1,T|B\n", 2, 1000, Answer::Explained(0)),
+    (VALVE, "alarm,a1,Z\n", 2, 1000, Answer::Absent),
+    (EMPTY, "", 3, 1000, Answer::Explained(0)),
+    (EMPTY, "alarm,a1,T\n", 3, 1000, Answer::Absent),
+    (
+        TWO_APART,
+        SECOND_BEFORE_FIRST,
+        1,
+        1000,
+        Answer::Explained(0),
+    ),
+    (TWO_MEET, THREE_BACKWARDS, 1, 1000, Answer::Absent),
+    (TWO_MEET, THREE_BACKWARDS, 2, 1000, Answer::Explained(0)),
+    (
+        SECOND_START_PERMITS,
+        "alarm,x,A\n",
+        1,
+        1000,
+        Answer::Explained(0),
+    ),
+    (
+        LATER_ALARM_EXCUSES,
+        "alarm,a,A\n",
+        2,
+        1000,
+        Answer::Explained(1),
+    ),
+    (
+        LATER_ALARM_EXCUSES,
+        "alarm,a,A\nalarm,b,B\nbefore,b,a\n",
+        2,
+        1000,
+        Answer::Explained(0),
+    ),
+    (
+        NO_WAY_BETWEEN_STARTS,
+        "alarm,x,A\nalarm,y,B\n",
+        2,
+        0,
+        Answer::Undecided(0),
+    ),
+    (
+        NO_WAY_BETWEEN_STARTS,
+        "alarm,x,A\nalarm,y,B\n",
+        2,
+        1_000_000,
+        Answer::Absent,
+    ),
+];
+
+#[test]
+fn answers_worked_questions(rt: HostRuntime) -> Result<(), Fail> {
+    for (model, text, steps, budget, answer) in QUESTIONS {
+        let net = network(&rt, rt.alloc(), model)?;
+        let log = alarm_log(&rt, rt.alloc(), text)?;
+        let question = Question {
+            steps,
+            budget,
+            answer,
+        };
+        asked_plainly(&rt, rt.alloc(), &net, &log, &question)?;
+        asked_by_list(&rt, rt.alloc(), &net, &log, &question)?;
+    }
+    Ok(())
+}
