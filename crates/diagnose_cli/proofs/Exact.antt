@@ -1,18 +1,19 @@
 -- Each file that is too long and each fault of a text has its status.
-use Rattle.std.proofs.Common.{◌≡◌, ◌≢◌, inl, inr, ℕ, ◌+◌, ◌<◌, ◌≤◌, List, [], ◌∷◌, ◌++◌, length, Bool, true, false, nat_lt, Option, Some, None, Ok, Err, IfSome, MatchOption, IsErrAnd, refl, sym, ap, subst, append-nil, arith}
-use Rattle.std.specs.Prelude.{if◌then◌else◌, option_and_then}
+use Rattle.std.proofs.Common.{◌≡◌, ◌≢◌, inl, inr, ℕ, ◌+◌, ◌<◌, ◌≤◌, List, [], ◌∷◌, ◌++◌, length, Bool, true, false, nat_lt, Option, Some, None, Ok, Err, IfSome, IsOkAnd, MatchOption, IsErrAnd, refl, sym, ap, subst, append-nil, arith}
+use Rattle.std.specs.Prelude.{if◌then◌else◌, option_and_then, option_map}
 use Rattle.std.specs.List.{concat}
 use Rattle.std.proofs.lemmas.Bool.Decides.{nat_tests}
 use Rattle.des_base.specs.Outside.{Took}
 use Rattle.des_base.specs.CommandWords.{word_at}
+use Rattle.proof_ledger.specs.Book.{BookEntry}
 use Rattle.diagnose_cli.specs.declared.command.Command.{Command}
 use Rattle.diagnose_cli.specs.declared.stop.Stop.{Stop}
-use Rattle.diagnose_cli.specs.declared.stop.Stop.TheVariants.{Usage, Load, Faulty, Long, Memory}
+use Rattle.diagnose_cli.specs.declared.stop.Stop.TheVariants.{Usage, Load, Faulty, Long, Large, Memory}
 use Rattle.diagnose_cli.specs.declared.stop.FaultyText.{FaultyText}
 use Rattle.diagnose_cli.specs.Transcripts.{Ending, Transcript}
 use Rattle.diagnose_cli.specs.Files.{Loads, StopsAt}
 use Rattle.diagnose_cli.specs.Endings.{HasStatus, status_of_stop, text_of_stop, texts_of}
-use Rattle.diagnose_cli.specs.Commands.{FileKind, limit_of, fault_of_text, files_of, InOrder, Answers, command_of}
+use Rattle.diagnose_cli.specs.Commands.{FileKind, limit_of, fault_of_text, files_of, too_large, Closes, InOrder, Answers, command_of}
 use Rattle.diagnose_cli.specs.Exact.{past, first_stop, stop_of_command, StopRow}
 use Rattle.diagnose_cli.specs.Run.{Ends}
 
@@ -49,25 +50,31 @@ stopped_here l i name limit (Ok t) rest m n h = absurd h
 stopped_here l i name limit (Err Usage) rest m n h = absurd h
 stopped_here l i name limit (Err (Load j)) rest m n h = absurd (n j refl)
 stopped_here l i name limit (Err (Faulty text)) rest m n h = absurd h
+stopped_here l i name limit (Err (Large size)) rest m n h = absurd h
 stopped_here l i name limit (Err (Long j)) rest m n h = long_here (l.held name) (Err (Long j)) i limit rest (ap (λ k. Err (Long k)) h.0) h.1
 stopped_here l i name limit (Err Memory) rest m n h = absurd (m refl)
 
-in_order_exact : (l : Loads) (words : List (List ℕ)) (i : ℕ) (kinds : List FileKind) (files : List (List ℕ)) (says : List (List ℕ) → Transcript → Type 0) (e : Ending)
-    → e ≢ Err Memory → ((j : ℕ) → e ≢ Err (Load j)) → InOrder l words i kinds files says e → Is e (first_stop l.held words i kinds files)
-in_order_exact l words i [] files says e m n h = tt
-in_order_exact l words i (kind ∷ kinds) files says e m n h =
-    let rest : List ℕ → Option Stop = λ bytes. past (fault_of_text kind files bytes) (first_stop l.held words (i + 1) kinds (files ++ bytes ∷ [])) in
+-- nor by a file: then by the size of its question, if that is too large
+closes_here : (o : Option ℕ) (e : Ending) (says : Transcript → Type 0) → MatchOption o (IsOkAnd e says) (λ size. e ≡ Err (Large size)) → Is e (option_map (λ n. Large n) o)
+closes_here None e says h = tt
+closes_here (Some size) e says h = h
+
+in_order_exact : (l : Loads) (words : List (List ℕ)) (i : ℕ) (kinds : List FileKind) (files : List (List ℕ)) (closes : List (List ℕ) → Ending → Type 0) (size : List (List ℕ) → Option ℕ) (e : Ending)
+    → ((texts : List (List ℕ)) → closes texts e → Is e (option_map (λ n. Large n) (size texts))) → e ≢ Err Memory → ((j : ℕ) → e ≢ Err (Load j)) → InOrder l words i kinds files closes e → Is e (first_stop l.held words i kinds files size)
+in_order_exact l words i [] files closes size e f m n h = f files h
+in_order_exact l words i (kind ∷ kinds) files closes size e f m n h =
+    let rest : List ℕ → Option Stop = λ bytes. past (fault_of_text kind files bytes) (first_stop l.held words (i + 1) kinds (files ++ bytes ∷ []) size) in
     elim h [
       | inl s ↦ stopped_here l i (word_at words i) (limit_of kind) e rest m n s
       | inr b ↦
           holds_here (l.held (word_at words i)) e i (limit_of kind) b.0 rest b.1.told b.1.fits
-          (past_here (fault_of_text kind files b.0) e _ _ b.2 (in_order_exact l words (i + 1) kinds (files ++ b.0 ∷ []) says e m n))
+          (past_here (fault_of_text kind files b.0) e _ _ b.2 (in_order_exact l words (i + 1) kinds (files ++ b.0 ∷ []) closes size e f m n))
     ]
 
-due_exact : (l : Loads) (words : List (List ℕ)) (o : Option Command) (e : Ending)
-    → e ≢ Err Memory → ((j : ℕ) → e ≢ Err (Load j)) → MatchOption o (e ≡ Err Usage) (λ c. Answers l words c e) → Is e (stop_of_command l.held words o)
-due_exact l words None e m n h = h
-due_exact l words (Some c) e m n h = in_order_exact l words 1 (files_of c) [] _ e m n h
+due_exact : (l : Loads) (words : List (List ℕ)) (book : List BookEntry) (o : Option Command) (e : Ending)
+    → e ≢ Err Memory → ((j : ℕ) → e ≢ Err (Load j)) → MatchOption o (e ≡ Err Usage) (λ c. Answers l words c book e) → Is e (stop_of_command l.held words o)
+due_exact l words book None e m n h = h
+due_exact l words book (Some c) e m n h = in_order_exact l words 1 (files_of c) [] (Closes c book) (too_large c) e (λ texts. closes_here (too_large c texts) e _) m n h
 
 row_here : (o : Option Stop) (e : Ending) (b n : Option (List ℕ)) (s : ℕ) → Is e o → HasStatus e s → Took b n (concat (texts_of e))
     → IfSome o (λ stop. (s ≡ status_of_stop stop) × Took b n (text_of_stop stop))
@@ -75,9 +82,9 @@ row_here None e b n s h p t = tt
 row_here (Some stop) e b n s h p t =
     (subst (λ (x : Ending). HasStatus x s) h p, subst (Took b n) (append-nil (text_of_stop stop)) (subst (λ (x : Ending). Took b n (concat (texts_of x))) h t))
 
-pub stop_row : (l : Loads) (words : List (List ℕ)) (b n : Option (List ℕ)) (s : ℕ) → Ends l words b n s → s ≢ 3 → s ≢ 9 → StopRow l.held words b n s
-stop_row l words b n s ends three nine =
+pub stop_row : (l : Loads) (words : List (List ℕ)) (book : List BookEntry) (b n : Option (List ℕ)) (s : ℕ) → Ends l words book b n s → s ≢ 3 → s ≢ 9 → StopRow l.held words b n s
+stop_row l words book b n s ends three nine =
     let e = ends.ending in
     let m : e ≢ Err Memory = λ p. nine (subst (λ (x : Ending). HasStatus x s) p ends.shown) in
     let k : (j : ℕ) → e ≢ Err (Load j) = λ j p. three (subst (λ (x : Ending). HasStatus x s) p ends.shown) in
-    row_here (stop_of_command l.held words (command_of words)) e b n s (due_exact l words (command_of words) e m k (ends.due m)) ends.shown ends.put
+    row_here (stop_of_command l.held words (command_of words)) e b n s (due_exact l words book (command_of words) e m k (ends.due m)) ends.shown ends.put

@@ -2,6 +2,7 @@
 use Rattle.std.proofs.Common.{◌≡◌, ℕ, List, [], ◌∷◌, ◌++◌, take, Option, Some, None, Result, Ok, Err, refl, sym, ap, subst, append-nil}
 use Rattle.std.specs.List.{concat}
 use Rattle.des_base.specs.Outside.{Took, TookFront}
+use Rattle.proof_ledger.specs.Book.{BookEntry}
 use Rattle.diagnose_cli.specs.declared.ending.Kind.{Kind}
 use Rattle.diagnose_cli.specs.declared.stop.Stop.{Stop}
 use Rattle.diagnose_cli.specs.declared.stop.Stop.TheVariants.{Memory}
@@ -34,23 +35,23 @@ unfolding text_of_once
 one (Ok reply) = refl
 one (Err stop) = refl
 
-due_once : (l : Loads) (words : List (List ℕ)) (r : Result (Kind × List ℕ) Stop) → UnlessMemory r (Due l words (once r)) → UnlessMemory (once r) (Due l words (once r))
-due_once l words (Ok reply) d = λ m. d (λ e. cc)
-due_once l words (Err stop) d = λ m. d (λ e. m (ap_err stop e))
+due_once : (l : Loads) (words : List (List ℕ)) (book : List BookEntry) (r : Result (Kind × List ℕ) Stop) → UnlessMemory r (Due l words book (once r)) → UnlessMemory (once r) (Due l words book (once r))
+due_once l words book (Ok reply) d = λ m. d (λ e. cc)
+due_once l words book (Err stop) d = λ m. d (λ e. m (ap_err stop e))
   where
     ap_err : (s : Stop) → ◌≡◌ {A = Result (Kind × List ℕ) Stop} (Err s) (Err Memory) → ◌≡◌ {A = Ending} (Err s) (Err Memory)
     ap_err s e = cc
 
-pub ran_once : (l : Loads) (words : List (List ℕ)) (r : Result (Kind × List ℕ) Stop) (b n : Option (List ℕ)) (rose : Type 0) (status : ℕ)
-    → UnlessMemory r (Due l words (once r)) → Puts (once r) b n rose status → Ran l words b n rose status
-ran_once l words r b n rose status d p =
+pub ran_once : (l : Loads) (words : List (List ℕ)) (book : List BookEntry) (r : Result (Kind × List ℕ) Stop) (b n : Option (List ℕ)) (rose : Type 0) (status : ℕ)
+    → UnlessMemory r (Due l words book (once r)) → Puts (once r) b n rose status → Ran l words book b n rose status
+ran_once l words book r b n rose status d p =
     record {
-      ends = λ h k. record { ending = once r; due = due_once l words r d; shown = p.shown h k; put = p.whole h k };
+      ends = λ h k. record { ending = once r; due = due_once l words book r d; shown = p.shown h k; put = p.whole h k };
       broke = λ e. record { ending = Err Memory; due = λ m. absurd (m refl); put = p.nothing e };
       cut_off = λ e.
           record {
             ending = once r;
-            due = due_once l words r d;
+            due = due_once l words book r d;
             texts = [];
             next = text_of_once r;
             split = one r;

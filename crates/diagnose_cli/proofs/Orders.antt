@@ -1,19 +1,20 @@
 -- A command that goes on from file to file.
-use Rattle.std.proofs.Common.{◌≡◌, ◌≢◌, ◌≤◌, inl, inr, ℕ, ◌+◌, List, [], ◌∷◌, ◌++◌, Option, Some, None, Result, Ok, Err, IsErrAnd, MatchOption, sym, subst, ap}
+use Rattle.std.proofs.Common.{◌≡◌, ◌≢◌, ◌≤◌, inl, inr, ℕ, ◌+◌, List, [], ◌∷◌, ◌++◌, Option, Some, None, Result, Ok, Err, IsErrAnd, MatchOption, sym, subst}
 use Rattle.des_base.specs.CommandWords.{word_at}
+use Rattle.proof_ledger.specs.Book.{BookEntry}
 use Rattle.diagnose_cli.specs.declared.command.Command.{Command}
 use Rattle.diagnose_cli.specs.declared.ending.Kind.{Kind}
 use Rattle.diagnose_cli.specs.declared.stop.Stop.{Stop}
 use Rattle.diagnose_cli.specs.declared.stop.Stop.TheVariants.{Usage, Faulty, Memory}
 use Rattle.diagnose_cli.specs.declared.stop.FaultyText.{FaultyText}
-use Rattle.diagnose_cli.specs.Transcripts.{Ending, Transcript, once, UnlessMemory}
-use Rattle.diagnose_cli.specs.Files.{Loads, IsText, IsFaultOf, StopsAt, StopsIn}
+use Rattle.diagnose_cli.specs.Transcripts.{Ending, once, UnlessMemory}
+use Rattle.diagnose_cli.specs.Files.{Loads, IsText, IsFaultOf, StopsIn}
 use Rattle.diagnose_cli.specs.Commands.{FileKind, limit_of, fault_of_text, InOrder, Answers, Due, command_of}
 use Rattle.diagnose_cli.proofs.Earlier.{stops_earlier}
 
-module _ (l : Loads) (words : List (List ℕ)) (i : ℕ) (kind : FileKind) (kinds : List FileKind) (files : List (List ℕ)) (says : List (List ℕ) → Transcript → Type 0) where
+module _ (l : Loads) (words : List (List ℕ)) (i : ℕ) (kind : FileKind) (kinds : List FileKind) (files : List (List ℕ)) (closes : List (List ℕ) → Ending → Type 0) where
   -- it may stop at the first of the files
-  pub stops_here : (stop : Stop) → StopsIn l i (word_at words i) (limit_of kind) (fault_of_text kind files) stop → InOrder l words i (kind ∷ kinds) files says (Err stop)
+  pub stops_here : (stop : Stop) → StopsIn l i (word_at words i) (limit_of kind) (fault_of_text kind files) stop → InOrder l words i (kind ∷ kinds) files closes (Err stop)
   stops_here stop h =
       elim h [
         | inl at ↦ inl at
@@ -25,11 +26,11 @@ module _ (l : Loads) (words : List (List ℕ)) (i : ℕ) (kind : FileKind) (kind
       refused P (Some t) text e told = cc
 
   -- or goes on with the others
-  pub goes_on : (text : List ℕ) (e : Ending) → IsText l.held (word_at words i) (limit_of kind) (fault_of_text kind files) text → InOrder l words (i + 1) kinds (files ++ text ∷ []) says e
-      → InOrder l words i (kind ∷ kinds) files says e
+  pub goes_on : (text : List ℕ) (e : Ending) → IsText l.held (word_at words i) (limit_of kind) (fault_of_text kind files) text → InOrder l words (i + 1) kinds (files ++ text ∷ []) closes e
+      → InOrder l words i (kind ∷ kinds) files closes e
   goes_on text e read rest = inr (text, read.holds, well (fault_of_text kind files text) read.well)
     where
-      well : (o : Option FaultyText) → o ≡ None → MatchOption o (InOrder l words (i + 1) kinds (files ++ text ∷ []) says e) (λ t. e ≡ Err (Faulty t))
+      well : (o : Option FaultyText) → o ≡ None → MatchOption o (InOrder l words (i + 1) kinds (files ++ text ∷ []) closes e) (λ t. e ≡ Err (Faulty t))
       well None is = rest
       well (Some s) is = cc
 
@@ -44,10 +45,10 @@ stops_in_earlier held now start before after i name limit fault stop e later h =
     ]
 
 -- a refusal that is handed on
-pub handed_on : (l : Loads) (words : List (List ℕ)) (c : Command) (r : Result (Kind × List ℕ) Stop) (stop : Stop) → IsErrAnd r (λ e. e ≡ stop) → (stop ≢ Memory → Answers l words c (Err stop)) → UnlessMemory r (Answers l words c (once r))
-handed_on l words c (Ok reply) stop is h m = absurd is
-handed_on l words c (Err e) stop is h m =
-    subst (λ (s : Stop). Answers l words c (Err s)) (sym is) (h (λ p. m (same p)))
+pub handed_on : (l : Loads) (words : List (List ℕ)) (c : Command) (book : List BookEntry) (r : Result (Kind × List ℕ) Stop) (stop : Stop) → IsErrAnd r (λ e. e ≡ stop) → (stop ≢ Memory → Answers l words c book (Err stop)) → UnlessMemory r (Answers l words c book (once r))
+handed_on l words c book (Ok reply) stop is h m = absurd is
+handed_on l words c book (Err e) stop is h m =
+    subst (λ (s : Stop). Answers l words c book (Err s)) (sym is) (h (λ p. m (same p)))
   where
     same : stop ≡ Memory → ◌≡◌ {A = Result (Kind × List ℕ) Stop} (Err e) (Err Memory)
     same p = cc
@@ -61,5 +62,5 @@ memory_free (Err e) P is m = absurd (m (same is))
     same is = cc
 
 -- what a command answers is due for the words that call it
-pub due_of : (l : Loads) (words : List (List ℕ)) (c : Command) (r : Result (Kind × List ℕ) Stop) → command_of words ≡ Some c → UnlessMemory r (Answers l words c (once r)) → UnlessMemory r (Due l words (once r))
-due_of l words c r is h m = subst (λ (o : Option Command). MatchOption o (once r ≡ Err Usage) (λ d. Answers l words d (once r))) (sym is) (h m)
+pub due_of : (l : Loads) (words : List (List ℕ)) (c : Command) (book : List BookEntry) (r : Result (Kind × List ℕ) Stop) → command_of words ≡ Some c → UnlessMemory r (Answers l words c book (once r)) → UnlessMemory r (Due l words book (once r))
+due_of l words c book r is h m = subst (λ (o : Option Command). MatchOption o (once r ≡ Err Usage) (λ d. Answers l words d book (once r))) (sym is) (h m)

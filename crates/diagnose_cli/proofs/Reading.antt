@@ -1,5 +1,5 @@
 -- Files that are read as texts.
-use Rattle.std.proofs.Common.{◌≡◌, ◌≢◌, ◌≤◌, ◌<◌, inl, inr, ℕ, List, [], ◌∷◌, length, Option, Some, None, Ok, Err, IfSome, IsSome, ap, sym, ◌∙◌, subst, refl}
+use Rattle.std.proofs.Common.{◌≡◌, ◌≢◌, inr, ℕ, List, length, Option, Some, None, IsSome, ap, ◌∙◌, subst, refl}
 use Rattle.std.specs.Prelude.{option_map}
 use Rattle.des_net.specs.Network.{Net}
 use Rattle.model_text.specs.declared.fault.ModelFault.{ModelFault}
@@ -19,7 +19,6 @@ use Rattle.proof_text.specs.TextFaults.{IsDue as IsTextDue}
 use Rattle.proof_text.specs.CnfText.{formula, formula_of, first_cnf_fault}
 use Rattle.proof_text.specs.LratText.{proof_of, first_lrat_fault}
 use Rattle.replay.specs.declared.run.RunStep.{RunStep}
-use Rattle.replay.specs.declared.run_text.RunFault.{RunFault}
 use Rattle.replay.specs.declared.run_text.RunRefusal.{RunRefusal}
 use Rattle.replay.specs.declared.run_text.RunRefusal.TheVariants.{Fault as RunFaulty, Memory as RunMemory}
 use Rattle.replay.specs.RunText.{run_of, first_fault as first_run_fault, Tells as TellsRun}
@@ -29,7 +28,7 @@ use Rattle.diagnose_cli.specs.declared.stop.FaultyText.{FaultyText}
 use Rattle.diagnose_cli.specs.declared.stop.FaultyText.TheVariants.{Model, Log, Run, Cnf, Lrat}
 use Rattle.diagnose_cli.specs.Refusals.{stop_of_model, stop_of_log, stop_of_run, stop_of_cnf, stop_of_lrat}
 use Rattle.diagnose_cli.specs.Commands.{fault_of_model, fault_of_log, fault_of_run, fault_of_cnf, fault_of_lrat}
-use Rattle.diagnose_cli.specs.Files.{Loads, Holds, IsText, StopsAt, StopsIn}
+use Rattle.diagnose_cli.specs.Files.{Loads, Holds, IsText, StopsIn}
 
 -- what is there is told
 told : {X : Type 0} (o : Option X) (text : FaultyText) → IsSome o → option_map (λ _. text) o ≡ Some text

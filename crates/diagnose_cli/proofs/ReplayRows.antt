@@ -1,11 +1,12 @@
 -- What `replay` answers over texts that can be read.
-use Rattle.std.proofs.Common.{◌≡◌, ◌≢◌, ℕ, List, [], ◌∷◌, Option, Some, Ok, Err, IsOkAnd, subst, append-nil}
+use Rattle.std.proofs.Common.{◌≢◌, ℕ, List, [], ◌∷◌, Option, Ok, Err, IsOkAnd, subst, append-nil}
 use Rattle.std.specs.List.{concat}
 use Rattle.des_base.specs.Outside.{Took}
 use Rattle.log_csv.specs.LogText.{log_of, first_fault as first_log_fault}
 use Rattle.model_text.specs.ModelFaults.{network_of, first_fault as first_model_fault}
 use Rattle.replay.specs.RunText.{run_of, first_fault as first_run_fault}
 use Rattle.replay.proofs.AcceptLemmas.{accepted_where}
+use Rattle.proof_ledger.specs.Book.{BookEntry}
 use Rattle.diagnose_cli.specs.declared.command.Command.TheVariants.{Replay}
 use Rattle.diagnose_cli.specs.declared.ending.Kind.{Kind}
 use Rattle.diagnose_cli.specs.Transcripts.{Ending, Transcript, whole}
@@ -17,9 +18,9 @@ use Rattle.diagnose_cli.specs.Replay.{ReplayRow, TellsReplay}
 use Rattle.diagnose_cli.proofs.Answered.{answered}
 use Rattle.diagnose_cli.proofs.Reading.{none_told}
 
-told : (steps : ℕ) (text alarms events : List ℕ) (b n : Option (List ℕ)) (s : ℕ) (e : Ending) → IsOkAnd e (Says (Replay steps) (text ∷ alarms ∷ events ∷ [])) → HasStatus e s → Took b n (concat (texts_of e))
+told : (steps : ℕ) (text alarms events : List ℕ) (book : List BookEntry) (b n : Option (List ℕ)) (s : ℕ) (e : Ending) → IsOkAnd e (Says (Replay steps) book (text ∷ alarms ∷ events ∷ [])) → HasStatus e s → Took b n (concat (texts_of e))
     → TellsReplay steps text alarms events b n s
-told steps text alarms events b n s (Ok t) (reply, says, is) shown put =
+told steps text alarms events book b n s (Ok t) (reply, says, is) shown put =
     let status = subst (λ (x : Transcript). HasStatus (Ok x) s) is shown in
     let taken = subst (λ (x : Transcript). Took b n (concat x.texts)) is put in
     record {
@@ -29,12 +30,12 @@ told steps text alarms events b n s (Ok t) (reply, says, is) shown put =
       shown = subst (λ (r : Kind × List ℕ). HasStatus (Ok (whole r)) s) says.2 status;
       put = subst (Took b n) (append-nil _) (subst (λ (r : Kind × List ℕ). Took b n (concat (r.1 ∷ []))) says.2 taken);
     }
-told steps text alarms events b n s (Err stop) says shown put = absurd says
+told steps text alarms events book b n s (Err stop) says shown put = absurd says
 
-pub replay_row : (l : Loads) (words : List (List ℕ)) (b n : Option (List ℕ)) (s : ℕ) → Ends l words b n s → s ≢ 3 → s ≢ 9 → ReplayRow l.held words b n s
-replay_row l words b n s ends three nine steps text alarms events command model_held log_held run_held readable =
-    told steps text alarms events b n s ends.ending
-    (answered l words b n s (Replay steps) (text ∷ alarms ∷ events ∷ []) ends three nine command (
+pub replay_row : (l : Loads) (words : List (List ℕ)) (book : List BookEntry) (b n : Option (List ℕ)) (s : ℕ) → Ends l words book b n s → s ≢ 3 → s ≢ 9 → ReplayRow l.held words b n s
+replay_row l words book b n s ends three nine steps text alarms events command model_held log_held run_held readable =
+    told steps text alarms events book b n s ends.ending
+    (answered l words book b n s (Replay steps) (text ∷ alarms ∷ events ∷ []) ends three nine command (
       record { told = model_held; fits = readable.model_fits; well = none_told _ (first_model_fault text) readable.model_well },
       (
         record { told = log_held; fits = readable.log_fits; well = none_told _ (first_log_fault alarms) readable.log_well },

@@ -1,41 +1,57 @@
 -- The commands, the files that each one needs, and what it may say over them.
-use Rattle.std.specs.Prelude.{◌≡◌, ℕ, ◌+◌, List, [], ◌∷◌, ◌++◌, length, codes, Bool, ◌&&◌, nat_eq, Option, Some, None, if◌then◌else◌, Err, IsOkAnd, MatchOption, bytes_eq, option_map, slice_index_or}
+use Rattle.std.specs.Prelude.{◌≡◌, ℕ, ◌+◌, ◌-◌, ◌^◌, ◌≤◌, ⊤, List, [], ◌∷◌, ◌++◌, length, codes, Bool, ◌&&◌, nat_eq, nat_lt, Option, Some, None, if◌then◌else◌, Err, IfSome, IsOkAnd, MatchOption, bytes_eq, option_map, option_and_then}
 use Rattle.des_base.specs.CommandWords.{word_at}
 use Rattle.des_base.specs.Numbers.{number_up_to}
 use Rattle.des_net.specs.Network.{Net}
 use Rattle.model_text.specs.ModelFaults.{network_of, first_fault as first_model_fault}
 use Rattle.replay.specs.RunText.{run_of, first_fault as first_run_fault}
+use Rattle.least_faults.specs.Parts.{most_size}
+use Rattle.least_faults.specs.declared.answer.Best.{Best}
+use Rattle.least_faults.specs.declared.answer.Found.{Found}
+use Rattle.least_faults.specs.declared.answer.Found.TheVariants.{Explained, Absent as NotExplained, Many as ManyFaults, Undecided as NotDecided}
 use Rattle.log_order.specs.Adding.{names_of}
+use Rattle.log_order.specs.Log.{Log as AlarmLog}
 use Rattle.log_csv.specs.LogText.{log_of, first_fault as first_log_fault}
+use Rattle.proof_ledger.specs.Book.{BookEntry}
 use Rattle.proof_ledger.specs.Checking.{check_proof}
 use Rattle.proof_ledger.specs.declared.checker.Checked.{Checked}
 use Rattle.proof_ledger.specs.declared.checker.Checked.TheVariants.{Verified, Rejected as Fails}
 use Rattle.proof_text.specs.CnfText.{Formula, formula_of, first_cnf_fault}
 use Rattle.proof_text.specs.LratText.{proof_of, first_lrat_fault}
-use Rattle.replay.specs.Replayed.{IsReplayed}
+use Rattle.replay.specs.QuestionSize.{question_size}
+use Rattle.replay.specs.Replayed.{IsReplayed, IsAccepted}
 use Rattle.replay.specs.declared.replaying.Replayed.{Replayed}
 use Rattle.replay.specs.declared.replaying.Replayed.TheVariants.{Accepted, Stuck as AtEvent, BadAlarm, Missing, Order, TooWide}
 use Rattle.replay.specs.Traced.{word_of, IsTraced}
 use Rattle.replay.specs.declared.tracing.Traced.{Traced}
 use Rattle.replay.specs.declared.tracing.Traced.TheVariants.{Ran, Stuck}
+use Rattle.report.specs.Replies.{text_of_traced, text_of_replayed, text_of_checked, text_of_found}
 use Rattle.diagnose_cli.specs.declared.command.Command.{Command}
-use Rattle.diagnose_cli.specs.declared.command.Command.TheVariants.{Trace, Replay, Check}
+use Rattle.diagnose_cli.specs.declared.command.Command.TheVariants.{Trace, Replay, Check, Diagnose}
 use Rattle.diagnose_cli.specs.declared.stop.FaultyText.{FaultyText}
 use Rattle.diagnose_cli.specs.declared.stop.FaultyText.TheVariants.{Model, Log, Run, Cnf, Lrat}
-use Rattle.diagnose_cli.specs.declared.stop.Stop.TheVariants.{Usage, Faulty}
+use Rattle.diagnose_cli.specs.declared.stop.Stop.TheVariants.{Usage, Faulty, Large}
 use Rattle.diagnose_cli.specs.declared.ending.Kind.{Kind}
-use Rattle.diagnose_cli.specs.declared.ending.Kind.TheVariants.{Done, Rejected}
+use Rattle.diagnose_cli.specs.declared.ending.Kind.TheVariants.{Done, Rejected, Absent, Undecided, Many}
 use Rattle.diagnose_cli.specs.Transcripts.{Ending, Transcript, whole}
-use Rattle.diagnose_cli.specs.Endings.{numbered, placed}
 use Rattle.diagnose_cli.specs.Files.{Loads, WithFile}
+use Rattle.diagnose_cli.specs.Diagnosed.{IsDiagnosed}
 
 -- this many words, of which the first is the name
 abbrev pub calls : List (List ℕ) → List ℕ → ℕ → Bool
 calls words name count = nat_eq (length words) count && bytes_eq (word_at words 0) name
 
--- the parallel steps that `replay` may be asked for
+-- the parallel steps that `replay` and `diagnose` may be asked for
 abbrev pub most_steps : ℕ
 most_steps = 1000
+
+-- the budget that a question may have
+abbrev pub most_budget : ℕ
+most_budget = 2 ^ 64 - 1
+
+-- what the two words ask of `diagnose`
+abbrev pub diagnose_of : List ℕ → List ℕ → Option Command
+diagnose_of steps budget = option_and_then (λ n. option_map (λ b. Diagnose n b) (number_up_to most_budget budget)) (number_up_to most_steps steps)
 
 -- the command that the words call, if they call one
 abbrev pub command_of : List (List ℕ) → Option Command
@@ -43,7 +59,13 @@ command_of words =
     if calls words (codes "trace") 3 then Some Trace
     else if calls words (codes "replay") 5 then option_map (λ steps. Replay steps) (number_up_to most_steps (word_at words 4))
     else if calls words (codes "check") 3 then Some Check
+    else if calls words (codes "diagnose") 5 then diagnose_of (word_at words 3) (word_at words 4)
     else None
+
+-- `diagnose` is asked for no more steps than that
+abbrev pub HasFewSteps : Command → Type 0
+HasFewSteps (Diagnose steps budget) = steps ≤ most_steps
+HasFewSteps _ = ⊤
 
 -- the kinds of files
 pub data FileKind : Type 0 where
@@ -92,31 +114,31 @@ abbrev pub files_of : Command → List FileKind
 files_of Trace = model ∷ run ∷ []
 files_of (Replay steps) = model ∷ log ∷ run ∷ []
 files_of Check = cnf ∷ lrat ∷ []
+files_of (Diagnose steps budget) = model ∷ log ∷ []
+
+abbrev pub kind_of_traced : Traced → Kind
+kind_of_traced (Ran faults) = Done
+kind_of_traced (Stuck at) = Rejected
 
 abbrev pub reply_of_traced : Traced → Kind × List ℕ
-reply_of_traced (Ran faults) = (Done, numbered (codes "RAN ") faults)
-reply_of_traced (Stuck at) = (Rejected, numbered (codes "REJECTED STUCK ") at)
+reply_of_traced traced = (kind_of_traced traced, text_of_traced traced)
 
 -- the reply tells what tracing the word of the run text on the network of the model text tells
 abbrev pub SaysTraced : List ℕ → List ℕ → (Kind × List ℕ) → Type 0
 SaysTraced text steps reply =
     (traced : Traced) × IsTraced (network_of text) (word_of (run_of (network_of text) steps)) traced × (reply ≡ reply_of_traced traced)
 
--- the words, the name of an alarm, and the end of the line
-abbrev pub named : List ℕ → List ℕ → List ℕ
-named words name = words ++ name ++ 10 ∷ []
+abbrev pub kind_of_replayed : Replayed → Kind
+kind_of_replayed (Accepted faults) = Done
+kind_of_replayed (AtEvent at) = Rejected
+kind_of_replayed (BadAlarm at) = Rejected
+kind_of_replayed (Missing alarm) = Rejected
+kind_of_replayed (Order first second) = Rejected
+kind_of_replayed (TooWide pieces) = Rejected
 
--- what is said of two alarms by their names
-abbrev pub order_text : List ℕ → List ℕ → List ℕ
-order_text first second = ((codes "REJECTED ORDER " ++ first ++ 32 ∷ []) ++ second) ++ 10 ∷ []
-
+-- alarms are told by their names
 abbrev pub reply_of_replayed : List (List ℕ) → Replayed → Kind × List ℕ
-reply_of_replayed names (Accepted faults) = (Done, numbered (codes "ACCEPTED ") faults)
-reply_of_replayed names (AtEvent at) = (Rejected, numbered (codes "REJECTED STUCK ") at)
-reply_of_replayed names (BadAlarm at) = (Rejected, numbered (codes "REJECTED ALARM ") at)
-reply_of_replayed names (Missing alarm) = (Rejected, named (codes "REJECTED MISSING ") (slice_index_or names alarm []))
-reply_of_replayed names (Order first second) = (Rejected, order_text (slice_index_or names first []) (slice_index_or names second []))
-reply_of_replayed names (TooWide pieces) = (Rejected, numbered (codes "REJECTED WIDE ") pieces)
+reply_of_replayed names replayed = (kind_of_replayed replayed, text_of_replayed names replayed)
 
 -- the reply tells what replaying the run of the run text against the log of the log text tells, within so many parallel steps
 abbrev pub SaysReplayed : ℕ → List ℕ → List ℕ → List ℕ → (Kind × List ℕ) → Type 0
@@ -124,34 +146,83 @@ SaysReplayed steps text alarms events reply =
     (replayed : Replayed) × IsReplayed (network_of text) (log_of alarms) (run_of (network_of text) events) steps replayed
     × (reply ≡ reply_of_replayed (names_of (log_of alarms).alarms) replayed)
 
+abbrev pub kind_of_checked : Checked → Kind
+kind_of_checked Verified = Done
+kind_of_checked (Fails line kind) = Rejected
+
 abbrev pub reply_of_checked : Checked → Kind × List ℕ
-reply_of_checked Verified = (Done, codes "VERIFIED\n")
-reply_of_checked (Fails line kind) = (Rejected, placed (codes "REJECTED ") line kind)
+reply_of_checked checked = (kind_of_checked checked, text_of_checked checked)
 
 -- the reply tells what checking the proof of the proof text over the clauses of the formula text gives
 abbrev pub SaysChecked : List ℕ → List ℕ → (Kind × List ℕ) → Type 0
 SaysChecked formula proof reply = reply ≡ reply_of_checked (check_proof (formula_of formula).clauses (proof_of proof))
 
--- what a command may say over the bytes of its files
-abbrev pub Says : Command → List (List ℕ) → Transcript → Type 0
-Says Trace (text ∷ steps ∷ []) told = (reply : Kind × List ℕ) × SaysTraced text steps reply × (told ≡ whole reply)
-Says (Replay steps) (text ∷ alarms ∷ events ∷ []) told = (reply : Kind × List ℕ) × SaysReplayed steps text alarms events reply × (told ≡ whole reply)
-Says Check (formula ∷ proof ∷ []) told = (reply : Kind × List ℕ) × SaysChecked formula proof reply × (told ≡ whole reply)
-Says _ _ told = ⊥
+abbrev pub kind_of_found : Found → Kind
+kind_of_found (Explained best) = Done
+kind_of_found NotExplained = Absent
+kind_of_found (ManyFaults best) = Many
+kind_of_found (NotDecided lo best) = Undecided
 
--- The files from number i on, in order: for each its load, its length and its text. Then what is said.
-abbrev pub InOrder : Loads → List (List ℕ) → ℕ → List FileKind → List (List ℕ) → (List (List ℕ) → Transcript → Type 0) → Ending → Type 0
-InOrder l words i [] files says e = IsOkAnd e (says files)
-InOrder l words i (kind ∷ kinds) files says e =
+abbrev pub reply_of_found : Net → ℕ → Found → Kind × List ℕ
+reply_of_found net n found = (kind_of_found found, text_of_found net n found)
+
+-- the run that an answer tells, where it tells one
+abbrev pub told_run : Found → Option Best
+told_run (Explained best) = Some best
+told_run NotExplained = None
+told_run (ManyFaults best) = Some best
+told_run (NotDecided lo best) = best
+
+-- The printed reply is a run text as it stands: `replay` can read it, and accepts its run with so many faults.
+pub record Replays (net : Net) (alarms : AlarmLog) (n : ℕ) (reply : List ℕ) (faults : ℕ) : Type 0 where
+  pub fits : length reply ≤ limit_of run
+  pub well : first_run_fault net reply ≡ None
+  pub accepted : IsAccepted net alarms (run_of net reply) n faults
+
+-- where the answer tells a run
+abbrev pub RunReplays : Net → AlarmLog → ℕ → Found → Type 0
+RunReplays net alarms n found = IfSome (told_run found) (λ best. Replays net alarms n (text_of_found net n found) best.faults)
+
+-- the reply tells what is found of the log of the log text within so many parallel steps, the book that is left shows it, and its run replays
+abbrev pub SaysDiagnosed : ℕ → ℕ → List ℕ → List ℕ → List BookEntry → (Kind × List ℕ) → Type 0
+SaysDiagnosed steps budget text alarms book reply =
+    (found : Found) × IsDiagnosed (network_of text) (log_of alarms) steps budget book found
+    × RunReplays (network_of text) (log_of alarms) steps found × (reply ≡ reply_of_found (network_of text) steps found)
+
+-- what a command may say over the bytes of its files, where it leaves this book
+abbrev pub Says : Command → List BookEntry → List (List ℕ) → Transcript → Type 0
+Says Trace book (text ∷ steps ∷ []) told = (reply : Kind × List ℕ) × SaysTraced text steps reply × (told ≡ whole reply)
+Says (Replay steps) book (text ∷ alarms ∷ events ∷ []) told = (reply : Kind × List ℕ) × SaysReplayed steps text alarms events reply × (told ≡ whole reply)
+Says Check book (formula ∷ proof ∷ []) told = (reply : Kind × List ℕ) × SaysChecked formula proof reply × (told ≡ whole reply)
+Says (Diagnose steps budget) book (text ∷ alarms ∷ []) told = (reply : Kind × List ℕ) × SaysDiagnosed steps budget text alarms book reply × (told ≡ whole reply)
+Says _ _ _ told = ⊥
+
+-- the size, where it is above the limit
+abbrev pub above_limit : ℕ → Option ℕ
+above_limit size = if nat_lt most_size size then Some size else None
+
+-- the size of the question that a command asks over the bytes of its files, where it is above the limit
+abbrev pub too_large : Command → List (List ℕ) → Option ℕ
+too_large (Diagnose steps budget) (text ∷ alarms ∷ []) = above_limit (question_size (network_of text) (log_of alarms) steps)
+too_large _ _ = None
+
+-- after its files a command stops by the size of its question, or says what it may
+abbrev pub Closes : Command → List BookEntry → List (List ℕ) → Ending → Type 0
+Closes c book files e = MatchOption (too_large c files) (IsOkAnd e (Says c book files)) (λ size. e ≡ Err (Large size))
+
+-- The files from number i on, in order: for each its load, its length and its text. Then the end.
+abbrev pub InOrder : Loads → List (List ℕ) → ℕ → List FileKind → List (List ℕ) → (List (List ℕ) → Ending → Type 0) → Ending → Type 0
+InOrder l words i [] files closes e = closes files e
+InOrder l words i (kind ∷ kinds) files closes e =
     WithFile l i (word_at words i) (limit_of kind)
-    (λ bytes e. MatchOption (fault_of_text kind files bytes) (InOrder l words (i + 1) kinds (files ++ bytes ∷ []) says e) (λ text. e ≡ Err (Faulty text))) e
+    (λ bytes e. MatchOption (fault_of_text kind files bytes) (InOrder l words (i + 1) kinds (files ++ bytes ∷ []) closes e) (λ text. e ≡ Err (Faulty text))) e
 
-abbrev pub Answers : Loads → List (List ℕ) → Command → Ending → Type 0
-Answers l words c = InOrder l words 1 (files_of c) [] (Says c)
+abbrev pub Answers : Loads → List (List ℕ) → Command → List BookEntry → Ending → Type 0
+Answers l words c book = InOrder l words 1 (files_of c) [] (Closes c book)
 
--- what may be answered for these words, but for want of memory
-abbrev pub Due : Loads → List (List ℕ) → Ending → Type 0
-Due l words e = MatchOption (command_of words) (e ≡ Err Usage) (λ c. Answers l words c e)
+-- what may be answered for these words with this book left, but for want of memory
+abbrev pub Due : Loads → List (List ℕ) → List BookEntry → Ending → Type 0
+Due l words book e = MatchOption (command_of words) (e ≡ Err Usage) (λ c. Answers l words c book e)
 
 -- how many files a command names
 abbrev pub file_count : Command → ℕ

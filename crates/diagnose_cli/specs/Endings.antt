@@ -1,16 +1,20 @@
 -- The status of an ending, and its texts.
-use Rattle.std.specs.Prelude.{◌≡◌, ℕ, List, [], ◌∷◌, ◌++◌, codes, Ok, Err, IsSomeAnd, decimal}
+use Rattle.std.specs.Prelude.{◌≡◌, ℕ, List, [], ◌∷◌, codes, Ok, Err, IsSomeAnd}
 use Rattle.diagnose_cli.specs.declared.stop.Stop.{Stop}
-use Rattle.diagnose_cli.specs.declared.stop.Stop.TheVariants.{Usage, Load, Faulty, Long, Memory}
+use Rattle.diagnose_cli.specs.declared.stop.Stop.TheVariants.{Usage, Load, Faulty, Long, Large, Memory}
 use Rattle.diagnose_cli.specs.declared.stop.FaultyText.{FaultyText}
 use Rattle.diagnose_cli.specs.declared.stop.FaultyText.TheVariants.{Model, Log, Run, Cnf, Lrat}
 use Rattle.diagnose_cli.specs.declared.ending.Kind.{Kind}
-use Rattle.diagnose_cli.specs.declared.ending.Kind.TheVariants.{Done, Rejected}
+use Rattle.diagnose_cli.specs.declared.ending.Kind.TheVariants.{Done, Rejected, Absent, Undecided, Many}
+use Rattle.report.specs.Replies.{numbered, placed}
 use Rattle.diagnose_cli.specs.Transcripts.{Ending}
 
 abbrev pub status_of_kind : Kind → ℕ
 status_of_kind Done = 0
 status_of_kind Rejected = 13
+status_of_kind Absent = 10
+status_of_kind Undecided = 11
+status_of_kind Many = 12
 
 abbrev pub status_of_faulty : FaultyText → ℕ
 status_of_faulty (Model fault) = 5
@@ -24,20 +28,13 @@ status_of_stop Usage = 2
 status_of_stop (Load file) = 3
 status_of_stop (Faulty text) = status_of_faulty text
 status_of_stop (Long file) = 8
+status_of_stop (Large size) = 8
 status_of_stop Memory = 9
 
 -- it is an end, and this is its status
 abbrev pub HasStatus : Ending → ℕ → Type 0
 HasStatus (Ok told) status = IsSomeAnd told.done (λ kind. status ≡ status_of_kind kind)
 HasStatus (Err stop) status = status ≡ status_of_stop stop
-
--- words, a number and the end of the line
-abbrev pub numbered : List ℕ → ℕ → List ℕ
-numbered words n = words ++ decimal n ++ 10 ∷ []
-
--- words, the line and the code of a fault, and the end of the line
-abbrev pub placed : List ℕ → ℕ → ℕ → List ℕ
-placed words line code = words ++ decimal line ++ 32 ∷ decimal code ++ 10 ∷ []
 
 abbrev pub text_of_faulty : FaultyText → List ℕ
 text_of_faulty (Model fault) = placed (codes "MODEL ") fault.line fault.code
@@ -51,6 +48,7 @@ text_of_stop Usage = codes "USAGE\n"
 text_of_stop (Load file) = numbered (codes "LOAD ") file
 text_of_stop (Faulty text) = text_of_faulty text
 text_of_stop (Long file) = numbered (codes "LONG ") file
+text_of_stop (Large size) = numbered (codes "LARGE ") size
 text_of_stop Memory = []
 
 abbrev pub texts_of : Ending → List (List ℕ)

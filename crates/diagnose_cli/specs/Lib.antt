@@ -2,6 +2,7 @@ pub mod Transcripts
 pub mod Endings
 pub mod Refusals
 pub mod Files
+pub mod Diagnosed
 pub mod Commands
 pub mod Exact
 pub mod Puts
@@ -9,3 +10,4 @@ pub mod Run
 pub mod Trace
 pub mod Replay
 pub mod Check
+pub mod Diagnose

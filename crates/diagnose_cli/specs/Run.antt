@@ -1,41 +1,48 @@
 -- What the whole run does.
-use Rattle.std.specs.Prelude.{◌≡◌, ◌≢◌, ℕ, List, [], ◌∷◌, ◌++◌, ◌≤◌, Option, codes, IsSomeAnd}
+use Rattle.std.specs.Prelude.{◌≡◌, ◌≢◌, ℕ, List, [], ◌∷◌, ◌++◌, ◌≤◌, Option, Some, codes, IsSomeAnd}
 use Rattle.std.specs.List.{concat}
 use Rattle.des_base.specs.Outside.{Rose, Took}
 use Rattle.des_base.specs.CommandWords.{word_at}
+use Rattle.proof_ledger.specs.Book.{BookEntry}
 use Rattle.diagnose_cli.specs.Files.{Loads}
 use Rattle.diagnose_cli.specs.Transcripts.{Ending, UnlessMemory, TookCut}
-use Rattle.diagnose_cli.specs.Endings.{HasStatus, texts_of, numbered}
+use Rattle.report.specs.Replies.{numbered}
+use Rattle.diagnose_cli.specs.Endings.{HasStatus, texts_of}
+use Rattle.diagnose_cli.specs.declared.command.Command.TheVariants.{Diagnose}
 use Rattle.diagnose_cli.specs.Commands.{Due, command_of, file_count}
 
--- an ending that is due for the words: its texts were put, and its status is answered
-pub record Ends (l : Loads) (words : List (List ℕ)) (before now : Option (List ℕ)) (status : ℕ) : Type 0 where
+-- an ending that is due for the words with the book that is left: its texts were put, and its status is answered
+pub record Ends (l : Loads) (words : List (List ℕ)) (book : List BookEntry) (before now : Option (List ℕ)) (status : ℕ) : Type 0 where
   pub ending : Ending
-  pub due : UnlessMemory ending (Due l words ending)
+  pub due : UnlessMemory ending (Due l words book ending)
   pub shown : HasStatus ending status
   pub put : Took before now (concat (texts_of ending))
 
 -- whole texts that are due for the words were put
-pub record Broke (l : Loads) (words : List (List ℕ)) (before now : Option (List ℕ)) : Type 0 where
+pub record Broke (l : Loads) (words : List (List ℕ)) (book : List BookEntry) (before now : Option (List ℕ)) : Type 0 where
   pub ending : Ending
-  pub due : UnlessMemory ending (Due l words ending)
+  pub due : UnlessMemory ending (Due l words book ending)
   pub put : Took before now (concat (texts_of ending))
 
 -- texts that are due for the words were put, but of the last one a front alone
-pub record CutOff (l : Loads) (words : List (List ℕ)) (before now : Option (List ℕ)) : Type 0 where
+pub record CutOff (l : Loads) (words : List (List ℕ)) (book : List BookEntry) (before now : Option (List ℕ)) : Type 0 where
   pub ending : Ending
-  pub due : UnlessMemory ending (Due l words ending)
+  pub due : UnlessMemory ending (Due l words book ending)
   pub texts : List (List ℕ)
   pub next : List ℕ
   pub split : texts_of ending ≡ texts ++ next ∷ []
   pub put : TookCut before now texts next
 
 -- the whole run, by its status; rose says that the sink's count of faults rose
-pub record Ran (l : Loads) (words : List (List ℕ)) (before now : Option (List ℕ)) (rose : Type 0) (status : ℕ) : Type 0 where
-  pub ends : status ≢ 4 → status ≢ 9 → Ends l words before now status
-  pub broke : status ≡ 9 → Broke l words before now
-  pub cut_off : status ≡ 4 → CutOff l words before now
+pub record Ran (l : Loads) (words : List (List ℕ)) (book : List BookEntry) (before now : Option (List ℕ)) (rose : Type 0) (status : ℕ) : Type 0 where
+  pub ends : status ≢ 4 → status ≢ 9 → Ends l words book before now status
+  pub broke : status ≡ 9 → Broke l words book before now
+  pub cut_off : status ≡ 4 → CutOff l words book before now
   pub put_failed : status ≡ 4 → rose
+
+-- the words don't call `diagnose`
+abbrev pub AsksNone : List (List ℕ) → Type 0
+AsksNone words = (steps budget : ℕ) → command_of words ≢ Some (Diagnose steps budget)
 
 -- the count of the name of file i rose
 abbrev pub RoseFor : Loads → List (List ℕ) → ℕ → Type 0

@@ -1,5 +1,5 @@
 ghost use Rattle.std.specs.Prelude.{◌≡◌, length, IfSome, ◌<◌};
-ghost use Rattle.diagnose_cli.specs.Commands.{calls, command_of, file_count};
+ghost use Rattle.diagnose_cli.specs.Commands.{calls, command_of, file_count, HasFewSteps};
 
 use des_base::{WordList, read_number};
 
@@ -12,6 +12,9 @@ pub enum Command {
     Replay(u32),
     /// `check CNF LRAT`: does the proof refute the formula.
     Check,
+    /// `diagnose MODEL LOG N BUDGET`: the least number of faults that explains the log within this many parallel steps, found
+    /// by a search that may learn as many clauses as the budget says.
+    Diagnose { steps: u32, budget: u64 },
 }
 
 const STEP_LIMIT: u64 = 1000;
@@ -28,6 +31,7 @@ fn is_call(words: &WordList, name: &str, count: usize) -> bool
 pub fn command_of(words: &WordList) -> Option<Command>
     ensures command { result ≡ command_of words.now }
     ensures files { IfSome result (λ c. file_count c < length words.now) }
+    ensures steps { IfSome result HasFewSteps }
 {
     if is_call(words, "trace", 3) {
         Some(Command::Trace)
@@ -36,6 +40,13 @@ pub fn command_of(words: &WordList) -> Option<Command>
         Some(Command::Replay(steps as u32))
     } else if is_call(words, "check", 3) {
         Some(Command::Check)
+    } else if is_call(words, "diagnose", 5) {
+        let steps = read_number(words.word(3).as_bytes(), STEP_LIMIT)?;
+        let budget = read_number(words.word(4).as_bytes(), u64::MAX)?;
+        Some(Command::Diagnose {
+            steps: steps as u32,
+            budget,
+        })
     } else {
         None
     }

@@ -16,6 +16,12 @@ pub enum Kind {
     Done,
     /// A run or a proof is rejected.
     Rejected,
+    /// Nothing explains a log.
+    Absent,
+    /// The budget was spent on a question.
+    Undecided,
+    /// All that explains a log has more faults than are counted.
+    Many,
 }
 
 /// What a command answers: what it says, and the text.
@@ -74,5 +80,8 @@ fn status_of_kind(kind: Kind) -> u8
     match kind {
         Kind::Done => 0,
         Kind::Rejected => 13,
+        Kind::Absent => 10,
+        Kind::Undecided => 11,
+        Kind::Many => 12,
     }
 }

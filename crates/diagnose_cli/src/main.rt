@@ -7,6 +7,7 @@
 
 mod check_command;
 mod command;
+mod diagnose_command;
 mod disk_shelf;
 mod ending;
 mod files;

@@ -5,13 +5,15 @@ ghost use Rattle.diagnose_cli.specs.Files.{loads};
 ghost use Rattle.diagnose_cli.specs.Transcripts.{UnlessMemory, once};
 ghost use Rattle.diagnose_cli.specs.Commands.{Due, command_of};
 ghost use Rattle.diagnose_cli.specs.Exact.{StopRow};
-ghost use Rattle.diagnose_cli.specs.Run.{Ran, Ends, Broke, CutOff, LoadRow};
+ghost use Rattle.diagnose_cli.specs.Run.{Ran, Ends, Broke, CutOff, LoadRow, AsksNone};
 ghost use Rattle.diagnose_cli.specs.Trace.{TraceRow};
 ghost use Rattle.diagnose_cli.specs.Replay.{ReplayRow};
 ghost use Rattle.diagnose_cli.specs.Check.{CheckRow, RefutedRow};
+ghost use Rattle.diagnose_cli.specs.Diagnose.{DiagnoseRow, ExplainedRow, AbsentRow, UndecidedRow, ManyRow};
 
 use crate::check_command::check_command;
 use crate::command::{Command, command_of};
+use crate::diagnose_command::diagnose_command;
 use crate::ending::{Reply, put_once};
 use crate::replay_command::replay_command;
 use crate::stop::Stop;
@@ -22,9 +24,10 @@ use std::alloc::Global;
 
 /// Does what the words say, and answers the exit status.
 ///
-/// A clause that speaks of what the shelf holds or of what the sink took holds wherever these tell it. The book is for the
-/// derivations of questions; no command asks one yet.
-#[tactic(auto, using(crate::proofs::Rows::load_row, crate::proofs::Exact::stop_row, crate::proofs::TraceRows::trace_row, crate::proofs::UsageRows::usage_row))]
+/// A clause that speaks of what the shelf holds or of what the sink took holds wherever these tell it. The book gets the
+/// axioms and the derivations of a question that is asked. What explains a log is as in Grastien et al., "Diagnosis of
+/// discrete-event systems using satisfiability algorithms" (2007), with faults as in Sampath et al., "Diagnosability of
+/// discrete-event systems" (1995).
 pub fn run<F: Shelf, S: Sink>(
     alloc: Global,
     words: &WordList,
@@ -33,39 +36,61 @@ pub fn run<F: Shelf, S: Sink>(
     book: &mut Ledger,
 ) -> u8
     requires { book.old.entries ≡ [] }
-    ensures ends { result ≢ 4 → result ≢ 9 → Ends (loads F.held F.faults shelf.old shelf.new) words.now (S.taken out.old) (S.taken out.new) result }
-    ensures traced { result ≢ 3 → result ≢ 4 → result ≢ 9 → TraceRow (F.held shelf.old) words.now (S.taken out.old) (S.taken out.new) result }
+    ensures explained { ExplainedRow (F.held shelf.old) words.now (S.taken out.old) (S.taken out.new) result }
+    ensures absent { AbsentRow (F.held shelf.old) words.now result }
+    ensures many { ManyRow (F.held shelf.old) words.now (S.taken out.old) (S.taken out.new) result }
+    ensures undecided { UndecidedRow (F.held shelf.old) words.now (S.taken out.old) (S.taken out.new) result book.new.entries }
+    ensures diagnosed { result ≢ 3 → result ≢ 4 → result ≢ 9 → DiagnoseRow (F.held shelf.old) words.now (S.taken out.old) (S.taken out.new) result book.new.entries }
     ensures replayed { result ≢ 3 → result ≢ 4 → result ≢ 9 → ReplayRow (F.held shelf.old) words.now (S.taken out.old) (S.taken out.new) result }
     ensures checked { result ≢ 3 → result ≢ 4 → result ≢ 9 → CheckRow (F.held shelf.old) words.now (S.taken out.old) (S.taken out.new) result }
     ensures refuted { RefutedRow (F.held shelf.old) words.now result }
+    ensures traced { result ≢ 3 → result ≢ 4 → result ≢ 9 → TraceRow (F.held shelf.old) words.now (S.taken out.old) (S.taken out.new) result }
+    ensures no_question { AsksNone words.now → book.new ≡ book.old }
     ensures stops { result ≢ 3 → result ≢ 4 → result ≢ 9 → StopRow (F.held shelf.old) words.now (S.taken out.old) (S.taken out.new) result }
     ensures usage { result ≡ 2 → command_of words.now ≡ None }
+    ensures ends { result ≢ 4 → result ≢ 9 → Ends (loads F.held F.faults shelf.old shelf.new) words.now book.new.entries (S.taken out.old) (S.taken out.new) result }
     ensures load_failed { result ≡ 3 → LoadRow (loads F.held F.faults shelf.old shelf.new) words.now (S.taken out.old) (S.taken out.new) }
-    ensures no_question { book.new ≡ book.old }
     ensures put_failed { result ≡ 4 → Rose (S.faults out.old) (S.faults out.new) }
-    ensures cut_off { result ≡ 4 → CutOff (loads F.held F.faults shelf.old shelf.new) words.now (S.taken out.old) (S.taken out.new) }
-    ensures broke { result ≡ 9 → Broke (loads F.held F.faults shelf.old shelf.new) words.now (S.taken out.old) (S.taken out.new) }
+    ensures cut_off { result ≡ 4 → CutOff (loads F.held F.faults shelf.old shelf.new) words.now book.new.entries (S.taken out.old) (S.taken out.new) }
+    ensures broke { result ≡ 9 → Broke (loads F.held F.faults shelf.old shelf.new) words.now book.new.entries (S.taken out.old) (S.taken out.new) }
 {
-    let _ = book;
-    run_once(alloc, words, shelf, out)
+    run_once(alloc, words, shelf, out, book)
 }
 
 // A command that has one reply.
-fn run_once<F: Shelf, S: Sink>(alloc: Global, words: &WordList, shelf: &mut F, out: &mut S) -> u8
-    ensures { Ran (loads F.held F.faults shelf.old shelf.new) words.now (S.taken out.old) (S.taken out.new) (Rose (S.faults out.old) (S.faults out.new)) result }
+fn run_once<F: Shelf, S: Sink>(
+    alloc: Global,
+    words: &WordList,
+    shelf: &mut F,
+    out: &mut S,
+    book: &mut Ledger,
+) -> u8
+    requires { book.old.entries ≡ [] }
+    ensures ran { Ran (loads F.held F.faults shelf.old shelf.new) words.now book.new.entries (S.taken out.old) (S.taken out.new) (Rose (S.faults out.old) (S.faults out.new)) result }
+    ensures no_question { AsksNone words.now → book.new ≡ book.old }
 {
-    let ending = answer(alloc, words, shelf);
+    let ending = answer(alloc, words, shelf, book);
     put_once(alloc, ending, out)
 }
 
 // The one reply to a command.
-fn answer<F: Shelf>(alloc: Global, words: &WordList, shelf: &mut F) -> Result<Reply, Stop>
-    ensures { UnlessMemory result (Due (loads F.held F.faults shelf.old shelf.new) words.now (once result)) }
+fn answer<F: Shelf>(
+    alloc: Global,
+    words: &WordList,
+    shelf: &mut F,
+    book: &mut Ledger,
+) -> Result<Reply, Stop>
+    requires { book.old.entries ≡ [] }
+    ensures due { UnlessMemory result (Due (loads F.held F.faults shelf.old shelf.new) words.now book.new.entries (once result)) }
+    ensures no_question { AsksNone words.now → book.new ≡ book.old }
 {
     match command_of(words) {
         None => Err(Stop::Usage),
         Some(Command::Trace) => trace_command(alloc, words, shelf),
         Some(Command::Replay(steps)) => replay_command(alloc, words, shelf, steps),
         Some(Command::Check) => check_command(alloc, words, shelf),
+        Some(Command::Diagnose { steps, budget }) => {
+            diagnose_command(alloc, words, shelf, steps, budget, book)
+        }
     }
 }

@@ -1,6 +1,7 @@
 ghost use Rattle.std.specs.Prelude.{◌≡◌, ◌∷◌, ◌++◌, [], IfOk, string_bytes};
 ghost use Rattle.diagnose_cli.specs.declared.stop.Stop.TheVariants.{Memory as NoMemory};
-ghost use Rattle.diagnose_cli.specs.Endings.{status_of_faulty, status_of_stop, text_of_faulty, text_of_stop, placed};
+ghost use Rattle.diagnose_cli.specs.Endings.{status_of_faulty, status_of_stop, text_of_faulty, text_of_stop};
+ghost use Rattle.report.specs.Replies.{placed};
 ghost use Rattle.diagnose_cli.specs.Refusals.{stop_of_model, stop_of_log, stop_of_run, stop_of_cnf, stop_of_lrat};
 
 use des_base::Memory;
@@ -31,6 +32,8 @@ pub enum Stop {
     Faulty(FaultyText),
     /// The file of this number is longer than its limit.
     Long(u32),
+    /// The question has this size, which is above the limit.
+    Large(u64),
     /// Want of memory.
     Memory,
 }
@@ -112,7 +115,7 @@ pub fn status_of_stop(stop: Stop) -> u8
         Stop::Usage => 2,
         Stop::Load(_) => 3,
         Stop::Faulty(text) => status_of_faulty(text),
-        Stop::Long(_) => 8,
+        Stop::Long(_) | Stop::Large(_) => 8,
         Stop::Memory => 9,
     }
 }
@@ -136,6 +139,7 @@ pub fn text_of_stop(alloc: Global, stop: Stop) -> Result<Vec<u8>, Memory>
         Stop::Load(file) => format!(in alloc; "LOAD {file}\n")?,
         Stop::Faulty(text) => text_of_faulty(alloc, text)?,
         Stop::Long(file) => format!(in alloc; "LONG {file}\n")?,
+        Stop::Large(size) => format!(in alloc; "LARGE {size}\n")?,
         Stop::Memory => String::new(alloc),
     };
     Ok(text.into_bytes())
@@ -154,7 +158,7 @@ fn text_of_faulty(alloc: Global, text: FaultyText) -> Result<String, Memory>
 }
 
 // A word, and the line and the code of a fault.
-pub fn placed(alloc: Global, word: &str, line: u32, code: u8) -> Result<String, Memory>
+fn placed(alloc: Global, word: &str, line: u32, code: u8) -> Result<String, Memory>
     ensures { IfOk result (λ text. string_bytes text ≡ placed (word.now ++ 32 ∷ []) line code) }
 {
     Ok(format!(in alloc; "{word} {line} {code}\n")?)

@@ -20,8 +20,11 @@ const TWO_APART: &str =
 const TWO_STARTS: &str =
     "des 1\ncomponent c\nstate u init\nstate v init\ntrans v a v\nevent e alarm A : c.a\n";
 
+const NO_WAY_OVER: &str =
+    "des 1\ncomponent c\nstate u init\nstate v init\ntrans u a u\ntrans v b v\nevent ea alarm A : c.a\nevent eb alarm B : c.b\n";
+
 // Words, the status, and the text that is put.
-const CASES: [(&str, u8, &str); 68] = [
+const CASES: [(&str, u8, &str); 101] = [
     ("trace d stuck", 13, "REJECTED STUCK 3\n"),
     ("trace d right", 0, "RAN 0\n"),
     ("trace d none", 0, "RAN 0\n"),
@@ -93,9 +96,75 @@ const CASES: [(&str, u8, &str); 68] = [
     ("check across nothing", 13, "REJECTED 0 4\n"),
     ("check four", 2, "USAGE\n"),
     ("check four absent", 3, "LOAD 2\n"),
+    // the least number of faults
+    ("diagnose valve nothing 0 1000", 0, "EXPLAINED 0\nrun 0\n"),
+    (
+        "diagnose valve tripped 2 1000",
+        0,
+        "EXPLAINED 1\nrun 2\njam\ntrip a1\n",
+    ),
+    ("diagnose valve tripped 1 1000", 10, "NONE 1\n"),
+    (
+        "diagnose valve again 5 1000",
+        0,
+        "EXPLAINED 2\nrun 5\njam\ntrip a1\nfix a2\njam\ntrip a3\n",
+    ),
+    ("diagnose valve again 4 1000", 10, "NONE 4\n"),
+    ("diagnose empty nothing 3 1000", 0, "EXPLAINED 0\nrun 0\n"),
+    ("diagnose empty tripped 3 1000", 10, "NONE 3\n"),
+    (
+        "diagnose apart yx 1 1000",
+        0,
+        "EXPLAINED 0\nrun 2\neb y\nea x\n",
+    ),
+    ("diagnose meet zyx 1 1000", 10, "NONE 1\n"),
+    (
+        "diagnose meet zyx 2 1000",
+        0,
+        "EXPLAINED 0\nrun 3\nec z\neb y\nea x\n",
+    ),
+    ("diagnose starts one 1 1000", 0, "EXPLAINED 0\nrun 1\ne x\n"),
+    (
+        "diagnose valve either 2 1000",
+        0,
+        "EXPLAINED 0\nrun 1\nbeat a1\n",
+    ),
+    ("diagnose valve no_event 2 1000", 10, "NONE 2\n"),
+    ("diagnose still both 2 0", 11, "UNDECIDED 0 -\n"),
+    ("diagnose still both 2 1000000", 10, "NONE 2\n"),
+    (
+        "diagnose valve quoted 2 1000",
+        0,
+        "EXPLAINED 1\nrun 2\njam\ntrip a1\n",
+    ),
+    ("diagnose valve double 2 1000", 6, "LOG 3 1\n"),
+    ("diagnose valve unknown_alarm 2 1000", 6, "LOG 2 2\n"),
+    ("diagnose valve cycle 2 1000", 6, "LOG 2 3\n"),
+    ("diagnose valve no_label 2 1000", 6, "LOG 1 4\n"),
+    ("diagnose valve no_field 2 1000", 6, "LOG 1 6\n"),
+    ("diagnose valve question 2 1000", 6, "LOG 1 6\n"),
+    ("diagnose valve no_name 2 1000", 6, "LOG 1 7\n"),
+    ("diagnose nothing absent 2 1000", 5, "MODEL 0 0\n"),
+    ("diagnose absent tripped 2 1000", 3, "LOAD 1\n"),
+    ("diagnose valve absent 2 1000", 3, "LOAD 2\n"),
+    (
+        "diagnose valve nothing 1000 18446744073709551615",
+        0,
+        "EXPLAINED 0\nrun 0\n",
+    ),
+    (
+        "diagnose valve nothing 2 18446744073709551616",
+        2,
+        "USAGE\n",
+    ),
+    ("diagnose valve nothing -1 1000", 2, "USAGE\n"),
+    ("diagnose valve nothing 007 1000", 2, "USAGE\n"),
+    ("diagnose valve nothing 1001 1000", 2, "USAGE\n"),
+    ("diagnose valve nothing 2", 2, "USAGE\n"),
+    ("diagnose valve nothing 2 1000 more", 2, "USAGE\n"),
 ];
 
-const FILES: [(&str, &str); 52] = [
+const FILES: [(&str, &str); 59] = [
     ("d", ONE_ACTION_TWO_TARGETS),
     (
         "windows",
@@ -151,6 +220,19 @@ const FILES: [(&str, &str); 52] = [
     ("open", "p cnf 2 1\n1 2\n"),
     ("huge", "p cnf 100000001 0\n"),
     ("across", "p cnf 2 1\n1\n2 0\n"),
+    (
+        "again",
+        "alarm,a1,T\nalarm,a2,F\nalarm,a3,T\nbefore,a1,a2\nbefore,a2,a3\n",
+    ),
+    (
+        "zyx",
+        "alarm,x,A\nalarm,y,B\nbefore,y,x\nalarm,z,C\nbefore,z,y\n",
+    ),
+    ("one", "alarm,x,A\n"),
+    ("either", "alarm,a1,T|B\n"),
+    ("no_event", "alarm,a1,Z\n"),
+    ("still", NO_WAY_OVER),
+    ("both", "alarm,x,A\nalarm,y,B\n"),
 ];
 
 // The words, each after a blank.
@@ -196,18 +278,20 @@ fn commands(rt: HostRuntime) -> Result<(), Fail> {
     Ok(())
 }
 
-// Of the two loads of the command each one fails in turn.
+// Of the two loads of a command each one fails in turn.
 #[test]
 fn loads_fail(rt: HostRuntime) -> Result<(), Fail> {
     let alloc = rt.alloc();
-    for (call, text) in [(1, "LOAD 1\n"), (2, "LOAD 2\n")] {
-        let mut shelf = shelf_of(alloc)?;
-        shelf.fail_call(call)?;
-        let mut out = MemSink::new(alloc);
-        out.reserve(100)?;
-        let status = status_of(alloc, "trace d right", &mut shelf, &mut out)?;
-        assert_eq!(rt; status, 3);
-        assert_eq!(rt; out.taken(), text.as_bytes());
+    for line in ["trace d right", "diagnose valve tripped 2 1000"] {
+        for (call, text) in [(1, "LOAD 1\n"), (2, "LOAD 2\n")] {
+            let mut shelf = shelf_of(alloc)?;
+            shelf.fail_call(call)?;
+            let mut out = MemSink::new(alloc);
+            out.reserve(100)?;
+            let status = status_of(alloc, line, &mut shelf, &mut out)?;
+            assert_eq!(rt; status, 3, "{line}");
+            assert_eq!(rt; out.taken(), text.as_bytes(), "{line}");
+        }
     }
     Ok(())
 }
@@ -215,7 +299,13 @@ fn loads_fail(rt: HostRuntime) -> Result<(), Fail> {
 #[test]
 fn the_put_fails(rt: HostRuntime) -> Result<(), Fail> {
     let alloc = rt.alloc();
-    for line in ["trace d right", "trace d stuck", "trace d absent", "tracer"] {
+    for line in [
+        "trace d right",
+        "trace d stuck",
+        "trace d absent",
+        "tracer",
+        "diagnose valve tripped 2 1000",
+    ] {
         let mut shelf = shelf_of(alloc)?;
         let mut out = MemSink::new(alloc);
         out.reserve(100)?;
@@ -245,5 +335,57 @@ fn long_models(rt: HostRuntime) -> Result<(), Fail> {
         assert_eq!(rt; out.taken(), reply.as_bytes());
         text.push(b' ')?;
     }
+    Ok(())
+}
+
+// Where the model is too long, a question loads no log.
+#[test]
+fn long_models_of_questions(rt: HostRuntime) -> Result<(), Fail> {
+    let alloc = rt.alloc();
+    let mut text = Vec::new(alloc);
+    text.resize(16_777_217, b' ')?;
+    let mut shelf = MemShelf::new(alloc);
+    shelf.add_file("model", text.as_slice())?;
+    let mut out = MemSink::new(alloc);
+    out.reserve(100)?;
+    let status = status_of(alloc, "diagnose model absent 2 1000", &mut shelf, &mut out)?;
+    assert_eq!(rt; status, 8);
+    assert_eq!(rt; out.taken(), b"LONG 1\n".as_slice());
+    Ok(())
+}
+
+// A model of so many components, each with a fault event that can be seen, and a log of these events.
+fn add_faulty(alloc: Global, count: u32, shelf: &mut MemShelf) -> Result<(), Fail> {
+    let mut model = format!(in alloc; "des 1\n")?;
+    let mut log = String::new(alloc);
+    for i in 0..count {
+        let component = format!(in alloc; "component u{i}\nstate s init\ntrans s a s\n")?;
+        model.push_str(component.as_str())?;
+        let alarm = format!(in alloc; "alarm,x{i},L{i}\n")?;
+        log.push_str(alarm.as_str())?;
+    }
+    for i in 0..count {
+        let event = format!(in alloc; "event e{i} alarm L{i} fault : u{i}.a\n")?;
+        model.push_str(event.as_str())?;
+    }
+    shelf.add_file("model", model.as_bytes())?;
+    shelf.add_file("log", log.as_bytes())?;
+    Ok(())
+}
+
+// Of a question that is too large the size is told, and none is asked.
+#[test]
+fn large_questions(rt: HostRuntime) -> Result<(), Fail> {
+    let alloc = rt.alloc();
+    let mut shelf = MemShelf::new(alloc);
+    add_faulty(alloc, 256, &mut shelf)?;
+    let mut out = MemSink::new(alloc);
+    out.reserve(100)?;
+    let words = words_of(alloc, "diagnose model log 299 100")?;
+    let mut book = Ledger::new(alloc);
+    let status = run(alloc, &words, &mut shelf, &mut out, &mut book);
+    assert_eq!(rt; status, 8);
+    assert_eq!(rt; out.taken(), b"LARGE 20054528\n".as_slice());
+    assert_eq!(rt; book.entries(), 0);
     Ok(())
 }

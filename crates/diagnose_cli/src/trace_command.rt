@@ -1,7 +1,8 @@
-ghost use Rattle.std.specs.Prelude.{◌≡◌, ◌<◌, length, IfOk};
+ghost use Rattle.std.specs.Prelude.{◌≡◌, ◌<◌, List, length, IfOk};
+ghost use Rattle.proof_ledger.specs.Book.{BookEntry};
 ghost use Rattle.diagnose_cli.specs.Files.{loads};
 ghost use Rattle.diagnose_cli.specs.Transcripts.{UnlessMemory, once};
-ghost use Rattle.diagnose_cli.specs.Commands.{Answers, reply_of_traced};
+ghost use Rattle.diagnose_cli.specs.Commands.{Answers, kind_of_traced, reply_of_traced};
 
 use crate::command::Command;
 use crate::ending::{Kind, Reply};
@@ -9,6 +10,7 @@ use crate::files::{fetch_model, fetch_run};
 use crate::stop::Stop;
 use des_base::{Memory, Shelf, WordList};
 use replay::{Traced, trace};
+use report::print_traced;
 use std::alloc::Global;
 
 /// Says whether the network of a model can perform a run.
@@ -18,26 +20,28 @@ pub fn trace_command<F: Shelf>(
     shelf: &mut F,
 ) -> Result<Reply, Stop>
     requires { 2 < length words.now }
-    ensures { UnlessMemory result (Answers (loads F.held F.faults shelf.old shelf.new) words.now Command.Trace (once result)) }
+    ensures { (book : List BookEntry) → UnlessMemory result (Answers (loads F.held F.faults shelf.old shelf.new) words.now Command.Trace book (once result)) }
 {
     let net = fetch_model(alloc, words, shelf, 1)?;
     let run = fetch_run(alloc, words, shelf, 2, &net)?;
     let traced = trace(alloc, &net, &run)?;
-    Ok(reply_of_traced(alloc, traced)?)
+    Ok(reply_of_traced(alloc, &traced)?)
 }
 
 // The reply that tells the answer.
-fn reply_of_traced(alloc: Global, traced: Traced) -> Result<Reply, Memory>
-    ensures { IfOk result (λ reply. reply ≡ reply_of_traced traced) }
+fn reply_of_traced(alloc: Global, traced: &Traced) -> Result<Reply, Memory>
+    ensures { IfOk result (λ reply. reply ≡ reply_of_traced traced.now) }
+{
+    let mut text = Vec::new(alloc);
+    print_traced(traced, &mut text)?;
+    Ok(Reply::new(kind_of_traced(traced), text))
+}
+
+fn kind_of_traced(traced: &Traced) -> Kind
+    ensures { result ≡ kind_of_traced traced.now }
 {
     match traced {
-        Traced::Ran { faults } => {
-            let text = format!(in alloc; "RAN {faults}\n")?;
-            Ok(Reply::new(Kind::Done, text.into_bytes()))
-        }
-        Traced::Stuck { at } => {
-            let text = format!(in alloc; "REJECTED STUCK {at}\n")?;
-            Ok(Reply::new(Kind::Rejected, text.into_bytes()))
-        }
+        Traced::Ran { .. } => Kind::Done,
+        Traced::Stuck { .. } => Kind::Rejected,
     }
 }

@@ -1,22 +1,36 @@
 -- Each command answers what is due for its words.
 use Rattle.std.proofs.Common.{◌≡◌, sym, ◌∙◌, ap, Some}
-use Rattle.diagnose_cli.specs.declared.command.Command.TheVariants.{Trace, Replay, Check}
+use Rattle.diagnose_cli.specs.declared.command.Command.TheVariants.{Trace, Replay, Check, Diagnose}
 use Rattle.diagnose_cli.specs.Commands.{command_of}
 use Rattle.diagnose_cli.specs.Files.{loads}
 use Rattle.diagnose_cli.proofs.Orders.{due_of}
 use Rattle.diagnose_cli.proofs.run.answer.Goals as goal
 
-pub returns-in-Some-Trace : goal.returns-in-Some-Trace
-returns-in-Some-Trace g c =
+pub returns-in-Some-Trace-clause-due : goal.returns-in-Some-Trace-clause-due
+returns-in-Some-Trace-clause-due g c =
     let called : command_of c.args.words.now ≡ Some Trace = sym c.command_of.ensures.command ∙ c.in-Some-Trace.is ∙ ap Some c.in-Some-Trace.field-0-is in
-    due_of (loads g.F.Shelf.held g.F.Shelf.faults c.args.shelf.now c.trace_command.new.shelf) c.args.words.now Trace c.trace_command.result called c.trace_command.ensures
+    due_of (loads g.F.Shelf.held g.F.Shelf.faults c.args.shelf.now c.trace_command.new.shelf) c.args.words.now Trace c.args.book.now.entries c.trace_command.result called (c.trace_command.ensures c.args.book.now.entries)
 
-pub returns-in-Some-Replay : goal.returns-in-Some-Replay
-returns-in-Some-Replay g c =
+pub returns-in-Some-Replay-clause-due : goal.returns-in-Some-Replay-clause-due
+returns-in-Some-Replay-clause-due g c =
     let called : command_of c.args.words.now ≡ Some (Replay c.in-Some-Replay.steps) = sym c.command_of.ensures.command ∙ c.in-Some-Replay.is ∙ ap Some c.in-Some-Replay.field-0-is in
-    due_of (loads g.F.Shelf.held g.F.Shelf.faults c.args.shelf.now c.replay_command.new.shelf) c.args.words.now (Replay c.in-Some-Replay.steps) c.replay_command.result called c.replay_command.ensures
+    due_of (loads g.F.Shelf.held g.F.Shelf.faults c.args.shelf.now c.replay_command.new.shelf) c.args.words.now (Replay c.in-Some-Replay.steps) c.args.book.now.entries c.replay_command.result called (c.replay_command.ensures c.args.book.now.entries)
 
-pub returns-in-Some-Check : goal.returns-in-Some-Check
-returns-in-Some-Check g c =
+pub returns-in-Some-Check-clause-due : goal.returns-in-Some-Check-clause-due
+returns-in-Some-Check-clause-due g c =
     let called : command_of c.args.words.now ≡ Some Check = sym c.command_of.ensures.command ∙ c.in-Some-Check.is ∙ ap Some c.in-Some-Check.field-0-is in
-    due_of (loads g.F.Shelf.held g.F.Shelf.faults c.args.shelf.now c.check_command.new.shelf) c.args.words.now Check c.check_command.result called c.check_command.ensures
+    due_of (loads g.F.Shelf.held g.F.Shelf.faults c.args.shelf.now c.check_command.new.shelf) c.args.words.now Check c.args.book.now.entries c.check_command.result called (c.check_command.ensures c.args.book.now.entries)
+
+pub returns-in-Some-Diagnose-clause-due : goal.returns-in-Some-Diagnose-clause-due
+returns-in-Some-Diagnose-clause-due g c =
+    let steps = c.in-Some-Diagnose.steps in
+    let budget = c.in-Some-Diagnose.budget in
+    let called : command_of c.args.words.now ≡ Some (Diagnose steps budget) = sym c.command_of.ensures.command ∙ c.in-Some-Diagnose.is ∙ ap Some c.in-Some-Diagnose.field-0-is in
+    due_of (loads g.F.Shelf.held g.F.Shelf.faults c.args.shelf.now c.diagnose_command.new.shelf) c.args.words.now (Diagnose steps budget) c.diagnose_command.new.book.entries c.diagnose_command.result called c.diagnose_command.ensures
+
+pub returns-in-Some-Diagnose-clause-no_question : goal.returns-in-Some-Diagnose-clause-no_question
+returns-in-Some-Diagnose-clause-no_question g c none =
+    let steps = c.in-Some-Diagnose.steps in
+    let budget = c.in-Some-Diagnose.budget in
+    let called : command_of c.args.words.now ≡ Some (Diagnose steps budget) = sym c.command_of.ensures.command ∙ c.in-Some-Diagnose.is ∙ ap Some c.in-Some-Diagnose.field-0-is in
+    absurd (none steps budget called)

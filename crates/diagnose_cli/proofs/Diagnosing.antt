@@ -1,0 +1,22 @@
+-- A question that is built into an empty book, and what is found then.
+use Rattle.std.proofs.Common.{◌≡◌, ℕ, List, [], ◌++◌, map, ap, ◌∙◌, subst}
+use Rattle.des_net.specs.Network.{Net}
+use Rattle.least_faults.specs.declared.answer.Found.{Found}
+use Rattle.least_faults.specs.Answers.{IsAnswered}
+use Rattle.least_faults.specs.Growing.{AddsAxioms}
+use Rattle.log_order.specs.Log.{Log}
+use Rattle.proof_ledger.specs.Book.{BookEntry, axiomatic, IsValidBook}
+use Rattle.prop_core.specs.VariableNames.{Name}
+use Rattle.diagnose_cli.specs.Diagnosed.{IsDiagnosed}
+
+pub diagnosed_by : (names : List (ℕ × Name)) (net : Net) (log : Log) (n steps budget : ℕ) (old built new : List BookEntry) (found : Found) → old ≡ [] → AddsAxioms old built → steps ≡ n
+    → IsAnswered names net log steps budget built new found → IsValidBook new → IsDiagnosed net log n budget new found
+diagnosed_by names net log n steps budget old built new found empty adds same answered valid =
+    let is : built ≡ map axiomatic adds.axioms = adds.more ∙ ap (λ (o : List BookEntry). o ++ map axiomatic adds.axioms) empty in
+    let within : IsAnswered names net log n budget built new found = subst (λ (k : ℕ). IsAnswered names net log k budget built new found) same answered in
+    record {
+      names = names;
+      built = adds.axioms;
+      answered = subst (λ (o : List BookEntry). IsAnswered names net log n budget o new found) is within;
+      valid = valid;
+    }

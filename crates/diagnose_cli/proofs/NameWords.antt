@@ -1,0 +1,87 @@
+-- Names as words of a line, and the places of distinct names.
+use Rattle.std.proofs.Common.{◌≡◌, ◌<◌, ◌≤◌, ℕ, zero, suc, Bool, true, false, List, [], ◌∷◌, ◌++◌, length, Option, Some, None, cond, refl, arith, ap, sym}
+use Rattle.std.proofs.lemmas.Bool.Decides.{nat_tests}
+use Rattle.std.proofs.lemmas.Slice.Eq.{bytes_eq-Decides}
+use Rattle.std.specs.Prelude.{◌&&◌, ◌==◌, nat_le, bytes_eq, option_map, slice_index_or}
+use Rattle.std.specs.List.{list_all, AllByRecursion}
+use Rattle.des_base.proofs.BoolLemmas.{both, join, most_is, otherwise}
+use Rattle.des_base.specs.CountedLines.{is_blank, is_counted}
+use Rattle.des_base.specs.Names.{AreDistinct, IsName, is_name_byte, is_name_text, place_of}
+use Rattle.proof_text.proofs.WordLemmas.{IsWord, word_byte}
+
+-- ---- words
+
+pub record IsNameText (text : List ℕ) : Type 0 where
+  pub some : 0 < length text
+  pub few : length text ≤ 64
+  pub bytes : list_all is_name_byte text ≡ true
+
+pub name_text : (text : List ℕ) → is_name_text text ≡ true → IsNameText text
+unfolding is_name_text
+name_text text h =
+    let outer = both (nat_le 1 (length text) && nat_le (length text) 64) (list_all is_name_byte text) h in
+    let inner = both (nat_le 1 (length text)) (nat_le (length text) 64) outer.0 in
+    record { some = let some = most_is 1 (length text) inner.0 in omega arith; few = most_is (length text) 64 inner.1; bytes = outer.1 }
+
+word_of_name : (c : ℕ) → is_name_byte c ≡ true → word_byte c ≡ true
+unfolding is_name_byte
+word_of_name c h = grind (arith, nat_tests)
+
+not_blank : (c : ℕ) → is_name_byte c ≡ true → is_blank c ≡ false
+unfolding is_name_byte
+not_blank c h = grind (arith, nat_tests)
+
+no_comment : (c : ℕ) → is_name_byte c ≡ true → (c == 35) ≡ false
+unfolding is_name_byte
+no_comment c h = grind (arith, nat_tests)
+
+words_of_name : (text : List ℕ) → list_all is_name_byte text ≡ true → list_all word_byte text ≡ true
+words_of_name [] h = refl
+words_of_name (c ∷ cs) h = let parts = both (is_name_byte c) (list_all is_name_byte cs) h in join (word_byte c) (list_all word_byte cs) (word_of_name c parts.0) (words_of_name cs parts.1)
+
+pub name_word : (text : List ℕ) → IsNameText text → IsWord text
+name_word text h = record { some = h.some; bytes = words_of_name text h.bytes }
+
+first_counts : (c : ℕ) (rest : List ℕ) → is_name_byte c ≡ true → is_counted 35 (c ∷ rest) ≡ true
+first_counts c rest h = rw (not_blank c h, no_comment c h) refl
+
+-- a line that begins with a name counts, where `#` begins comments
+pub name_counts : (text rest : List ℕ) → IsNameText text → is_counted 35 (text ++ rest) ≡ true
+name_counts [] rest h = let some : 0 < length {A = ℕ} [] = h.some in absurd (omega arith)
+name_counts (c ∷ cs) rest h = first_counts c (cs ++ rest) (both (is_name_byte c) (list_all is_name_byte cs) h.bytes).0
+
+-- ---- places
+
+text_turned : (x y : List ℕ) → bytes_eq x y ≡ false → bytes_eq y x ≡ false
+text_turned x y h = otherwise (bytes_eq y x) (λ e. let alike : bytes_eq x y ≡ true = (bytes_eq-Decides x y).1 (sym ((bytes_eq-Decides y x).0 e)) in cc)
+
+text_itself : (x : List ℕ) → bytes_eq x x ≡ true
+text_itself x = (bytes_eq-Decides x x).1 refl
+
+absent_step : (b : Bool) (o : Option ℕ) → cond b (Some 0) (option_map suc o) ≡ None → (b ≡ false) × (o ≡ None)
+absent_step true o h = cc
+absent_step false None h = (refl, refl)
+absent_step false (Some k) h = cc
+
+-- a text that has no place is not at any
+other_text : (text : List ℕ) (names : List (List ℕ)) (k : ℕ) → k < length names → place_of text names ≡ None → bytes_eq (slice_index_or names k []) text ≡ false
+other_text text [] k l h = absurd (omega arith)
+other_text text (name ∷ names) zero l h = text_turned text name (absent_step (bytes_eq text name) (place_of text names) h).0
+other_text text (name ∷ names) (suc k) l h = other_text text names k (omega arith) (absent_step (bytes_eq text name) (place_of text names) h).1
+
+place_step : (b : Bool) (o : Option ℕ) (k : ℕ) → b ≡ false → o ≡ Some k → cond b (Some 0) (option_map suc o) ≡ Some (suc k)
+place_step b o k h e = rw (h, e) refl
+
+-- each of distinct names has its own place
+pub own_place : (names : List (List ℕ)) (k : ℕ) → AreDistinct names → k < length names → place_of (slice_index_or names k []) names ≡ Some k
+own_place [] k distinct l = absurd (omega arith)
+own_place (name ∷ names) zero distinct l = ap (λ b. cond b (Some 0) (option_map suc (place_of name names))) (text_itself name)
+own_place (name ∷ names) (suc k) distinct l =
+    place_step (bytes_eq (slice_index_or names k []) name) (place_of (slice_index_or names k []) names) k
+    (other_text name names k (omega arith) distinct.0) (own_place names k distinct.1 (omega arith))
+
+-- what is true of each name is true at each place
+pub name_at : (names : List (List ℕ)) (k : ℕ) → AllByRecursion IsName names → k < length names → is_name_text (slice_index_or names k []) ≡ true
+name_at [] k h l = absurd (omega arith)
+name_at (name ∷ names) zero h l = h.0
+name_at (name ∷ names) (suc k) h l = name_at names k h.1 (omega arith)
