@@ -1,0 +1,133 @@
+"""Times `diagnose` on plants that are made here, and prints a table: steps, size of the question, seconds, memory, answer.
+
+    python3 bench/diagnose.py PROGRAM [FOLDER]
+
+PROGRAM is the program as `rt run` builds it, crates/diagnose_cli/out/diagnose_cli. Where MiniSat or CaDiCaL is installed, it is timed on the
+same formula with one fault fewer than are needed, which it refutes. The formula is printed by a small program, whose files stand in
+`formula.program` beside this script; `rt run` proves and builds it in a scratch repository in FOLDER, or in a temporary folder. In a
+FOLDER that is kept a later run is quick. It's no part of the gate.
+
+The first plant is a bus and Z units. Each unit jams, which is a fault that nobody sees, then trips at the bus, and is fixed. Some units trip,
+one after the other, and the log has an alarm for each. So the least number of faults is the number of units that trip, and one step
+more than that is enough. The second are valves that jam and trip, all under one label, and alarms without an order. The third is a
+line of stations, each of which sends to the next; what was sent may be lost, and the sender tells that it is late.
+"""
+import os
+import shutil
+import sys
+import tempfile
+
+from measure import timed
+from scratch import built
+
+USED = ["des_base", "prop_core", "proof_ledger", "sat_order", "sat_prop", "sat_learn", "sat_solve", "des_net", "indep", "run_clauses",
+        "card_counter", "log_order", "log_csv", "model_text", "replay", "step_encode", "log_clauses", "log_encode", "run_decode",
+        "least_faults", "alarm_session"]
+UNITS = [12, 20, 40, 64]
+START = 7
+BUDGET = 1_000_000
+SECONDS = 200
+
+
+def tripping(units):
+    """The units that trip."""
+    drawn, found = START % 97, []
+    for unit in range(1, units + 1):
+        drawn = (5 * drawn + 3) % 97
+        if drawn % 4 == 0:
+            found.append(unit)
+    return found
+
+
+def plant(units):
+    """A bus and units, and their log."""
+    model = ["des 1", "component bus", "state up init", "trans up note up"]
+    for u in range(1, units + 1):
+        model += [f"component u{u}", "state ok init", "state bad", "state off"]
+        model += ["trans ok jam bad", "trans bad trip off", "trans off fix ok"]
+    for u in range(1, units + 1):
+        model += [f"event jam-{u} fault : u{u}.jam", f"event trip-{u} alarm T-{u} : u{u}.trip bus.note"]
+        model += [f"event fix-{u} alarm F-{u} : u{u}.fix"]
+    trips = tripping(units)
+    return model, [f"alarm,a{u},T-{u}" for u in trips] + [f"before,a{u},a{v}" for u, v in zip(trips, trips[1:])]
+
+
+def valves(count, alarms):
+    """Valves under one label, and so many alarms without an order."""
+    model = ["des 1"]
+    for v in range(count):
+        model += [f"component p{v}", "state ok init", "state bad", "state off"]
+        model += ["trans ok jam bad", "trans bad trip off", "trans off fix ok"]
+    for v in range(count):
+        model += [f"event jam-{v} fault : p{v}.jam", f"event trip-{v} alarm T : p{v}.trip", f"event fix-{v} alarm F : p{v}.fix"]
+    return model, [f"alarm,a{a},T" for a in range(alarms)]
+
+
+def stations(count, labels):
+    """A line of stations, and alarms without an order."""
+    model = ["des 1"]
+    for s in range(count):
+        model += [f"component s{s}", "state idle init", "state sent", "state got", "state lost"]
+        model += ["trans idle send sent", "trans sent ack idle", "trans idle take got", "trans got reply idle"]
+        model += ["trans sent drop lost", "trans lost late idle"]
+    for s in range(count - 1):
+        model += [f"event send-{s} : s{s}.send s{s + 1}.take", f"event ack-{s} alarm A{s % 3} : s{s}.ack s{s + 1}.reply"]
+        model += [f"event drop-{s} fault : s{s}.drop s{s + 1}.reply"]
+    model += [f"event late-{s} alarm L{s % 2} : s{s}.late" for s in range(count)]
+    return model, [f"alarm,a{a},{label}" for a, label in enumerate(labels)]
+
+
+def questions():
+    """Each with its name, the steps, model and log."""
+    for units in UNITS:
+        for more in [1, 3]:
+            yield f"{units} units", len(tripping(units)) + more, *plant(units)
+    for steps in [4, 5]:
+        yield "6 valves, 4 alarms", steps, *valves(6, 4)
+    for steps in [4, 6]:
+        yield "6 stations, 6 alarms", steps, *stations(6, ["L0", "L1", "A0", "A1", "A2", "L0|L1"])
+
+
+def written(folder, model, log):
+    """The files of a model and of a log."""
+    files = [os.path.join(folder, name) for name in ["model.des", "log.csv"]]
+    for file, lines in zip(files, [model, log]):
+        with open(file, "w", encoding="ascii") as f:
+            f.write("\n".join(lines) + "\n")
+    return files
+
+
+def refuted(printer, solver, files, steps, faults):
+    """Seconds of another solver on the formula with one fault fewer."""
+    if faults == 0 or not shutil.which(solver):
+        return ""
+    _, _, _, formula = timed(printer, *files, str(steps), str(faults - 1))
+    with tempfile.NamedTemporaryFile("w", suffix=".cnf") as f:
+        f.write(formula + "\n")
+        f.flush()
+        seconds, _, status, _ = timed(solver, f.name)
+        return f"{seconds:.2f}" if status == 20 else f"status {status}"
+
+
+def main(program, folder):
+    first = written(folder, *plant(2))
+    solvers = [solver for solver in ["minisat", "cadical"] if shutil.which(solver)]
+    printer = built(folder, "formula", USED, *first, "1", "0") if solvers else None
+    print("| Plant | Steps | Seconds | Memory MiB | Answer |" + "".join(f" {solver}, one fault fewer |" for solver in solvers))
+    print("|---|---|---|---|---|" + "---|" * len(solvers))
+    for name, steps, model, log in questions():
+        files = written(folder, model, log)
+        seconds, memory, status, out = timed("timeout", str(SECONDS), program, "diagnose", *files, str(steps), str(BUDGET))
+        answer = out.split("\n")[0] if status != 124 else "none"
+        cells = [name, str(steps), f"{seconds:.2f}", f"{memory:.0f}", answer]
+        faults = int(answer.split()[1]) if answer.startswith("EXPLAINED") else 0
+        cells += [refuted(printer, solver, files, steps, faults) for solver in solvers]
+        print("| " + " | ".join(cells) + " |", flush=True)
+
+
+if __name__ == "__main__":
+    if len(sys.argv) > 2:
+        main(sys.argv[1], sys.argv[2])
+    else:
+        with tempfile.TemporaryDirectory() as scratch:
+            main(sys.argv[1], scratch)
