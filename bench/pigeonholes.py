@@ -2,8 +2,8 @@
 
     python3 bench/pigeonholes.py [HOLES] [FOLDER]
 
-HOLES + 1 pigeons don't fit into HOLES holes, for 3 up to HOLES holes (10 where none are given). The program doesn't call the
-solver yet, so this makes a scratch repository in FOLDER, or in a temporary folder: a copy of the crates, and one more crate with
+HOLES + 1 pigeons don't fit into HOLES holes, for 3 up to HOLES holes (10 where none are given). No command solves a formula
+alone, so this makes a scratch repository in FOLDER, or in a temporary folder: a copy of the crates, and one more crate with
 a small program, whose files stand in `pigeonholes.program` beside this script, each behind a line with its path. `rt run` proves
 and builds it there; in a FOLDER that is kept a later run is quick. MiniSat is called where it is installed, with what it does
 first switched off. It's no part of the gate.

@@ -3,7 +3,7 @@
     python3 bench/steps.py [FOLDER]
 
 The networks are rings of components with 60 states, in which 40 events touch each component; a question on such a ring within n
-steps has a size of n times 10,000 for each component. The program doesn't call the encoder yet, so this makes a scratch
+steps has a size of n times 10,000 for each component. No command writes clauses alone, so this makes a scratch
 repository in FOLDER, or in a temporary folder, with a small program, whose files stand in `steps.program` beside this script. `rt run`
 proves and builds it there; in a FOLDER that is kept a later run is quick. It's no part of the gate.
 """
