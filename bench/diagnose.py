@@ -23,7 +23,7 @@ from scratch import built
 USED = ["des_base", "prop_core", "proof_ledger", "sat_order", "sat_prop", "sat_learn", "sat_solve", "des_net", "indep", "run_clauses",
         "card_counter", "log_order", "log_csv", "model_text", "replay", "step_encode", "log_clauses", "log_encode", "run_decode",
         "least_faults", "alarm_session"]
-UNITS = [12, 20, 40, 64]
+UNITS = [12, 20, 40, 64, 100, 200]
 START = 7
 BUDGET = 1_000_000
 SECONDS = 200

@@ -58,7 +58,7 @@ tell diagnose tutorial/model.des tutorial/log.csv 6 1
 keep
 tell replay tutorial/model.des tutorial/log.csv reply.run 6
 tell diagnose tutorial/model.des tutorial/log.csv 6 10
-tell diagnose tutorial/model.des tutorial/log.csv 6 25
+tell diagnose tutorial/model.des tutorial/log.csv 6 30
 tell diagnose tutorial/model.des tutorial/log.csv 06 1000
 tell diagnose tutorial/model.des tutorial/absent.csv 6 1000
 tell diagnose tutorial/log.csv tutorial/log.csv 6 1000
@@ -74,7 +74,7 @@ tell replay propulsion/model.des propulsion/log.csv propulsion/other.run 5
 tell diagnose propulsion/model.des propulsion/log.csv 6 1000
 tell diagnose propulsion/model.des propulsion/log.csv 5 0
 tell diagnose propulsion/model.des propulsion/log.csv 5 1
-tell diagnose propulsion/model.des propulsion/log.csv 5 20
+tell diagnose propulsion/model.des propulsion/log.csv 5 15
 tell diagnose propulsion/model.des propulsion/unexplained.csv 5 1000
 tell diagnose propulsion/model.des propulsion/unexplained.csv 8 1000
 
@@ -87,7 +87,7 @@ tell replay feeder/model.des feeder/log.csv feeder/other.run 5
 tell diagnose feeder/model.des feeder/log.csv 6 1000
 tell diagnose feeder/model.des feeder/log.csv 5 0
 tell diagnose feeder/model.des feeder/log.csv 5 1
-tell diagnose feeder/model.des feeder/log.csv 5 25
+tell diagnose feeder/model.des feeder/log.csv 5 28
 tell diagnose feeder/model.des feeder/more.csv 5 1000
 tell diagnose feeder/model.des feeder/unexplained.csv 5 1000
 tell diagnose feeder/model.des feeder/unexplained.csv 8 1000

@@ -1,4 +1,6 @@
 // Whole runs over files and output in memory. The texts are those of the worked models.
+ghost use Rattle.std.specs.Prelude.{◌≤◌};
+
 use crate::run::run;
 use des_base::{MemShelf, MemSink, WordList};
 use proof_ledger::Ledger;
@@ -355,21 +357,63 @@ fn long_models_of_questions(rt: HostRuntime) -> Result<(), Fail> {
 }
 
 // A model of so many components, each with a fault event that can be seen, and a log of these events.
-fn add_faulty(alloc: Global, count: u32, shelf: &mut MemShelf) -> Result<(), Fail> {
+fn add_faulty(alloc: Global, count: u32, shelf: &mut MemShelf) -> Result<(), Fail>
+    requires { count ≤ 256 }
+{
     let mut model = format!(in alloc; "des 1\n")?;
     let mut log = String::new(alloc);
-    for i in 0..count {
+    for i in 1..count + 1 {
         let component = format!(in alloc; "component u{i}\nstate s init\ntrans s a s\n")?;
         model.push_str(component.as_str())?;
         let alarm = format!(in alloc; "alarm,x{i},L{i}\n")?;
         log.push_str(alarm.as_str())?;
     }
-    for i in 0..count {
+    for i in 1..count + 1 {
         let event = format!(in alloc; "event e{i} alarm L{i} fault : u{i}.a\n")?;
         model.push_str(event.as_str())?;
     }
     shelf.add_file("model", model.as_bytes())?;
     shelf.add_file("log", log.as_bytes())?;
+    Ok(())
+}
+
+// The reply that begins so, and tells that each of the events happened.
+fn all_happened(alloc: Global, count: u32, head: &str) -> Result<String, Fail>
+    requires { count ≤ 256 }
+{
+    let mut text = format!(in alloc; "{head}\nrun {count}\n")?;
+    for i in 1..count + 1 {
+        let line = format!(in alloc; "e{i} x{i}\n")?;
+        text.push_str(line.as_str())?;
+    }
+    Ok(text)
+}
+
+// Asks for the least number of faults of that log.
+fn ask_faulty(alloc: Global, count: u32, out: &mut MemSink) -> Result<u8, Fail>
+    requires { count ≤ 256 }
+{
+    let mut shelf = MemShelf::new(alloc);
+    add_faulty(alloc, count, &mut shelf)?;
+    let words = words_of(alloc, "diagnose model log 1 100")?;
+    let mut book = Ledger::new(alloc);
+    Ok(run(alloc, &words, &mut shelf, out, &mut book))
+}
+
+// As many faults as are told by their number, and one more.
+#[test]
+fn many_faults(rt: HostRuntime) -> Result<(), Fail> {
+    let alloc = rt.alloc();
+    let mut out = MemSink::new(alloc);
+    out.reserve(10_000)?;
+    assert_eq!(rt; ask_faulty(alloc, 255, &mut out)?, 0);
+    let text = all_happened(alloc, 255, "EXPLAINED 255")?;
+    assert_eq!(rt; out.taken(), text.as_bytes());
+    let mut out = MemSink::new(alloc);
+    out.reserve(10_000)?;
+    assert_eq!(rt; ask_faulty(alloc, 256, &mut out)?, 12);
+    let text = all_happened(alloc, 256, "MANY 255")?;
+    assert_eq!(rt; out.taken(), text.as_bytes());
     Ok(())
 }
 

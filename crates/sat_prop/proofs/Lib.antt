@@ -4,3 +4,9 @@ pub mod Placing
 pub mod Leveling
 pub mod Seeing
 pub mod Passing
+pub mod Links
+pub mod WatchLists
+pub mod Settling
+pub mod Visiting
+pub mod Draining
+pub mod Falling

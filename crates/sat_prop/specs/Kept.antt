@@ -7,11 +7,9 @@ use Rattle.prop_core.specs.Trail.{is_quiet, is_forced_by}
 use Rattle.std.specs.List.{list_all}
 use Rattle.sat_prop.specs.declared.standing.Stands.{Stands}
 use Rattle.sat_prop.specs.declared.standing.Stands.TheVariants.{False, Unit as Forced, Quiet}
-use Rattle.sat_prop.specs.declared.trail.Pass.{Pass}
-use Rattle.sat_prop.specs.declared.trail.Pass.TheVariants as passes
 use Rattle.sat_prop.specs.TrailState.{TrailState, literal_at, IsJustified, AreKnown}
 use Rattle.sat_prop.specs.Levels.{level_of, level_at, IsCut}
-use Rattle.sat_prop.specs.Quiet.{AreQuiet, IsQuietAtDecisions, IsConflict}
+use Rattle.sat_prop.specs.Quiet.{IsQuietAtDecisions}
 
 -- The place of each literal's variable. What is kept of a variable that has no literal doesn't matter.
 pub record ArePlaces (vars : ℕ) (literals : List Lit) (places : List ℕ) : Type 0 where
@@ -45,9 +43,3 @@ IsSeen taken clause Quiet = is_quiet (standing taken clause) ≡ true
 abbrev pub IsSeenUpTo : List Lit → Clause → Option Lit → Type 0
 IsSeenUpTo taken front None = list_all (is_false taken) front ≡ true
 IsSeenUpTo taken front (Some l) = (is_open taken l ≡ true) × (is_forced_by taken l front ≡ true)
-
--- what one look at all attached clauses comes to
-abbrev pub IsPassed : TrailState → TrailState → Pass → Type 0
-IsPassed old new passes.Quiet = AreQuiet new.clauses new.attached new.literals
-IsPassed old new passes.Grew = length old.literals < length new.literals
-IsPassed old new (passes.Conflict number) = IsConflict new number

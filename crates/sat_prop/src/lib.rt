@@ -5,10 +5,15 @@
 //! - Each decision begins a *level*. Just before each decision no attached clause is false or unit.
 //! - After quiet propagation no attached clause is false or unit; a conflict names one that is false.
 //! - Value, level and reason of a variable are found in constant time.
+//! - A clause with two different literals is *watched* at two of them, and looked at where one of these becomes false (Moskewicz
+//!   and others, "Chaff: engineering an efficient SAT solver", 2001). A clause without is *short*, and looked at each time.
 #![tactic(auto)]
 
+mod stack;
 mod standing;
 mod trail;
+mod watched;
+mod watches;
 
 pub use trail::{Propagated, Trail};
 

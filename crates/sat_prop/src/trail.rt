@@ -1,19 +1,19 @@
-ghost use Rattle.std.specs.Prelude.{◌≡◌, ℕ, ◌<◌, ◌≤◌, ◌+◌, ◌-◌, ◌^◌, ◌++◌, ◌∷◌, [], length, max, true, false, Some, None, Contains, slice_get, slice_set, slice_index, vec_len, vec_capacity, OnOk, OnErr, IfSome, IfNone};
-ghost use Rattle.prop_core.specs.Derivation.{clause_numbered, unit};
+ghost use Rattle.std.specs.Prelude.{◌≡◌, ℕ, ◌<◌, ◌≤◌, ◌^◌, [], length, max, true, false, Some, None, slice_get, OnOk, OnErr, IfSome};
+ghost use Rattle.prop_core.specs.Derivation.{clause_numbered};
 ghost use Rattle.prop_core.specs.Clauses.{is_open, HasValues};
 ghost use Rattle.prop_core.specs.Trail.{has_var};
-ghost use Rattle.sat_prop.specs.TrailState.{IsKnownClause, value_by, reason_at, StandsAt};
-ghost use Rattle.sat_prop.specs.Levels.{level_of, level_at, IsCut, IsLastDecision};
-ghost use Rattle.sat_prop.specs.Quiet.{AreQuiet, JoinsQuietly, IsPropagated, stands};
+ghost use Rattle.sat_prop.specs.TrailState.{value_by, reason_at, StandsAt};
+ghost use Rattle.sat_prop.specs.Levels.{level_of, level_at, IsLastDecision};
+ghost use Rattle.sat_prop.specs.Quiet.{AreQuiet, JoinsQuietly, IsPropagated};
 ghost use Rattle.sat_prop.specs.Changes.{IsFront, with_literal, with_clause, Propagates, IsKeptUpTo};
-ghost use Rattle.sat_prop.specs.Kept.{IsTrailState, IsSeen, IsPassed};
+ghost use Rattle.sat_prop.specs.Kept.{IsTrailState};
 
-use crate::standing::Stands;
+use crate::stack::Stack;
+use crate::watched::Watched;
 use des_base::{Memory, VAR_LIMIT};
 use prop_core::{ClauseId, Clauses, Lit};
 use std::alloc::Global;
 use std::marker::Model;
-use std::snapshot::Snapshot;
 
 /// What propagation comes to.
 #[derive(Clone, Copy, Debug, PartialEq, Eq)]
@@ -24,51 +24,26 @@ pub enum Propagated {
     Conflict(ClauseId),
 }
 
-// What one look at all attached clauses comes to.
-#[derive(Clone, Copy)]
-enum Pass {
-    Quiet,
-    Grew,
-    Conflict(ClauseId),
-}
-
 /// Literals that are true, in their order, over clauses that are attached.
 ///
-/// Room for literals is taken by `grow` and room for clauses by `reserve_clauses`; no other call takes memory.
+/// Room for literals is taken by `grow` and room for clauses by `reserve_clauses`; no other call takes memory. A clause with
+/// two different literals is watched at two of them, and looked at again where one of these becomes false (Moskewicz and
+/// others, "Chaff: engineering an efficient SAT solver", 2001).
 #[derive(Drop)]
 pub struct Trail {
-    db: Snapshot<Clauses>,
-    attached: Vec<ClauseId>,
-    spare: usize,
-    literals: Vec<Lit>,
-    reasons: Vec<Option<ClauseId>>,
-    levels: Vec<u32>,
-    starts: Vec<u32>,
-    places: Vec<u32>,
+    stack: Stack,
+    watched: Watched,
 }
 
 impl Model for Trail {
-    ghost use Rattle.std.specs.Prelude.{◌+◌, ◌≤◌, length, vec_len, vec_capacity};
-    ghost use Rattle.des_base.specs.declared.TheConstants.{VAR_LIMIT};
     ghost use Rattle.sat_prop.specs.TrailState.{TrailState};
-    ghost use Rattle.sat_prop.specs.Kept.{IsTrailState, ArePlaces, AreLevels, AreStarts};
+    ghost use Rattle.sat_prop.specs.Watching.{AreWatched};
 
     ghost Value = { TrailState };
 
-    ghost view = { λ a. record { clauses = a.db.value.clauses; attached = a.attached.items; literals = a.literals.items; reasons = a.reasons.items; vars = length a.places.items; spare = a.spare } };
+    ghost view = { λ a. a.stack };
 
-    ghost invariant = { λ a. record {
-      state : IsTrailState (record { clauses = a.db.value.clauses; attached = a.attached.items; literals = a.literals.items; reasons = a.reasons.items; vars = length a.places.items; spare = a.spare });
-      places : ArePlaces (length a.places.items) a.literals.items a.places.items;
-      levels : AreLevels a.reasons.items a.levels.items;
-      starts : AreStarts a.reasons.items a.starts.items;
-      limit : vec_len a.places ≤ VAR_LIMIT;
-      room_attached : vec_len a.attached + a.spare ≤ vec_capacity a.attached;
-      room_literals : vec_len a.places ≤ vec_capacity a.literals;
-      room_reasons : vec_len a.places ≤ vec_capacity a.reasons;
-      room_levels : vec_len a.places ≤ vec_capacity a.levels;
-      room_starts : vec_len a.places ≤ vec_capacity a.starts;
-    } };
+    ghost invariant = { λ a. AreWatched a.stack a.watched };
 }
 
 impl Trail {
@@ -77,14 +52,8 @@ impl Trail {
         ensures { result ≡ record { clauses = []; attached = []; literals = []; reasons = []; vars = 0; spare = 0 } }
     {
         Trail {
-            db: Snapshot::of(&Clauses::new(alloc)),
-            attached: Vec::new(alloc),
-            spare: 0,
-            literals: Vec::new(alloc),
-            reasons: Vec::new(alloc),
-            levels: Vec::new(alloc),
-            starts: Vec::new(alloc),
-            places: Vec::new(alloc),
+            stack: Stack::new(alloc),
+            watched: Watched::new(alloc),
         }
     }
 
@@ -94,13 +63,8 @@ impl Trail {
         ensures ok { OnOk result (self.new ≡ record self.old { vars = max self.old.vars vars }) }
         ensures err { OnErr result (self.new ≡ self.old) }
     {
-        let count = self.places.len().max(vars as usize);
-        self.literals.reserve(count)?;
-        self.reasons.reserve(count)?;
-        self.levels.reserve(count)?;
-        self.starts.reserve(count)?;
-        self.places.resize(count, 0)?;
-        Ok(())
+        self.watched.grow(vars)?;
+        self.stack.grow(vars)
     }
 
     /// Sees to it that there is room to attach this many more clauses.
@@ -108,9 +72,8 @@ impl Trail {
         ensures ok { OnOk result (self.new ≡ record self.old { spare = max self.old.spare clauses }) }
         ensures err { OnErr result (self.new ≡ self.old) }
     {
-        self.attached.reserve(self.spare.max(clauses))?;
-        self.spare = self.spare.max(clauses);
-        Ok(())
+        self.watched.reserve(clauses)?;
+        self.stack.reserve_clauses(clauses)
     }
 
     /// Attaches a clause of the database, which may have grown since the last one was attached.
@@ -123,9 +86,8 @@ impl Trail {
         requires quiet { JoinsQuietly self.old (clause_numbered db.now.clauses id) }
         ensures { self.new ≡ with_clause self.old db.now.clauses id }
     {
-        self.attached.push(id).unwrap();
-        self.spare -= 1;
-        self.db = Snapshot::of(db);
+        self.watched.attach(&self.stack, db, id);
+        self.stack.attach(db, id);
     }
 
     /// Makes true what attached clauses force, until nothing is forced or one is false.
@@ -134,16 +96,7 @@ impl Trail {
         ensures grown { Propagates self.old self.new }
         ensures outcome { IsPropagated self.new result }
     {
-        'more: loop {
-            let _before = self.literals();
-            match self.pass(db) {
-                Pass::Quiet => return Propagated::Quiet,
-                Pass::Conflict(id) => return Propagated::Conflict(id),
-                Pass::Grew => {
-                    let _after = self.literals();
-                }
-            }
-        }
+        self.watched.propagate(&mut self.stack, db)
     }
 
     /// Makes an open literal true by decision, where no attached clause is false or unit.
@@ -153,16 +106,7 @@ impl Trail {
         requires quiet { AreQuiet self.old.clauses self.old.attached self.old.literals }
         ensures { self.new ≡ with_literal self.old lit None }
     {
-        self.starts.push(self.literals.len() as u32).unwrap();
-        put(
-            &mut self.literals,
-            &mut self.reasons,
-            &mut self.levels,
-            &mut self.places,
-            lit,
-            None,
-            self.starts.len() as u32,
-        );
+        self.stack.decide(lit);
     }
 
     /// Keeps the literals up to a level.
@@ -170,18 +114,16 @@ impl Trail {
         requires { level ≤ level_of self.old.reasons }
         ensures { IsKeptUpTo self.old self.new level }
     {
-        let kept = self.count_up_to(level);
-        self.literals.truncate(kept);
-        self.reasons.truncate(kept);
-        self.levels.truncate(kept);
-        self.starts.truncate(level as usize);
+        let _literals = self.stack.literals();
+        self.stack.back_to(level);
+        self.watched.back_to(self.stack.len());
     }
 
     /// The present level: how many decisions stand.
     pub fn level(&self) -> u32
         ensures { result ≡ level_of self.now.reasons }
     {
-        self.starts.len() as u32
+        self.stack.level()
     }
 
     /// The level of a variable's literal.
@@ -189,22 +131,14 @@ impl Trail {
         requires { has_var var self.now.literals ≡ true }
         ensures { (place : ℕ) → StandsAt self.now.literals var place → result ≡ level_at self.now.reasons place }
     {
-        self.levels[self.place_of(var) as usize]
+        self.stack.level_of(var)
     }
 
     /// The value of a variable.
     pub fn value(&self, var: u32) -> Option<bool>
         ensures { result ≡ value_by self.now.literals var }
     {
-        if var as usize >= self.places.len() {
-            return None;
-        }
-        let place = self.places[var as usize] as usize;
-        if place < self.literals.len() && self.literals[place].var == var {
-            Some(self.literals[place].positive)
-        } else {
-            None
-        }
+        self.stack.value(var)
     }
 
     /// The clause that forced a variable's literal.
@@ -212,10 +146,7 @@ impl Trail {
         ensures stands { (place : ℕ) → StandsAt self.now.literals var place → result ≡ reason_at self.now.reasons place }
         ensures absent { has_var var self.now.literals ≡ false → result ≡ None }
     {
-        match self.value(var) {
-            None => None,
-            Some(_) => self.reasons[self.place_of(var) as usize],
-        }
+        self.stack.reason(var)
     }
 
     /// The place of a variable's literal.
@@ -223,14 +154,14 @@ impl Trail {
         requires { has_var var self.now.literals ≡ true }
         ensures { StandsAt self.now.literals var result }
     {
-        self.places[var as usize]
+        self.stack.place_of(var)
     }
 
     /// How many literals are true.
     pub fn len(&self) -> u32
         ensures { result ≡ length self.now.literals }
     {
-        self.literals.len() as u32
+        self.stack.len()
     }
 
     /// The literal at a place, from 0, in the order in which they became true.
@@ -238,7 +169,7 @@ impl Trail {
         requires { place < length self.now.literals }
         ensures { slice_get self.now.literals place ≡ Some result }
     {
-        self.literals[place as usize]
+        self.stack.literal(place)
     }
 
     /// The literals in their order.
@@ -249,14 +180,14 @@ impl Trail {
         ensures limit { self.now.vars ≤ VAR_LIMIT }
         ensures spare { self.now.spare < 2 ^ 63 }
     {
-        &self.literals
+        self.stack.literals()
     }
 
     /// Why each literal is true: the clause that forced it, or none where it was decided.
     pub fn reasons(&self) -> &[Option<ClauseId>]
         ensures { result.now ≡ self.now.reasons }
     {
-        &self.reasons
+        self.stack.reasons()
     }
 
     /// The place of the last decision.
@@ -264,129 +195,6 @@ impl Trail {
         requires { 0 < level_of self.now.reasons }
         ensures { IsLastDecision self.now.reasons result }
     {
-        self.starts[self.starts.len() - 1]
+        self.stack.last_decision()
     }
-
-    // Looks at each attached clause once, and makes true what it forces.
-    fn pass(&mut self, db: &Clauses) -> Pass
-        requires { IsFront self.old.clauses db.now.clauses }
-        ensures grown { Propagates self.old self.new }
-        ensures outcome { IsPassed self.old self.new result }
-    {
-        let mut grew = false;
-        for place in 0..self.count() {
-            let id = self.attached_at(place);
-            match self.standing(db.clause(id)) {
-                Stands::False => return Pass::Conflict(id),
-                Stands::Unit(lit) => {
-                    self.force(db, id, lit);
-                    grew = true;
-                }
-                Stands::Quiet => {}
-            }
-        }
-        if grew { Pass::Grew } else { Pass::Quiet }
-    }
-
-    // How many literals stand up to a level.
-    fn count_up_to(&self, level: u32) -> usize
-        requires { level ≤ level_of self.now.reasons }
-        ensures { IsCut self.now.reasons level result }
-    {
-        if (level as usize) < self.starts.len() {
-            self.starts[level as usize] as usize
-        } else {
-            self.literals.len()
-        }
-    }
-
-    fn count(&self) -> usize
-        ensures { result ≡ length self.now.attached }
-    {
-        self.attached.len()
-    }
-
-    fn attached_at(&self, place: usize) -> ClauseId
-        requires { place < length self.now.attached }
-        ensures id { result ≡ slice_index self.now.attached place }
-        ensures known { IsKnownClause self.now.clauses self.now.vars result }
-    {
-        self.attached[place]
-    }
-
-    // How a clause stands.
-    fn standing(&self, clause: &[Lit]) -> Stands
-        ensures { IsSeen self.now.literals clause.now result }
-    {
-        let _literals = self.literals();
-        let mut candidate: Option<Lit> = None;
-        for lit in clause {
-            match self.value(lit.var) {
-                Some(value) => {
-                    if value == lit.positive {
-                        return Stands::Quiet;
-                    }
-                }
-                None => {
-                    if let Some(first) = candidate {
-                        if first != *lit {
-                            return Stands::Quiet;
-                        }
-                    }
-                    candidate = Some(*lit);
-                }
-            }
-        }
-        match candidate {
-            None => Stands::False,
-            Some(lit) => Stands::Unit(lit),
-        }
-    }
-
-    // Makes a literal true that an attached clause forces.
-    fn force(&mut self, db: &Clauses, id: ClauseId, lit: Lit)
-        requires grown { IsFront self.old.clauses db.now.clauses }
-        requires attached { Contains self.old.attached id }
-        requires forced { stands self.old.literals (clause_numbered db.now.clauses id) ≡ unit lit }
-        ensures { self.new ≡ with_literal self.old lit (Some id) }
-    {
-        put(
-            &mut self.literals,
-            &mut self.reasons,
-            &mut self.levels,
-            &mut self.places,
-            lit,
-            Some(id),
-            self.starts.len() as u32,
-        );
-    }
-}
-
-// Puts a literal behind the others, with its reason and its level, where there is room.
-fn put(
-    literals: &mut Vec<Lit>,
-    reasons: &mut Vec<Option<ClauseId>>,
-    levels: &mut Vec<u32>,
-    places: &mut Vec<u32>,
-    lit: Lit,
-    reason: Option<ClauseId>,
-    level: u32,
-)
-    requires literals { vec_len literals.old < vec_capacity literals.old }
-    requires reasons { vec_len reasons.old < vec_capacity reasons.old }
-    requires levels { vec_len levels.old < vec_capacity levels.old }
-    requires place { lit.var < length places.old.items }
-    requires limit { vec_len literals.old < 2 ^ 32 }
-    ensures literals { literals.new.items ≡ literals.old.items ++ lit ∷ [] }
-    ensures reasons { reasons.new.items ≡ reasons.old.items ++ reason ∷ [] }
-    ensures levels { levels.new.items ≡ levels.old.items ++ level ∷ [] }
-    ensures places { places.new.items ≡ slice_set places.old.items lit.var (length literals.old.items) }
-    ensures room_literals { vec_capacity literals.old ≤ vec_capacity literals.new }
-    ensures room_reasons { vec_capacity reasons.old ≤ vec_capacity reasons.new }
-    ensures room_levels { vec_capacity levels.old ≤ vec_capacity levels.new }
-{
-    places[lit.var as usize] = literals.len() as u32;
-    literals.push(lit).unwrap();
-    reasons.push(reason).unwrap();
-    levels.push(level).unwrap();
 }

@@ -1,0 +1,523 @@
+-- Watches that wait are looked at one by one, and clauses are attached.
+use Rattle.std.proofs.Common.{◌≡◌, ◌∙◌, ℕ, suc, ◌+◌, ◌-◌, ◌<◌, ◌≤◌, true, false, ◌||◌, ◌++◌, ◌∷◌, [], List, refl, ap, sym, subst, length, take, get_or, max, arith, inl, inr, ⊎_elim, Some}
+use Rattle.std.specs.Prelude.{◌⊎◌, Contains, Result, Ok, Err, OnOk, OnErr, slice_set, nat_eq}
+use Rattle.des_base.specs.declared.memory.Memory.{Memory}
+use Rattle.std.specs.List.{list_any, list_all}
+use Rattle.std.proofs.lemmas.Grind.{common_steps}
+use Rattle.std.proofs.lemmas.Bool.{cases_eq, and_from, ne_eqb}
+use Rattle.std.proofs.lemmas.List.Folds.{list_any-append}
+use Rattle.prop_core.specs.declared.lit.Lit.{Lit}
+use Rattle.prop_core.specs.Clauses.{Clause, HasValues, negation, same_literal, is_true, is_false}
+use Rattle.prop_core.specs.Derivation.{standing, falsified, clause_numbered}
+use Rattle.prop_core.specs.Trail.{no_literal, is_forced_by}
+use Rattle.prop_core.proofs.Entailed.{same_itself}
+use Rattle.prop_core.proofs.Literals.{same_back, true_at, below_at, open_parts, AreConsistent}
+use Rattle.prop_core.proofs.Forcing.{forced_stands}
+use Rattle.sat_prop.specs.TrailState.{TrailState, literal_at, IsKnownClause}
+use Rattle.sat_prop.specs.Changes.{IsFront, with_literal, with_clause}
+use Rattle.sat_prop.specs.declared.watches.Watch.{Watch}
+use Rattle.sat_prop.specs.Watches.{WatchState, IsNext, Puts, watch_at, watching, is_among, with_pair}
+use Rattle.sat_prop.specs.Watching.{WatchedState, AreWatched, AreVisited, IsWatch, IsSettled, MakesUp, IsReplacement, AreTwo, other_of}
+use Rattle.sat_prop.specs.Kept.{IsTrailState}
+use Rattle.sat_prop.proofs.Fronts.{split_last, held_same, front_held, front_same, number_of, known_at, contains_more}
+use Rattle.sat_prop.proofs.Links.{not_both}
+use Rattle.sat_prop.proofs.Settling.{negation_once, other_among, settled_apart, settled_forced, visited_more, watched_more}
+
+-- ---- the next that waits stays where it is
+
+pub not_among : (m n : ℕ) (others : List ℕ) → (m ≡ n → ⊥) → is_among m others ≡ false → is_among m (others ++ n ∷ []) ≡ false
+not_among m n others d f = let q = ne_eqb m n d in list_any-append (nat_eq m) others (n ∷ []) ∙ rw (f, q) refl
+
+pub visited_stays : (t : TrailState) (w : WatchedState) (others : List ℕ) (n : ℕ) → w.lists.waiting ≡ others ++ n ∷ [] → AreVisited t w → IsSettled t.clauses t.literals (w.seen + 1) w.lists.watches n → AreVisited t (record w { lists = record w.lists { waiting = others } })
+visited_stays t w others n e a s m h f = ⊎_elim
+    (λ q. subst (λ (k : ℕ). IsSettled t.clauses t.literals (w.seen + 1) w.lists.watches k) (sym q) s)
+    (λ d. a m h (subst (λ (xs : List ℕ). is_among m xs ≡ false) (sym e) (not_among m n others d f)))
+    (cases_eq m n)
+
+-- ---- it watches another literal
+
+set_here : (watches : List Watch) (n : ℕ) (x : Watch) → n < length watches → watch_at (slice_set watches n x) n ≡ x
+set_here watches n x h = grind (arith, common_steps)
+
+set_apart : (watches : List Watch) (n m : ℕ) (x : Watch) → (m ≡ n → ⊥) → watch_at (slice_set watches n x) m ≡ watch_at watches m
+set_apart watches n m x d = grind (arith, common_steps)
+
+set_length : (watches : List Watch) (n : ℕ) (x : Watch) → length (slice_set watches n x) ≡ length watches
+set_length watches n x = grind (arith, common_steps)
+
+module _ (t : TrailState) (w : WatchedState) (n : ℕ) (clause : Clause) (l : Lit) (consistent : AreConsistent t.literals) (a : AreWatched t w) (within : n < length w.lists.watches) (before : w.seen < length t.literals)
+    (held : clause_numbered t.clauses (watch_at w.lists.watches n).clause ≡ Some clause) (falls : literal_at t.literals w.seen ≡ negation (watch_at w.lists.watches n).lit) (r : IsReplacement t.literals clause (other_of w.lists.watches n) w.seen l) where
+  here : IsWatch t.clauses t.attached w.lists.watches n
+  here = a.each n within
+
+  abbrev pub twin : ℕ
+  twin = (watch_at w.lists.watches n).twin
+
+  there : IsWatch t.clauses t.attached w.lists.watches twin
+  there = a.each twin here.twin
+
+  abbrev pub moved : List Watch
+  moved = slice_set w.lists.watches n (watching (watch_at w.lists.watches n) l)
+
+  moved_here : watch_at moved n ≡ watching (watch_at w.lists.watches n) l
+  moved_here = set_here w.lists.watches n (watching (watch_at w.lists.watches n) l) within
+
+  moved_apart : (m : ℕ) → (m ≡ n → ⊥) → watch_at moved m ≡ watch_at w.lists.watches m
+  moved_apart m d = set_apart w.lists.watches n m (watching (watch_at w.lists.watches n) l) d
+
+  twin_apart : twin ≡ n → ⊥
+  twin_apart e = not_both _ (subst (λ (k : ℕ). same_literal (watch_at w.lists.watches n).lit (watch_at w.lists.watches k).lit ≡ true) (sym e) (same_itself (watch_at w.lists.watches n).lit)) here.apart
+
+  -- of whom the other watch is
+  twins_apart : (m : ℕ) → m < length w.lists.watches → (m ≡ twin → ⊥) → (watch_at w.lists.watches m).twin ≡ n → ⊥
+  twins_apart m h d e = d (sym (a.each m h).back ∙ ap (λ (k : ℕ). (watch_at w.lists.watches k).twin) e)
+
+  other_here : other_of moved n ≡ other_of w.lists.watches n
+  other_here = ap (λ (x : Watch). (watch_at moved x.twin).lit) moved_here ∙ ap (λ (x : Watch). x.lit) (moved_apart twin twin_apart)
+
+  other_there : other_of moved twin ≡ l
+  other_there = ap (λ (x : Watch). (watch_at moved x.twin).lit) (moved_apart twin twin_apart) ∙ ap (λ (k : ℕ). (watch_at moved k).lit) here.back ∙ ap (λ (x : Watch). x.lit) moved_here
+
+  other_apart : (m : ℕ) → m < length w.lists.watches → (m ≡ n → ⊥) → (m ≡ twin → ⊥) → other_of moved m ≡ other_of w.lists.watches m
+  other_apart m h d f = ap (λ (x : Watch). (watch_at moved x.twin).lit) (moved_apart m d) ∙ ap (λ (x : Watch). x.lit) (moved_apart (watch_at w.lists.watches m).twin (twins_apart m h f))
+
+  same_length : length moved ≡ length w.lists.watches
+  same_length = set_length w.lists.watches n (watching (watch_at w.lists.watches n) l)
+
+  -- what holds of the one that moves, of its twin and of each other one
+  each_moved : (P : ℕ → Type 0) → P n → P twin → ((m : ℕ) → m < length w.lists.watches → (m ≡ n → ⊥) → (m ≡ twin → ⊥) → P m) → (m : ℕ) → m < length w.lists.watches → P m
+  each_moved P p q f m h = ⊎_elim (λ e. subst P (sym e) p) (λ d. ⊎_elim (λ e. subst P (sym e) q) (λ g. f m h d g) (cases_eq m twin)) (cases_eq m n)
+
+  watch_moved : (m : ℕ) → m < length w.lists.watches → IsWatch t.clauses t.attached moved m
+  watch_moved = each_moved (λ m. IsWatch t.clauses t.attached moved m)
+      (record {
+        joined = rw moved_here here.joined;
+        clause = clause;
+        held = rw moved_here held;
+        among = rw moved_here r.among;
+        twin = rw (moved_here, same_length) here.twin;
+        back = ap (λ (x : Watch). (watch_at moved x.twin).twin) moved_here ∙ ap (λ (x : Watch). x.twin) (moved_apart twin twin_apart) ∙ here.back;
+        same = ap (λ (x : Watch). (watch_at moved x.twin).clause) moved_here ∙ ap (λ (x : Watch). x.clause) (moved_apart twin twin_apart) ∙ here.same ∙ ap (λ (x : Watch). x.clause) (sym moved_here);
+        apart = rw (moved_here, other_here) (same_back l (other_of w.lists.watches n) ∙ r.apart);
+      })
+      (record {
+        joined = rw (moved_apart twin twin_apart) there.joined;
+        clause = there.clause;
+        held = rw (moved_apart twin twin_apart) there.held;
+        among = rw (moved_apart twin twin_apart) there.among;
+        twin = rw (moved_apart twin twin_apart, same_length) there.twin;
+        back = ap (λ (x : Watch). (watch_at moved x.twin).twin) (moved_apart twin twin_apart) ∙ ap (λ (k : ℕ). (watch_at moved k).twin) here.back ∙ ap (λ (x : Watch). x.twin) moved_here;
+        same = ap (λ (x : Watch). (watch_at moved x.twin).clause) (moved_apart twin twin_apart) ∙ ap (λ (k : ℕ). (watch_at moved k).clause) here.back ∙ ap (λ (x : Watch). x.clause) moved_here ∙ sym here.same ∙ ap (λ (x : Watch). x.clause) (sym (moved_apart twin twin_apart));
+        apart = rw (moved_apart twin twin_apart, other_there) r.apart;
+      })
+      (λ m h d f.
+      let k = a.each m h in
+      let e = moved_apart m d in
+      let g = moved_apart (watch_at w.lists.watches m).twin (twins_apart m h f) in
+      record {
+        joined = rw e k.joined;
+        clause = k.clause;
+        held = rw e k.held;
+        among = rw e k.among;
+        twin = rw (e, same_length) k.twin;
+        back = ap (λ (x : Watch). (watch_at moved x.twin).twin) e ∙ ap (λ (x : Watch). x.twin) g ∙ k.back;
+        same = ap (λ (x : Watch). (watch_at moved x.twin).clause) e ∙ ap (λ (x : Watch). x.clause) g ∙ k.same ∙ ap (λ (x : Watch). x.clause) (sym e);
+        apart = rw (e, other_apart m h d f) k.apart;
+      })
+
+  -- the new literal isn't false by those that have been looked at and the next one
+  settled_here : (seen : ℕ) → seen ≤ w.seen + 1 → IsSettled t.clauses t.literals seen moved n
+  settled_here seen b place c h e k =
+      let i : place < w.seen + 1 = omega arith in
+      let j : place < length (take (w.seen + 1) t.literals) = grind (arith, common_steps) in
+      let g : get_or (take (w.seen + 1) t.literals) place no_literal ≡ get_or t.literals place no_literal = grind (arith, common_steps) in
+      let f : is_false (take (w.seen + 1) t.literals) l ≡ true = true_at (take (w.seen + 1) t.literals) (negation l) place j (g ∙ e ∙ ap (λ (x : Watch). negation x.lit) moved_here) in
+      absurd (not_both _ f r.not_false)
+
+  -- the literal that moves away is false, so the other one needed none to make up for it
+  settled_there : (seen : ℕ) → seen ≤ w.seen + 1 → IsSettled t.clauses t.literals seen moved twin
+  settled_there seen b place c h e k =
+      let lit_there : literal_at t.literals place ≡ negation (other_of w.lists.watches n) = e ∙ ap (λ (x : Watch). negation x.lit) (moved_apart twin twin_apart) in
+      let gone : is_false t.literals (watch_at w.lists.watches n).lit ≡ true = true_at t.literals (negation (watch_at w.lists.watches n).lit) w.seen before falls in
+      ⊎_elim
+      (λ i. let held_there : clause_numbered t.clauses (watch_at w.lists.watches twin).clause ≡ Some c = subst (λ (x : Watch). clause_numbered t.clauses x.clause ≡ Some c) (moved_apart twin twin_apart) k in
+      let m = a.settled twin here.twin place c i lit_there held_there in
+      let now : is_true t.literals (watch_at w.lists.watches n).lit ≡ true = subst (λ (k : ℕ). is_true t.literals (watch_at w.lists.watches k).lit ≡ true) here.back m.now in
+      absurd (not_both _ gone (consistent (watch_at w.lists.watches n).lit now)))
+      (λ i. let q : (watch_at w.lists.watches n).lit ≡ other_of w.lists.watches n = negation_once _ _ (sym falls ∙ ap (literal_at t.literals) (sym i) ∙ lit_there) in
+      absurd (not_both _ (subst (λ (x : Lit). same_literal (watch_at w.lists.watches n).lit x ≡ true) q (same_itself (watch_at w.lists.watches n).lit)) here.apart))
+      (split_last place w.seen (omega arith))
+
+  settled_moved : (seen m : ℕ) → m < length w.lists.watches → (m ≡ n → ⊥) → (m ≡ twin → ⊥) → IsSettled t.clauses t.literals seen w.lists.watches m → IsSettled t.clauses t.literals seen moved m
+  settled_moved seen m h d f s place c b e k =
+      let g = moved_apart m d in
+      subst (λ (x : Lit). MakesUp t.literals (take (place + 1) t.literals) c x) (sym (other_apart m h d f))
+      (s place c b (e ∙ ap (λ (x : Watch). negation x.lit) g) (subst (λ (x : Watch). clause_numbered t.clauses x.clause ≡ Some c) g k))
+
+  pub watched_moves : (others : List ℕ) → AreWatched t (record w { lists = record w.lists { watches = moved; waiting = others } })
+  watched_moves others = record {
+    front = a.front;
+    vars = a.vars;
+    room_short = a.room_short;
+    room_watches = a.room_watches;
+    short = a.short;
+    all = λ number c. ⊎_elim (λ s. inl s) (λ s. inr (
+      s.0,
+      rw same_length s.1,
+      each_moved (λ m. (watch_at w.lists.watches m).clause ≡ number → (watch_at moved m).clause ≡ number)
+          (λ e. ap (λ (x : Watch). x.clause) moved_here ∙ e) (λ e. ap (λ (x : Watch). x.clause) (moved_apart twin twin_apart) ∙ e) (λ m h d f e. ap (λ (x : Watch). x.clause) (moved_apart m d) ∙ e) s.0 s.1 s.2,
+    )) (a.all number c);
+    each = λ m h. watch_moved m (rw (← same_length) h);
+    settled = λ m h. each_moved (λ m. IsSettled t.clauses t.literals w.seen moved m)
+        (settled_here w.seen (omega arith)) (settled_there w.seen (omega arith)) (λ m h d f. settled_moved w.seen m h d f (a.settled m h)) m (rw (← same_length) h);
+  }
+
+  pub visited_moves : (others : List ℕ) → w.lists.waiting ≡ others ++ n ∷ [] → AreVisited t w → AreVisited t (record w { lists = record w.lists { watches = moved; waiting = others } })
+  visited_moves others e v m h g = each_moved (λ m. is_among m others ≡ false → IsSettled t.clauses t.literals (w.seen + 1) moved m)
+      (λ q. settled_here (w.seen + 1) (omega arith))
+      (λ q. settled_there (w.seen + 1) (omega arith))
+      (λ m h d f q. settled_moved (w.seen + 1) m h d f (v m h (subst (λ (xs : List ℕ). is_among m xs ≡ false) (sym e) (not_among m n others d q))))
+      m (rw (← same_length) h) g
+
+-- ---- a clause is attached
+
+pub contains_split : (att : List ℕ) (new number : ℕ) → Contains (att ++ new ∷ []) number → (Contains att number) ⊎ (number ≡ new)
+contains_split att new number c = let b = c.1 in ⊎_elim
+    (λ m. let e : get_or (att ++ new ∷ []) c.0 number ≡ get_or att c.0 number = grind (arith, common_steps) in inl (c.0, m, sym e ∙ c.2))
+    (λ m. let e : get_or (att ++ new ∷ []) c.0 number ≡ new = rw m (grind (arith, common_steps)) in inr (sym c.2 ∙ e))
+    (split_last c.0 (length att) (let n : c.0 < length att + 1 = grind (arith, common_steps) in n))
+
+pub contains_new : (att : List ℕ) (new : ℕ) → Contains (att ++ new ∷ []) new
+contains_new att new = (length att, grind (arith, common_steps), grind (arith, common_steps))
+
+-- over a database that has grown, and fewer literals that have been looked at
+settled_front : (t : TrailState) (all : List Clause) (watches : List Watch) (seen fewer n : ℕ) → IsFront t.clauses all → fewer ≤ seen → IsWatch t.clauses t.attached watches n → IsSettled t.clauses t.literals seen watches n → IsSettled all t.literals fewer watches n
+settled_front t all watches seen fewer n f b here s place clause h e held =
+    let q : here.clause ≡ clause = held_same all (watch_at watches n).clause here.clause clause (front_held t.clauses all (watch_at watches n).clause here.clause f here.held) held in
+    subst (λ (c : Clause). MakesUp t.literals (take (place + 1) t.literals) c (other_of watches n)) q (s place here.clause (omega arith) e here.held)
+
+watch_front : (t : TrailState) (all : List Clause) (new : ℕ) (watches : List Watch) (n : ℕ) → IsFront t.clauses all → IsWatch t.clauses t.attached watches n → IsWatch all (t.attached ++ new ∷ []) watches n
+watch_front t all new watches n f k = record {
+  joined = contains_more t.attached new (watch_at watches n).clause k.joined;
+  clause = k.clause;
+  held = front_held t.clauses all (watch_at watches n).clause k.clause f k.held;
+  among = k.among;
+  twin = k.twin;
+  back = k.back;
+  same = k.same;
+  apart = k.apart;
+}
+
+-- one that is short
+pub short_attached : (t : TrailState) (w : WatchedState) (all : List Clause) (new : ℕ) → IsFront t.clauses all → 1 ≤ t.spare → AreWatched t w → AreWatched (with_clause t all new) (record w { short = w.short ++ new ∷ []; spare = w.spare - 1 })
+short_attached t w all new f room a = record {
+  front = a.front;
+  vars = a.vars;
+  room_short = let r = a.room_short in omega arith;
+  room_watches = let r = a.room_watches in omega arith;
+  short = λ number c. ⊎_elim
+      (λ s. contains_more t.attached new number (a.short number s))
+      (λ s. subst (λ (k : ℕ). Contains (t.attached ++ new ∷ []) k) (sym s) (contains_new t.attached new))
+      (contains_split w.short new number c);
+  all = λ number c. ⊎_elim
+      (λ s. ⊎_elim (λ q. inl (contains_more w.short new number q)) (λ q. inr q) (a.all number s))
+      (λ s. inl (subst (λ (k : ℕ). Contains (w.short ++ new ∷ []) k) (sym s) (contains_new w.short new)))
+      (contains_split t.attached new number c);
+  each = λ n h. watch_front t all new w.lists.watches n f (a.each n h);
+  settled = λ n h. settled_front t all w.lists.watches w.seen w.seen n f (omega arith) (a.each n h) (a.settled n h);
+}
+
+push_here : (watches : List Watch) (x : Watch) → watch_at (watches ++ x ∷ []) (length watches) ≡ x
+push_here watches x = grind (arith, common_steps)
+
+push_before : (watches : List Watch) (x : Watch) (m : ℕ) → m < length watches → watch_at (watches ++ x ∷ []) m ≡ watch_at watches m
+push_before watches x m h = grind (arith, common_steps)
+
+push_length : (watches : List Watch) (x : Watch) → length (watches ++ x ∷ []) ≡ suc (length watches)
+push_length watches x = let e : length (watches ++ x ∷ []) ≡ length watches + 1 = grind (arith, common_steps) in omega (arith, e)
+
+-- one that is watched at two literals, which none of those makes false that are still taken as looked at
+module _ (t : TrailState) (w : WatchedState) (all : List Clause) (new : ℕ) (clause : Clause) (first second : Lit) (seen : ℕ) (f : IsFront t.clauses all) (room : 1 ≤ t.spare) (a : AreWatched t w)
+    (held : clause_numbered all new ≡ Some clause) (two : AreTwo clause first second) (fewer : seen ≤ w.seen)
+    (first_stands : (place : ℕ) → place < seen → literal_at t.literals place ≡ negation first → ⊥)
+    (second_stands : (place : ℕ) → place < seen → literal_at t.literals place ≡ negation second → ⊥) where
+  abbrev pub count : ℕ
+  count = length w.lists.watches
+
+  abbrev pub first_watch : Watch
+  first_watch = record { clause = new; lit = first; twin = suc count }
+
+  abbrev pub second_watch : Watch
+  second_watch = record { clause = new; lit = second; twin = count }
+
+  abbrev pub paired : List Watch
+  paired = (with_pair w.lists new first second).watches
+
+  one : watch_at paired count ≡ first_watch
+  one = push_before (w.lists.watches ++ first_watch ∷ []) second_watch count (let e = push_length w.lists.watches first_watch in omega arith) ∙ push_here w.lists.watches first_watch
+
+  next : watch_at paired (suc count) ≡ second_watch
+  next = ap (λ (k : ℕ). watch_at paired k) (sym (push_length w.lists.watches first_watch)) ∙ push_here (w.lists.watches ++ first_watch ∷ []) second_watch
+
+  kept : (m : ℕ) → m < count → watch_at paired m ≡ watch_at w.lists.watches m
+  kept m h = push_before (w.lists.watches ++ first_watch ∷ []) second_watch m (let e = push_length w.lists.watches first_watch in omega arith) ∙ push_before w.lists.watches first_watch m h
+
+  longer : length paired ≡ count + 2
+  longer = let e = push_length w.lists.watches first_watch in let f = push_length (w.lists.watches ++ first_watch ∷ []) second_watch in omega arith
+
+  each_paired : (P : ℕ → Type 0) → ((m : ℕ) → m < count → P m) → P count → P (suc count) → (m : ℕ) → m < length paired → P m
+  each_paired P g p q m h = ⊎_elim
+      (λ b. ⊎_elim (λ c. g m c) (λ c. subst P (sym c) p) (split_last m count b))
+      (λ b. subst P (sym (b ∙ plus_one)) q)
+      (split_last m (count + 1) (let l = longer in omega arith))
+    where
+      plus_one : count + 1 ≡ suc count
+      plus_one = omega arith
+
+  other_kept : (m : ℕ) → m < count → other_of paired m ≡ other_of w.lists.watches m
+  other_kept m h = ap (λ (x : Watch). (watch_at paired x.twin).lit) (kept m h) ∙ ap (λ (x : Watch). x.lit) (kept (watch_at w.lists.watches m).twin (a.each m h).twin)
+
+  watch_paired : (m : ℕ) → m < length paired → IsWatch all (t.attached ++ new ∷ []) paired m
+  watch_paired = each_paired (λ m. IsWatch all (t.attached ++ new ∷ []) paired m)
+      (λ m h.
+      let k = watch_front t all new w.lists.watches m f (a.each m h) in
+      let e = kept m h in
+      let g = kept (watch_at w.lists.watches m).twin (a.each m h).twin in
+      record {
+        joined = rw e k.joined;
+        clause = k.clause;
+        held = rw e k.held;
+        among = rw e k.among;
+        twin = let l = longer in let b = k.twin in rw e (omega arith);
+        back = ap (λ (x : Watch). (watch_at paired x.twin).twin) e ∙ ap (λ (x : Watch). x.twin) g ∙ k.back;
+        same = ap (λ (x : Watch). (watch_at paired x.twin).clause) e ∙ ap (λ (x : Watch). x.clause) g ∙ k.same ∙ ap (λ (x : Watch). x.clause) (sym e);
+        apart = rw (e, other_kept m h) k.apart;
+      })
+      (record {
+        joined = rw one (contains_new t.attached new);
+        clause = clause;
+        held = rw one held;
+        among = rw one two.first_among;
+        twin = let l = longer in rw one (omega arith);
+        back = ap (λ (x : Watch). (watch_at paired x.twin).twin) one ∙ ap (λ (x : Watch). x.twin) next;
+        same = ap (λ (x : Watch). (watch_at paired x.twin).clause) one ∙ ap (λ (x : Watch). x.clause) next ∙ ap (λ (x : Watch). x.clause) (sym one);
+        apart = rw (one, other_one) two.apart;
+      })
+      (record {
+        joined = rw next (contains_new t.attached new);
+        clause = clause;
+        held = rw next held;
+        among = rw next two.second_among;
+        twin = let l = longer in rw next (omega arith);
+        back = ap (λ (x : Watch). (watch_at paired x.twin).twin) next ∙ ap (λ (x : Watch). x.twin) one;
+        same = ap (λ (x : Watch). (watch_at paired x.twin).clause) next ∙ ap (λ (x : Watch). x.clause) one ∙ ap (λ (x : Watch). x.clause) (sym next);
+        apart = rw (next, other_next) (same_back second first ∙ two.apart);
+      })
+    where
+      other_one : other_of paired count ≡ second
+      other_one = ap (λ (x : Watch). (watch_at paired x.twin).lit) one ∙ ap (λ (x : Watch). x.lit) next
+
+      other_next : other_of paired (suc count) ≡ first
+      other_next = ap (λ (x : Watch). (watch_at paired x.twin).lit) next ∙ ap (λ (x : Watch). x.lit) one
+
+  settled_paired : (m : ℕ) → m < length paired → IsSettled all t.literals seen paired m
+  settled_paired = each_paired (λ m. IsSettled all t.literals seen paired m)
+      (λ m h place c b e k.
+      let g = kept m h in
+      subst (λ (x : Lit). MakesUp t.literals (take (place + 1) t.literals) c x) (sym (other_kept m h))
+      (settled_front t all w.lists.watches w.seen seen m f fewer (a.each m h) (a.settled m h) place c b (e ∙ ap (λ (x : Watch). negation x.lit) g) (subst (λ (x : Watch). clause_numbered all x.clause ≡ Some c) g k)))
+      (λ place c b e k. absurd (first_stands place b (e ∙ ap (λ (x : Watch). negation x.lit) one)))
+      (λ place c b e k. absurd (second_stands place b (e ∙ ap (λ (x : Watch). negation x.lit) next)))
+
+  pub watch_attached : AreWatched (with_clause t all new) (record w { lists = with_pair w.lists new first second; seen = seen })
+  watch_attached = record {
+    front = let b = a.front in omega arith;
+    vars = a.vars;
+    room_short = let r = a.room_short in omega arith;
+    room_watches = let r = a.room_watches in omega arith;
+    short = λ number c. contains_more t.attached new number (a.short number c);
+    all = λ number c. ⊎_elim
+        (λ s. ⊎_elim (λ q. inl q) (λ q. inr (q.0, let b = q.1 in let l = longer in omega arith, ap (λ (x : Watch). x.clause) (kept q.0 q.1) ∙ q.2)) (a.all number s))
+        (λ s. inr (count, let l = longer in omega arith, ap (λ (x : Watch). x.clause) one ∙ sym s))
+        (contains_split t.attached new number c);
+    each = watch_paired;
+    settled = settled_paired;
+  }
+
+-- ---- clauses that are attached, in a database that has grown
+
+-- what is known of an attached clause there
+pub record IsFound (t : TrailState) (all : List Clause) (n : ℕ) : Type 0 where
+  pub from_one : 1 ≤ n
+  pub in_range : n ≤ length all
+  pub known : IsKnownClause t.clauses t.vars n
+  pub held : clause_numbered all n ≡ Some known.clause
+  pub same : clause_numbered all n ≡ clause_numbered t.clauses n
+
+pub found : (t : TrailState) (all : List Clause) (n : ℕ) → IsTrailState t → IsFront t.clauses all → Contains t.attached n → IsFound t all n
+found t all n s f c =
+    let k = known_at t.clauses t.attached t.vars n s.known c in
+    let h = front_held t.clauses all n k.clause f k.held in
+    let i = number_of all n k.clause h in
+    record { from_one = i.from_one; in_range = i.in_range; known = k; held = h; same = front_same t.clauses all t.vars n f k }
+
+-- a literal of a watched clause has a list
+pub among_known : (t : TrailState) (w : WatchedState) (n : ℕ) (clause : Clause) (l : Lit) → IsTrailState t → AreWatched t w → n < length w.lists.watches → clause_numbered t.clauses (watch_at w.lists.watches n).clause ≡ Some clause → list_any (same_literal l) clause ≡ true → l.var < w.lists.vars
+among_known t w n clause l s a h held among =
+    let k = known_at t.clauses t.attached t.vars (watch_at w.lists.watches n).clause s.known (a.each n h).joined in
+    let e = held_same t.clauses (watch_at w.lists.watches n).clause k.clause clause k.held held in
+    let b = below_at t.vars clause l (subst (λ (c : Clause). HasValues t.vars c) e k.known) among in
+    let v = a.vars in
+    omega arith
+
+pub lit_known : (t : TrailState) (w : WatchedState) (n : ℕ) → IsTrailState t → AreWatched t w → n < length w.lists.watches → (watch_at w.lists.watches n).lit.var < w.lists.vars
+lit_known t w n s a h = let k = a.each n h in among_known t w n k.clause (watch_at w.lists.watches n).lit s a h k.held k.among
+
+-- a forced literal that is false leaves the clause false
+pub forced_false : (literals : List Lit) (clause : Clause) (l : Lit) → AreConsistent literals → is_forced_by literals l clause ≡ true → is_false literals l ≡ true → standing literals clause ≡ falsified
+forced_false literals clause l n f e = ⊎_elim
+    (λ s. s)
+    (λ s. ⊎_elim (λ q. absurd (not_both _ e (n l q.1))) (λ q. absurd (not_both _ e (open_parts literals l q.1).1)) s)
+    (forced_stands literals clause l n f)
+
+-- all that waits being looked at again leaves the rest as it was
+pub watched_waits : (t : TrailState) (w : WatchedState) (lists : WatchState) → AreWatched t w → lists.watches ≡ w.lists.watches → lists.vars ≡ w.lists.vars → lists.spare ≡ w.lists.spare → AreWatched t (record w { lists = lists })
+watched_waits t w lists a e v s = record {
+  front = a.front;
+  vars = rw v a.vars;
+  room_short = a.room_short;
+  room_watches = rw s a.room_watches;
+  short = a.short;
+  all = rw e a.all;
+  each = rw e a.each;
+  settled = rw e a.settled;
+}
+
+-- with one of them put back where it was
+pub put_same : (watches : List Watch) (n : ℕ) → n < length watches → slice_set watches n (watching (watch_at watches n) (watch_at watches n).lit) ≡ watches
+put_same watches n h = grind (arith, common_steps)
+
+-- where all wait that watch the literal that becomes false, the others are settled by it
+pub visited_begins : (t : TrailState) (w : WatchedState) (l : Lit) → AreWatched t w → literal_at t.literals w.seen ≡ negation l → ((n : ℕ) → n < length w.lists.watches → (watch_at w.lists.watches n).lit ≡ l → is_among n w.lists.waiting ≡ true) → AreVisited t w
+visited_begins t w l a falls waits n h f = settled_apart t.clauses t.literals w.seen w.lists.watches n l (a.settled n h) falls (λ e. not_both _ (waits n h e) f)
+
+-- and where none waits any more, all are
+pub visited_ends : (t : TrailState) (w : WatchedState) → AreWatched t w → AreVisited t w → w.lists.waiting ≡ [] → w.seen < length t.literals → AreWatched t (record w { seen = w.seen + 1 })
+visited_ends t w a v e b = record {
+  front = omega arith;
+  vars = a.vars;
+  room_short = a.room_short;
+  room_watches = a.room_watches;
+  short = a.short;
+  all = a.all;
+  each = a.each;
+  settled = λ n h. v n h (subst (λ (xs : List ℕ). is_among n xs ≡ false) (sym e) refl);
+}
+
+pub watched_wider : (t : TrailState) (w : WatchedState) (vars lists : ℕ) → AreWatched t w → vars ≤ lists → AreWatched (record t { vars = vars }) (record w { lists = record w.lists { vars = lists } })
+watched_wider t w vars lists a h = record {
+  front = a.front;
+  vars = h;
+  room_short = a.room_short;
+  room_watches = a.room_watches;
+  short = a.short;
+  all = a.all;
+  each = a.each;
+  settled = a.settled;
+}
+
+-- whether there was memory for it or not
+pub grown_either : (r : Result (Unit {0}) Memory) (t new : TrailState) (w : WatchedState) (vars : ℕ) → OnOk r (new ≡ record t { vars = max t.vars vars }) → OnErr r (new ≡ t) → AreWatched t w → AreWatched new (record w { lists = record w.lists { vars = max w.lists.vars vars } })
+grown_either (Ok u) t new w vars e f a = rw e (watched_wider t w (max t.vars vars) (max w.lists.vars vars) a (let v = a.vars in grind (arith, common_steps)))
+grown_either (Err m) t new w vars e f a = rw f (watched_wider t w t.vars (max w.lists.vars vars) a (let v = a.vars in grind (arith, common_steps)))
+
+-- with more room
+pub watched_roomier : (t : TrailState) (w new : WatchedState) (spare : ℕ) → AreWatched t w → new.short ≡ w.short → new.seen ≡ w.seen → new.lists.watches ≡ w.lists.watches → new.lists.vars ≡ w.lists.vars → spare ≤ new.spare → spare ≤ new.lists.spare → AreWatched (record t { spare = spare }) new
+watched_roomier t w new spare a s n e v p q = record {
+  front = rw n a.front;
+  vars = rw v a.vars;
+  room_short = p;
+  room_watches = q;
+  short = rw s a.short;
+  all = rw (s, e) a.all;
+  each = rw e a.each;
+  settled = rw (n, e) a.settled;
+}
+
+-- ---- a literal is made true, where it wasn't
+
+abbrev pub IsKeptOr : TrailState → TrailState → Lit → ℕ → Type 0
+IsKeptOr old new l id = (new ≡ old) ⊎ (new ≡ with_literal old l (Some id))
+
+pub watched_kept : (old new : TrailState) (w : WatchedState) (l : Lit) (id : ℕ) → IsKeptOr old new l id → AreWatched old w → AreWatched new w
+watched_kept old new w l id k a = ⊎_elim (λ e. rw e a) (λ e. rw e (watched_more old w l (Some id) a)) k
+
+pub visited_kept : (old new : TrailState) (w : WatchedState) (l : Lit) (id : ℕ) → IsKeptOr old new l id → w.seen < length old.literals → AreVisited old w → AreVisited new w
+visited_kept old new w l id k b a = ⊎_elim (λ e. rw e a) (λ e. rw e (visited_more old w l (Some id) b a)) k
+
+-- all literals of a clause but the other watched one are false by the first ones
+pub forced_found : (t : TrailState) (w : WatchedState) (n : ℕ) (clause : Clause) → AreWatched t w → n < length w.lists.watches → clause_numbered t.clauses (watch_at w.lists.watches n).clause ≡ Some clause
+    → list_all (λ l. same_literal (other_of w.lists.watches n) l || is_false (take (w.seen + 1) t.literals) l) clause ≡ true → is_forced_by (take (w.seen + 1) t.literals) (other_of w.lists.watches n) clause ≡ true
+forced_found t w n clause a h held all =
+    let here = a.each n h in
+    let there = a.each (watch_at w.lists.watches n).twin here.twin in
+    let among = other_among t w.lists.watches n here there in
+    let e = held_same t.clauses (watch_at w.lists.watches n).clause here.clause clause here.held held in
+    and_from _ _ (subst (λ (c : Clause). list_any (same_literal (other_of w.lists.watches n)) c ≡ true) e among) all
+
+-- then the watch is settled once that one is true
+pub judged_forced : (old new : TrailState) (w : WatchedState) (n : ℕ) (clause : Clause) (l : Lit) (id : ℕ) → IsKeptOr old new l id → w.seen < length old.literals → AreWatched old w → n < length w.lists.watches
+    → clause_numbered old.clauses (watch_at w.lists.watches n).clause ≡ Some clause → is_forced_by (take (w.seen + 1) old.literals) (other_of w.lists.watches n) clause ≡ true
+    → is_true new.literals (other_of w.lists.watches n) ≡ true → IsSettled new.clauses new.literals (w.seen + 1) w.lists.watches n
+judged_forced old new w n clause l id k b a h held forced t = ⊎_elim
+    (λ e. let t2 = subst (λ (s : TrailState). is_true s.literals (other_of w.lists.watches n) ≡ true) e t in
+    subst (λ (s : TrailState). IsSettled s.clauses s.literals (w.seen + 1) w.lists.watches n) (sym e) (settled_forced old.clauses old.literals w.seen w.lists.watches n clause (a.settled n h) held forced t2))
+    (λ e. let t2 = subst (λ (s : TrailState). is_true s.literals (other_of w.lists.watches n) ≡ true) e t in
+    let more = watched_more old w l (Some id) a in
+    let first : take (w.seen + 1) (old.literals ++ l ∷ []) ≡ take (w.seen + 1) old.literals = take_more old.literals l (w.seen + 1) (omega arith) in
+    let f2 = subst (λ (ls : List Lit). is_forced_by ls (other_of w.lists.watches n) clause ≡ true) (sym first) forced in
+    subst (λ (s : TrailState). IsSettled s.clauses s.literals (w.seen + 1) w.lists.watches n) (sym e) (settled_forced old.clauses (old.literals ++ l ∷ []) w.seen w.lists.watches n clause (more.settled n h) held f2 t2))
+    k
+  where
+    take_more : (literals : List Lit) (l : Lit) (k : ℕ) → k ≤ length literals → take k (literals ++ l ∷ []) ≡ take k literals
+    take_more literals l k h = grind (arith, common_steps)
+
+-- ---- what becomes of the next watch that waits
+
+pub look_stays : (t : TrailState) (w : WatchedState) (lists : WatchState) (n : ℕ) → IsNext w.lists n → AreWatched t w → Puts w.lists lists (watch_at w.lists.watches n).lit → AreWatched t (record w { lists = lists })
+look_stays t w lists n x a p =
+    let e = p x.others n x.last in
+    watched_waits t w lists a (ap (λ (s : WatchState). s.watches) e ∙ put_same w.lists.watches n x.within) (ap (λ (s : WatchState). s.vars) e) (ap (λ (s : WatchState). s.spare) e)
+
+pub look_stays_visited : (t : TrailState) (w : WatchedState) (lists : WatchState) (n : ℕ) → IsNext w.lists n → Puts w.lists lists (watch_at w.lists.watches n).lit → AreVisited t w → IsSettled t.clauses t.literals (w.seen + 1) w.lists.watches n → AreVisited t (record w { lists = lists })
+look_stays_visited t w lists n x p v s =
+    let e = p x.others n x.last in
+    let same = ap (λ (s : WatchState). s.watches) e ∙ put_same w.lists.watches n x.within in
+    let rest = ap (λ (s : WatchState). s.waiting) e in
+    λ m h f. subst (λ (ws : List Watch). IsSettled t.clauses t.literals (w.seen + 1) ws m) (sym same)
+    (visited_stays t w x.others n x.last v s m (subst (λ (ws : List Watch). m < length ws) same h) (subst (λ (xs : List ℕ). is_among m xs ≡ false) rest f))
+
+pub look_moves : (t : TrailState) (w : WatchedState) (lists : WatchState) (n : ℕ) (clause : Clause) (l : Lit) → AreConsistent t.literals → IsNext w.lists n → AreWatched t w → w.seen < length t.literals
+    → clause_numbered t.clauses (watch_at w.lists.watches n).clause ≡ Some clause → literal_at t.literals w.seen ≡ negation (watch_at w.lists.watches n).lit → IsReplacement t.literals clause (other_of w.lists.watches n) w.seen l
+    → Puts w.lists lists l → AreWatched t (record w { lists = lists })
+look_moves t w lists n clause l c x a b held falls r p =
+    subst (λ (s : WatchState). AreWatched t (record w { lists = s })) (sym (p x.others n x.last)) (watched_moves t w n clause l c a x.within b held falls r x.others)
+
+pub look_moves_visited : (t : TrailState) (w : WatchedState) (lists : WatchState) (n : ℕ) (clause : Clause) (l : Lit) → AreConsistent t.literals → IsNext w.lists n → AreWatched t w → w.seen < length t.literals
+    → clause_numbered t.clauses (watch_at w.lists.watches n).clause ≡ Some clause → literal_at t.literals w.seen ≡ negation (watch_at w.lists.watches n).lit → IsReplacement t.literals clause (other_of w.lists.watches n) w.seen l
+    → Puts w.lists lists l → AreVisited t w → AreVisited t (record w { lists = lists })
+look_moves_visited t w lists n clause l c x a b held falls r p v =
+    subst (λ (s : WatchState). AreVisited t (record w { lists = s })) (sym (p x.others n x.last)) (visited_moves t w n clause l c a x.within b held falls r x.others x.last v)
+
+-- a literal that is true has a variable
+pub at_known : (t : TrailState) (place : ℕ) → IsTrailState t → place < length t.literals → (literal_at t.literals place).var < t.vars
+at_known t place s h = below_at t.vars t.literals (literal_at t.literals place) s.justified.known (true_at t.literals (literal_at t.literals place) place h refl)
+
+pub roomier_either : (r : Result (Unit {0}) Memory) (t new : TrailState) (w more : WatchedState) (clauses : ℕ) → OnOk r (new ≡ record t { spare = max t.spare clauses }) → OnErr r (new ≡ t) → AreWatched t w
+    → more.short ≡ w.short → more.seen ≡ w.seen → more.lists.watches ≡ w.lists.watches → more.lists.vars ≡ w.lists.vars → t.spare ≤ more.spare → t.spare ≤ more.lists.spare → clauses ≤ more.spare → clauses ≤ more.lists.spare → AreWatched new more
+roomier_either (Ok u) t new w more clauses e f a s n x v p q g h = rw e (watched_roomier t w more (max t.spare clauses) a s n x v (grind (arith, common_steps)) (grind (arith, common_steps)))
+roomier_either (Err m) t new w more clauses e f a s n x v p q g h = rw f (watched_roomier t w more t.spare a s n x v p q)
+
+-- the same list, where none was added
+pub same_front : {X : Type 0} (old new : List X) → take (length old) new ≡ old → length new ≡ length old → new ≡ old
+same_front old new e n = let a : take (length old) new ≡ new = rw (← n) (grind (arith, common_steps)) in sym a ∙ e

@@ -1,0 +1,13 @@
+use Rattle.std.specs.Prelude.{◌-◌, length}
+use Rattle.sat_prop.specs.Changes.{Propagates}
+use Rattle.sat_prop.specs.Watching.{AreWatched}
+use Rattle.sat_prop.proofs.watched.Watched.propagate.Given as goal
+
+abbrev pub invariant-more : goal.invariant-more
+invariant-more l = record {
+  watched : AreWatched l.stack l.self;
+  grown : Propagates l.fn.stack l.stack;
+}
+
+abbrev pub decreases-more : goal.decreases-more
+decreases-more l = l.stack.vars - length l.stack.literals

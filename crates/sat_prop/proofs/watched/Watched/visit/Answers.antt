@@ -1,0 +1,45 @@
+use Rattle.std.proofs.Common.{◌≡◌, ◌∙◌, ◌<◌, List, refl, ap, sym, subst, length, arith}
+use Rattle.prop_core.specs.declared.lit.Lit.{Lit}
+use Rattle.prop_core.specs.Clauses.{negation}
+use Rattle.sat_prop.specs.TrailState.{literal_at}
+use Rattle.sat_prop.specs.declared.watches.Watch.{Watch}
+use Rattle.sat_prop.specs.Watches.{watch_at}
+use Rattle.sat_prop.specs.Watching.{WatchedState, AreWatched}
+use Rattle.sat_prop.proofs.Fronts.{front_itself, front_length}
+use Rattle.sat_prop.proofs.Visiting.{at_known, watched_waits, visited_begins, visited_ends}
+use Rattle.sat_prop.proofs.watched.Watched.visit.Goals as goal
+
+pub open-requires : goal.open-requires
+open-requires c =
+    let wa = subst (λ (s : WatchedState). AreWatched c.args.stack.now s) (sym c.self.view_is) c.requires.watched in
+    let within = subst (λ (s : WatchedState). s.seen < length c.args.stack.now.literals) (sym c.self.view_is) c.requires.within in
+    let falls = subst (λ (s : WatchedState). literal_at c.args.stack.now.literals s.seen ≡ negation c.args.lit) (sym c.self.view_is) c.requires.falls in
+    let k = at_known c.args.stack.now c.self.inside.seen c.literals-literals.ensures.state within in
+    let e : (literal_at c.args.stack.now.literals c.self.inside.seen).var ≡ c.args.lit.var = ap (λ (l : Lit). l.var) falls in
+    let v = wa.vars in
+    omega arith
+
+pub more-init : goal.more-init
+more-init c =
+    let w : WatchedState = record { short = c.self.inside.short.items; spare = c.self.inside.spare; lists = c.self.inside.lists; seen = c.self.inside.seen } in
+    let wa : AreWatched c.args.stack.now w = subst (λ (s : WatchedState). AreWatched c.args.stack.now s) (sym c.self.view_is) c.requires.watched in
+    let falls = subst (λ (s : WatchedState). literal_at c.args.stack.now.literals s.seen ≡ negation c.args.lit) (sym c.self.view_is) c.requires.falls in
+    let o = c.open.ensures in
+    let a = watched_waits c.args.stack.now w c.open.new.self wa o.watches o.vars o.spare in
+    record {
+      watched = a;
+      grown = record { clauses = refl; attached = refl; vars = refl; spare = refl; literals = front_itself c.args.stack.now.literals; reasons = front_itself c.args.stack.now.reasons; level = refl };
+      short = ap (λ (s : WatchedState). s.short) c.self.view_is;
+      seen = ap (λ (s : WatchedState). s.seen) c.self.view_is;
+      visited = visited_begins c.args.stack.now (record w { lists = c.open.new.self }) c.args.lit a falls
+          (λ n h e. o.waits n (subst (λ (ws : List Watch). n < length ws) o.watches h) (ap (λ (ws : List Watch). (watch_at ws n).lit) (sym o.watches) ∙ e));
+    }
+
+pub returns-clause-visited : goal.returns-clause-visited
+returns-clause-visited c =
+    let i = c.more.invariant in
+    let none = ap (λ (s : WatchedState). s.lists.waiting) (sym c.self-in-more.view_is) ∙ c.in_default.ensures.none in
+    let longer = front_length c.args.stack.now.literals c.more.stack.literals i.grown.literals in
+    let within = c.requires.within in
+    let seen = i.seen in
+    visited_ends c.more.stack c.more.self i.watched i.visited none (omega arith)

@@ -1,0 +1,13 @@
+use Rattle.std.proofs.Common.{◌∙◌, ap, arith}
+use Rattle.sat_prop.specs.Watching.{WatchedState}
+use Rattle.sat_prop.proofs.watched.Watched.visit_watched.Goals as goal
+
+pub more-smaller : goal.more-smaller
+more-smaller c =
+    let vars = c.visit.ensures.grown.vars in
+    let seen = ap (λ (s : WatchedState). s.seen) c.self-in-more.view_is ∙ c.visit.ensures.seen in
+    let room = c.literals-literals.ensures.room in
+    let test = c.more-test.true in
+    let len = c.len.ensures in
+    let before = ap (λ (s : WatchedState). s.seen) c.self.view_is in
+    omega arith

@@ -1,0 +1,44 @@
+use Rattle.std.proofs.Common.{◌≡◌, ◌+◌, ◌-◌, ◌++◌, ◌∷◌, [], ℕ, List, Option, None, sym, subst, length, get_or, arith}
+use Rattle.std.specs.Prelude.{vec_len, vec_capacity}
+use Rattle.std.proofs.lemmas.Grind.{common_steps}
+use Rattle.sat_prop.proofs.Draining.{IsDraining, draining_begins, draining_more, draining_ends, draining_room}
+use Rattle.sat_prop.proofs.watches.drain.Goals as goal
+
+pub more-init : goal.more-init
+more-init c = record {
+  draining = draining_begins c.args.nexts.now c.args.first c.requires.0 c.args.into.now.items (vec_capacity c.args.into.now - vec_len c.args.into.now) c.requires.1 (let f = c.requires.2 in omega arith);
+  capacity = omega arith;
+}
+
+pub bounds-nexts-watch : goal.bounds-nexts-watch
+bounds-nexts-watch c =
+    let d = subst (λ (o : Option ℕ). IsDraining c.args.nexts.now c.args.first o c.args.into.now.items c.more.into.items (vec_capacity c.more.into - vec_len c.more.into)) c.in-Some.is c.more.invariant.draining in
+    (draining_more c.args.nexts.now c.args.first c.in-Some.watch c.args.into.now.items c.more.into.items (vec_capacity c.more.into - vec_len c.more.into) d).within
+
+pub more-smaller : goal.more-smaller
+more-smaller c =
+    let d = subst (λ (o : Option ℕ). IsDraining c.args.nexts.now c.args.first o c.args.into.now.items c.more.into.items (vec_capacity c.more.into - vec_len c.more.into)) c.in-Some.is c.more.invariant.draining in
+    let f = (draining_more c.args.nexts.now c.args.first c.in-Some.watch c.args.into.now.items c.more.into.items (vec_capacity c.more.into - vec_len c.more.into) d).few in
+    let u = c.unwrap.ensures in
+    let e : c.push.new.self.items ≡ c.more.into.items ++ c.in-Some.watch ∷ [] = let a = c.push.ensures.items in grind (arith, common_steps) in
+    let n : length c.push.new.self.items ≡ length c.more.into.items + 1 = grind (arith, common_steps) in
+    omega arith
+
+pub more-preserved : goal.more-preserved
+more-preserved c =
+    let d = subst (λ (o : Option ℕ). IsDraining c.args.nexts.now c.args.first o c.args.into.now.items c.more.into.items (vec_capacity c.more.into - vec_len c.more.into)) c.in-Some.is c.more.invariant.draining in
+    let o = draining_more c.args.nexts.now c.args.first c.in-Some.watch c.args.into.now.items c.more.into.items (vec_capacity c.more.into - vec_len c.more.into) d in
+    let u = c.unwrap.ensures in
+    let e : c.push.new.self.items ≡ c.more.into.items ++ c.in-Some.watch ∷ [] = let a = c.push.ensures.items in grind (arith, common_steps) in
+    let n = c.push.ensures.len in
+    let k = c.push.ensures.capacity in
+    let r = o.room_left in
+    record {
+      draining = subst (λ (xs : List ℕ). IsDraining c.args.nexts.now c.args.first (get_or c.args.nexts.now c.in-Some.watch None) c.args.into.now.items xs (vec_capacity c.push.new.self - vec_len c.push.new.self)) (sym e)
+          (draining_room _ _ _ _ _ _ _ (grind (arith, common_steps)) o.more);
+      capacity = let b = c.more.invariant.capacity in grind (arith, common_steps);
+    }
+
+pub returns-clause-drained : goal.returns-clause-drained
+returns-clause-drained c = draining_ends c.args.nexts.now c.args.first c.args.into.now.items c.more.into.items (vec_capacity c.more.into - vec_len c.more.into)
+    (subst (λ (o : Option ℕ). IsDraining c.args.nexts.now c.args.first o c.args.into.now.items c.more.into.items (vec_capacity c.more.into - vec_len c.more.into)) c.in_default.is c.more.invariant.draining)

@@ -1,0 +1,97 @@
+-- Clauses that are watched at literals (Moskewicz and others, "Chaff: engineering an efficient SAT solver", 2001): each watch stands in the list of its literal, linked by numbers, or waits.
+use Rattle.std.specs.Prelude.{◌≡◌, ℕ, ◌<◌, true, false, suc, Bool, ◌-◌, List, [], ◌∷◌, ◌++◌, length, replicate, Option, Some, None, nat_eq, slice_index_or, slice_set, if◌then◌else◌}
+use Rattle.std.specs.List.{list_any, IsDistinct}
+use Rattle.prop_core.specs.declared.lit.Lit.{Lit}
+use Rattle.prop_core.specs.Trail.{no_literal}
+use Rattle.sat_prop.specs.declared.watches.Watch.{Watch}
+use Rattle.sat_prop.specs.declared.watches.Starts.{Starts}
+
+-- the watches, the numbers of those that wait, for how many variables there are lists, and for how many more clauses there is room
+pub record WatchState : Type 0 where
+  pub watches : List Watch
+  pub waiting : List ℕ
+  pub vars : ℕ
+  pub spare : ℕ
+
+abbrev pub no_watch : Watch
+no_watch = record { clause = 0; lit = no_literal; twin = 0 }
+
+abbrev pub watch_at : List Watch → ℕ → Watch
+watch_at watches number = slice_index_or watches number no_watch
+
+abbrev pub is_among : ℕ → List ℕ → Bool
+is_among number numbers = list_any (nat_eq number) numbers
+
+-- ---- lists
+
+abbrev pub empty : Starts
+empty = record { positive = None; negative = None }
+
+abbrev pub starts_at : List Starts → ℕ → Starts
+starts_at starts var = slice_index_or starts var empty
+
+abbrev pub no_starts : ℕ → List Starts
+no_starts count = replicate count empty
+
+-- where the list of a literal begins
+abbrev pub start_of : List Starts → Lit → Option ℕ
+start_of starts l = if l.positive then (starts_at starts l.var).positive else (starts_at starts l.var).negative
+
+abbrev pub begun : Starts → Bool → Option ℕ → Starts
+begun starts positive first = if positive then record starts { positive = first } else record starts { negative = first }
+
+-- the list of a literal begins elsewhere
+abbrev pub with_start : List Starts → Lit → Option ℕ → List Starts
+with_start starts l first = slice_set starts l.var (begun (starts_at starts l.var) l.positive first)
+
+-- from a number on one passes these, none twice, and comes to an end
+abbrev pub Links : List (Option ℕ) → Option ℕ → List ℕ → Type 0
+Links nexts first [] = first ≡ None
+Links nexts first (number ∷ numbers) =
+    (first ≡ Some number) × (number < length nexts) × (is_among number numbers ≡ false) × Links nexts (slice_index_or nexts number None) numbers
+
+-- the numbers that one passes are appended
+abbrev pub Drains : List (Option ℕ) → Option ℕ → List ℕ → List ℕ → Type 0
+Drains nexts first old new = (numbers : List ℕ) × Links nexts first numbers × (new ≡ old ++ numbers)
+
+-- Each watch stands in the list of its literal, or waits; in no list and among those that wait none stands twice.
+pub record AreWatchLists (watches : List Watch) (nexts : List (Option ℕ)) (starts : List Starts) (waiting : List ℕ) : Type 0 where
+  pub same : length nexts ≡ length watches
+  pub lists : Lit → List ℕ
+  pub linked : (l : Lit) → l.var < length starts → Links nexts (start_of starts l) (lists l)
+  pub own : (l : Lit) (number : ℕ) → l.var < length starts → is_among number (lists l) ≡ true → ((watch_at watches number).lit ≡ l) × (is_among number waiting ≡ false)
+  pub placed : (number : ℕ) → number < length watches → is_among number waiting ≡ false → is_among number (lists (watch_at watches number).lit) ≡ true
+  pub known : (number : ℕ) → number < length watches → (watch_at watches number).lit.var < length starts
+  pub once : IsDistinct nat_eq waiting
+  pub below : (number : ℕ) → is_among number waiting ≡ true → number < length watches
+
+-- ---- what the calls do
+
+-- a clause that is watched at two literals
+abbrev pub with_pair : WatchState → ℕ → Lit → Lit → WatchState
+with_pair s clause first second = record s {
+  watches = (s.watches ++ record { clause = clause; lit = first; twin = suc (length s.watches) } ∷ []) ++ record { clause = clause; lit = second; twin = length s.watches } ∷ [];
+  spare = s.spare - 1;
+}
+
+-- all that watch the literal wait
+pub record IsOpened (old new : WatchState) (l : Lit) : Type 0 where
+  pub watches : new.watches ≡ old.watches
+  pub vars : new.vars ≡ old.vars
+  pub spare : new.spare ≡ old.spare
+  pub waits : (number : ℕ) → number < length old.watches → (watch_at old.watches number).lit ≡ l → is_among number new.waiting ≡ true
+
+-- it is the last of those that wait
+pub record IsNext (s : WatchState) (number : ℕ) : Type 0 where
+  pub others : List ℕ
+  pub last : s.waiting ≡ others ++ number ∷ []
+  pub once : is_among number others ≡ false
+  pub within : number < length s.watches
+
+abbrev pub watching : Watch → Lit → Watch
+watching w l = record w { lit = l }
+
+-- the last of those that wait watches this literal, and waits no more
+abbrev pub Puts : WatchState → WatchState → Lit → Type 0
+Puts old new l = (others : List ℕ) (number : ℕ) → old.waiting ≡ others ++ number ∷ [] →
+    new ≡ record old { watches = slice_set old.watches number (watching (watch_at old.watches number) l); waiting = others }

@@ -1,0 +1,87 @@
+-- What holds of attached clauses and their watches, so that only those have to be looked at of which a watched literal became false.
+use Rattle.std.specs.Prelude.{◌≡◌, ℕ, ◌+◌, ◌<◌, ◌≤◌, ◌⊎◌, true, false, List, [], length, take, Some, Contains}
+use Rattle.std.specs.List.{list_any}
+use Rattle.prop_core.specs.declared.lit.Lit.{Lit}
+use Rattle.prop_core.specs.Clauses.{Clause, negation, same_literal, is_true, is_false}
+use Rattle.prop_core.specs.Derivation.{clause_numbered}
+use Rattle.prop_core.specs.Trail.{is_forced_by}
+use Rattle.sat_prop.specs.TrailState.{TrailState, literal_at}
+use Rattle.sat_prop.specs.Watches.{WatchState, watch_at, is_among}
+use Rattle.sat_prop.specs.Quiet.{IsConflict}
+use Rattle.sat_prop.specs.declared.watches.Watch.{Watch}
+use Rattle.sat_prop.specs.declared.watched.Judged.{Judged}
+use Rattle.sat_prop.specs.declared.watched.Judged.TheVariants.{Stays, Moves, False}
+
+-- The numbers of the short clauses, for how many more of them there is room, the watches, and how many literals have been looked at.
+pub record WatchedState : Type 0 where
+  pub short : List ℕ
+  pub spare : ℕ
+  pub lists : WatchState
+  pub seen : ℕ
+
+abbrev pub no_watched : WatchedState
+no_watched = record { short = []; spare = 0; lists = record { watches = []; waiting = []; vars = 0; spare = 0 }; seen = 0 }
+
+-- the literal that the clause is watched at beside this one
+abbrev pub other_of : List Watch → ℕ → Lit
+other_of watches number = (watch_at watches (watch_at watches number).twin).lit
+
+-- The clause of a watch is attached. It is watched at two different literals.
+pub record IsWatch (clauses : List Clause) (attached : List ℕ) (watches : List Watch) (number : ℕ) : Type 0 where
+  pub joined : Contains attached (watch_at watches number).clause
+  pub clause : Clause
+  pub held : clause_numbered clauses (watch_at watches number).clause ≡ Some clause
+  pub among : list_any (same_literal (watch_at watches number).lit) clause ≡ true
+  pub twin : (watch_at watches number).twin < length watches
+  pub back : (watch_at watches (watch_at watches number).twin).twin ≡ number
+  pub same : (watch_at watches (watch_at watches number).twin).clause ≡ (watch_at watches number).clause
+  pub apart : same_literal (watch_at watches number).lit (other_of watches number) ≡ false
+
+-- The other literal makes up for one that became false by the first literals: these make it true, or make all others false; and it is true.
+pub record MakesUp (literals first : List Lit) (clause : Clause) (other : Lit) : Type 0 where
+  pub early : (is_true first other ≡ true) ⊎ (is_forced_by first other clause ≡ true)
+  pub now : is_true literals other ≡ true
+
+-- Where one of the first so many literals makes the watched one false, the other makes up for it.
+abbrev pub IsSettled : List Clause → List Lit → ℕ → List Watch → ℕ → Type 0
+IsSettled clauses literals seen watches number = (place : ℕ) (clause : Clause) → place < seen → literal_at literals place ≡ negation (watch_at watches number).lit →
+    clause_numbered clauses (watch_at watches number).clause ≡ Some clause → MakesUp literals (take (place + 1) literals) clause (other_of watches number)
+
+-- a clause of this number is watched
+abbrev pub HasWatch : List Watch → ℕ → Type 0
+HasWatch watches clause = (number : ℕ) × (number < length watches) × ((watch_at watches number).clause ≡ clause)
+
+-- Each attached clause is short or watched, there is room for more, and each watch is settled by the literals that have been looked at.
+pub record AreWatched (t : TrailState) (w : WatchedState) : Type 0 where
+  pub front : w.seen ≤ length t.literals
+  pub vars : t.vars ≤ w.lists.vars
+  pub room_short : t.spare ≤ w.spare
+  pub room_watches : t.spare ≤ w.lists.spare
+  pub short : (number : ℕ) → Contains w.short number → Contains t.attached number
+  pub all : (number : ℕ) → Contains t.attached number → (Contains w.short number) ⊎ (HasWatch w.lists.watches number)
+  pub each : (number : ℕ) → number < length w.lists.watches → IsWatch t.clauses t.attached w.lists.watches number
+  pub settled : (number : ℕ) → number < length w.lists.watches → IsSettled t.clauses t.literals w.seen w.lists.watches number
+
+-- those that wait no more are settled by the next literal too
+abbrev pub AreVisited : TrailState → WatchedState → Type 0
+AreVisited t w = (number : ℕ) → number < length w.lists.watches → is_among number w.lists.waiting ≡ false → IsSettled t.clauses t.literals (w.seen + 1) w.lists.watches number
+
+-- two different literals of a clause
+pub record AreTwo (clause : Clause) (first second : Lit) : Type 0 where
+  pub first_among : list_any (same_literal first) clause ≡ true
+  pub second_among : list_any (same_literal second) clause ≡ true
+  pub apart : same_literal first second ≡ false
+
+-- another literal of the clause, which no literal up to a place makes false
+pub record IsReplacement (literals : List Lit) (clause : Clause) (other : Lit) (place : ℕ) (l : Lit) : Type 0 where
+  pub among : list_any (same_literal l) clause ≡ true
+  pub apart : same_literal other l ≡ false
+  pub not_false : is_false (take (place + 1) literals) l ≡ false
+
+-- what becomes of a watch: it is settled by the next literal too, another literal replaces it, or its clause is false
+abbrev pub IsJudged : TrailState → WatchedState → ℕ → Judged → Type 0
+IsJudged t w number Stays = IsSettled t.clauses t.literals (w.seen + 1) w.lists.watches number
+IsJudged t w number (Moves l) =
+    (literal_at t.literals w.seen ≡ negation (watch_at w.lists.watches number).lit)
+    × ((clause : Clause) × (clause_numbered t.clauses (watch_at w.lists.watches number).clause ≡ Some clause) × IsReplacement t.literals clause (other_of w.lists.watches number) w.seen l)
+IsJudged t w number False = IsConflict t (watch_at w.lists.watches number).clause

@@ -1,0 +1,348 @@
+ghost use Rattle.std.specs.Prelude.{◌≡◌, ℕ, ◌<◌, ◌≤◌, ◌+◌, ◌-◌, ◌^◌, ◌++◌, ◌∷◌, [], length, max, take, true, false, Some, None, Contains, slice_get, slice_set, slice_index, vec_len, vec_capacity, OnOk, OnErr, IfSome};
+ghost use Rattle.prop_core.specs.Derivation.{clause_numbered, unit};
+ghost use Rattle.prop_core.specs.Clauses.{is_open, is_true, negation, HasValues};
+ghost use Rattle.prop_core.specs.Trail.{has_var};
+ghost use Rattle.sat_prop.specs.TrailState.{literal_at, value_by, reason_at, StandsAt};
+ghost use Rattle.sat_prop.specs.Levels.{level_of, level_at, IsCut, IsLastDecision};
+ghost use Rattle.sat_prop.specs.Quiet.{AreQuiet, JoinsQuietly, stands};
+ghost use Rattle.sat_prop.specs.Changes.{IsFront, with_literal, with_clause, IsKeptUpTo};
+ghost use Rattle.sat_prop.specs.Kept.{IsTrailState, IsSeen};
+
+use crate::standing::Stands;
+use des_base::{Memory, VAR_LIMIT};
+use prop_core::{ClauseId, Clauses, Lit};
+use std::alloc::Global;
+use std::marker::Model;
+use std::snapshot::Snapshot;
+
+/// The trail but for its propagation: literals that are true, in their order, over clauses that are attached.
+#[derive(Drop)]
+pub struct Stack {
+    db: Snapshot<Clauses>,
+    attached: Vec<ClauseId>,
+    spare: usize,
+    literals: Vec<Lit>,
+    reasons: Vec<Option<ClauseId>>,
+    levels: Vec<u32>,
+    starts: Vec<u32>,
+    places: Vec<u32>,
+}
+
+impl Model for Stack {
+    ghost use Rattle.std.specs.Prelude.{◌+◌, ◌≤◌, length, vec_len, vec_capacity};
+    ghost use Rattle.des_base.specs.declared.TheConstants.{VAR_LIMIT};
+    ghost use Rattle.sat_prop.specs.TrailState.{TrailState};
+    ghost use Rattle.sat_prop.specs.Kept.{IsTrailState, ArePlaces, AreLevels, AreStarts};
+
+    ghost Value = { TrailState };
+
+    ghost view = { λ a. record { clauses = a.db.value.clauses; attached = a.attached.items; literals = a.literals.items; reasons = a.reasons.items; vars = length a.places.items; spare = a.spare } };
+
+    ghost invariant = { λ a. record {
+      state : IsTrailState (record { clauses = a.db.value.clauses; attached = a.attached.items; literals = a.literals.items; reasons = a.reasons.items; vars = length a.places.items; spare = a.spare });
+      places : ArePlaces (length a.places.items) a.literals.items a.places.items;
+      levels : AreLevels a.reasons.items a.levels.items;
+      starts : AreStarts a.reasons.items a.starts.items;
+      limit : vec_len a.places ≤ VAR_LIMIT;
+      room_attached : vec_len a.attached + a.spare ≤ vec_capacity a.attached;
+      room_literals : vec_len a.places ≤ vec_capacity a.literals;
+      room_reasons : vec_len a.places ≤ vec_capacity a.reasons;
+      room_levels : vec_len a.places ≤ vec_capacity a.levels;
+      room_starts : vec_len a.places ≤ vec_capacity a.starts;
+    } };
+}
+
+impl Stack {
+    /// Nothing is attached, and there are no variables.
+    pub fn new(alloc: Global) -> Stack
+        ensures { result ≡ record { clauses = []; attached = []; literals = []; reasons = []; vars = 0; spare = 0 } }
+    {
+        Stack {
+            db: Snapshot::of(&Clauses::new(alloc)),
+            attached: Vec::new(alloc),
+            spare: 0,
+            literals: Vec::new(alloc),
+            reasons: Vec::new(alloc),
+            levels: Vec::new(alloc),
+            starts: Vec::new(alloc),
+            places: Vec::new(alloc),
+        }
+    }
+
+    /// Adds variables until there are this many.
+    pub fn grow(&mut self, vars: u32) -> Result<(), Memory>
+        requires { vars ≤ VAR_LIMIT }
+        ensures ok { OnOk result (self.new ≡ record self.old { vars = max self.old.vars vars }) }
+        ensures err { OnErr result (self.new ≡ self.old) }
+    {
+        let count = self.places.len().max(vars as usize);
+        self.literals.reserve(count)?;
+        self.reasons.reserve(count)?;
+        self.levels.reserve(count)?;
+        self.starts.reserve(count)?;
+        self.places.resize(count, 0)?;
+        Ok(())
+    }
+
+    /// Sees to it that there is room to attach this many more clauses.
+    pub fn reserve_clauses(&mut self, clauses: usize) -> Result<(), Memory>
+        ensures ok { OnOk result (self.new ≡ record self.old { spare = max self.old.spare clauses }) }
+        ensures err { OnErr result (self.new ≡ self.old) }
+    {
+        self.attached.reserve(self.spare.max(clauses))?;
+        self.spare = self.spare.max(clauses);
+        Ok(())
+    }
+
+    /// Attaches a clause of the database, which may have grown since the last one was attached.
+    pub fn attach(&mut self, db: &Clauses, id: ClauseId)
+        requires room { 1 ≤ self.old.spare }
+        requires grown { IsFront self.old.clauses db.now.clauses }
+        requires from_one { 1 ≤ id }
+        requires in_range { id ≤ length db.now.clauses }
+        requires known { IfSome (clause_numbered db.now.clauses id) (HasValues self.old.vars) }
+        requires quiet { JoinsQuietly self.old (clause_numbered db.now.clauses id) }
+        ensures { self.new ≡ with_clause self.old db.now.clauses id }
+    {
+        self.attached.push(id).unwrap();
+        self.spare -= 1;
+        self.db = Snapshot::of(db);
+    }
+
+    /// Makes an open literal true by decision, where no attached clause is false or unit.
+    pub fn decide(&mut self, lit: Lit)
+        requires known { lit.var < self.old.vars }
+        requires undecided { is_open self.old.literals lit ≡ true }
+        requires quiet { AreQuiet self.old.clauses self.old.attached self.old.literals }
+        ensures { self.new ≡ with_literal self.old lit None }
+    {
+        self.starts.push(self.literals.len() as u32).unwrap();
+        put(
+            &mut self.literals,
+            &mut self.reasons,
+            &mut self.levels,
+            &mut self.places,
+            lit,
+            None,
+            self.starts.len() as u32,
+        );
+    }
+
+    /// Keeps the literals up to a level.
+    pub fn back_to(&mut self, level: u32)
+        requires { level ≤ level_of self.old.reasons }
+        ensures { IsKeptUpTo self.old self.new level }
+    {
+        let kept = self.count_up_to(level);
+        self.literals.truncate(kept);
+        self.reasons.truncate(kept);
+        self.levels.truncate(kept);
+        self.starts.truncate(level as usize);
+    }
+
+    /// The present level: how many decisions stand.
+    pub fn level(&self) -> u32
+        ensures { result ≡ level_of self.now.reasons }
+    {
+        self.starts.len() as u32
+    }
+
+    /// The level of a variable's literal.
+    pub fn level_of(&self, var: u32) -> u32
+        requires { has_var var self.now.literals ≡ true }
+        ensures { (place : ℕ) → StandsAt self.now.literals var place → result ≡ level_at self.now.reasons place }
+    {
+        self.levels[self.place_of(var) as usize]
+    }
+
+    /// The value of a variable.
+    pub fn value(&self, var: u32) -> Option<bool>
+        ensures { result ≡ value_by self.now.literals var }
+    {
+        if var as usize >= self.places.len() {
+            return None;
+        }
+        let place = self.places[var as usize] as usize;
+        if place < self.literals.len() && self.literals[place].var == var {
+            Some(self.literals[place].positive)
+        } else {
+            None
+        }
+    }
+
+    /// The clause that forced a variable's literal.
+    pub fn reason(&self, var: u32) -> Option<ClauseId>
+        ensures stands { (place : ℕ) → StandsAt self.now.literals var place → result ≡ reason_at self.now.reasons place }
+        ensures absent { has_var var self.now.literals ≡ false → result ≡ None }
+    {
+        match self.value(var) {
+            None => None,
+            Some(_) => self.reasons[self.place_of(var) as usize],
+        }
+    }
+
+    /// The place of a variable's literal.
+    pub fn place_of(&self, var: u32) -> u32
+        requires { has_var var self.now.literals ≡ true }
+        ensures { StandsAt self.now.literals var result }
+    {
+        self.places[var as usize]
+    }
+
+    /// How many literals are true.
+    pub fn len(&self) -> u32
+        ensures { result ≡ length self.now.literals }
+    {
+        self.literals.len() as u32
+    }
+
+    /// The literal at a place, from 0, in the order in which they became true.
+    pub fn literal(&self, place: u32) -> Lit
+        requires { place < length self.now.literals }
+        ensures { slice_get self.now.literals place ≡ Some result }
+    {
+        self.literals[place as usize]
+    }
+
+    /// The literals in their order.
+    pub fn literals(&self) -> &[Lit]
+        ensures value { result.now ≡ self.now.literals }
+        ensures state { IsTrailState self.now }
+        ensures room { length self.now.literals ≤ self.now.vars }
+        ensures limit { self.now.vars ≤ VAR_LIMIT }
+        ensures spare { self.now.spare < 2 ^ 63 }
+    {
+        &self.literals
+    }
+
+    /// Why each literal is true: the clause that forced it, or none where it was decided.
+    pub fn reasons(&self) -> &[Option<ClauseId>]
+        ensures { result.now ≡ self.now.reasons }
+    {
+        &self.reasons
+    }
+
+    /// The place of the last decision.
+    pub fn last_decision(&self) -> u32
+        requires { 0 < level_of self.now.reasons }
+        ensures { IsLastDecision self.now.reasons result }
+    {
+        self.starts[self.starts.len() - 1]
+    }
+
+    /// Whether a literal is among those up to a place.
+    pub fn holds_up_to(&self, lit: Lit, place: u32) -> bool
+        ensures { result ≡ is_true (take (place + 1) self.now.literals) lit }
+    {
+        let _literals = self.literals();
+        match self.value(lit.var) {
+            Some(value) => value == lit.positive && self.place_of(lit.var) <= place,
+            None => false,
+        }
+    }
+
+    /// A place before which no literal makes this one false: that of the one which does, if there is one.
+    pub fn falls(&self, lit: Lit) -> u32
+        ensures { (place : ℕ) → place < result → place < length self.now.literals → literal_at self.now.literals place ≡ negation lit → ⊥ }
+    {
+        let _literals = self.literals();
+        match self.value(lit.var) {
+            Some(value) => {
+                if value == lit.positive {
+                    u32::MAX
+                } else {
+                    self.place_of(lit.var)
+                }
+            }
+            None => u32::MAX,
+        }
+    }
+
+    // How many literals stand up to a level.
+    fn count_up_to(&self, level: u32) -> usize
+        requires { level ≤ level_of self.now.reasons }
+        ensures { IsCut self.now.reasons level result }
+    {
+        if (level as usize) < self.starts.len() {
+            self.starts[level as usize] as usize
+        } else {
+            self.literals.len()
+        }
+    }
+
+    /// How a clause stands.
+    pub fn standing(&self, clause: &[Lit]) -> Stands
+        ensures { IsSeen self.now.literals clause.now result }
+    {
+        let _literals = self.literals();
+        let mut candidate: Option<Lit> = None;
+        for lit in clause {
+            match self.value(lit.var) {
+                Some(value) => {
+                    if value == lit.positive {
+                        return Stands::Quiet;
+                    }
+                }
+                None => {
+                    if let Some(first) = candidate {
+                        if first != *lit {
+                            return Stands::Quiet;
+                        }
+                    }
+                    candidate = Some(*lit);
+                }
+            }
+        }
+        match candidate {
+            None => Stands::False,
+            Some(lit) => Stands::Unit(lit),
+        }
+    }
+
+    /// Makes a literal true that an attached clause forces.
+    pub fn force(&mut self, db: &Clauses, id: ClauseId, lit: Lit)
+        requires grown { IsFront self.old.clauses db.now.clauses }
+        requires attached { Contains self.old.attached id }
+        requires forced { stands self.old.literals (clause_numbered db.now.clauses id) ≡ unit lit }
+        ensures { self.new ≡ with_literal self.old lit (Some id) }
+    {
+        put(
+            &mut self.literals,
+            &mut self.reasons,
+            &mut self.levels,
+            &mut self.places,
+            lit,
+            Some(id),
+            self.starts.len() as u32,
+        );
+    }
+}
+
+// Puts a literal behind the others, with its reason and its level, where there is room.
+fn put(
+    literals: &mut Vec<Lit>,
+    reasons: &mut Vec<Option<ClauseId>>,
+    levels: &mut Vec<u32>,
+    places: &mut Vec<u32>,
+    lit: Lit,
+    reason: Option<ClauseId>,
+    level: u32,
+)
+    requires literals { vec_len literals.old < vec_capacity literals.old }
+    requires reasons { vec_len reasons.old < vec_capacity reasons.old }
+    requires levels { vec_len levels.old < vec_capacity levels.old }
+    requires place { lit.var < length places.old.items }
+    requires limit { vec_len literals.old < 2 ^ 32 }
+    ensures literals { literals.new.items ≡ literals.old.items ++ lit ∷ [] }
+    ensures reasons { reasons.new.items ≡ reasons.old.items ++ reason ∷ [] }
+    ensures levels { levels.new.items ≡ levels.old.items ++ level ∷ [] }
+    ensures places { places.new.items ≡ slice_set places.old.items lit.var (length literals.old.items) }
+    ensures room_literals { vec_capacity literals.old ≤ vec_capacity literals.new }
+    ensures room_reasons { vec_capacity reasons.old ≤ vec_capacity reasons.new }
+    ensures room_levels { vec_capacity levels.old ≤ vec_capacity levels.new }
+{
+    places[lit.var as usize] = literals.len() as u32;
+    literals.push(lit).unwrap();
+    reasons.push(reason).unwrap();
+    levels.push(level).unwrap();
+}

@@ -1,0 +1,327 @@
+// Propagation by watched literals: a clause is looked at where one of the two that are watched becomes false.
+ghost use Rattle.std.specs.Prelude.{◌≡◌, ℕ, ◌+◌, ◌<◌, ◌≤◌, ◌||◌, ◌⊎◌, true, false, length, max, min, take, Some, Contains, OnOk, OnErr, IfSome, IfNone};
+ghost use Rattle.std.specs.List.{list_any, list_all};
+ghost use Rattle.prop_core.specs.Clauses.{negation, same_literal, is_false, is_true, HasValues};
+ghost use Rattle.prop_core.specs.Derivation.{clause_numbered};
+ghost use Rattle.prop_core.specs.Trail.{is_forced_by};
+ghost use Rattle.sat_prop.specs.TrailState.{literal_at};
+ghost use Rattle.sat_prop.specs.Quiet.{AreQuiet, IsConflict, IsPropagated};
+ghost use Rattle.sat_prop.specs.Changes.{IsFront, Propagates, with_clause, with_literal};
+ghost use Rattle.sat_prop.specs.Watches.{IsNext, watch_at};
+ghost use Rattle.sat_prop.specs.Watching.{AreWatched, AreVisited, AreTwo, IsJudged, IsReplacement, no_watched};
+
+use crate::stack::Stack;
+use crate::standing::Stands;
+use crate::trail::Propagated;
+use crate::watches::Watches;
+use des_base::Memory;
+use prop_core::{ClauseId, Clauses, Lit};
+use std::alloc::Global;
+use std::marker::Model;
+
+/// The clauses that are attached: with two different literals they are watched, without they are short, and looked at each
+/// time. The first so many literals have been looked at.
+#[derive(Drop)]
+pub struct Watched {
+    short: Vec<ClauseId>,
+    spare: usize,
+    lists: Watches,
+    seen: u32,
+}
+
+impl Model for Watched {
+    ghost use Rattle.std.specs.Prelude.{◌+◌, ◌≤◌, vec_len, vec_capacity};
+    ghost use Rattle.sat_prop.specs.Watching.{WatchedState};
+
+    ghost Value = { WatchedState };
+
+    ghost view = { λ a. record { short = a.short.items; spare = a.spare; lists = a.lists; seen = a.seen } };
+
+    ghost invariant = { λ a. vec_len a.short + a.spare ≤ vec_capacity a.short };
+}
+
+impl Watched {
+    /// Nothing is attached.
+    pub fn new(alloc: Global) -> Watched
+        ensures { result ≡ no_watched }
+    {
+        Watched {
+            short: Vec::new(alloc),
+            spare: 0,
+            lists: Watches::new(alloc),
+            seen: 0,
+        }
+    }
+
+    /// Sees to it that literals of so many variables can be watched.
+    pub fn grow(&mut self, vars: u32) -> Result<(), Memory>
+        ensures ok { OnOk result (self.new ≡ record self.old { lists = record self.old.lists { vars = max self.old.lists.vars vars } }) }
+        ensures err { OnErr result (self.new ≡ self.old) }
+    {
+        self.lists.grow(vars)
+    }
+
+    /// Sees to it that there is room to attach this many more clauses.
+    pub fn reserve(&mut self, clauses: usize) -> Result<(), Memory>
+        ensures short { self.new.short ≡ self.old.short }
+        ensures seen { self.new.seen ≡ self.old.seen }
+        ensures watches { self.new.lists.watches ≡ self.old.lists.watches }
+        ensures waiting { self.new.lists.waiting ≡ self.old.lists.waiting }
+        ensures vars { self.new.lists.vars ≡ self.old.lists.vars }
+        ensures no_less { (self.old.spare ≤ self.new.spare) × (self.old.lists.spare ≤ self.new.lists.spare) }
+        ensures ok { OnOk result ((clauses ≤ self.new.spare) × (clauses ≤ self.new.lists.spare)) }
+    {
+        self.short.reserve(self.spare.max(clauses))?;
+        self.spare = self.spare.max(clauses);
+        self.lists.reserve(clauses)
+    }
+
+    /// Watches a clause that is to be attached, or keeps it among the short ones. What becomes false of the watched literals
+    /// is looked at after this, again where need be.
+    pub fn attach(&mut self, stack: &Stack, db: &Clauses, id: ClauseId)
+        requires watched { AreWatched stack.now self.old }
+        requires room { 1 ≤ stack.now.spare }
+        requires grown { IsFront stack.now.clauses db.now.clauses }
+        requires from_one { 1 ≤ id }
+        requires in_range { id ≤ length db.now.clauses }
+        requires known { IfSome (clause_numbered db.now.clauses id) (HasValues stack.now.vars) }
+        ensures { AreWatched (with_clause stack.now db.now.clauses id) self.new }
+    {
+        let _literals = stack.literals();
+        match two_literals(stack, db.clause(id)) {
+            Some((first, second)) => {
+                self.lists.add(id, first, second);
+                let falls = stack.falls(first).min(stack.falls(second));
+                self.seen = self.seen.min(falls);
+            }
+            None => {
+                self.short.push(id).unwrap();
+                self.spare -= 1;
+            }
+        }
+    }
+
+    /// Only so many literals are left.
+    pub fn back_to(&mut self, len: u32)
+        ensures { self.new ≡ record self.old { seen = min self.old.seen len } }
+    {
+        self.seen = self.seen.min(len);
+    }
+
+    /// Makes true what attached clauses force, until nothing is forced or one is false.
+    pub fn propagate(&mut self, stack: &mut Stack, db: &Clauses) -> Propagated
+        requires watched { AreWatched stack.old self.old }
+        requires grown { IsFront stack.old.clauses db.now.clauses }
+        ensures watched { AreWatched stack.new self.new }
+        ensures grown { Propagates stack.old stack.new }
+        ensures outcome { IsPropagated stack.new result }
+    {
+        'more: loop {
+            let before = stack.len();
+            if let Some(id) = self.visit_short(stack, db) {
+                return Propagated::Conflict(id);
+            }
+            if let Some(id) = self.visit_watched(stack, db) {
+                return Propagated::Conflict(id);
+            }
+            let _literals = stack.literals();
+            if stack.len() == before {
+                return Propagated::Quiet;
+            }
+        }
+    }
+
+    // Looks at each short clause, and makes true what it forces. Answers one that is false.
+    fn visit_short(&self, stack: &mut Stack, db: &Clauses) -> Option<ClauseId>
+        requires watched { AreWatched stack.old self.now }
+        requires grown { IsFront stack.old.clauses db.now.clauses }
+        ensures watched { AreWatched stack.new self.now }
+        ensures grown { Propagates stack.old stack.new }
+        ensures conflict { IfSome result (IsConflict stack.new) }
+        ensures quiet { IfNone result (length stack.new.literals ≡ length stack.old.literals → AreQuiet stack.new.clauses self.now.short stack.new.literals) }
+    {
+        for place in 0..self.short.len() {
+            let _literals = stack.literals();
+            let id = self.short[place];
+            match stack.standing(db.clause(id)) {
+                Stands::False => return Some(id),
+                Stands::Unit(lit) => stack.force(db, id, lit),
+                Stands::Quiet => {}
+            }
+        }
+        None
+    }
+
+    // Looks at each literal that hasn't been looked at. Answers a clause that is false.
+    fn visit_watched(&mut self, stack: &mut Stack, db: &Clauses) -> Option<ClauseId>
+        requires watched { AreWatched stack.old self.old }
+        requires grown { IsFront stack.old.clauses db.now.clauses }
+        ensures watched { AreWatched stack.new self.new }
+        ensures grown { Propagates stack.old stack.new }
+        ensures short { self.new.short ≡ self.old.short }
+        ensures conflict { IfSome result (IsConflict stack.new) }
+        ensures all { IfNone result (self.new.seen ≡ length stack.new.literals) }
+    {
+        'more: while self.seen < stack.len() {
+            let _literals = stack.literals();
+            let lit = stack.literal(self.seen).negated();
+            if let Some(id) = self.visit(stack, db, lit) {
+                return Some(id);
+            }
+            self.seen += 1;
+        }
+        None
+    }
+
+    // Looks at each clause that watches the literal, which the first literal that hasn't been looked at makes false.
+    fn visit(&mut self, stack: &mut Stack, db: &Clauses, lit: Lit) -> Option<ClauseId>
+        requires watched { AreWatched stack.old self.old }
+        requires grown { IsFront stack.old.clauses db.now.clauses }
+        requires within { self.old.seen < length stack.old.literals }
+        requires falls { literal_at stack.old.literals self.old.seen ≡ negation lit }
+        ensures watched { AreWatched stack.new self.new }
+        ensures grown { Propagates stack.old stack.new }
+        ensures short { self.new.short ≡ self.old.short }
+        ensures seen { self.new.seen ≡ self.old.seen }
+        ensures conflict { IfSome result (IsConflict stack.new) }
+        ensures visited { IfNone result (AreWatched stack.new (record self.new { seen = self.new.seen + 1 })) }
+    {
+        let _literals = stack.literals();
+        self.lists.open(lit);
+        'more: while let Some(number) = self.lists.next() {
+            if let Some(id) = self.look(stack, db, number, lit) {
+                return Some(id);
+            }
+        }
+        None
+    }
+
+    // Looks at the clause of the next watch that waits, and answers it where it is false.
+    fn look(&mut self, stack: &mut Stack, db: &Clauses, number: u32, lit: Lit) -> Option<ClauseId>
+        requires next { IsNext self.old.lists number }
+        requires watched { AreWatched stack.old self.old }
+        requires grown { IsFront stack.old.clauses db.now.clauses }
+        requires within { self.old.seen < length stack.old.literals }
+        requires falls { literal_at stack.old.literals self.old.seen ≡ negation lit }
+        requires visited { AreVisited stack.old self.old }
+        ensures watched { AreWatched stack.new self.new }
+        ensures grown { Propagates stack.old stack.new }
+        ensures short { self.new.short ≡ self.old.short }
+        ensures seen { self.new.seen ≡ self.old.seen }
+        ensures conflict { IfSome result (IsConflict stack.new) }
+        ensures visited { IfNone result (AreVisited stack.new self.new) }
+        ensures fewer { IfNone result (length self.new.lists.waiting + 1 ≡ length self.old.lists.waiting) }
+    {
+        let watch = self.lists.watch(number);
+        let judged = self.judge(stack, db, number, lit);
+        let _literals = stack.literals();
+        match judged {
+            Judged::Stays => self.lists.put(watch.lit),
+            Judged::Moves(found) => self.lists.put(found),
+            Judged::False => return Some(watch.clause),
+        }
+        None
+    }
+
+    // What becomes of a watch. The other literal of its clause is made true where all others are false.
+    fn judge(&self, stack: &mut Stack, db: &Clauses, number: u32, lit: Lit) -> Judged
+        requires number { number < length self.now.lists.watches }
+        requires watched { AreWatched stack.old self.now }
+        requires grown { IsFront stack.old.clauses db.now.clauses }
+        requires within { self.now.seen < length stack.old.literals }
+        requires falls { literal_at stack.old.literals self.now.seen ≡ negation lit }
+        ensures watched { AreWatched stack.new self.now }
+        ensures grown { Propagates stack.old stack.new }
+        ensures visited { AreVisited stack.old self.now → AreVisited stack.new self.now }
+        ensures judged { IsJudged stack.new self.now number result }
+    {
+        let watch = self.lists.watch(number);
+        let other = self.lists.watch(watch.twin).lit;
+        if watch.lit != lit || stack.holds_up_to(other, self.seen) {
+            return Judged::Stays;
+        }
+        let _literals = stack.literals();
+        match replacement(stack, db.clause(watch.clause), other, self.seen) {
+            Some(found) => Judged::Moves(found),
+            None => {
+                if make_true(stack, db, watch.clause, other) {
+                    Judged::Stays
+                } else {
+                    Judged::False
+                }
+            }
+        }
+    }
+}
+
+// What becomes of a watch: it stays at its literal, it moves to another one, or its clause is false.
+#[derive(Clone, Copy)]
+enum Judged {
+    Stays,
+    Moves(Lit),
+    False,
+}
+
+// Sees to it that a literal is true that a clause forces if it is open. Answers whether it is; else the clause is false.
+fn make_true(stack: &mut Stack, db: &Clauses, id: ClauseId, lit: Lit) -> bool
+    requires grown { IsFront stack.old.clauses db.now.clauses }
+    requires attached { Contains stack.old.attached id }
+    requires forced { IfSome (clause_numbered db.now.clauses id) (λ clause. is_forced_by stack.old.literals lit clause ≡ true) }
+    ensures holds { result ≡ true → is_true stack.new.literals lit ≡ true }
+    ensures conflict { result ≡ false → IsConflict stack.new id }
+    ensures kept { (stack.new ≡ stack.old) ⊎ (stack.new ≡ with_literal stack.old lit (Some id)) }
+{
+    let _literals = stack.literals();
+    match stack.value(lit.var) {
+        Some(value) => value == lit.positive,
+        None => {
+            stack.force(db, id, lit);
+            true
+        }
+    }
+}
+
+// A literal of the clause, not the other one that is watched, that no literal up to a place makes false.
+fn replacement(stack: &Stack, clause: &[Lit], other: Lit, place: u32) -> Option<Lit>
+    ensures some { IfSome result (IsReplacement stack.now.literals clause.now other place) }
+    ensures none { IfNone result (list_all (λ l. same_literal other l || is_false (take (place + 1) stack.now.literals) l) clause.now ≡ true) }
+{
+    for lit in clause {
+        if *lit != other && !stack.holds_up_to(lit.negated(), place) {
+            return Some(*lit);
+        }
+    }
+    None
+}
+
+// Two different literals of a clause, if it has two: rather such as aren't false, and else those that became false last, so that
+// little has to be looked at again.
+fn two_literals(stack: &Stack, clause: &[Lit]) -> Option<(Lit, Lit)>
+    ensures { IfSome result (λ two. AreTwo clause.now two.0 two.1) }
+{
+    let first = latest(stack, clause, None)?;
+    let second = latest(stack, clause, Some(first))?;
+    Some((first, second))
+}
+
+// A literal of a clause that isn't false, or else the one that became false last. One literal may be left out.
+fn latest(stack: &Stack, clause: &[Lit], but: Option<Lit>) -> Option<Lit>
+    ensures among { IfSome result (λ l. list_any (same_literal l) clause.now ≡ true) }
+    ensures other { IfSome result (λ l. IfSome but (λ b. same_literal b l ≡ false)) }
+{
+    let mut best: Option<Lit> = None;
+    for lit in clause {
+        if but != Some(*lit) && is_later(stack, best, *lit) {
+            best = Some(*lit);
+        }
+    }
+    best
+}
+
+// Whether a literal became false later than the best so far.
+fn is_later(stack: &Stack, best: Option<Lit>, lit: Lit) -> bool {
+    match best {
+        Some(best) => stack.falls(best) < stack.falls(lit),
+        None => true,
+    }
+}

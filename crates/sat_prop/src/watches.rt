@@ -1,0 +1,276 @@
+ghost use Rattle.std.specs.Prelude.{◌≡◌, ℕ, ◌+◌, ◌-◌, ◌<◌, ◌≤◌, ◌^◌, List, ◌++◌, ◌∷◌, [], length, max, slice_set, vec_len, vec_capacity, Some, OnOk, OnErr, IfSome, IfNone};
+ghost use Rattle.sat_prop.specs.Watches.{Links, Drains, IsNext, IsOpened, Puts, no_starts, start_of, with_start, watch_at, watching, with_pair};
+
+use des_base::Memory;
+use prop_core::{ClauseId, Lit};
+use std::alloc::Global;
+use std::marker::Model;
+
+/// A clause that is watched at a literal, and the number of its other watch.
+#[derive(Clone, Copy, Debug)]
+pub struct Watch {
+    pub clause: ClauseId,
+    pub lit: Lit,
+    pub twin: u32,
+}
+
+/// Where the lists of a variable's two literals begin.
+#[derive(Clone, Copy, Debug)]
+pub struct Starts {
+    pub positive: Option<u32>,
+    pub negative: Option<u32>,
+}
+
+/// Watches, numbered from 0, each in the list of the literal that it watches or among those that wait to be looked at.
+///
+/// Room for lists is taken by `grow` and room for watches by `reserve`; no other call takes memory.
+#[derive(Drop)]
+pub struct Watches {
+    watches: Vec<Watch>,
+    nexts: Vec<Option<u32>>,
+    starts: Vec<Starts>,
+    waiting: Vec<u32>,
+    spare: usize,
+}
+
+impl Model for Watches {
+    ghost use Rattle.std.specs.Prelude.{◌+◌, ◌*◌, ◌≤◌, ◌^◌, length, vec_len, vec_capacity};
+    ghost use Rattle.sat_prop.specs.Watches.{WatchState, AreWatchLists};
+
+    ghost Value = { WatchState };
+
+    ghost view = { λ a. record { watches = a.watches.items; waiting = a.waiting.items; vars = length a.starts.items; spare = a.spare } };
+
+    ghost invariant = { λ a. record {
+      lists : AreWatchLists a.watches.items a.nexts.items a.starts.items a.waiting.items;
+      few : vec_len a.watches + a.spare * 2 ≤ 2 ^ 32;
+      room_watches : vec_len a.watches + a.spare * 2 ≤ vec_capacity a.watches;
+      room_nexts : vec_len a.watches + a.spare * 2 ≤ vec_capacity a.nexts;
+      room_waiting : vec_len a.watches + a.spare * 2 ≤ vec_capacity a.waiting;
+    } };
+}
+
+impl Watches {
+    /// No watches, and no literals.
+    pub fn new(alloc: Global) -> Watches
+        ensures { result ≡ record { watches = []; waiting = []; vars = 0; spare = 0 } }
+    {
+        Watches {
+            watches: Vec::new(alloc),
+            nexts: Vec::new(alloc),
+            starts: Vec::new(alloc),
+            waiting: Vec::new(alloc),
+            spare: 0,
+        }
+    }
+
+    /// Adds empty lists until there are those of this many variables.
+    pub fn grow(&mut self, vars: u32) -> Result<(), Memory>
+        ensures ok { OnOk result (self.new ≡ record self.old { vars = max self.old.vars vars }) }
+        ensures err { OnErr result (self.new ≡ self.old) }
+    {
+        let count = self.starts.len().max(vars as usize);
+        self.starts.reserve(count - self.starts.len())?;
+        fill(&mut self.starts, count);
+        Ok(())
+    }
+
+    /// Sees to it that there is room for the watches of this many more clauses.
+    pub fn reserve(&mut self, clauses: usize) -> Result<(), Memory>
+        ensures ok { OnOk result (self.new ≡ record self.old { spare = max self.old.spare clauses }) }
+        ensures err { OnErr result (self.new ≡ self.old) }
+    {
+        let spare = self.spare.max(clauses);
+        if spare > (WATCH_LIMIT - self.watches.len()) / 2 {
+            return Err(Memory);
+        }
+        self.watches.reserve(spare * 2)?;
+        self.nexts.reserve(spare * 2)?;
+        self.waiting
+            .reserve(self.watches.len() - self.waiting.len() + spare * 2)?;
+        self.spare = spare;
+        Ok(())
+    }
+
+    /// Adds a clause that is watched at two literals.
+    pub fn add(&mut self, clause: ClauseId, first: Lit, second: Lit)
+        requires room { 1 ≤ self.old.spare }
+        requires first { first.var < self.old.vars }
+        requires second { second.var < self.old.vars }
+        ensures { self.new ≡ with_pair self.old clause first second }
+    {
+        let number = self.watches.len() as u32;
+        self.spare -= 1;
+        push_watch(
+            &mut self.watches,
+            &mut self.nexts,
+            &mut self.starts,
+            Watch {
+                clause,
+                lit: first,
+                twin: number + 1,
+            },
+        );
+        push_watch(
+            &mut self.watches,
+            &mut self.nexts,
+            &mut self.starts,
+            Watch {
+                clause,
+                lit: second,
+                twin: number,
+            },
+        );
+    }
+
+    /// The watch of this number.
+    pub fn watch(&self, number: u32) -> Watch
+        requires { number < length self.now.watches }
+        ensures { result ≡ watch_at self.now.watches number }
+    {
+        self.watches[number as usize]
+    }
+
+    /// Lets all that watch the literal wait.
+    pub fn open(&mut self, lit: Lit)
+        requires { lit.var < self.old.vars }
+        ensures { IsOpened self.old self.new lit }
+    {
+        let first = start(self.starts.as_slice(), lit);
+        set_start(&mut self.starts, lit, None);
+        drain(self.nexts.as_slice(), first, &mut self.waiting);
+    }
+
+    /// The next that waits, if one does.
+    pub fn next(&self) -> Option<u32>
+        ensures some { IfSome result (IsNext self.now) }
+        ensures none { IfNone result (self.now.waiting ≡ []) }
+    {
+        let count = self.waiting.len();
+        if count == 0 {
+            return None;
+        }
+        Some(self.waiting[count - 1])
+    }
+
+    /// The next that waits watches this literal from now on, and waits no more.
+    pub fn put(&mut self, lit: Lit)
+        requires waits { 0 < length self.old.waiting }
+        requires known { lit.var < self.old.vars }
+        ensures { Puts self.old self.new lit }
+    {
+        let number = self.waiting.pop().unwrap();
+        link(
+            &mut self.watches,
+            &mut self.nexts,
+            &mut self.starts,
+            number,
+            lit,
+        );
+    }
+}
+
+// How many watches there may be.
+const WATCH_LIMIT: usize = 1 << 32;
+
+// Adds empty lists until there are those of so many variables, where there is room.
+fn fill(starts: &mut Vec<Starts>, count: usize)
+    requires more { vec_len starts.old ≤ count }
+    requires room { count ≤ vec_capacity starts.old }
+    ensures { starts.new.items ≡ starts.old.items ++ no_starts (count - length starts.old.items) }
+{
+    'more: while starts.len() < count {
+        starts
+            .push(Starts {
+                positive: None,
+                negative: None,
+            })
+            .unwrap();
+    }
+}
+
+// Where the list of a literal begins.
+fn start(starts: &[Starts], lit: Lit) -> Option<u32>
+    requires { lit.var < length starts.now }
+    ensures { result ≡ start_of starts.now lit }
+{
+    let starts = starts[lit.var as usize];
+    if lit.positive {
+        starts.positive
+    } else {
+        starts.negative
+    }
+}
+
+// Lets the list of a literal begin elsewhere.
+fn set_start(starts: &mut Vec<Starts>, lit: Lit, first: Option<u32>)
+    requires { lit.var < length starts.old.items }
+    ensures { starts.new.items ≡ with_start starts.old.items lit first }
+{
+    if lit.positive {
+        starts[lit.var as usize].positive = first;
+    } else {
+        starts[lit.var as usize].negative = first;
+    }
+}
+
+// Appends the watches of a list.
+fn drain(nexts: &[Option<u32>], first: Option<u32>, into: &mut Vec<u32>)
+    requires { (rest : List ℕ) × Links nexts.now first rest × (vec_len into.old + length rest ≤ vec_capacity into.old) }
+    ensures drained { Drains nexts.now first into.old.items into.new.items }
+    ensures capacity { vec_capacity into.old ≤ vec_capacity into.new }
+{
+    let mut next = first;
+    'more: while let Some(watch) = next {
+        into.push(watch).unwrap();
+        next = nexts[watch as usize];
+    }
+}
+
+// Adds a watch, in the list of its literal.
+fn push_watch(
+    watches: &mut Vec<Watch>,
+    nexts: &mut Vec<Option<u32>>,
+    starts: &mut Vec<Starts>,
+    watch: Watch,
+)
+    requires known { watch.lit.var < length starts.old.items }
+    requires same { vec_len nexts.old ≡ vec_len watches.old }
+    requires few { vec_len watches.old < 2 ^ 32 }
+    requires room_watches { vec_len watches.old < vec_capacity watches.old }
+    requires room_nexts { vec_len nexts.old < vec_capacity nexts.old }
+    ensures watches { watches.new.items ≡ watches.old.items ++ watch ∷ [] }
+    ensures nexts { nexts.new.items ≡ nexts.old.items ++ start_of starts.old.items watch.lit ∷ [] }
+    ensures starts { starts.new.items ≡ with_start starts.old.items watch.lit (Some (length watches.old.items)) }
+    ensures room_watches { vec_capacity watches.old ≤ vec_capacity watches.new }
+    ensures room_nexts { vec_capacity nexts.old ≤ vec_capacity nexts.new }
+{
+    let number = watches.len() as u32;
+    let lit = watch.lit;
+    watches.push(watch).unwrap();
+    nexts.push(start(starts.as_slice(), lit)).unwrap();
+    set_start(starts, lit, Some(number));
+}
+
+// Puts a watch into the list of a literal, where it watches from now on.
+fn link(
+    watches: &mut Vec<Watch>,
+    nexts: &mut Vec<Option<u32>>,
+    starts: &mut Vec<Starts>,
+    number: u32,
+    lit: Lit,
+)
+    requires known { lit.var < length starts.old.items }
+    requires watch { number < length watches.old.items }
+    requires next { number < length nexts.old.items }
+    ensures watches { watches.new.items ≡ slice_set watches.old.items number (watching (watch_at watches.old.items number) lit) }
+    ensures nexts { nexts.new.items ≡ slice_set nexts.old.items number (start_of starts.old.items lit) }
+    ensures starts { starts.new.items ≡ with_start starts.old.items lit (Some number) }
+    ensures count { vec_len watches.new ≡ vec_len watches.old }
+    ensures room_watches { vec_capacity watches.new ≡ vec_capacity watches.old }
+    ensures room_nexts { vec_capacity nexts.new ≡ vec_capacity nexts.old }
+{
+    watches[number as usize].lit = lit;
+    nexts[number as usize] = start(starts.as_slice(), lit);
+    set_start(starts, lit, Some(number));
+}
