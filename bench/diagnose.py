@@ -1,4 +1,4 @@
-"""Times `diagnose` on plants that are made here, and prints a table: steps, size of the question, seconds, memory, answer.
+"""Times `diagnose` on plants that are made here, and prints a table: plant, steps, seconds, memory, answer.
 
     python3 bench/diagnose.py PROGRAM [FOLDER]
 
