@@ -7,7 +7,7 @@ use crate::tokens::{Token, Tokens, is_blank};
 use std::marker::Model;
 
 /// A counted line of a text: its number among all lines, from 1, and its text without the line's end.
-#[derive(Clone, Copy, Debug, PartialEq, Eq)]
+#[derive(Clone, Copy)]
 pub struct Line<'a> {
     pub number: u32,
     pub text: &'a [u8],

@@ -15,7 +15,7 @@ use std::hash::{Hash, Hasher};
 use std::marker::Model;
 
 /// Why a text became no name.
-#[derive(Clone, Copy, Debug, PartialEq, Eq)]
+#[derive(Clone, Copy)]
 pub enum NameFault {
     /// It isn't 1 to 64 letters, digits, `_` or `-`.
     Shape,
@@ -45,7 +45,7 @@ pub fn is_name(text: &[u8]) -> bool
 }
 
 /// A name: 1 to 64 letters, digits, `_` or `-`.
-#[derive(Debug, Drop)]
+#[derive(Drop)]
 pub struct Name {
     text: String,
 }

@@ -6,7 +6,7 @@ use std::alloc::Global;
 use std::marker::Model;
 
 /// A list of names. A name may stand in it several times.
-#[derive(Debug, Drop)]
+#[derive(Drop)]
 pub struct NameList {
     names: Vec<Name>,
 }

@@ -2,7 +2,7 @@
 ghost use Rattle.std.specs.Prelude.{◌≡◌, ℕ, ◌+◌, ◌^◌, ◌<◌, ◌≤◌, List, [], length, take, Option, OnOk, OnErr, IfSome, IsErrOf};
 ghost use Rattle.des_base.specs.Outside.{Rose, Took, TookFront};
 
-#[derive(Clone, Copy, Debug, PartialEq, Eq)]
+#[derive(Clone, Copy)]
 pub enum LoadFault {
     Failed,
     Memory,
@@ -27,7 +27,7 @@ pub trait Shelf {
 }
 
 /// A put that failed.
-#[derive(Clone, Copy, Debug, PartialEq, Eq)]
+#[derive(Clone, Copy)]
 pub struct PutFault;
 
 pub trait Sink {

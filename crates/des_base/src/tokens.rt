@@ -5,7 +5,7 @@ ghost use Rattle.des_base.specs.CountedLines.{is_blank, placed, placed_tokens};
 use std::marker::Model;
 
 /// A token of a line, and how many bytes of the line stand before it.
-#[derive(Clone, Copy, Debug, PartialEq, Eq)]
+#[derive(Clone, Copy, PartialEq, Eq)]
 pub struct Token<'a> {
     pub start: usize,
     pub text: &'a [u8],

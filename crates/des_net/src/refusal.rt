@@ -5,7 +5,7 @@ use des_base::Memory;
 use std::alloc::{AllocError, AllocFailed};
 
 /// Why a call of the builder changed nothing.
-#[derive(Clone, Copy, Debug, PartialEq, Eq)]
+#[derive(Clone, Copy, PartialEq, Eq)]
 pub enum BuildRefusal {
     /// It is there already.
     Double,

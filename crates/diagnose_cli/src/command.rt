@@ -4,7 +4,7 @@ ghost use Rattle.diagnose_cli.specs.Commands.{calls, command_of, file_count, Has
 use des_base::{WordList, read_number};
 
 /// What the words of a command line ask for.
-#[derive(Clone, Copy, Debug, PartialEq, Eq)]
+#[derive(Clone, Copy)]
 pub enum Command {
     /// `trace MODEL RUN`: can the network perform the run.
     Trace,

@@ -12,7 +12,7 @@ use replay::{RunFault, RunRefusal};
 use std::alloc::{AllocError, Global};
 
 /// A text that has a fault, and its first fault.
-#[derive(Clone, Copy, Debug, PartialEq, Eq)]
+#[derive(Clone, Copy)]
 pub enum FaultyText {
     Model(ModelFault),
     Log(LogFault),
@@ -22,7 +22,7 @@ pub enum FaultyText {
 }
 
 /// Why a command has no reply.
-#[derive(Clone, Copy, Debug, PartialEq, Eq)]
+#[derive(Clone, Copy)]
 pub enum Stop {
     /// The words are no command.
     Usage,

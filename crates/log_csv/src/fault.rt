@@ -9,14 +9,14 @@ use std::alloc::AllocFailed;
 /// `row` is the record's place among all records of the text, from 1. `code` is 1 where an alarm has the id, 2 where an
 /// alarm of a pair isn't known, 3 where a pair closes a cycle, 4 where the label field is empty, 5 where a limit would be
 /// passed, 6 where the record has no shape, and 7 where an id or a label isn't a name.
-#[derive(Clone, Copy, Debug, PartialEq, Eq)]
+#[derive(Clone, Copy, PartialEq, Eq)]
 pub struct LogFault {
     pub row: u32,
     pub code: u8,
 }
 
 /// Why a text became no log or no script.
-#[derive(Clone, Copy, Debug, PartialEq, Eq)]
+#[derive(Clone, Copy, PartialEq, Eq)]
 pub enum LogReadRefusal {
     /// The text has a fault.
     Fault(LogFault),

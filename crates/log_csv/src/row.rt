@@ -1,7 +1,7 @@
 use des_base::{Name, NameList};
 
 /// A row of a script.
-#[derive(Debug, Drop)]
+#[derive(Drop)]
 pub enum Row {
     /// A new alarm, with its labels as they are written.
     Alarm { id: Name, labels: NameList },

@@ -14,7 +14,7 @@ use std::alloc::Global;
 use std::marker::Model;
 
 /// The rows of a script, in order.
-#[derive(Debug, Drop)]
+#[derive(Drop)]
 pub struct Script {
     rows: Vec<Row>,
 }

@@ -4,7 +4,7 @@ ghost use Rattle.log_encode.specs.AlarmVariables.{closed_variable, match_variabl
 // Where the variables of an alarm stand: for each event that it may stand for, its link, one that ends the event's chain
 // after it, and for each step one that matches it to the event and one that passes the event on. Behind the links stand those
 // that say within how many steps it is done.
-#[derive(Clone, Copy, Debug)]
+#[derive(Clone, Copy)]
 pub struct AlarmVars {
     pub start: u32,
     pub links: u32,

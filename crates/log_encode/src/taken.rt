@@ -11,7 +11,7 @@ use std::alloc::Global;
 
 // The end of the chain of an event that can be seen: the variable that says that it ends there, and the first of those by
 // which its last alarm passes the event on. A chain without alarms has none, and there the event itself comes to the end.
-#[derive(Clone, Copy, Debug)]
+#[derive(Clone, Copy)]
 pub struct ChainEnd {
     pub event: EventId,
     pub closed: u32,
@@ -19,7 +19,7 @@ pub struct ChainEnd {
 }
 
 // An event that a new alarm may stand for, with the end of its chain before.
-#[derive(Clone, Copy, Debug)]
+#[derive(Clone, Copy)]
 pub struct Taken {
     pub event: EventId,
     pub last: Option<u32>,

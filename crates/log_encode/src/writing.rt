@@ -12,7 +12,7 @@ use std::alloc::Global;
 
 // The variables of a link in one step: the chain ends after it, the event comes to it, it takes the event, it passes it on, and
 // its alarm is matched before the step and after.
-#[derive(Clone, Copy, Debug)]
+#[derive(Clone, Copy)]
 pub struct LinkVars {
     pub closed: u32,
     pub rest: u32,

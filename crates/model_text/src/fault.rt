@@ -9,14 +9,14 @@ use std::alloc::{AllocError, AllocFailed};
 /// The place and the kind of the first fault of a model text. Lines are counted from 1.
 ///
 /// For now neither is told: both are 0.
-#[derive(Clone, Copy, Debug, PartialEq, Eq)]
+#[derive(Clone, Copy, PartialEq, Eq)]
 pub struct ModelFault {
     pub line: u32,
     pub code: u8,
 }
 
 /// Why a text became no network.
-#[derive(Clone, Copy, Debug, PartialEq, Eq)]
+#[derive(Clone, Copy, PartialEq, Eq)]
 pub enum ModelRefusal {
     /// The text has a fault.
     Fault(ModelFault),

@@ -26,7 +26,7 @@ pub enum ProofStep {
 }
 
 /// What a proof comes to.
-#[derive(Clone, Copy, Debug, PartialEq, Eq)]
+#[derive(Clone, Copy, PartialEq, Eq)]
 pub enum Checked {
     /// No assignment makes all axioms true.
     Verified,

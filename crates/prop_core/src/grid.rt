@@ -4,7 +4,7 @@ ghost use Rattle.prop_core.specs.Grids.{grid_variable};
 use des_base::VAR_LIMIT;
 
 /// The variables of events in steps: for each event one after another, and within an event for each step.
-#[derive(Clone, Copy, Debug, PartialEq, Eq)]
+#[derive(Clone, Copy)]
 pub struct Grid {
     /// The first variable.
     pub first: u32,

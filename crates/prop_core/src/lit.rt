@@ -4,7 +4,7 @@ ghost use Rattle.prop_core.specs.Clauses.{negation};
 use des_base::VAR_LIMIT;
 
 /// A variable or its negation. Variables are counted from 0.
-#[derive(Clone, Copy, Debug, PartialEq, Eq, Hash)]
+#[derive(Clone, Copy, PartialEq, Eq)]
 pub struct Lit {
     pub var: u32,
     pub positive: bool,

@@ -4,7 +4,7 @@ use des_base::VAR_LIMIT;
 use std::marker::Model;
 
 /// The variables that were made, which are the numbers below their count.
-#[derive(Debug, Drop)]
+#[derive(Drop)]
 pub struct Vars {
     count: u32,
 }

@@ -7,14 +7,14 @@ use std::marker::Model;
 const STEPS: usize = 4_000_000;
 
 /// One event of a run, and the name of the alarm that it is matched to.
-#[derive(Debug, Drop)]
+#[derive(Drop)]
 pub struct RunStep {
     pub event: EventId,
     pub alarm: Option<Name>,
 }
 
 /// A run as it was written down: at most 4,000,000 steps.
-#[derive(Debug, Drop)]
+#[derive(Drop)]
 pub struct Run {
     steps: Vec<RunStep>,
 }

@@ -7,7 +7,7 @@ use std::alloc::Global;
 use std::marker::Model;
 
 /// A clause that is watched at a literal, and the number of its other watch.
-#[derive(Clone, Copy, Debug)]
+#[derive(Clone, Copy)]
 pub struct Watch {
     pub clause: ClauseId,
     pub lit: Lit,
@@ -15,7 +15,7 @@ pub struct Watch {
 }
 
 /// Where the lists of a variable's two literals begin.
-#[derive(Clone, Copy, Debug)]
+#[derive(Clone, Copy)]
 pub struct Starts {
     pub positive: Option<u32>,
     pub negative: Option<u32>,
