@@ -1,0 +1,51 @@
+#!/usr/bin/env python3
+"""Looks whether each edit of more-edits/ can still be applied: each of its old texts stands once in its file.
+
+    python3 check/applies.py
+
+The gate doesn't try these edits, and without this look a change of the code would leave them behind unnoticed.
+"""
+import glob
+import os
+import sys
+
+TOP = os.path.dirname(os.path.dirname(os.path.abspath(__file__)))
+
+
+def why_not(edit):
+    """Why an edit can't be applied, or None."""
+    crate = os.path.dirname(os.path.dirname(edit))
+    texts, path, old, pairs = {}, None, None, 0
+    with open(edit, encoding="utf-8") as it:
+        lines = it.read().split("\n")
+    for line in lines:
+        if line.startswith("file: "):
+            path = line[len("file: "):].strip()
+            if not os.path.isfile(os.path.join(crate, path)):
+                return f"there is no file {path}"
+            with open(os.path.join(crate, path), encoding="utf-8") as it:
+                texts.setdefault(path, it.read())
+        elif line.startswith("old: "):
+            old = line[len("old: "):]
+        elif line.startswith("new:"):
+            if path is None or old is None:
+                return "a new text stands before any file or old text"
+            found = texts[path].count(old)
+            if found != 1:
+                return f"an old text stands {found} times in {path}"
+            texts[path] = texts[path].replace(old, line[len("new:"):].removeprefix(" "))
+            old, pairs = None, pairs + 1
+    return None if pairs else "it has no old and new text"
+
+
+def main():
+    edits = sorted(glob.glob(f"{TOP}/crates/*/more-edits/*"))
+    lost = [(edit, why) for edit in edits for why in [why_not(edit)] if why]
+    for edit, why in lost:
+        print(f"{os.path.relpath(edit, TOP)}: {why}")
+    print(f"{len(edits)} edits stand beside the gate, of which {len(lost)} can't be applied")
+    return 1 if lost else 0
+
+
+if __name__ == "__main__":
+    sys.exit(main())
