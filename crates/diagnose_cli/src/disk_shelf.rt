@@ -91,13 +91,13 @@ mod tests {
             (3, "seve"),
             (0, "s"),
         ] {
-            assert_eq!(rt; shelf.load(NAME, limit, &mut bytes), Ok(()));
-            assert_eq!(rt; bytes.as_slice(), wanted.as_bytes());
+            let loaded = shelf.load(NAME, limit, &mut bytes);
+            assert!(rt; loaded.is_ok() && bytes.as_slice() == wanted.as_bytes());
         }
         fs::remove_file(&rt, NAME)?;
         assert_eq!(rt; shelf.faults, 0);
-        assert_eq!(rt; shelf.load(NAME, 100, &mut bytes), Err(LoadFault::Failed));
-        assert!(rt; bytes.is_empty());
+        let loaded = shelf.load(NAME, 100, &mut bytes);
+        assert!(rt; matches!(loaded, Err(LoadFault::Failed)) && bytes.is_empty());
         assert_eq!(rt; shelf.faults, 1);
         Ok(())
     }

@@ -49,8 +49,8 @@ mod tests {
     #[test]
     fn standard_output(rt: HostRuntime) -> Result<(), Fail> {
         let mut out = OutSink::new(io::writer(&rt));
-        assert_eq!(rt; out.put(b"a piece\n"), Ok(()));
-        assert_eq!(rt; out.put(b""), Ok(()));
+        assert!(rt; out.put(b"a piece\n").is_ok());
+        assert!(rt; out.put(b"").is_ok());
         assert_eq!(rt; out.faults, 0);
         Ok(())
     }
@@ -86,8 +86,8 @@ mod tests {
             taken: Vec::new(rt.alloc()),
             room: 10,
         });
-        assert_eq!(rt; out.put(b"seven b"), Ok(()));
-        assert_eq!(rt; out.put(b"more"), Err(PutFault));
+        assert!(rt; out.put(b"seven b").is_ok());
+        assert!(rt; out.put(b"more").is_err());
         assert_eq!(rt; out.to.taken.as_slice(), b"seven bmor".as_slice());
         assert_eq!(rt; out.faults, 1);
         Ok(())
