@@ -38,6 +38,3 @@ pub use word_list::WordList;
 
 /// Variables of propositional formulas are below this number, so that twice a variable fits in a `u32` with a bit to spare.
 pub const VAR_LIMIT: u32 = 1_073_741_824;
-
-#[cfg(test)]
-mod tests;

@@ -101,6 +101,13 @@ impl MemShelf {
         self.failing.push(call)?;
         Ok(())
     }
+
+    /// How many loads have failed.
+    pub fn failures(&self) -> u64
+        ensures { result ≡ self.now.faults }
+    {
+        self.faults
+    }
 }
 
 impl Shelf for MemShelf {
@@ -141,48 +148,5 @@ fn copy_front(bytes: &[u8], limit: u64, into: &mut Vec<u8>) -> Result<(), LoadFa
     match into.extend_from_slice(&bytes[..count]) {
         Ok(()) => Ok(()),
         Err(_) => Err(LoadFault::Memory),
-    }
-}
-
-#[cfg(test)]
-mod tests {
-    use super::*;
-    use std::test::Fail;
-
-    #[test]
-    fn loads_files(rt: HostRuntime) -> Result<(), Fail> {
-        let mut shelf = MemShelf::new(rt.alloc());
-        shelf.add_file("net", b"older")?;
-        shelf.add_file("net", b"newer!")?;
-        shelf.add_file("none", b"")?;
-        shelf.fail_call(3)?;
-        // name, limit, what is loaded or nothing for a fault, and how many faults there are then
-        let cases: [(&str, u64, Option<&[u8]>, u64); 8] = [
-            ("net", 100, Some(b"newer!"), 0),
-            ("net", 6, Some(b"newer!"), 0),
-            ("net", 6, None, 1),
-            ("net", 5, Some(b"newer!"), 1),
-            ("net", 4, Some(b"newer"), 1),
-            ("net", 0, Some(b"n"), 1),
-            ("log", 100, None, 2),
-            ("none", 0, Some(b""), 2),
-        ];
-        let mut bytes = b"left over".to_vec(rt.alloc())?;
-        for (name, limit, want, faults) in cases {
-            assert!(rt; limit <= 100);
-            let loaded = shelf.load(name, limit, &mut bytes);
-            match want {
-                Some(want) => {
-                    assert_eq!(rt; loaded, Ok(()), "{name} {limit}");
-                    assert_eq!(rt; bytes.as_slice(), want, "{name} {limit}");
-                }
-                None => {
-                    assert_eq!(rt; loaded, Err(LoadFault::Failed), "{name} {limit}");
-                    assert_eq!(rt; bytes.len(), 0, "{name} {limit}");
-                }
-            }
-            assert_eq!(rt; shelf.faults, faults, "{name} {limit}");
-        }
-        Ok(())
     }
 }

@@ -67,6 +67,13 @@ impl MemSink {
     {
         self.taken.as_slice()
     }
+
+    /// How many puts have failed.
+    pub fn failures(&self) -> u64
+        ensures { result ≡ self.now.faults }
+    {
+        self.faults
+    }
 }
 
 impl Sink for MemSink {
@@ -85,36 +92,6 @@ impl Sink for MemSink {
         }
         self.taken.extend_from_slice(piece).unwrap();
         self.room -= piece.len();
-        Ok(())
-    }
-}
-
-#[cfg(test)]
-mod tests {
-    use super::*;
-    use std::test::Fail;
-
-    #[test]
-    fn takes_pieces(rt: HostRuntime) -> Result<(), Fail> {
-        let mut sink = MemSink::new(rt.alloc());
-        assert_eq!(rt; sink.put(b"a"), Err(PutFault));
-        sink.reserve(6)?;
-        sink.fail_call(4)?;
-        // the piece, whether it is taken, what has been taken then, and how many faults there were
-        let cases: [(&[u8], bool, &[u8], u64); 7] = [
-            (b"abc", true, b"abc", 1),
-            (b"defg", false, b"abc", 2),
-            (b"d", false, b"abc", 3),
-            (b"", true, b"abc", 3),
-            (b"def", true, b"abcdef", 3),
-            (b"", true, b"abcdef", 3),
-            (b"g", false, b"abcdef", 4),
-        ];
-        for (piece, done, taken, faults) in cases {
-            assert_eq!(rt; sink.put(piece).is_ok(), done, "{piece:?}");
-            assert_eq!(rt; sink.taken(), taken, "{piece:?}");
-            assert_eq!(rt; sink.faults, faults, "{piece:?}");
-        }
         Ok(())
     }
 }

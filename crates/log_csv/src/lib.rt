@@ -17,8 +17,6 @@ mod refusal;
 mod row;
 mod row_reader;
 mod script;
-#[cfg(test)]
-mod tests;
 
 pub use fault::{LogFault, LogReadRefusal};
 pub use log_text::read_log;

@@ -16,6 +16,3 @@ mod refusal;
 
 pub use alarm_log::AlarmLog;
 pub use refusal::LogRefusal;
-
-#[cfg(test)]
-mod tests;

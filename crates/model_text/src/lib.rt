@@ -13,8 +13,6 @@ mod line_name;
 mod line_shape;
 mod part_name;
 mod reader;
-#[cfg(test)]
-mod tests;
 mod theorems;
 
 pub use fault::{ModelFault, ModelRefusal};

@@ -1,0 +1,22 @@
+//! Calls of the crates that hold plants and logs, with the answers that are due.
+//!
+//! Here stands what only a call shows: names and tables, the builder's refusals and the order among them, what a network
+//! says of itself, orders of alarms, scripts and printed logs. What a command of the program shows stands in `cases/`.
+#![tactic(auto)]
+
+#[cfg(test)]
+mod base_calls;
+#[cfg(test)]
+mod csv_calls;
+#[cfg(test)]
+mod indep_calls;
+#[cfg(test)]
+mod limit_calls;
+#[cfg(test)]
+mod made;
+#[cfg(test)]
+mod model_calls;
+#[cfg(test)]
+mod net_calls;
+#[cfg(test)]
+mod order_calls;

@@ -1,0 +1,112 @@
+// What a network says that was read of a text: its names, their order, and numbers.
+use crate::made::{part, trans};
+use crate::net_calls::told;
+use des_base::{CompId, EventId};
+use des_net::{Network, Part, Trans};
+use model_text::read_model;
+use std::alloc::Global;
+use std::process::Abort;
+
+pub fn network(rt: &impl Abort, alloc: Global, text: &str) -> Network {
+    assert!(rt; text.len() < 1_000_000);
+    match read_model(alloc, text.as_bytes()) {
+        Ok(net) => net,
+        Err(_) => panic!(rt; "no model: {text:?}"),
+    }
+}
+
+#[test]
+fn reads_a_header_alone(rt: HostRuntime) {
+    for text in ["des 1", "des 1\n", "\n# no component\n des\t1\r\n\n"] {
+        let net = network(&rt, rt.alloc(), text);
+        assert!(rt; net.components() == 0 && net.events() == 0, "{text:?}");
+    }
+}
+
+const VALVE: &str = "des 1
+component p
+state ok init
+state bad
+state off
+trans ok jam bad
+trans bad trip off
+trans off fix ok
+trans ok beat ok
+event jam fault : p.jam
+event trip alarm T : p.trip
+event fix alarm F : p.fix
+event beat alarm B : p.beat
+";
+
+const VALVE_IN_OTHER_LAYOUT: &str =
+    "# a valve\r\n\r\ndes\t1\r\n \t# component q\r\ncomponent\t p\r\n\r\n\
+    state ok\tinit \r\n\tstate bad\r\n  state off\t\r\n#\r\ntrans ok  jam\tbad\r\ntrans bad trip off\r\n\
+    trans off fix ok\r\ntrans ok beat ok\r\n\r\n \r\nevent jam fault :\tp.jam\nevent trip alarm T : p.trip\n\n\n\
+    event fix  alarm F : p.fix\nevent beat alarm B : p.beat";
+
+// Components whose states and actions share names, and an event line between the lines of a component.
+const TWO_COMPONENTS: &str = "des 1
+component p
+state s init
+state t init
+trans s a t
+trans s a s
+event e : p.a
+trans t c s
+component q
+state t
+state s init
+trans s c t
+trans t a s
+event f alarm L fault : q.a p.c
+";
+
+#[test]
+fn reads_names(rt: HostRuntime) {
+    let valve =
+        "p ok* bad off by jam by trip by fix by beat.jam p!.trip p as T.fix p as F.beat p as B.";
+    let two = "p s* t* by a by c.q t s* by c by a.e p.f p q as L!.";
+    for (text, want) in [
+        (VALVE, valve),
+        (VALVE_IN_OTHER_LAYOUT, valve),
+        (TWO_COMPONENTS, two),
+    ] {
+        let net = network(&rt, rt.alloc(), text);
+        assert!(rt; told(&rt, rt.alloc(), &net).as_str() == want, "{text:?}");
+    }
+}
+
+// Whether these are the component's transitions.
+fn has_trans(net: &Network, comp: u32, want: &[Trans]) -> bool {
+    comp < net.components() && net.trans(CompId(comp)) == want
+}
+
+// Whether these are the event's parts.
+fn has_parts(net: &Network, event: u32, want: &[Part]) -> bool {
+    event < net.events() && net.event(EventId(event)).parts.as_slice() == want
+}
+
+#[test]
+fn reads_a_component(rt: HostRuntime) {
+    for text in [VALVE, VALVE_IN_OTHER_LAYOUT] {
+        let net = network(&rt, rt.alloc(), text);
+        let want = [
+            trans(0, 0, 1),
+            trans(1, 1, 2),
+            trans(2, 2, 0),
+            trans(0, 3, 0),
+        ];
+        assert!(rt; has_trans(&net, 0, &want), "{text:?}");
+        for event in 0..4 {
+            assert!(rt; has_parts(&net, event, &[part(0, event)]), "{text:?}");
+        }
+    }
+}
+
+#[test]
+fn reads_two_components(rt: HostRuntime) {
+    let net = network(&rt, rt.alloc(), TWO_COMPONENTS);
+    assert!(rt; has_trans(&net, 0, &[trans(0, 0, 1), trans(0, 0, 0), trans(1, 1, 0)]));
+    assert!(rt; has_trans(&net, 1, &[trans(1, 0, 0), trans(0, 1, 1)]));
+    assert!(rt; has_parts(&net, 0, &[part(0, 0)]) && has_parts(&net, 1, &[part(1, 1), part(0, 1)]));
+}
