@@ -21,6 +21,3 @@ pub use laws::{
     counter_names_stand, named_columns_grow, named_count_is_exact, names_grow, pairs_exclude,
     pairs_exclude_names,
 };
-
-#[cfg(test)]
-mod tests;

@@ -26,7 +26,7 @@ pub enum ProofStep {
 }
 
 /// What a proof comes to.
-#[derive(Clone, Copy, PartialEq, Eq)]
+#[derive(Clone, Copy)]
 pub enum Checked {
     /// No assignment makes all axioms true.
     Verified,

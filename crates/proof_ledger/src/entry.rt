@@ -4,7 +4,7 @@ use des_base::Memory;
 use prop_core::ClauseId;
 
 /// An entry of a book. Clauses are numbered from 1, without the marks.
-#[derive(Clone, Copy, PartialEq, Eq)]
+#[derive(Clone, Copy)]
 pub enum Entry {
     /// A clause that was given.
     Axiom(ClauseId),
@@ -17,7 +17,7 @@ pub enum Entry {
 }
 
 /// Why a clause was not derived.
-#[derive(Clone, Copy, PartialEq, Eq)]
+#[derive(Clone, Copy)]
 pub enum DeriveFault {
     /// The hint at this place, from 0, names no clause (kind 1) or has two or more open literals (kind 2); or the hints
     /// ended, and the place is their number (kind 3).

@@ -19,6 +19,3 @@ mod truths;
 pub use checker::{Checked, ProofStep, check};
 pub use entry::{DeriveFault, Entry};
 pub use ledger::Ledger;
-
-#[cfg(test)]
-mod tests;

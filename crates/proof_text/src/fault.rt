@@ -15,14 +15,14 @@ use des_base::Memory;
 /// | 6 | the number of an addition isn't greater than those before it |
 /// | 7 | a hint is negative, as in steps that aren't propagation alone |
 /// | 8 | a number is over its limit |
-#[derive(Clone, Copy, PartialEq, Eq)]
+#[derive(Clone, Copy)]
 pub struct TextFault {
     pub line: u32,
     pub code: u8,
 }
 
 /// Why a text became no value.
-#[derive(Clone, Copy, PartialEq, Eq)]
+#[derive(Clone, Copy)]
 pub enum TextRefusal {
     /// The text has a fault.
     Fault(TextFault),

@@ -24,6 +24,3 @@ pub use fault::{TextFault, TextRefusal};
 pub use lrat_text::read_lrat;
 pub use print::{print_cnf, print_lrat};
 pub use proof::Proof;
-
-#[cfg(test)]
-mod tests;

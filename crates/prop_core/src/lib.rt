@@ -23,6 +23,3 @@ pub use laws::{assignments_match, derived_clauses_are_true, grids_are_injective,
 pub use lists::{IdList, LitList};
 pub use lit::Lit;
 pub use vars::Vars;
-
-#[cfg(test)]
-mod tests;

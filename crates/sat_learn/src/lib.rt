@@ -12,6 +12,3 @@ mod learner;
 mod resolving;
 
 pub use learner::{Learner, Learnt};
-
-#[cfg(test)]
-mod tests;

@@ -12,6 +12,3 @@ pub use order::Order;
 
 /// No rank is greater.
 pub const MAX_RANK: u64 = 1_099_511_627_776;
-
-#[cfg(test)]
-mod tests;

@@ -16,6 +16,3 @@ mod watched;
 mod watches;
 
 pub use trail::{Propagated, Trail};
-
-#[cfg(test)]
-mod tests;

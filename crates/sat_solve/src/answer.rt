@@ -1,7 +1,7 @@
 use prop_core::ClauseId;
 
 /// How a search ends.
-#[derive(Clone, Copy, PartialEq, Eq)]
+#[derive(Clone, Copy)]
 pub enum Answer {
     /// An assignment makes all clauses and all assumptions true.
     Sat,

@@ -14,6 +14,3 @@ mod solver;
 
 pub use answer::Answer;
 pub use solver::Solver;
-
-#[cfg(test)]
-mod tests;
