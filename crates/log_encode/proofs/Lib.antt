@@ -12,4 +12,3 @@ pub mod DraftLemmas
 pub mod CallLemmas
 pub mod CommitLemmas
 pub mod WrittenLemmas
-pub mod Widths

@@ -20,6 +20,3 @@ mod writing;
 pub use draft::Draft;
 pub use laws::{names_dont_matter, written_grows, written_is_exact};
 pub use log_code::LogCode;
-
-#[cfg(test)]
-mod tests;

@@ -12,8 +12,6 @@ mod replaying;
 mod run;
 mod run_text;
 mod state_set;
-#[cfg(test)]
-mod tests;
 mod theorems;
 mod tracing;
 mod width;

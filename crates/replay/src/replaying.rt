@@ -84,6 +84,3 @@ fn wrong_alarms(
         None => Ok(None),
     }
 }
-
-#[cfg(test)]
-mod tests;

@@ -17,14 +17,14 @@ use std::alloc::Global;
 /// 1: the first counted line (but for that of a printed reply) isn't `run T`, or is missing. 2: a line has more than two
 /// words. 3: a word isn't a name. 4: there are fewer lines than T, which is a fault of the text's end, or more. 5: the
 /// network has no such event.
-#[derive(Clone, Copy, PartialEq, Eq)]
+#[derive(Clone, Copy)]
 pub struct RunFault {
     pub line: u32,
     pub code: u8,
 }
 
 /// Why a text became no run.
-#[derive(Clone, Copy, PartialEq, Eq)]
+#[derive(Clone, Copy)]
 pub enum RunRefusal {
     /// The text has a fault.
     Fault(RunFault),

@@ -1,0 +1,45 @@
+-- Small networks need few variables.
+use Rattle.std.proofs.Common.{◌≡◌, ℕ, ◌+◌, ◌*◌, ◌≤◌, not, List, [], ◌∷◌, length, filter, map, None, refl, ap, arith}
+use Rattle.std.proofs.lemmas.List.Filters.{length-filter_both}
+use Rattle.std.proofs.lemmas.List.FromFn.{length-range_with_len}
+use Rattle.std.proofs.lemmas.Nat.{mul-le}
+use Rattle.std.specs.Prelude.{is_some, Bool}
+use Rattle.des_base.specs.declared.TheConstants.{VAR_LIMIT}
+use Rattle.des_net.specs.Network.{Net, label_of}
+use Rattle.log_clauses.specs.Additions.{alarm_added, with_addition}
+use Rattle.log_clauses.specs.Drafts.{taken_events}
+use Rattle.log_clauses.specs.LogClauses.{observable_events}
+use Rattle.log_clauses.specs.LogNames.{first_names}
+use Rattle.log_encode.proofs.TakenLemmas.{width_is, map_count}
+use Rattle.log_encode.specs.CodedLog.{CodedLog, addition_width, nameless}
+use Rattle.log_encode.specs.declared.taken.Taken.{Taken}
+use Rattle.prop_core.specs.VariableNames.{closed}
+use Rattle.replay.specs.QuestionSize.{is_matching}
+use Rattle.run_clauses.specs.StepClauses.{numbers_below}
+
+among_numbers : (p : ℕ → Bool) (k : ℕ) → length (filter p (numbers_below k)) ≤ k
+among_numbers p k = omega (arith, length-filter_both p (λ x. not (p x)) (λ x. refl) (numbers_below k), length-range_with_len 0 k)
+
+abbrev unlinked : ℕ → Taken
+unlinked e = record { event = e; last = None }
+
+events_again : (events : List ℕ) → map (λ (taken : Taken). taken.event) (map unlinked events) ≡ events
+events_again [] = refl
+events_again (e ∷ events) = ap (λ rest. e ∷ rest) (events_again events)
+
+-- eight events in eight steps, and a thousand variables before
+pub alarm_fits : (code : CodedLog) (labels : List (List ℕ)) (first : ℕ) → length code.net.events ≤ 8 → code.grid.steps ≤ 8 → first ≤ 1000 →
+    first + addition_width code (alarm_added (nameless labels)) ≤ VAR_LIMIT
+alarm_fits code labels first events steps few =
+    let taken = taken_events code.net code.log (nameless labels) in
+    let width = width_is code.net code.log code.grid.steps labels (map unlinked taken) (events_again taken) in
+    let count = map_count unlinked taken in
+    let links = among_numbers (λ e. is_matching code.net (with_addition code.log (alarm_added (nameless labels))) e (length code.log.alarms)) (length code.net.events) in
+    let product = mul-le (length (map unlinked taken)) (1 + code.grid.steps * 2) 8 17 (omega (arith, count, links, events)) (omega (arith, steps)) in
+    omega (arith, width, product, few, steps)
+
+pub first_names_fit : (net : Net) (first : ℕ) → length net.events ≤ 8 → first ≤ 1000 → first + length (first_names net) ≤ VAR_LIMIT
+first_names_fit net first events few =
+    let names = map_count (λ e. closed e 0) (observable_events net) in
+    let seen = among_numbers (λ e. is_some (label_of net e)) (length net.events) in
+    omega (arith, names, seen, events, few)

@@ -1,0 +1,10 @@
+-- What a code is after additions: of a network, within so many steps, below so many variables, with so many alarms.
+use Rattle.std.specs.Prelude.{◌≡◌, ℕ, length}
+use Rattle.des_net.specs.Network.{Net}
+use Rattle.log_encode.specs.CodedLog.{CodedLog}
+
+pub record IsGrown (net : Net) (steps vars alarms : ℕ) (code : CodedLog) : Type 0 where
+  pub of_net : code.net ≡ net
+  pub within : code.grid.steps ≡ steps
+  pub below : code.vars ≡ vars
+  pub has : length code.log.alarms ≡ alarms

@@ -1,0 +1,77 @@
+// The steps of runs, which no printed answer shows.
+use crate::networks::network;
+use des_base::{EventId, Name};
+use des_net::Network;
+use replay::{Run, RunStep, read_run};
+use std::alloc::Global;
+use std::process::Abort;
+
+const FORK: &str = "des 1
+component fork
+state init init
+state left
+state right
+trans init go left
+trans init go right
+trans left a left
+trans right b right
+event g : fork.go
+event ea : fork.a
+event eb : fork.b
+";
+
+// What texts say: the number of each event, and the name of its alarm where there is one.
+const TEXTS: [(&str, &[(u32, &str)]); 9] = [
+    ("run 0", &[]),
+    ("run 1\ng\n", &[(0, "")]),
+    ("run 1\ng", &[(0, "")]),
+    ("EXPLAINED 1\nrun 2\ng\nea x1\n", &[(0, ""), (1, "x1")]),
+    ("MANY 2\nrun 1\neb", &[(2, "")]),
+    ("UNDECIDED\nrun 0", &[]),
+    (
+        "# a run\n\nrun 2\n \t\n  # its steps\ng\n#\neb\n",
+        &[(0, ""), (2, "")],
+    ),
+    ("run 1\r\ng g\r\n", &[(0, "g")]),
+    ("\trun\t1 \n \tea\t x1\t\n", &[(1, "x1")]),
+];
+
+fn alarm_is(alarm: &Option<Name>, text: &str) -> bool {
+    match alarm {
+        Some(name) => name.as_str() == text,
+        None => text.is_empty(),
+    }
+}
+
+fn are_steps(steps: &[RunStep], rows: &[(u32, &str)]) -> bool {
+    let mut pairs = steps.iter().zip(rows);
+    steps.len() == rows.len()
+        && pairs.all(|(step, row)| step.event.0 == row.0 && alarm_is(&step.alarm, row.1))
+}
+
+fn run_of(rt: &impl Abort, alloc: Global, net: &Network, text: &str) -> Run {
+    assert!(rt; text.len() < 1000);
+    match read_run(alloc, text.as_bytes(), net) {
+        Ok(run) => run,
+        Err(_) => panic!(rt; "it should be a run text"),
+    }
+}
+
+#[test]
+fn reads_steps(rt: HostRuntime) {
+    let net = network(&rt, rt.alloc(), FORK);
+    for (text, rows) in TEXTS {
+        let run = run_of(&rt, rt.alloc(), &net, text);
+        assert!(rt; are_steps(run.steps(), rows), "{text}");
+    }
+}
+
+#[test]
+fn keeps_steps(rt: HostRuntime) {
+    let mut run = Run::new(rt.alloc());
+    assert!(rt; run.steps().is_empty());
+    let alarm = Name::new(rt.alloc(), b"x1").ok();
+    let event = EventId(7);
+    assert!(rt; run.push(RunStep { event, alarm }).is_ok());
+    assert!(rt; are_steps(run.steps(), &[(7, "x1")]));
+}
