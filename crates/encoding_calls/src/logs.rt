@@ -390,7 +390,13 @@ const LOGS: [(&str, u32, &[&[&str]], &[(u32, u32)], &[&str]); 16] = [
 ];
 
 // Where its guards are assumed the texts are what explains the log, and without them all sets of events go with its clauses.
-fn is_exact(rt: &impl Abort, alloc: Global, net: &Network, grown: &Grown, texts: &[&str]) -> bool
+fn leaves_what_explains(
+    rt: &impl Abort,
+    alloc: Global,
+    net: &Network,
+    grown: &Grown,
+    texts: &[&str],
+) -> bool
     requires { IsGrown net.now grown.now.steps grown.now.vars grown.now.alarms grown.now.code.code }
 {
     let cells = net.events().saturating_mul(grown.steps);
@@ -398,15 +404,25 @@ fn is_exact(rt: &impl Abort, alloc: Global, net: &Network, grown: &Grown, texts:
         && all_go(rt, &grown.clauses, cells, grown.code.vars())
 }
 
+fn is_exact(
+    rt: &impl Abort,
+    alloc: Global,
+    text: &str,
+    steps: u32,
+    alarms: &[&[&str]],
+    pairs: &[(u32, u32)],
+    texts: &[&str],
+) -> bool {
+    let net = network(rt, alloc, text);
+    let grown = grown_log(rt, alloc, &net, steps, alarms, pairs);
+    leaves_what_explains(rt, alloc, &net, &grown, texts)
+}
+
 #[test]
 fn guards_leave_what_explains(rt: HostRuntime) {
     for (text, steps, alarms, pairs, texts) in LOGS {
-        let net = network(&rt, rt.alloc(), text);
-        let grown = grown_log(&rt, rt.alloc(), &net, steps, alarms, pairs);
-        assert!(rt;
-            is_exact(&rt, rt.alloc(), &net, &grown, texts),
-            "{text}within {steps}"
-        );
+        let exact = is_exact(&rt, rt.alloc(), text, steps, alarms, pairs, texts);
+        assert!(rt; exact, "{text}within {steps}");
     }
 }
 
@@ -426,26 +442,36 @@ fn tells_one(rt: &impl Abort, alloc: Global, net: &Network, grown: &Grown, text:
     is_told(net, grown, &assign, MATCHED, text.as_bytes())
 }
 
+fn check_match(rt: &impl Abort, alloc: Global, net: &Network) {
+    let grown = grown_log(rt, alloc, net, 1, &[&["A"], &["B"]], &[(1, 0)]);
+    assert!(rt; grown.code.vars() == 15);
+    assert!(rt; grown.clauses.len() == 25);
+    assert!(rt; clauses_true(MATCHED, &grown.clauses));
+    assert!(rt; all_true(MATCHED, grown.code.guards()));
+    assert!(rt; tells_one(rt, alloc, net, &grown, "01"));
+}
+
 #[test]
 fn two_alarms_of_one_step(rt: HostRuntime) {
     let net = network(&rt, rt.alloc(), A_AND_B);
-    let grown = grown_log(&rt, rt.alloc(), &net, 1, &[&["A"], &["B"]], &[(1, 0)]);
-    assert!(rt; grown.code.vars() == 15 && grown.clauses.len() == 25);
-    assert!(rt; clauses_true(MATCHED, &grown.clauses));
-    assert!(rt; all_true(MATCHED, grown.code.guards()));
-    assert!(rt; tells_one(&rt, rt.alloc(), &net, &grown, "01"));
+    check_match(&rt, rt.alloc(), &net);
 }
 
 // What each addition takes and brings: an alarm the end of a chain, a match, what is passed on and twice whether it is matched, and
 // seven clauses of its link, two of its ends, and two of its step; a pair a clause.
+fn count_additions(rt: &impl Abort, alloc: Global, net: &Network) {
+    let mut grown = begun(rt, alloc, net, 1);
+    assert!(rt; grown.vars.count() == 5);
+    assert!(rt; grown.clauses.len() == 2);
+    assert!(rt; add_alarm(rt, alloc, net, &mut grown, &["A"]) == (5, 11));
+    assert!(rt; add_alarm(rt, alloc, net, &mut grown, &["B"]) == (5, 11));
+    assert!(rt; add_pair(rt, net, &mut grown, 1, 0) == (0, 1));
+}
+
 #[test]
 fn additions_are_counted(rt: HostRuntime) {
     let net = network(&rt, rt.alloc(), A_AND_B);
-    let mut grown = begun(&rt, rt.alloc(), &net, 1);
-    assert!(rt; grown.vars.count() == 5 && grown.clauses.len() == 2);
-    assert!(rt; add_alarm(&rt, rt.alloc(), &net, &mut grown, &["A"]) == (5, 11));
-    assert!(rt; add_alarm(&rt, rt.alloc(), &net, &mut grown, &["B"]) == (5, 11));
-    assert!(rt; add_pair(&rt, &net, &mut grown, 1, 0) == (0, 1));
+    count_additions(&rt, rt.alloc(), &net);
 }
 
 // How many of some literals are among others.
@@ -469,22 +495,21 @@ fn excludes(rt: &impl Abort, alloc: Global, net: &Network, grown: &Grown, earlie
     leaves_just(rt, alloc, net, grown, all.as_slice(), &[])
 }
 
+fn check_longer(rt: &impl Abort, alloc: Global, net: &Network, earlier: &[Lit]) {
+    let twice = grown_log(rt, alloc, net, 2, &[&["A"], &["A"]], &[]);
+    assert!(rt; shared(earlier, twice.code.guards()) == 1);
+    assert!(rt; leaves_just(rt, alloc, net, &twice, twice.code.guards(), &["01", "10"]));
+    assert!(rt; excludes(rt, alloc, net, &twice, earlier));
+}
+
+fn check_ends(rt: &impl Abort, alloc: Global, net: &Network) {
+    let once = grown_log(rt, alloc, net, 2, &[&["A"]], &[]);
+    check_longer(rt, alloc, net, once.code.guards());
+}
+
 // The earlier end of a chain isn't among the guards, and with it nothing would explain the longer log.
 #[test]
 fn earlier_ends_are_open(rt: HostRuntime) {
     let net = network(&rt, rt.alloc(), A);
-    let once = grown_log(&rt, rt.alloc(), &net, 2, &[&["A"]], &[]);
-    let twice = grown_log(&rt, rt.alloc(), &net, 2, &[&["A"], &["A"]], &[]);
-    assert!(rt; shared(once.code.guards(), twice.code.guards()) == 1);
-    assert!(rt;
-        leaves_just(
-            &rt,
-            rt.alloc(),
-            &net,
-            &twice,
-            twice.code.guards(),
-            &["01", "10"]
-        )
-    );
-    assert!(rt; excludes(&rt, rt.alloc(), &net, &twice, once.code.guards()));
+    check_ends(&rt, rt.alloc(), &net);
 }

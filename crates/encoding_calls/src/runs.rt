@@ -49,11 +49,11 @@ fn are_steps(steps: &[RunStep], rows: &[(u32, &str)]) -> bool {
         && pairs.all(|(step, row)| step.event.0 == row.0 && alarm_is(&step.alarm, row.1))
 }
 
-fn run_of(rt: &impl Abort, alloc: Global, net: &Network, text: &str) -> Run {
+fn check_steps(rt: &impl Abort, alloc: Global, net: &Network, text: &str, rows: &[(u32, &str)]) {
     assert!(rt; text.len() < 1000);
     match read_run(alloc, text.as_bytes(), net) {
-        Ok(run) => run,
-        Err(_) => panic!(rt; "it should be a run text"),
+        Ok(run) => assert!(rt; are_steps(run.steps(), rows), "{text}"),
+        Err(_) => panic!(rt; "{text} should be a run text"),
     }
 }
 
@@ -61,8 +61,7 @@ fn run_of(rt: &impl Abort, alloc: Global, net: &Network, text: &str) -> Run {
 fn reads_steps(rt: HostRuntime) {
     let net = network(&rt, rt.alloc(), FORK);
     for (text, rows) in TEXTS {
-        let run = run_of(&rt, rt.alloc(), &net, text);
-        assert!(rt; are_steps(run.steps(), rows), "{text}");
+        check_steps(&rt, rt.alloc(), &net, text, rows);
     }
 }
 
