@@ -27,3 +27,4 @@ pub mod Diagnosing
 pub mod DiagnoseAnswers
 pub mod DiagnoseRows
 pub mod AnswerRows
+pub mod Taking

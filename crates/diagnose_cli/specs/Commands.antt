@@ -1,5 +1,5 @@
 -- The commands, the files that each one needs, and what it may say over them.
-use Rattle.std.specs.Prelude.{◌≡◌, ℕ, ◌+◌, ◌-◌, ◌^◌, ◌≤◌, ⊤, List, [], ◌∷◌, ◌++◌, length, codes, Bool, ◌&&◌, nat_eq, nat_lt, Option, Some, None, if◌then◌else◌, Err, IfSome, IsOkAnd, MatchOption, bytes_eq, option_map, option_and_then}
+use Rattle.std.specs.Prelude.{◌≡◌, ℕ, ◌+◌, ◌-◌, ◌^◌, ◌≤◌, ⊤, List, [], ◌∷◌, ◌++◌, length, drop, codes, Bool, ◌&&◌, nat_eq, nat_lt, Option, Some, None, if◌then◌else◌, Err, IfSome, IsOkAnd, MatchOption, bytes_eq, option_map, option_and_then}
 use Rattle.des_base.specs.CommandWords.{word_at}
 use Rattle.des_base.specs.Numbers.{number_up_to}
 use Rattle.des_net.specs.Network.{Net}
@@ -219,6 +219,10 @@ InOrder l words i (kind ∷ kinds) files closes e =
 
 abbrev pub Answers : Loads → List (List ℕ) → Command → List BookEntry → Ending → Type 0
 Answers l words c book = InOrder l words 1 (files_of c) [] (Closes c book)
+
+-- the same where the first of the files are read, and these are their bytes
+abbrev pub AnswersAfter : Loads → List (List ℕ) → Command → List BookEntry → List (List ℕ) → Ending → Type 0
+AnswersAfter l words c book files = InOrder l words (length files + 1) (drop (length files) (files_of c)) files (Closes c book)
 
 -- what may be answered for these words with this book left, but for want of memory
 abbrev pub Due : Loads → List (List ℕ) → List BookEntry → Ending → Type 0

@@ -1,8 +1,10 @@
-ghost use Rattle.std.specs.Prelude.{◌≡◌, ◌<◌, List, length, IfOk};
+ghost use Rattle.std.specs.Prelude.{◌≡◌, ◌<◌, ◌≤◌, ℕ, List, [], ◌∷◌, length, IfOk};
 ghost use Rattle.proof_ledger.specs.Book.{BookEntry};
+ghost use Rattle.proof_ledger.specs.Checking.{check_proof};
+ghost use Rattle.proof_text.specs.CnfText.{formula, formula_of};
 ghost use Rattle.diagnose_cli.specs.Files.{loads};
 ghost use Rattle.diagnose_cli.specs.Transcripts.{UnlessMemory, once};
-ghost use Rattle.diagnose_cli.specs.Commands.{Answers, kind_of_checked, reply_of_checked};
+ghost use Rattle.diagnose_cli.specs.Commands.{Answers, AnswersAfter, kind_of_checked, reply_of_checked};
 
 use crate::command::Command;
 use crate::ending::{Kind, Reply};
@@ -10,6 +12,7 @@ use crate::files::{fetch_cnf, fetch_lrat};
 use crate::stop::Stop;
 use des_base::{Memory, Shelf, WordList};
 use proof_ledger::{Checked, check};
+use proof_text::{Cnf, Proof};
 use report::print_checked;
 use std::alloc::Global;
 
@@ -23,9 +26,30 @@ pub fn check_command<F: Shelf>(
     ensures { (book : List BookEntry) → UnlessMemory result (Answers (loads F.held F.faults shelf.old shelf.new) words.now Command.Check book (once result)) }
 {
     let cnf = fetch_cnf(alloc, words, shelf, 1)?;
-    let proof = fetch_lrat(alloc, words, shelf, 2, &cnf)?;
+    check_over(alloc, words, shelf, &cnf)
+}
+
+// The same where the formula is read.
+fn check_over<F: Shelf>(
+    alloc: Global,
+    words: &WordList,
+    shelf: &mut F,
+    cnf: &Cnf,
+) -> Result<Reply, Stop>
+    requires words { 2 < length words.now }
+    requires few { cnf.now.vars ≤ 100000000 }
+    ensures { (book : List BookEntry) → (text : List ℕ) → formula cnf.now.vars cnf.now.clauses.clauses ≡ formula_of text → UnlessMemory result (AnswersAfter (loads F.held F.faults shelf.old shelf.new) words.now Command.Check book (text ∷ []) (once result)) }
+{
+    let proof = fetch_lrat(alloc, words, shelf, 2, cnf)?;
+    Ok(check_proof(alloc, cnf, &proof)?)
+}
+
+// The reply to a proof.
+fn check_proof(alloc: Global, cnf: &Cnf, proof: &Proof) -> Result<Reply, Memory>
+    ensures { IfOk result (λ reply. reply ≡ reply_of_checked (check_proof cnf.now.clauses.clauses proof.now)) }
+{
     let checked = check(alloc, &cnf.clauses, proof.steps())?;
-    Ok(reply_of_checked(alloc, &checked)?)
+    reply_of_checked(alloc, &checked)
 }
 
 // The reply that tells the answer.

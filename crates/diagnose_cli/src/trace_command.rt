@@ -1,15 +1,19 @@
-ghost use Rattle.std.specs.Prelude.{◌≡◌, ◌<◌, List, length, IfOk};
+ghost use Rattle.std.specs.Prelude.{◌≡◌, ◌<◌, ℕ, List, [], ◌∷◌, All, length, IfOk};
+ghost use Rattle.model_text.specs.ModelFaults.{network_of};
 ghost use Rattle.proof_ledger.specs.Book.{BookEntry};
+ghost use Rattle.replay.specs.Traced.{IsTraced, word_of};
+ghost use Rattle.replay.specs.declared.tracing.Traced.{Traced};
 ghost use Rattle.diagnose_cli.specs.Files.{loads};
 ghost use Rattle.diagnose_cli.specs.Transcripts.{UnlessMemory, once};
-ghost use Rattle.diagnose_cli.specs.Commands.{Answers, kind_of_traced, reply_of_traced};
+ghost use Rattle.diagnose_cli.specs.Commands.{Answers, AnswersAfter, kind_of_traced, reply_of_traced};
 
 use crate::command::Command;
 use crate::ending::{Kind, Reply};
 use crate::files::{fetch_model, fetch_run};
 use crate::stop::Stop;
 use des_base::{Memory, Shelf, WordList};
-use replay::{Traced, trace};
+use des_net::Network;
+use replay::{Run, Traced, trace};
 use report::print_traced;
 use std::alloc::Global;
 
@@ -23,9 +27,30 @@ pub fn trace_command<F: Shelf>(
     ensures { (book : List BookEntry) → UnlessMemory result (Answers (loads F.held F.faults shelf.old shelf.new) words.now Command.Trace book (once result)) }
 {
     let net = fetch_model(alloc, words, shelf, 1)?;
-    let run = fetch_run(alloc, words, shelf, 2, &net)?;
-    let traced = trace(alloc, &net, &run)?;
-    Ok(reply_of_traced(alloc, &traced)?)
+    trace_over(alloc, words, shelf, &net)
+}
+
+// The same where the network is read.
+fn trace_over<F: Shelf>(
+    alloc: Global,
+    words: &WordList,
+    shelf: &mut F,
+    net: &Network,
+) -> Result<Reply, Stop>
+    requires { 2 < length words.now }
+    ensures { (book : List BookEntry) → (text : List ℕ) → net.now ≡ network_of text → UnlessMemory result (AnswersAfter (loads F.held F.faults shelf.old shelf.new) words.now Command.Trace book (text ∷ []) (once result)) }
+{
+    let run = fetch_run(alloc, words, shelf, 2, net)?;
+    Ok(trace_run(alloc, net, &run)?)
+}
+
+// The reply to a run of events of the network.
+fn trace_run(alloc: Global, net: &Network, run: &Run) -> Result<Reply, Memory>
+    requires { All (λ e. e < length net.now.events) (word_of run.now) }
+    ensures { IfOk result (λ reply. (traced : Traced) × IsTraced net.now (word_of run.now) traced × (reply ≡ reply_of_traced traced)) }
+{
+    let traced = trace(alloc, net, run)?;
+    reply_of_traced(alloc, &traced)
 }
 
 // The reply that tells the answer.

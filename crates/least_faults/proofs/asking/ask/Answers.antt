@@ -1,7 +1,7 @@
 use Rattle.std.proofs.Common.{◌≡◌, ℕ, Bool, List, Option, sym, subst}
 use Rattle.card_counter.specs.CounterState.{CounterState}
 use Rattle.des_net.specs.Network.{Net, IsNetwork}
-use Rattle.least_faults.proofs.Asked.{asked_refuted, asked_spent, asked_explained, begun_true, ready_after, true_run, none_added}
+use Rattle.least_faults.proofs.Asked.{asked_refuted, asked_spent, asked_explained, begun_true, ready_after, searching_axioms, searching_both, true_run, none_added}
 use Rattle.least_faults.proofs.Assuming.{assumed_below, compatible, below_more}
 use Rattle.least_faults.proofs.Posing.{poses}
 use Rattle.least_faults.proofs.Staying.{same_net, same_log}
@@ -126,3 +126,27 @@ returns-clause-ready g c =
     let parts = c.assumptions.new.parts in
     ready_after parts.step parts.code.code parts.counter parts.vars c.args.left.now c.solve.new.left parts.solver.adopted c.solve.new.self.adopted parts.solver.vars c.solve.new.self.vars c.assumptions.new.book.entries c.solve.new.book.entries
     c.assumptions.ensures.ready c.solve.ensures.searched c.solve.ensures.adopted c.solve.ensures.vars
+
+pub returns-in_err-assumed-clause-searching : goal.returns-in_err-assumed-clause-searching
+returns-in_err-assumed-clause-searching g c =
+    searching_axioms c.args.book.now.entries c.assumptions.new.book.entries c.args.left.now c.assumptions.ensures.axioms
+
+pub returns-in_err-answer-clause-searching : goal.returns-in_err-answer-clause-searching
+returns-in_err-answer-clause-searching g c =
+    searching_both c.args.book.now.entries c.assumptions.new.book.entries c.solve.new.book.entries c.args.left.now c.solve.new.left c.assumptions.ensures.axioms c.solve.ensures.searched
+
+pub returns-in-Unsat-clause-searching : goal.returns-in-Unsat-clause-searching
+returns-in-Unsat-clause-searching g c =
+    searching_both c.args.book.now.entries c.assumptions.new.book.entries c.solve.new.book.entries c.args.left.now c.solve.new.left c.assumptions.ensures.axioms c.solve.ensures.searched
+
+pub returns-in-Spent-clause-searching : goal.returns-in-Spent-clause-searching
+returns-in-Spent-clause-searching g c =
+    searching_both c.args.book.now.entries c.assumptions.new.book.entries c.solve.new.book.entries c.args.left.now c.solve.new.left c.assumptions.ensures.axioms c.solve.ensures.searched
+
+pub returns-in_err-found_run-in-Sat-clause-searching : goal.returns-in_err-found_run-in-Sat-clause-searching
+returns-in_err-found_run-in-Sat-clause-searching g c =
+    searching_both c.args.book.now.entries c.assumptions.new.book.entries c.solve.new.book.entries c.args.left.now c.solve.new.left c.assumptions.ensures.axioms c.solve.ensures.searched
+
+pub returns-clause-searching : goal.returns-clause-searching
+returns-clause-searching g c =
+    searching_both c.args.book.now.entries c.assumptions.new.book.entries c.solve.new.book.entries c.args.left.now c.solve.new.left c.assumptions.ensures.axioms c.solve.ensures.searched
