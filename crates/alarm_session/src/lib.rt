@@ -7,7 +7,5 @@
 #![tactic(auto)]
 
 mod size;
-#[cfg(test)]
-mod tests;
 
 pub use size::{SIZE_LIMIT, question_size};

@@ -1,10 +1,12 @@
 // Questions that were worked by hand, each with two tests and two ranks that are stored.
-use super::asking::{Answer, Question, asked_by_list, asked_plainly};
-use super::models::{
+use crate::asking::{Answer, Question, asked_by_list, asked_plainly};
+use crate::models::{
     EMPTY, LATER_ALARM_EXCUSES, NO_WAY_BETWEEN_STARTS, SECOND_BEFORE_FIRST, SECOND_START_PERMITS,
     TWO_APART, TWO_MEET, VALVE, alarm_log, network,
 };
-use std::test::Fail;
+use des_net::Network;
+use std::alloc::Global;
+use std::process::Abort;
 
 const TWO_TRIPS: &str = "alarm,a1,T\nalarm,a2,F\nalarm,a3,T\nbefore,a1,a2\nbefore,a2,a3\n";
 
@@ -69,18 +71,21 @@ const QUESTIONS: [Row; 17] = [
     ),
 ];
 
+fn assert_answered(rt: &impl Abort, alloc: Global, net: &Network, text: &str, question: &Question) {
+    let log = alarm_log(rt, alloc, text);
+    asked_plainly(rt, alloc, net, &log, question);
+    asked_by_list(rt, alloc, net, &log, question);
+}
+
 #[test]
-fn answers_worked_questions(rt: HostRuntime) -> Result<(), Fail> {
+fn answers_worked_questions(rt: HostRuntime) {
     for (model, text, steps, budget, answer) in QUESTIONS {
-        let net = network(&rt, rt.alloc(), model)?;
-        let log = alarm_log(&rt, rt.alloc(), text)?;
+        let net = network(&rt, rt.alloc(), model);
         let question = Question {
             steps,
             budget,
             answer,
         };
-        asked_plainly(&rt, rt.alloc(), &net, &log, &question)?;
-        asked_by_list(&rt, rt.alloc(), &net, &log, &question)?;
+        assert_answered(&rt, rt.alloc(), &net, text, &question);
     }
-    Ok(())
 }

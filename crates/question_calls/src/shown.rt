@@ -3,14 +3,13 @@ ghost use Rattle.std.specs.Prelude.{◌≡◌, ◌<◌, All, IsTrue, length};
 ghost use Rattle.replay.specs.Traced.{word_of};
 
 use des_net::Network;
-use least_faults::Best;
+use least_faults::{Best, Found};
 use log_order::AlarmLog;
 use proof_ledger::{Entry, Ledger};
 use prop_core::{ClauseId, Lit};
-use replay::{Replayed, Run, RunStep, replay};
+use replay::{Replayed, RunStep, replay};
 use std::alloc::Global;
 use std::process::Abort;
-use std::test::Fail;
 
 fn are_known(net: &Network, steps: &[RunStep]) -> bool
     ensures { IsTrue result → All (λ e. e < length net.now.events) (word_of steps.now) }
@@ -23,36 +22,44 @@ fn are_known(net: &Network, steps: &[RunStep]) -> bool
     true
 }
 
-// What replaying the run tells.
-pub(super) fn replayed(
-    rt: &impl Abort,
-    alloc: Global,
-    net: &Network,
-    log: &AlarmLog,
-    run: &Run,
-    n: u32,
-) -> Result<Replayed, Fail> {
-    assert!(rt; are_known(net, run.steps()));
-    Ok(replay(alloc, net, log, run, n)?)
+// Sees that the run explains the log, with so many faults.
+fn is_accepted(rt: &impl Abort, alloc: Global, net: &Network, log: &AlarmLog, n: u32, best: &Best) {
+    assert!(rt; are_known(net, best.run.steps()));
+    let told = replay(alloc, net, log, &best.run, n)
+        .ok()
+        .expect(rt, "memory is ample");
+    match told {
+        Replayed::Accepted { faults } => assert!(rt; faults == best.faults),
+        _ => panic!(rt; "the run is rejected"),
+    }
 }
 
-// Sees that the run explains the log, with so many faults.
-pub(super) fn is_accepted(
+// The run that is given, where one is.
+fn given(found: &Found) -> Option<&Best> {
+    match found {
+        Found::Explained(best) => Some(best),
+        Found::Absent => None,
+        Found::Many(best) => Some(best),
+        Found::Undecided { best, .. } => best.as_ref(),
+    }
+}
+
+// Sees that a run that is given explains the log.
+pub fn has_run(
     rt: &impl Abort,
     alloc: Global,
     net: &Network,
     log: &AlarmLog,
     n: u32,
-    best: &Best,
-) -> Result<(), Fail> {
-    let faults = best.faults;
-    let told = replayed(rt, alloc, net, log, &best.run, n)?;
-    assert_eq!(rt; told, Replayed::Accepted { faults });
-    Ok(())
+    found: &Found,
+) {
+    if let Some(best) = given(found) {
+        is_accepted(rt, alloc, net, log, n, best);
+    }
 }
 
 // Sees that the entries from a place on begin with a mark 0 and end with a mark 1, without a mark between.
-pub(super) fn is_opened_and_closed(rt: &impl Abort, book: &Ledger, first: u64) {
+pub fn is_opened_and_closed(rt: &impl Abort, book: &Ledger, first: u64) {
     let end = book.entries();
     assert!(rt; first < end);
     for place in first..end {
@@ -83,17 +90,17 @@ fn last_final(book: &Ledger, first: u64) -> Option<ClauseId> {
     last
 }
 
-// Sees that the last final entry from a place on has negations of what was assumed alone.
-pub(super) fn is_refuted(rt: &impl Abort, book: &Ledger, first: u64, assumed: &[Lit]) {
-    let Some(id) = last_final(book, first) else {
-        panic!(rt; "a final entry was put");
-    };
+// Whether the literal is the negation of a guard or of the literal of the bound.
+fn is_assumed(lit: Lit, guards: &[Lit], bound: Option<Lit>) -> bool {
+    guards.contains(&lit.negated()) || bound == Some(lit.negated())
+}
+
+// Sees that the last final entry from a place on has negations of what was assumed alone: the guards, and a bound where one is given.
+pub fn is_refuted(rt: &impl Abort, book: &Ledger, first: u64, guards: &[Lit], bound: Option<Lit>) {
+    let id = last_final(book, first).expect(rt, "a final entry was put");
     let clauses = book.clauses();
     assert!(rt; id.0 > 0 && id.0 <= clauses.len());
-    assert!(rt;
-        clauses
-            .clause(id)
-            .iter()
-            .all(|lit| assumed.contains(&lit.negated()))
-    );
+    for lit in clauses.clause(id) {
+        assert!(rt; is_assumed(*lit, guards, bound));
+    }
 }

@@ -10,8 +10,6 @@ mod found;
 mod pieces;
 mod replayed;
 mod run;
-#[cfg(test)]
-mod tests;
 mod traced;
 
 pub use checked::print_checked;

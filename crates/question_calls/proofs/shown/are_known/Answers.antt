@@ -1,7 +1,7 @@
 use Rattle.std.proofs.Common.{◌<◌, All, length, subst, ap, arith}
 use Rattle.std.proofs.lemmas.List.{take_all}
 use Rattle.std.proofs.lemmas.List.Elements.{All-more}
-use Rattle.alarm_session.proofs.tests.shown.are_known.Goals as goal
+use Rattle.question_calls.proofs.shown.are_known.Goals as goal
 use Rattle.replay.proofs.RunLemmas.{event_at_step, length-word_of}
 use Rattle.replay.specs.declared.run.RunStep.{RunStep}
 use Rattle.replay.specs.Traced.{word_of}

@@ -1,6 +1,6 @@
 -- the events so far are the network's
 use Rattle.std.proofs.Common.{◌<◌, All, length, take}
-use Rattle.alarm_session.proofs.tests.shown.are_known.Given as goal
+use Rattle.question_calls.proofs.shown.are_known.Given as goal
 use Rattle.replay.specs.Traced.{word_of}
 
 abbrev pub invariant-loop-step : goal.invariant-loop-step
