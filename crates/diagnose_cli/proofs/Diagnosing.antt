@@ -1,5 +1,6 @@
 -- A question that is built into an empty book, and what is found then.
-use Rattle.std.proofs.Common.{◌≡◌, ℕ, List, [], ◌++◌, map, ap, ◌∙◌, subst}
+use Rattle.std.proofs.Common.{◌≡◌, ℕ, List, [], ◌++◌, map, Some, Result, Ok, Err, IfOk, ap, ◌∙◌, subst, sym}
+use Rattle.std.specs.Result.{result_ok}
 use Rattle.des_net.specs.Network.{Net}
 use Rattle.least_faults.specs.declared.answer.Found.{Found}
 use Rattle.least_faults.specs.Answers.{IsAnswered}
@@ -8,6 +9,13 @@ use Rattle.log_order.specs.Log.{Log}
 use Rattle.proof_ledger.specs.Book.{BookEntry, axiomatic, IsValidBook}
 use Rattle.prop_core.specs.VariableNames.{Name}
 use Rattle.diagnose_cli.specs.Diagnosed.{IsDiagnosed}
+
+-- what is built is what was answered
+pub ok_some : {A B : Type 0} (r : Result A B) (P : A → Type 0) (a : A) → Some a ≡ result_ok r → IfOk r P → P a
+ok_some (Ok x) P a is h =
+    let same : a ≡ x = cc in
+    subst P (sym same) h
+ok_some (Err e) P a is h = cc
 
 pub diagnosed_by : (names : List (ℕ × Name)) (net : Net) (log : Log) (n steps budget : ℕ) (old built new : List BookEntry) (found : Found) → old ≡ [] → AddsAxioms old built → steps ≡ n
     → IsAnswered names net log steps budget built new found → IsValidBook new → IsDiagnosed net log n budget new found
