@@ -77,15 +77,20 @@ fn assert_answered(rt: &impl Abort, alloc: Global, net: &Network, text: &str, qu
     asked_by_list(rt, alloc, net, &log, question);
 }
 
+fn assert_row(rt: &impl Abort, alloc: Global, row: &Row) {
+    let (model, text, steps, budget, answer) = *row;
+    let net = network(rt, alloc, model);
+    let question = Question {
+        steps,
+        budget,
+        answer,
+    };
+    assert_answered(rt, alloc, &net, text, &question);
+}
+
 #[test]
 fn answers_worked_questions(rt: HostRuntime) {
-    for (model, text, steps, budget, answer) in QUESTIONS {
-        let net = network(&rt, rt.alloc(), model);
-        let question = Question {
-            steps,
-            budget,
-            answer,
-        };
-        assert_answered(&rt, rt.alloc(), &net, text, &question);
+    for row in &QUESTIONS {
+        assert_row(&rt, rt.alloc(), row);
     }
 }

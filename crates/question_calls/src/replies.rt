@@ -10,21 +10,19 @@ use replay::{Run, Traced, read_run};
 use report::{print_found, print_run, print_traced};
 use std::alloc::Global;
 use std::process::Abort;
-use std::test::Fail;
 
 // A text to append to.
-fn started(alloc: Global) -> Result<Vec<u8>, Fail> {
+fn started(rt: &impl Abort, alloc: Global) -> Vec<u8> {
     let mut out = Vec::new(alloc);
-    out.extend_from_slice(b"> ")?;
-    Ok(out)
+    assert!(rt; out.extend_from_slice(b"> ").is_ok());
+    out
 }
 
 #[test]
-fn appends_what_was_traced(rt: HostRuntime) -> Result<(), Fail> {
-    let mut out = started(rt.alloc())?;
+fn appends_what_was_traced(rt: HostRuntime) {
+    let mut out = started(&rt, rt.alloc());
     assert!(rt; print_traced(&Traced::Stuck { at: 4_294_967_295 }, &mut out).is_ok());
     assert!(rt; out.as_slice() == b"> REJECTED STUCK 4294967295\n".as_slice());
-    Ok(())
 }
 
 // The run of a text, whose events are the network's.
@@ -51,26 +49,25 @@ const RUNS: [(&str, &str); 4] = [
     ),
 ];
 
-fn assert_run(rt: &impl Abort, net: &Network, run: &Run, text: &str, out: &mut Vec<u8>)
+fn assert_printed(rt: &impl Abort, alloc: Global, net: &Network, run: &Run, text: &str)
     requires { All (λ e. e < length net.now.events) (word_of run.now) }
 {
-    assert!(rt; print_run(run, net, out).is_ok());
+    let mut out = started(rt, alloc);
+    assert!(rt; print_run(run, net, &mut out).is_ok());
     assert!(rt; out.as_slice() == text.as_bytes());
 }
 
-fn assert_runs(rt: &impl Abort, alloc: Global, net: &Network) -> Result<(), Fail> {
-    for (text, printed) in RUNS {
-        let run = run_of(rt, alloc, net, text);
-        let mut out = started(alloc)?;
-        assert_run(rt, net, &run, printed, &mut out);
-    }
-    Ok(())
+fn assert_row(rt: &impl Abort, alloc: Global, net: &Network, row: &(&str, &str)) {
+    let run = run_of(rt, alloc, net, row.0);
+    assert_printed(rt, alloc, net, &run, row.1);
 }
 
 #[test]
-fn appends_runs(rt: HostRuntime) -> Result<(), Fail> {
+fn appends_runs(rt: HostRuntime) {
     let net = network(&rt, rt.alloc(), PUMP);
-    assert_runs(&rt, rt.alloc(), &net)
+    for row in &RUNS {
+        assert_row(&rt, rt.alloc(), &net, row);
+    }
 }
 
 // That 13 to 25 faults are needed, by a run of two events.
@@ -82,12 +79,27 @@ fn undecided(rt: &impl Abort, alloc: Global, net: &Network) -> Found
     Found::Undecided { lo: 13, best }
 }
 
+fn assert_told(rt: &impl Abort, net: &Network, found: &Found, text: &str, out: &mut Vec<u8>)
+    requires { EventsKnown net.now found.now }
+{
+    assert!(rt; print_found(found, net, 40, out).is_ok());
+    assert!(rt; out.as_slice() == text.as_bytes());
+}
+
+fn assert_undecided(rt: &impl Abort, alloc: Global, net: &Network, out: &mut Vec<u8>) {
+    let found = undecided(rt, alloc, net);
+    assert_told(
+        rt,
+        net,
+        &found,
+        "> UNDECIDED 13 25\nrun 2\njam\ntrip a1\n",
+        out,
+    );
+}
+
 #[test]
-fn appends_what_is_undecided(rt: HostRuntime) -> Result<(), Fail> {
+fn appends_what_is_undecided(rt: HostRuntime) {
+    let mut out = started(&rt, rt.alloc());
     let net = network(&rt, rt.alloc(), PUMP);
-    let found = undecided(&rt, rt.alloc(), &net);
-    let mut out = started(rt.alloc())?;
-    assert!(rt; print_found(&found, &net, 40, &mut out).is_ok());
-    assert!(rt; out.as_slice() == b"> UNDECIDED 13 25\nrun 2\njam\ntrip a1\n".as_slice());
-    Ok(())
+    assert_undecided(&rt, rt.alloc(), &net, &mut out);
 }

@@ -5,7 +5,6 @@ use des_net::Network;
 use log_order::AlarmLog;
 use std::alloc::Global;
 use std::process::Abort;
-use std::test::Fail;
 
 // A log, the steps, and the size.
 type Row = (&'static str, u32, u64);
@@ -63,35 +62,42 @@ fn tells_sizes(rt: HostRuntime) {
 }
 
 // Appends a unit with one state, which an event moves by itself: a fault that can be seen.
-fn push_unit(model: &mut String, alloc: Global, number: u32) -> Result<(), Fail> {
+fn push_unit(rt: &impl Abort, alloc: Global, model: &mut String, number: u32) {
     let unit = format!(in alloc;
         "component u{number}\nstate s init\ntrans s a s\nevent e{number} alarm L{number} fault : u{number}.a\n"
-    )?;
-    model.push_str(unit.as_str())?;
-    Ok(())
+    );
+    assert!(rt;
+        model
+            .push_str(unit.ok().expect(rt, "memory is ample").as_str())
+            .is_ok()
+    );
 }
 
 // Appends its alarm.
-fn push_alarm(log: &mut String, alloc: Global, number: u32) -> Result<(), Fail> {
-    let alarm = format!(in alloc; "alarm,x{number},L{number}\n")?;
-    log.push_str(alarm.as_str())?;
-    Ok(())
+fn push_alarm(rt: &impl Abort, alloc: Global, log: &mut String, number: u32) {
+    let alarm = format!(in alloc; "alarm,x{number},L{number}\n");
+    assert!(rt;
+        log.push_str(alarm.ok().expect(rt, "memory is ample").as_str())
+            .is_ok()
+    );
 }
 
-fn units(rt: &impl Abort, alloc: Global) -> Result<Network, Fail> {
-    let mut model = format!(in alloc; "{EMPTY}")?;
+// 256 of them.
+fn units(rt: &impl Abort, alloc: Global) -> Network {
+    let mut model = String::new(alloc);
+    assert!(rt; model.push_str(EMPTY).is_ok());
     for number in 1..257 {
-        push_unit(&mut model, alloc, number)?;
+        push_unit(rt, alloc, &mut model, number);
     }
-    Ok(network(rt, alloc, model.as_str()))
+    network(rt, alloc, model.as_str())
 }
 
-fn alarms_of_units(rt: &impl Abort, alloc: Global) -> Result<AlarmLog, Fail> {
+fn alarms_of_units(rt: &impl Abort, alloc: Global) -> AlarmLog {
     let mut log = String::new(alloc);
     for number in 1..257 {
-        push_alarm(&mut log, alloc, number)?;
+        push_alarm(rt, alloc, &mut log, number);
     }
-    Ok(alarm_log(rt, alloc, log.as_str()))
+    alarm_log(rt, alloc, log.as_str())
 }
 
 // The steps, the size, and whether it is too large.
@@ -101,17 +107,16 @@ const SIZES_OF_UNITS: [(u32, u64, bool); 3] = [
     (299, 20_054_528, true),
 ];
 
-fn assert_sizes_of_units(rt: &impl Abort, net: &Network, log: &AlarmLog) {
+fn assert_sizes_of_units(rt: &impl Abort, alloc: Global, net: &Network) {
+    let log = alarms_of_units(rt, alloc);
     for (n, want, large) in SIZES_OF_UNITS {
-        let size = question_size(net, log, n);
+        let size = question_size(net, &log, n);
         assert!(rt; size == want && (size > SIZE_LIMIT) == large, "{n} steps");
     }
 }
 
 #[test]
-fn tells_what_is_too_large(rt: HostRuntime) -> Result<(), Fail> {
-    let log = alarms_of_units(&rt, rt.alloc())?;
-    let net = units(&rt, rt.alloc())?;
-    assert_sizes_of_units(&rt, &net, &log);
-    Ok(())
+fn tells_what_is_too_large(rt: HostRuntime) {
+    let net = units(&rt, rt.alloc());
+    assert_sizes_of_units(&rt, rt.alloc(), &net);
 }
