@@ -9,6 +9,7 @@ use prop_core::{ClauseId, Clauses, Lit};
 use sat_learn::{Learner, Learnt};
 use sat_prop::{Propagated, Trail};
 use std::alloc::Global;
+use std::process::Abort;
 
 // Decides that 1 is true where nothing is left to do.
 fn decide_one(trail: &mut Trail, db: &Clauses)
@@ -30,26 +31,46 @@ fn is_not_one(learnt: &Learnt, hints: &[ClauseId]) -> bool {
         && learnt.level == 0
 }
 
+// Attaches three clauses of three variables, where nothing is there yet.
+fn attach_three(rt: &impl Abort, trail: &mut Trail, db: &mut Clauses)
+    requires new { trail.old ≡ record { clauses = []; attached = []; literals = []; reasons = []; vars = 0; spare = 0 } }
+    requires empty { db.old.clauses ≡ [] }
+    ensures front { IsFront trail.new.clauses db.new.clauses }
+    ensures vars { trail.new.vars ≡ 3 }
+{
+    got(rt, trail.grow(3));
+    got(rt, trail.reserve_clauses(3));
+    got(rt, db.push(&[Lit::new(1, false), Lit::new(2, true)]));
+    let all = [Lit::new(1, false), Lit::new(2, false), Lit::new(0, true)];
+    got(rt, db.push(&all));
+    got(rt, db.push(&[Lit::new(2, false), Lit::new(0, false)]));
+    trail.attach(db, ClauseId(1));
+    trail.attach(db, ClauseId(2));
+    trail.attach(db, ClauseId(3));
+}
+
 #[test]
 fn learns_and_closes(rt: HostRuntime) {
     let mut db = Clauses::new(rt.alloc());
     let mut trail = Trail::new(rt.alloc());
-    got(&rt, trail.grow(3));
-    got(&rt, trail.reserve_clauses(3));
-    let first = got(&rt, db.push(&[Lit::new(1, false), Lit::new(2, true)]));
-    trail.attach(&db, first);
-    let all = [Lit::new(1, false), Lit::new(2, false), Lit::new(0, true)];
-    let second = got(&rt, db.push(&all));
-    trail.attach(&db, second);
-    let third = got(&rt, db.push(&[Lit::new(2, false), Lit::new(0, false)]));
-    trail.attach(&db, third);
+    attach_three(&rt, &mut trail, &mut db);
     decide_one(&mut trail, &db);
-    let found = trail.propagate(&db);
-    assert!(rt; trail.level() > 0 && matches!(found, Propagated::Conflict(ClauseId(3))));
-    if let Propagated::Conflict(conflict) = found {
-        let hints = [first, second, third];
-        assert!(rt; learns(rt.alloc(), &trail, &db, conflict, &hints));
-        assert!(rt; closes(rt.alloc(), &trail, &db, conflict, &hints));
+    assert!(rt; learns_both(rt.alloc(), &mut trail, &db));
+}
+
+// Whether the third clause becomes false, and the negated decision is learnt and closes.
+fn learns_both(alloc: Global, trail: &mut Trail, db: &Clauses) -> bool
+    requires front { IsFront trail.old.clauses db.now.clauses }
+{
+    let hints = [ClauseId(1), ClauseId(2), ClauseId(3)];
+    match trail.propagate(db) {
+        Propagated::Quiet => false,
+        Propagated::Conflict(conflict) => {
+            conflict == ClauseId(3)
+                && trail.level() > 0
+                && learns(alloc, trail, db, conflict, &hints)
+                && closes(alloc, trail, db, conflict, &hints)
+        }
     }
 }
 

@@ -198,7 +198,29 @@ fn ask_all<R: Fn(u32) -> u64>(
     true
 }
 
-// Whether all questions are answered rightly by one solver, where the last quarter of the clauses comes after the early ones.
+// Whether all questions are answered rightly, where the last quarter of the clauses comes after the early ones.
+fn answers_in_two<R: Fn(u32) -> u64>(
+    alloc: Global,
+    solver: &mut Solver<R>,
+    book: &mut Ledger,
+    vars: u32,
+    clauses: &Clauses,
+    early: &[Question],
+    late: &[Question],
+) -> bool
+    requires ranked { IsRanked R.pre R.post solver.old.order }
+    requires adopted { solver.old.adopted ≡ clauses_of book.old.entries }
+    requires vars { solver.old.vars ≡ vars }
+{
+    let end = clauses.len();
+    let first = end - end / 4;
+    add_all(solver, book, vars, clauses, 0, first)
+        && ask_all(alloc, solver, book, vars, early)
+        && add_all(solver, book, vars, clauses, first, end)
+        && ask_all(alloc, solver, book, vars, late)
+}
+
+// The same of a new solver with this order.
 fn answers<R: Fn(u32) -> u64>(
     alloc: Global,
     order: Order<R>,
@@ -213,13 +235,8 @@ fn answers<R: Fn(u32) -> u64>(
 {
     let mut book = Ledger::new(alloc);
     let mut solver = Solver::new(alloc, order);
-    let end = clauses.len();
-    let first = end - end / 4;
     solver.reserve(vars, 0).is_ok()
-        && add_all(&mut solver, &mut book, vars, clauses, 0, first)
-        && ask_all(alloc, &mut solver, &mut book, vars, early)
-        && add_all(&mut solver, &mut book, vars, clauses, first, end)
-        && ask_all(alloc, &mut solver, &mut book, vars, late)
+        && answers_in_two(alloc, &mut solver, &mut book, vars, clauses, early, late)
 }
 
 // The same, where the last variable is decided first.

@@ -1,8 +1,10 @@
 // Propagation, decisions, and going back.
-ghost use Rattle.std.specs.Prelude.{◌≡◌, ◌<◌};
+ghost use Rattle.std.specs.Prelude.{◌≡◌, ◌<◌, ◌≤◌, []};
+ghost use Rattle.prop_core.specs.Clauses.{HasValues};
 ghost use Rattle.sat_prop.specs.Changes.{IsFront};
 
 use crate::ample::got;
+use des_base::VAR_LIMIT;
 use prop_core::{ClauseId, Clauses, Lit};
 use sat_prop::{Propagated, Trail};
 use std::process::Abort;
@@ -59,20 +61,41 @@ fn are_on_one_level(trail: &Trail, count: u32) -> bool {
     trail.literals().len() == count as usize && trail.reasons().len() == count as usize
 }
 
+// Makes so many variables and attaches two clauses, where nothing is there yet.
+fn attach_two(
+    rt: &impl Abort,
+    trail: &mut Trail,
+    db: &mut Clauses,
+    vars: u32,
+    first: &[Lit],
+    second: &[Lit],
+)
+    requires new { trail.old ≡ record { clauses = []; attached = []; literals = []; reasons = []; vars = 0; spare = 0 } }
+    requires empty { db.old.clauses ≡ [] }
+    requires limit { vars ≤ VAR_LIMIT }
+    requires first { HasValues vars first.now }
+    requires second { HasValues vars second.now }
+    ensures front { IsFront trail.new.clauses db.new.clauses }
+    ensures vars { trail.new.vars ≡ vars }
+{
+    got(rt, trail.grow(vars));
+    got(rt, trail.reserve_clauses(2));
+    got(rt, db.push(first));
+    got(rt, db.push(second));
+    trail.attach(db, ClauseId(1));
+    trail.attach(db, ClauseId(2));
+}
+
 #[test]
 fn propagates_and_goes_back(rt: HostRuntime) {
     let mut db = Clauses::new(rt.alloc());
     let mut trail = Trail::new(rt.alloc());
-    got(&rt, trail.grow(5));
-    got(&rt, trail.reserve_clauses(2));
-    let first = got(&rt, db.push(&[Lit::new(1, false), Lit::new(2, true)]));
-    trail.attach(&db, first);
+    let two = [Lit::new(1, false), Lit::new(2, true)];
     let repeated = [Lit::new(3, false), Lit::new(2, false), Lit::new(3, false)];
-    let second = got(&rt, db.push(&repeated));
-    trail.attach(&db, second);
+    attach_two(&rt, &mut trail, &mut db, 5, &two, &repeated);
     assert!(rt; rests_at(&mut trail, &db, 0));
     assert!(rt; rests_after(&mut trail, &db, Lit::new(1, true)));
-    assert!(rt; are_forced(&trail, first, second) && are_on_one_level(&trail, 3));
+    assert!(rt; are_forced(&trail, ClauseId(1), ClauseId(2)) && are_on_one_level(&trail, 3));
     assert!(rt; trail.level() == 1 && trail.last_decision() == 0);
     trail.back_to(0);
     assert!(rt; trail.len() == 0);
@@ -82,12 +105,8 @@ fn propagates_and_goes_back(rt: HostRuntime) {
 fn finds_a_conflict(rt: HostRuntime) {
     let mut db = Clauses::new(rt.alloc());
     let mut trail = Trail::new(rt.alloc());
-    got(&rt, trail.grow(1));
-    got(&rt, trail.reserve_clauses(2));
-    let yes = got(&rt, db.push(&[Lit::new(0, true)]));
-    trail.attach(&db, yes);
-    let no = got(&rt, db.push(&[Lit::new(0, false)]));
-    trail.attach(&db, no);
+    let yes = [Lit::new(0, true)];
+    attach_two(&rt, &mut trail, &mut db, 1, &yes, &[Lit::new(0, false)]);
     assert!(rt; matches!(trail.propagate(&db), Propagated::Conflict(ClauseId(2))));
 }
 
@@ -95,23 +114,16 @@ fn finds_a_conflict(rt: HostRuntime) {
 fn looks_again_after_going_back(rt: HostRuntime) {
     let mut db = Clauses::new(rt.alloc());
     let mut trail = Trail::new(rt.alloc());
-    got(&rt, trail.grow(5));
-    got(&rt, trail.reserve_clauses(2));
-    let three = got(
-        &rt,
-        db.push(&[Lit::new(0, true), Lit::new(1, true), Lit::new(2, true)]),
-    );
-    trail.attach(&db, three);
-    let more = [
+    let three = [Lit::new(0, true), Lit::new(1, true), Lit::new(2, true)];
+    let four = [
         Lit::new(2, false),
         Lit::new(0, true),
         Lit::new(3, true),
         Lit::new(4, true),
     ];
-    let four = got(&rt, db.push(&more));
-    trail.attach(&db, four);
-    looks_at_both(&rt, &mut trail, &db, three, four);
-    looks_again(&rt, &mut trail, &db, three);
+    attach_two(&rt, &mut trail, &mut db, 5, &three, &four);
+    looks_at_both(&rt, &mut trail, &db, ClauseId(1), ClauseId(2));
+    looks_again(&rt, &mut trail, &db, ClauseId(1));
 }
 
 // Each literal of three that becomes false lets the last one be forced, whichever it is.
