@@ -14,7 +14,7 @@ use log_order::AlarmLog;
 use std::alloc::Global;
 
 /// What replaying a run against a log tells: the first of these that holds.
-#[derive(Clone, Copy, PartialEq, Eq)]
+#[derive(Clone, Copy)]
 pub enum Replayed {
     /// The run explains the log. The faults are the places with a fault event.
     Accepted { faults: u32 },
