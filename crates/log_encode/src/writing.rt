@@ -74,7 +74,6 @@ fn link_vars(grid: Grid, vars: AlarmVars, link: u32, taken: &Taken, step: u32) -
 }
 
 // A link in all steps.
-#[tactic(auto, using(crate::proofs::LoopLemmas::flat_more_on))]
 fn write_steps(
     grid: Grid,
     vars: AlarmVars,
@@ -116,7 +115,6 @@ pub fn write_links(
 }
 
 // That the alarm is matched to the events of its links in a step, one literal each.
-#[tactic(auto, using(crate::proofs::LoopLemmas::map_more))]
 fn matches_at(alloc: Global, vars: AlarmVars, step: u32) -> Result<Vec<Lit>, Memory>
     requires within { IsWithin vars }
     requires step { step < vars.steps }
@@ -155,7 +153,6 @@ fn write_step(
 }
 
 // Whether the alarm is matched, within all numbers of steps: at first it isn't, and at last it is where the log is asked for.
-#[tactic(auto, using(crate::proofs::LoopLemmas::flat_more_after))]
 pub fn write_done(
     alloc: Global,
     asked: u32,
