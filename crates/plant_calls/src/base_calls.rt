@@ -2,7 +2,7 @@
 use crate::made::name;
 use des_base::{
     Line, Lines, LoadFault, MemShelf, MemSink, Name, NameFault, NameList, NameTable, Shelf, Sink,
-    WordList, read_number,
+    Tokens, WordList, read_number,
 };
 use std::alloc::Global;
 use std::cmp::Ordering;
@@ -16,15 +16,13 @@ fn copied(rt: &impl Abort, name: &Name) -> Name {
     }
 }
 
-#[test]
-fn makes_names(rt: HostRuntime) {
-    let name = name(&rt, rt.alloc(), b"ab");
-    assert!(rt; name.as_str() == "ab");
-    assert!(rt; copied(&rt, &name).as_str() == "ab");
+fn keeps_its_text(rt: &impl Abort, name: &Name) -> bool {
+    name.as_str() == "ab" && copied(rt, name).as_str() == "ab"
 }
 
 #[test]
-fn refuses_names(rt: HostRuntime) {
+fn makes_names(rt: HostRuntime) {
+    assert!(rt; keeps_its_text(&rt, &name(&rt, rt.alloc(), b"ab")));
     assert!(rt; matches!(Name::new(rt.alloc(), b"a b"), Err(NameFault::Shape)));
 }
 
@@ -43,224 +41,213 @@ fn compare(left: &Name, right: &Name, want: Ordering) -> bool {
         && (hash_of(left) == hash_of(right)) == equal
 }
 
-#[test]
-fn compares_names(rt: HostRuntime) {
-    let cases: [(&[u8], &[u8], Ordering); 5] = [
-        (b"ab", b"ab", Ordering::Equal),
-        (b"a", b"ab", Ordering::Less),
-        (b"b", b"ab", Ordering::Greater),
-        (b"B", b"a", Ordering::Less),
-        (b"a-", b"a_", Ordering::Less),
-    ];
-    for (left, right, want) in cases {
-        let left = name(&rt, rt.alloc(), left);
-        assert!(rt; compare(&left, &name(&rt, rt.alloc(), right), want));
-    }
+fn texts_compare(
+    rt: &impl Abort,
+    alloc: Global,
+    left: &[u8],
+    right: &[u8],
+    want: Ordering,
+) -> bool {
+    compare(&name(rt, alloc, left), &name(rt, alloc, right), want)
 }
 
-// The place of a new name in a table, which then has it.
-fn place_in(rt: &impl Abort, table: &mut NameTable, name: Name) -> u32 {
-    assert!(rt; table.find(name.as_str().as_bytes()).is_none() && table.len() < 9);
-    match table.add(name) {
-        Ok(place) => place,
-        Err(_) => panic!(rt; "no memory"),
+#[test]
+fn compares_names(rt: HostRuntime) {
+    let alloc = rt.alloc();
+    assert!(rt; texts_compare(&rt, alloc, b"ab", b"ab", Ordering::Equal));
+    assert!(rt; texts_compare(&rt, alloc, b"a", b"ab", Ordering::Less));
+    assert!(rt; texts_compare(&rt, alloc, b"b", b"ab", Ordering::Greater));
+    assert!(rt; texts_compare(&rt, alloc, b"B", b"a", Ordering::Less));
+    assert!(rt; texts_compare(&rt, alloc, b"a-", b"a_", Ordering::Less));
+}
+
+// Adds a new name to a table, in the next place.
+fn add(rt: &impl Abort, table: &mut NameTable, name: Name) {
+    let next = table.len();
+    assert!(rt; table.find(name.as_str().as_bytes()).is_none() && next < 9);
+    assert!(rt; matches!(table.add(name), Ok(place) if place == next));
+}
+
+fn table(rt: &impl Abort, alloc: Global) -> NameTable {
+    let mut table = NameTable::new(alloc);
+    assert!(rt; table.len() == 0);
+    for text in &[b"idle".as_slice(), b"a", b"A"] {
+        add(rt, &mut table, name(rt, alloc, text));
     }
+    table
+}
+
+fn has_places(table: &NameTable) -> bool {
+    table.find(b"idle") == Some(0)
+        && table.find(b"a") == Some(1)
+        && table.find(b"A") == Some(2)
+        && table.find(b"aa").is_none()
+        && table.find(b"").is_none()
+        && table.len() == 3
+        && table.name(1).as_str() == "a"
 }
 
 #[test]
 fn numbers_names(rt: HostRuntime) {
-    let mut table = NameTable::new(rt.alloc());
-    assert!(rt; table.len() == 0);
-    for (text, place) in [(b"idle".as_slice(), 0), (b"a", 1), (b"A", 2)] {
-        assert!(rt; place_in(&rt, &mut table, name(&rt, rt.alloc(), text)) == place);
-    }
-    assert!(rt; table.len() == 3 && table.name(1).as_str() == "a");
-    let cases = [
-        ("idle", Some(0)),
-        ("a", Some(1)),
-        ("A", Some(2)),
-        ("aa", None),
-        ("", None),
-    ];
-    for (text, place) in cases {
-        assert!(rt; table.find(text.as_bytes()) == place, "{text:?}");
-    }
+    assert!(rt; has_places(&table(&rt, rt.alloc())));
 }
+
+const NUMBERS: [(&[u8], u64, Option<u64>); 16] = [
+    (b"0", u64::MAX, Some(0)),
+    (b"0", 0, Some(0)),
+    (b"7", u64::MAX, Some(7)),
+    (
+        b"18446744073709551615",
+        u64::MAX,
+        Some(18446744073709551615),
+    ),
+    (b"1000", 1000, Some(1000)),
+    (b"1001", 1000, None),
+    (b"1", 0, None),
+    (b"", u64::MAX, None),
+    (b"00", u64::MAX, None),
+    (b"007", u64::MAX, None),
+    (b"-1", u64::MAX, None),
+    (b"+1", u64::MAX, None),
+    (b"1 ", u64::MAX, None),
+    (b"x", u64::MAX, None),
+    (b"18446744073709551616", u64::MAX, None),
+    (b"1844674407370955161500000", u64::MAX, None),
+];
 
 #[test]
 fn reads_numbers(rt: HostRuntime) {
-    let cases: [(&[u8], u64, Option<u64>); 16] = [
-        (b"0", u64::MAX, Some(0)),
-        (b"0", 0, Some(0)),
-        (b"7", u64::MAX, Some(7)),
-        (
-            b"18446744073709551615",
-            u64::MAX,
-            Some(18446744073709551615),
-        ),
-        (b"1000", 1000, Some(1000)),
-        (b"1001", 1000, None),
-        (b"1", 0, None),
-        (b"", u64::MAX, None),
-        (b"00", u64::MAX, None),
-        (b"007", u64::MAX, None),
-        (b"-1", u64::MAX, None),
-        (b"+1", u64::MAX, None),
-        (b"1 ", u64::MAX, None),
-        (b"x", u64::MAX, None),
-        (b"18446744073709551616", u64::MAX, None),
-        (b"1844674407370955161500000", u64::MAX, None),
-    ];
-    for (text, max, want) in cases {
-        assert!(rt; read_number(text, max) == want, "{text:?} up to {max}");
+    for (text, max, want) in &NUMBERS {
+        assert!(rt; read_number(text, *max) == *want, "{text:?} up to {max}");
     }
 }
 
-// Whether the next lines are these, and then there is none, and none again.
-fn are_next(mut lines: Lines, want: &[(u32, &[u8])]) -> bool {
-    for (number, text) in want {
-        match lines.next_line() {
-            Some(line) if line.number == *number && line.text == *text => {}
-            _ => return false,
-        }
+fn is_line(lines: &mut Lines, number: u32, text: &[u8]) -> bool {
+    match lines.next_line() {
+        Some(line) => line.number == number && line.text == text,
+        None => false,
     }
-    lines.next_line().is_none() && lines.next_line().is_none()
+}
+
+// Whether these are three lines, and then there is none, and none again.
+fn are_three(lines: &mut Lines) -> bool {
+    is_line(lines, 1, b"ab c")
+        && is_line(lines, 2, b"\td ")
+        && is_line(lines, 3, b"last")
+        && lines.next_line().is_none()
+        && lines.next_line().is_none()
 }
 
 #[test]
 fn counts_lines(rt: HostRuntime) {
-    let cases: [(&[u8], u8, &[(u32, &[u8])]); 12] = [
-        (b"", b'#', &[]),
-        (b"\n", b'#', &[]),
-        (b"a", b'#', &[(1, b"a")]),
-        (b"a\n", b'#', &[(1, b"a")]),
-        (b"\n \t\na\n\nb\n\n", b'#', &[(3, b"a"), (5, b"b")]),
-        (
-            b"ab c\r\n\td \r\nlast\r",
-            b'#',
-            &[(1, b"ab c"), (2, b"\td "), (3, b"last")],
-        ),
-        (b"a\n\r", b'#', &[(1, b"a")]),
-        (b"\r\nb", b'#', &[(2, b"b")]),
-        (b"a\rb\n\rc\n", b'#', &[(1, b"a\rb"), (2, b"\rc")]),
-        (b"a\r\r\n", b'#', &[(1, b"a\r")]),
-        (b"#\n \t# a\n#\r\nb #\n", b'#', &[(4, b"b #")]),
-        (b"c a\n# b\nd\n", b'c', &[(2, b"# b"), (3, b"d")]),
-    ];
-    for (text, comment, want) in cases {
-        assert!(rt;
-            text.len() < 1000 && are_next(Lines::new(text, comment), want),
-            "{text:?}"
-        );
+    assert!(rt; are_three(&mut Lines::new(b"ab c\r\n\td \r\nlast\r", b'#')));
+}
+
+// Whether the next token is this, also by looking ahead.
+fn is_token(tokens: &mut Tokens, start: usize, text: &[u8]) -> bool {
+    let ahead = tokens.again().next_token();
+    match tokens.next_token() {
+        Some(token) => token.start == start && token.text == text && ahead == Some(token),
+        None => false,
     }
 }
 
-// Whether the tokens of the line are these, also by looking ahead, and then there is none, and none again.
-fn has_tokens(line: Line, want: &[(usize, &[u8])]) -> bool {
-    let mut tokens = line.tokens();
-    for (start, text) in want {
-        let ahead = tokens.again().next_token();
-        match tokens.next_token() {
-            Some(token) if token.start == *start && token.text == *text && ahead == Some(token) =>
-                {}
-            _ => return false,
-        }
-    }
+// Whether there is no further token, and none again.
+fn is_end(tokens: &mut Tokens) -> bool {
     tokens.next_token().is_none() && tokens.next_token().is_none()
+}
+
+fn has_none(text: &[u8]) -> bool {
+    is_end(&mut Line { number: 1, text }.tokens())
+}
+
+fn has_one(tokens: &mut Tokens) -> bool {
+    is_token(tokens, 0, b"abc") && is_end(tokens)
+}
+
+fn has_two(tokens: &mut Tokens) -> bool {
+    is_token(tokens, 0, b"a\rb") && is_token(tokens, 4, b"#\xff") && is_end(tokens)
+}
+
+fn has_three(tokens: &mut Tokens) -> bool {
+    is_token(tokens, 1, b"ab")
+        && is_token(tokens, 4, b"c")
+        && is_token(tokens, 7, b"d")
+        && is_end(tokens)
+}
+
+fn line(text: &[u8]) -> Line<'_> {
+    Line { number: 1, text }
 }
 
 #[test]
 fn cuts_tokens(rt: HostRuntime) {
-    let cases: [(&[u8], &[(usize, &[u8])]); 5] = [
-        (b"", &[]),
-        (b" \t ", &[]),
-        (b"abc", &[(0, b"abc")]),
-        (b" ab\tc  d ", &[(1, b"ab"), (4, b"c"), (7, b"d")]),
-        (b"a\rb #\xff", &[(0, b"a\rb"), (4, b"#\xff")]),
-    ];
-    for (text, want) in cases {
-        assert!(rt; has_tokens(Line { number: 1, text }, want), "{text:?}");
-    }
+    assert!(rt; has_none(b"") && has_none(b" \t "));
+    assert!(rt; has_one(&mut line(b"abc").tokens()));
+    assert!(rt; has_two(&mut line(b"a\rb #\xff").tokens()));
+    assert!(rt; has_three(&mut line(b" ab\tc  d ").tokens()));
 }
 
-// Where the first token from a place on begins, and its text.
-fn token_from<'a>(line: &Line<'a>, from: usize) -> (usize, &'a [u8]) {
-    match line.token(from) {
-        Some(token) => (token.start, token.text),
-        None => (9999, b"none"),
+// Whether the first token from a place on begins there and has this text; there is none where it has no text.
+fn finds(from: usize, start: usize, text: &[u8]) -> bool {
+    match line(b" ab\tc  d ").token(from) {
+        Some(token) => token.start == start && token.text == text,
+        None => text.is_empty(),
     }
 }
 
 #[test]
 fn finds_tokens(rt: HostRuntime) {
-    let line = Line {
-        number: 1,
-        text: b" ab\tc  d ",
-    };
-    let cases: [(usize, usize, &[u8]); 9] = [
-        (0, 1, b"ab"),
-        (1, 1, b"ab"),
-        (2, 4, b"c"),
-        (4, 4, b"c"),
-        (5, 7, b"d"),
-        (7, 7, b"d"),
-        (8, 9999, b"none"),
-        (9, 9999, b"none"),
-        (1000, 9999, b"none"),
-    ];
-    for (from, start, text) in cases {
-        let found = token_from(&line, from);
-        assert!(rt; found.0 == start && found.1 == text, "from {from}");
-    }
+    assert!(rt; finds(0, 1, b"ab") && finds(1, 1, b"ab") && finds(2, 4, b"c") && finds(4, 4, b"c"));
+    assert!(rt; finds(5, 7, b"d") && finds(7, 7, b"d"));
+    assert!(rt; finds(8, 0, b"") && finds(9, 0, b"") && finds(1000, 0, b""));
 }
 
 fn words(rt: &impl Abort, alloc: Global) -> WordList {
     let mut words = WordList::new(alloc);
-    for word in ["trace", "", "a b"] {
-        if words.push(word).is_err() {
-            panic!(rt; "no memory for {word:?}");
-        }
+    for word in &["trace", "", "a b"] {
+        assert!(rt; words.push(word).is_ok());
     }
     words
 }
 
+fn has_words(words: &WordList) -> bool {
+    words.len() == 3 && words.word(0) == "trace" && words.word(1) == "" && words.word(2) == "a b"
+}
+
 #[test]
 fn keeps_words(rt: HostRuntime) {
-    let words = words(&rt, rt.alloc());
-    assert!(rt; words.len() == 3);
-    assert!(rt; words.word(0) == "trace" && words.word(1) == "" && words.word(2) == "a b");
+    assert!(rt; has_words(&words(&rt, rt.alloc())));
 }
 
 fn names(rt: &impl Abort, alloc: Global) -> NameList {
     let mut names = NameList::new(alloc);
-    for text in [b"T-1".as_slice(), b"F", b"T-1"] {
-        if names.push(name(rt, alloc, text)).is_err() {
-            panic!(rt; "no memory for {text:?}");
-        }
+    for text in &[b"T-1".as_slice(), b"F", b"T-1"] {
+        assert!(rt; names.push(name(rt, alloc, text)).is_ok());
     }
     names
 }
 
+fn has_names(names: &NameList) -> bool {
+    match names.as_slice() {
+        [first, second, third] => first.as_str() == "T-1"
+            && second.as_str() == "F"
+            && first == third,
+        _ => false,
+    }
+}
+
 #[test]
 fn keeps_names(rt: HostRuntime) {
-    let names = names(&rt, rt.alloc());
-    let [first, second, third] = names.as_slice() else {
-        panic!(rt; "three names");
-    };
-    assert!(rt; first.as_str() == "T-1" && second.as_str() == "F" && first == third);
+    assert!(rt; has_names(&names(&rt, rt.alloc())));
 }
 
 fn shelf(rt: &impl Abort, alloc: Global) -> MemShelf {
     let mut shelf = MemShelf::new(alloc);
-    let files: [(&str, &[u8]); 3] = [("net", b"older"), ("net", b"newer!"), ("none", b"")];
-    for (name, bytes) in files {
-        if shelf.add_file(name, bytes).is_err() {
-            panic!(rt; "no memory for {name}");
-        }
-    }
-    if shelf.fail_call(3).is_err() {
-        panic!(rt; "no memory for a failing call");
-    }
+    assert!(rt; shelf.add_file("net", b"older").is_ok());
+    assert!(rt; shelf.add_file("net", b"newer!").is_ok());
+    assert!(rt; shelf.add_file("none", b"").is_ok());
+    assert!(rt; shelf.fail_call(3).is_ok());
     shelf
 }
 
@@ -279,27 +266,22 @@ fn loads(
     }
 }
 
-#[test]
-fn loads_files(rt: HostRuntime) {
-    let mut shelf = shelf(&rt, rt.alloc());
-    // name, limit, what is loaded or nothing for a fault, and how many loads have failed then
-    let cases: [(&str, u8, Option<&[u8]>, u64); 8] = [
-        ("net", 100, Some(b"newer!"), 0),
-        ("net", 6, Some(b"newer!"), 0),
-        ("net", 6, None, 1),
-        ("net", 5, Some(b"newer!"), 1),
-        ("net", 4, Some(b"newer"), 1),
-        ("net", 0, Some(b"n"), 1),
-        ("log", 100, None, 2),
-        ("none", 0, Some(b""), 2),
-    ];
-    let mut bytes = left_over(&rt, rt.alloc());
-    for (name, limit, want, failures) in cases {
-        assert!(rt;
-            loads(&mut shelf, &mut bytes, name, limit, want),
-            "{name} {limit}"
-        );
-        assert!(rt; shelf.failures() == failures, "{name} {limit}");
+// Name, limit, what is loaded or nothing for a fault, and how many loads have failed then.
+const LOADS: [(&str, u8, Option<&[u8]>, u64); 8] = [
+    ("net", 100, Some(b"newer!"), 0),
+    ("net", 6, Some(b"newer!"), 0),
+    ("net", 6, None, 1),
+    ("net", 5, Some(b"newer!"), 1),
+    ("net", 4, Some(b"newer"), 1),
+    ("net", 0, Some(b"n"), 1),
+    ("log", 100, None, 2),
+    ("none", 0, Some(b""), 2),
+];
+
+fn expect_loads(rt: &impl Abort, shelf: &mut MemShelf, into: &mut Vec<u8>) {
+    for (name, limit, want, failures) in &LOADS {
+        assert!(rt; loads(shelf, into, name, *limit, *want), "{name} {limit}");
+        assert!(rt; shelf.failures() == *failures, "{name} {limit}");
     }
 }
 
@@ -310,31 +292,45 @@ fn left_over(rt: &impl Abort, alloc: Global) -> Vec<u8> {
     }
 }
 
+#[test]
+fn loads_files(rt: HostRuntime) {
+    expect_loads(
+        &rt,
+        &mut shelf(&rt, rt.alloc()),
+        &mut left_over(&rt, rt.alloc()),
+    );
+}
+
 fn sink(rt: &impl Abort, alloc: Global) -> MemSink {
     let mut sink = MemSink::new(alloc);
     assert!(rt; sink.put(b"a").is_err());
-    assert!(rt; sink.reserve(6).is_ok() && sink.fail_call(4).is_ok());
+    assert!(rt; sink.reserve(6).is_ok());
+    assert!(rt; sink.fail_call(4).is_ok());
     sink
+}
+
+// The piece, whether it is taken, what has been taken then, and how many puts have failed.
+const PUTS: [(&[u8], bool, &[u8], u64); 7] = [
+    (b"abc", true, b"abc", 1),
+    (b"defg", false, b"abc", 2),
+    (b"d", false, b"abc", 3),
+    (b"", true, b"abc", 3),
+    (b"def", true, b"abcdef", 3),
+    (b"", true, b"abcdef", 3),
+    (b"g", false, b"abcdef", 4),
+];
+
+fn expect_puts(rt: &impl Abort, sink: &mut MemSink) {
+    for (piece, done, taken, failures) in &PUTS {
+        assert!(rt; sink.put(piece).is_ok() == *done, "{piece:?}");
+        assert!(rt;
+            sink.taken() == *taken && sink.failures() == *failures,
+            "{piece:?}"
+        );
+    }
 }
 
 #[test]
 fn takes_pieces(rt: HostRuntime) {
-    let mut sink = sink(&rt, rt.alloc());
-    // the piece, whether it is taken, what has been taken then, and how many puts have failed
-    let cases: [(&[u8], bool, &[u8], u64); 7] = [
-        (b"abc", true, b"abc", 1),
-        (b"defg", false, b"abc", 2),
-        (b"d", false, b"abc", 3),
-        (b"", true, b"abc", 3),
-        (b"def", true, b"abcdef", 3),
-        (b"", true, b"abcdef", 3),
-        (b"g", false, b"abcdef", 4),
-    ];
-    for (piece, done, taken, failures) in cases {
-        assert!(rt; sink.put(piece).is_ok() == done, "{piece:?}");
-        assert!(rt;
-            sink.taken() == taken && sink.failures() == failures,
-            "{piece:?}"
-        );
-    }
+    expect_puts(&rt, &mut sink(&rt, rt.alloc()));
 }

@@ -1,6 +1,6 @@
 // What a network says that was read of a text: its names, their order, and numbers.
 use crate::made::{part, trans};
-use crate::net_calls::told;
+use crate::net_calls::{is_empty, tells};
 use des_base::{CompId, EventId};
 use des_net::{Network, Part, Trans};
 use model_text::read_model;
@@ -15,11 +15,14 @@ pub fn network(rt: &impl Abort, alloc: Global, text: &str) -> Network {
     }
 }
 
+fn reads_nothing(rt: &impl Abort, alloc: Global, text: &str) -> bool {
+    is_empty(&network(rt, alloc, text))
+}
+
 #[test]
 fn reads_a_header_alone(rt: HostRuntime) {
-    for text in ["des 1", "des 1\n", "\n# no component\n des\t1\r\n\n"] {
-        let net = network(&rt, rt.alloc(), text);
-        assert!(rt; net.components() == 0 && net.events() == 0, "{text:?}");
+    for text in &["des 1", "des 1\n", "\n# no component\n des\t1\r\n\n"] {
+        assert!(rt; reads_nothing(&rt, rt.alloc(), text), "{text:?}");
     }
 }
 
@@ -61,19 +64,20 @@ trans t a s
 event f alarm L fault : q.a p.c
 ";
 
+const VALVE_TOLD: &str =
+    "p ok* bad off by jam by trip by fix by beat.jam p!.trip p as T.fix p as F.beat p as B.";
+
+const TWO_TOLD: &str = "p s* t* by a by c.q t s* by c by a.e p.f p q as L!.";
+
+fn reads_as(rt: &impl Abort, alloc: Global, text: &str, want: &str) -> bool {
+    tells(rt, alloc, &network(rt, alloc, text), want)
+}
+
 #[test]
 fn reads_names(rt: HostRuntime) {
-    let valve =
-        "p ok* bad off by jam by trip by fix by beat.jam p!.trip p as T.fix p as F.beat p as B.";
-    let two = "p s* t* by a by c.q t s* by c by a.e p.f p q as L!.";
-    for (text, want) in [
-        (VALVE, valve),
-        (VALVE_IN_OTHER_LAYOUT, valve),
-        (TWO_COMPONENTS, two),
-    ] {
-        let net = network(&rt, rt.alloc(), text);
-        assert!(rt; told(&rt, rt.alloc(), &net).as_str() == want, "{text:?}");
-    }
+    assert!(rt; reads_as(&rt, rt.alloc(), VALVE, VALVE_TOLD));
+    assert!(rt; reads_as(&rt, rt.alloc(), VALVE_IN_OTHER_LAYOUT, VALVE_TOLD));
+    assert!(rt; reads_as(&rt, rt.alloc(), TWO_COMPONENTS, TWO_TOLD));
 }
 
 // Whether these are the component's transitions.
@@ -86,27 +90,36 @@ fn has_parts(net: &Network, event: u32, want: &[Part]) -> bool {
     event < net.events() && net.event(EventId(event)).parts.as_slice() == want
 }
 
-#[test]
-fn reads_a_component(rt: HostRuntime) {
-    for text in [VALVE, VALVE_IN_OTHER_LAYOUT] {
-        let net = network(&rt, rt.alloc(), text);
-        let want = [
+fn is_valve(net: &Network) -> bool {
+    has_trans(
+        net,
+        0,
+        &[
             trans(0, 0, 1),
             trans(1, 1, 2),
             trans(2, 2, 0),
             trans(0, 3, 0),
-        ];
-        assert!(rt; has_trans(&net, 0, &want), "{text:?}");
-        for event in 0..4 {
-            assert!(rt; has_parts(&net, event, &[part(0, event)]), "{text:?}");
-        }
-    }
+        ],
+    ) && has_parts(net, 0, &[part(0, 0)])
+        && has_parts(net, 1, &[part(0, 1)])
+        && has_parts(net, 2, &[part(0, 2)])
+        && has_parts(net, 3, &[part(0, 3)])
+}
+
+#[test]
+fn reads_a_component(rt: HostRuntime) {
+    assert!(rt; is_valve(&network(&rt, rt.alloc(), VALVE)));
+    assert!(rt; is_valve(&network(&rt, rt.alloc(), VALVE_IN_OTHER_LAYOUT)));
+}
+
+fn are_two(net: &Network) -> bool {
+    has_trans(net, 0, &[trans(0, 0, 1), trans(0, 0, 0), trans(1, 1, 0)])
+        && has_trans(net, 1, &[trans(1, 0, 0), trans(0, 1, 1)])
+        && has_parts(net, 0, &[part(0, 0)])
+        && has_parts(net, 1, &[part(1, 1), part(0, 1)])
 }
 
 #[test]
 fn reads_two_components(rt: HostRuntime) {
-    let net = network(&rt, rt.alloc(), TWO_COMPONENTS);
-    assert!(rt; has_trans(&net, 0, &[trans(0, 0, 1), trans(0, 0, 0), trans(1, 1, 0)]));
-    assert!(rt; has_trans(&net, 1, &[trans(1, 0, 0), trans(0, 1, 1)]));
-    assert!(rt; has_parts(&net, 0, &[part(0, 0)]) && has_parts(&net, 1, &[part(1, 1), part(0, 1)]));
+    assert!(rt; are_two(&network(&rt, rt.alloc(), TWO_COMPONENTS)));
 }

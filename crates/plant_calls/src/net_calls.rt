@@ -2,7 +2,7 @@
 ghost use Rattle.std.specs.Prelude.{◌<◌, length};
 
 use crate::made::{component, finished, name, numbered, part, put, said, state, trans, transition};
-use des_base::{ActionId, CompId, EventId, StateId};
+use des_base::{ActionId, CompId, EventId, Name, StateId};
 use des_net::{Builder, Network, Part};
 use std::alloc::Global;
 use std::process::Abort;
@@ -10,17 +10,25 @@ use std::process::Abort;
 // Two components, p with states s and t and q with a state s, and an event that moves both.
 fn two_components(rt: &impl Abort, alloc: Global) -> Builder {
     let mut builder = Builder::new(alloc);
-    for text in [b"p", b"q"] {
-        assert!(rt; component(&mut builder, name(rt, alloc, text)) == "added");
-    }
-    for (comp, text) in [(0, b"s"), (0, b"t"), (1, b"s")] {
-        assert!(rt; state(&mut builder, comp, name(rt, alloc, text), true) == "added");
-    }
-    for (comp, from, action, to) in [(0, 0, b"a", 1), (0, 1, b"c", 0), (1, 0, b"c", 0)] {
-        assert!(rt; transition(&mut builder, comp, from, name(rt, alloc, action), to) == "added");
-    }
+    add_components(rt, alloc, &mut builder);
+    add_transitions(rt, alloc, &mut builder);
     add_events(rt, alloc, &mut builder);
     builder
+}
+
+fn add_components(rt: &impl Abort, alloc: Global, builder: &mut Builder) {
+    for text in &[b"p", b"q"] {
+        assert!(rt; component(builder, name(rt, alloc, *text)) == "added");
+    }
+    for (comp, text) in &[(0, b"s"), (0, b"t"), (1, b"s")] {
+        assert!(rt; state(builder, *comp, name(rt, alloc, *text), true) == "added");
+    }
+}
+
+fn add_transitions(rt: &impl Abort, alloc: Global, builder: &mut Builder) {
+    for (comp, from, action, to) in &[(0, 0, b"a", 1), (0, 1, b"c", 0), (1, 0, b"c", 0)] {
+        assert!(rt; transition(builder, *comp, *from, name(rt, alloc, *action), *to) == "added");
+    }
 }
 
 fn add_events(rt: &impl Abort, alloc: Global, builder: &mut Builder) {
@@ -31,8 +39,13 @@ fn add_events(rt: &impl Abort, alloc: Global, builder: &mut Builder) {
     assert!(rt; said(builder.add_event(name(rt, alloc, b"f"), &one, None, true)) == "added");
 }
 
+// The network of them.
+fn two(rt: &impl Abort, alloc: Global) -> Network {
+    finished(rt, two_components(rt, alloc))
+}
+
 // Writes what a network says of a component: its states (`*`: initial) and its actions.
-pub fn put_component(rt: &impl Abort, net: &Network, comp: u32, text: &mut String)
+fn put_component(rt: &impl Abort, net: &Network, comp: u32, text: &mut String)
     requires { comp < length net.now.components }
 {
     let comp = CompId(comp);
@@ -58,7 +71,7 @@ pub fn put_component(rt: &impl Abort, net: &Network, comp: u32, text: &mut Strin
 }
 
 // Writes what a network says of an event: its name, the components that it touches, its label, and `!` for a fault.
-pub fn put_event(rt: &impl Abort, net: &Network, event: u32, text: &mut String)
+fn put_event(rt: &impl Abort, net: &Network, event: u32, text: &mut String)
     requires { event < length net.now.events }
 {
     let event = EventId(event);
@@ -77,7 +90,7 @@ pub fn put_event(rt: &impl Abort, net: &Network, event: u32, text: &mut String)
 }
 
 // What a network says of all its components, and then of all its events.
-pub fn told(rt: &impl Abort, alloc: Global, net: &Network) -> String {
+fn told(rt: &impl Abort, alloc: Global, net: &Network) -> String {
     let mut text = String::new(alloc);
     for comp in 0..net.components() {
         put_component(rt, net, comp, &mut text);
@@ -88,104 +101,135 @@ pub fn told(rt: &impl Abort, alloc: Global, net: &Network) -> String {
     text
 }
 
+// Whether a network says this of itself.
+pub fn tells(rt: &impl Abort, alloc: Global, net: &Network, want: &str) -> bool {
+    told(rt, alloc, net).as_str() == want
+}
+
 #[test]
 fn tells_names(rt: HostRuntime) {
-    let net = finished(&rt, two_components(&rt, rt.alloc()));
-    assert!(rt; net.components() == 2 && net.events() == 2);
-    let text = told(&rt, rt.alloc(), &net);
-    assert!(rt; text.as_str() == "p s* t* by a by c.q s* by c.e p q as L.f p!.");
+    let want = "p s* t* by a by c.q s* by c.e p q as L.f p!.";
+    assert!(rt; tells(&rt, rt.alloc(), &two(&rt, rt.alloc()), want));
+}
+
+fn has_numbers(net: &Network) -> bool {
+    net.components() == 2
+        && net.events() == 2
+        && net.trans(CompId(0)) == [trans(0, 0, 1), trans(1, 1, 0)].as_slice()
+        && net.trans(CompId(1)) == [trans(0, 0, 0)].as_slice()
+        && net.event(EventId(0)).parts.as_slice() == [part(0, 1), part(1, 0)].as_slice()
 }
 
 #[test]
 fn tells_numbers(rt: HostRuntime) {
-    let net = finished(&rt, two_components(&rt, rt.alloc()));
-    assert!(rt; net.components() == 2 && net.events() == 2);
-    assert!(rt; net.trans(CompId(0)) == [trans(0, 0, 1), trans(1, 1, 0)].as_slice());
-    assert!(rt; net.trans(CompId(1)) == [trans(0, 0, 0)].as_slice());
-    assert!(rt; net.event(EventId(0)).parts.as_slice() == [part(0, 1), part(1, 0)].as_slice());
+    assert!(rt; has_numbers(&two(&rt, rt.alloc())));
+}
+
+fn finds(net: &Network) -> bool {
+    net.components() == 2
+        && net.find_component(b"q") == Some(CompId(1))
+        && net.find_state(CompId(0), b"t") == Some(StateId(1))
+        && net.find_state(CompId(1), b"t").is_none()
+        && net.find_action(CompId(1), b"c") == Some(ActionId(0))
+        && net.find_event(b"f") == Some(EventId(1))
 }
 
 #[test]
 fn finds_by_name(rt: HostRuntime) {
-    let net = finished(&rt, two_components(&rt, rt.alloc()));
-    assert!(rt; net.components() == 2);
-    assert!(rt; net.find_component(b"q") == Some(CompId(1)));
-    assert!(rt; net.find_state(CompId(0), b"t") == Some(StateId(1)));
-    assert!(rt; net.find_state(CompId(1), b"t").is_none());
-    assert!(rt; net.find_action(CompId(1), b"c") == Some(ActionId(0)));
-    assert!(rt; net.find_event(b"f") == Some(EventId(1)));
+    assert!(rt; finds(&two(&rt, rt.alloc())));
+}
+
+fn finds_unfinished(builder: &Builder) -> bool {
+    builder.components() == 2
+        && builder.find_component(b"r").is_none()
+        && builder.find_state(CompId(0), b"t") == Some(StateId(1))
+        && builder.find_action(CompId(1), b"c") == Some(ActionId(0))
+        && builder.find_action(CompId(1), b"a").is_none()
+        && builder.find_event(b"p").is_none()
 }
 
 #[test]
 fn finds_by_name_while_building(rt: HostRuntime) {
-    let builder = two_components(&rt, rt.alloc());
-    assert!(rt; builder.components() == 2);
-    assert!(rt; builder.find_component(b"r").is_none());
-    assert!(rt; builder.find_state(CompId(0), b"t") == Some(StateId(1)));
-    assert!(rt; builder.find_action(CompId(1), b"c") == Some(ActionId(0)));
-    assert!(rt; builder.find_action(CompId(1), b"a").is_none());
-    assert!(rt; builder.find_event(b"p").is_none());
+    assert!(rt; finds_unfinished(&two_components(&rt, rt.alloc())));
+}
+
+pub fn is_empty(net: &Network) -> bool {
+    net.components() == 0 && net.events() == 0
 }
 
 #[test]
 fn finishes_with_nothing(rt: HostRuntime) {
-    let net = finished(&rt, Builder::new(rt.alloc()));
-    assert!(rt; net.components() == 0 && net.events() == 0);
+    assert!(rt; is_empty(&finished(&rt, Builder::new(rt.alloc()))));
 }
 
-#[test]
-fn refuses_components(rt: HostRuntime) {
-    let mut builder = two_components(&rt, rt.alloc());
-    for (text, want) in [(b"q", "double"), (b"r", "added"), (b"r", "double")] {
+fn expect_components(rt: &impl Abort, alloc: Global, builder: &mut Builder) {
+    for (text, want) in &[(b"q", "double"), (b"r", "added"), (b"r", "double")] {
         assert!(rt;
-            component(&mut builder, name(&rt, rt.alloc(), text)) == want,
+            component(builder, name(rt, alloc, *text)) == *want,
             "{text:?}"
         );
     }
 }
 
 #[test]
+fn refuses_components(rt: HostRuntime) {
+    expect_components(&rt, rt.alloc(), &mut two_components(&rt, rt.alloc()));
+}
+
+fn expect_states(rt: &impl Abort, alloc: Global, builder: &mut Builder) {
+    for (comp, want) in &[(0, "double"), (1, "added"), (1, "double"), (2, "unknown")] {
+        assert!(rt;
+            state(builder, *comp, name(rt, alloc, b"t"), false) == *want,
+            "t of {comp}"
+        );
+    }
+}
+
+#[test]
 fn refuses_states(rt: HostRuntime) {
-    let mut builder = two_components(&rt, rt.alloc());
-    for (comp, want) in [(0, "double"), (1, "added"), (1, "double"), (2, "unknown")] {
-        let added = state(&mut builder, comp, name(&rt, rt.alloc(), b"t"), false);
-        assert!(rt; added == want, "t of {comp}: {added}");
+    expect_states(&rt, rt.alloc(), &mut two_components(&rt, rt.alloc()));
+}
+
+const TRANSITIONS: [(u32, u32, &[u8], u32, &str); 8] = [
+    (0, 0, b"a", 1, "double"),
+    (0, 0, b"a", 0, "added"),
+    (0, 1, b"a", 1, "added"),
+    (0, 0, b"b", 1, "added"),
+    (0, 0, b"b", 1, "double"),
+    (0, 2, b"a", 1, "unknown"),
+    (0, 0, b"d", 2, "unknown"),
+    (2, 0, b"a", 0, "unknown"),
+];
+
+fn expect_transitions(rt: &impl Abort, alloc: Global, builder: &mut Builder) {
+    for (comp, from, action, to, want) in &TRANSITIONS {
+        let added = transition(builder, *comp, *from, name(rt, alloc, *action), *to);
+        assert!(rt; added == *want, "{action:?} from {from} to {to} of {comp}");
     }
 }
 
 #[test]
 fn refuses_transitions(rt: HostRuntime) {
-    let mut builder = two_components(&rt, rt.alloc());
-    for (comp, from, action, to, want) in [
-        (0, 0, b"a", 1, "double"),
-        (0, 0, b"a", 0, "added"),
-        (0, 1, b"a", 1, "added"),
-        (0, 0, b"b", 1, "added"),
-        (0, 0, b"b", 1, "double"),
-        (0, 2, b"a", 1, "unknown"),
-        (0, 0, b"d", 2, "unknown"),
-        (2, 0, b"a", 0, "unknown"),
-    ] {
-        let added = transition(&mut builder, comp, from, name(&rt, rt.alloc(), action), to);
-        assert!(rt;
-            added == want,
-            "{action:?} from {from} to {to} of {comp}: {added}"
-        );
-    }
+    expect_transitions(&rt, rt.alloc(), &mut two_components(&rt, rt.alloc()));
 }
 
-// So many components c0, c1 and so on, each with one state and a transition from it to itself.
+// A component with one state and a transition from it to itself.
+fn add_loop(rt: &impl Abort, alloc: Global, builder: &mut Builder, comp: u32) {
+    assert!(rt; component(builder, numbered(rt, alloc, 'c', comp)) == "added");
+    assert!(rt; state(builder, comp, name(rt, alloc, b"s"), true) == "added");
+    assert!(rt; transition(builder, comp, 0, name(rt, alloc, b"a"), 0) == "added");
+}
+
+// So many of them, c0, c1 and so on.
 pub fn loops(rt: &impl Abort, alloc: Global, count: u32) -> Builder {
     let mut builder = Builder::new(alloc);
     for comp in 0..count {
-        assert!(rt; component(&mut builder, numbered(rt, alloc, 'c', comp)) == "added");
-        assert!(rt; state(&mut builder, comp, name(rt, alloc, b"s"), true) == "added");
-        assert!(rt; transition(&mut builder, comp, 0, name(rt, alloc, b"a"), 0) == "added");
+        add_loop(rt, alloc, &mut builder, comp);
     }
     builder
 }
 
-// A part of each of at most 20 components, and then this part.
+// A part of each of so many components, and then this part.
 fn parts_and(rt: &impl Abort, alloc: Global, count: u32, last: Part) -> Vec<Part> {
     let mut parts = Vec::new(alloc);
     for comp in 0..count {
@@ -195,66 +239,79 @@ fn parts_and(rt: &impl Abort, alloc: Global, count: u32, last: Part) -> Vec<Part
     parts
 }
 
-// What the builder says to an event without a label that moves so many components and this part.
-fn event(
-    rt: &impl Abort,
-    alloc: Global,
-    builder: &mut Builder,
-    text: &[u8],
-    count: u32,
-    last: Part,
-) -> &'static str {
-    let parts = parts_and(rt, alloc, count, last);
+// What the builder says to an event without a label that has these parts.
+fn event(rt: &impl Abort, builder: &mut Builder, name: Name, parts: &[Part]) -> &'static str {
     assert!(rt; !parts.is_empty());
-    said(builder.add_event(name(rt, alloc, text), parts.as_slice(), None, false))
+    said(builder.add_event(name, parts, None, false))
+}
+
+// How many components there are a part of, the component and the action of the last part, and what is said.
+const EVENTS: [(&[u8], u32, u32, u32, &str); 9] = [
+    (b"e", 15, 15, 0, "added"),
+    (b"f", 16, 16, 0, "limit"),
+    (b"f", 16, 18, 0, "unknown"),
+    (b"f", 20, 3, 9, "double"),
+    (b"e", 16, 18, 0, "double"),
+    (b"f", 2, 1, 0, "double"),
+    (b"f", 0, 0, 1, "unknown"),
+    (b"f", 0, 0, 0, "added"),
+    (b"f", 0, 0, 0, "double"),
+];
+
+fn expect_events(rt: &impl Abort, alloc: Global, builder: &mut Builder) {
+    for (text, count, comp, action, want) in &EVENTS {
+        let parts = parts_and(rt, alloc, *count, part(*comp, *action));
+        let added = event(rt, builder, name(rt, alloc, *text), parts.as_slice());
+        assert!(rt;
+            added == *want,
+            "{text:?} with {count} parts and {action} of {comp}"
+        );
+    }
 }
 
 #[test]
 fn refuses_events(rt: HostRuntime) {
-    let mut builder = loops(&rt, rt.alloc(), 18);
-    for (text, count, last, want) in [
-        (b"e", 15, part(15, 0), "added"),
-        (b"f", 16, part(16, 0), "limit"),
-        (b"f", 16, part(18, 0), "unknown"),
-        (b"f", 20, part(3, 9), "double"),
-        (b"e", 16, part(18, 0), "double"),
-        (b"f", 2, part(1, 0), "double"),
-        (b"f", 0, part(0, 1), "unknown"),
-        (b"f", 0, part(0, 0), "added"),
-        (b"f", 0, part(0, 0), "double"),
-    ] {
-        let added = event(&rt, rt.alloc(), &mut builder, text, count, last);
-        assert!(rt; added == want, "{text:?} with {count} parts: {added}");
-    }
-}
-
-// The builder that `finish` gives back, which blames this component.
-fn given_back(rt: &impl Abort, builder: Builder, blamed: u32) -> Builder {
-    match builder.finish() {
-        Err(refused) if refused.comp == CompId(blamed) => refused.builder,
-        _ => panic!(rt; "component {blamed} has no initial state"),
-    }
+    expect_events(&rt, rt.alloc(), &mut loops(&rt, rt.alloc(), 18));
 }
 
 // Four components with an initial state, and d and e without.
 fn two_that_lack(rt: &impl Abort, alloc: Global) -> Builder {
     let mut builder = loops(rt, alloc, 4);
-    for text in [b"d", b"e"] {
-        assert!(rt; component(&mut builder, name(rt, alloc, text)) == "added");
-    }
-    assert!(rt; state(&mut builder, 5, name(rt, alloc, b"s"), false) == "added");
+    add_two_that_lack(rt, alloc, &mut builder);
     builder
+}
+
+fn add_two_that_lack(rt: &impl Abort, alloc: Global, builder: &mut Builder) {
+    assert!(rt; component(builder, name(rt, alloc, b"d")) == "added");
+    assert!(rt; component(builder, name(rt, alloc, b"e")) == "added");
+    assert!(rt; state(builder, 5, name(rt, alloc, b"s"), false) == "added");
+}
+
+// The builder that `finish` gives back, which blames this component.
+fn given_back(rt: &impl Abort, builder: Builder, blamed: u32) -> Builder {
+    match builder.finish() {
+        Ok(_) => panic!(rt; "component {blamed} has no initial state"),
+        Err(refused) => {
+            assert!(rt; refused.comp == CompId(blamed));
+            refused.builder
+        }
+    }
+}
+
+// The same with an initial state of this component, which is blamed before.
+fn mended(rt: &impl Abort, alloc: Global, builder: Builder, comp: u32) -> Builder {
+    let mut builder = given_back(rt, builder, comp);
+    assert!(rt; state(&mut builder, comp, name(rt, alloc, b"t"), true) == "added");
+    builder
+}
+
+fn mended_twice(rt: &impl Abort, alloc: Global) -> Builder {
+    mended(rt, alloc, mended(rt, alloc, two_that_lack(rt, alloc), 4), 5)
 }
 
 #[test]
 fn finishes_with_an_initial_state_in_each_component(rt: HostRuntime) {
-    let mut builder = two_that_lack(&rt, rt.alloc());
-    for comp in [4, 5] {
-        builder = given_back(&rt, builder, comp);
-        assert!(rt; state(&mut builder, comp, name(&rt, rt.alloc(), b"t"), true) == "added");
-    }
-    let net = finished(&rt, builder);
-    assert!(rt; net.components() == 6);
-    let text = told(&rt, rt.alloc(), &net);
-    assert!(rt; text.as_str() == "c0 s* by a.c1 s* by a.c2 s* by a.c3 s* by a.d t*.e s t*.");
+    let net = finished(&rt, mended_twice(&rt, rt.alloc()));
+    let want = "c0 s* by a.c1 s* by a.c2 s* by a.c3 s* by a.d t*.e s t*.";
+    assert!(rt; tells(&rt, rt.alloc(), &net, want));
 }

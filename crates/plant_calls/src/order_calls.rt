@@ -1,5 +1,5 @@
 // Logs that are built, calls that are refused, and the order of the smallest free alarms.
-use crate::made::{name, put};
+use crate::made::name;
 use des_base::Name;
 use log_order::{AlarmLog, LogRefusal};
 use std::alloc::Global;
@@ -43,102 +43,115 @@ fn labels(rt: &impl Abort, alloc: Global, count: u32) -> Vec<Name> {
 // Four alarms, and no pairs.
 fn four_alarms(rt: &impl Abort, alloc: Global) -> AlarmLog {
     let mut log = AlarmLog::new(alloc);
-    let label = labels(rt, alloc, 1);
-    for id in [b"a", b"b", b"c", b"d"] {
-        assert!(rt; said(log.add_alarm(name(rt, alloc, id), label.as_slice())) == "added");
-    }
+    add_four(&mut log, rt, alloc, labels(rt, alloc, 1).as_slice());
     log
 }
 
-// The order of a log, in place of numbers that are left over.
-fn order(rt: &impl Abort, alloc: Global, log: &AlarmLog) -> Vec<u32> {
+fn add_four(log: &mut AlarmLog, rt: &impl Abort, alloc: Global, labels: &[Name]) {
+    for id in &[b"a", b"b", b"c", b"d"] {
+        assert!(rt; said(log.add_alarm(name(rt, alloc, *id), labels)) == "added");
+    }
+}
+
+// Whether this is the order of a log, in place of numbers that are left over.
+fn has_order(rt: &impl Abort, alloc: Global, log: &AlarmLog, want: &[u32]) -> bool {
     match vec![in alloc; 7; 9] {
-        Ok(mut order) => {
-            assert!(rt; log.order(&mut order).is_ok());
-            order
-        }
+        Ok(mut order) => log.order(&mut order).is_ok() && order.as_slice() == want,
         Err(_) => panic!(rt; "no memory"),
     }
 }
 
+fn is_empty(rt: &impl Abort, alloc: Global, log: &AlarmLog) -> bool {
+    log.alarms() == 0 && log.pairs().is_empty() && has_order(rt, alloc, log, &[])
+}
+
 #[test]
 fn starts_empty(rt: HostRuntime) {
-    let log = AlarmLog::new(rt.alloc());
-    assert!(rt; log.alarms() == 0 && log.pairs().is_empty());
-    assert!(rt; order(&rt, rt.alloc(), &log).is_empty());
+    assert!(rt; is_empty(&rt, rt.alloc(), &AlarmLog::new(rt.alloc())));
+}
+
+fn named(rt: &impl Abort, alloc: Global, texts: &[&[u8]]) -> Vec<Name> {
+    let mut names = Vec::new(alloc);
+    for text in texts {
+        assert!(rt; names.push(name(rt, alloc, *text)).is_ok());
+    }
+    names
+}
+
+// Whether an alarm with this id and these labels is tested and added with this answer.
+fn answers(log: &mut AlarmLog, id: Name, labels: &[Name], want: &str) -> bool {
+    let tested = tested(log.test_alarm(&id, labels));
+    said(log.add_alarm(id, labels)) == want && tested == want
 }
 
 // A log with the alarm a, which has these labels.
 fn one_alarm(rt: &impl Abort, alloc: Global, texts: &[&[u8]]) -> AlarmLog {
     let mut log = AlarmLog::new(alloc);
-    let mut labels = Vec::new(alloc);
-    for text in texts {
-        assert!(rt; labels.push(name(rt, alloc, *text)).is_ok());
-    }
-    assert!(rt; tested(log.test_alarm(&name(rt, alloc, b"a"), labels.as_slice())) == "added");
-    assert!(rt;
-        matches!(
-            log.add_alarm(name(rt, alloc, b"a"), labels.as_slice()),
-            Ok(0)
-        )
-    );
+    add_first(&mut log, rt, alloc, named(rt, alloc, texts).as_slice());
     log
+}
+
+fn add_first(log: &mut AlarmLog, rt: &impl Abort, alloc: Global, labels: &[Name]) {
+    let id = name(rt, alloc, b"a");
+    assert!(rt; log.test_alarm(&id, labels).is_none());
+    assert!(rt; matches!(log.add_alarm(id, labels), Ok(0)));
+}
+
+fn has_alarm(log: &AlarmLog) -> bool {
+    log.alarms() == 1
+        && log.id(0).as_str() == "a"
+        && log.labels(0).len() == 2
+        && log.find(b"a") == Some(0)
+        && log.find(b"L").is_none()
 }
 
 #[test]
 fn reads_alarms(rt: HostRuntime) {
-    let log = one_alarm(&rt, rt.alloc(), &[b"L", b"K", b"L"]);
-    assert!(rt; log.alarms() == 1);
-    assert!(rt; log.id(0).as_str() == "a" && log.labels(0).len() == 2);
-    assert!(rt; log.find(b"a") == Some(0) && log.find(b"L").is_none());
+    assert!(rt; has_alarm(&one_alarm(&rt, rt.alloc(), &[b"L", b"K", b"L"])));
+}
+
+fn has_labels(log: &AlarmLog) -> bool {
+    if log.alarms() != 1 {
+        return false;
+    }
+    match log.labels(0) {
+        [first, second, third] => {
+            first.as_str() == "L" && second.as_str() == "K" && third.as_str() == "M"
+        }
+        _ => false,
+    }
 }
 
 #[test]
 fn keeps_the_first_place_of_a_label(rt: HostRuntime) {
-    let log = one_alarm(&rt, rt.alloc(), &[b"L", b"K", b"L", b"M", b"K"]);
-    assert!(rt; log.alarms() == 1);
-    let mut text = String::new(rt.alloc());
-    for label in log.labels(0) {
-        put(&rt, &mut text, label.as_str());
-    }
-    assert!(rt; text.as_str() == "LKM");
+    assert!(rt; has_labels(&one_alarm(&rt, rt.alloc(), &[b"L", b"K", b"L", b"M", b"K"])));
 }
 
-// Whether an alarm with this id and so many labels is tested and added with this answer.
-fn answers(rt: &impl Abort, log: &mut AlarmLog, id: Name, labels: &[Name], want: &str) -> bool {
-    assert!(rt; tested(log.test_alarm(&id, labels)) == want);
-    said(log.add_alarm(id, labels)) == want
+fn expect_alarms(rt: &impl Abort, alloc: Global, log: &mut AlarmLog) {
+    let none: [Name; 0] = [];
+    let one = [name(rt, alloc, b"L")];
+    assert!(rt; answers(log, name(rt, alloc, b"b"), &none, "double"));
+    assert!(rt; answers(log, name(rt, alloc, b"e"), &none, "no labels"));
+    assert!(rt; answers(log, name(rt, alloc, b"e"), &one, "added"));
+    assert!(rt; answers(log, name(rt, alloc, b"e"), &one, "double"));
 }
 
 #[test]
 fn refuses_alarms(rt: HostRuntime) {
-    let mut log = four_alarms(&rt, rt.alloc());
-    for (id, count, want) in [
-        (b"b", 0, "double"),
-        (b"e", 0, "no labels"),
-        (b"e", 1, "added"),
-        (b"e", 1, "double"),
-    ] {
-        let labels = labels(&rt, rt.alloc(), count);
-        let id = name(&rt, rt.alloc(), id);
-        assert!(rt;
-            answers(&rt, &mut log, id, labels.as_slice(), want),
-            "{want}"
-        );
+    expect_alarms(&rt, rt.alloc(), &mut four_alarms(&rt, rt.alloc()));
+}
+
+fn expect_labels(rt: &impl Abort, alloc: Global, log: &mut AlarmLog) {
+    for (count, want) in &[(65, "limit"), (64, "added")] {
+        let labels = labels(rt, alloc, *count);
+        assert!(rt; answers(log, name(rt, alloc, b"a"), labels.as_slice(), want));
     }
+    assert!(rt; log.find(b"a") == Some(0));
 }
 
 #[test]
 fn refuses_too_many_labels(rt: HostRuntime) {
-    for (count, want) in [(65, "limit"), (64, "added")] {
-        let mut log = AlarmLog::new(rt.alloc());
-        let labels = labels(&rt, rt.alloc(), count);
-        let added = log.add_alarm(name(&rt, rt.alloc(), b"a"), labels.as_slice());
-        assert!(rt;
-            said(added) == want && log.alarms() == 65 - count,
-            "{count} labels"
-        );
-    }
+    expect_labels(&rt, rt.alloc(), &mut AlarmLog::new(rt.alloc()));
 }
 
 // Whether a pair is tested and added with this answer: `known` where it was there.
@@ -152,45 +165,52 @@ fn pairs(log: &mut AlarmLog, first: u32, second: u32, want: &str) -> bool {
     }
 }
 
-#[test]
-fn refuses_pairs(rt: HostRuntime) {
-    let mut log = four_alarms(&rt, rt.alloc());
-    for (first, second, want) in [
-        (0, 4, "unknown"),
-        (4, 4, "unknown"),
-        (1, 1, "cycle"),
-        (0, 1, "added"),
-        (1, 0, "cycle"),
-        (1, 2, "added"),
-        (0, 1, "known"),
-        (2, 0, "cycle"),
-        (0, 2, "added"),
-        (3, 2, "added"),
-    ] {
+const PAIRS: [(u32, u32, &str); 10] = [
+    (0, 4, "unknown"),
+    (4, 4, "unknown"),
+    (1, 1, "cycle"),
+    (0, 1, "added"),
+    (1, 0, "cycle"),
+    (1, 2, "added"),
+    (0, 1, "known"),
+    (2, 0, "cycle"),
+    (0, 2, "added"),
+    (3, 2, "added"),
+];
+
+fn expect_pairs(rt: &impl Abort, log: &mut AlarmLog) {
+    for (first, second, want) in &PAIRS {
         assert!(rt;
-            pairs(&mut log, first, second, want),
+            pairs(log, *first, *second, want),
             "{first} before {second}"
         );
     }
-    assert!(rt;
-        log.pairs() == [(0, 1), (1, 2), (0, 2), (3, 2)].as_slice() && log.pair_count() == 4
-    );
+    assert!(rt; log.pairs() == [(0, 1), (1, 2), (0, 2), (3, 2)].as_slice());
+    assert!(rt; log.pair_count() == 4);
+}
+
+#[test]
+fn refuses_pairs(rt: HostRuntime) {
+    expect_pairs(&rt, &mut four_alarms(&rt, rt.alloc()));
+}
+
+// Four alarms with these pairs.
+fn ordered(rt: &impl Abort, alloc: Global, before: &[(u32, u32)]) -> AlarmLog {
+    let mut log = four_alarms(rt, alloc);
+    for (first, second) in before {
+        assert!(rt; pairs(&mut log, *first, *second, "added"));
+    }
+    log
 }
 
 #[test]
 fn takes_the_smallest_free_alarm(rt: HostRuntime) {
-    let mut log = four_alarms(&rt, rt.alloc());
-    for (first, second) in [(2, 3), (1, 3), (0, 2), (0, 1)] {
-        assert!(rt; pairs(&mut log, first, second, "added"));
-    }
-    assert!(rt; order(&rt, rt.alloc(), &log).as_slice() == [0, 1, 2, 3].as_slice());
+    let log = ordered(&rt, rt.alloc(), &[(2, 3), (1, 3), (0, 2), (0, 1)]);
+    assert!(rt; has_order(&rt, rt.alloc(), &log, &[0, 1, 2, 3]));
 }
 
 #[test]
 fn takes_a_later_alarm_first(rt: HostRuntime) {
-    let mut log = four_alarms(&rt, rt.alloc());
-    for (first, second) in [(3, 0), (2, 1)] {
-        assert!(rt; pairs(&mut log, first, second, "added"));
-    }
-    assert!(rt; order(&rt, rt.alloc(), &log).as_slice() == [2, 1, 3, 0].as_slice());
+    let log = ordered(&rt, rt.alloc(), &[(3, 0), (2, 1)]);
+    assert!(rt; has_order(&rt, rt.alloc(), &log, &[2, 1, 3, 0]));
 }
