@@ -70,3 +70,35 @@ fn read_front<R: Read>(file: &mut R, limit: u64, into: &mut Vec<u8>) -> Result<(
     }
     Ok(())
 }
+
+#[cfg(test)]
+mod tests {
+    use super::*;
+
+    const NAME: &str = "disk_shelf_test.txt";
+
+    // Limits, and what is held of the file.
+    const FRONTS: [(u64, &str); 5] = [
+        (100, "seven b"),
+        (7, "seven b"),
+        (6, "seven b"),
+        (3, "seve"),
+        (0, "s"),
+    ];
+
+    // A real file is read to its end or to the limit and one byte more, and an absent one is a fault that is counted.
+    #[test]
+    fn real_files(rt: HostRuntime) {
+        assert!(rt; fs::write(&rt, NAME, "seven b").is_ok());
+        let mut shelf = DiskShelf::new(&rt);
+        let mut bytes = Vec::new(rt.alloc());
+        for (limit, wanted) in FRONTS {
+            let loaded = shelf.load(NAME, limit, &mut bytes);
+            assert!(rt; loaded.is_ok() && bytes.as_slice() == wanted.as_bytes());
+        }
+        assert!(rt; shelf.faults == 0 && fs::remove_file(&rt, NAME).is_ok());
+        let loaded = shelf.load(NAME, 100, &mut bytes);
+        assert!(rt; matches!(loaded, Err(LoadFault::Failed)) && bytes.is_empty());
+        assert!(rt; shelf.faults == 1);
+    }
+}

@@ -38,3 +38,55 @@ impl<W: Write + Drop> Sink for OutSink<W> {
         Ok(())
     }
 }
+
+#[cfg(test)]
+mod tests {
+    use super::*;
+    use std::io;
+
+    // Standard output takes a whole piece, and an empty one. Neither is a fault.
+    #[test]
+    fn standard_output(rt: HostRuntime) {
+        let mut out = OutSink::new(io::writer(&rt));
+        assert!(rt; out.put(b"a piece\n").is_ok());
+        assert!(rt; out.put(b"").is_ok());
+        assert!(rt; out.faults == 0);
+    }
+
+    // A writer that takes three bytes at a time, and in all no more than its room.
+    #[derive(Drop)]
+    struct Narrow {
+        taken: Vec<u8>,
+        room: usize,
+    }
+
+    impl Write for Narrow {
+        fn write(&mut self, piece: &[u8]) -> io::Result<usize> {
+            let count = piece.len().min(3).min(self.room);
+            match self.taken.extend_from_slice(&piece[..count]) {
+                Ok(()) => {
+                    self.room -= count;
+                    Ok(count)
+                }
+                Err(_) => Err(io::ErrorKind::OutOfMemory.into()),
+            }
+        }
+
+        fn flush(&mut self) -> io::Result<()> {
+            Ok(())
+        }
+    }
+
+    // A piece goes out in as many writes as it needs, and a write that takes nothing is a fault that is counted.
+    #[test]
+    fn short_writes(rt: HostRuntime) {
+        let mut out = OutSink::new(Narrow {
+            taken: Vec::new(rt.alloc()),
+            room: 10,
+        });
+        assert!(rt; out.put(b"seven b").is_ok());
+        assert!(rt; out.put(b"more").is_err());
+        assert!(rt; out.to.taken.as_slice() == b"seven bmor".as_slice());
+        assert!(rt; out.faults == 1);
+    }
+}
