@@ -176,3 +176,15 @@ put_together none one all literals now seen x l start a b c d e =
 
 pub learnt_same : (t : TrailState) (all : List Clause) (c d : List Lit) (hs ks : List ℕ) (m n : ℕ) → c ≡ d → hs ≡ ks → m ≡ n → IsLearnt t all d ks n → IsLearnt t all c hs m
 learnt_same t all c d hs ks m n e f g r = rw (e, f, g) r
+
+-- what is seen from a place on is as before
+pub found_kept : (literals : List Lit) (seen new : List Bool) (start k : ℕ) → length seen ≡ length literals → length new ≡ length seen → ((later : ℕ) → start ≤ later → later < length literals → get_or new later false ≡ get_or seen later false) → IsFound start seen k → IsFound start new k
+found_kept literals seen new start k size same above f =
+    let from = f.from in
+    let within = f.within in
+    record {
+      from = from;
+      within = omega arith;
+      is = above k from (omega arith) ∙ f.is;
+      alone = λ other h d b. above other h (omega arith) ∙ f.alone other h d (omega arith);
+    }

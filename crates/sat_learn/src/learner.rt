@@ -8,7 +8,9 @@ ghost use Rattle.sat_learn.specs.Seen.{is_seen};
 ghost use Rattle.sat_learn.specs.Learnt.{IsLearnt, IsClosing};
 
 use crate::clause::{add_negated, last_level};
+use crate::removable::Removable;
 use crate::resolving::{begin, resolve_to_decisions, resolve_to_one};
+use crate::shortening::shorten;
 use des_base::Memory;
 use prop_core::{ClauseId, Clauses, IdList, Lit, LitList};
 use sat_prop::Trail;
@@ -30,6 +32,7 @@ pub struct Learnt {
 pub struct Learner {
     alloc: Global,
     seen: Vec<bool>,
+    removable: Removable,
 }
 
 impl Model for Learner {
@@ -48,6 +51,7 @@ impl Learner {
         Learner {
             alloc,
             seen: Vec::new(alloc),
+            removable: Removable::new(alloc),
         }
     }
 
@@ -56,6 +60,7 @@ impl Learner {
         ensures ok { OnOk result (vars ≤ self.new) }
         ensures kept { self.old ≤ self.new }
     {
+        self.removable.widen(vars)?;
         self.seen.clear();
         self.seen.reserve(vars as usize)?;
         Ok(())
@@ -75,7 +80,14 @@ impl Learner {
         ensures learnt { IfOk result (λ l. IsLearnt trail.now db.now.clauses l.clause l.hints l.level) }
     {
         unsee(&mut self.seen, trail.len() as usize)?;
-        learn(&mut self.seen, self.alloc, trail, db, conflict)
+        learn(
+            &mut self.seen,
+            &mut self.removable,
+            self.alloc,
+            trail,
+            db,
+            conflict,
+        )
     }
 
     /// The clause of the decisions that a conflict depends on.
@@ -126,6 +138,7 @@ fn unsee(seen: &mut Vec<bool>, count: usize) -> Result<(), Memory>
 
 fn learn(
     seen: &mut [bool],
+    removable: &mut Removable,
     alloc: Global,
     trail: &Trail,
     db: &Clauses,
@@ -143,6 +156,8 @@ fn learn(
     let mut hints = Vec::new(alloc);
     let first = begin(seen, trail, db, conflict, start, &mut hints)?;
     let place = resolve_to_one(seen, trail, db, start, first, &mut hints)?;
+    removable.find(seen, trail, db, start)?;
+    shorten(seen, removable, trail, db, start, &mut hints)?;
     let mut clause = LitList::new(alloc);
     clause.push(literals[place].negated())?;
     add_negated(seen, literals, start, &mut clause)?;

@@ -4,11 +4,14 @@
 //!   of its literal comes in its stead; the hints are the conflict and the reasons, the last first.
 //! - The *learnt* clause stops at the first implication point: one literal of the present level is left. It derives, it is
 //!   false by the trail, and one level back its first literal would be forced.
+//! - What of a learnt clause follows from its other literals is resolved as well, so that it is shorter.
 //! - A *closing* clause goes down to decisions: it holds negations of decisions alone.
 #![tactic(auto)]
 
 mod clause;
 mod learner;
+mod removable;
 mod resolving;
+mod shortening;
 
 pub use learner::{Learner, Learnt};

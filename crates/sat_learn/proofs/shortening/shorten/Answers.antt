@@ -1,0 +1,15 @@
+use Rattle.std.proofs.Common.{◌∙◌, arith}
+use Rattle.sat_learn.proofs.shortening.shorten.Goals as goal
+
+pub down-preserved-in_ok-resolve : goal.down-preserved-in_ok-resolve
+down-preserved-in_ok-resolve c =
+    let z = c.in_ok-resolve.ensures.size in
+    let size = c.down.invariant.size in
+    let w = c.down.invariant.within in
+    let t = c.down-test.true in
+    record {
+      size = omega arith;
+      within = omega arith;
+      above = λ later h b. c.in_ok-resolve.ensures.above later (omega arith) b ∙ c.down.invariant.above later h b;
+      refuted = λ also h. c.in_ok-resolve.ensures.refuted also (c.down.invariant.refuted also h);
+    }
