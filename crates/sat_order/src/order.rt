@@ -37,6 +37,13 @@ impl<R: Fn(u32) -> u64> Order<R> {
         }
     }
 
+    /// The rank of each variable, as it was stored.
+    pub fn ranks(&self) -> &[u64]
+        ensures { result.now ≡ self.now.ranks }
+    {
+        self.queue.ranks()
+    }
+
     /// Adds variables until there are this many. Those that are added wait.
     pub fn grow(&mut self, vars: u32) -> Result<(), Memory>
         requires ranked { IsRanked R.pre R.post self.old }

@@ -53,6 +53,13 @@ impl Queue {
         self.ranks.len()
     }
 
+    // The rank of each variable.
+    pub fn ranks(&self) -> &[u64]
+        ensures { result.now ≡ self.now.ranks }
+    {
+        &self.ranks
+    }
+
     // Sees to it that there is room for this many more variables.
     pub fn reserve(&mut self, vars: usize) -> Result<(), Memory>
         ensures ok { OnOk result (self.new ≡ record self.old { spare = max self.old.spare vars }) }

@@ -1,19 +1,20 @@
 -- A search under way, step by step.
-use Rattle.std.proofs.Common.{◌≡◌, ◌∙◌, ℕ, ◌+◌, ◌<◌, ◌≤◌, Bool, true, false, List, ap, length, arith}
+use Rattle.std.proofs.Common.{◌≡◌, ◌∙◌, ℕ, ◌+◌, ◌<◌, ◌≤◌, Bool, true, false, List, ◌++◌, ◌∷◌, [], ap, refl, take, length, arith}
 use Rattle.std.specs.Prelude.{Option, Some, None, Result, Ok, Err, IfOk, IfNone, ◌⊎◌}
 use Rattle.std.specs.List.{list_all}
 use Rattle.std.proofs.lemmas.Grind.{common_steps}
 use Rattle.prop_core.specs.declared.lit.Lit.{Lit}
 use Rattle.prop_core.specs.Clauses.{is_true, is_open}
-use Rattle.prop_core.proofs.Literals.{literal_of}
+use Rattle.prop_core.specs.Trail.{no_literal}
+use Rattle.prop_core.proofs.Literals.{literal_of, all_from, all_at, true_more, true_at, place_found}
 use Rattle.proof_ledger.specs.Book.{BookEntry}
 use Rattle.sat_order.specs.Waiting.{waits}
 use Rattle.sat_prop.specs.TrailState.{TrailState}
 use Rattle.sat_prop.specs.Changes.{Propagates, with_literal}
 use Rattle.sat_prop.specs.Kept.{IsTrailState}
-use Rattle.sat_prop.proofs.Fronts.{front_length}
+use Rattle.sat_prop.proofs.Fronts.{front_length, front_at}
 use Rattle.sat_prop.proofs.Justifying.{room_for}
-use Rattle.sat_solve.specs.Solving.{IsUnderWay, IsLonger, to_do}
+use Rattle.sat_solve.specs.Solving.{IsUnderWay, IsLonger, to_do, AreTaken}
 use Rattle.sat_solve.proofs.Booking.{smaller_paid, smaller_grown}
 use Rattle.sat_solve.proofs.Standing.{serving_grown, under_grown, serving_decided, under_decided}
 use Rattle.sat_solve.proofs.Retreating.{waiting_grown, waiting_decided}
@@ -63,3 +64,15 @@ pub goes_on_with : {A E : Type 0} (r : Result (Option A) E) (P Q : Type 0) → I
 goes_on_with (Ok (Some a)) P Q h f = tt
 goes_on_with (Ok None) P Q h f = f h
 goes_on_with (Err e) P Q h f = tt
+
+-- assumptions that are true stay true as the trail grows
+pub taken_more : (literals : List Lit) (l : Lit) (assumed : List Lit) (count : ℕ) → AreTaken literals assumed count → AreTaken (literals ++ l ∷ []) assumed count
+taken_more literals l assumed count h = all_from (is_true (literals ++ l ∷ [])) (take count assumed) (λ x e. let a = all_at (is_true literals) (take count assumed) x h e in true_more literals l x ∙ (rw a refl))
+
+pub taken_grown : (t u : TrailState) (assumed : List Lit) (count : ℕ) → Propagates t u → AreTaken t.literals assumed count → AreTaken u.literals assumed count
+taken_grown t u assumed count p h = all_from (is_true u.literals) (take count assumed) (λ x e.
+    let a = all_at (is_true t.literals) (take count assumed) x h e in
+    let i = place_found t.literals x a in
+    let w = i.1.within in
+    let n = front_length t.literals u.literals p.literals in
+    true_at u.literals x i.0 (omega arith) (front_at t.literals u.literals i.0 no_literal p.literals w ∙ i.1.at))

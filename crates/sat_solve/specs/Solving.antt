@@ -33,6 +33,10 @@ AreCompatible assumed = (l : Lit) → is_true assumed l ≡ true → is_false as
 abbrev pub AllJoined : List Clause → List ℕ → Type 0
 AllJoined clauses attached = (n : ℕ) → n < length clauses → Contains attached (n + 1)
 
+-- the first so many assumptions are true
+abbrev pub AreTaken : List Lit → List Lit → ℕ → Type 0
+AreTaken literals assumed count = list_all (is_true literals) (take count assumed) ≡ true
+
 -- a decision that is no assumption stands where all assumptions are true
 abbrev pub AssumedFirst : List Lit → List Lit → List (Option ℕ) → Type 0
 AssumedFirst assumed literals reasons = (place : ℕ) → place < length literals → reason_at reasons place ≡ None → (is_true assumed (literal_at literals place) ≡ true) ⊎ (list_all (is_true (take place literals)) assumed ≡ true)

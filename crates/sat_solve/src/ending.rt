@@ -4,7 +4,7 @@ ghost use Rattle.prop_core.specs.Clauses.{is_true, is_false};
 ghost use Rattle.proof_ledger.specs.Book.{clauses_of};
 ghost use Rattle.sat_prop.specs.TrailState.{StandsAt, reason_at};
 ghost use Rattle.sat_prop.specs.Quiet.{IsConflict};
-ghost use Rattle.sat_solve.specs.Solving.{IsNext, IsFurther, AreAssumed, IsClosed, WithRoom};
+ghost use Rattle.sat_solve.specs.Solving.{IsNext, IsFurther, AreAssumed, AreTaken, IsClosed, WithRoom};
 
 use des_base::Memory;
 use proof_ledger::Ledger;
@@ -30,15 +30,19 @@ pub fn makes_true(trail: &Trail, lit: Lit) -> bool
     }
 }
 
-// The first assumption that is not true.
-pub fn next_assumption(trail: &Trail, assumptions: &[Lit]) -> Option<Lit>
+// The first assumption that is not true. The first so many are, and it goes on from there.
+pub fn next_assumption(trail: &Trail, assumptions: &[Lit], taken: &mut usize) -> Option<Lit>
+    requires taken { AreTaken trail.now.literals assumptions.now taken.old }
+    ensures taken { AreTaken trail.now.literals assumptions.now taken.new }
     ensures some { IfSome result (IsNext trail.now.literals assumptions.now) }
     ensures none { IfNone result (list_all (is_true trail.now.literals) assumptions.now ≡ true) }
 {
-    for lit in assumptions {
-        if !makes_true(trail, *lit) {
-            return Some(*lit);
+    'next: while *taken < assumptions.len() {
+        let lit = assumptions[*taken];
+        if !makes_true(trail, lit) {
+            return Some(lit);
         }
+        *taken += 1;
     }
     None
 }
@@ -56,6 +60,22 @@ pub fn further_decision(trail: &Trail, assumptions: &[Lit]) -> Option<usize>
         }
     }
     None
+}
+
+// The level of the assumptions: how many decisions stand before the first that is none.
+pub fn assumed_level(trail: &Trail, assumptions: &[Lit]) -> u32 {
+    let literals = trail.literals();
+    let reasons = trail.reasons();
+    let mut level = 0_u32;
+    for place in 0..literals.len().min(reasons.len()) {
+        if reasons[place].is_none() {
+            if !among(assumptions, literals[place]) {
+                return level;
+            }
+            level = level.saturating_add(1);
+        }
+    }
+    level
 }
 
 // Puts the final clause of a conflict that depends on assumptions alone.

@@ -2,13 +2,16 @@
 //!
 //! - The clauses are those of a book. Each clause that is learnt goes into the book as a derived entry, and so does the
 //!   final clause of a refusal: it holds negations of assumptions alone.
-//! - Assumptions are decided first, then variables by their order. A conflict with a decision above the assumptions is a
+//! - Assumptions are decided first, then variables: of those that took part in conflicts the most active, then the others by their order. A conflict with a decision above the assumptions is a
 //!   *further* conflict; each that is learnt from lowers the budget by one, and none is learnt from where nothing is left.
 //! - Between two searches the trail stands at level 0.
 #![tactic(auto)]
 
+mod activity;
+mod advice;
 mod answer;
 mod ending;
+mod restarts;
 mod search;
 mod solver;
 

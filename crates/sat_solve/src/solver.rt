@@ -7,6 +7,7 @@ ghost use Rattle.sat_prop.specs.Changes.{IsFront};
 ghost use Rattle.sat_solve.specs.Searching.{IsSearched, HasPut, IsAnswer};
 ghost use Rattle.sat_solve.specs.Solving.{AreCompatible};
 
+use crate::advice::Advice;
 use crate::answer::Answer;
 use crate::search::{search, settle};
 use des_base::{Memory, VAR_LIMIT};
@@ -24,6 +25,7 @@ use std::marker::Model;
 #[derive(Drop)]
 pub struct Solver<R> {
     order: Order<R>,
+    advice: Advice,
     trail: Trail,
     learner: Learner,
     assignment: Assignment,
@@ -55,6 +57,7 @@ impl<R: Fn(u32) -> u64> Solver<R> {
     {
         Solver {
             order,
+            advice: Advice::new(alloc),
             trail: Trail::new(alloc),
             learner: Learner::new(alloc),
             assignment: Assignment::new(alloc),
@@ -76,11 +79,13 @@ impl<R: Fn(u32) -> u64> Solver<R> {
         ensures same_vars { OnErr result (self.new.vars ≡ self.old.vars) }
         ensures same_spare { OnErr result (self.new.spare ≡ self.old.spare) }
     {
+        self.advice.widen(vars)?;
         self.trail.reserve_clauses(self.spare.max(clauses))?;
         self.trail.grow(vars)?;
         self.learner.grow(vars)?;
         self.assignment.grow(vars)?;
         self.order.grow(vars)?;
+        self.advice.keep_ranks(self.order.ranks());
         self.vars = self.vars.max(vars);
         self.spare = self.spare.max(clauses);
         Ok(())
@@ -129,6 +134,7 @@ impl<R: Fn(u32) -> u64> Solver<R> {
         let found = search(
             &mut self.trail,
             &mut self.order,
+            &mut self.advice,
             &mut self.learner,
             book,
             assumptions,
@@ -139,6 +145,7 @@ impl<R: Fn(u32) -> u64> Solver<R> {
         settle(
             &mut self.trail,
             &mut self.order,
+            &mut self.advice,
             &mut self.assignment,
             book,
             self.vars,

@@ -1,5 +1,6 @@
-use Rattle.std.proofs.Common.{ap, length}
+use Rattle.std.proofs.Common.{◌∙◌, ℕ, ap, sym, subst, length}
 use Rattle.sat_prop.specs.TrailState.{TrailState}
+use Rattle.sat_solve.specs.Solving.{IsServing, IsUnder, AreWaiting}
 use Rattle.sat_solve.proofs.Booking.{searched_none, searched_paid, searched_closed}
 use Rattle.sat_solve.proofs.Putting.{learnt_one, put_closed}
 use Rattle.sat_solve.proofs.Clashing.{clash_from, refuted_from}
@@ -47,3 +48,18 @@ returns-in_ok-pay-in-Some-2-clause-learnt g c =
 pub returns-in_ok-last-in-None-clause-put : goal.returns-in_ok-last-in-None-clause-put
 returns-in_ok-last-in-None-clause-put g c =
     put_closed c.args.assumptions.now c.args.book.now.entries c.refute.new.book.entries c.in_ok-last-in-None.last c.in_ok-last-in-None.ensures.closed
+
+pub returns-in_ok-pay-in-Some-2-clause-serving : goal.returns-in_ok-pay-in-Some-2-clause-serving
+returns-in_ok-pay-in-Some-2-clause-serving g c =
+    let n = c.pay.ensures.variables in
+    subst (λ (k : ℕ). IsServing k c.args.spare c.begin_anew.new.trail) n (c.begin_anew.ensures.serving c.args.spare (subst (λ (k : ℕ). IsServing k c.args.spare c.pay.new.trail) (sym n) c.pay.ensures.serving))
+
+pub returns-in_ok-pay-in-Some-2-clause-goes_on : goal.returns-in_ok-pay-in-Some-2-clause-goes_on
+returns-in_ok-pay-in-Some-2-clause-goes_on g c =
+    let n = c.pay.ensures.variables in
+    record {
+      clauses = c.begin_anew.ensures.clauses ∙ c.pay.ensures.clauses;
+      serving = returns-in_ok-pay-in-Some-2-clause-serving g c;
+      under = subst (λ (k : ℕ). IsUnder c.args.assumptions.now k c.begin_anew.new.trail) n (c.begin_anew.ensures.under c.args.assumptions.now (subst (λ (k : ℕ). IsUnder c.args.assumptions.now k c.pay.new.trail) (sym n) c.pay.ensures.under));
+      waiting_open = subst (λ (k : ℕ). AreWaiting c.begin_anew.new.order.waiting c.begin_anew.new.trail.literals k) n c.begin_anew.ensures.waiting;
+    }

@@ -1,18 +1,19 @@
-use Rattle.std.proofs.Common.{◌∙◌, sym, ap, length, false, inl, inr, arith, subst}
+use Rattle.std.proofs.Common.{◌∙◌, List, refl, sym, ap, length, false, inl, inr, arith, subst}
 use Rattle.std.specs.Prelude.{None}
 use Rattle.prop_core.specs.declared.lit.Lit.{Lit}
 use Rattle.prop_core.specs.Clauses.{is_true}
-use Rattle.prop_core.proofs.Literals.{open_from, literal_of}
+use Rattle.prop_core.proofs.Literals.{open_from, open_var, literal_of}
 use Rattle.proof_ledger.specs.Kept.{LedgerState}
 use Rattle.sat_prop.specs.TrailState.{TrailState}
 use Rattle.sat_prop.specs.Changes.{with_literal}
 use Rattle.sat_solve.specs.Searching.{IsSearched}
+use Rattle.sat_solve.specs.Solving.{AreTaken}
 use Rattle.sat_solve.proofs.Booking.{searched_none, searched_closed}
 use Rattle.sat_solve.proofs.Putting.{put_closed}
 use Rattle.sat_solve.proofs.Paying.{unattached_from}
 use Rattle.sat_solve.proofs.Clashing.{refuted_from}
 use Rattle.sat_solve.proofs.Standing.{next_forced, next_assumed, assumed_small}
-use Rattle.sat_solve.proofs.Stepping.{under_way_decided, longer_decided}
+use Rattle.sat_solve.proofs.Stepping.{under_way_decided, longer_decided, taken_more}
 use Rattle.sat_solve.proofs.Retreating.{serving_roomier}
 use Rattle.sat_solve.proofs.search.at_rest.Goals as goal
 
@@ -70,12 +71,12 @@ returns-in-Some-2-clause-serving g c = (returns-in-Some-2-clause-goes_on g c).se
 pub returns-in-Some-pick-clause-goes_on : goal.returns-in-Some-pick-clause-goes_on
 returns-in-Some-pick-clause-goes_on g c =
     let e = c.in-Some-pick.ensures in
-    under_way_decided c.args.assumptions.now c.args.order.now.waiting c.pick.new.order.waiting (length c.args.order.now.waiting) c.args.spare c.args.trail.now c.decide-in-Some-pick.new.self c.args.book.now.entries (literal_of c.in-Some-pick.var false) c.requires.under_way c.literals-literals.ensures.state (c.decide-in-Some-pick.ensures ∙ ap (λ (l : Lit). with_literal c.args.trail.now l None) c.new.ensures) e.known (inr c.in-None.ensures.none) e.others
+    under_way_decided c.args.assumptions.now c.args.order.now.waiting c.pick.new.order.waiting (length c.args.order.now.waiting) c.args.spare c.args.trail.now c.decide-in-Some-pick.new.self c.args.book.now.entries (literal_of c.in-Some-pick.var c.phase.result) c.requires.under_way c.literals-literals.ensures.state (c.decide-in-Some-pick.ensures ∙ ap (λ (l : Lit). with_literal c.args.trail.now l None) c.new.ensures) e.known (inr c.in-None.ensures.none) e.others
 
 pub returns-in-Some-pick-clause-decided : goal.returns-in-Some-pick-clause-decided
 returns-in-Some-pick-clause-decided g c =
     let e = c.in-Some-pick.ensures in
-    longer_decided c.args.trail.now c.decide-in-Some-pick.new.self (literal_of c.in-Some-pick.var false) (length c.args.order.now.waiting) c.literals-literals.ensures.state e.undecided e.known c.requires.under_way.serving.enough (c.decide-in-Some-pick.ensures ∙ ap (λ (l : Lit). with_literal c.args.trail.now l None) c.new.ensures)
+    longer_decided c.args.trail.now c.decide-in-Some-pick.new.self (literal_of c.in-Some-pick.var c.phase.result) (length c.args.order.now.waiting) c.literals-literals.ensures.state (open_var c.args.trail.now.literals (literal_of c.in-Some-pick.var false) (literal_of c.in-Some-pick.var c.phase.result) refl e.undecided) e.known c.requires.under_way.serving.enough (c.decide-in-Some-pick.ensures ∙ ap (λ (l : Lit). with_literal c.args.trail.now l None) c.new.ensures)
 
 pub returns-in-Some-pick-clause-serving : goal.returns-in-Some-pick-clause-serving
 returns-in-Some-pick-clause-serving g c = (returns-in-Some-pick-clause-goes_on g c).serving
@@ -83,3 +84,11 @@ returns-in-Some-pick-clause-serving g c = (returns-in-Some-pick-clause-goes_on g
 pub returns-in_ok-last-in-Some-clause-put : goal.returns-in_ok-last-in-Some-clause-put
 returns-in_ok-last-in-Some-clause-put g c =
     put_closed c.args.assumptions.now c.args.book.now.entries c.dismiss.new.book.entries c.in_ok-last-in-Some.last c.in_ok-last-in-Some.ensures.closed
+
+pub returns-in-Some-2-clause-taken : goal.returns-in-Some-2-clause-taken
+returns-in-Some-2-clause-taken g c =
+    subst (λ (ls : List Lit). AreTaken ls c.args.assumptions.now c.next_assumption.new.taken) (sym (ap (λ (t : TrailState). t.literals) c.decide.ensures)) (taken_more c.args.trail.now.literals c.in-Some.lit c.args.assumptions.now c.next_assumption.new.taken c.next_assumption.ensures.taken)
+
+pub returns-in-Some-pick-clause-taken : goal.returns-in-Some-pick-clause-taken
+returns-in-Some-pick-clause-taken g c =
+    subst (λ (ls : List Lit). AreTaken ls c.args.assumptions.now c.next_assumption.new.taken) (sym (ap (λ (t : TrailState). t.literals) (c.decide-in-Some-pick.ensures ∙ ap (λ (l : Lit). with_literal c.args.trail.now l None) c.new.ensures))) (taken_more c.args.trail.now.literals (literal_of c.in-Some-pick.var c.phase.result) c.args.assumptions.now c.next_assumption.new.taken c.next_assumption.ensures.taken)

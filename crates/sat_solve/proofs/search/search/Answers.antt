@@ -2,7 +2,7 @@ use Rattle.std.proofs.Common.{◌∙◌, ℕ, length, subst}
 use Rattle.std.specs.Prelude.{Option, IfSome, IfNone}
 use Rattle.sat_solve.specs.declared.answer.Answer.{Answer}
 use Rattle.sat_solve.specs.Searching.{HasPut}
-use Rattle.sat_solve.specs.Solving.{HasLearnt, IsUnderWay}
+use Rattle.sat_solve.specs.Solving.{AreTaken, HasLearnt, IsUnderWay}
 use Rattle.sat_solve.proofs.Booking.{searched_both}
 use Rattle.sat_solve.proofs.Putting.{learnt_both, put_after}
 use Rattle.sat_solve.proofs.search.search.Goals as goal
@@ -31,5 +31,6 @@ more-preserved g c =
       learnt = learnt_both c.args.book.now.entries c.more.book.entries c.step.new.book.entries c.more.invariant.learnt l;
       ranked = c.step.ensures.ranked;
       rank = c.step.ensures.rank ∙ c.more.invariant.rank;
+      taken = subst (λ (o : Option Answer). IfNone o (AreTaken c.step.new.trail.literals c.args.assumptions.now c.step.new.taken)) c.in_default.is c.in_ok-answer.ensures.taken;
       variables = c.step.ensures.variables ∙ n;
     }

@@ -1,7 +1,7 @@
 use Rattle.std.specs.Prelude.{◌≡◌, length}
 use Rattle.sat_order.specs.Rank.{IsRanked}
 use Rattle.sat_solve.specs.Searching.{IsSearched}
-use Rattle.sat_solve.specs.Solving.{HasLearnt, IsUnderWay, to_do}
+use Rattle.sat_solve.specs.Solving.{AreTaken, HasLearnt, IsUnderWay, to_do}
 use Rattle.sat_solve.proofs.search.search.Given as goal
 
 abbrev pub invariant-more : goal.invariant-more
@@ -11,6 +11,7 @@ invariant-more g l = record {
   learnt : HasLearnt l.fn.book.entries l.book.entries;
   ranked : IsRanked (goal.R-pre g) (goal.R-post g) l.order;
   rank : l.order.rank ≡ l.fn.order.rank;
+  taken : AreTaken l.trail.literals l.assumptions l.taken;
   variables : length l.order.waiting ≡ length l.fn.order.waiting;
 }
 

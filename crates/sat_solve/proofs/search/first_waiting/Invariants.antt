@@ -1,7 +1,7 @@
 use Rattle.std.specs.Prelude.{◌≡◌, length, count_by}
 use Rattle.sat_order.specs.Rank.{IsRanked}
 use Rattle.sat_solve.specs.Solving.{AreWaiting}
-use Rattle.sat_solve.proofs.search.pick.Given as goal
+use Rattle.sat_solve.proofs.search.first_waiting.Given as goal
 
 abbrev pub invariant-loop-var : goal.invariant-loop-var
 invariant-loop-var g l = record {

@@ -1,0 +1,84 @@
+// What a search is advised: which variable to decide next, with which sign, and when to begin anew.
+//
+// - The variables of the clauses that a learnt clause derives from have taken part in its conflict; the most active one is suggested.
+// - A variable is decided as it last stood (Pipatsrisawat and Darwiche, "A lightweight component caching scheme for satisfiability
+//   solvers", 2007), and the first time as false.
+//
+// No contract says that the advice is good: whoever takes it tests it.
+use crate::activity::Activity;
+use crate::restarts::Restarts;
+use des_base::Memory;
+use prop_core::{ClauseId, Clauses, Lit};
+use std::alloc::Global;
+
+#[derive(Drop)]
+pub struct Advice {
+    activity: Activity,
+    phases: Vec<bool>,
+    restarts: Restarts,
+}
+
+impl Advice {
+    pub fn new(alloc: Global) -> Advice {
+        Advice {
+            activity: Activity::new(alloc),
+            phases: Vec::new(alloc),
+            restarts: Restarts::new(),
+        }
+    }
+
+    // Sees to it that there is advice on this many variables.
+    pub fn widen(&mut self, vars: u32) -> Result<(), Memory> {
+        let count = self.phases.len().max(vars as usize);
+        self.phases.resize(count, false)?;
+        self.activity.widen(vars)
+    }
+
+    // Takes note of the ranks of the variables.
+    pub fn keep_ranks(&mut self, ranks: &[u64]) {
+        self.activity.keep_ranks(ranks);
+    }
+
+    // How a variable last stood.
+    pub fn phase(&self, var: u32) -> bool {
+        match self.phases.get(var as usize) {
+            Some(phase) => *phase,
+            None => false,
+        }
+    }
+
+    // How many suggestions there are.
+    pub fn suggestions(&self) -> u32 {
+        self.activity.held()
+    }
+
+    // Takes the next suggestion.
+    pub fn suggest(&mut self) -> Option<u32> {
+        self.activity.take()
+    }
+
+    // Keeps how a literal stood that is taken back, and suggests its variable again.
+    pub fn release(&mut self, lit: Lit) {
+        if let Some(phase) = self.phases.get_mut(lit.var as usize) {
+            *phase = lit.positive;
+        }
+        self.activity.put_back(lit.var);
+    }
+
+    // Takes note of a conflict, and of the clauses that what was learnt from it derives from.
+    pub fn note(&mut self, clauses: &Clauses, hints: &[ClauseId]) {
+        for id in hints {
+            if id.0 > 0 && id.0 <= clauses.len() {
+                for lit in clauses.clause(*id) {
+                    self.activity.bump(lit.var);
+                }
+            }
+        }
+        self.activity.end_conflict();
+    }
+
+    // Counts a conflict, and says whether the search is to begin anew.
+    pub fn begins_anew(&mut self) -> bool {
+        self.restarts.ends_stretch()
+    }
+}
