@@ -1,5 +1,5 @@
 -- What watches are settled by, as literals come and go.
-use Rattle.std.proofs.Common.{◌≡◌, ◌∙◌, ℕ, ◌+◌, ◌<◌, ◌≤◌, true, ◌||◌, ◌++◌, ◌∷◌, [], List, ap, sym, subst, length, take, get_or, min, arith, inl, inr, ⊎_elim, Option, Some}
+use Rattle.std.proofs.Common.{◌≡◌, ◌∙◌, ℕ, suc, ◌+◌, ◌<◌, ◌≤◌, true, false, refl, ◌||◌, ◌++◌, ◌∷◌, [], List, ap, sym, subst, length, take, get_or, min, arith, inl, inr, ⊎_elim, Option, Some, None}
 use Rattle.std.specs.Prelude.{◌⊎◌, Contains, slice_index}
 use Rattle.std.specs.List.{list_any, list_all}
 use Rattle.std.proofs.lemmas.Grind.{common_steps}
@@ -10,14 +10,15 @@ use Rattle.prop_core.specs.Derivation.{standing, clause_numbered}
 use Rattle.prop_core.specs.Trail.{no_literal, is_forced_by, is_quiet}
 use Rattle.prop_core.proofs.Literals.{negation_twice, true_at, true_more, true_longer, place_found, all_from, all_at, open_from, AreConsistent}
 use Rattle.prop_core.proofs.Forcing.{forced_stands, quiet_true, quiet_two}
-use Rattle.sat_prop.specs.TrailState.{TrailState, literal_at}
+use Rattle.sat_prop.specs.TrailState.{TrailState, literal_at, reason_at}
+use Rattle.sat_prop.specs.Levels.{level_of}
 use Rattle.sat_prop.specs.Quiet.{AreQuiet, stands}
 use Rattle.sat_prop.specs.Changes.{IsKeptUpTo, with_literal}
 use Rattle.sat_prop.specs.Kept.{IsTrailState}
 use Rattle.sat_prop.specs.declared.watches.Watch.{Watch}
 use Rattle.sat_prop.specs.Watches.{watch_at}
-use Rattle.sat_prop.specs.Watching.{WatchedState, AreWatched, AreVisited, IsWatch, IsSettled, MakesUp, other_of}
-use Rattle.sat_prop.proofs.Fronts.{split_last, held_same}
+use Rattle.sat_prop.specs.Watching.{WatchedState, AreWatched, AreVisited, IsWatch, IsSettled, IsNarrow, MakesUp, other_of}
+use Rattle.sat_prop.proofs.Fronts.{split_last, held_same, contains_at}
 use Rattle.sat_prop.proofs.Links.{not_both}
 use Rattle.sat_prop.proofs.Justifying.{justified_consistent}
 
@@ -40,6 +41,7 @@ watched_more t w l reason a = record {
   room_short = a.room_short;
   room_watches = a.room_watches;
   short = a.short;
+  narrow = a.narrow;
   all = a.all;
   each = a.each;
   settled = λ n h. settled_more t.clauses t.literals w.seen w.lists.watches n l a.front (a.settled n h);
@@ -145,6 +147,66 @@ module _ (t : TrailState) (w : WatchedState) (consistent : AreConsistent t.liter
       short_at : (s : Contains w.short (slice_index t.attached place)) → slice_index w.short s.0 ≡ slice_index t.attached place
       short_at s = let b = s.1 in let e : get_or w.short s.0 0 ≡ get_or w.short s.0 (slice_index t.attached place) = grind (arith, common_steps) in e ∙ s.2
 
+-- an attached clause is quiet where all are
+pub quiet_at : (cs : List Clause) (att : List ℕ) (taken : List Lit) (number : ℕ) (clause : Clause) → AreQuiet cs att taken → Contains att number → clause_numbered cs number ≡ Some clause → is_quiet (standing taken clause) ≡ true
+quiet_at cs att taken number clause q c e =
+    let b = c.1 in
+    let at : get_or att c.0 0 ≡ number = let f : get_or att c.0 0 ≡ get_or att c.0 number = grind (arith, common_steps) in f ∙ c.2 in
+    sym (ap (λ (o : Option Clause). is_quiet (stands taken o)) e) ∙ subst (λ (m : ℕ). is_quiet (stands taken (clause_numbered cs m)) ≡ true) at (q c.0 c.1)
+
+-- what the first literals force is true where a later front is quiet
+pub still_true : (literals : List Lit) (clause : Clause) (other : Lit) (a b : ℕ) → a ≤ b → AreConsistent literals → is_forced_by (take a literals) other clause ≡ true → is_quiet (standing (take b literals) clause) ≡ true → is_true (take b literals) other ≡ true
+still_true literals clause other a b h n f q =
+    let g = forced_longer literals clause other a b h f in
+    ⊎_elim
+    (λ e. absurd (let z = sym (ap is_quiet e) ∙ q in cc))
+    (λ e. ⊎_elim (λ d. d.1) (λ d. absurd (let z = sym (ap is_quiet d.0) ∙ q in cc)) e)
+    (forced_stands (take b literals) clause other (consistent_take literals b n) g)
+  where
+    consistent_take : (literals : List Lit) (k : ℕ) → AreConsistent literals → AreConsistent (take k literals)
+    consistent_take literals k n l e = ⊎_elim
+        (λ f. let p = shorter literals k l e in let q = shorter literals k (negation l) f in let z = n l p in absurd (not_both _ q z))
+        (λ f. f)
+        (cases_Bool (is_false (take k literals) l))
+      where
+        shorter : (literals : List Lit) (k : ℕ) (x : Lit) → is_true (take k literals) x ≡ true → is_true literals x ≡ true
+        shorter literals k x e =
+            let p = place_found (take k literals) x e in
+            let i = p.1.within in
+            let g : get_or (take k literals) p.0 no_literal ≡ get_or literals p.0 no_literal = grind (arith, common_steps) in
+            let w : p.0 < length literals = grind (arith, common_steps) in
+            true_at literals x p.0 w (sym g ∙ p.1.at)
+
+-- where something was decided, short clauses are true, since they were quiet just before it
+decision_at : (reasons : List (Option ℕ)) → 0 < level_of reasons → (place : ℕ) × (place < length reasons) × (reason_at reasons place ≡ None)
+decision_at [] h = absurd (omega arith)
+decision_at (None ∷ reasons) h = (0, omega arith, refl)
+decision_at (Some number ∷ reasons) h = let d = decision_at reasons h in (suc d.0, omega (arith, d.1), d.2)
+
+narrow_forced : (first : List Lit) (clause : Clause) (l : Lit) → list_any (same_literal l) clause ≡ true → list_all (same_literal l) clause ≡ true → is_forced_by first l clause ≡ true
+narrow_forced first clause l among all = and_from _ _ among (all_from (λ k. same_literal l k || is_false first k) clause (λ x h. or_left _ _ (all_at (same_literal l) clause x all h)))
+
+narrow_true : (literals : List Lit) (clause : Clause) (k : ℕ) → k ≤ length literals → AreConsistent literals → IsNarrow clause → is_quiet (standing (take k literals) clause) ≡ true → is_quiet (standing literals clause) ≡ true
+narrow_true literals clause k b consistent narrow quiet = ⊎_elim
+    (λ none. let f : is_quiet (standing (take k literals) clause) ≡ false = rw none refl in absurd (not_both _ quiet f))
+    (λ some.
+    let whole : take (length literals) literals ≡ literals = grind (arith, common_steps) in
+    let t = still_true literals clause some.0 k k (omega arith) consistent (narrow_forced (take k literals) clause some.0 some.1 some.2) quiet in
+    quiet_true literals clause some.0 consistent some.1 (subst (λ (ls : List Lit). is_true ls some.0 ≡ true) whole (true_longer literals some.0 k (length literals) b t)))
+    narrow
+
+pub short_quiet : (t : TrailState) (w : WatchedState) → IsTrailState t → AreWatched t w → 0 < level_of t.reasons → AreQuiet t.clauses w.short t.literals
+short_quiet t w s a above place h =
+    let d = decision_at t.reasons above in
+    let same = s.justified.same in
+    let within : d.0 < length t.literals = let b = d.1 in omega arith in
+    let number = slice_index w.short place in
+    let member = contains_at w.short place h in
+    let here = a.narrow number member in
+    let quiet = quiet_at t.clauses t.attached (take d.0 t.literals) number here.clause (s.quiet d.0 within d.2) (a.short number member) here.held in
+    ap (λ (o : Option Clause). is_quiet (stands t.literals o)) here.held
+    ∙ narrow_true t.literals here.clause d.0 (omega arith) (justified_consistent _ _ _ _ _ s.justified) here.narrow quiet
+
 -- ---- literals that go
 
 pub watched_back : (t new : TrailState) (w : WatchedState) (level : ℕ) → IsTrailState t → AreWatched t w → IsKeptUpTo t new level → AreWatched new (record w { seen = min w.seen (length new.literals) })
@@ -154,6 +216,7 @@ watched_back t new w level s a k = record {
   room_short = rw k.spare a.room_short;
   room_watches = rw k.spare a.room_watches;
   short = λ n c. rw k.attached (a.short n c);
+  narrow = λ n c. rw k.clauses (a.narrow n c);
   all = λ n c. a.all n (rw (← k.attached) c);
   each = λ n h. rw (k.clauses, k.attached) (a.each n h);
   settled = λ n h place clause b e held.
@@ -181,31 +244,3 @@ watched_back t new w level s a k = record {
   where
     less_or_all : (k n : ℕ) → k ≤ n → (k < n) ⊎ (k ≡ n)
     less_or_all k n h = ⊎_elim (λ e. inr e) (λ e. inl (omega arith)) (cases_eq k n)
-
-    quiet_at : (cs : List Clause) (att : List ℕ) (taken : List Lit) (number : ℕ) (clause : Clause) → AreQuiet cs att taken → Contains att number → clause_numbered cs number ≡ Some clause → is_quiet (standing taken clause) ≡ true
-    quiet_at cs att taken number clause q c e =
-        let b = c.1 in
-        let at : get_or att c.0 0 ≡ number = let f : get_or att c.0 0 ≡ get_or att c.0 number = grind (arith, common_steps) in f ∙ c.2 in
-        sym (ap (λ (o : Option Clause). is_quiet (stands taken o)) e) ∙ subst (λ (m : ℕ). is_quiet (stands taken (clause_numbered cs m)) ≡ true) at (q c.0 c.1)
-
-    still_true : (literals : List Lit) (clause : Clause) (other : Lit) (a b : ℕ) → a ≤ b → AreConsistent literals → is_forced_by (take a literals) other clause ≡ true → is_quiet (standing (take b literals) clause) ≡ true → is_true (take b literals) other ≡ true
-    still_true literals clause other a b h n f q =
-        let g = forced_longer literals clause other a b h f in
-        ⊎_elim
-        (λ e. absurd (let z = sym (ap is_quiet e) ∙ q in cc))
-        (λ e. ⊎_elim (λ d. d.1) (λ d. absurd (let z = sym (ap is_quiet d.0) ∙ q in cc)) e)
-        (forced_stands (take b literals) clause other (consistent_take literals b n) g)
-      where
-        consistent_take : (literals : List Lit) (k : ℕ) → AreConsistent literals → AreConsistent (take k literals)
-        consistent_take literals k n l e = ⊎_elim
-            (λ f. let p = shorter literals k l e in let q = shorter literals k (negation l) f in let z = n l p in absurd (not_both _ q z))
-            (λ f. f)
-            (cases_Bool (is_false (take k literals) l))
-          where
-            shorter : (literals : List Lit) (k : ℕ) (x : Lit) → is_true (take k literals) x ≡ true → is_true literals x ≡ true
-            shorter literals k x e =
-                let p = place_found (take k literals) x e in
-                let i = p.1.within in
-                let g : get_or (take k literals) p.0 no_literal ≡ get_or literals p.0 no_literal = grind (arith, common_steps) in
-                let w : p.0 < length literals = grind (arith, common_steps) in
-                true_at literals x p.0 w (sym g ∙ p.1.at)

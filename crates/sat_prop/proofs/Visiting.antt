@@ -17,7 +17,7 @@ use Rattle.sat_prop.specs.TrailState.{TrailState, literal_at, IsKnownClause}
 use Rattle.sat_prop.specs.Changes.{IsFront, with_literal, with_clause}
 use Rattle.sat_prop.specs.declared.watches.Watch.{Watch}
 use Rattle.sat_prop.specs.Watches.{WatchState, IsNext, Puts, watch_at, watching, is_among, with_pair}
-use Rattle.sat_prop.specs.Watching.{WatchedState, AreWatched, AreVisited, IsWatch, IsSettled, MakesUp, IsReplacement, AreTwo, other_of}
+use Rattle.sat_prop.specs.Watching.{WatchedState, AreWatched, AreVisited, IsWatch, IsSettled, MakesUp, IsReplacement, IsShort, AreTwo, other_of}
 use Rattle.sat_prop.specs.Kept.{IsTrailState}
 use Rattle.sat_prop.proofs.Fronts.{split_last, held_same, front_held, front_same, number_of, known_at, contains_more}
 use Rattle.sat_prop.proofs.Links.{not_both}
@@ -161,6 +161,7 @@ module _ (t : TrailState) (w : WatchedState) (n : ℕ) (clause : Clause) (l : Li
     room_short = a.room_short;
     room_watches = a.room_watches;
     short = a.short;
+    narrow = a.narrow;
     all = λ number c. ⊎_elim (λ s. inl s) (λ s. inr (
       s.0,
       rw same_length s.1,
@@ -208,9 +209,13 @@ watch_front t all new watches n f k = record {
   apart = k.apart;
 }
 
+-- a short one stays short as the clauses grow
+short_front : (cs all : List Clause) (n : ℕ) → IsFront cs all → IsShort cs n → IsShort all n
+short_front cs all n f s = record { clause = s.clause; held = front_held cs all n s.clause f s.held; narrow = s.narrow }
+
 -- one that is short
-pub short_attached : (t : TrailState) (w : WatchedState) (all : List Clause) (new : ℕ) → IsFront t.clauses all → 1 ≤ t.spare → AreWatched t w → AreWatched (with_clause t all new) (record w { short = w.short ++ new ∷ []; spare = w.spare - 1 })
-short_attached t w all new f room a = record {
+pub short_attached : (t : TrailState) (w : WatchedState) (all : List Clause) (new : ℕ) → IsFront t.clauses all → 1 ≤ t.spare → AreWatched t w → IsShort all new → AreWatched (with_clause t all new) (record w { short = w.short ++ new ∷ []; spare = w.spare - 1 })
+short_attached t w all new f room a narrow = record {
   front = a.front;
   vars = a.vars;
   room_short = let r = a.room_short in omega arith;
@@ -218,6 +223,10 @@ short_attached t w all new f room a = record {
   short = λ number c. ⊎_elim
       (λ s. contains_more t.attached new number (a.short number s))
       (λ s. subst (λ (k : ℕ). Contains (t.attached ++ new ∷ []) k) (sym s) (contains_new t.attached new))
+      (contains_split w.short new number c);
+  narrow = λ number c. ⊎_elim
+      (λ s. short_front t.clauses all number f (a.narrow number s))
+      (λ s. subst (λ (k : ℕ). IsShort all k) (sym s) narrow)
       (contains_split w.short new number c);
   all = λ number c. ⊎_elim
       (λ s. ⊎_elim (λ q. inl (contains_more w.short new number q)) (λ q. inr q) (a.all number s))
@@ -336,6 +345,7 @@ module _ (t : TrailState) (w : WatchedState) (all : List Clause) (new : ℕ) (cl
     room_short = let r = a.room_short in omega arith;
     room_watches = let r = a.room_watches in omega arith;
     short = λ number c. contains_more t.attached new number (a.short number c);
+    narrow = λ number c. short_front t.clauses all number f (a.narrow number c);
     all = λ number c. ⊎_elim
         (λ s. ⊎_elim (λ q. inl q) (λ q. inr (q.0, let b = q.1 in let l = longer in omega arith, ap (λ (x : Watch). x.clause) (kept q.0 q.1) ∙ q.2)) (a.all number s))
         (λ s. inr (count, let l = longer in omega arith, ap (λ (x : Watch). x.clause) one ∙ sym s))
@@ -388,6 +398,7 @@ watched_waits t w lists a e v s = record {
   room_short = a.room_short;
   room_watches = rw s a.room_watches;
   short = a.short;
+  narrow = a.narrow;
   all = rw e a.all;
   each = rw e a.each;
   settled = rw e a.settled;
@@ -409,6 +420,7 @@ visited_ends t w a v e b = record {
   room_short = a.room_short;
   room_watches = a.room_watches;
   short = a.short;
+  narrow = a.narrow;
   all = a.all;
   each = a.each;
   settled = λ n h. v n h (subst (λ (xs : List ℕ). is_among n xs ≡ false) (sym e) refl);
@@ -421,6 +433,7 @@ watched_wider t w vars lists a h = record {
   room_short = a.room_short;
   room_watches = a.room_watches;
   short = a.short;
+  narrow = a.narrow;
   all = a.all;
   each = a.each;
   settled = a.settled;
@@ -439,6 +452,7 @@ watched_roomier t w new spare a s n e v p q = record {
   room_short = p;
   room_watches = q;
   short = rw s a.short;
+  narrow = rw s a.narrow;
   all = rw (s, e) a.all;
   each = rw e a.each;
   settled = rw (n, e) a.settled;

@@ -1,6 +1,6 @@
 -- What holds of attached clauses and their watches, so that only those have to be looked at of which a watched literal became false.
 use Rattle.std.specs.Prelude.{◌≡◌, ℕ, ◌+◌, ◌<◌, ◌≤◌, ◌⊎◌, true, false, List, [], length, take, Some, Contains}
-use Rattle.std.specs.List.{list_any}
+use Rattle.std.specs.List.{list_any, list_all}
 use Rattle.prop_core.specs.declared.lit.Lit.{Lit}
 use Rattle.prop_core.specs.Clauses.{Clause, negation, same_literal, is_true, is_false}
 use Rattle.prop_core.specs.Derivation.{clause_numbered}
@@ -51,6 +51,16 @@ IsSettled clauses literals seen watches number = (place : ℕ) (clause : Clause)
 abbrev pub HasWatch : List Watch → ℕ → Type 0
 HasWatch watches clause = (number : ℕ) × (number < length watches) × ((watch_at watches number).clause ≡ clause)
 
+-- a clause without two different literals
+abbrev pub IsNarrow : Clause → Type 0
+IsNarrow clause = (clause ≡ []) ⊎ ((l : Lit) × (list_any (same_literal l) clause ≡ true) × (list_all (same_literal l) clause ≡ true))
+
+-- the clause of a number is there, and is one without
+pub record IsShort (clauses : List Clause) (number : ℕ) : Type 0 where
+  pub clause : Clause
+  pub held : clause_numbered clauses number ≡ Some clause
+  pub narrow : IsNarrow clause
+
 -- Each attached clause is short or watched, there is room for more, and each watch is settled by the literals that have been looked at.
 pub record AreWatched (t : TrailState) (w : WatchedState) : Type 0 where
   pub front : w.seen ≤ length t.literals
@@ -58,6 +68,7 @@ pub record AreWatched (t : TrailState) (w : WatchedState) : Type 0 where
   pub room_short : t.spare ≤ w.spare
   pub room_watches : t.spare ≤ w.lists.spare
   pub short : (number : ℕ) → Contains w.short number → Contains t.attached number
+  pub narrow : (number : ℕ) → Contains w.short number → IsShort t.clauses number
   pub all : (number : ℕ) → Contains t.attached number → (Contains w.short number) ⊎ (HasWatch w.lists.watches number)
   pub each : (number : ℕ) → number < length w.lists.watches → IsWatch t.clauses t.attached w.lists.watches number
   pub settled : (number : ℕ) → number < length w.lists.watches → IsSettled t.clauses t.literals w.seen w.lists.watches number

@@ -6,7 +6,7 @@
 //! - After quiet propagation no attached clause is false or unit; a conflict names one that is false.
 //! - Value, level and reason of a variable are found in constant time.
 //! - A clause with two different literals is *watched* at two of them, and looked at where one of these becomes false (Moskewicz
-//!   and others, "Chaff: engineering an efficient SAT solver", 2001). A clause without is *short*, and looked at each time.
+//!   and others, "Chaff: engineering an efficient SAT solver", 2001). A clause without is *short*, and looked at at level 0 alone.
 #![tactic(auto)]
 
 mod stack;

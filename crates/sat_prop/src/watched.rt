@@ -1,5 +1,5 @@
 // Propagation by watched literals: a clause is looked at where one of the two that are watched becomes false.
-ghost use Rattle.std.specs.Prelude.{◌≡◌, ℕ, ◌+◌, ◌<◌, ◌≤◌, ◌||◌, ◌⊎◌, true, false, length, max, min, take, Some, Contains, OnOk, OnErr, IfSome, IfNone};
+ghost use Rattle.std.specs.Prelude.{◌≡◌, ℕ, ◌+◌, ◌<◌, ◌≤◌, ◌||◌, ◌⊎◌, [], true, false, length, max, min, take, Some, Contains, OnOk, OnErr, IfSome, IfNone};
 ghost use Rattle.std.specs.List.{list_any, list_all};
 ghost use Rattle.prop_core.specs.Clauses.{negation, same_literal, is_false, is_true, HasValues};
 ghost use Rattle.prop_core.specs.Derivation.{clause_numbered};
@@ -8,7 +8,7 @@ ghost use Rattle.sat_prop.specs.TrailState.{literal_at};
 ghost use Rattle.sat_prop.specs.Quiet.{AreQuiet, IsConflict, IsPropagated};
 ghost use Rattle.sat_prop.specs.Changes.{IsFront, Propagates, with_clause, with_literal};
 ghost use Rattle.sat_prop.specs.Watches.{IsNext, watch_at};
-ghost use Rattle.sat_prop.specs.Watching.{AreWatched, AreVisited, AreTwo, IsJudged, IsReplacement, no_watched};
+ghost use Rattle.sat_prop.specs.Watching.{AreWatched, AreVisited, AreTwo, IsJudged, IsReplacement, IsNarrow, no_watched};
 
 use crate::stack::Stack;
 use crate::standing::Stands;
@@ -19,8 +19,8 @@ use prop_core::{ClauseId, Clauses, Lit};
 use std::alloc::Global;
 use std::marker::Model;
 
-/// The clauses that are attached: with two different literals they are watched, without they are short, and looked at each
-/// time. The first so many literals have been looked at.
+/// The clauses that are attached: with two different literals they are watched, without they are short, and looked at at
+/// level 0. The first so many literals have been looked at.
 #[derive(Drop)]
 pub struct Watched {
     short: Vec<ClauseId>,
@@ -131,8 +131,25 @@ impl Watched {
         }
     }
 
-    // Looks at each short clause, and makes true what it forces. Answers one that is false.
+    // Looks at the short clauses at level 0, and nowhere else: just before a decision they were neither false nor forced anything, so they
+    // are true from there on. Answers one that is false.
     fn visit_short(&self, stack: &mut Stack, db: &Clauses) -> Option<ClauseId>
+        requires watched { AreWatched stack.old self.now }
+        requires grown { IsFront stack.old.clauses db.now.clauses }
+        ensures watched { AreWatched stack.new self.now }
+        ensures grown { Propagates stack.old stack.new }
+        ensures conflict { IfSome result (IsConflict stack.new) }
+        ensures quiet { IfNone result (length stack.new.literals ≡ length stack.old.literals → AreQuiet stack.new.clauses self.now.short stack.new.literals) }
+    {
+        let _literals = stack.literals();
+        if stack.level() > 0 {
+            return None;
+        }
+        self.visit_each_short(stack, db)
+    }
+
+    // Looks at each short clause, and makes true what it forces. Answers one that is false.
+    fn visit_each_short(&self, stack: &mut Stack, db: &Clauses) -> Option<ClauseId>
         requires watched { AreWatched stack.old self.now }
         requires grown { IsFront stack.old.clauses db.now.clauses }
         ensures watched { AreWatched stack.new self.now }
@@ -297,7 +314,8 @@ fn replacement(stack: &Stack, clause: &[Lit], other: Lit, place: u32) -> Option<
 // Two different literals of a clause, if it has two: rather such as aren't false, and else those that became false last, so that
 // little has to be looked at again.
 fn two_literals(stack: &Stack, clause: &[Lit]) -> Option<(Lit, Lit)>
-    ensures { IfSome result (λ two. AreTwo clause.now two.0 two.1) }
+    ensures two { IfSome result (λ two. AreTwo clause.now two.0 two.1) }
+    ensures none { IfNone result (IsNarrow clause.now) }
 {
     let first = latest(stack, clause, None)?;
     let second = latest(stack, clause, Some(first))?;
@@ -308,6 +326,8 @@ fn two_literals(stack: &Stack, clause: &[Lit]) -> Option<(Lit, Lit)>
 fn latest(stack: &Stack, clause: &[Lit], but: Option<Lit>) -> Option<Lit>
     ensures among { IfSome result (λ l. list_any (same_literal l) clause.now ≡ true) }
     ensures other { IfSome result (λ l. IfSome but (λ b. same_literal b l ≡ false)) }
+    ensures empty { IfNone result (IfNone but (clause.now ≡ [])) }
+    ensures alone { IfNone result (IfSome but (λ b. list_all (same_literal b) clause.now ≡ true)) }
 {
     let mut best: Option<Lit> = None;
     for lit in clause {
@@ -319,7 +339,9 @@ fn latest(stack: &Stack, clause: &[Lit], but: Option<Lit>) -> Option<Lit>
 }
 
 // Whether a literal became false later than the best so far.
-fn is_later(stack: &Stack, best: Option<Lit>, lit: Lit) -> bool {
+fn is_later(stack: &Stack, best: Option<Lit>, lit: Lit) -> bool
+    ensures { IfNone best (result ≡ true) }
+{
     match best {
         Some(best) => stack.falls(best) < stack.falls(lit),
         None => true,

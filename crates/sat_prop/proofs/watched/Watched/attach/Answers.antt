@@ -14,7 +14,7 @@ pub add-requires-clause-first : goal.add-requires-clause-first
 add-requires-clause-first c =
     let wa = subst (λ (s : WatchedState). AreWatched c.args.stack.now s) (sym c.self.view_is) c.requires.watched in
     let known = subst (λ (o : Option Clause). IfSome o (HasValues c.args.stack.now.vars)) c.clause.ensures c.requires.known in
-    let b = below_at c.args.stack.now.vars c.clause.result.now c.in-Some.first known c.in-Some.ensures.first_among in
+    let b = below_at c.args.stack.now.vars c.clause.result.now c.in-Some.first known c.in-Some.ensures.two.first_among in
     let v = wa.vars in
     omega arith
 
@@ -22,7 +22,7 @@ pub add-requires-clause-second : goal.add-requires-clause-second
 add-requires-clause-second c =
     let wa = subst (λ (s : WatchedState). AreWatched c.args.stack.now s) (sym c.self.view_is) c.requires.watched in
     let known = subst (λ (o : Option Clause). IfSome o (HasValues c.args.stack.now.vars)) c.clause.ensures c.requires.known in
-    let b = below_at c.args.stack.now.vars c.clause.result.now c.in-Some.second known c.in-Some.ensures.second_among in
+    let b = below_at c.args.stack.now.vars c.clause.result.now c.in-Some.second known c.in-Some.ensures.two.second_among in
     let v = wa.vars in
     omega arith
 
@@ -37,7 +37,7 @@ returns-in-Some c =
     let first : c.min-self-inside.result ≤ c.falls.result = grind (arith, common_steps) in
     let second : c.min-self-inside.result ≤ c.falls-in-Some.result = grind (arith, common_steps) in
     subst (λ (s : WatchState). AreWatched (with_clause c.args.stack.now c.args.db.now.clauses c.args.id) (record w { lists = s; seen = c.min-self-inside.result })) (sym c.add.ensures)
-    (watch_attached c.args.stack.now w c.args.db.now.clauses c.args.id c.clause.result.now c.in-Some.first c.in-Some.second c.min-self-inside.result c.requires.grown c.requires.room wa c.clause.ensures c.in-Some.ensures fewer
+    (watch_attached c.args.stack.now w c.args.db.now.clauses c.args.id c.clause.result.now c.in-Some.first c.in-Some.second c.min-self-inside.result c.requires.grown c.requires.room wa c.clause.ensures c.in-Some.ensures.two fewer
     (λ place h e. c.falls.ensures place (omega arith) (omega arith) e)
     (λ place h e. c.falls-in-Some.ensures place (omega arith) (omega arith) e))
 
@@ -48,4 +48,4 @@ returns-in-None c =
     let u = c.unwrap.ensures in
     let e : c.push.new.self.items ≡ c.self.inside.short.items ++ c.args.id ∷ [] = let a = c.push.ensures.items in grind (arith, common_steps) in
     subst (λ (xs : List ℕ). AreWatched (with_clause c.args.stack.now c.args.db.now.clauses c.args.id) (record w { short = xs; spare = c.self.inside.spare - 1 })) (sym e)
-    (short_attached c.args.stack.now w c.args.db.now.clauses c.args.id c.requires.grown c.requires.room wa)
+    (short_attached c.args.stack.now w c.args.db.now.clauses c.args.id c.requires.grown c.requires.room wa (record { clause = c.clause.result.now; held = c.clause.ensures; narrow = c.in-None.ensures.none }))

@@ -2,7 +2,7 @@ use Rattle.std.specs.Prelude.{◌≡◌, length}
 use Rattle.sat_prop.specs.Changes.{Propagates}
 use Rattle.sat_prop.specs.Quiet.{AreQuietBelow}
 use Rattle.sat_prop.specs.Watching.{AreWatched}
-use Rattle.sat_prop.proofs.watched.Watched.visit_short.Given as goal
+use Rattle.sat_prop.proofs.watched.Watched.visit_each_short.Given as goal
 
 abbrev pub invariant-loop-place : goal.invariant-loop-place
 invariant-loop-place l = record {
