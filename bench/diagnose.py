@@ -10,7 +10,8 @@ FOLDER that is kept a later run is quick. It's no part of the gate.
 The first plant is a bus and Z units. Each unit jams, which is a fault that nobody sees, then trips at the bus, and is fixed. Some units trip,
 one after the other, and the log has an alarm for each. So the least number of faults is the number of units that trip, and one step
 more than that is enough. The second are valves that jam and trip, all under one label, and alarms without an order. The third is a
-line of stations, each of which sends to the next; what was sent may be lost, and the sender tells that it is late.
+line of stations, each of which sends to the next; what was sent may be lost, and the sender tells that it is late. The fourth are
+meshes of a telecom network (`meshes.py`), and the fifth one device that tells the same alarm again and again, each time by a fault.
 """
 import os
 import shutil
@@ -18,6 +19,7 @@ import sys
 import tempfile
 
 from measure import timed
+from meshes import mesh
 from scratch import built
 
 USED = ["des_base", "prop_core", "proof_ledger", "sat_order", "sat_prop", "sat_learn", "sat_solve", "des_net", "indep", "run_clauses",
@@ -77,15 +79,27 @@ def stations(count, labels):
     return model, [f"alarm,a{a},{label}" for a, label in enumerate(labels)]
 
 
+def repeats(alarms):
+    """One device, and so many alarms of one label, of which the first comes before two others."""
+    model = ["des 1", "component z", "state up init", "trans up b up"] + [f"event f{i} alarm A fault : z.b" for i in range(3)]
+    return model, [f"alarm,a{a},A" for a in range(alarms)] + ["before,a0,a1", "before,a0,a2"]
+
+
 def questions():
     """Each with its name, the steps, model and log."""
     for units in UNITS:
         for more in [1, 3]:
             yield f"{units} units", len(tripping(units)) + more, *plant(units)
+    yield "200 units", len(tripping(200)) - 1, *plant(200)
     for steps in [4, 5]:
         yield "6 valves, 4 alarms", steps, *valves(6, 4)
-    for steps in [4, 6]:
-        yield "6 stations, 6 alarms", steps, *stations(6, ["L0", "L1", "A0", "A1", "A2", "L0|L1"])
+    yield "6 valves, 5 alarms", 4, *valves(6, 5)
+    for count, steps in [(6, 4), (6, 6), (6, 8), (10, 6)]:
+        yield f"{count} stations, 6 alarms", steps, *stations(count, ["L0", "L1", "A0", "A1", "A2", "L0|L1"])
+    yield "mesh of 20 nodes", 10, *mesh(20, 3, 3, 6, 10)
+    yield "mesh of 30 nodes", 12, *mesh(30, 4, 4, 8, 10)
+    for alarms in [4, 5, 6, 7]:
+        yield f"{alarms} alarms of one device", alarms, *repeats(alarms)
 
 
 def written(folder, model, log):
