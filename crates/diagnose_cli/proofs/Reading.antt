@@ -1,8 +1,7 @@
 -- Files that are read as texts.
-use Rattle.std.proofs.Common.{◌≡◌, ◌≢◌, inr, ℕ, List, length, Option, Some, None, IsSome, ap, ◌∙◌, subst, refl}
+use Rattle.std.proofs.Common.{◌≡◌, ◌≢◌, inr, ℕ, List, length, Option, Some, None, ap, subst, refl}
 use Rattle.std.specs.Prelude.{option_map}
 use Rattle.des_net.specs.Network.{Net}
-use Rattle.model_text.specs.declared.fault.ModelFault.{ModelFault}
 use Rattle.model_text.specs.declared.fault.ModelRefusal.{ModelRefusal}
 use Rattle.model_text.specs.declared.fault.ModelRefusal.TheVariants.{Fault, Memory as ModelMemory}
 use Rattle.model_text.specs.ModelFaults.{network_of, first_fault as first_model_fault, IsDue as IsModelDue}
@@ -30,11 +29,6 @@ use Rattle.diagnose_cli.specs.Refusals.{stop_of_model, stop_of_log, stop_of_run,
 use Rattle.diagnose_cli.specs.Commands.{fault_of_model, fault_of_log, fault_of_run, fault_of_cnf, fault_of_lrat}
 use Rattle.diagnose_cli.specs.Files.{Loads, Holds, IsText, StopsIn}
 
--- what is there is told
-told : {X : Type 0} (o : Option X) (text : FaultyText) → IsSome o → option_map (λ _. text) o ≡ Some text
-told None text h = cc
-told (Some x) text h = refl
-
 pub none_told : {X : Type 0} (f : X → FaultyText) (o : Option X) → o ≡ None → option_map f o ≡ None
 none_told f None h = refl
 none_told f (Some x) h = cc
@@ -42,13 +36,7 @@ none_told f (Some x) h = cc
 pub model_stops : (l : Loads) (i : ℕ) (name : List ℕ) (limit : ℕ) (text : List ℕ) (refusal : ModelRefusal) (stop : Stop)
     → Holds l.held name limit text → IsModelDue (first_model_fault text) refusal → stop ≡ stop_of_model refusal → stop ≢ Memory → StopsIn l i name limit fault_of_model stop
 model_stops l i name limit text (Fault fault) stop holds due is never =
-    inr (record {
-      bytes = text;
-      holds = holds;
-      text = Model (record { line = 0; code = 0 });
-      faulty = told (first_model_fault text) (Model (record { line = 0; code = 0 })) due.0;
-      told = is ∙ ap (λ (f : ModelFault). Faulty (Model f)) due.1;
-    })
+    inr (record { bytes = text; holds = holds; text = Model fault; faulty = ap (option_map (λ f. Model f)) due; told = is })
 model_stops l i name limit text ModelMemory stop holds due is never = absurd (never is)
 
 pub model_read : (held : List ℕ → Option (List ℕ)) (name : List ℕ) (limit : ℕ) (text : List ℕ) (net : Net) → Holds held name limit text → first_model_fault text ≡ None → net ≡ network_of text

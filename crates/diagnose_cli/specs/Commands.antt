@@ -83,9 +83,9 @@ limit_of run = 536870912
 limit_of cnf = 536870912
 limit_of lrat = 536870912
 
--- The first fault of a text. Until the reader of models tells the place, it is told as 0 0.
+-- the first fault of a text
 abbrev pub fault_of_model : List ℕ → Option FaultyText
-fault_of_model bytes = option_map (λ _. Model (record { line = 0; code = 0 })) (first_model_fault bytes)
+fault_of_model bytes = option_map (λ fault. Model fault) (first_model_fault bytes)
 
 abbrev pub fault_of_run : Net → List ℕ → Option FaultyText
 fault_of_run net bytes = option_map (λ fault. Run fault) (first_run_fault net bytes)

@@ -1,15 +1,15 @@
 -- What lines of states and events add.
 use Rattle.std.proofs.Common.{◌≡◌, ℕ, Bool, true, false, List, [], ◌∷◌, length, cond, Option, None, Some, Ok, refl, arith, ap, sym, ◌∙◌, subst}
-use Rattle.std.specs.Prelude.{option_map, option_and_then, ◌&&◌}
+use Rattle.std.specs.Prelude.{◌&&◌}
 use Rattle.std.specs.List.{list_all}
 use Rattle.des_base.specs.Names.{is_name_text}
 use Rattle.des_net.specs.declared.parts.Part.{Part}
 use Rattle.des_net.specs.declared.refusal.BuildRefusal.TheVariants.{Unknown}
 use Rattle.des_net.specs.Network.{Component, Net}
 use Rattle.des_net.specs.Building.{state_refusal, with_state, change_component, event_refusal, with_event}
-use Rattle.model_text.specs.ModelLines.{ModelLine, NamedPart, state, event}
+use Rattle.model_text.specs.ModelLines.{NamedPart, state, event}
 use Rattle.model_text.specs.ModelFaults.{optional_words}
-use Rattle.model_text.specs.Growth.{grown, unless, last_place, grown_by_tokens, parts_by_name, grown_by_event}
+use Rattle.model_text.specs.Growth.{grown, unless, last_place, parts_by_name, grown_by_event}
 use Rattle.model_text.specs.Extends.{IsNamed, IsLabelled}
 
 none_either : (b : Bool) → ◌≡◌ {A = Option Net} (cond b None None) None
@@ -38,21 +38,14 @@ named net name label fault parts found names is well =
     ∙ ap (grown_by_event net name label fault) is
     ∙ ap (λ refusal. unless refusal (with_event net name found label fault)) well
 
--- an event whose parts are found
-pub grown-event : (net : Net) (name : List ℕ) (label : Option (List ℕ)) (fault : Bool) (parts : Option (List NamedPart)) (found : List Part)
-    → option_and_then (parts_by_name net) parts ≡ Some found → is_name_text name ≡ true → list_all is_name_text (optional_words label) ≡ true → event_refusal net name found ≡ None
-    → option_and_then (grown net) (option_map (event name label fault) parts) ≡ Some (with_event net name found label fault)
-grown-event net name label fault None found is named' labelled well = cc
-grown-event net name label fault (Some parts) found is named' labelled well = named net name label fault parts found (both _ _ named' labelled) is well
-
 -- the same by the values that the reader has at hand
-pub event_added : (net new : Net) (line : Option ModelLine) (text : List ℕ) (label : Option (List ℕ)) (fault : Bool) (parts : Option (List NamedPart)) (found slice : List Part) (name : List ℕ) (labelled : Option (List ℕ))
-    → line ≡ option_map (event text label fault) parts → option_and_then (parts_by_name net) parts ≡ Some found → IsNamed text (Ok name) → IsLabelled label (Ok labelled) → slice ≡ found
-    → event_refusal net name slice ≡ None → new ≡ with_event net name slice labelled fault → grown_by_tokens net line ≡ Some new
-event_added net new line text label fault parts found slice name labelled said is named' labels same well added =
+pub event_added : (net new : Net) (text : List ℕ) (label : Option (List ℕ)) (fault : Bool) (parts : List NamedPart) (found slice : List Part) (name : List ℕ) (labelled : Option (List ℕ))
+    → parts_by_name net parts ≡ Some found → IsNamed text (Ok name) → IsLabelled label (Ok labelled) → slice ≡ found
+    → event_refusal net name slice ≡ None → new ≡ with_event net name slice labelled fault → grown net (event text label fault parts) ≡ Some new
+event_added net new text label fault parts found slice name labelled is named' labels same well added =
     let well' : event_refusal net text found ≡ None = subst (λ (n : List ℕ). event_refusal net n found ≡ None) named'.0 (subst (λ (ps : List Part). event_refusal net name ps ≡ None) same well) in
     let added' : new ≡ with_event net text found label fault =
     added ∙ ap (λ (n : List ℕ). with_event net n slice labelled fault) named'.0 ∙ ap (λ (ps : List Part). with_event net text ps labelled fault) same ∙ ap (λ (l : Option (List ℕ)). with_event net text found l fault) labels.0 in
-    ap (grown_by_tokens net) said ∙ grown-event net text label fault parts found is named'.1 labels.1 well' ∙ ap Some (sym added')
+    named net text label fault parts found (both _ _ named'.1 labels.1) is well' ∙ ap Some (sym added')
 
 pub ruleset state_lines = (grown-homeless_state)

@@ -26,7 +26,7 @@ pub record Step (code : Option ℕ) (grown : Option Net) (next : Net) : Type 0 w
   pub grows : (net : Net) → grown ≡ Some net → (code ≡ None) × (next ≡ net)
   pub refused : grown ≡ None → IsSome code
 
-none_some : {X : Type 0} (o : Option X) (x : X) → o ≡ None → o ≡ Some x → ⊥
+pub none_some : {X : Type 0} (o : Option X) (x : X) → o ≡ None → o ≡ Some x → ⊥
 none_some o x e g = cc
 
 pub Step-refused : (code : Option ℕ) (grown : Option Net) (next : Net) → IsSome code → grown ≡ None → Step code grown next

@@ -10,6 +10,7 @@ use Rattle.model_text.specs.GrowthLaw.{HasNames, LinesGrow}
 use Rattle.model_text.proofs.SectionLemmas.{sections-push, sections-component}
 use Rattle.model_text.proofs.GrowthLemmas.{network_from}
 use Rattle.model_text.proofs.CodeLemmas.{Step, Step-same}
+use Rattle.model_text.proofs.SameCodeLemmas.{coded-line}
 use Rattle.model_text.proofs.StepLemmas.{step-component, step-state, step-transition, step-event, network_from-on_last}
 
 -- what the law says of a line after these
@@ -44,4 +45,5 @@ pub lines_grow : LinesGrow
 lines_grow = record {
   grows = λ earlier line net d names h. let both = (step-of earlier line d names).grows net h in record { well = both.0; network = both.1 };
   refused = λ earlier line d names h. (step-of earlier line d names).refused h;
+  coded = λ earlier line d. coded-line earlier line d;
 }

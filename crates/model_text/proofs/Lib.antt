@@ -6,7 +6,11 @@ pub mod GrowthLemmas
 pub mod CodeLemmas
 pub mod PartLemmas
 pub mod StepLemmas
+pub mod SameCodeLemmas
 pub mod LawLemmas
+pub mod RefusalLemmas
+pub mod StartLemmas
+pub mod RepeatLemmas
 pub mod Vectors
 pub mod HasNamesLemmas
 pub mod PieceLemmas

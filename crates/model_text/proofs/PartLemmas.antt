@@ -141,7 +141,7 @@ module _ (net : Net) (names : HasNames net) (named : length net.component_names 
       ∙ ap (λ b. list_all is_name_text words && b) (components_named ps qs h)
       ∙ and-true (list_all is_name_text words)
 
-is_some_step : (b : Bool) (o : Option ℕ) → is_some (cond b (Some 0) (option_map suc o)) ≡ (b || is_some o)
+pub is_some_step : (b : Bool) (o : Option ℕ) → is_some (cond b (Some 0) (option_map suc o)) ≡ (b || is_some o)
 is_some_step true o = refl
 is_some_step false None = refl
 is_some_step false (Some k) = refl

@@ -5,11 +5,10 @@ use Rattle.std.specs.List.{position_or_len}
 use Rattle.std.proofs.lemmas.List.{take_all}
 use Rattle.std.proofs.lemmas.Grind.{common_steps}
 use Rattle.des_base.proofs.PieceLemmas.{after_cut, slice_split-piece}
-use Rattle.des_net.specs.declared.parts.Part.{Part}
-use Rattle.des_net.specs.Network.{Net}
-use Rattle.model_text.specs.ModelLines.{NamedPart, part_of_token, part_of_pieces, all_some}
-use Rattle.model_text.specs.Growth.{part_of, parts_by_name}
-use Rattle.model_text.specs.Extends.{parts_by_tokens}
+use Rattle.std.proofs.lemmas.List.{map-append}
+use Rattle.model_text.specs.declared.part_name.PartName.{PartName}
+use Rattle.model_text.specs.ModelLines.{NamedPart, part_of_token, part_of_pieces, parts_of_tokens}
+use Rattle.model_text.specs.Shapes.{part_said}
 
 abbrev is_dot : ℕ → Bool
 is_dot byte = byte == 46
@@ -63,39 +62,26 @@ part_of_token-one_dot token c rest action n m is front back some behind at h =
     cut token c rest n is front back ∙ one_dot c rest some (subst (λ a. length a ≤ dot_place a) behind (subst (λ k. length action ≤ k) at h))
     ∙ ap (λ a. Some (record { component = c; action = a })) (sym behind)
 
--- the parts that tokens name, from the first on
-first_part : (net : Net) (named : Option NamedPart) (rest : Option (List NamedPart))
-    → option_and_then (parts_by_name net) (option_and_then (λ y. option_map (λ ys. y ∷ ys) rest) named)
-    ≡ option_and_then (λ part. option_map (λ parts. part ∷ parts) (option_and_then (parts_by_name net) rest)) (option_and_then (part_of net) named)
-first_part net None rest = refl
-first_part net (Some named) None = none (part_of net named)
-  where
-    none : (o : Option Part) → ◌≡◌ {A = Option (List Part)} None (option_and_then (λ part. option_map (λ parts. part ∷ parts) None) o)
-    none None = refl
-    none (Some part) = refl
-first_part net (Some named) (Some rest) = refl
+-- the parts that tokens name, after these
+abbrev pub more_parts : List NamedPart → List (List ℕ) → Option (List NamedPart)
+more_parts read tokens = option_map (λ parts. read ++ parts) (parts_of_tokens tokens)
 
-pub parts_by_tokens-cons : (net : Net) (token : List ℕ) (tokens : List (List ℕ)) → parts_by_tokens net (token ∷ tokens)
-    ≡ option_and_then (λ part. option_map (λ parts. part ∷ parts) (parts_by_tokens net tokens)) (option_and_then (part_of net) (part_of_token token))
-parts_by_tokens-cons net token tokens = first_part net (part_of_token token) (all_some (map part_of_token tokens))
+moved : (read : List NamedPart) (part : NamedPart) (rest : Option (List NamedPart)) → option_map (λ parts. read ++ parts) (option_map (λ parts. part ∷ parts) rest) ≡ option_map (λ parts. (read ++ part ∷ []) ++ parts) rest
+moved read part None = refl
+moved read part (Some parts) = ap Some (sym (append_assoc read (part ∷ []) parts))
 
-moved : (found : List Part) (part : Part) (rest : Option (List Part)) → option_map (λ parts. found ++ parts) (option_map (λ parts. part ∷ parts) rest) ≡ option_map (λ parts. (found ++ part ∷ []) ++ parts) rest
-moved found part None = refl
-moved found part (Some parts) = ap Some (sym (append_assoc found (part ∷ []) parts))
-
--- one more part was found
-pub parts-found : (net : Net) (found : List Part) (part : Part) (token : List ℕ) (tokens : List (List ℕ)) → Some part ≡ option_and_then (part_of net) (part_of_token token)
-    → option_map (λ parts. found ++ parts) (parts_by_tokens net (token ∷ tokens)) ≡ option_map (λ parts. (found ++ part ∷ []) ++ parts) (parts_by_tokens net tokens)
-parts-found net found part token tokens is =
-    ap (option_map (λ parts. found ++ parts)) (parts_by_tokens-cons net token tokens ∙ ap (λ o. option_and_then (λ p. option_map (λ parts. p ∷ parts) (parts_by_tokens net tokens)) o) (sym is))
-    ∙ moved found part (parts_by_tokens net tokens)
+-- one more token names a part
+pub more_parts-next : (read : List PartName) (part : PartName) (token : List ℕ) (tokens : List (List ℕ)) → part_of_token token ≡ Some (part_said part)
+    → more_parts (map part_said read) (token ∷ tokens) ≡ more_parts (map part_said (read ++ part ∷ [])) tokens
+more_parts-next read part token tokens is =
+    ap (λ o. option_map (λ parts. map part_said read ++ parts) (option_and_then (λ y. option_map (λ ys. y ∷ ys) (parts_of_tokens tokens)) o)) is
+    ∙ moved (map part_said read) (part_said part) (parts_of_tokens tokens)
+    ∙ ap (λ ps. more_parts ps tokens) (sym (map-append part_said read (part ∷ [])))
 
 -- a token names no part
-pub parts-missed : (net : Net) (found : List Part) (token : List ℕ) (tokens : List (List ℕ)) → ◌≡◌ {A = Option Part} None (option_and_then (part_of net) (part_of_token token))
-    → option_map (λ parts. found ++ parts) (parts_by_tokens net (token ∷ tokens)) ≡ None
-parts-missed net found token tokens is =
-    ap (option_map (λ parts. found ++ parts)) (parts_by_tokens-cons net token tokens ∙ ap (λ o. option_and_then (λ p. option_map (λ parts. p ∷ parts) (parts_by_tokens net tokens)) o) (sym is))
+pub more_parts-none : (read : List NamedPart) (token : List ℕ) (tokens : List (List ℕ)) → part_of_token token ≡ None → more_parts read (token ∷ tokens) ≡ None
+more_parts-none read token tokens is = ap (λ o. option_map (λ parts. read ++ parts) (option_and_then (λ y. option_map (λ ys. y ∷ ys) (parts_of_tokens tokens)) o)) is
 
 pub ruleset part_pieces = (part_of_token-no_dot, part_of_token-two_dots, part_of_token-one_dot)
 
-pub ruleset part_tokens = (parts-found, parts-missed)
+pub ruleset part_tokens = (more_parts-next, more_parts-none)

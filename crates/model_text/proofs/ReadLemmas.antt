@@ -1,17 +1,18 @@
 -- Line by line: the network of the lines so far, and what is still to come.
-use Rattle.std.proofs.Common.{◌≡◌, ℕ, List, [], ◌∷◌, ◌++◌, Option, None, Some, refl, ap, sym, ◌∙◌, subst, append_assoc, append-nil, IsSome, Result, Ok, Err, IsErrAnd}
+use Rattle.std.proofs.Common.{◌≡◌, ℕ, List, [], ◌∷◌, ◌++◌, Option, None, Some, refl, ap, sym, ◌∙◌, subst, append_assoc, append-nil, Err}
 use Rattle.std.specs.List.{cons_option}
 use Rattle.des_base.specs.CountedLines.{NumberedLine, tokens_of}
 use Rattle.des_net.specs.Network.{Net, no_net}
 use Rattle.des_net.specs.Building.{IsDraft}
-use Rattle.model_text.specs.declared.fault.ModelFault.{ModelFault}
 use Rattle.model_text.specs.ModelLines.{ModelLine, model_line}
 use Rattle.model_text.specs.ModelNetwork.{network_of_lines, model_lines}
 use Rattle.model_text.specs.ModelFaults.{shape_code, with_shape, fault_or, first_code}
-use Rattle.model_text.specs.declared.fault.ModelRefusal.{ModelRefusal}
-use Rattle.model_text.specs.declared.fault.ModelRefusal.TheVariants.{Fault, Memory}
-use Rattle.model_text.specs.Extends.{Extends, BuildsLines}
+use Rattle.model_text.specs.declared.refusal.LineRefusal.{LineRefusal}
+use Rattle.model_text.specs.declared.refusal.LineRefusal.TheVariants.{Shape, Homeless, Name, Double, Unknown, Limit, Memory}
+use Rattle.model_text.specs.Extends.{BuildsLines}
 use Rattle.model_text.specs.Growth.{grown, grown_by_tokens}
+use Rattle.model_text.specs.LineCodes.{code_by, code_by_tokens, IsCoded}
+use Rattle.model_text.specs.Refusals.{refusal_at}
 use Rattle.model_text.specs.GrowthLaw.{HasNames, Grows}
 use Rattle.model_text.proofs.LawLemmas.{lines_grow}
 use Rattle.model_text.proofs.HasNamesLemmas.{HasNames-grown, HasNames-none}
@@ -55,26 +56,25 @@ module _ (all rest : List NumberedLine) (line : NumberedLine) (net : Net) (so_fa
   pub IsReadTo-more : (now : Net) → grown_by_tokens net (model_line (tokens_of line.text)) ≡ Some now → IsReadTo all rest now
   IsReadTo-more now h = step (model_line (tokens_of line.text)) now refl h
 
-  coded : (code : Option ℕ) (later : Option ModelFault) → IsSome code → IsSome (fault_or line.number code later)
-  coded None later h = cc
-  coded (Some code) later h = refl
+  coded : (said : Option ModelLine) → shape_code so_far.earlier said ≡ code_by_tokens net said
+  coded None = refl
+  coded (Some shape) = lines_grow.coded so_far.earlier shape draft_before ∙ ap (λ (n : Net). code_by n shape) (sym so_far.network)
 
-  stop : (said : Option ModelLine) → model_line (tokens_of line.text) ≡ said → grown_by_tokens net said ≡ None → IsSome (shape_code so_far.earlier said)
-  stop None is h = refl
-  stop (Some shape) is h = lines_grow.refused so_far.earlier shape draft_before names_before (subst (λ (n : Net). grown n shape ≡ None) so_far.network h)
+  -- the code of a line that adds nothing is the first
+  found : (code : ℕ) → code_by_tokens net (model_line (tokens_of line.text)) ≡ Some code → first_code [] all ≡ Some (record { line = line.number; code = code })
+  found code h =
+      so_far.codes
+      ∙ ap (λ c. fault_or line.number c (first_code (with_shape so_far.earlier (model_line (tokens_of line.text))) rest)) (coded (model_line (tokens_of line.text)) ∙ h)
 
-  -- a line that adds nothing has a code
-  pub has_code : grown_by_tokens net (model_line (tokens_of line.text)) ≡ None → IsSome (first_code [] all)
-  has_code h = subst IsSome (sym so_far.codes) (coded _ _ (stop (model_line (tokens_of line.text)) refl h))
-
-  refusal : (new : Net) (e : ModelRefusal) → Extends net (model_line (tokens_of line.text)) new (Err e) → BuildsLines all (Err e)
-  refusal new (Fault fault) h = (has_code h.0, h.1)
-  refusal new Memory h = tt
-
-  -- where a line is refused, all lines have a first code
-  pub stopped : (new : Net) (r : Result Net ModelRefusal) (e : ModelRefusal) → IsErrAnd r (λ x. x ≡ e) → Extends net (model_line (tokens_of line.text)) new (Err e) → BuildsLines all r
-  stopped new (Ok n) e is h = absurd is
-  stopped new (Err x) e is h = subst (λ (y : ModelRefusal). BuildsLines all (Err y)) (sym is) (refusal new e h)
+  -- where a line is refused, all lines have this first code
+  pub stopped : (r : LineRefusal) → IsCoded (code_by_tokens net (model_line (tokens_of line.text))) r → BuildsLines all (Err (refusal_at line.number r))
+  stopped Shape h = found 2 h
+  stopped Homeless h = found 7 h
+  stopped Name h = found 3 h
+  stopped Double h = found 4 h
+  stopped Unknown h = found 5 h
+  stopped Limit h = found 8 h
+  stopped Memory h = tt
 
 -- at the end the network is that of all lines
 pub network_of_all : (all : List NumberedLine) (net : Net) → IsReadTo all [] net → (first_code [] all ≡ None) × (net ≡ network_of_lines (model_lines all))

@@ -38,11 +38,11 @@ step-component sections events name d =
     (network_from-component sections events name d)
 
 -- the component of the last section
-slice_get-automata : (front : List Section) (last : Section) → slice_get (automata_of (front ++ last ∷ [])) (length (automata_of (front ++ last ∷ [])) - 1) ≡ Some (component_of last.lines)
+pub slice_get-automata : (front : List Section) (last : Section) → slice_get (automata_of (front ++ last ∷ [])) (length (automata_of (front ++ last ∷ [])) - 1) ≡ Some (component_of last.lines)
 slice_get-automata front last =
     ap (λ cs. slice_get cs (length cs - 1)) (map-append (λ (s : Section). component_of s.lines) front (last ∷ [])) ∙ slice_get-last (automata_of front) (component_of last.lines)
 
-draft-last : (front : List Section) (last : Section) (events : List NamedEvent) → IsDraft (network_from (front ++ last ∷ []) events) → IsDraftComponent (component_of last.lines)
+pub draft-last : (front : List Section) (last : Section) (events : List NamedEvent) → IsDraft (network_from (front ++ last ∷ []) events) → IsDraftComponent (component_of last.lines)
 draft-last front last events d = All-slice_get IsDraftComponent (automata_of (front ++ last ∷ [])) _ (component_of last.lines) d.components.each (slice_get-automata front last)
 
 -- a state
@@ -86,7 +86,7 @@ sizes (s ∷ ss) =
     let c = component_of s.lines in
     omega (arith, sizes ss, sum_by-cons (λ (s : Section). length (transitions_in s.lines)) s ss, sum_by-cons (λ (c : Automaton). length c.transitions) c (automata_of ss), length-transitions s.lines)
 
-count_of : (sections : List Section) → sum_by (λ s. length (transitions_in s.lines)) sections ≡ trans_count (automata_of sections)
+pub count_of : (sections : List Section) → sum_by (λ s. length (transitions_in s.lines)) sections ≡ trans_count (automata_of sections)
 unfolding trans_count
 count_of sections = sizes sections
 
@@ -209,13 +209,13 @@ event_code net events name label parts =
 known_of : (double past there : Bool) → there ≡ true → cond double (Some Double) (cond there (cond past (Some Limit) None) (Some Unknown)) ≡ limited double past
 known_of double past there e = rw e refl
 
-event_refusal-known : (net : Net) (name : List ℕ) (parts : List Part) → list_all (is_known net.components) parts ≡ true
+pub event_refusal-known : (net : Net) (name : List ℕ) (parts : List Part) → list_all (is_known net.components) parts ≡ true
     → event_refusal net name parts ≡ limited (is_some (place_of name net.event_names) || repeats parts) (nat_le 4000 (length net.events) || nat_lt 16 (length parts))
 unfolding event_refusal
 event_refusal-known net name parts h =
     known_of (is_some (place_of name net.event_names) || repeats parts) (nat_le 4000 (length net.events) || nat_lt 16 (length parts)) (list_all (is_known net.components) parts) h
 
-length_all : (net : Net) (ps : List NamedPart) (qs : List Part) → AllZip (Found net) ps qs → length ps ≡ length qs
+pub length_all : (net : Net) (ps : List NamedPart) (qs : List Part) → AllZip (Found net) ps qs → length ps ≡ length qs
 length_all net [] [] h = refl
 length_all net [] (q ∷ qs) h = absurd h
 length_all net (p ∷ ps) [] h = absurd h

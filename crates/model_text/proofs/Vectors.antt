@@ -1,9 +1,13 @@
 -- Worked texts, computed.
 use Rattle.std.proofs.Common.{◌≡◌, [], ◌∷◌, None, refl}
-use Rattle.std.specs.Prelude.{codes}
+use Rattle.std.specs.Prelude.{ℕ, List, ◌++◌, codes, flat_map, map}
 use Rattle.des_base.specs.Names.{is_name_text, is_name_byte}
 use Rattle.model_text.specs.ModelFaults.{first_fault, network_of}
 use Rattle.model_text.specs.Samples.{text_of, wide_text_of, fault_at, valve_lines, valve, pair_lines, pair}
+
+-- seventeen letters
+abbrev seventeen : List (List ℕ)
+seventeen = map (λ letter. letter ∷ []) (codes "abcdefghijklmnopq")
 
 pub valve_is_read : network_of (text_of valve_lines) ≡ valve
 valve_is_read = refl
@@ -101,3 +105,48 @@ second_without_initial_state = refl
 pub after_comment_and_blank : first_fault (text_of (codes "des 1" ∷ codes "# note" ∷ [] ∷ codes "component a.b" ∷ [])) ≡ fault_at 4 3
 unfolding is_name_text is_name_byte
 after_comment_and_blank = refl
+
+-- ---- a line at fault by two codes: the order is 2, 7, 3, 4, 5, 8
+
+pub no_shape_before_no_component : first_fault (text_of (codes "des 1" ∷ codes "state" ∷ [])) ≡ fault_at 2 2
+unfolding is_name_text is_name_byte
+no_shape_before_no_component = refl
+
+pub no_component_before_no_name : first_fault (text_of (codes "des 1" ∷ codes "state a.b" ∷ [])) ≡ fault_at 2 7
+unfolding is_name_text is_name_byte
+no_component_before_no_name = refl
+
+pub no_shape_before_no_name : first_fault (text_of (codes "des 1" ∷ codes "component p" ∷ codes "state s init" ∷ codes "trans s a s" ∷ codes "event a.b : p.a p" ∷ [])) ≡ fault_at 5 2
+unfolding is_name_text is_name_byte
+no_shape_before_no_name = refl
+
+pub no_name_before_double : first_fault (text_of (codes "des 1" ∷ codes "component p" ∷ codes "state s init" ∷ codes "trans s a s" ∷ codes "event a.b : p.a p.b" ∷ [])) ≡ fault_at 5 3
+unfolding is_name_text is_name_byte
+no_name_before_double = refl
+
+pub double_before_unknown : first_fault (text_of (codes "des 1" ∷ codes "component p" ∷ codes "state s init" ∷ codes "trans s a s" ∷ codes "event e : q.a q.b" ∷ [])) ≡ fault_at 5 4
+unfolding is_name_text is_name_byte
+double_before_unknown = refl
+
+pub known_event_before_unknown : first_fault (text_of (codes "des 1" ∷ codes "component p" ∷ codes "state s init" ∷ codes "trans s a s" ∷ codes "event e : p.a" ∷ codes "event e : q.a" ∷ [])) ≡ fault_at 6 4
+unfolding is_name_text is_name_byte
+known_event_before_unknown = refl
+
+pub unknown_before_limit : first_fault (text_of (codes "des 1" ∷ codes "component p" ∷ codes "state s init" ∷ codes "trans s a s" ∷ codes "event e : b.a c.a d.a e.a f.a g.a h.a i.a j.a k.a l.a m.a n.a o.a p.a q.a r.a" ∷ [])) ≡ fault_at 5 5
+unfolding is_name_text is_name_byte
+unknown_before_limit = refl
+
+-- ---- lines
+
+pub least_line : first_fault (text_of (codes "des 1" ∷ codes "component p" ∷ codes "state s init" ∷ codes "trans s a s" ∷ codes "trans s a t" ∷ codes "state" ∷ [])) ≡ fault_at 5 5
+unfolding is_name_text is_name_byte
+least_line = refl
+
+pub lines_before_initial_states : first_fault (text_of (codes "des 1" ∷ codes "component p" ∷ codes "state s" ∷ codes "component q" ∷ codes "state" ∷ [])) ≡ fault_at 5 2
+unfolding is_name_text is_name_byte
+lines_before_initial_states = refl
+
+-- more parts than there may be, all of them known
+pub too_many_parts : first_fault (text_of (codes "des 1" ∷ flat_map (λ name. (codes "component " ++ name) ∷ codes "state s init" ∷ codes "trans s a s" ∷ []) seventeen ++ (codes "event e :" ++ flat_map (λ name. 32 ∷ name ++ codes ".a") seventeen) ∷ [])) ≡ fault_at 53 8
+unfolding is_name_text is_name_byte
+too_many_parts = refl

@@ -2,6 +2,7 @@ pub mod ModelLines
 pub mod ModelNetwork
 pub mod ModelFaults
 pub mod Growth
+pub mod LineCodes
 pub mod GrowthLaw
 pub mod Samples
 pub mod Refusals

@@ -1,5 +1,5 @@
 -- The first fault of a model text, by its line and the code of its kind.
-use Rattle.std.specs.Prelude.{ℕ, Bool, false, not, ◌&&◌, ◌||◌, List, [], ◌∷◌, ◌++◌, map, filter_map, length, option_map, Option, Some, None, bytes_eq, if◌then◌else◌, nat_le, nat_lt, is_some, slice_index, slice_index_or, sum_by, IsSome, ⊤, ◌≡◌}
+use Rattle.std.specs.Prelude.{ℕ, Bool, false, not, ◌&&◌, ◌||◌, List, [], ◌∷◌, ◌++◌, map, filter_map, length, option_map, Option, Some, None, bytes_eq, if◌then◌else◌, nat_le, nat_lt, is_some, slice_index, slice_index_or, sum_by, ⊤, ◌≡◌}
 use Rattle.std.specs.List.{list_all, list_any}
 use Rattle.std.specs.Option.{option_map_or}
 use Rattle.des_base.specs.Names.{is_name_text, place_of, place_by}
@@ -141,7 +141,7 @@ body (header ∷ lines) = lines
 abbrev pub network_of : List ℕ → Net
 network_of bytes = network_of_lines (model_lines (body (counted_lines 35 bytes)))
 
--- A refusal for a fault comes only where the text has one. Until places are told it names none.
+-- A refusal names the first fault. Want of memory may come in place of any answer.
 abbrev pub IsDue : Option ModelFault → ModelRefusal → Type 0
-IsDue fault (Fault told) = IsSome fault × (told ≡ record { line = 0; code = 0 })
+IsDue fault (Fault told) = fault ≡ Some told
 IsDue fault Memory = ⊤

@@ -1,21 +1,34 @@
--- What the refusals of names and of the builder are told as.
+-- What the refusals of names, of the builder and of a line are told as.
+use Rattle.std.specs.Prelude.{ℕ}
 use Rattle.des_base.specs.declared.name.NameFault.{NameFault}
-use Rattle.des_base.specs.declared.name.NameFault.TheVariants.{Shape, Memory as NameMemory}
+use Rattle.des_base.specs.declared.name.NameFault.TheVariants as text
 use Rattle.des_net.specs.declared.refusal.BuildRefusal.{BuildRefusal}
-use Rattle.des_net.specs.declared.refusal.BuildRefusal.TheVariants.{Double, Unknown, Limit, Memory as BuildMemory}
+use Rattle.des_net.specs.declared.refusal.BuildRefusal.TheVariants as builder
 use Rattle.model_text.specs.declared.fault.ModelRefusal.{ModelRefusal}
-use Rattle.model_text.specs.declared.fault.ModelRefusal.TheVariants.{Fault, Memory}
+use Rattle.model_text.specs.declared.fault.ModelRefusal.TheVariants as model
+use Rattle.model_text.specs.declared.refusal.LineRefusal.{LineRefusal}
+use Rattle.model_text.specs.declared.refusal.LineRefusal.TheVariants.{Shape, Homeless, Name, Double, Unknown, Limit, Memory}
 
--- the text has a fault, whose place isn't told
-abbrev pub unplaced : ModelRefusal
-unplaced = Fault (record { line = 0; code = 0 })
+abbrev pub refusal_of_name : NameFault → LineRefusal
+refusal_of_name text.Shape = Name
+refusal_of_name text.Memory = Memory
 
-abbrev pub refusal_of_name : NameFault → ModelRefusal
-refusal_of_name Shape = unplaced
-refusal_of_name NameMemory = Memory
+abbrev pub refusal_of_build : BuildRefusal → LineRefusal
+refusal_of_build builder.Double = Double
+refusal_of_build builder.Unknown = Unknown
+refusal_of_build builder.Limit = Limit
+refusal_of_build builder.Memory = Memory
 
-abbrev pub refusal_of_build : BuildRefusal → ModelRefusal
-refusal_of_build Double = unplaced
-refusal_of_build Unknown = unplaced
-refusal_of_build Limit = unplaced
-refusal_of_build BuildMemory = Memory
+-- a fault of this code on the line of this number
+abbrev pub faulty : ℕ → ℕ → ModelRefusal
+faulty line code = model.Fault (record { line = line; code = code })
+
+-- the refusal of a text for the line of this number
+abbrev pub refusal_at : ℕ → LineRefusal → ModelRefusal
+refusal_at line Shape = faulty line 2
+refusal_at line Homeless = faulty line 7
+refusal_at line Name = faulty line 3
+refusal_at line Double = faulty line 4
+refusal_at line Unknown = faulty line 5
+refusal_at line Limit = faulty line 8
+refusal_at line Memory = model.Memory

@@ -12,7 +12,9 @@ mod keyword;
 mod line_name;
 mod line_shape;
 mod part_name;
+mod parts;
 mod reader;
+mod refusal;
 mod theorems;
 
 pub use fault::{ModelFault, ModelRefusal};

@@ -1,19 +1,19 @@
 ghost use Rattle.std.specs.Prelude.{option_map};
 ghost use Rattle.model_text.specs.Extends.{IsNamed, IsLabelled};
 
-use crate::fault::ModelRefusal;
+use crate::refusal::LineRefusal;
 use des_base::Name;
 use std::alloc::Global;
 
 // The text as a name.
-pub(crate) fn name_of(alloc: Global, text: &[u8]) -> Result<Name, ModelRefusal>
+pub(crate) fn name_of(alloc: Global, text: &[u8]) -> Result<Name, LineRefusal>
     ensures { IsNamed text.now result }
 {
     Ok(Name::new(alloc, text)?)
 }
 
 // The label as a name, where there is one.
-pub(crate) fn label_of(alloc: Global, label: Option<&[u8]>) -> Result<Option<Name>, ModelRefusal>
+pub(crate) fn label_of(alloc: Global, label: Option<&[u8]>) -> Result<Option<Name>, LineRefusal>
     ensures { IsLabelled (option_map (λ text. text.now) label.entry) result }
 {
     match label {

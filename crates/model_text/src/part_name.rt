@@ -1,14 +1,12 @@
-ghost use Rattle.std.specs.Prelude.{◌≡◌, ◌≤◌, ◌==◌, drop, length, option_map, option_and_then, IfOk};
+ghost use Rattle.std.specs.Prelude.{◌≡◌, ◌≤◌, ◌==◌, drop, length, option_map, IfOk};
 ghost use Rattle.std.specs.List.{position_or_len};
 ghost use Rattle.model_text.specs.ModelLines.{part_of_token};
-ghost use Rattle.model_text.specs.Growth.{part_of};
 ghost use Rattle.des_base.specs.CountedLines.{texts_of};
-ghost use Rattle.model_text.specs.Extends.{FindsParts};
+ghost use Rattle.model_text.specs.Extends.{ReadsParts};
 ghost use Rattle.model_text.specs.Shapes.{part_said};
 
-use crate::fault::{FAULT, ModelRefusal};
+use crate::refusal::LineRefusal;
 use des_base::Tokens;
-use des_net::{Builder, Part};
 use std::alloc::Global;
 
 // A component and an action by name, as they stand in a token.
@@ -18,34 +16,23 @@ pub(crate) struct PartName<'a> {
     pub action: &'a [u8],
 }
 
-// The parts that the tokens name.
+// The parts that the tokens name, where each has exactly one dot.
 #[tactic(auto, using(crate::proofs::PieceLemmas::part_tokens))]
-pub(crate) fn find_parts(
+pub(crate) fn part_names<'a>(
     alloc: Global,
-    builder: &Builder,
-    mut tokens: Tokens,
-) -> Result<Vec<Part>, ModelRefusal>
-    ensures parts { FindsParts builder.now (texts_of tokens.entry) result }
+    mut tokens: Tokens<'a>,
+) -> Result<Vec<PartName<'a>>, LineRefusal>
+    ensures parts { ReadsParts (texts_of tokens.entry) result }
     ensures count { IfOk result (λ parts. length parts.items ≡ length tokens.entry) }
 {
     let mut parts = Vec::new(alloc);
     while let Some(token) = tokens.next_token() {
-        let Some(part) = find_part(builder, token.text) else {
-            return Err(FAULT);
+        let Some(part) = part_name(token.text) else {
+            return Err(LineRefusal::Shape);
         };
         parts.push(part)?;
     }
     Ok(parts)
-}
-
-// The part that the token names.
-fn find_part(builder: &Builder, token: &[u8]) -> Option<Part>
-    ensures { result ≡ option_and_then (part_of builder.now) (part_of_token token.now) }
-{
-    let name = part_name(token)?;
-    let comp = builder.find_component(name.component)?;
-    let action = builder.find_action(comp, name.action)?;
-    Some(Part { comp, action })
 }
 
 // What stands before the only dot, and what stands behind it.

@@ -1,6 +1,7 @@
 ghost use Rattle.model_text.specs.GrowthLaw.{LinesGrow};
 
-/// A line is refused exactly where it has a code, and else adds what it says to the network of the lines before it.
+/// A line is refused exactly where it has a code, which the network of the lines before it tells, and else adds what it says to
+/// that network.
 #[tactic(auto, using(crate::proofs::LawLemmas::lines_grow))]
 pub fn lines_grow()
     ensures { LinesGrow }
