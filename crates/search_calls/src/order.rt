@@ -18,6 +18,7 @@ fn takes_by_rank_then_by_number(rt: HostRuntime) {
 fn takes_the_last_first(rt: HostRuntime) {
     let mut order = Order::new(rt.alloc(), |var: u32| var as u64);
     got(&rt, order.grow(2));
+    assert!(rt; order.ranks() == [0, 1].as_slice());
     let taken = [order.take(), order.take(), order.take()];
     assert!(rt; taken == [Some(1), Some(0), None]);
 }
