@@ -12,6 +12,25 @@ one after the other, and the log has an alarm for each. So the least number of f
 more than that is enough. The second are valves that jam and trip, all under one label, and alarms without an order. The third is a
 line of stations, each of which sends to the next; what was sent may be lost, and the sender tells that it is late. The fourth are
 meshes of a telecom network (`meshes.py`), and the fifth one device that tells the same alarm again and again, each time by a fault.
+
+On 27 November 2026, on four shared processors of an Intel Xeon under load, in seconds of the processor as ratios: the whole `diagnose` by the rank alone
+and as it is now, to MiniSat run anew for each bound, and as it is now to CaDiCaL's library on the same bounds, on formulas that a model of the
+encoding in C++ printed (one run each, so below 2 not much can be told from noise).
+
+| Plant | Steps | by the rank, to MiniSat | now, to MiniSat | now, to CaDiCaL |
+|---|---|---|---|---|
+| 40 units | 12 | 0.10 | 0.06 | 0.7 |
+| 64 units | 18 | 0.12 | 0.04 | 0.6 |
+| 100 units | 28 | 0.20 | 0.05 | 1.0 |
+| 200 units | 50 | 0.08 | 0.01 | 1.0 |
+| 6 valves, 4 alarms | 5 | 1.2 | 1.4 | 0.8 |
+| 6 valves, 5 alarms | 4 | 2.6 | 5.9 | 6.6 |
+| 6 stations, 6 alarms | 8 | 2.5 | 4.4 | 4.1 |
+| 10 stations, 6 alarms | 6 | 4.2 | 4.9 | 5.8 |
+| mesh of 20 nodes | 10 | 6.1 | 0.2 | 1.6 |
+| mesh of 30 nodes | 12 | more than 39 | 0.9 | 1.0 |
+| 5 alarms of one device | 5 | 1.3 | 1.9 | 1.8 |
+| 6 alarms of one device | 6 | 11 | 14 | 16 |
 """
 import os
 import shutil
