@@ -1,12 +1,14 @@
-"""Looks whether each answer that the tutorial and the pages quote stands in answers.txt, and tells those that don't.
+"""Looks whether each answer that the tutorial, the pages and the top README quote stands in answers.txt, and tells those that don't.
 
     python3 examples/quoted.py
 
-An answer is a fenced block behind an indented command of the program, or behind the answer before it.
+An answer is a fenced block behind an indented command of the program, or behind the answer before it; in the top README it is an
+indented block that begins as a reply with a run does.
 """
 import os
 import re
 import sys
+import textwrap
 
 HERE = os.path.dirname(os.path.abspath(__file__))
 PAGES = ["../docs/tutorial.md", "propulsion/README.md", "feeder/README.md", "ring/README.md"]
@@ -30,9 +32,16 @@ def quoted(page):
             is_next = COMMAND.match(line) is not None
 
 
+def indented(page):
+    """The replies with a run that a page quotes as indented blocks."""
+    blocks = map(textwrap.dedent, re.findall(r"(?:^    .+\n)+", page, flags=re.M))
+    return [it.rstrip("\n") for it in blocks if re.match(r"(EXPLAINED|MANY|UNDECIDED) [\d ]+\nrun ", it)]
+
+
 def main():
     answers = set(re.findall(r"^\$ .*\n((?:.*\n)*?)status", read("answers.txt"), flags=re.M))
     found = [(page, block) for page in PAGES for block in quoted(read(page))]
+    found += [("../README.md", block) for block in indented(read("../README.md"))]
     lost = [(page, block) for page, block in found if block + "\n" not in answers]
     for page, block in lost:
         print(f"{page} quotes what answers.txt hasn't:\n{block}")
