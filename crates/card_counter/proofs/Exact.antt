@@ -6,7 +6,7 @@ use Rattle.std.proofs.lemmas.Option.{slice_get-get_or}
 use Rattle.prop_core.specs.declared.lit.Lit.{Lit}
 use Rattle.prop_core.specs.Clauses.{Clause, negation, literal_true, clause_true, AllClausesTrue}
 use Rattle.prop_core.specs.NamedClauses.{same_sign, named_true, named_clause_true, assignment_by, AllHold}
-use Rattle.prop_core.specs.VariableNames.{Name, in_state, happens, asked, matches, done, unmatched, closed, reaches, some_of_first, NamedLiteral}
+use Rattle.prop_core.specs.VariableNames.{Name, in_state, happens, asked, matches, done, unmatched, closed, dropped, reaches, some_of_first, NamedLiteral}
 use Rattle.prop_core.proofs.FamilyLemmas.{all_append}
 use Rattle.card_counter.proofs.ListLemmas.{all_split, all_from, contains_at, flat_each, flat_from}
 use Rattle.card_counter.proofs.Counts.{count_cons, Reaches, reached, counting}
@@ -327,6 +327,7 @@ module _ (inputs : List NamedLiteral) (value : Name → Bool) where
   others_stay (done i t) h = refl
   others_stay (unmatched e k t) h = refl
   others_stay (closed e k) h = refl
+  others_stay (dropped i) h = refl
   others_stay (reaches i j) h = cc
   others_stay (some_of_first family i) h = refl
 

@@ -7,3 +7,4 @@ pub mod CodeLemmas
 pub mod Exact
 pub mod RowLemmas
 pub mod Vectors
+pub mod Inputs

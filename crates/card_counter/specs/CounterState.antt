@@ -1,5 +1,5 @@
 -- A counter: its inputs, the variables of its columns, and its clauses.
-use Rattle.std.specs.Prelude.{◌≡◌, ◌≢◌, ℕ, zero, suc, ◌+◌, ◌-◌, ◌<◌, true, false, List, [], ◌∷◌, ◌++◌, map, flat_map, length, Option, None, Some, slice_index_or, Contains}
+use Rattle.std.specs.Prelude.{◌≡◌, ◌≢◌, ◌↔◌, ◌⊎◌, ℕ, zero, suc, ◌+◌, ◌-◌, ◌<◌, true, false, List, [], ◌∷◌, ◌++◌, map, flat_map, length, Option, None, Some, slice_index_or, Contains}
 use Rattle.std.specs.List.{range_with_len}
 use Rattle.prop_core.specs.declared.lit.Lit.{Lit}
 use Rattle.prop_core.specs.Clauses.{Clause, negation, HasValues}
@@ -112,6 +112,44 @@ next_clauses state first = column_clauses state.inputs (column_before state.colu
 -- A column more has its clauses behind those of the others.
 abbrev pub ColumnsAddClauses : Type 0
 ColumnsAddClauses = (state : CounterState) (first : ℕ) → counter_clauses (with_column state first) ≡ counter_clauses state ++ next_clauses state first
+
+-- ---- one more input, with a variable in each column
+
+-- the columns, each with one variable more: these stand in a row from the first on
+abbrev pub longer : ℕ → List (List ℕ) → List (List ℕ)
+longer first [] = []
+longer first (column ∷ columns) = (column ++ first ∷ []) ∷ longer (suc first) columns
+
+abbrev pub with_input : CounterState → Lit → ℕ → CounterState
+with_input state input first = record { inputs = state.inputs ++ input ∷ []; columns = longer first state.columns }
+
+-- what the columns say of the new input
+abbrev pub input_clauses : CounterState → Lit → ℕ → List Clause
+input_clauses state input first =
+    flat_map (λ j. place_clauses input (column_before (longer first state.columns) j) (column_at (longer first state.columns) j) (length state.inputs)) (numbers_below (length state.columns))
+
+-- each column has a variable for each input
+abbrev pub IsFull : CounterState → Type 0
+IsFull state = (j : ℕ) → j < length state.columns → length (column_at state.columns j) ≡ length state.inputs
+
+-- An input more has its clauses beside those of the others, which stay.
+abbrev pub InputsAddClauses : Type 0
+InputsAddClauses = (state : CounterState) (input : Lit) (first : ℕ) → IsFull state → (clause : Clause) →
+    Contains (counter_clauses (with_input state input first)) clause ↔ Contains (counter_clauses state) clause ⊎ Contains (input_clauses state input first) clause
+
+-- the literal is none of the counter's own variables
+abbrev pub IsOutside : CounterState → Lit → Type 0
+IsOutside state input = (i j : ℕ) → IsPlace state i j → input.var ≢ variable state i j
+
+-- It is a counter with this input too, and all its variables were made.
+pub record HasInput (state : CounterState) (input : Lit) (first : ℕ) : Type 0 where
+  pub counter : IsCounter (with_input state input first)
+  pub made : IsMade (first + length state.columns) (with_input state input first)
+  pub before : (i j : ℕ) → IsPlace state i j → variable (with_input state input first) i j ≡ variable state i j
+  pub last : (j : ℕ) → j < length state.columns → variable (with_input state input first) (length state.inputs) j ≡ first + j
+
+abbrev pub InputsGrow : Type 0
+InputsGrow = (state : CounterState) (input : Lit) (first : ℕ) → IsCounter state → IsMade first state → input.var < first → IsOutside state input → HasInput state input first
 
 -- ---- names
 

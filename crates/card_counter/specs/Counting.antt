@@ -4,7 +4,7 @@ use Rattle.std.specs.List.{AllByRecursion}
 use Rattle.prop_core.specs.declared.lit.Lit.{Lit}
 use Rattle.prop_core.specs.Clauses.{literal_true, AllClausesTrue}
 use Rattle.prop_core.specs.NamedClauses.{named_true, AllHold, IsCode}
-use Rattle.prop_core.specs.VariableNames.{Name, in_state, happens, asked, matches, done, unmatched, closed, reaches, some_of_first, NamedLiteral, HasEachOnce, name_of, named_clause}
+use Rattle.prop_core.specs.VariableNames.{Name, in_state, happens, asked, matches, done, unmatched, closed, dropped, reaches, some_of_first, NamedLiteral, HasEachOnce, name_of, named_clause}
 use Rattle.card_counter.specs.CounterClauses.{IsNamedColumn, IsNamedCount}
 use Rattle.card_counter.specs.CounterState.{next_names, CounterState, IsPlace, IsCounter, variable, counter_clauses, bound_literal, with_column, next_clauses, counter_names}
 
@@ -45,6 +45,7 @@ is_count (matches i e t) = false
 is_count (done i t) = false
 is_count (unmatched e k t) = false
 is_count (closed e k) = false
+is_count (dropped i) = false
 is_count (reaches i j) = true
 is_count (some_of_first family i) = false
 
@@ -57,6 +58,7 @@ counted inputs value (matches i e t) = value (matches i e t)
 counted inputs value (done i t) = value (done i t)
 counted inputs value (unmatched e k t) = value (unmatched e k t)
 counted inputs value (closed e k) = value (closed e k)
+counted inputs value (dropped i) = value (dropped i)
 counted inputs value (reaches i j) = nat_le j (count_by (named_true value) (take i inputs))
 counted inputs value (some_of_first family i) = value (some_of_first family i)
 

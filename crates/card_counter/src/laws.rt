@@ -1,5 +1,5 @@
 ghost use Rattle.card_counter.specs.AtMostOne.{PairsExclude, PairsExcludeNames};
-ghost use Rattle.card_counter.specs.CounterState.{ColumnsAddClauses, ColumnsAddNames};
+ghost use Rattle.card_counter.specs.CounterState.{ColumnsAddClauses, ColumnsAddNames, InputsAddClauses, InputsGrow};
 ghost use Rattle.card_counter.specs.Counting.{NamesGrow, CounterIsExact, NamedCountIsExact, NamedColumnsGrow, CounterIsCode, ColumnIsCode, CounterNamesStand};
 
 /// A law: the clauses of all pairs are true exactly where at most one input is.
@@ -55,4 +55,14 @@ pub fn named_columns_grow()
 /// A law: names that stand for a counter stand, with those of a column more, for the counter with it.
 pub fn names_grow()
     ensures { NamesGrow }
+{}
+
+/// A law: an input more has its clauses beside those of the others.
+pub fn inputs_add_clauses()
+    ensures { InputsAddClauses }
+{}
+
+/// A law: a counter with an input more, on variables of their own, is one.
+pub fn inputs_grow()
+    ensures { InputsGrow }
 {}

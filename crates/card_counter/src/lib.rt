@@ -18,6 +18,6 @@ pub use counter::Counter;
 pub use exclusion::at_most_one;
 pub use laws::{
     column_is_code, columns_add_clauses, columns_add_names, counter_is_code, counter_is_exact,
-    counter_names_stand, named_columns_grow, named_count_is_exact, names_grow, pairs_exclude,
-    pairs_exclude_names,
+    counter_names_stand, inputs_add_clauses, inputs_grow, named_columns_grow, named_count_is_exact,
+    names_grow, pairs_exclude, pairs_exclude_names,
 };

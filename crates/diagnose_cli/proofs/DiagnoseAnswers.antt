@@ -1,5 +1,5 @@
 -- How the command `diagnose` ends over a network and a log.
-use Rattle.std.proofs.Common.{◌≡◌, ◌≤◌, ◌<◌, ℕ, List, [], ◌∷◌, Option, Some, None, Ok, Err, IsOkAnd, MatchOption, refl, sym, subst}
+use Rattle.std.proofs.Common.{◌≡◌, ◌≤◌, ◌<◌, ℕ, List, [], ◌∷◌, Option, Some, Ok, Err, IsOkAnd, MatchOption, refl, sym, subst}
 use Rattle.des_net.specs.Network.{Net}
 use Rattle.least_faults.specs.declared.answer.Found.{Found}
 use Rattle.log_csv.specs.LogText.{log_of}

@@ -8,7 +8,7 @@ use Rattle.des_base.specs.Names.{IsName, place_of}
 use Rattle.des_net.specs.Network.{Net}
 use Rattle.log_order.specs.Adding.{IsLog, names_of}
 use Rattle.log_order.specs.Log.{Log}
-use Rattle.replay.specs.Matching.{IsWellMatched}
+use Rattle.replay.specs.Matching.{IsWellMatched, name_on}
 use Rattle.replay.specs.Traced.{word_of}
 use Rattle.replay.specs.declared.run.RunStep.{RunStep}
 use Rattle.diagnose_cli.proofs.ReadBack.{HasNames, IsPrintable}
@@ -28,9 +28,9 @@ alarm_named None names named h = tt
 alarm_named (Some text) names named h = found_name text names named h
 
 pub matched_names : (net : Net) (log : Log) (steps : List RunStep) → AllByRecursion IsName (names_of log.alarms) → IsWellMatched net log steps → HasNames steps
-matched_names net log [] named h = All-nil (λ (s : RunStep). IfSome s.alarm IsName)
+matched_names net log [] named h = All-nil (λ (s : RunStep). IfSome (name_on s) IsName)
 matched_names net log (step ∷ steps) named h =
-    All-cons (λ (s : RunStep). IfSome s.alarm IsName) step steps (alarm_named step.alarm (names_of log.alarms) named h.0.known) (matched_names net log steps named h.1)
+    All-cons (λ (s : RunStep). IfSome (name_on s) IsName) step steps (alarm_named (name_on step) (names_of log.alarms) named h.0.known) (matched_names net log steps named h.1)
 
 pub printable : (net : Net) (log : Log) (steps : List RunStep) → IsLog log → All (λ e. e < length net.events) (word_of steps) → IsWellMatched net log steps → length steps ≤ 4000000 → IsPrintable net steps
 printable net log steps whole known matched few = record { known = known; named = matched_names net log steps whole.names.each matched; few = few }

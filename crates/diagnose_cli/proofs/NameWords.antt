@@ -2,11 +2,12 @@
 use Rattle.std.proofs.Common.{◌≡◌, ◌<◌, ◌≤◌, ℕ, zero, suc, Bool, true, false, List, [], ◌∷◌, ◌++◌, length, Option, Some, None, cond, refl, arith, ap, sym}
 use Rattle.std.proofs.lemmas.Bool.Decides.{nat_tests}
 use Rattle.std.proofs.lemmas.Slice.Eq.{bytes_eq-Decides}
-use Rattle.std.specs.Prelude.{◌&&◌, ◌==◌, nat_le, bytes_eq, option_map, slice_index_or}
+use Rattle.std.specs.Prelude.{◌&&◌, ◌==◌, nat_le, bytes_eq, codes, option_map, slice_index_or}
 use Rattle.std.specs.List.{list_all, AllByRecursion}
 use Rattle.des_base.proofs.BoolLemmas.{both, join, most_is, otherwise}
 use Rattle.des_base.specs.CountedLines.{is_blank, is_counted}
 use Rattle.des_base.specs.Names.{AreDistinct, IsName, is_name_byte, is_name_text, place_of}
+use Rattle.replay.specs.RunText.{is_mark}
 use Rattle.proof_text.proofs.WordLemmas.{IsWord, word_byte}
 
 -- ---- words
@@ -79,6 +80,14 @@ own_place (name ∷ names) zero distinct l = ap (λ b. cond b (Some 0) (option_m
 own_place (name ∷ names) (suc k) distinct l =
     place_step (bytes_eq (slice_index_or names k []) name) (place_of (slice_index_or names k []) names) k
     (other_text name names k (omega arith) distinct.0) (own_place names k distinct.1 (omega arith))
+
+-- a name isn't the mark of a false alarm
+pub no_mark : (text : List ℕ) → is_name_text text ≡ true → is_mark text ≡ false
+unfolding is_name_text is_name_byte
+no_mark text h = otherwise (is_mark text) (λ marked.
+    let same : text ≡ codes "!" = (bytes_eq-Decides text (codes "!")).0 marked in
+    let no_name : is_name_text text ≡ false = ap is_name_text same in
+    cc)
 
 -- what is true of each name is true at each place
 pub name_at : (names : List (List ℕ)) (k : ℕ) → AllByRecursion IsName names → k < length names → is_name_text (slice_index_or names k []) ≡ true

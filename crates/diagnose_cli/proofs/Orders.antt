@@ -8,7 +8,7 @@ use Rattle.diagnose_cli.specs.declared.stop.Stop.{Stop}
 use Rattle.diagnose_cli.specs.declared.stop.Stop.TheVariants.{Usage, Faulty, Memory}
 use Rattle.diagnose_cli.specs.declared.stop.FaultyText.{FaultyText}
 use Rattle.diagnose_cli.specs.Transcripts.{Ending, once, UnlessMemory}
-use Rattle.diagnose_cli.specs.Files.{Loads, Holds, IsText, IsFaultOf, StopsAt, StopsIn}
+use Rattle.diagnose_cli.specs.Files.{Loads, Holds, IsText, StopsAt, StopsIn}
 use Rattle.diagnose_cli.specs.Commands.{FileKind, limit_of, fault_of_text, InOrder, Answers, Due, command_of}
 use Rattle.diagnose_cli.proofs.Earlier.{stops_earlier}
 

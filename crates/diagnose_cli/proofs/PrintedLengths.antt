@@ -6,7 +6,9 @@ use Rattle.std.specs.Fmt.{decimal, digits, digits_onto, digit_glyph}
 use Rattle.std.specs.List.{AllByRecursion}
 use Rattle.des_base.specs.Names.{IsName, is_name_text}
 use Rattle.des_net.specs.Network.{Net}
+use Rattle.replay.specs.Matching.{name_on}
 use Rattle.replay.specs.declared.run.RunStep.{RunStep}
+use Rattle.replay.specs.declared.run.RunStep.TheVariants.{Happens, Dropped}
 use Rattle.least_faults.specs.declared.answer.Found.TheVariants.{Explained, Absent, Many, Undecided}
 use Rattle.report.specs.Replies.{numbered, placed, text_of_alarm, text_of_step, text_of_run}
 use Rattle.diagnose_cli.proofs.ReadBack.{HasNames, RepliesAreShort, RepliesFit}
@@ -51,10 +53,11 @@ alarm-length : (alarm : Option (List ℕ)) → IfSome alarm IsName → length (t
 alarm-length None h = omega arith
 alarm-length (Some name) h = omega (arith, name-length name h)
 
-step-length : (net : Net) (step : RunStep) → AllByRecursion IsName net.event_names → IfSome step.alarm IsName → length (text_of_step net step) ≤ 130
-step-length net step names h =
-    let name = slice_index_or net.event_names step.event [] in
-    omega (arith, length-append (name ++ text_of_alarm step.alarm) (10 ∷ []), length-append name (text_of_alarm step.alarm), name_at-length net.event_names step.event names, alarm-length step.alarm h)
+step-length : (net : Net) (step : RunStep) → AllByRecursion IsName net.event_names → IfSome (name_on step) IsName → length (text_of_step net step) ≤ 130
+step-length net (Happens event alarm) names h =
+    let name = slice_index_or net.event_names event [] in
+    omega (arith, length-append (name ++ text_of_alarm alarm) (10 ∷ []), length-append name (text_of_alarm alarm), name_at-length net.event_names event names, alarm-length alarm h)
+step-length net (Dropped alarm) names h = omega (arith, length-append (codes "! " ++ alarm) (10 ∷ []), length-append (codes "! ") alarm, name-length alarm h)
 
 steps-length : (net : Net) (steps : List RunStep) → AllByRecursion IsName net.event_names → HasNames steps → length (flat_map (text_of_step net) steps) ≤ 130 * length steps
 steps-length net [] names h = omega arith
@@ -62,8 +65,8 @@ steps-length net (step ∷ steps) names h =
     omega (
       arith,
       length-append (text_of_step net step) (flat_map (text_of_step net) steps),
-      step-length net step names (All-head (λ (s : RunStep). IfSome s.alarm IsName) step steps h),
-      steps-length net steps names (All-tail (λ (s : RunStep). IfSome s.alarm IsName) step steps h),
+      step-length net step names (All-head (λ (s : RunStep). IfSome (name_on s) IsName) step steps h),
+      steps-length net steps names (All-tail (λ (s : RunStep). IfSome (name_on s) IsName) step steps h),
     )
 
 run-length : (net : Net) (steps : List RunStep) → AllByRecursion IsName net.event_names → HasNames steps → length (text_of_run net steps) ≤ 130 * length steps + 69

@@ -4,6 +4,7 @@ use Rattle.std.specs.Option.{option_map_or}
 use Rattle.des_base.specs.Names.{IsName}
 use Rattle.des_net.specs.Building.{IsDraft}
 use Rattle.des_net.specs.Network.{Net}
+use Rattle.replay.specs.Matching.{name_on}
 use Rattle.replay.specs.RunText.{first_fault, run_of}
 use Rattle.replay.specs.Traced.{word_of}
 use Rattle.replay.specs.declared.run.RunStep.{RunStep}
@@ -13,7 +14,7 @@ use Rattle.diagnose_cli.specs.Commands.{told_run}
 
 -- the alarms of a run have names
 abbrev pub HasNames : List RunStep → Type 0
-HasNames steps = All (λ step. IfSome step.alarm IsName) steps
+HasNames steps = All (λ step. IfSome (name_on step) IsName) steps
 
 -- a run of the network's events, whose alarms have names, and with no more steps than a run text may have
 pub record IsPrintable (net : Net) (steps : List RunStep) : Type 0 where

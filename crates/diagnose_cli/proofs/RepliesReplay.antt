@@ -2,7 +2,7 @@
 use Rattle.std.proofs.Common.{◌≡◌, ◌≤◌, ◌*◌, ℕ, List, length, Some, None, arith, sym, subst}
 use Rattle.std.proofs.lemmas.Nat.{mul-le}
 use Rattle.des_net.specs.Building.{IsDraft}
-use Rattle.des_net.specs.Network.{Net}
+use Rattle.des_net.specs.Network.{Net, IsNetwork}
 use Rattle.least_faults.specs.declared.answer.Best.{Best}
 use Rattle.least_faults.specs.declared.answer.Found.{Found}
 use Rattle.least_faults.specs.declared.answer.Found.TheVariants.{Explained, Absent, Many, Undecided}
@@ -13,7 +13,6 @@ use Rattle.log_order.specs.Log.{Log}
 use Rattle.proof_ledger.specs.Book.{BookEntry}
 use Rattle.prop_core.specs.Clauses.{Clause}
 use Rattle.prop_core.specs.VariableNames.{Name}
-use Rattle.replay.proofs.RunLemmas.{length-word_of}
 use Rattle.replay.specs.Replayed.{IsAccepted}
 use Rattle.replay.specs.Traced.{word_of}
 use Rattle.replay.specs.declared.run.RunStep.{RunStep}
@@ -23,19 +22,18 @@ use Rattle.diagnose_cli.proofs.ReadBack.{IsPrintable, IsRunText}
 use Rattle.diagnose_cli.proofs.MatchedNames.{printable}
 use Rattle.diagnose_cli.proofs.PrintedLengths.{replies_fit}
 use Rattle.diagnose_cli.proofs.ReadsBack.{replies_read_back}
-use Rattle.diagnose_cli.proofs.RunLengths.{word_length}
+use Rattle.diagnose_cli.proofs.RunLengths.{run_length}
 
--- it has no more events than a run text may have
-few_steps : (net : Net) (log : Log) (n : ℕ) (best : Best) → IsDraft net → n ≤ 1000 → IsExplanation net log n best → length best.run ≤ 4000000
-few_steps net log n best whole few given =
-    let word = word_of best.run in
-    let long = word_length net word n whole (run_known net word given.explains.run) given.explains.fits in
-    let most : n * length net.events ≤ 1000 * 4000 = mul-le n (length net.events) 1000 4000 few whole.few_events in
-    omega (arith, long, most, length-word_of best.run)
+-- it has no more steps than a run text may have
+few_steps : (net : Net) (log : Log) (n : ℕ) (best : Best) → IsNetwork net → IsDraft net → IsLog log → n ≤ 1000 → IsExplanation net log n best → length best.run ≤ 4000000
+few_steps net log n best network whole log_whole few given =
+    let long = run_length net log n best.run network (run_known net (word_of best.run) given.explains.run) given.matched given.explains in
+    let most : n * length net.components ≤ 1000 * 1000 = mul-le n (length net.components) 1000 1000 few whole.few_comps in
+    omega (arith, long, most, log_whole.few_alarms)
 
-printable_run : (net : Net) (log : Log) (n : ℕ) (best : Best) → IsDraft net → IsLog log → n ≤ 1000 → IsExplanation net log n best → IsPrintable net best.run
-printable_run net log n best whole log_whole few given =
-    printable net log best.run log_whole (run_known net (word_of best.run) given.explains.run) given.matched (few_steps net log n best whole few given)
+printable_run : (net : Net) (log : Log) (n : ℕ) (best : Best) → IsNetwork net → IsDraft net → IsLog log → n ≤ 1000 → IsExplanation net log n best → IsPrintable net best.run
+printable_run net log n best network whole log_whole few given =
+    printable net log best.run log_whole (run_known net (word_of best.run) given.explains.run) given.matched (few_steps net log n best network whole log_whole few given)
 
 accepted : (net : Net) (log : Log) (n : ℕ) (best : Best) → IsExplanation net log n best → IsAccepted net log best.run n best.faults
 accepted net log n best given = record { matched = given.matched; explains = given.explains; faults_are = sym given.faults }
@@ -48,20 +46,20 @@ replays net log n best reply given read short = record {
 }
 
 module _ (names : List (ℕ × Name)) (axioms : List Clause) (since : List BookEntry) (net : Net) (log : Log) (n budget : ℕ) where
-  found_replays : (found : Found) → IsDraft net → IsLog log → n ≤ 1000 → IsFound names axioms since net log n budget found → RunReplays net log n found
-  found_replays (Explained best) whole log_whole few h =
-      let fine = printable_run net log n best whole log_whole few h.given in
+  found_replays : (found : Found) → IsNetwork net → IsDraft net → IsLog log → n ≤ 1000 → IsFound names axioms since net log n budget found → RunReplays net log n found
+  found_replays (Explained best) network whole log_whole few h =
+      let fine = printable_run net log n best network whole log_whole few h.given in
       replays net log n best (text_of_found net n (Explained best)) h.given (replies_read_back net n (Explained best) whole fine) (replies_fit net n (Explained best) whole fine)
-  found_replays Absent whole log_whole few h = tt
-  found_replays (Many best) whole log_whole few h =
-      let fine = printable_run net log n best whole log_whole few h.given in
+  found_replays Absent network whole log_whole few h = tt
+  found_replays (Many best) network whole log_whole few h =
+      let fine = printable_run net log n best network whole log_whole few h.given in
       replays net log n best (text_of_found net n (Many best)) h.given (replies_read_back net n (Many best) whole fine) (replies_fit net n (Many best) whole fine)
-  found_replays (Undecided lo None) whole log_whole few h = tt
-  found_replays (Undecided lo (Some best)) whole log_whole few h =
-      let fine = printable_run net log n best whole log_whole few h.given.0 in
+  found_replays (Undecided lo None) network whole log_whole few h = tt
+  found_replays (Undecided lo (Some best)) network whole log_whole few h =
+      let fine = printable_run net log n best network whole log_whole few h.given.0 in
       replays net log n best (text_of_found net n (Undecided lo (Some best))) h.given.0 (replies_read_back net n (Undecided lo (Some best)) whole fine) (replies_fit net n (Undecided lo (Some best)) whole fine)
 
   -- where the question was asked within as many steps
-  pub run_replays : (found : Found) (steps : ℕ) → IsDraft net → IsLog log → steps ≤ 1000 → steps ≡ n → IsFound names axioms since net log n budget found → RunReplays net log steps found
-  run_replays found steps whole log_whole few same h =
-      subst (λ (k : ℕ). RunReplays net log k found) (sym same) (found_replays found whole log_whole (omega (arith, few, same)) h)
+  pub run_replays : (found : Found) (steps : ℕ) → IsNetwork net → IsDraft net → IsLog log → steps ≤ 1000 → steps ≡ n → IsFound names axioms since net log n budget found → RunReplays net log steps found
+  run_replays found steps network whole log_whole few same h =
+      subst (λ (k : ℕ). RunReplays net log k found) (sym same) (found_replays found network whole log_whole (omega (arith, few, same)) h)

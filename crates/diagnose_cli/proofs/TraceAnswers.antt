@@ -6,7 +6,7 @@ use Rattle.model_text.specs.ModelFaults.{network_of}
 use Rattle.replay.specs.declared.run.RunStep.{RunStep}
 use Rattle.replay.specs.declared.tracing.Traced.{Traced}
 use Rattle.replay.specs.RunText.{run_of}
-use Rattle.replay.specs.Traced.{word_of, IsTraced}
+use Rattle.replay.specs.Traced.{IsTraced}
 use Rattle.proof_ledger.specs.Book.{BookEntry}
 use Rattle.diagnose_cli.specs.declared.command.Command.TheVariants.{Trace}
 use Rattle.diagnose_cli.specs.declared.ending.Kind.{Kind}
@@ -24,8 +24,8 @@ module _ (l : Loads) (words : List (List ℕ)) (book : List BookEntry) (model : 
 
   -- or says what tracing tells
   pub traced : (steps : List RunStep) (told : Traced) (reply : Kind × List ℕ) → (text : List ℕ) × IsText l.held (word_at words 2) (limit_of run) (fault_of_run net) text × (steps ≡ run_of net text)
-      → IsTraced net (word_of steps) told → reply ≡ reply_of_traced told → AnswersAfter l words Trace book (model ∷ []) (once (Ok reply))
+      → IsTraced net steps told → reply ≡ reply_of_traced told → AnswersAfter l words Trace book (model ∷ []) (once (Ok reply))
   traced steps told reply (text, read, is) tells says =
       goes_on l words 2 run [] (model ∷ []) (Closes Trace book) text (Ok (whole reply))
       (subst (λ (n : Net). IsText l.held (word_at words 2) (limit_of run) (fault_of_run n) text) network read)
-      (reply, (told, subst (λ (n : Net). IsTraced n (word_of (run_of n text)) told) network (subst (λ (s : List RunStep). IsTraced net (word_of s) told) is tells), says), refl)
+      (reply, (told, subst (λ (n : Net). IsTraced n (run_of n text) told) network (subst (λ (s : List RunStep). IsTraced net s told) is tells), says), refl)

@@ -22,7 +22,7 @@ use Rattle.replay.specs.QuestionSize.{question_size}
 use Rattle.replay.specs.Replayed.{IsReplayed, IsAccepted}
 use Rattle.replay.specs.declared.replaying.Replayed.{Replayed}
 use Rattle.replay.specs.declared.replaying.Replayed.TheVariants.{Accepted, Stuck as AtEvent, BadAlarm, Missing, Order, TooWide}
-use Rattle.replay.specs.Traced.{word_of, IsTraced}
+use Rattle.replay.specs.Traced.{IsTraced}
 use Rattle.replay.specs.declared.tracing.Traced.{Traced}
 use Rattle.replay.specs.declared.tracing.Traced.TheVariants.{Ran, Stuck}
 use Rattle.report.specs.Replies.{text_of_traced, text_of_replayed, text_of_checked, text_of_found}
@@ -126,7 +126,7 @@ reply_of_traced traced = (kind_of_traced traced, text_of_traced traced)
 -- the reply tells what tracing the word of the run text on the network of the model text tells
 abbrev pub SaysTraced : List ℕ → List ℕ → (Kind × List ℕ) → Type 0
 SaysTraced text steps reply =
-    (traced : Traced) × IsTraced (network_of text) (word_of (run_of (network_of text) steps)) traced × (reply ≡ reply_of_traced traced)
+    (traced : Traced) × IsTraced (network_of text) (run_of (network_of text) steps) traced × (reply ≡ reply_of_traced traced)
 
 abbrev pub kind_of_replayed : Replayed → Kind
 kind_of_replayed (Accepted faults) = Done

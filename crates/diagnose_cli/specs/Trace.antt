@@ -4,7 +4,7 @@ use Rattle.des_base.specs.Outside.{Took}
 use Rattle.des_base.specs.CommandWords.{word_at}
 use Rattle.model_text.specs.ModelFaults.{network_of, first_fault as first_model_fault}
 use Rattle.replay.specs.RunText.{run_of, first_fault as first_run_fault}
-use Rattle.replay.specs.Traced.{word_of, IsTraced}
+use Rattle.replay.specs.Traced.{IsTraced}
 use Rattle.replay.specs.declared.tracing.Traced.{Traced}
 use Rattle.diagnose_cli.specs.declared.command.Command.TheVariants.{Trace}
 use Rattle.diagnose_cli.specs.Endings.{status_of_kind}
@@ -20,7 +20,7 @@ pub record IsReadable (text steps : List ℕ) : Type 0 where
 -- status and text tell what tracing the run on the network tells
 pub record TellsTrace (text steps : List ℕ) (before now : Option (List ℕ)) (status : ℕ) : Type 0 where
   pub traced : Traced
-  pub holds : IsTraced (network_of text) (word_of (run_of (network_of text) steps)) traced
+  pub holds : IsTraced (network_of text) (run_of (network_of text) steps) traced
   pub shown : status ≡ status_of_kind (reply_of_traced traced).0
   pub put : Took before now (reply_of_traced traced).1
 

@@ -47,7 +47,7 @@ fn trace_over<F: Shelf>(
 // The reply to a run of events of the network.
 fn trace_run(alloc: Global, net: &Network, run: &Run) -> Result<Reply, Memory>
     requires { All (λ e. e < length net.now.events) (word_of run.now) }
-    ensures { IfOk result (λ reply. (traced : Traced) × IsTraced net.now (word_of run.now) traced × (reply ≡ reply_of_traced traced)) }
+    ensures { IfOk result (λ reply. (traced : Traced) × IsTraced net.now run.now traced × (reply ≡ reply_of_traced traced)) }
 {
     let traced = trace(alloc, net, run)?;
     reply_of_traced(alloc, &traced)

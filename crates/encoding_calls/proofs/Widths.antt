@@ -10,7 +10,7 @@ use Rattle.log_clauses.specs.Additions.{alarm_added, with_addition}
 use Rattle.log_clauses.specs.Drafts.{taken_events}
 use Rattle.log_clauses.specs.LogClauses.{observable_events}
 use Rattle.log_clauses.specs.LogNames.{first_names}
-use Rattle.log_encode.proofs.TakenLemmas.{width_is, map_count}
+use Rattle.log_encode.proofs.TakenLemmas.{width_is, map_count, false_is_small}
 use Rattle.log_encode.specs.CodedLog.{CodedLog, addition_width, nameless}
 use Rattle.log_encode.specs.declared.taken.Taken.{Taken}
 use Rattle.prop_core.specs.VariableNames.{closed}
@@ -28,15 +28,15 @@ events_again [] = refl
 events_again (e ∷ events) = ap (λ rest. e ∷ rest) (events_again events)
 
 -- eight events in eight steps, and a thousand variables before
-pub alarm_fits : (code : CodedLog) (labels : List (List ℕ)) (first : ℕ) → length code.net.events ≤ 8 → code.grid.steps ≤ 8 → first ≤ 1000 →
-    first + addition_width code (alarm_added (nameless labels)) ≤ VAR_LIMIT
-alarm_fits code labels first events steps few =
-    let taken = taken_events code.net code.log (nameless labels) in
-    let width = width_is code.net code.log code.grid.steps labels (map unlinked taken) (events_again taken) in
+pub alarm_fits : (code : CodedLog) (labels : List (List ℕ)) (maybe : Bool) (first : ℕ) → length code.net.events ≤ 8 → code.grid.steps ≤ 8 → first ≤ 1000 →
+    first + addition_width code (alarm_added (nameless labels maybe)) ≤ VAR_LIMIT
+alarm_fits code labels maybe first events steps few =
+    let taken = taken_events code.net code.log (nameless labels maybe) in
+    let width = width_is code.net code.log code.grid.steps labels maybe (map unlinked taken) (events_again taken) in
     let count = map_count unlinked taken in
-    let links = among_numbers (λ e. is_matching code.net (with_addition code.log (alarm_added (nameless labels))) e (length code.log.alarms)) (length code.net.events) in
+    let links = among_numbers (λ e. is_matching code.net (with_addition code.log (alarm_added (nameless labels maybe))) e (length code.log.alarms)) (length code.net.events) in
     let product = mul-le (length (map unlinked taken)) (1 + code.grid.steps * 2) 8 17 (omega (arith, count, links, events)) (omega (arith, steps)) in
-    omega (arith, width, product, few, steps)
+    omega (arith, width, product, few, steps, false_is_small maybe)
 
 pub first_names_fit : (net : Net) (first : ℕ) → length net.events ≤ 8 → first ≤ 1000 → first + length (first_names net) ≤ VAR_LIMIT
 first_names_fit net first events few =

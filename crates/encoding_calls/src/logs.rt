@@ -120,18 +120,18 @@ fn add(rt: &impl Abort, grown: &mut Grown, draft: Draft) -> (u32, u64)
     added
 }
 
-// Drafts an alarm with these labels, for at most eight events and steps, and on the next variables.
+// Drafts an alarm with these labels, certain or doubtful, for at most eight events and steps, and on the next variables.
 #[tactic(auto, using(crate::proofs::Widths::alarm_fits))]
-fn alarm_draft(rt: &impl Abort, net: &Network, grown: &Grown, labels: &[Name]) -> Draft
+fn alarm_draft(rt: &impl Abort, net: &Network, grown: &Grown, labels: &[Name], maybe: bool) -> Draft
     requires { IsGrown net.now grown.now.steps grown.now.vars grown.now.alarms grown.now.code.code }
-    ensures drafted { IsDraftOf grown.now.code.code (alarm_added (nameless labels.now)) grown.now.vars result }
+    ensures drafted { IsDraftOf grown.now.code.code (alarm_added (nameless labels.now maybe)) grown.now.vars result }
     ensures few { grown.now.vars + result.vars ≤ VAR_LIMIT }
 {
     let first = grown.vars.count();
     assert!(rt; net.events() <= 8);
     assert!(rt; grown.steps <= 8);
     assert!(rt; first <= 1000);
-    match grown.code.draft_alarm(net, labels, first) {
+    match grown.code.draft_alarm(net, labels, maybe, first) {
         Ok(draft) => draft,
         Err(_) => panic!(rt; "memory should be left"),
     }
@@ -144,13 +144,14 @@ fn push_name(rt: &impl Abort, alloc: Global, text: &str, names: &mut NameList) {
     }
 }
 
-// Adds an alarm with these labels.
+// Adds an alarm with these labels, certain or doubtful.
 fn add_alarm(
     rt: &impl Abort,
     alloc: Global,
     net: &Network,
     grown: &mut Grown,
     labels: &[&str],
+    maybe: bool,
 ) -> (u32, u64)
     requires { IsGrown net.now grown.old.steps grown.old.vars grown.old.alarms grown.old.code.code }
     ensures { IsGrown net.now grown.new.steps grown.new.vars grown.new.alarms grown.new.code.code }
@@ -159,15 +160,21 @@ fn add_alarm(
     for label in labels {
         push_name(rt, alloc, label, &mut names);
     }
-    add_named(rt, net, grown, names.as_slice())
+    add_named(rt, net, grown, names.as_slice(), maybe)
 }
 
-fn add_named(rt: &impl Abort, net: &Network, grown: &mut Grown, labels: &[Name]) -> (u32, u64)
+fn add_named(
+    rt: &impl Abort,
+    net: &Network,
+    grown: &mut Grown,
+    labels: &[Name],
+    maybe: bool,
+) -> (u32, u64)
     requires { IsGrown net.now grown.old.steps grown.old.vars grown.old.alarms grown.old.code.code }
     ensures { IsGrown net.now grown.new.steps grown.new.vars grown.new.alarms grown.new.code.code }
 {
     assert!(rt; grown.alarms < 8);
-    let draft = alarm_draft(rt, net, grown, labels);
+    let draft = alarm_draft(rt, net, grown, labels, maybe);
     let added = add(rt, grown, draft);
     grown.alarms += 1;
     added
@@ -204,7 +211,7 @@ fn add_log(
     ensures { IsGrown net.now grown.new.steps grown.new.vars grown.new.alarms grown.new.code.code }
 {
     for labels in alarms {
-        add_alarm(rt, alloc, net, grown, labels);
+        add_alarm(rt, alloc, net, grown, labels, false);
     }
     for pair in pairs {
         add_pair(rt, net, grown, pair.0, pair.1);
@@ -445,7 +452,7 @@ fn tells_one(rt: &impl Abort, alloc: Global, net: &Network, grown: &Grown, text:
 fn check_match(rt: &impl Abort, alloc: Global, net: &Network) {
     let grown = grown_log(rt, alloc, net, 1, &[&["A"], &["B"]], &[(1, 0)]);
     assert!(rt; grown.code.vars() == 15);
-    assert!(rt; grown.clauses.len() == 25);
+    assert!(rt; grown.clauses.len() == 26);
     assert!(rt; clauses_true(MATCHED, &grown.clauses));
     assert!(rt; all_true(MATCHED, grown.code.guards()));
     assert!(rt; tells_one(rt, alloc, net, &grown, "01"));
@@ -458,14 +465,14 @@ fn two_alarms_of_one_step(rt: HostRuntime) {
 }
 
 // What each addition takes and brings: an alarm the end of a chain, a match, what is passed on and twice whether it is matched, and
-// seven clauses of its link, two of its ends, and two of its step; a pair a clause.
+// seven clauses of its link, two of its ends, and two of its step; a pair a clause for no step and one for each.
 fn count_additions(rt: &impl Abort, alloc: Global, net: &Network) {
     let mut grown = begun(rt, alloc, net, 1);
     assert!(rt; grown.vars.count() == 5);
     assert!(rt; grown.clauses.len() == 2);
-    assert!(rt; add_alarm(rt, alloc, net, &mut grown, &["A"]) == (5, 11));
-    assert!(rt; add_alarm(rt, alloc, net, &mut grown, &["B"]) == (5, 11));
-    assert!(rt; add_pair(rt, net, &mut grown, 1, 0) == (0, 1));
+    assert!(rt; add_alarm(rt, alloc, net, &mut grown, &["A"], false) == (5, 11));
+    assert!(rt; add_alarm(rt, alloc, net, &mut grown, &["B"], false) == (5, 11));
+    assert!(rt; add_pair(rt, net, &mut grown, 1, 0) == (0, 2));
 }
 
 #[test]
@@ -512,4 +519,30 @@ fn check_ends(rt: &impl Abort, alloc: Global, net: &Network) {
 fn earlier_ends_are_open(rt: HostRuntime) {
     let net = network(&rt, rt.alloc(), A);
     check_ends(&rt, rt.alloc(), &net);
+}
+
+// A doubtful alarm takes a variable more, and brings a clause for each match: the second has none, since no event has its label.
+fn grow_doubtful(rt: &impl Abort, alloc: Global, net: &Network, grown: &mut Grown)
+    requires { IsGrown net.now grown.old.steps grown.old.vars grown.old.alarms grown.old.code.code }
+    ensures { IsGrown net.now grown.new.steps grown.new.vars grown.new.alarms grown.new.code.code }
+{
+    assert!(rt; add_alarm(rt, alloc, net, grown, &["A"], false) == (5, 11));
+    assert!(rt; add_alarm(rt, alloc, net, grown, &["C"], true) == (3, 4));
+    assert!(rt; add_alarm(rt, alloc, net, grown, &["B"], true) == (6, 12));
+    add_pair(rt, net, grown, 2, 1);
+    add_pair(rt, net, grown, 1, 0);
+}
+
+// The false alarm stands between the others: the third is matched, or false too.
+fn check_doubtful(rt: &impl Abort, alloc: Global, net: &Network) {
+    let mut grown = begun(rt, alloc, net, 1);
+    grow_doubtful(rt, alloc, net, &mut grown);
+    assert!(rt; grown.code.false_lits().len() == 2);
+    assert!(rt; leaves_just(rt, alloc, net, &grown, grown.code.guards(), &["02", "0."]));
+}
+
+#[test]
+fn a_false_alarm_keeps_its_place(rt: HostRuntime) {
+    let net = network(&rt, rt.alloc(), A_AND_B);
+    check_doubtful(&rt, rt.alloc(), &net);
 }

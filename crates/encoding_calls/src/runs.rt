@@ -20,20 +20,28 @@ event ea : fork.a
 event eb : fork.b
 ";
 
-// What texts say: the number of each event, and the name of its alarm where there is one.
-const TEXTS: [(&str, &[(u32, &str)]); 9] = [
+// A step: the number of its event, or none for a false alarm, and the name of its alarm where there is one.
+type Row = (Option<u32>, &'static str);
+
+// What texts say.
+const TEXTS: [(&str, &[Row]); 11] = [
     ("run 0", &[]),
-    ("run 1\ng\n", &[(0, "")]),
-    ("run 1\ng", &[(0, "")]),
-    ("EXPLAINED 1\nrun 2\ng\nea x1\n", &[(0, ""), (1, "x1")]),
-    ("MANY 2\nrun 1\neb", &[(2, "")]),
+    ("run 1\ng\n", &[(Some(0), "")]),
+    ("run 1\ng", &[(Some(0), "")]),
+    (
+        "EXPLAINED 1\nrun 2\ng\nea x1\n",
+        &[(Some(0), ""), (Some(1), "x1")],
+    ),
+    ("MANY 2\nrun 1\neb", &[(Some(2), "")]),
     ("UNDECIDED\nrun 0", &[]),
     (
         "# a run\n\nrun 2\n \t\n  # its steps\ng\n#\neb\n",
-        &[(0, ""), (2, "")],
+        &[(Some(0), ""), (Some(2), "")],
     ),
-    ("run 1\r\ng g\r\n", &[(0, "g")]),
-    ("\trun\t1 \n \tea\t x1\t\n", &[(1, "x1")]),
+    ("run 1\r\ng g\r\n", &[(Some(0), "g")]),
+    ("\trun\t1 \n \tea\t x1\t\n", &[(Some(1), "x1")]),
+    ("run 2\n! z\neb", &[(None, "z"), (Some(2), "")]),
+    ("run 1\n\t!  g\n", &[(None, "g")]),
 ];
 
 fn alarm_is(alarm: &Option<Name>, text: &str) -> bool {
@@ -43,13 +51,19 @@ fn alarm_is(alarm: &Option<Name>, text: &str) -> bool {
     }
 }
 
-fn are_steps(steps: &[RunStep], rows: &[(u32, &str)]) -> bool {
-    let mut pairs = steps.iter().zip(rows);
-    steps.len() == rows.len()
-        && pairs.all(|(step, row)| step.event.0 == row.0 && alarm_is(&step.alarm, row.1))
+fn is_step(step: &RunStep, row: &Row) -> bool {
+    match step {
+        RunStep::Happens { event, alarm } => row.0 == Some(event.0) && alarm_is(alarm, row.1),
+        RunStep::Dropped { alarm } => row.0.is_none() && alarm.as_str() == row.1,
+    }
 }
 
-fn check_steps(rt: &impl Abort, alloc: Global, net: &Network, text: &str, rows: &[(u32, &str)]) {
+fn are_steps(steps: &[RunStep], rows: &[Row]) -> bool {
+    let mut pairs = steps.iter().zip(rows);
+    steps.len() == rows.len() && pairs.all(|(step, row)| is_step(step, row))
+}
+
+fn check_steps(rt: &impl Abort, alloc: Global, net: &Network, text: &str, rows: &[Row]) {
     assert!(rt; text.len() < 1000);
     match read_run(alloc, text.as_bytes(), net) {
         Ok(run) => assert!(rt; are_steps(run.steps(), rows), "{text}"),
@@ -71,6 +85,6 @@ fn keeps_steps(rt: HostRuntime) {
     assert!(rt; run.steps().is_empty());
     let alarm = Name::new(rt.alloc(), b"x1").ok();
     let event = EventId(7);
-    assert!(rt; run.push(RunStep { event, alarm }).is_ok());
-    assert!(rt; are_steps(run.steps(), &[(7, "x1")]));
+    assert!(rt; run.push(RunStep::Happens { event, alarm }).is_ok());
+    assert!(rt; are_steps(run.steps(), &[(Some(7), "x1")]));
 }

@@ -1,5 +1,5 @@
 -- What a question assumes: variables that were made, no contradiction, and the same where the counter gets a column.
-use Rattle.std.proofs.Common.{◌≡◌, ◌≢◌, ◌∙◌, ℕ, ◌<◌, ◌≤◌, true, false, ◌⊎◌, inl, inr, List, [], ◌∷◌, ◌++◌, length, Option, None, Some, slice_index_or, refl, sym, ap, arith, Contains, zero, suc, ◌-◌, length-append}
+use Rattle.std.proofs.Common.{◌≡◌, ◌≢◌, ◌∙◌, ℕ, ◌+◌, ◌<◌, ◌≤◌, true, false, ◌⊎◌, inl, inr, List, [], ◌∷◌, ◌++◌, length, max, Option, None, Some, slice_index_or, refl, sym, ap, arith, Contains, zero, suc, ◌-◌, append-nil, length-append}
 use Rattle.std.specs.List.{list_all}
 use Rattle.card_counter.specs.CounterState.{CounterState, column_at, var_at, bound_literal, negative}
 use Rattle.des_base.specs.Lists.{EachPair}
@@ -10,10 +10,12 @@ use Rattle.least_faults.specs.Growing.{KeepsColumns}
 use Rattle.least_faults.specs.Parts.{AreParts}
 use Rattle.des_net.specs.Network.{Net}
 use Rattle.log_clauses.proofs.Lists.{or_cases, both, all_at, as_false, here_first, here_later}
-use Rattle.log_encode.specs.CodedLog.{CodedLog}
+use Rattle.log_clauses.specs.LogClauses.{guard_literals}
+use Rattle.log_encode.specs.CodedLog.{CodedLog, read_names}
 use Rattle.log_order.specs.Log.{Log}
 use Rattle.prop_core.proofs.Literals.{same_is, not_self, negation_twice}
 use Rattle.prop_core.specs.Clauses.{Clause, HasValues, is_true, is_false, negation, same_literal}
+use Rattle.prop_core.specs.VariableNames.{ReadsAs}
 use Rattle.prop_core.specs.declared.lit.Lit.{Lit}
 use Rattle.run_decode.specs.Decided.{NegatesOnly}
 use Rattle.run_decode.specs.WholeNaming.{whole_names}
@@ -63,6 +65,16 @@ opposites (x ∷ assumed) l apart h k = by (or_cases (same_literal l x) (is_true
 
 pub compatible : (assumed : List Lit) → EachPair (λ a b. a ≢ negation b) assumed → AreCompatible assumed
 compatible assumed apart l h = as_false (is_false assumed l) (λ k. opposites assumed l apart h k)
+
+-- ---- the guards, and then the literal for the bound
+
+pub without_bound : (code : CodedLog) (counter : CounterState) (guards assumed : List Lit) → ReadsAs (read_names code) guards (guard_literals code.net code.log) → assumed ≡ guards → AreAssumptions code counter None assumed
+without_bound code counter guards assumed read whole = record { guards = guards; read = read; whole = whole ∙ sym (append-nil guards); column = tt }
+
+pub with_bound : (code : CodedLog) (counter : CounterState) (k columns : ℕ) (guards : List Lit) (literal : Lit) (assumed : List Lit) → ReadsAs (read_names code) guards (guard_literals code.net code.log) →
+    length counter.columns ≡ max columns (k + 1) → literal ≡ bound_literal counter k → assumed ≡ guards ++ literal ∷ [] → AreAssumptions code counter (Some k) assumed
+with_bound code counter k columns guards literal assumed read there is whole =
+    record { guards = guards; read = read; whole = whole ∙ ap (λ l. guards ++ l ∷ []) is; column = omega (arith, there) }
 
 -- ---- where the counter gets a column
 

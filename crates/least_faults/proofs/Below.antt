@@ -87,7 +87,7 @@ module _ (steps : CodedSteps) (code : CodedLog) (counter : CounterState) (vars :
   clause_below clause (inl here) = code_below vars (step_names steps) _ parts.clauses.stepped clause (λ entry in'. names_below entry (naming.of_steps entry in')) parts.clauses.step_code here
   clause_below clause (inr (inl here)) = code_below vars (read_names code) _ parts.clauses.written clause (λ entry in'. names_below entry (naming.of_log entry in')) parts.clauses.log_code.clauses here
   clause_below clause (inr (inr here)) =
-      code_below vars (whole_names steps code counter) _ (counter_clauses counter) clause names_below (counter_is_code (whole_names steps code counter) (fault_inputs steps.net steps.steps) counter naming.of_counter) here
+      code_below vars (whole_names steps code counter) _ (counter_clauses counter) clause names_below (counter_is_code (whole_names steps code counter) (fault_inputs steps.net code.log steps.steps) counter naming.of_counter) here
 
 pub axioms_below : (steps : CodedSteps) (code : CodedLog) (counter : CounterState) (vars : ℕ) (axioms : List Clause) → AreParts steps code counter vars axioms → AllByRecursion (HasValues vars) axioms
 axioms_below steps code counter vars axioms parts = all_of (HasValues vars) axioms (λ clause in'. clause_below steps code counter vars axioms parts clause ((parts.clauses.same clause).0 in'))

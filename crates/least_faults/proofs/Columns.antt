@@ -66,7 +66,7 @@ parts_grow : (steps : CodedSteps) (code : CodedLog) (counter : CounterState) (va
 parts_grow steps code counter vars axioms parts some few =
     let above = parts.above in record {
       together = (together_grow steps code counter vars parts.together above parts.made).by_column some;
-      clauses = (clauses_grow steps code counter axioms parts.clauses).columns vars;
+      clauses = (clauses_grow steps code counter axioms parts.together.counted.full parts.clauses).columns vars;
       above = omega (arith, above);
       made = grown_is_made counter vars parts.made;
       room = rw (columns_then counter vars) (room_after_column vars (length counter.columns) (length counter.inputs) VAR_LIMIT few parts.room);

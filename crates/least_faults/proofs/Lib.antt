@@ -8,6 +8,7 @@ pub mod FewClauses
 pub mod Columns
 pub mod Entailing
 pub mod KnownEvents
+pub mod FaultSteps
 pub mod Assuming
 pub mod Staying
 pub mod Telling

@@ -8,10 +8,11 @@ use Rattle.des_base.specs.declared.TheConstants.{VAR_LIMIT}
 use Rattle.des_net.specs.Building.{IsDraft}
 use Rattle.des_net.specs.Network.{Net, label_of}
 use Rattle.des_net.specs.QuestionSize.{numbers_below, component_sizes, counter_size, observable_count, at_most_one_count}
-use Rattle.least_faults.specs.LogVariables.{variables_of_first, variables_of_alarms, log_variables}
+use Rattle.least_faults.specs.LogVariables.{own_variables, variables_of_first, variables_of_alarms, log_variables}
 use Rattle.least_faults.specs.Parts.{most_size}
-use Rattle.log_order.specs.Log.{Log}
-use Rattle.replay.specs.QuestionSize.{alarm_variables, alarm_sizes, is_matching, matching_count, question_size}
+use Rattle.log_encode.proofs.TakenLemmas.{false_is_small}
+use Rattle.log_order.specs.Log.{Log, is_doubtful}
+use Rattle.replay.specs.QuestionSize.{alarm_variables, alarm_sizes, is_matching, matching_count, doubtful_count, question_size}
 use Rattle.step_encode.proofs.Codes.{variables_are_few}
 use Rattle.step_encode.proofs.Lists.{sum_numbers_more}
 use Rattle.step_encode.specs.Coded.{variable_count}
@@ -46,14 +47,14 @@ alarm_bound n m few =
 
 -- ---- all alarms
 
-sum_bound : (n : ℕ) (f g : ℕ → ℕ) → ((i : ℕ) → f i ≤ 2 * (n * g i) + 4001) → (xs : List ℕ) → sum_by f xs ≤ 2 * (n * sum_by g xs) + 4001 * length xs
+sum_bound : (n : ℕ) (f g : ℕ → ℕ) → ((i : ℕ) → f i ≤ 2 * (n * g i) + 4002) → (xs : List ℕ) → sum_by f xs ≤ 2 * (n * sum_by g xs) + 4002 * length xs
 sum_bound n f g each [] = omega arith
 sum_bound n f g each (x ∷ xs) =
     let rest = sum_bound n f g each xs in
     let spread = spread_out n (g x) (sum_by g xs) in
     rw (sum_by-cons f x xs, sum_by-cons g x xs) (sum_step (f x) (sum_by f xs) (n * g x) (n * sum_by g xs) (n * (g x + sum_by g xs)) (length xs) (each x) rest spread)
   where
-    sum_step : (a b c d e count : ℕ) → a ≤ 2 * c + 4001 → b ≤ 2 * d + 4001 * count → e ≡ c + d → a + b ≤ 2 * e + 4001 * suc count
+    sum_step : (a b c d e count : ℕ) → a ≤ 2 * c + 4002 → b ≤ 2 * d + 4002 * count → e ≡ c + d → a + b ≤ 2 * e + 4002 * suc count
     sum_step a b c d e count first later whole = omega arith
 
     spread_out : (k a b : ℕ) → k * (a + b) ≡ k * a + k * b
@@ -66,9 +67,10 @@ few_matching net log i draft =
     let few = draft.few_events in
     omega (arith, among, events, few)
 
-alarms_bound : (net : Net) (log : Log) (n : ℕ) → IsDraft net → variables_of_alarms net log n ≤ 2 * (n * alarm_sizes net log) + 4001 * length log.alarms
+alarms_bound : (net : Net) (log : Log) (n : ℕ) → IsDraft net → variables_of_alarms net log n ≤ 2 * (n * alarm_sizes net log) + 4002 * length log.alarms
 alarms_bound net log n draft =
-    let bound = sum_bound n (λ i. alarm_variables n (matching_count net log i)) (λ i. matching_count net log i ^ 2 + 1) (λ i. alarm_bound n (matching_count net log i) (few_matching net log i draft)) (numbers_below (length log.alarms)) in
+    let each : (i : ℕ) → own_variables net log n i ≤ 2 * (n * (matching_count net log i ^ 2 + 1)) + 4002 = λ i. omega (arith, alarm_bound n (matching_count net log i) (few_matching net log i draft), false_is_small (is_doubtful log i)) in
+    let bound = sum_bound n (own_variables net log n) (λ i. matching_count net log i ^ 2 + 1) each (numbers_below (length log.alarms)) in
     let count = length-range_with_len 0 (length log.alarms) in
     omega (arith, bound, count)
 
@@ -82,7 +84,7 @@ few_observable net draft =
     omega (arith, among, events, few)
 
 -- the parts of a size
-alarms_within : (net : Net) (log : Log) (n size : ℕ) → question_size net log n ≤ size → n * alarm_sizes net log + counter_size net n ≤ size
+alarms_within : (net : Net) (log : Log) (n size : ℕ) → question_size net log n ≤ size → n * alarm_sizes net log + (counter_size net n + 256 * doubtful_count log) ≤ size
 alarms_within net log n size within =
     let spread = spread_out n (component_sizes net) (alarm_sizes net log) (length log.pairs) in
     omega (arith, spread, within)
@@ -91,7 +93,7 @@ alarms_within net log n size within =
     spread_out k a b c = grind arith
 
 pub question_fits : (net : Net) (log : Log) (n : ℕ) → IsDraft net → length log.alarms ≤ 2000 → n ≤ 1000 → question_size net log n ≤ most_size →
-    variable_count net n + log_variables net log n + counter_size net n ≤ VAR_LIMIT
+    variable_count net n + log_variables net log n + (counter_size net n + 256 * doubtful_count log) ≤ VAR_LIMIT
 question_fits net log n draft alarms time size =
     let steps = variables_are_few net n draft time in
     let observable = few_observable net draft in
@@ -101,8 +103,8 @@ question_fits net log n draft alarms time size =
 
 -- ---- alarm by alarm
 
-pub first_more : (net : Net) (log : Log) (n k : ℕ) → variables_of_first net log n (k + 1) ≡ variables_of_first net log n k + alarm_variables n (matching_count net log k)
-first_more net log n k = sum_numbers_more (λ i. alarm_variables n (matching_count net log i)) k
+pub first_more : (net : Net) (log : Log) (n k : ℕ) → variables_of_first net log n (k + 1) ≡ variables_of_first net log n k + own_variables net log n k
+first_more net log n k = sum_numbers_more (own_variables net log n) k
 
 first_later : (net : Net) (log : Log) (n k more : ℕ) → variables_of_first net log n k ≤ variables_of_first net log n (k + more)
 first_later net log n k zero = let same : k ≡ k + 0 = omega arith in subst (λ m. variables_of_first net log n k ≤ variables_of_first net log n m) same (omega arith)

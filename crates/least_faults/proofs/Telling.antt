@@ -72,7 +72,7 @@ guards_positive net log (e ∷ es) = (refl, guards_positive net log es)
 
 -- among the assumptions within b there is one bound alone
 bound_among : (net : Net) (log : Log) (n i j b : ℕ) → Contains (assumption_literals net log n (Some b)) (no (reaches i (suc j))) → j ≡ b
-bound_among net log n i j b in' = by (append_cases (guard_literals net log) (bound_literals net n (Some b)) (no (reaches i (suc j))) in')
+bound_among net log n i j b in' = by (append_cases (guard_literals net log) (bound_literals net log n (Some b)) (no (reaches i (suc j))) in')
   where
     positive_not : (m : NamedLiteral) → m.positive ≡ true → m ≡ no (reaches i (suc j)) → ⊥
     positive_not m sign is = let other : m.positive ≡ false = ap (λ (x : NamedLiteral). x.positive) is in cc
@@ -92,9 +92,9 @@ bound_among net log n i j b in' = by (append_cases (guard_literals net log) (bou
         only (inl is) = let numbers : suc b ≡ suc j = ap number_of (same_reach (reaches (suc m) (suc b)) (reaches i (suc j)) is) in omega (arith, numbers)
         only (inr none) = absurd (none_in_nil (no (reaches i (suc j))) none)
 
-    by : Contains (guard_literals net log) (no (reaches i (suc j))) ⊎ Contains (bound_literals net n (Some b)) (no (reaches i (suc j))) → j ≡ b
+    by : Contains (guard_literals net log) (no (reaches i (suc j))) ⊎ Contains (bound_literals net log n (Some b)) (no (reaches i (suc j))) → j ≡ b
     by (inl guard) = absurd (positive_not (no (reaches i (suc j))) (all_at (λ (m : NamedLiteral). m.positive ≡ true) (guard_literals net log) (refl, guards_positive net log (observable_events net)) (no (reaches i (suc j))) guard) refl)
-    by (inr bound) = last (length (fault_inputs net n)) bound
+    by (inr bound) = last (length (fault_inputs net log n)) bound
 
 -- ---- the bound that a final clause refutes
 

@@ -1,8 +1,7 @@
 -- What is found of the least number of faults that explains a log, and what each answer means.
-use Rattle.std.specs.Prelude.{◌≡◌, ℕ, suc, ◌<◌, ◌≤◌, true, List, [], ◌∷◌, ◌++◌, Option, Some, None, IfSome, IfNone, count_by}
+use Rattle.std.specs.Prelude.{◌≡◌, ℕ, suc, ◌<◌, ◌≤◌, Bool, true, not, ◌||◌, List, [], ◌∷◌, ◌++◌, Option, Some, None, IfSome, IfNone, count_by}
 use Rattle.std.specs.List.{list_all}
 use Rattle.des_net.specs.Network.{Net}
-use Rattle.des_net.specs.Run.{fault_count}
 use Rattle.least_faults.specs.declared.answer.Best.{Best}
 use Rattle.least_faults.specs.declared.answer.Found.{Found}
 use Rattle.least_faults.specs.declared.answer.Found.TheVariants.{Explained, Absent, Many, Undecided}
@@ -13,16 +12,21 @@ use Rattle.proof_ledger.specs.Fresh.{is_learnt}
 use Rattle.prop_core.specs.Clauses.{Clause}
 use Rattle.prop_core.specs.VariableNames.{Name, ReadsAs}
 use Rattle.prop_core.specs.declared.lit.Lit.{Lit}
-use Rattle.replay.specs.Explanation.{Explains, NeedsFaults, IsLeast, IsAbsent, IsMany}
-use Rattle.replay.specs.Matching.{IsWellMatched, order_of}
-use Rattle.replay.specs.Traced.{word_of}
+use Rattle.replay.specs.Explanation.{Explains, faults_of, NeedsFaults, IsLeast, IsAbsent, IsMany}
+use Rattle.replay.specs.Matching.{IsWellMatched, is_real, order_of}
+use Rattle.replay.specs.Traced.{word_of, step_faults}
+use Rattle.replay.specs.declared.run.RunStep.{RunStep}
 use Rattle.run_decode.specs.Drawn.{assumption_literals}
+
+-- the step is a fault: a fault event, or a false alarm
+abbrev pub is_fault_step : Net → RunStep → Bool
+is_fault_step net step = step_faults net step || not (is_real step)
 
 -- a run that explains the log, and the number of its faults
 pub record IsExplanation (net : Net) (log : Log) (n : ℕ) (best : Best) : Type 0 where
   pub matched : IsWellMatched net log best.run
   pub explains : Explains net log n (word_of best.run) (order_of log best.run)
-  pub faults : fault_count net (word_of best.run) ≡ best.faults
+  pub faults : faults_of net (word_of best.run) (order_of log best.run) ≡ best.faults
 
 -- ---- the answers, with what the entries since the question was opened show
 

@@ -2,12 +2,17 @@
 use Rattle.std.specs.Prelude.{ℕ, ◌+◌, length, sum_by}
 use Rattle.des_net.specs.Network.{Net}
 use Rattle.des_net.specs.QuestionSize.{numbers_below, observable_count}
-use Rattle.log_order.specs.Log.{Log}
+use Rattle.log_encode.specs.AlarmVariables.{false_width}
+use Rattle.log_order.specs.Log.{Log, is_doubtful}
 use Rattle.replay.specs.QuestionSize.{alarm_variables, matching_count}
+
+-- those of an alarm; a doubtful one has one more
+abbrev pub own_variables : Net → Log → ℕ → ℕ → ℕ
+own_variables net log n i = alarm_variables n (matching_count net log i) + false_width (is_doubtful log i)
 
 -- those of the first k alarms
 abbrev pub variables_of_first : Net → Log → ℕ → ℕ → ℕ
-variables_of_first net log n k = sum_by (λ i. alarm_variables n (matching_count net log i)) (numbers_below k)
+variables_of_first net log n k = sum_by (own_variables net log n) (numbers_below k)
 
 -- those of all alarms
 abbrev pub variables_of_alarms : Net → Log → ℕ → ℕ

@@ -3,9 +3,9 @@ use replay::Run;
 /// A run that explains an alarm log, and how many faults it has.
 #[derive(Drop)]
 pub struct Best {
-    /// At how many places of the run there is a fault event.
+    /// How many fault events the run has, by occurrence, and false alarms.
     pub faults: u32,
-    /// The run, with the alarms for which its events stand.
+    /// The run, with the alarms for which its events stand, and the false ones.
     pub run: Run,
 }
 

@@ -1,48 +1,107 @@
 -- An order of alarms, cut into blocks where the pieces are cut, and what stands at one place of a piece and its block.
-use Rattle.std.proofs.Common.{◌≡◌, ◌≢◌, ℕ, zero, suc, ◌<◌, true, List, [], ◌∷◌, ◌++◌, ◌∙◌, length, refl, sym, ap, subst, arith, Contains, is_some, inl, inr, ◌⊎◌, ◌&&◌, ◌==◌, get_or}
+use Rattle.std.proofs.Common.{◌≡◌, ◌≢◌, ℕ, zero, suc, ◌<◌, Bool, true, false, List, [], ◌∷◌, ◌++◌, ◌∙◌, length, refl, sym, ap, subst, arith, Contains, map, flat_map, is_some, inl, inr, ◌⊎◌, ◌&&◌, ◌==◌, get_or}
+use Rattle.std.specs.Prelude.{⊤}
 use Rattle.std.specs.List.{AllZip}
 use Rattle.std.proofs.lemmas.Bool.{eqb-true, eq-eqb}
 use Rattle.std.proofs.lemmas.List.Elements.{filter-append}
 use Rattle.des_base.specs.Lists.{EachPair}
 use Rattle.des_net.specs.Network.{Net, label_of}
 use Rattle.des_net.specs.Width.{joined}
-use Rattle.log_clauses.proofs.Lists.{or_cases, or_left, both, and_true, cons_cases, here_first, here_later, none_in_nil, all_at}
+use Rattle.log_clauses.proofs.Entries.{real_true, real_false, alarms_append}
+use Rattle.log_clauses.proofs.Lists.{append_left, append_right, or_cases, or_left, both, and_true, cons_cases, here_first, here_later, none_in_nil, all_at}
 use Rattle.log_clauses.specs.Coded.{is_paired}
 use Rattle.log_order.specs.Log.{Log}
-use Rattle.replay.specs.Explanation.{observables, Shows}
+use Rattle.replay.specs.Explanation.{Entry, alarms_of, real_alarms, observables, Shows}
 use Rattle.run_clauses.proofs.StepLemmas.{or_right}
 
--- An order of the events of pieces, cut where the pieces are cut.
-pub cut_zip : (R : ℕ → ℕ → Type 0) (xs ys zs : List ℕ) → AllZip R (xs ++ ys) zs → (front : List ℕ) × (rest : List ℕ) × (zs ≡ front ++ rest) × AllZip R xs front × AllZip R ys rest
-cut_zip R [] ys zs h = ([], zs, refl, tt, h)
+-- the order doesn't begin with a false alarm
+abbrev StartsTrue : List Entry → Type 0
+StartsTrue [] = ⊤
+StartsTrue (entry ∷ order) = entry.real ≡ true
+
+-- An order whose true alarms go with the elements of two lists, cut where these are cut. False alarms go with the true one before them.
+pub record Cut (R : ℕ → ℕ → Type 0) (xs ys : List ℕ) (order : List Entry) : Type 0 where
+  pub front : List Entry
+  pub rest : List Entry
+  pub whole : order ≡ front ++ rest
+  pub here : AllZip R xs (real_alarms front)
+  pub later : AllZip R ys (real_alarms rest)
+  pub starts : StartsTrue rest
+
+pub cut_zip : (R : ℕ → ℕ → Type 0) (xs ys : List ℕ) (order : List Entry) → AllZip R (xs ++ ys) (real_alarms order) → Cut R xs ys order
+cut_zip R [] ys [] h = record { front = []; rest = []; whole = refl; here = tt; later = h; starts = tt }
 cut_zip R (x ∷ xs) ys [] h = absurd h
-cut_zip R (x ∷ xs) ys (z ∷ zs) h = let rest = cut_zip R xs ys zs h.1 in (z ∷ rest.0, rest.1, ap (λ ws. z ∷ ws) rest.2, (h.0, rest.3), rest.4)
+cut_zip R xs ys (entry ∷ order) h = by xs entry.real refl h (λ zs k. cut_zip R zs ys order k)
+  where
+    by : (zs : List ℕ) (b : Bool) → entry.real ≡ b → AllZip R (zs ++ ys) (real_alarms (entry ∷ order)) → ((ws : List ℕ) → AllZip R (ws ++ ys) (real_alarms order) → Cut R ws ys order) → Cut R zs ys (entry ∷ order)
+    by [] true e zip later = record { front = []; rest = entry ∷ order; whole = refl; here = tt; later = zip; starts = e }
+    by (z ∷ zs) true e zip later =
+        let parts = subst (λ is. AllZip R (z ∷ (zs ++ ys)) is) (real_true entry order e) zip in
+        let cut = later zs parts.1 in
+        record { front = entry ∷ cut.front; rest = cut.rest; whole = ap (λ es. entry ∷ es) cut.whole; here = subst (λ is. AllZip R (z ∷ zs) is) (sym (real_true entry cut.front e)) (parts.0, cut.here); later = cut.later; starts = cut.starts }
+    by zs false e zip later =
+        let cut = later zs (subst (λ is. AllZip R (zs ++ ys) is) (real_false entry order e) zip) in
+        record { front = entry ∷ cut.front; rest = cut.rest; whole = ap (λ es. entry ∷ es) cut.whole; here = subst (λ is. AllZip R zs is) (sym (real_false entry cut.front e)) cut.here; later = cut.later; starts = cut.starts }
 
-pub record Blocks (net : Net) (log : Log) (pieces : List (List ℕ)) (order : List ℕ) : Type 0 where
-  pub blocks : List (List ℕ)
-  pub whole : order ≡ joined blocks
-  pub matched : AllZip (λ piece block. AllZip (Shows net log) (observables net piece) block) pieces blocks
+-- An order of alarms in blocks: the false ones before all true ones, and one for each piece, whose true alarms go with its events.
+pub record Blocks (net : Net) (log : Log) (pieces : List (List ℕ)) (order : List Entry) : Type 0 where
+  pub before : List Entry
+  pub blocks : List (List Entry)
+  pub whole : order ≡ flat_map (λ block. block) (before ∷ blocks)
+  pub none : real_alarms before ≡ []
+  pub matched : AllZip (λ piece block. AllZip (Shows net log) (observables net piece) (real_alarms block)) pieces blocks
 
-pub cut_order : (net : Net) (log : Log) (pieces : List (List ℕ)) (order : List ℕ) → AllZip (Shows net log) (observables net (joined pieces)) order → Blocks net log pieces order
-cut_order net log [] [] h = record { blocks = []; whole = refl; matched = tt }
-cut_order net log [] (i ∷ order) h = absurd h
-cut_order net log (piece ∷ pieces) order h =
-    let shown = subst (λ xs. AllZip (Shows net log) xs order) (filter-append (λ e. is_some (label_of net e)) piece (joined pieces)) h in
+-- the blocks of the pieces, where none is before them
+record Rest (net : Net) (log : Log) (pieces : List (List ℕ)) (order : List Entry) : Type 0 where
+  blocks : List (List Entry)
+  whole : order ≡ flat_map (λ block. block) blocks
+  matched : AllZip (λ piece block. AllZip (Shows net log) (observables net piece) (real_alarms block)) pieces blocks
+
+cut_rest : (net : Net) (log : Log) (pieces : List (List ℕ)) (order : List Entry) → StartsTrue order → AllZip (Shows net log) (observables net (joined pieces)) (real_alarms order) → Rest net log pieces order
+cut_rest net log [] [] starts h = record { blocks = []; whole = refl; matched = tt }
+cut_rest net log [] (entry ∷ order) starts h = absurd (subst (λ is. AllZip (Shows net log) [] is) (real_true entry order starts) h)
+cut_rest net log (piece ∷ pieces) order starts h =
+    let shown = subst (λ xs. AllZip (Shows net log) xs (real_alarms order)) (filter-append (λ e. is_some (label_of net e)) piece (joined pieces)) h in
     let cut = cut_zip (Shows net log) (observables net piece) (observables net (joined pieces)) order shown in
-    let rest = cut_order net log pieces cut.1 cut.4 in
-    record { blocks = cut.0 ∷ rest.blocks; whole = cut.2 ∙ ap (λ xs. cut.0 ++ xs) rest.whole; matched = (cut.3, rest.matched) }
+    let rest = cut_rest net log pieces cut.rest cut.starts cut.later in
+    record { blocks = cut.front ∷ rest.blocks; whole = cut.whole ∙ ap (λ xs. cut.front ++ xs) rest.whole; matched = (cut.here, rest.matched) }
 
-pub blocks_length : (R : List ℕ → List ℕ → Type 0) (xs ys : List (List ℕ)) → AllZip R xs ys → length xs ≡ length ys
+pub cut_order : (net : Net) (log : Log) (pieces : List (List ℕ)) (order : List Entry) → AllZip (Shows net log) (observables net (joined pieces)) (real_alarms order) → Blocks net log pieces order
+cut_order net log pieces order h =
+    let cut = cut_zip (Shows net log) [] (observables net (joined pieces)) order h in
+    let rest = cut_rest net log pieces cut.rest cut.starts cut.later in
+    record { before = cut.front; blocks = rest.blocks; whole = cut.whole ∙ ap (λ xs. cut.front ++ xs) rest.whole; none = is_nil (real_alarms cut.front) cut.here; matched = rest.matched }
+  where
+    is_nil : (is : List ℕ) → AllZip (Shows net log) [] is → is ≡ []
+    is_nil [] k = refl
+    is_nil (i ∷ is) k = absurd k
+
+pub blocks_length : {X Y : Type 0} (R : List X → List Y → Type 0) (xs : List (List X)) (ys : List (List Y)) → AllZip R xs ys → length xs ≡ length ys
 blocks_length R [] [] h = refl
 blocks_length R [] (y ∷ ys) h = absurd h
 blocks_length R (x ∷ xs) [] h = absurd h
 blocks_length R (x ∷ xs) (y ∷ ys) h = ap suc (blocks_length R xs ys h.1)
 
-pub block_at : (R : List ℕ → List ℕ → Type 0) (xs ys : List (List ℕ)) (t : ℕ) → AllZip R xs ys → t < length xs → R (get_or xs t []) (get_or ys t [])
+pub block_at : {X Y : Type 0} (R : List X → List Y → Type 0) (xs : List (List X)) (ys : List (List Y)) (t : ℕ) → AllZip R xs ys → t < length xs → R (get_or xs t []) (get_or ys t [])
 block_at R [] ys t h less = absurd (omega arith)
 block_at R (x ∷ xs) [] t h less = absurd h
 block_at R (x ∷ xs) (y ∷ ys) zero h less = h.0
 block_at R (x ∷ xs) (y ∷ ys) (suc t) h less = block_at R xs ys t h.1 (omega arith)
+
+-- the alarms of a block
+pub block_alarms : (blocks : List (List Entry)) (t : ℕ) → get_or (map alarms_of blocks) t [] ≡ alarms_of (get_or blocks t [])
+block_alarms [] t = refl
+block_alarms (block ∷ blocks) zero = refl
+block_alarms (block ∷ blocks) (suc t) = block_alarms blocks t
+
+pub joined_alarms : (blocks : List (List Entry)) → alarms_of (flat_map (λ block. block) blocks) ≡ joined (map alarms_of blocks)
+joined_alarms [] = refl
+joined_alarms (block ∷ blocks) = alarms_append block (flat_map (λ b. b) blocks) ∙ ap (λ xs. alarms_of block ++ xs) (joined_alarms blocks)
+
+pub block_has : (blocks : List (List Entry)) (t : ℕ) (entry : Entry) → Contains (get_or blocks t []) entry → Contains (flat_map (λ block. block) blocks) entry
+block_has [] t entry in' = absurd (none_in_nil entry in')
+block_has (block ∷ blocks) zero entry in' = append_left block (flat_map (λ b. b) blocks) entry in'
+block_has (block ∷ blocks) (suc t) entry in' = append_right block (flat_map (λ b. b) blocks) entry (block_has blocks t entry in')
 
 -- What is paired.
 pub paired : (R : ℕ → ℕ → Type 0) (e i : ℕ) (xs js : List ℕ) → AllZip R xs js → is_paired e i xs js ≡ true → R e i × Contains xs e × Contains js i

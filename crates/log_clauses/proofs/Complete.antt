@@ -1,26 +1,29 @@
 -- A linearisation has a value for the names of its log.
-use Rattle.std.proofs.Common.{◌≡◌, ◌≢◌, ℕ, zero, suc, ◌+◌, ◌<◌, Bool, true, false, List, [], ◌∷◌, ◌++◌, ◌∙◌, length, refl, sym, ap, subst, arith, Contains, map, filter, is_some, not, inl, inr, ◌⊎◌, ◌||◌, ◌&&◌, ◌==◌, take, drop, get_or, IsTrue, take_all}
+use Rattle.std.proofs.Common.{◌≡◌, ◌≢◌, ℕ, zero, suc, ◌+◌, ◌<◌, Bool, true, false, List, [], ◌∷◌, ◌++◌, ◌∙◌, length, refl, sym, ap, subst, arith, Contains, map, flat_map, filter, is_some, not, inl, inr, ◌⊎◌, ◌||◌, ◌&&◌, ◌==◌, take, drop, get_or, IsTrue, take_all}
 use Rattle.std.specs.List.{AllByRecursion, AllZip, list_any}
 use Rattle.std.proofs.lemmas.Bool.{eqb-true, eq-eqb}
+use Rattle.std.proofs.lemmas.List.{length-map}
 use Rattle.des_base.specs.Lists.{EachPair}
 use Rattle.des_net.specs.Network.{Net, label_of}
 use Rattle.des_net.specs.Width.{joined}
-use Rattle.log_clauses.proofs.Lists.{clash, as_false, or_left, both, and_true, filter_has, filter_from, all_at, pairs_filter, append_cases, append_left, append_right}
+use Rattle.log_clauses.proofs.Lists.{clash, as_false, or_left, both, and_true, none_in_nil, filter_has, filter_from, all_of, all_at, pairs_filter, append_cases, append_left, append_right}
 use Rattle.log_clauses.proofs.Pieces.{IsStepSet, AreFrom, piece_is, pieces_are_steps}
-use Rattle.log_clauses.proofs.Rules.{shown_matches, shown_event, in_chain, has_event}
+use Rattle.log_clauses.proofs.Rules.{or_false_is, shown_matches, shown_event, in_chain, has_event}
+use Rattle.log_clauses.proofs.Entries.{real_in, real_once, entry_in, real_has, real_from, one_entry, dropped_has, dropped_from, has_false}
 use Rattle.log_clauses.specs.Coded.{stands, coded}
-use Rattle.log_clauses.specs.LogClauses.{chain, LogClause, log_clause, IsLogClause, chain_closed, takes_rest, uses_up, passes_on, taken_or_passed, not_done_first, stays_done, match_is_done, matched_once, done_by_match, one_match, done_if_asked, before_if_asked, matching_events}
-use Rattle.log_clauses.specs.LogLaws.{LogIsComplete}
+use Rattle.log_clauses.specs.LogClauses.{chain, LogClause, log_clause, IsLogClause, chain_closed, takes_rest, uses_up, passes_on, taken_or_passed, not_done_first, stays_done, match_is_done, matched_once, match_is_real, done_by_match, one_match, done_if_asked, before_if_asked, matching_events}
+use Rattle.log_clauses.specs.Decoded.{is_false}
+use Rattle.log_clauses.specs.LogLaws.{HasFalse, LogIsComplete}
 use Rattle.log_clauses.specs.LogTruth.{LogClausesHold, GuardsHold, DifferInLog}
-use Rattle.log_order.specs.Log.{Log, place_in}
+use Rattle.log_order.specs.Log.{Log, is_doubtful, place_in}
 use Rattle.prop_core.specs.NamedClauses.{named_true, named_clause_true}
-use Rattle.prop_core.specs.VariableNames.{Name, yes, in_state, happens, asked, matches, done, unmatched, closed, reaches, some_of_first, remaining}
-use Rattle.replay.specs.Explanation.{observables, Shows, Linearises}
+use Rattle.prop_core.specs.VariableNames.{Name, yes, in_state, happens, asked, matches, done, unmatched, closed, dropped, reaches, some_of_first, remaining}
+use Rattle.replay.specs.Explanation.{Entry, alarms_of, real_alarms, may_stand, observables, Shows, Linearises}
 use Rattle.replay.specs.QuestionSize.{is_matching}
 use Rattle.run_clauses.proofs.StepLemmas.{found, among, mapped, or_right, two_negations}
 use Rattle.run_clauses.specs.StepClauses.{numbers_below}
 use Rattle.log_clauses.proofs.Fronts.{any_has, has_any, take_has, take_grows, take_last, take_not, range_once, apart_append, once_left, block_once, next_front, front_and_rest, place_inside, inside_place}
-use Rattle.log_clauses.proofs.Blocks.{cut_order, blocks_length, block_at, paired, partner, partner_back, paired_in, same_alarm, same_event}
+use Rattle.log_clauses.proofs.Blocks.{cut_order, blocks_length, block_at, block_alarms, joined_alarms, block_has, paired, partner, partner_back, paired_in, same_alarm, same_event}
 
 -- clauses of one, two and three literals
 pub c_implied : (a b : Bool) → (a ≡ true → b ≡ true) → not a || (b || false) ≡ true
@@ -49,35 +52,49 @@ pub chain_once : (net : Net) (log : Log) (e : ℕ) → EachPair (λ x y. x ≢ y
 chain_once net log e = pairs_filter (λ x y. x ≢ y) (is_matching net log e) (numbers_below (length log.alarms)) (range_once 0 (length log.alarms))
 
 module _ (net : Net) (log : Log) (value : Name → Bool) (pieces : List (List ℕ)) (are : AreFrom net value 0 pieces)
-    (blocks : List (List ℕ)) (matched : AllZip (λ piece block. AllZip (Shows net log) (observables net piece) block) pieces blocks)
-    (once : EachPair (λ i j. i ≢ j) (joined blocks)) (each : (i : ℕ) → i < length log.alarms → Contains (joined blocks) i)
-    (kept : (i j : ℕ) → Contains log.pairs (i, j) → place_in (joined blocks) i < place_in (joined blocks) j) where
-  zipped : (t : ℕ) → t < length pieces → AllZip (Shows net log) (observables net (get_or pieces t [])) (get_or blocks t [])
-  zipped t h = block_at (λ piece block. AllZip (Shows net log) (observables net piece) block) pieces blocks t matched h
+    (before : List Entry) (blocks : List (List Entry)) (none : real_alarms before ≡ [])
+    (matched : AllZip (λ piece block. AllZip (Shows net log) (observables net piece) (real_alarms block)) pieces blocks)
+    (doubted : (entry : Entry) → Contains (flat_map (λ block. block) (before ∷ blocks)) entry → may_stand log entry ≡ true)
+    (once : EachPair (λ i j. i ≢ j) (joined (map alarms_of (before ∷ blocks)))) (each : (i : ℕ) → i < length log.alarms → Contains (joined (map alarms_of (before ∷ blocks))) i)
+    (kept : (i j : ℕ) → Contains log.pairs (i, j) → place_in (joined (map alarms_of (before ∷ blocks))) i < place_in (joined (map alarms_of (before ∷ blocks))) j) where
+  abbrev truth : Name → Bool
+  truth = coded net log pieces (before ∷ blocks) value
+
+  abbrev steps : List (List ℕ)
+  steps = map alarms_of (before ∷ blocks)
+
+  abbrev seen : ℕ → List ℕ
+  seen t = observables net (get_or pieces t [])
+
+  abbrev reals : ℕ → List ℕ
+  reals t = real_alarms (get_or blocks t [])
+
+  zipped : (t : ℕ) → t < length pieces → AllZip (Shows net log) (seen t) (reals t)
+  zipped t h = block_at (λ piece block. AllZip (Shows net log) (observables net piece) (real_alarms block)) pieces blocks t matched h
 
   same_length : length pieces ≡ length blocks
-  same_length = blocks_length (λ piece block. AllZip (Shows net log) (observables net piece) block) pieces blocks matched
+  same_length = blocks_length (λ piece block. AllZip (Shows net log) (observables net piece) (real_alarms block)) pieces blocks matched
 
   piece : (t : ℕ) → t < length pieces → IsStepSet net value t (get_or pieces t [])
   piece t h = let same : 0 + t ≡ t = omega arith in subst (λ r. IsStepSet net value r (get_or pieces t [])) same (piece_is net value 0 t pieces are h)
 
-  shown_once : (t : ℕ) → t < length pieces → EachPair (λ e f. e ≢ f) (observables net (get_or pieces t []))
+  shown_once : (t : ℕ) → t < length pieces → EachPair (λ e f. e ≢ f) (seen t)
   shown_once t h = pairs_filter (λ e f. e ≢ f) (λ e. is_some (label_of net e)) (get_or pieces t []) (piece t h).once
 
-  stands_match : (i e t : ℕ) → t < length pieces → stands net pieces blocks i e (suc t) ≡ true → is_matching net log e i ≡ true
-  stands_match i e t h is = shown_matches net log e i (paired (Shows net log) e i (observables net (get_or pieces t [])) (get_or blocks t []) (zipped t h) is).0
+  stands_match : (i e t : ℕ) → t < length pieces → stands net pieces (before ∷ blocks) i e (suc t) ≡ true → is_matching net log e i ≡ true
+  stands_match i e t h is = shown_matches net log e i (paired (Shows net log) e i (seen t) (reals t) (zipped t h) is).0
 
-  stands_happens : (i e t : ℕ) → t < length pieces → stands net pieces blocks i e (suc t) ≡ true → value (happens e (suc t)) ≡ true
+  stands_happens : (i e t : ℕ) → t < length pieces → stands net pieces (before ∷ blocks) i e (suc t) ≡ true → value (happens e (suc t)) ≡ true
   stands_happens i e t h is =
-      let inside = (paired_in e i (observables net (get_or pieces t [])) (get_or blocks t []) is).0 in
+      let inside = (paired_in e i (seen t) (reals t) is).0 in
       (((piece t h).exact e).0 (filter_from (λ f. is_some (label_of net f)) (get_or pieces t []) e inside).1).1
 
-  someone : (e t : ℕ) → t < length pieces → is_some (label_of net e) ≡ true → value (happens e (suc t)) ≡ true → (i : ℕ) × (stands net pieces blocks i e (suc t) ≡ true)
-  someone e t h seen is =
-      partner (Shows net log) e (observables net (get_or pieces t [])) (get_or blocks t []) (zipped t h) (filter_has (λ f. is_some (label_of net f)) (get_or pieces t []) e seen (((piece t h).exact e).1 (shown_event net e seen, is)))
+  someone : (e t : ℕ) → t < length pieces → is_some (label_of net e) ≡ true → value (happens e (suc t)) ≡ true → (i : ℕ) × (stands net pieces (before ∷ blocks) i e (suc t) ≡ true)
+  someone e t h shown is =
+      partner (Shows net log) e (seen t) (reals t) (zipped t h) (filter_has (λ f. is_some (label_of net f)) (get_or pieces t []) e shown (((piece t h).exact e).1 (shown_event net e shown, is)))
 
   -- no alarm before place k of the chain stands for the event
-  rest_value : (e k t : ℕ) → coded net log pieces blocks value (remaining e k t) ≡ value (happens e t) && not (list_any (λ i. stands net pieces blocks i e t) (take k (chain net log e)))
+  rest_value : (e k t : ℕ) → coded net log pieces (before ∷ blocks) value (remaining e k t) ≡ value (happens e t) && not (list_any (λ i. stands net pieces (before ∷ blocks) i e t) (take k (chain net log e)))
   rest_value e zero t = and_not_false (value (happens e t))
     where
       and_not_false : (b : Bool) → b ≡ b && true
@@ -85,111 +102,182 @@ module _ (net : Net) (log : Log) (value : Name → Bool) (pieces : List (List �
       and_not_false false = refl
   rest_value e (suc k) t = refl
 
-  rest_from : (e k t : ℕ) → coded net log pieces blocks value (remaining e k t) ≡ true → (value (happens e t) ≡ true) × ((i : ℕ) → Contains (take k (chain net log e)) i → stands net pieces blocks i e t ≡ true → ⊥)
+  rest_from : (e k t : ℕ) → coded net log pieces (before ∷ blocks) value (remaining e k t) ≡ true → (value (happens e t) ≡ true) × ((i : ℕ) → Contains (take k (chain net log e)) i → stands net pieces (before ∷ blocks) i e t ≡ true → ⊥)
   rest_from e k t h =
-      let parts = both (value (happens e t)) (not (list_any (λ i. stands net pieces blocks i e t) (take k (chain net log e)))) (sym (rest_value e k t) ∙ h) in
-      (parts.0, λ i in' is. contra (list_any (λ j. stands net pieces blocks j e t) (take k (chain net log e))) (has_any (λ j. stands net pieces blocks j e t) (take k (chain net log e)) i in' is) parts.1)
+      let parts = both (value (happens e t)) (not (list_any (λ i. stands net pieces (before ∷ blocks) i e t) (take k (chain net log e)))) (sym (rest_value e k t) ∙ h) in
+      (parts.0, λ i in' is. contra (list_any (λ j. stands net pieces (before ∷ blocks) j e t) (take k (chain net log e))) (has_any (λ j. stands net pieces (before ∷ blocks) j e t) (take k (chain net log e)) i in' is) parts.1)
     where
       contra : (b : Bool) → b ≡ true → not b ≡ true → ⊥
       contra true x y = cc
       contra false x y = cc
 
-  rest_to : (e k t : ℕ) → value (happens e t) ≡ true → ((i : ℕ) → Contains (take k (chain net log e)) i → stands net pieces blocks i e t ≡ true → ⊥) → coded net log pieces blocks value (remaining e k t) ≡ true
+  rest_to : (e k t : ℕ) → value (happens e t) ≡ true → ((i : ℕ) → Contains (take k (chain net log e)) i → stands net pieces (before ∷ blocks) i e t ≡ true → ⊥) → coded net log pieces (before ∷ blocks) value (remaining e k t) ≡ true
   rest_to e k t is none =
-      rest_value e k t ∙ and_true (value (happens e t)) (not (list_any (λ i. stands net pieces blocks i e t) (take k (chain net log e)))) is
-      (ap not (as_false (list_any (λ i. stands net pieces blocks i e t) (take k (chain net log e)))
-      (λ h. let found' = any_has (λ i. stands net pieces blocks i e t) (take k (chain net log e)) h in none found'.0 found'.1 found'.2)))
+      rest_value e k t ∙ and_true (value (happens e t)) (not (list_any (λ i. stands net pieces (before ∷ blocks) i e t) (take k (chain net log e)))) is
+      (ap not (as_false (list_any (λ i. stands net pieces (before ∷ blocks) i e t) (take k (chain net log e)))
+      (λ h. let found' = any_has (λ i. stands net pieces (before ∷ blocks) i e t) (take k (chain net log e)) h in none found'.0 found'.1 found'.2)))
 
-  done_to : (i t : ℕ) → Contains (joined (take t blocks)) i → coded net log pieces blocks value (done i t) ≡ true
-  done_to i t in' = found i (joined (take t blocks)) in'
+  done_to : (i t : ℕ) → Contains (joined (take (suc t) steps)) i → truth (done i t) ≡ true
+  done_to i t in' = found i (joined (take (suc t) steps)) in'
 
-  done_from : (i t : ℕ) → coded net log pieces blocks value (done i t) ≡ true → Contains (joined (take t blocks)) i
-  done_from i t h = among i (joined (take t blocks)) h
+  done_from : (i t : ℕ) → truth (done i t) ≡ true → Contains (joined (take (suc t) steps)) i
+  done_from i t h = among i (joined (take (suc t) steps)) h
 
-  next : (t : ℕ) → t < length pieces → joined (take (suc t) blocks) ≡ joined (take t blocks) ++ get_or blocks t []
-  next t h = next_front blocks t (omega (arith, same_length))
+  step_count : length steps ≡ suc (length pieces)
+  step_count = ap suc (length-map blocks alarms_of ∙ sym same_length)
 
-  front_once : (t : ℕ) → EachPair (λ i j. i ≢ j) (joined (take t blocks))
-  front_once t = once_left (joined (take t blocks)) (joined (drop t blocks)) (subst (λ xs. EachPair (λ i j. i ≢ j) xs) (front_and_rest blocks t) once)
+  next : (t : ℕ) → t < length pieces → joined (take (suc (suc t)) steps) ≡ joined (take (suc t) steps) ++ alarms_of (get_or blocks t [])
+  next t h = next_front steps (suc t) (omega (arith, step_count)) ∙ ap (λ xs. joined (take (suc t) steps) ++ xs) (block_alarms blocks t)
 
-  clause_true : (which : LogClause) → IsLogClause net log (length pieces) which → named_clause_true (coded net log pieces blocks value) (log_clause net log (length pieces) which) ≡ true
+  front_once : (t : ℕ) → EachPair (λ i j. i ≢ j) (joined (take (suc t) steps))
+  front_once t = once_left (joined (take (suc t) steps)) (joined (drop (suc t) steps)) (subst (λ xs. EachPair (λ i j. i ≢ j) xs) (front_and_rest steps (suc t)) once)
+
+  reals_once : (t : ℕ) → EachPair (λ i j. i ≢ j) (reals t)
+  reals_once t = real_once (get_or blocks t []) (subst (λ xs. EachPair (λ i j. i ≢ j) xs) (block_alarms blocks t) (block_once steps (suc t) once))
+
+  all_once : EachPair (λ i j. i ≢ j) (alarms_of (flat_map (λ block. block) (before ∷ blocks)))
+  all_once = subst (λ xs. EachPair (λ i j. i ≢ j) xs) (sym (joined_alarms (before ∷ blocks))) once
+
+  -- an entry tells whether its alarm is false
+  told : (entry : Entry) → Contains (flat_map (λ block. block) (before ∷ blocks)) entry → entry.real ≡ not (is_false log truth entry.alarm)
+  told entry in' = by entry.real refl (doubted entry in') (is_doubtful log entry.alarm) refl
+    where
+      by : (b : Bool) → entry.real ≡ b → entry.real || is_doubtful log entry.alarm ≡ true → (d : Bool) → is_doubtful log entry.alarm ≡ d → entry.real ≡ not (is_doubtful log entry.alarm && truth (dropped entry.alarm))
+      by true e may true f = rw (e, f) (sym (ap not (as_false (truth (dropped entry.alarm)) other)))
+        where
+          other : truth (dropped entry.alarm) ≡ true → ⊥
+          other h =
+              let twin = dropped_from (flat_map (λ block. block) (before ∷ blocks)) entry.alarm h in
+              clash entry.real e (one_entry (flat_map (λ block. block) (before ∷ blocks)) entry twin.0 all_once in' twin.1 (sym twin.3) ∙ twin.2)
+      by true e may false f = rw (e, f) refl
+      by false e may true f = rw (e, f) (sym (ap not (dropped_has (flat_map (λ block. block) (before ∷ blocks)) entry in' e)))
+      by false e may false f = let bad = rw (e, f) at may in cc
+
+  false_by : (entry : Entry) → Contains (flat_map (λ block. block) (before ∷ blocks)) entry → entry.real ≡ false → is_false log truth entry.alarm ≡ true
+  false_by entry in' e = flip (is_false log truth entry.alarm) (sym (told entry in') ∙ e)
+    where
+      flip : (b : Bool) → not b ≡ false → b ≡ true
+      flip true k = refl
+      flip false k = cc
+
+  first_false : (i : ℕ) → Contains (joined (take 1 steps)) i → is_false log truth i ≡ true
+  first_false i in' = by (append_cases (alarms_of before) [] i in')
+    where
+      by : Contains (alarms_of before) i ⊎ Contains [] i → is_false log truth i ≡ true
+      by (inr rest) = absurd (none_in_nil i rest)
+      by (inl here) =
+          let found' = entry_in before i here in
+          subst (λ j. is_false log truth j ≡ true) found'.2
+          (false_by found'.0 (append_left before (flat_map (λ block. block) blocks) found'.0 found'.1)
+          (as_false found'.0.real (λ h. none_in_nil found'.0.alarm (subst (λ xs. Contains xs found'.0.alarm) none (real_has before found'.0 found'.1 h)))))
+
+  -- an alarm that stands for an event isn't false
+  stands_real : (i e t : ℕ) → stands net pieces (before ∷ blocks) i e (suc t) ≡ true → truth (dropped i) ≡ true → ⊥
+  stands_real i e t is h =
+      let here = real_from (get_or blocks t []) i (paired_in e i (seen t) (reals t) is).1 in
+      let twin = dropped_from (flat_map (λ block. block) (before ∷ blocks)) i h in
+      clash here.0.real here.2
+      (one_entry (flat_map (λ block. block) (before ∷ blocks)) here.0 twin.0 all_once (append_right before (flat_map (λ block. block) blocks) here.0 (block_has blocks t here.0 here.1)) twin.1 (here.3 ∙ sym twin.3) ∙ twin.2)
+
+  -- an alarm of a block is false, or stands for an event
+  block_split : (i t : ℕ) → t < length pieces → Contains (alarms_of (get_or blocks t [])) i →
+      (is_false log truth i ≡ true) ⊎ ((e : ℕ) × (is_matching net log e i ≡ true) × (stands net pieces (before ∷ blocks) i e (suc t) ≡ true))
+  block_split i t h in' = let found' = entry_in (get_or blocks t []) i in' in by found'.0 found'.1 found'.2 found'.0.real refl
+    where
+      by : (entry : Entry) → Contains (get_or blocks t []) entry → entry.alarm ≡ i → (b : Bool) → entry.real ≡ b →
+          (is_false log truth i ≡ true) ⊎ ((e : ℕ) × (is_matching net log e i ≡ true) × (stands net pieces (before ∷ blocks) i e (suc t) ≡ true))
+      by entry here is true e =
+          let event = partner_back (Shows net log) i (seen t) (reals t) (zipped t h) (subst (λ j. Contains (reals t) j) is (real_has (get_or blocks t []) entry here e)) in
+          inr (event.0, stands_match i event.0 t h event.1, event.1)
+      by entry here is false e = inl (subst (λ j. is_false log truth j ≡ true) is (false_by entry (append_right before (flat_map (λ block. block) blocks) entry (block_has blocks t entry here)) e))
+
+  clause_true : (which : LogClause) → IsLogClause net log (length pieces) which → named_clause_true (coded net log pieces (before ∷ blocks) value) (log_clause net log (length pieces) which) ≡ true
   clause_true (chain_closed e k t) h =
-      two_negations (k == length (chain net log e)) (coded net log pieces blocks value (remaining e k (suc t))) (λ shut is.
+      two_negations (k == length (chain net log e)) (coded net log pieces (before ∷ blocks) value (remaining e k (suc t))) (λ shut is.
       let step : t < length pieces = h.2 in
       let open' = rest_from e k (suc t) is in
       let found' = someone e t step h.0 open'.0 in
       let all : take k (chain net log e) ≡ chain net log e = (let same = eqb-true k (length (chain net log e)) shut in take_all k (chain net log e) (omega (arith, same))) in
       open'.1 found'.0 (subst (λ xs. Contains xs found'.0) (sym all) (in_chain net log e found'.0 (stands_match found'.0 e t step found'.1))) found'.1)
   clause_true (takes_rest i e k t) h =
-      c_implied (stands net pieces blocks i e (suc t)) (coded net log pieces blocks value (remaining e k (suc t))) (λ is.
+      c_implied (stands net pieces (before ∷ blocks) i e (suc t)) (coded net log pieces (before ∷ blocks) value (remaining e k (suc t))) (λ is.
       let step : t < length pieces = h.1 in
       rest_to e k (suc t) (stands_happens i e t step is) (λ j in' other.
-      let same = same_alarm e j i (observables net (get_or pieces t [])) (get_or blocks t []) (shown_once t step) other is in
+      let same = same_alarm e j i (seen t) (reals t) (shown_once t step) other is in
       take_not (chain net log e) k i (chain_once net log e) h.0 (subst (λ x. Contains (take k (chain net log e)) x) same in')))
   clause_true (uses_up i e k t) h =
-      two_negations (stands net pieces blocks i e (suc t)) (coded net log pieces blocks value (remaining e (suc k) (suc t))) (λ is rest.
+      two_negations (stands net pieces (before ∷ blocks) i e (suc t)) (coded net log pieces (before ∷ blocks) value (remaining e (suc k) (suc t))) (λ is rest.
       (rest_from e (suc k) (suc t) rest).1 i (take_has (chain net log e) k (suc k) i h.0 (omega arith)) is)
   clause_true (passes_on e k t) h =
-      c_implied (coded net log pieces blocks value (remaining e (suc k) (suc t))) (coded net log pieces blocks value (remaining e k (suc t))) (λ rest.
+      c_implied (coded net log pieces (before ∷ blocks) value (remaining e (suc k) (suc t))) (coded net log pieces (before ∷ blocks) value (remaining e k (suc t))) (λ rest.
       let open' = rest_from e (suc k) (suc t) rest in
       rest_to e k (suc t) open'.0 (λ i in' is. open'.1 i (take_grows (chain net log e) k i in') is))
   clause_true (taken_or_passed i e k t) h =
-      c_one_of (coded net log pieces blocks value (remaining e k (suc t))) (stands net pieces blocks i e (suc t)) (coded net log pieces blocks value (remaining e (suc k) (suc t))) (λ rest.
-      let open' = rest_from e k (suc t) rest in by (stands net pieces blocks i e (suc t)) refl open'.0 open'.1)
+      c_one_of (coded net log pieces (before ∷ blocks) value (remaining e k (suc t))) (stands net pieces (before ∷ blocks) i e (suc t)) (coded net log pieces (before ∷ blocks) value (remaining e (suc k) (suc t))) (λ rest.
+      let open' = rest_from e k (suc t) rest in by (stands net pieces (before ∷ blocks) i e (suc t)) refl open'.0 open'.1)
     where
-      by : (b : Bool) → stands net pieces blocks i e (suc t) ≡ b → value (happens e (suc t)) ≡ true → ((j : ℕ) → Contains (take k (chain net log e)) j → stands net pieces blocks j e (suc t) ≡ true → ⊥) →
-          (stands net pieces blocks i e (suc t) ≡ true) ⊎ (coded net log pieces blocks value (remaining e (suc k) (suc t)) ≡ true)
+      by : (b : Bool) → stands net pieces (before ∷ blocks) i e (suc t) ≡ b → value (happens e (suc t)) ≡ true → ((j : ℕ) → Contains (take k (chain net log e)) j → stands net pieces (before ∷ blocks) j e (suc t) ≡ true → ⊥) →
+          (stands net pieces (before ∷ blocks) i e (suc t) ≡ true) ⊎ (coded net log pieces (before ∷ blocks) value (remaining e (suc k) (suc t)) ≡ true)
       by true is there none = inl is
       by false is there none = inr (rest_to e (suc k) (suc t) there (λ j in' other. at j other (take_last (chain net log e) k j i h.0 in')))
         where
-          at : (j : ℕ) → stands net pieces blocks j e (suc t) ≡ true → Contains (take k (chain net log e)) j ⊎ (i ≡ j) → ⊥
+          at : (j : ℕ) → stands net pieces (before ∷ blocks) j e (suc t) ≡ true → Contains (take k (chain net log e)) j ⊎ (i ≡ j) → ⊥
           at j other (inl early) = none j early other
-          at j other (inr same) = clash (stands net pieces blocks j e (suc t)) other (subst (λ x. stands net pieces blocks x e (suc t) ≡ false) same is)
-  clause_true (not_done_first i) h = refl
+          at j other (inr same) = clash (stands net pieces (before ∷ blocks) j e (suc t)) other (subst (λ x. stands net pieces (before ∷ blocks) x e (suc t) ≡ false) same is)
+  clause_true (not_done_first i) h =
+      subst (λ b. not (truth (done i 0)) || b ≡ true) (sym (or_false_is log truth i []))
+      (c_implied (truth (done i 0)) (is_false log truth i) (λ is. first_false i (done_from i 0 is)))
   clause_true (stays_done i t) h =
-      c_implied (coded net log pieces blocks value (done i t)) (coded net log pieces blocks value (done i (suc t))) (λ is.
-      done_to i (suc t) (subst (λ xs. Contains xs i) (sym (next t h.1)) (append_left (joined (take t blocks)) (get_or blocks t []) i (done_from i t is))))
+      c_implied (truth (done i t)) (truth (done i (suc t))) (λ is.
+      done_to i (suc t) (subst (λ xs. Contains xs i) (sym (next t h.1)) (append_left (joined (take (suc t) steps)) (alarms_of (get_or blocks t [])) i (done_from i t is))))
   clause_true (match_is_done i e t) h =
-      c_implied (stands net pieces blocks i e (suc t)) (coded net log pieces blocks value (done i (suc t))) (λ is.
-      done_to i (suc t) (subst (λ xs. Contains xs i) (sym (next t h.1)) (append_right (joined (take t blocks)) (get_or blocks t []) i
-      (paired_in e i (observables net (get_or pieces t [])) (get_or blocks t []) is).1)))
+      c_implied (stands net pieces (before ∷ blocks) i e (suc t)) (truth (done i (suc t))) (λ is.
+      done_to i (suc t) (subst (λ xs. Contains xs i) (sym (next t h.1)) (append_right (joined (take (suc t) steps)) (alarms_of (get_or blocks t [])) i
+      (real_in (get_or blocks t []) i (paired_in e i (seen t) (reals t) is).1))))
   clause_true (matched_once i e t) h =
-      two_negations (stands net pieces blocks i e (suc t)) (coded net log pieces blocks value (done i t)) (λ is before.
-      apart_append (joined (take t blocks)) (get_or blocks t []) i (subst (λ xs. EachPair (λ a b. a ≢ b) xs) (next t h.1) (front_once (suc t))) (done_from i t before)
-      (paired_in e i (observables net (get_or pieces t [])) (get_or blocks t []) is).1)
+      two_negations (stands net pieces (before ∷ blocks) i e (suc t)) (truth (done i t)) (λ is earlier.
+      apart_append (joined (take (suc t) steps)) (alarms_of (get_or blocks t [])) i (subst (λ xs. EachPair (λ a b. a ≢ b) xs) (next t h.1) (front_once (suc t))) (done_from i t earlier)
+      (real_in (get_or blocks t []) i (paired_in e i (seen t) (reals t) is).1))
+  clause_true (match_is_real i e t) h =
+      two_negations (stands net pieces (before ∷ blocks) i e (suc t)) (truth (dropped i)) (λ is other. stands_real i e t is other)
   clause_true (done_by_match i t) h =
-      c_either (coded net log pieces blocks value (done i (suc t))) (coded net log pieces blocks value (done i t))
-      (list_any (named_true (coded net log pieces blocks value)) (map (λ e. yes (matches i e (suc t))) (matching_events net log i))) (λ is.
-      by (append_cases (joined (take t blocks)) (get_or blocks t []) i (subst (λ xs. Contains xs i) (next t h.1) (done_from i (suc t) is))))
+      subst (λ b. not (truth (done i (suc t))) || (truth (done i t) || b) ≡ true) (sym (or_false_is log truth i (map (λ e. yes (matches i e (suc t))) (matching_events net log i))))
+      (c_either (truth (done i (suc t))) (truth (done i t)) (is_false log truth i || list_any (named_true truth) (map (λ e. yes (matches i e (suc t))) (matching_events net log i))) (λ is.
+      by (append_cases (joined (take (suc t) steps)) (alarms_of (get_or blocks t [])) i (subst (λ xs. Contains xs i) (next t h.1) (done_from i (suc t) is)))))
     where
-      by : Contains (joined (take t blocks)) i ⊎ Contains (get_or blocks t []) i →
-          (coded net log pieces blocks value (done i t) ≡ true) ⊎ (list_any (named_true (coded net log pieces blocks value)) (map (λ e. yes (matches i e (suc t))) (matching_events net log i)) ≡ true)
+      by : Contains (joined (take (suc t) steps)) i ⊎ Contains (alarms_of (get_or blocks t [])) i →
+          (truth (done i t) ≡ true) ⊎ (is_false log truth i || list_any (named_true truth) (map (λ e. yes (matches i e (suc t))) (matching_events net log i)) ≡ true)
       by (inl early) = inl (done_to i t early)
-      by (inr now) =
-          let found' = partner_back (Shows net log) i (observables net (get_or pieces t [])) (get_or blocks t []) (zipped t h.1) now in
-          inr (mapped (coded net log pieces blocks value) (λ e. matches i e (suc t)) (matching_events net log i) found'.0 (has_event net log found'.0 i (stands_match i found'.0 t h.1 found'.1)) found'.1)
+      by (inr now) = inr (at (block_split i t h.1 now))
+        where
+          at : (is_false log truth i ≡ true) ⊎ ((e : ℕ) × (is_matching net log e i ≡ true) × (stands net pieces (before ∷ blocks) i e (suc t) ≡ true)) →
+              is_false log truth i || list_any (named_true truth) (map (λ e. yes (matches i e (suc t))) (matching_events net log i)) ≡ true
+          at (inl false') = or_left (is_false log truth i) (list_any (named_true truth) (map (λ e. yes (matches i e (suc t))) (matching_events net log i))) false'
+          at (inr (e, matching, is)) =
+              or_right (is_false log truth i) (list_any (named_true truth) (map (λ f. yes (matches i f (suc t))) (matching_events net log i)))
+              (mapped truth (λ f. matches i f (suc t)) (matching_events net log i) e (has_event net log e i matching) is)
   clause_true (one_match i e f t) h =
-      two_negations (stands net pieces blocks i e (suc t)) (stands net pieces blocks i f (suc t)) (λ is other.
-      let same = same_event e f i (observables net (get_or pieces t [])) (get_or blocks t []) (block_once blocks t once) is other in
+      two_negations (stands net pieces (before ∷ blocks) i e (suc t)) (stands net pieces (before ∷ blocks) i f (suc t)) (λ is other.
+      let same = same_event e f i (seen t) (reals t) (reals_once t) is other in
       let less = h.2 in omega (arith, same, less))
   clause_true (done_if_asked i) h =
-      or_left (coded net log pieces blocks value (done i (length pieces))) false
-      (done_to i (length pieces) (subst (λ xs. Contains (joined xs) i) (sym (take_all (length pieces) blocks (omega (arith, same_length)))) (each i h)))
+      or_left (truth (done i (length pieces))) false
+      (done_to i (length pieces) (subst (λ xs. Contains (joined xs) i) (sym (take_all (suc (length pieces)) steps (omega (arith, step_count)))) (each i h)))
   clause_true (before_if_asked i j t) h =
-      c_implied (coded net log pieces blocks value (done j (suc t))) (coded net log pieces blocks value (done i (suc t))) (λ is.
-      let whole = front_and_rest blocks (suc t) in
+      c_implied (truth (done j t)) (truth (done i t)) (λ is.
+      let whole = front_and_rest steps (suc t) in
       let less = subst (λ xs. place_in xs i < place_in xs j) whole (kept i j h.0) in
-      let inside = place_inside (joined (take (suc t) blocks)) (joined (drop (suc t) blocks)) j (done_from j (suc t) is) in
-      done_to i (suc t) (inside_place (joined (take (suc t) blocks)) (joined (drop (suc t) blocks)) i (omega (arith, less, inside))))
+      let inside = place_inside (joined (take (suc t) steps)) (joined (drop (suc t) steps)) j (done_from j t is) in
+      done_to i t (inside_place (joined (take (suc t) steps)) (joined (drop (suc t) steps)) i (omega (arith, less, inside))))
 
-  guards_true : GuardsHold net log (coded net log pieces blocks value)
+  guards_true : GuardsHold net log (coded net log pieces (before ∷ blocks) value)
   guards_true = (refl, shut (filter (λ e. is_some (label_of net e)) (numbers_below (length net.events))))
     where
-      shut : (es : List ℕ) → AllByRecursion (λ m. IsTrue (named_true (coded net log pieces blocks value) m)) (map (λ e. yes (closed e (length (chain net log e)))) es)
+      shut : (es : List ℕ) → AllByRecursion (λ m. IsTrue (named_true (coded net log pieces (before ∷ blocks) value) m)) (map (λ e. yes (closed e (length (chain net log e)))) es)
       shut [] = tt
       shut (e ∷ es) = (eq-eqb (length (chain net log e)) (length (chain net log e)) refl, shut es)
 
-differs : (net : Net) (log : Log) (pieces blocks : List (List ℕ)) (given : Name → Bool) → DifferInLog given (coded net log pieces blocks given)
+differs : (net : Net) (log : Log) (pieces : List (List ℕ)) (blocks : List (List Entry)) (given : Name → Bool) → DifferInLog given (coded net log pieces blocks given)
 differs net log pieces blocks given (in_state c q t) h = refl
 differs net log pieces blocks given (happens e t) h = refl
 differs net log pieces blocks given asked h = cc
@@ -197,24 +285,31 @@ differs net log pieces blocks given (matches i e t) h = cc
 differs net log pieces blocks given (done i t) h = cc
 differs net log pieces blocks given (unmatched e k t) h = cc
 differs net log pieces blocks given (closed e k) h = cc
+differs net log pieces blocks given (dropped i) h = cc
 differs net log pieces blocks given (reaches i j) h = refl
 differs net log pieces blocks given (some_of_first family i) h = refl
 
-complete_from : (net : Net) (log : Log) (given : Name → Bool) (pieces : List (List ℕ)) (order : List ℕ) → AreFrom net given 0 pieces → Linearises net log (joined pieces) order →
-    (value : Name → Bool) × DifferInLog given value × LogClausesHold net log (length pieces) value × GuardsHold net log value
+complete_from : (net : Net) (log : Log) (given : Name → Bool) (pieces : List (List ℕ)) (order : List Entry) → AreFrom net given 0 pieces → Linearises net log (joined pieces) order →
+    (value : Name → Bool) × DifferInLog given value × LogClausesHold net log (length pieces) value × GuardsHold net log value × HasFalse log value order
 complete_from net log given pieces order are linear =
     let cut = cut_order net log pieces order linear.shown in
-    let once = subst (λ xs. EachPair (λ i j. i ≢ j) xs) cut.whole linear.complete.once in
-    let each : (i : ℕ) → i < length log.alarms → Contains (joined cut.blocks) i = λ i known. subst (λ xs. Contains xs i) cut.whole (linear.complete.each i known) in
-    let kept : (i j : ℕ) → Contains log.pairs (i, j) → place_in (joined cut.blocks) i < place_in (joined cut.blocks) j =
-    λ i j in'. subst (λ xs. place_in xs i < place_in xs j) cut.whole (all_at (λ (p : ℕ × ℕ). place_in order p.0 < place_in order p.1) log.pairs linear.kept (i, j) in') in (
-      coded net log pieces cut.blocks given,
-      differs net log pieces cut.blocks given,
-      clause_true net log given pieces are cut.blocks cut.matched once each kept,
-      guards_true net log given pieces are cut.blocks cut.matched once each kept,
+    let same : alarms_of order ≡ joined (map alarms_of (cut.before ∷ cut.blocks)) = ap alarms_of cut.whole ∙ joined_alarms (cut.before ∷ cut.blocks) in
+    let once = subst (λ xs. EachPair (λ i j. i ≢ j) xs) same linear.complete.once in
+    let each : (i : ℕ) → i < length log.alarms → Contains (joined (map alarms_of (cut.before ∷ cut.blocks))) i = λ i known. subst (λ xs. Contains xs i) same (linear.complete.each i known) in
+    let kept : (i j : ℕ) → Contains log.pairs (i, j) → place_in (joined (map alarms_of (cut.before ∷ cut.blocks))) i < place_in (joined (map alarms_of (cut.before ∷ cut.blocks))) j =
+    λ i j in'. subst (λ xs. place_in xs i < place_in xs j) same (all_at (λ (p : ℕ × ℕ). place_in (alarms_of order) p.0 < place_in (alarms_of order) p.1) log.pairs linear.kept (i, j) in') in
+    let doubted : (entry : Entry) → Contains (flat_map (λ block. block) (cut.before ∷ cut.blocks)) entry → may_stand log entry ≡ true =
+    λ entry in'. all_at (λ e. may_stand log e ≡ true) order linear.doubted entry (subst (λ xs. Contains xs entry) (sym cut.whole) in') in (
+      coded net log pieces (cut.before ∷ cut.blocks) given,
+      differs net log pieces (cut.before ∷ cut.blocks) given,
+      clause_true net log given pieces are cut.before cut.blocks cut.none cut.matched doubted once each kept,
+      guards_true net log given pieces are cut.before cut.blocks cut.none cut.matched doubted once each kept,
+      has_false log (coded net log pieces (cut.before ∷ cut.blocks) given) order linear.complete
+          (all_of (λ entry. entry.real ≡ not (is_false log (coded net log pieces (cut.before ∷ cut.blocks) given) entry.alarm)) order
+          (λ entry in'. told net log given pieces are cut.before cut.blocks cut.none cut.matched doubted once each kept entry (subst (λ xs. Contains xs entry) cut.whole in'))),
     )
 
 pub log_is_complete : LogIsComplete
 log_is_complete net log n given pieces order are linear =
     let from = (pieces_are_steps net n given pieces).0 are in
-    subst (λ m. (value : Name → Bool) × DifferInLog given value × LogClausesHold net log m value × GuardsHold net log value) from.0 (complete_from net log given pieces order from.1 linear)
+    subst (λ m. (value : Name → Bool) × DifferInLog given value × LogClausesHold net log m value × GuardsHold net log value × HasFalse log value order) from.0 (complete_from net log given pieces order from.1 linear)

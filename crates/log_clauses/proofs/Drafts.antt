@@ -1,5 +1,5 @@
 -- The listed clauses of an addition are those that it brings.
-use Rattle.std.proofs.Common.{◌≡◌, ℕ, zero, suc, ◌+◌, ◌*◌, ◌^◌, ◌<◌, ◌≤◌, Bool, true, List, [], ◌∷◌, ◌++◌, ◌∙◌, length, refl, sym, ap, subst, arith, Contains, map, flat_map, inl, inr, ◌⊎◌, ◌↔◌, is_some, count_by, length-append, sum_by}
+use Rattle.std.proofs.Common.{◌≡◌, ℕ, zero, suc, ◌+◌, ◌*◌, ◌^◌, ◌<◌, ◌≤◌, Bool, true, false, cond, List, [], ◌∷◌, ◌++◌, ◌∙◌, length, refl, sym, ap, subst, arith, Contains, map, flat_map, inl, inr, ◌⊎◌, ◌↔◌, is_some, count_by, length-append, sum_by}
 use Rattle.std.specs.List.{AllByRecursion, AllZip, range_with_len}
 use Rattle.std.proofs.lemmas.List.{length-map}
 use Rattle.std.proofs.lemmas.List.Sums.{length-filter, sum_by-append, sum_by-cons}
@@ -10,15 +10,15 @@ use Rattle.des_net.specs.Network.{Net, label_of}
 use Rattle.des_net.specs.QuestionSize.{touching_count, fault_event_count}
 use Rattle.log_clauses.proofs.Lists.{flat_has, flat_from, map_has, map_from, cons_cases, here_first, here_later, none_in_nil, all_of, all_at, append_cases, append_left, append_right, filter_has, filter_from, range_from, pairs_filter}
 use Rattle.log_clauses.proofs.Rules.{has_event, event_matches, shown_event}
-use Rattle.log_clauses.proofs.Stay.{with_alarm, with_pair, range_more, matching_same}
+use Rattle.log_clauses.proofs.Stay.{with_alarm, with_pair, range_more, matching_same, doubtful_same, doubtful_new}
 use Rattle.log_clauses.specs.Additions.{Addition, alarm_added, pair_added, with_addition, IsTaken, IsAlarmClause, IsAddedClause, IsFirstClause}
-use Rattle.log_clauses.specs.Drafts.{taken_events, link_clauses, match_clauses, done_clauses, alarm_clauses, added_clauses, first_clauses, DraftsAreCode, DraftsAreSmall, FirstClausesAreFew}
-use Rattle.log_clauses.specs.LogClauses.{chain, observable_events, LogClause, log_clause, chain_closed, takes_rest, uses_up, passes_on, taken_or_passed, not_done_first, stays_done, match_is_done, matched_once, done_by_match, one_match, done_if_asked, before_if_asked}
-use Rattle.log_order.specs.Log.{Log, Alarm, no_log}
+use Rattle.log_clauses.specs.Drafts.{taken_events, link_clauses, match_clauses, done_clauses, alarm_clauses, real_clauses, added_clauses, first_clauses, DraftsAreCode, DraftsAreSmall, FirstClausesAreFew}
+use Rattle.log_clauses.specs.LogClauses.{chain, observable_events, LogClause, log_clause, chain_closed, takes_rest, uses_up, passes_on, taken_or_passed, not_done_first, stays_done, match_is_done, matched_once, match_is_real, done_by_match, one_match, done_if_asked, before_if_asked}
+use Rattle.log_order.specs.Log.{Log, Alarm, no_log, is_doubtful}
 use Rattle.prop_core.specs.Clauses.{Clause}
 use Rattle.prop_core.specs.NamedClauses.{IsCode}
 use Rattle.prop_core.specs.VariableNames.{Name, NamedLiteral, ReadsAs}
-use Rattle.replay.specs.QuestionSize.{is_matching, question_size, matching_count}
+use Rattle.replay.specs.QuestionSize.{is_matching, question_size, matching_count, doubtful_count}
 use Rattle.run_clauses.specs.StepClauses.{numbers_below, state_count}
 use Rattle.run_clauses.proofs.Lists.{from_numbers, in_numbers}
 
@@ -140,66 +140,92 @@ module _ (net : Net) (log : Log) (n : ℕ) (new : Alarm) where
           (link_wanted event.0 step.0 (taken_is event.0 event.1) (from_numbers n step.0 step.1)) which step.2
       by (inr there) = after (cons_cases (not_done_first (length log.alarms)) (done_if_asked (length log.alarms) ∷ flat_map (done_clauses (length log.alarms) (taken_events net log new)) (numbers_below n)) which there)
 
+  in_alarm : (which : LogClause) → Contains (alarm_clauses net log n new) which → Contains (added_clauses net log n (alarm_added new)) which
+  in_alarm which there = append_left (alarm_clauses net log n new) (real_clauses new.doubtful (length log.alarms) (taken_events net log new) n) which there
+
+  real_from : (b : Bool) (which : LogClause) → new.doubtful ≡ b → Contains (real_clauses b (length log.alarms) (taken_events net log new) n) which → IsAlarmClause net log n new which
+  real_from false which e in' = absurd (none_in_nil which in')
+  real_from true which e in' =
+      let event = flat_from (λ f. map (λ t. match_is_real (length log.alarms) f t) (numbers_below n)) (taken_events net log new) which in' in
+      let step = map_from (λ t. match_is_real (length log.alarms) event.0 t) (numbers_below n) which event.2 in
+      subst (IsAlarmClause net log n new) step.2 (refl, taken_is event.0 event.1, e, from_numbers n step.0 step.1)
+
+  real_has : (b : Bool) (e t : ℕ) → b ≡ true → IsTaken net log new e → t < n → Contains (real_clauses b (length log.alarms) (taken_events net log new) n) (match_is_real (length log.alarms) e t)
+  real_has false e t is h step = cc
+  real_has true e t is h step =
+      flat_has (λ f. map (λ s. match_is_real (length log.alarms) f s) (numbers_below n)) (taken_events net log new) e (match_is_real (length log.alarms) e t) (is_taken e h)
+      (map_has (λ s. match_is_real (length log.alarms) e s) (numbers_below n) t (in_numbers n t step))
+
+  added_wanted : (which : LogClause) → Contains (added_clauses net log n (alarm_added new)) which → IsAlarmClause net log n new which
+  added_wanted which in' = by (append_cases (alarm_clauses net log n new) (real_clauses new.doubtful (length log.alarms) (taken_events net log new) n) which in')
+    where
+      by : Contains (alarm_clauses net log n new) which ⊎ Contains (real_clauses new.doubtful (length log.alarms) (taken_events net log new) n) which → IsAlarmClause net log n new which
+      by (inl a) = listed_wanted which a
+      by (inr b) = real_from new.doubtful which refl b
+
   -- where a link's clause stands
-  in_links : (e t : ℕ) (which : LogClause) → IsTaken net log new e → t < n → Contains (link_clauses (length log.alarms) e (length (chain net log e)) t) which → Contains (alarm_clauses net log n new) which
+  in_links : (e t : ℕ) (which : LogClause) → IsTaken net log new e → t < n → Contains (link_clauses (length log.alarms) e (length (chain net log e)) t) which → Contains (added_clauses net log n (alarm_added new)) which
   in_links e t which taken step there =
-      append_left (flat_map (λ f. flat_map (link_clauses (length log.alarms) f (length (chain net log f))) (numbers_below n)) (taken_events net log new))
+      in_alarm which (append_left (flat_map (λ f. flat_map (link_clauses (length log.alarms) f (length (chain net log f))) (numbers_below n)) (taken_events net log new))
       (not_done_first (length log.alarms) ∷ done_if_asked (length log.alarms) ∷ flat_map (done_clauses (length log.alarms) (taken_events net log new)) (numbers_below n)) which
       (flat_has (λ f. flat_map (link_clauses (length log.alarms) f (length (chain net log f))) (numbers_below n)) (taken_events net log new) e which (is_taken e taken)
-      (flat_has (link_clauses (length log.alarms) e (length (chain net log e))) (numbers_below n) t which (in_numbers n t step) there))
+      (flat_has (link_clauses (length log.alarms) e (length (chain net log e))) (numbers_below n) t which (in_numbers n t step) there)))
 
   in_rest : (which : LogClause) → Contains (not_done_first (length log.alarms) ∷ done_if_asked (length log.alarms) ∷ flat_map (done_clauses (length log.alarms) (taken_events net log new)) (numbers_below n)) which →
-      Contains (alarm_clauses net log n new) which
+      Contains (added_clauses net log n (alarm_added new)) which
   in_rest which there =
-      append_right (flat_map (λ f. flat_map (link_clauses (length log.alarms) f (length (chain net log f))) (numbers_below n)) (taken_events net log new))
-      (not_done_first (length log.alarms) ∷ done_if_asked (length log.alarms) ∷ flat_map (done_clauses (length log.alarms) (taken_events net log new)) (numbers_below n)) which there
+      in_alarm which (append_right (flat_map (λ f. flat_map (link_clauses (length log.alarms) f (length (chain net log f))) (numbers_below n)) (taken_events net log new))
+      (not_done_first (length log.alarms) ∷ done_if_asked (length log.alarms) ∷ flat_map (done_clauses (length log.alarms) (taken_events net log new)) (numbers_below n)) which there)
 
-  in_steps : (t : ℕ) (which : LogClause) → t < n → Contains (done_clauses (length log.alarms) (taken_events net log new) t) which → Contains (alarm_clauses net log n new) which
+  in_steps : (t : ℕ) (which : LogClause) → t < n → Contains (done_clauses (length log.alarms) (taken_events net log new) t) which → Contains (added_clauses net log n (alarm_added new)) which
   in_steps t which step there =
       in_rest which (here_later (not_done_first (length log.alarms)) (done_if_asked (length log.alarms) ∷ flat_map (done_clauses (length log.alarms) (taken_events net log new)) (numbers_below n)) which
       (here_later (done_if_asked (length log.alarms)) (flat_map (done_clauses (length log.alarms) (taken_events net log new)) (numbers_below n)) which
       (flat_has (done_clauses (length log.alarms) (taken_events net log new)) (numbers_below n) t which (in_numbers n t step) there)))
 
-  wanted_listed : (which : LogClause) → IsAlarmClause net log n new which → Contains (alarm_clauses net log n new) which
+  wanted_listed : (which : LogClause) → IsAlarmClause net log n new which → Contains (added_clauses net log n (alarm_added new)) which
   wanted_listed (chain_closed e k t) h =
-      subst (λ x. Contains (alarm_clauses net log n new) (chain_closed e x t)) (sym h.0)
+      subst (λ x. Contains (added_clauses net log n (alarm_added new)) (chain_closed e x t)) (sym h.0)
       (in_links e t (chain_closed e (suc (length (chain net log e))) t) h.1 h.2 (0, omega arith, refl))
   wanted_listed (takes_rest i e k t) h =
-      subst (λ x. Contains (alarm_clauses net log n new) (takes_rest x e k t)) (sym h.0.0)
-      (subst (λ x. Contains (alarm_clauses net log n new) (takes_rest (length log.alarms) e x t)) (sym h.0.1)
+      subst (λ x. Contains (added_clauses net log n (alarm_added new)) (takes_rest x e k t)) (sym h.0.0)
+      (subst (λ x. Contains (added_clauses net log n (alarm_added new)) (takes_rest (length log.alarms) e x t)) (sym h.0.1)
       (in_links e t (takes_rest (length log.alarms) e (length (chain net log e)) t) h.0.2 h.1 (1, omega arith, refl)))
   wanted_listed (uses_up i e k t) h =
-      subst (λ x. Contains (alarm_clauses net log n new) (uses_up x e k t)) (sym h.0.0)
-      (subst (λ x. Contains (alarm_clauses net log n new) (uses_up (length log.alarms) e x t)) (sym h.0.1)
+      subst (λ x. Contains (added_clauses net log n (alarm_added new)) (uses_up x e k t)) (sym h.0.0)
+      (subst (λ x. Contains (added_clauses net log n (alarm_added new)) (uses_up (length log.alarms) e x t)) (sym h.0.1)
       (in_links e t (uses_up (length log.alarms) e (length (chain net log e)) t) h.0.2 h.1 (2, omega arith, refl)))
   wanted_listed (passes_on e k t) h =
-      subst (λ x. Contains (alarm_clauses net log n new) (passes_on e x t)) (sym h.0)
+      subst (λ x. Contains (added_clauses net log n (alarm_added new)) (passes_on e x t)) (sym h.0)
       (in_links e t (passes_on e (length (chain net log e)) t) h.1 h.2 (3, omega arith, refl))
   wanted_listed (taken_or_passed i e k t) h =
-      subst (λ x. Contains (alarm_clauses net log n new) (taken_or_passed x e k t)) (sym h.0.0)
-      (subst (λ x. Contains (alarm_clauses net log n new) (taken_or_passed (length log.alarms) e x t)) (sym h.0.1)
+      subst (λ x. Contains (added_clauses net log n (alarm_added new)) (taken_or_passed x e k t)) (sym h.0.0)
+      (subst (λ x. Contains (added_clauses net log n (alarm_added new)) (taken_or_passed (length log.alarms) e x t)) (sym h.0.1)
       (in_links e t (taken_or_passed (length log.alarms) e (length (chain net log e)) t) h.0.2 h.1 (4, omega arith, refl)))
-  wanted_listed (not_done_first i) h = subst (λ x. Contains (alarm_clauses net log n new) (not_done_first x)) (sym h) (in_rest (not_done_first (length log.alarms)) (0, omega arith, refl))
-  wanted_listed (stays_done i t) h = subst (λ x. Contains (alarm_clauses net log n new) (stays_done x t)) (sym h.0) (in_steps t (stays_done (length log.alarms) t) h.1 (0, omega arith, refl))
+  wanted_listed (not_done_first i) h = subst (λ x. Contains (added_clauses net log n (alarm_added new)) (not_done_first x)) (sym h) (in_rest (not_done_first (length log.alarms)) (0, omega arith, refl))
+  wanted_listed (stays_done i t) h = subst (λ x. Contains (added_clauses net log n (alarm_added new)) (stays_done x t)) (sym h.0) (in_steps t (stays_done (length log.alarms) t) h.1 (0, omega arith, refl))
   wanted_listed (match_is_done i e t) h =
-      subst (λ x. Contains (alarm_clauses net log n new) (match_is_done x e t)) (sym h.0) (in_links e t (match_is_done (length log.alarms) e t) h.1 h.2 (5, omega arith, refl))
+      subst (λ x. Contains (added_clauses net log n (alarm_added new)) (match_is_done x e t)) (sym h.0) (in_links e t (match_is_done (length log.alarms) e t) h.1 h.2 (5, omega arith, refl))
   wanted_listed (matched_once i e t) h =
-      subst (λ x. Contains (alarm_clauses net log n new) (matched_once x e t)) (sym h.0) (in_links e t (matched_once (length log.alarms) e t) h.1 h.2 (6, omega arith, refl))
-  wanted_listed (done_by_match i t) h = subst (λ x. Contains (alarm_clauses net log n new) (done_by_match x t)) (sym h.0) (in_steps t (done_by_match (length log.alarms) t) h.1 (1, omega arith, refl))
+      subst (λ x. Contains (added_clauses net log n (alarm_added new)) (matched_once x e t)) (sym h.0) (in_links e t (matched_once (length log.alarms) e t) h.1 h.2 (6, omega arith, refl))
+  wanted_listed (match_is_real i e t) h =
+      subst (λ x. Contains (added_clauses net log n (alarm_added new)) (match_is_real x e t)) (sym h.0)
+      (append_right (alarm_clauses net log n new) (real_clauses new.doubtful (length log.alarms) (taken_events net log new) n) (match_is_real (length log.alarms) e t) (real_has new.doubtful e t h.2 h.1 h.3))
+  wanted_listed (done_by_match i t) h = subst (λ x. Contains (added_clauses net log n (alarm_added new)) (done_by_match x t)) (sym h.0) (in_steps t (done_by_match (length log.alarms) t) h.1 (1, omega arith, refl))
   wanted_listed (one_match i e f t) h =
-      subst (λ x. Contains (alarm_clauses net log n new) (one_match x e f t)) (sym h.0)
+      subst (λ x. Contains (added_clauses net log n (alarm_added new)) (one_match x e f t)) (sym h.0)
       (in_steps t (one_match (length log.alarms) e f t) h.4
       (here_later (stays_done (length log.alarms) t) (done_by_match (length log.alarms) t ∷ match_clauses (length log.alarms) t (taken_events net log new)) (one_match (length log.alarms) e f t)
       (here_later (done_by_match (length log.alarms) t) (match_clauses (length log.alarms) t (taken_events net log new)) (one_match (length log.alarms) e f t)
       (match_has (length log.alarms) t (taken_events net log new) e f up (is_taken e h.1) (is_taken f h.2) h.3))))
-  wanted_listed (done_if_asked i) h = subst (λ x. Contains (alarm_clauses net log n new) (done_if_asked x)) (sym h) (in_rest (done_if_asked (length log.alarms)) (1, omega arith, refl))
+  wanted_listed (done_if_asked i) h = subst (λ x. Contains (added_clauses net log n (alarm_added new)) (done_if_asked x)) (sym h) (in_rest (done_if_asked (length log.alarms)) (1, omega arith, refl))
   wanted_listed (before_if_asked i j t) h = absurd h
 
 added_listed : (net : Net) (log : Log) (n : ℕ) (addition : Addition) (which : LogClause) → Contains (added_clauses net log n addition) which ↔ IsAddedClause net log n addition which
-added_listed net log n (alarm_added new) which = (listed_wanted net log n new which, wanted_listed net log n new which)
+added_listed net log n (alarm_added new) which = (added_wanted net log n new which, wanted_listed net log n new which)
 added_listed net log n (pair_added i j) which = (
-  λ in'. let found = map_from (λ t. before_if_asked i j t) (numbers_below n) which in' in (found.0, from_numbers n found.0 found.1, sym found.2),
-  λ h. subst (λ w. Contains (map (λ t. before_if_asked i j t) (numbers_below n)) w) (sym h.2) (map_has (λ t. before_if_asked i j t) (numbers_below n) h.0 (in_numbers n h.0 h.1)),
+  λ in'. let found = map_from (λ t. before_if_asked i j t) (numbers_below (suc n)) which in' in let below = from_numbers (suc n) found.0 found.1 in (found.0, omega (arith, below), sym found.2),
+  λ h. let low = h.1 in subst (λ w. Contains (map (λ t. before_if_asked i j t) (numbers_below (suc n))) w) (sym h.2) (map_has (λ t. before_if_asked i j t) (numbers_below (suc n)) h.0 (in_numbers (suc n) h.0 (omega (arith, low)))),
 )
 
 first_listed : (net : Net) (n : ℕ) (which : LogClause) → Contains (first_clauses net n) which ↔ IsFirstClause net n which
@@ -241,15 +267,15 @@ square : (m : ℕ) → m ≤ m * m
 square zero = omega arith
 square (suc m) = omega arith
 
-few_clauses : (n m l : ℕ) → l + l + m ≡ m * m → m * (n * 7) + (2 + n * (2 + l)) ≤ 12 * (n * (m * m + 1)) + 12
-few_clauses n m l h =
+few_clauses : (n m l r : ℕ) → l + l + m ≡ m * m → r ≤ m * n → m * (n * 7) + (2 + n * (2 + l)) + r ≤ 12 * (n * (m * m + 1)) + 12
+few_clauses n m l r h real =
     let more = square m in
-    let each : 7 * m + (2 + l) ≤ 12 * (m * m + 1) = omega (arith, more, h) in
+    let each : 8 * m + (2 + l) ≤ 12 * (m * m + 1) = omega (arith, more, h) in
     let all = mul-le-mul_left n each in
-    omega (arith, all)
+    omega (arith, all, real)
 
-grows : (n q s r d f a : ℕ) → a ≤ 12 * (n * d) + 12 → a + 12 * (n * (q + s + r) + f) ≤ 12 * (n * (q + (s + d) + r) + f) + 12
-grows n q s r d f a h = omega arith
+grows : (n q s r d f g o a : ℕ) → a ≤ 12 * (n * d) + 12 → a + 12 * (n * (q + s + r) + (f + 256 * g)) ≤ 12 * (n * (q + (s + d) + r) + (f + 256 * (g + o))) + 12
+grows n q s r d f g o a h = omega arith
 
 sum_agree : (g h : ℕ → ℕ) (xs : List ℕ) → ((x : ℕ) → Contains xs x → g x ≡ h x) → sum_by g xs ≡ sum_by h xs
 sum_agree g h [] same = refl
@@ -299,41 +325,58 @@ module _ (net : Net) (log : Log) (n : ℕ) (new : Alarm) where
       (not_done_first (length log.alarms) ∷ done_if_asked (length log.alarms) ∷ flat_map (done_clauses (length log.alarms) (taken_events net log new)) (numbers_below n)) in
       omega (arith, range, front, back, whole, moved)
 
-  few : length (alarm_clauses net log n new) ≤ 12 * (n * (matching_count net (with_alarm log new) (length log.alarms) ^ 2 + 1)) + 12
+  pub longer : length (log.alarms ++ new ∷ []) ≡ suc (length log.alarms)
+  longer = omega (arith, length-append log.alarms (new ∷ []))
+
+  real_size : (b : Bool) → length (real_clauses b (length log.alarms) (taken_events net log new) n) ≤ length (taken_events net log new) * n
+  real_size false = omega arith
+  real_size true =
+      let range = length-range_with_len 0 n in
+      let all = flat_length (λ e. map (λ t. match_is_real (length log.alarms) e t) (numbers_below n)) (taken_events net log new) n (λ e. length-map (numbers_below n) (λ t. match_is_real (length log.alarms) e t) ∙ range) in
+      omega (arith, all)
+
+  -- a doubtful alarm is one more
+  pub doubtful_more : doubtful_count (with_alarm log new) ≡ doubtful_count log + cond new.doubtful 1 0
+  doubtful_more =
+      ap (λ k. count_by (is_doubtful (with_alarm log new)) (numbers_below k)) longer
+      ∙ sum_more (λ i. cond (is_doubtful (with_alarm log new) i) 1 0) (λ i. cond (is_doubtful log i) 1 0) (length log.alarms) (λ i h. ap {B = ℕ} (λ b. cond b 1 0) (doubtful_same log new i h))
+      ∙ ap {B = ℕ} (λ b. doubtful_count log + cond b 1 0) (doubtful_new log new)
+
+  few : length (added_clauses net log n (alarm_added new)) ≤ 12 * (n * (matching_count net (with_alarm log new) (length log.alarms) ^ 2 + 1)) + 12
   few =
       let size = alarm_size in
       let pairs = match_size (length log.alarms) 0 (taken_events net log new) in
-      let bound = few_clauses n (length (taken_events net log new)) (length (match_clauses (length log.alarms) 0 (taken_events net log new))) pairs in
+      let real = real_size new.doubtful in
+      let whole = length-append (alarm_clauses net log n new) (real_clauses new.doubtful (length log.alarms) (taken_events net log new) n) in
+      let bound = few_clauses n (length (taken_events net log new)) (length (match_clauses (length log.alarms) 0 (taken_events net log new)))
+      (length (real_clauses new.doubtful (length log.alarms) (taken_events net log new) n)) pairs real in
       let squares = square_is (length (taken_events net log new)) in
       let same : length (taken_events net log new) * length (taken_events net log new) + 1 ≡ matching_count net (with_alarm log new) (length log.alarms) ^ 2 + 1 =
       ap (λ k. k + 1) (sym squares ∙ ap (λ k. k ^ 2) taken_count) in
       let moved = ap (λ k. 12 * (n * k) + 12) same in
-      omega (arith, size, bound, moved)
+      omega (arith, size, whole, bound, moved)
 
-  pub longer : length (log.alarms ++ new ∷ []) ≡ suc (length log.alarms)
-  longer = omega (arith, length-append log.alarms (new ∷ []))
-
-  pub alarm_small : length (alarm_clauses net log n new) + 12 * question_size net log n ≤ 12 * question_size net (with_alarm log new) n + 12
+  pub alarm_small : length (added_clauses net log n (alarm_added new)) + 12 * question_size net log n ≤ 12 * question_size net (with_alarm log new) n + 12
   alarm_small =
       let sum : sum_by (λ i. matching_count net (with_alarm log new) i ^ 2 + 1) (numbers_below (length (log.alarms ++ new ∷ []))) ≡
       sum_by (λ i. matching_count net log i ^ 2 + 1) (numbers_below (length log.alarms)) + (matching_count net (with_alarm log new) (length log.alarms) ^ 2 + 1) =
       ap (λ k. sum_by (λ i. matching_count net (with_alarm log new) i ^ 2 + 1) (numbers_below k)) longer
       ∙ sum_more (λ i. matching_count net (with_alarm log new) i ^ 2 + 1) (λ i. matching_count net log i ^ 2 + 1) (length log.alarms) (λ i h. ap (λ k. k ^ 2 + 1) (same_count i h)) in
-      rw sum (grows n (sum_by (λ c. (state_count net c + touching_count net c) ^ 2) (numbers_below (length net.components)))
+      rw (sum, doubtful_more) (grows n (sum_by (λ c. (state_count net c + touching_count net c) ^ 2) (numbers_below (length net.components)))
       (sum_by (λ i. matching_count net log i ^ 2 + 1) (numbers_below (length log.alarms))) (length log.pairs)
-      (matching_count net (with_alarm log new) (length log.alarms) ^ 2 + 1) (256 * n * fault_event_count net) (length (alarm_clauses net log n new)) few)
+      (matching_count net (with_alarm log new) (length log.alarms) ^ 2 + 1) (256 * n * fault_event_count net) (doubtful_count log) (cond new.doubtful 1 0) (length (added_clauses net log n (alarm_added new))) few)
 
-pair_grows : (n q s r f a : ℕ) → a ≤ n → a + 12 * (n * (q + s + r) + f) ≤ 12 * (n * (q + s + (r + 1)) + f) + 12
+pair_grows : (n q s r f a : ℕ) → a ≤ suc n → a + 12 * (n * (q + s + r) + f) ≤ 12 * (n * (q + s + (r + 1)) + f) + 12
 pair_grows n q s r f a h = omega arith
 
-pub pair_small : (net : Net) (log : Log) (n i j : ℕ) → length (map (λ t. before_if_asked i j t) (numbers_below n)) + 12 * question_size net log n ≤ 12 * question_size net (with_pair log i j) n + 12
+pub pair_small : (net : Net) (log : Log) (n i j : ℕ) → length (map (λ t. before_if_asked i j t) (numbers_below (suc n))) + 12 * question_size net log n ≤ 12 * question_size net (with_pair log i j) n + 12
 pair_small net log n i j =
-    let size = length-map (numbers_below n) (λ t. before_if_asked i j t) in
-    let range = length-range_with_len 0 n in
+    let size = length-map (numbers_below (suc n)) (λ t. before_if_asked i j t) in
+    let range = length-range_with_len 0 (suc n) in
     let longer : length (log.pairs ++ (i, j) ∷ []) ≡ length log.pairs + 1 = omega (arith, length-append log.pairs ((i, j) ∷ [])) in
     rw longer (pair_grows n (sum_by (λ c. (state_count net c + touching_count net c) ^ 2) (numbers_below (length net.components)))
-    (sum_by (λ k. matching_count net log k ^ 2 + 1) (numbers_below (length log.alarms))) (length log.pairs) (256 * n * fault_event_count net)
-    (length (map (λ t. before_if_asked i j t) (numbers_below n))) (omega (arith, size, range)))
+    (sum_by (λ k. matching_count net log k ^ 2 + 1) (numbers_below (length log.alarms))) (length log.pairs) (256 * n * fault_event_count net + 256 * doubtful_count log)
+    (length (map (λ t. before_if_asked i j t) (numbers_below (suc n)))) (omega (arith, size, range)))
 
 pub drafts_are_small : DraftsAreSmall
 drafts_are_small net log n (alarm_added new) = alarm_small net log n new

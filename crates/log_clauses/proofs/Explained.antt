@@ -1,32 +1,35 @@
 -- The code of a log under assignments of variables.
-use Rattle.std.proofs.Common.{◌≡◌, ◌∙◌, ℕ, suc, ◌<◌, Bool, true, false, List, [], ◌∷◌, Option, Some, None, refl, sym, ap, subst, arith, Contains, IsTrue, option_map, unwrap_or, length}
+use Rattle.std.proofs.Common.{◌≡◌, ◌∙◌, ℕ, suc, ◌<◌, ◌≤◌, Bool, true, false, List, [], ◌∷◌, inl, inr, ◌⊎◌, cond, count_by, Option, Some, None, refl, sym, ap, subst, arith, Contains, IsTrue, option_map, unwrap_or, length}
 use Rattle.std.specs.List.{list_any}
+use Rattle.std.proofs.lemmas.Bool.{cases_lt}
+use Rattle.std.proofs.lemmas.Option.{slice_get_past}
 use Rattle.std.proofs.lemmas.List.Elements.{Contains-get_or}
 use Rattle.des_net.specs.Network.{Net, IsNetwork, IsComponent, IsEvent, no_component, no_event, event_at, component_at, parts_of}
 use Rattle.des_net.specs.declared.parts.Part.{Part}
-use Rattle.log_order.specs.Log.{Log}
+use Rattle.log_order.specs.Log.{Log, Alarm, is_doubtful}
 use Rattle.log_clauses.proofs.Complete.{log_is_complete}
 use Rattle.log_clauses.proofs.Guards.{literals_by_name, read_named}
-use Rattle.log_clauses.proofs.Lists.{all_at, here_first}
+use Rattle.log_clauses.proofs.Lists.{all_at, here_first, here_later}
 use Rattle.log_clauses.proofs.Matches.{matches_are_exact}
 use Rattle.log_clauses.proofs.Open.{log_is_open}
-use Rattle.replay.specs.Explanation.{Linearises}
+use Rattle.replay.specs.Explanation.{Linearises, Entry}
 use Rattle.log_clauses.proofs.Sound.{log_is_sound}
 use Rattle.log_clauses.specs.Coded.{opened}
-use Rattle.log_clauses.specs.LogClauses.{log_clause, guard_literals}
+use Rattle.log_clauses.specs.LogClauses.{log_clause, guard_literals, not_done_first, or_false}
 use Rattle.log_clauses.specs.LogCodeLaws.{IsLogCode, DifferInLogVariables, MakesLogTrue, LogCodeIsExact, IsUnboundedQuestion, ExplanationsAreCoded, AssignmentsExplain, RunsStayOpen}
 use Rattle.log_clauses.specs.LogCodes.{IsNamedLog}
 use Rattle.log_clauses.specs.LogTruth.{LogClausesHold, GuardsHold, is_of_log, DifferInLog}
-use Rattle.log_clauses.specs.Decoded.{decoded}
+use Rattle.log_clauses.specs.Decoded.{is_false, decoded}
+use Rattle.log_clauses.specs.LogLaws.{HasFalse}
 use Rattle.prop_core.proofs.NameLemmas.{values_match, assignments_match, code_holds}
 use Rattle.prop_core.specs.Clauses.{Clause, AllClausesTrue}
 use Rattle.prop_core.specs.NamedClauses.{named_clause_true, Match, value_by, assignment_by, IsCode, AllHold}
-use Rattle.prop_core.specs.VariableNames.{Name, in_state, happens, name_of, no}
+use Rattle.prop_core.specs.VariableNames.{Name, in_state, happens, done, dropped, name_of, yes, no}
 use Rattle.prop_core.specs.declared.lit.Lit.{Lit}
 use Rattle.run_clauses.proofs.Exact.{runs_have_steps, only_steps_matter, sets_in_order, same_sets}
 use Rattle.run_clauses.proofs.Sound.{steps_are_sound}
 use Rattle.run_clauses.proofs.StepCode.{steps_from_all, all_from_steps}
-use Rattle.run_clauses.specs.StepClauses.{StepClause, step_clause, moves}
+use Rattle.run_clauses.specs.StepClauses.{numbers_below, StepClause, step_clause, moves}
 use Rattle.run_clauses.specs.StepCodes.{IsNamedStep}
 use Rattle.run_clauses.specs.Steps.{StepClausesHold, AreSteps, AgreeOnSteps, AgreeOnEvents, step_sets}
 
@@ -35,6 +38,16 @@ log_from_all net log n value all which is = all (log_clause net log n which) (wh
 
 all_from_log : (net : Net) (log : Log) (n : ℕ) (value : Name → Bool) → LogClausesHold net log n value → AllHold (IsNamedLog net log n) value
 all_from_log net log n value holds named (which, is, same) = subst (λ clause. IsTrue (named_clause_true value clause)) same (holds which is)
+
+pub doubtful_below : (log : Log) (i : ℕ) → is_doubtful log i ≡ true → i < length log.alarms
+doubtful_below log i h = by (cases_lt i (length log.alarms))
+  where
+    nothing : false ≡ true → ⊥
+    nothing k = cc
+
+    by : (i < length log.alarms) ⊎ (length log.alarms ≤ i) → i < length log.alarms
+    by (inl below) = below
+    by (inr past) = absurd (nothing (subst (λ o. unwrap_or (option_map (λ (alarm : Alarm). alarm.doubtful) o) false ≡ true) (slice_get_past log.alarms i past) h))
 
 module _ (net : Net) (log : Log) (n : ℕ) (names : List (ℕ × Name)) (written : List Clause) (assumed : List Lit) (code : IsLogCode net log n names written assumed) where
   -- what is true by name is true by variable, and the other way round
@@ -63,10 +76,32 @@ module _ (net : Net) (log : Log) (n : ℕ) (names : List (ℕ × Name)) (written
           let other : is_of_log name ≡ false = sym (ap (λ o. unwrap_or (option_map is_of_log o) false) e) ∙ h in
           ap (λ o. unwrap_or (option_map value o) (given var)) e ∙ differ name other ∙ sym (values_match names code.once given var name e)
 
-  completed : (given : ℕ → Bool) (value : Name → Bool) → DifferInLog (value_by names given) value → LogClausesHold net log n value → GuardsHold net log value →
-      (assignment : ℕ → Bool) × DifferInLogVariables names given assignment × MakesLogTrue assignment written assumed
-  completed given value differ holds guards =
-      (assignment_by names value given, kept given value differ, log_true (assignment_by names value given) value (assignments_match names value given) holds guards)
+  -- a doubtful alarm has a variable, since its clauses are there
+  dropped_named : (i : ℕ) → is_doubtful log i ≡ true → (var : ℕ) × (name_of names var ≡ Some (dropped i))
+  dropped_named i h =
+      let there = code.clauses.all (log_clause net log n (not_done_first i)) (not_done_first i, doubtful_below log i h, refl) in
+      read_named names there.0 there.2.read (yes (dropped i)) there.2.by_name
+      ((there.2.same (yes (dropped i))).1 (here_later (no (done i 0)) (or_false log i []) (yes (dropped i)) (subst (λ b. Contains (cond b (yes (dropped i) ∷ []) []) (yes (dropped i))) (sym h) (here_first (yes (dropped i)) [] (yes (dropped i)) refl))))
+
+  -- so by variables the same alarms are false
+  pub false_kept : (assignment : ℕ → Bool) (value : Name → Bool) (order : List Entry) → Match names assignment value → HasFalse log value order → HasFalse log (value_by names assignment) order
+  false_kept assignment value order match has = has ∙ ap (λ (p : ℕ → Bool). count_by p (numbers_below (length log.alarms))) (λ j i. same i j)
+    where
+      same : (i : ℕ) → is_false log value i ≡ is_false log (value_by names assignment) i
+      same i = by (is_doubtful log i) refl
+        where
+          by : (b : Bool) → is_doubtful log i ≡ b → is_false log value i ≡ is_false log (value_by names assignment) i
+          by false e = rw e refl
+          by true e = let named = dropped_named i e in rw e (sym (match named.0 (dropped i) named.1) ∙ values_match names code.once assignment named.0 (dropped i) named.1)
+
+  completed : (given : ℕ → Bool) (value : Name → Bool) (order : List Entry) → DifferInLog (value_by names given) value → LogClausesHold net log n value → GuardsHold net log value → HasFalse log value order →
+      (assignment : ℕ → Bool) × DifferInLogVariables names given assignment × MakesLogTrue assignment written assumed × HasFalse log (value_by names assignment) order
+  completed given value order differ holds guards has = (
+    assignment_by names value given,
+    kept given value differ,
+    log_true (assignment_by names value given) value (assignments_match names value given) holds guards,
+    false_kept (assignment_by names value given) value order (assignments_match names value given) has,
+  )
 
   opened_up : (given : ℕ → Bool) → (assignment : ℕ → Bool) × DifferInLogVariables names given assignment × AllClausesTrue assignment written
   opened_up given =
@@ -83,7 +118,7 @@ log_code_is_exact net log n names written assumed code = record {
       log_is_sound net log n (value_by names assignment) pieces alarms valid complete kept steps holds.0 holds.1;
   complete = λ given pieces order steps linear.
       let found = log_is_complete net log n (value_by names given) pieces order steps linear in
-      completed net log n names written assumed code given found.0 found.1 found.2 found.3;
+      completed net log n names written assumed code given found.0 order found.1 found.2 found.3 found.4;
   matched = λ assignment makes.
       let holds = log_holds net log n names written assumed code assignment (value_by names assignment) (values_match names code.once assignment) makes in
       matches_are_exact net log n (value_by names assignment) holds.0 holds.1;
@@ -150,6 +185,7 @@ explanations_are_coded net log n names stepped written assumed word order pieces
       by_variable names made.0,
       all.0,
       record { steps = all.1; log_true = log_true net log n names written assumed question.log_code (by_variable names made.0) made.0 (matched_by names made.0) made.2 made.3 },
+      false_kept net log n names written assumed question.log_code (by_variable names made.0) made.0 order (matched_by names made.0) made.4,
     )
 
 pub runs_stay_open : RunsStayOpen
@@ -175,4 +211,5 @@ assignments_explain net log n names stepped written assumed assignment alarms ne
     record {
       steps = arranged'.steps;
       explains = record { run = run.0; fits = (decoded net log (value_by names assignment) alarms n, arranged'.steps.count, run.1); linear = arranged'.linear };
+      false_alarms = arranged'.false_alarms;
     }

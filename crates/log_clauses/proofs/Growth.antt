@@ -6,12 +6,12 @@ use Rattle.des_net.specs.Network.{Net}
 use Rattle.log_clauses.proofs.Lists.{append_left, append_right, here_first, none_in_nil}
 use Rattle.log_clauses.proofs.Open.{log_is_open}
 use Rattle.log_clauses.proofs.Rules.{matching_alarm, is_shown}
-use Rattle.log_clauses.proofs.Stay.{with_alarm, with_pair, chain_is, known_stays, clause_same, matching_same}
+use Rattle.log_clauses.proofs.Stay.{with_alarm, with_pair, chain_is, known_stays, clause_same, matching_same, doubtful_same, doubtful_new}
 use Rattle.log_clauses.specs.AdditionLaws.{ChainsGrow, AdditionsAreExact, EmptyLogIsExact, AdditionsStayOpen}
 use Rattle.log_clauses.specs.Additions.{Addition, alarm_added, pair_added, with_addition, log_after, IsTaken, IsNewLink, IsAlarmClause, IsFirstClause}
-use Rattle.log_clauses.specs.LogClauses.{chain, LogClause, log_clause, IsLogClause, IsLink, chain_closed, takes_rest, uses_up, passes_on, taken_or_passed, not_done_first, stays_done, match_is_done, matched_once, done_by_match, one_match, done_if_asked, before_if_asked}
+use Rattle.log_clauses.specs.LogClauses.{chain, LogClause, log_clause, IsLogClause, IsLink, chain_closed, takes_rest, uses_up, passes_on, taken_or_passed, not_done_first, stays_done, match_is_done, matched_once, match_is_real, done_by_match, one_match, done_if_asked, before_if_asked}
 use Rattle.log_clauses.specs.LogTruth.{LogClausesHold}
-use Rattle.log_order.specs.Log.{Log, Alarm, no_log}
+use Rattle.log_order.specs.Log.{Log, Alarm, no_log, is_doubtful}
 use Rattle.prop_core.specs.NamedClauses.{named_clause_true}
 use Rattle.prop_core.specs.VariableNames.{Name}
 use Rattle.replay.specs.QuestionSize.{is_matching}
@@ -148,6 +148,11 @@ module _ (net : Net) (log : Log) (n : ℕ) (new : Alarm) where
       by : (is_matching net log e i ≡ true) ⊎ (i ≡ length log.alarms) → IsLogClause net log n (matched_once i e t) ⊎ IsAlarmClause net log n new (matched_once i e t)
       by (inl a) = inl (a, h.1)
       by (inr b) = inr (b, taken e i b h.0, h.1)
+  alarm_split (match_is_real i e t) h = by (number_split i (matching_alarm net (with_alarm log new) e i h.0))
+    where
+      by : (i < length log.alarms) ⊎ (i ≡ length log.alarms) → IsLogClause net log n (match_is_real i e t) ⊎ IsAlarmClause net log n new (match_is_real i e t)
+      by (inl a) = inl (sym (matching_same net log new e i a) ∙ h.0, sym (doubtful_same log new i a) ∙ h.1, h.2)
+      by (inr b) = inr (b, taken e i b h.0, sym (doubtful_new log new) ∙ subst (λ x. is_doubtful (with_alarm log new) x ≡ true) b h.1, h.2)
   alarm_split (done_by_match i t) h = by (number_split i h.0)
     where
       by : (i < length log.alarms) ⊎ (i ≡ length log.alarms) → IsLogClause net log n (done_by_match i t) ⊎ IsAlarmClause net log n new (done_by_match i t)
@@ -177,13 +182,14 @@ module _ (net : Net) (log : Log) (n : ℕ) (new : Alarm) where
   alarm_new (stays_done i t) h = (number_new i h.0, h.1)
   alarm_new (match_is_done i e t) h = (taken_back e i h.0 h.1, h.2)
   alarm_new (matched_once i e t) h = (taken_back e i h.0 h.1, h.2)
+  alarm_new (match_is_real i e t) h = (taken_back e i h.0 h.1, subst (λ x. is_doubtful (with_alarm log new) x ≡ true) (sym h.0) (doubtful_new log new ∙ h.2), h.3)
   alarm_new (done_by_match i t) h = (number_new i h.0, h.1)
   alarm_new (one_match i e f t) h = (taken_back e i h.0 h.1, taken_back f i h.0 h.2, h.3, h.4)
   alarm_new (done_if_asked i) h = number_new i h
   alarm_new (before_if_asked i j t) h = absurd h
 
 module _ (net : Net) (log : Log) (n i j : ℕ) where
-  pair_split : (which : LogClause) → IsLogClause net (with_pair log i j) n which → IsLogClause net log n which ⊎ ((t : ℕ) × (t < n) × (which ≡ before_if_asked i j t))
+  pair_split : (which : LogClause) → IsLogClause net (with_pair log i j) n which → IsLogClause net log n which ⊎ ((t : ℕ) × (t ≤ n) × (which ≡ before_if_asked i j t))
   pair_split (chain_closed e k t) h = inl h
   pair_split (takes_rest a e k t) h = inl h
   pair_split (uses_up a e k t) h = inl h
@@ -193,12 +199,13 @@ module _ (net : Net) (log : Log) (n i j : ℕ) where
   pair_split (stays_done a t) h = inl h
   pair_split (match_is_done a e t) h = inl h
   pair_split (matched_once a e t) h = inl h
+  pair_split (match_is_real a e t) h = inl h
   pair_split (done_by_match a t) h = inl h
   pair_split (one_match a e f t) h = inl h
   pair_split (done_if_asked a) h = inl h
   pair_split (before_if_asked a b t) h = by (Contains-push_cases log.pairs (i, j) (a, b) h.0)
     where
-      by : Contains log.pairs (a, b) ⊎ (◌≡◌ {A = ℕ × ℕ} (i, j) (a, b)) → IsLogClause net log n (before_if_asked a b t) ⊎ ((t' : ℕ) × (t' < n) × (before_if_asked a b t ≡ before_if_asked i j t'))
+      by : Contains log.pairs (a, b) ⊎ (◌≡◌ {A = ℕ × ℕ} (i, j) (a, b)) → IsLogClause net log n (before_if_asked a b t) ⊎ ((t' : ℕ) × (t' ≤ n) × (before_if_asked a b t ≡ before_if_asked i j t'))
       by (inl in') = inl (in', h.1)
       by (inr same) = inr (t, h.1, λ x. before_if_asked ((sym same x).0) ((sym same x).1) t)
 
@@ -212,12 +219,13 @@ module _ (net : Net) (log : Log) (n i j : ℕ) where
   pair_new (stays_done a t) h = h
   pair_new (match_is_done a e t) h = h
   pair_new (matched_once a e t) h = h
+  pair_new (match_is_real a e t) h = h
   pair_new (done_by_match a t) h = h
   pair_new (one_match a e f t) h = h
   pair_new (done_if_asked a) h = h
   pair_new (before_if_asked a b t) h = (append_left log.pairs ((i, j) ∷ []) (a, b) h.0, h.1)
 
-  pair_added_known : (t : ℕ) → t < n → IsLogClause net (with_pair log i j) n (before_if_asked i j t)
+  pair_added_known : (t : ℕ) → t ≤ n → IsLogClause net (with_pair log i j) n (before_if_asked i j t)
   pair_added_known t h = (append_right log.pairs ((i, j) ∷ []) (i, j) (here_first (i, j) [] (i, j) refl), h)
 
   pair_same : (which : LogClause) → log_clause net log n which ≡ log_clause net (with_pair log i j) n which
@@ -230,6 +238,7 @@ module _ (net : Net) (log : Log) (n i j : ℕ) where
   pair_same (stays_done a t) = refl
   pair_same (match_is_done a e t) = refl
   pair_same (matched_once a e t) = refl
+  pair_same (match_is_real a e t) = refl
   pair_same (done_by_match a t) = refl
   pair_same (one_match a e f t) = refl
   pair_same (done_if_asked a) = refl
@@ -245,7 +254,7 @@ additions_are_exact net log n (alarm_added new) which =
 additions_are_exact net log n (pair_added i j) which =
     ((pair_split net log n i j which, back), λ h. pair_same net log n i j which)
   where
-    back : IsLogClause net log n which ⊎ ((t : ℕ) × (t < n) × (which ≡ before_if_asked i j t)) → IsLogClause net (with_pair log i j) n which
+    back : IsLogClause net log n which ⊎ ((t : ℕ) × (t ≤ n) × (which ≡ before_if_asked i j t)) → IsLogClause net (with_pair log i j) n which
     back (inl a) = pair_new net log n i j which a
     back (inr b) = subst (λ w. IsLogClause net (with_pair log i j) n w) (sym b.2) (pair_added_known net log n i j b.0 b.1)
 
@@ -279,6 +288,7 @@ first_split net n (not_done_first i) h = absurd (omega arith)
 first_split net n (stays_done i t) h = absurd (omega (arith, h.0))
 first_split net n (match_is_done i e t) h = absurd (let below = matching_alarm net no_log e i h.0 in omega (arith, below))
 first_split net n (matched_once i e t) h = absurd (let below = matching_alarm net no_log e i h.0 in omega (arith, below))
+first_split net n (match_is_real i e t) h = absurd (let below = matching_alarm net no_log e i h.0 in omega (arith, below))
 first_split net n (done_by_match i t) h = absurd (omega (arith, h.0))
 first_split net n (one_match i e f t) h = absurd (let below = matching_alarm net no_log e i h.0 in omega (arith, below))
 first_split net n (done_if_asked i) h = absurd (omega arith)

@@ -3,8 +3,9 @@ pub mod Pieces
 pub mod Open
 pub mod ReadNames
 pub mod Rules
-pub mod Sound
 pub mod Fronts
+pub mod Entries
+pub mod Sound
 pub mod Blocks
 pub mod Complete
 pub mod Matches

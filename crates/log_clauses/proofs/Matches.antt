@@ -1,12 +1,12 @@
 -- Alarms and events go together one by one.
-use Rattle.std.proofs.Common.{◌≡◌, ℕ, suc, ◌<◌, ◌≤◌, Bool, true, length, Some, sym, ap, subst, arith, Contains, is_some, inl, inr, ◌⊎◌, ◌∙◌}
+use Rattle.std.proofs.Common.{◌≡◌, ℕ, suc, ◌<◌, ◌≤◌, Bool, true, false, length, Some, sym, ap, subst, arith, Contains, is_some, inl, inr, ◌⊎◌, ◌∙◌}
 use Rattle.std.proofs.lemmas.Bool.{cases_lt}
 use Rattle.des_net.specs.Network.{Net, label_of}
 use Rattle.log_clauses.proofs.Lists.{found_is, finds, filter_from}
-use Rattle.log_clauses.proofs.Rules.{has_event, event_matches, is_shown, in_chain, alarm_happens, one_alarm, one_event, one_step_less, each_done, has_alarm, no_step_back}
-use Rattle.log_clauses.specs.Decoded.{alarm_at, event_at}
+use Rattle.log_clauses.proofs.Rules.{has_event, event_matches, is_shown, in_chain, matching_alarm, alarm_happens, one_alarm, one_event, one_step, one_step_less, match_comes, match_real, each_comes, each_done, has_alarm, no_step_back}
+use Rattle.log_clauses.specs.Decoded.{alarm_at, event_at, is_false, comes}
 use Rattle.log_clauses.specs.LogClauses.{chain, matching_events}
-use Rattle.log_clauses.specs.LogLaws.{EventsAndAlarms, MatchesAreExact, HasOneMatch, HasOneAlarm}
+use Rattle.log_clauses.specs.LogLaws.{EventsAndAlarms, MatchesAreExact, HasOneStep, HasOneMatch, HasOneAlarm}
 use Rattle.log_clauses.specs.LogTruth.{LogClausesHold, GuardsHold}
 use Rattle.log_order.specs.Log.{Log}
 use Rattle.prop_core.specs.VariableNames.{Name, happens, matches}
@@ -14,15 +14,21 @@ use Rattle.replay.specs.QuestionSize.{is_matching}
 use Rattle.run_clauses.specs.StepClauses.{numbers_below}
 
 module _ (net : Net) (log : Log) (n : ℕ) (value : Name → Bool) (held : LogClausesHold net log n value) (guards : GuardsHold net log value) where
-  one_match_of : (i : ℕ) → i < length log.alarms → HasOneMatch net log n value i
-  one_match_of i known =
-      let found = each_done net log n value held guards i known in
+  one_step_of : (i : ℕ) → i < length log.alarms → HasOneStep n value i
+  one_step_of i known =
+      let found = each_comes net log n value held guards i known in
+      record { step = found.0; within = found.1; is = found.2; only = λ t inside is. one_step net log n value held i t found.0 known inside found.1 is found.2 }
+
+  one_match_of : (i : ℕ) → i < length log.alarms → is_false log value i ≡ false → HasOneMatch net log n value i
+  one_match_of i known real =
+      let found = each_done net log n value held guards i known real in
       record {
         event = found.2;
         step = found.0;
         within = found.1;
         matching = found.3;
         is = found.4;
+        comes_there = match_comes net log n value held i found.2 found.0 found.3 found.1 found.4;
         only = only found.2 found.0 found.1 found.3 found.4;
       }
     where
@@ -56,18 +62,19 @@ module _ (net : Net) (log : Log) (n : ℕ) (value : Name → Bool) (held : LogCl
         only = λ i matching there. one_alarm net log n value held i found.0 e t matching what.0 step there what.1;
       }
 
-  in_step : (i j e f s t : ℕ) → Contains log.pairs (i, j) → s < n → t < n → is_matching net log e i ≡ true → is_matching net log f j ≡ true →
-      value (matches i e (suc s)) ≡ true → value (matches j f (suc t)) ≡ true → s ≤ t
-  in_step i j e f s t pair below step first second here there = by (cases_lt t s)
+  in_step : (i j s t : ℕ) → i < length log.alarms → Contains log.pairs (i, j) → s ≤ n → t ≤ n → comes value i s ≡ true → comes value j t ≡ true → s ≤ t
+  in_step i j s t known pair first second here there = by (cases_lt t s)
     where
       by : (t < s) ⊎ (s ≤ t) → s ≤ t
-      by (inl less) = absurd (no_step_back net log n value held guards i j e f t s pair first second less below there here)
+      by (inl less) = absurd (no_step_back net log n value held guards i j t s known pair less first there here)
       by (inr h) = h
 
 pub matches_are_exact : MatchesAreExact
 matches_are_exact net log n value held guards =
     record {
+      steps = one_step_of net log n value held guards;
       alarms = one_match_of net log n value held guards;
+      real = λ i e t step matching is. match_real net log n value held i e t matching step is;
       events = one_alarm_of net log n value held guards;
       found = λ e t i step h. let what = told net log n value held guards e t i step h in record { matching = what.0; is = what.1; there = what.2 };
       kept = in_step net log n value held guards;

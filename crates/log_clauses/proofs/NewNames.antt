@@ -1,5 +1,5 @@
 -- The names of an addition are new, and few.
-use Rattle.std.proofs.Common.{◌≡◌, ◌≢◌, ℕ, zero, suc, ◌+◌, ◌*◌, ◌<◌, ◌≤◌, Bool, true, false, List, [], ◌∷◌, ◌∙◌, length, refl, sym, ap, subst, arith, Contains, map, flat_map, filter, inl, inr, ◌⊎◌, is_some, length-append, sum_by}
+use Rattle.std.proofs.Common.{◌≡◌, ◌≢◌, ℕ, zero, suc, ◌+◌, ◌*◌, ◌<◌, ◌≤◌, Bool, true, false, List, [], ◌∷◌, ◌++◌, ◌∙◌, length, cond, refl, sym, ap, subst, arith, Contains, map, flat_map, filter, inl, inr, ◌⊎◌, is_some, length-append, sum_by}
 use Rattle.std.proofs.lemmas.List.{length-map}
 use Rattle.std.proofs.lemmas.List.Sums.{length-filter}
 use Rattle.std.proofs.lemmas.List.FromFn.{length-range_with_len}
@@ -7,18 +7,19 @@ use Rattle.des_base.specs.Lists.{EachPair}
 use Rattle.des_net.specs.Network.{Net, label_of}
 use Rattle.des_net.specs.QuestionSize.{at_most_one_count}
 use Rattle.log_clauses.proofs.Fronts.{range_once}
-use Rattle.log_clauses.proofs.Drafts.{flat_length, sum_more, same_count, taken_count, longer, taken_is, is_taken}
+use Rattle.log_clauses.proofs.Drafts.{flat_length, sum_more, same_count, taken_count, longer, doubtful_more, taken_is, is_taken}
 use Rattle.log_clauses.proofs.Growth.{length_split, length_end, grown, number_split, match_split, taken}
-use Rattle.log_clauses.proofs.Lists.{flat_has, flat_from, map_has, map_from, cons_cases, here_later, none_in_nil, all_of, all_at, append_cases, append_left, append_right, filter_has, filter_from, pairs_filter, pairs_append}
+use Rattle.log_clauses.proofs.Lists.{flat_has, flat_from, map_has, map_from, cons_cases, here_first, here_later, none_in_nil, all_of, all_at, append_cases, append_left, append_right, filter_has, filter_from, pairs_filter, pairs_append}
 use Rattle.log_clauses.proofs.Rules.{matching_alarm, is_shown, shown_event}
-use Rattle.log_clauses.proofs.Stay.{with_alarm, with_pair, matching_same}
+use Rattle.log_clauses.proofs.Stay.{with_alarm, with_pair, matching_same, doubtful_same, doubtful_new}
+use Rattle.log_clauses.proofs.Explained.{doubtful_below}
 use Rattle.log_clauses.specs.Additions.{alarm_added, pair_added, IsTaken}
 use Rattle.log_clauses.specs.Drafts.{taken_events}
 use Rattle.log_clauses.specs.LogClauses.{chain, observable_events}
-use Rattle.log_clauses.specs.LogNames.{IsLogName, link_names, added_names, first_names, NamesAreNew, NamesAreFew, FirstNamesAreAll}
-use Rattle.log_order.specs.Log.{Log, Alarm, no_log}
-use Rattle.prop_core.specs.VariableNames.{Name, in_state, happens, asked, matches, done, unmatched, closed, reaches, some_of_first}
-use Rattle.replay.specs.QuestionSize.{is_matching, alarm_variables, variable_bound, matching_count}
+use Rattle.log_clauses.specs.LogNames.{IsLogName, link_names, alarm_names, false_names, added_names, first_names, NamesAreNew, NamesAreFew, FirstNamesAreAll}
+use Rattle.log_order.specs.Log.{Log, Alarm, no_log, is_doubtful}
+use Rattle.prop_core.specs.VariableNames.{Name, in_state, happens, asked, matches, done, unmatched, closed, dropped, reaches, some_of_first}
+use Rattle.replay.specs.QuestionSize.{is_matching, alarm_variables, variable_bound, matching_count, doubtful_count}
 use Rattle.run_clauses.specs.StepClauses.{numbers_below}
 use Rattle.run_clauses.proofs.Lists.{from_numbers, in_numbers}
 
@@ -117,9 +118,9 @@ link_once n i e k = (
     differ t h = cc
 
 module _ (net : Net) (log : Log) (n : ℕ) (new : Alarm) where
-  added_once : EachPair (λ a b. a ≢ b) (added_names net log n (alarm_added new))
+  alarm_once : EachPair (λ a b. a ≢ b) (alarm_names net log n new)
   unfolding is_done
-  added_once =
+  alarm_once =
       pairs_append (λ a b. a ≢ b) (flat_map (λ e. link_names n (length log.alarms) e (length (chain net log e))) (taken_events net log new)) (map (λ t. done (length log.alarms) t) (numbers_below (suc n)))
       (pairs_flat (λ e. link_names n (length log.alarms) e (length (chain net log e))) (taken_events net log new)
       (pairs_filter (λ a b. a ≢ b) (λ e. is_matching net (with_alarm log new) e (length log.alarms)) (numbers_below (length net.events)) (range_once 0 (length net.events)))
@@ -142,7 +143,7 @@ module _ (net : Net) (log : Log) (n : ℕ) (new : Alarm) where
           two (is_done a) (link_not_done n (length log.alarms) link.0 (length (chain net log link.0)) a link.2) (ap is_done (same ∙ sym step.2))
 
   -- what a new name is
-  new_from : (name : Name) → Contains (added_names net log n (alarm_added new)) name →
+  new_from : (name : Name) → Contains (alarm_names net log n new) name →
       ((e : ℕ) × IsTaken net log new e × (name ≡ closed e (suc (length (chain net log e)))))
       ⊎ ((e : ℕ) × (t : ℕ) × IsTaken net log new e × (t < n) × (name ≡ matches (length log.alarms) e (suc t)))
       ⊎ ((e : ℕ) × (t : ℕ) × IsTaken net log new e × (t < n) × (name ≡ unmatched e (suc (length (chain net log e))) (suc t)))
@@ -171,8 +172,44 @@ module _ (net : Net) (log : Log) (n : ℕ) (new : Alarm) where
           let below = from_numbers (suc n) step.0 step.1 in
           inr (inr (inr (step.0, omega (arith, below), sym step.2)))
 
-  not_old : (name : Name) → Contains (added_names net log n (alarm_added new)) name → IsLogName net log n name → ⊥
-  not_old name in' old = by (new_from name in')
+  -- it may also be that the alarm is false
+  false_from : (b : Bool) (name : Name) → new.doubtful ≡ b → Contains (false_names b (length log.alarms)) name → (new.doubtful ≡ true) × (name ≡ dropped (length log.alarms))
+  false_from false name e in' = absurd (none_in_nil name in')
+  false_from true name e in' = by (cons_cases (dropped (length log.alarms)) [] name in')
+    where
+      by : (dropped (length log.alarms) ≡ name) ⊎ Contains [] name → (new.doubtful ≡ true) × (name ≡ dropped (length log.alarms))
+      by (inl is) = (e, sym is)
+      by (inr none) = absurd (none_in_nil name none)
+
+  added_split : (name : Name) → Contains (added_names net log n (alarm_added new)) name → Contains (alarm_names net log n new) name ⊎ ((new.doubtful ≡ true) × (name ≡ dropped (length log.alarms)))
+  added_split name in' = by (append_cases (alarm_names net log n new) (false_names new.doubtful (length log.alarms)) name in')
+    where
+      by : Contains (alarm_names net log n new) name ⊎ Contains (false_names new.doubtful (length log.alarms)) name → Contains (alarm_names net log n new) name ⊎ ((new.doubtful ≡ true) × (name ≡ dropped (length log.alarms)))
+      by (inl a) = inl a
+      by (inr b) = inr (false_from new.doubtful name refl b)
+
+  not_dropped : (i : ℕ) → Contains (alarm_names net log n new) (dropped i) → ⊥
+  not_dropped i in' = by (new_from (dropped i) in')
+    where
+      by : ((e : ℕ) × IsTaken net log new e × (dropped i ≡ closed e (suc (length (chain net log e)))))
+          ⊎ ((e : ℕ) × (t : ℕ) × IsTaken net log new e × (t < n) × (dropped i ≡ matches (length log.alarms) e (suc t)))
+          ⊎ ((e : ℕ) × (t : ℕ) × IsTaken net log new e × (t < n) × (dropped i ≡ unmatched e (suc (length (chain net log e))) (suc t)))
+          ⊎ ((t : ℕ) × (t ≤ n) × (dropped i ≡ done (length log.alarms) t)) → ⊥
+      by (inl (e, h, is)) = cc
+      by (inr (inl (e, t, h, step, is))) = cc
+      by (inr (inr (inl (e, t, h, step, is)))) = cc
+      by (inr (inr (inr (t, h, is)))) = cc
+
+  added_once : EachPair (λ a b. a ≢ b) (added_names net log n (alarm_added new))
+  added_once = pairs_append (λ a b. a ≢ b) (alarm_names net log n new) (false_names new.doubtful (length log.alarms)) alarm_once (one new.doubtful) (λ a b in' in2 same.
+      let found = false_from new.doubtful b refl in2 in not_dropped (length log.alarms) (subst (λ x. Contains (alarm_names net log n new) x) (same ∙ found.1) in'))
+    where
+      one : (b : Bool) → EachPair (λ x y. x ≢ y) (false_names b (length log.alarms))
+      one true = (tt, tt)
+      one false = tt
+
+  alarm_not_old : (name : Name) → Contains (alarm_names net log n new) name → IsLogName net log n name → ⊥
+  alarm_not_old name in' old = by (new_from name in')
     where
       by : ((e : ℕ) × IsTaken net log new e × (name ≡ closed e (suc (length (chain net log e)))))
           ⊎ ((e : ℕ) × (t : ℕ) × IsTaken net log new e × (t < n) × (name ≡ matches (length log.alarms) e (suc t)))
@@ -183,10 +220,20 @@ module _ (net : Net) (log : Log) (n : ℕ) (new : Alarm) where
       by (inr (inr (inl (e, t, h, step, is)))) = let known = subst (IsLogName net log n) is old in let low = known.1 in omega (arith, low)
       by (inr (inr (inr (t, h, is)))) = let known = subst (IsLogName net log n) is old in let low = known.0 in omega (arith, low)
 
+  not_old : (name : Name) → Contains (added_names net log n (alarm_added new)) name → IsLogName net log n name → ⊥
+  not_old name in' old = by (added_split name in')
+    where
+      by : Contains (alarm_names net log n new) name ⊎ ((new.doubtful ≡ true) × (name ≡ dropped (length log.alarms))) → ⊥
+      by (inl a) = alarm_not_old name a old
+      by (inr b) = let below = doubtful_below log (length log.alarms) (subst (IsLogName net log n) b.1 old) in omega (arith, below)
+
+  in_alarm : (name : Name) → Contains (alarm_names net log n new) name → Contains (added_names net log n (alarm_added new)) name
+  in_alarm name there = append_left (alarm_names net log n new) (false_names new.doubtful (length log.alarms)) name there
+
   in_links : (e : ℕ) (name : Name) → IsTaken net log new e → Contains (link_names n (length log.alarms) e (length (chain net log e))) name → Contains (added_names net log n (alarm_added new)) name
   in_links e name h there =
-      append_left (flat_map (λ f. link_names n (length log.alarms) f (length (chain net log f))) (taken_events net log new)) (map (λ t. done (length log.alarms) t) (numbers_below (suc n))) name
-      (flat_has (λ f. link_names n (length log.alarms) f (length (chain net log f))) (taken_events net log new) e name (is_taken net log n new e h) there)
+      in_alarm name (append_left (flat_map (λ f. link_names n (length log.alarms) f (length (chain net log f))) (taken_events net log new)) (map (λ t. done (length log.alarms) t) (numbers_below (suc n))) name
+      (flat_has (λ f. link_names n (length log.alarms) f (length (chain net log f))) (taken_events net log new) e name (is_taken net log n new e h) there))
 
   in_two : (e t : ℕ) (name : Name) → IsTaken net log new e → t < n → Contains (matches (length log.alarms) e (suc t) ∷ unmatched e (suc (length (chain net log e))) (suc t) ∷ []) name → Contains (added_names net log n (alarm_added new)) name
   in_two e t name h step there =
@@ -231,8 +278,8 @@ module _ (net : Net) (log : Log) (n : ℕ) (new : Alarm) where
       by : (i < length log.alarms) ⊎ (i ≡ length log.alarms) → IsLogName net log n (done i t) ⊎ Contains (added_names net log n (alarm_added new)) (done i t)
       by (inl a) = inl (a, h.1)
       by (inr b) = inr (subst (λ x. Contains (added_names net log n (alarm_added new)) (done x t)) (sym b)
-          (append_right (flat_map (λ f. link_names n (length log.alarms) f (length (chain net log f))) (taken_events net log new)) (map (λ s. done (length log.alarms) s) (numbers_below (suc n))) (done (length log.alarms) t)
-          (map_has (λ s. done (length log.alarms) s) (numbers_below (suc n)) t (in_numbers (suc n) t (omega (arith, h.1))))))
+          (in_alarm (done (length log.alarms) t) (append_right (flat_map (λ f. link_names n (length log.alarms) f (length (chain net log f))) (taken_events net log new)) (map (λ s. done (length log.alarms) s) (numbers_below (suc n))) (done (length log.alarms) t)
+          (map_has (λ s. done (length log.alarms) s) (numbers_below (suc n)) t (in_numbers (suc n) t (omega (arith, h.1)))))))
   name_split (unmatched e k zero) h = absurd (omega (arith, h.2.0))
   name_split (unmatched e k (suc t)) h = by (chain_split e k h.1)
     where
@@ -246,6 +293,17 @@ module _ (net : Net) (log : Log) (n : ℕ) (new : Alarm) where
       by (inl a) = inl (h.0, a)
       by (inr b) = inr (subst (λ x. Contains (added_names net log n (alarm_added new)) (closed e x)) (sym b.0)
           (in_links e (closed e (suc (length (chain net log e)))) b.1 (0, omega arith, refl)))
+  name_split (dropped i) h = by (number_split net log n new i (doubtful_below (with_alarm log new) i h))
+    where
+      own : (b : Bool) → b ≡ true → Contains (false_names b (length log.alarms)) (dropped (length log.alarms))
+      own true e = here_first (dropped (length log.alarms)) [] (dropped (length log.alarms)) refl
+      own false e = cc
+
+      by : (i < length log.alarms) ⊎ (i ≡ length log.alarms) → IsLogName net log n (dropped i) ⊎ Contains (added_names net log n (alarm_added new)) (dropped i)
+      by (inl a) = inl (sym (doubtful_same log new i a) ∙ h)
+      by (inr b) = inr (subst (λ x. Contains (added_names net log n (alarm_added new)) (dropped x)) (sym b)
+          (append_right (alarm_names net log n new) (false_names new.doubtful (length log.alarms)) (dropped (length log.alarms))
+          (own new.doubtful (sym (doubtful_new log new) ∙ subst (λ x. is_doubtful (with_alarm log new) x ≡ true) b h))))
   name_split (reaches i j) h = absurd h
   name_split (some_of_first family i) h = absurd h
 
@@ -257,11 +315,12 @@ module _ (net : Net) (log : Log) (n : ℕ) (new : Alarm) where
   name_keeps (done i t) h = (let more = longer net log n new in omega (arith, more, h.0), h.1)
   name_keeps (unmatched e k t) h = (h.0, let more = chain_keeps e in omega (arith, more, h.1), h.2)
   name_keeps (closed e k) h = (h.0, let more = chain_keeps e in omega (arith, more, h.1))
+  name_keeps (dropped i) h = doubtful_same log new i (doubtful_below log i h) ∙ h
   name_keeps (reaches i j) h = absurd h
   name_keeps (some_of_first family i) h = absurd h
 
-  new_known : (name : Name) → Contains (added_names net log n (alarm_added new)) name → IsLogName net (with_alarm log new) n name
-  new_known name in' = by (new_from name in')
+  alarm_known : (name : Name) → Contains (alarm_names net log n new) name → IsLogName net (with_alarm log new) n name
+  alarm_known name in' = by (new_from name in')
     where
       by : ((e : ℕ) × IsTaken net log new e × (name ≡ closed e (suc (length (chain net log e)))))
           ⊎ ((e : ℕ) × (t : ℕ) × IsTaken net log new e × (t < n) × (name ≡ matches (length log.alarms) e (suc t)))
@@ -272,8 +331,15 @@ module _ (net : Net) (log : Log) (n : ℕ) (new : Alarm) where
       by (inr (inr (inl (e, t, h, step, is)))) = subst (IsLogName net (with_alarm log new) n) (sym is) (omega arith, chain_end e h, (omega arith, omega arith))
       by (inr (inr (inr (t, h, is)))) = subst (IsLogName net (with_alarm log new) n) (sym is) (let more = longer net log n new in omega (arith, more), h)
 
+  new_known : (name : Name) → Contains (added_names net log n (alarm_added new)) name → IsLogName net (with_alarm log new) n name
+  new_known name in' = by (added_split name in')
+    where
+      by : Contains (alarm_names net log n new) name ⊎ ((new.doubtful ≡ true) × (name ≡ dropped (length log.alarms))) → IsLogName net (with_alarm log new) n name
+      by (inl a) = alarm_known name a
+      by (inr b) = subst (IsLogName net (with_alarm log new) n) (sym b.1) (doubtful_new log new ∙ b.0)
+
   -- how many they are
-  names_size : length (added_names net log n (alarm_added new)) ≡ length (taken_events net log new) * (1 + n * 2) + suc n
+  names_size : length (added_names net log n (alarm_added new)) ≡ length (taken_events net log new) * (1 + n * 2) + suc n + cond new.doubtful 1 0
   names_size =
       let range = length-range_with_len 0 n in
       let inner : (e : ℕ) → length (link_names n (length log.alarms) e (length (chain net log e))) ≡ 1 + n * 2 = λ e.
@@ -282,21 +348,32 @@ module _ (net : Net) (log : Log) (n : ℕ) (new : Alarm) where
       let back = length-map (numbers_below (suc n)) (λ t. done (length log.alarms) t) in
       let range' = length-range_with_len 0 (suc n) in
       let whole = length-append (flat_map (λ e. link_names n (length log.alarms) e (length (chain net log e))) (taken_events net log new)) (map (λ t. done (length log.alarms) t) (numbers_below (suc n))) in
-      omega (arith, front, back, range', whole)
+      let all = length-append (alarm_names net log n new) (false_names new.doubtful (length log.alarms)) in
+      let last = false_size new.doubtful in
+      omega (arith, front, back, range', whole, all, last)
+    where
+      false_size : (b : Bool) → length (false_names b (length log.alarms)) ≡ cond b 1 0
+      false_size true = refl
+      false_size false = refl
 
--- with the sums of the bound as they are
-names_small : (net : Net) (log : Log) (n : ℕ) (new : Alarm) → length (added_names net log n (alarm_added new)) + variable_bound net log n ≤ variable_bound net (with_alarm log new) n
-names_small net log n new =
+-- with the sums of the bound as they are, and 256 more for a doubtful alarm, which the counter takes
+pub names_leave_room : (net : Net) (log : Log) (n : ℕ) (new : Alarm) →
+    length (added_names net log n (alarm_added new)) + variable_bound net log n + 256 * doubtful_count (with_alarm log new) ≤ variable_bound net (with_alarm log new) n + 256 * doubtful_count log
+names_leave_room net log n new =
     let sum = sum_more (λ i. alarm_variables n (matching_count net (with_alarm log new) i)) (λ i. alarm_variables n (matching_count net log i)) (length log.alarms)
     (λ i below. ap (alarm_variables n) (same_count net log n new i below)) in
     let more = ap (λ k. sum_by (λ i. alarm_variables n (matching_count net (with_alarm log new) i)) (numbers_below k)) (longer net log n new) in
     let size = names_size net log n new in
     let moved = ap (λ k. k * (1 + n * 2) + suc n) (taken_count net log n new) in
+    let doubt = doubtful_more net log n new in
     let few = names_few n (matching_count net (with_alarm log new) (length log.alarms)) (at_most_one_count (matching_count net (with_alarm log new) (length log.alarms))) in
-    omega (arith, sum, more, size, moved, few)
+    omega (arith, sum, more, size, moved, doubt, few)
   where
     names_few : (k m o : ℕ) → m * (1 + k * 2) + suc k ≤ k * (2 * m + o + 1) + 1 + m
     names_few k m o = omega arith
+
+names_small : (net : Net) (log : Log) (n : ℕ) (new : Alarm) → length (added_names net log n (alarm_added new)) + variable_bound net log n ≤ variable_bound net (with_alarm log new) n
+names_small net log n new = let room = names_leave_room net log n new in let doubt = doubtful_more net log n new in omega (arith, room, doubt)
 
 pub names_are_few : NamesAreFew
 names_are_few net log n (alarm_added new) = names_small net log n new
@@ -320,6 +397,7 @@ names_are_new net log n (pair_added i j) =
     same (done a t) h = h
     same (unmatched e k t) h = h
     same (closed e k) h = h
+    same (dropped a) h = h
     same (reaches a b) h = h
     same (some_of_first family a) h = h
 
@@ -331,6 +409,7 @@ names_are_new net log n (pair_added i j) =
     again (done a t) h = h
     again (unmatched e k t) h = h
     again (closed e k) h = h
+    again (dropped a) h = h
     again (reaches a b) h = h
     again (some_of_first family a) h = h
 
@@ -350,6 +429,7 @@ first_of net n (closed e k) h =
     let none : k ≡ 0 = omega (arith, h.1) in
     subst (λ x. Contains (first_names net) (closed e x)) (sym none)
     (here_later asked (map (λ f. closed f 0) (observable_events net)) (closed e 0) (map_has (λ f. closed f 0) (observable_events net) e (filter_has (λ f. is_some (label_of net f)) (numbers_below (length net.events)) e h.0 (in_numbers (length net.events) e (shown_event net e h.0)))))
+first_of net n (dropped i) h = absurd (let below = doubtful_below no_log i h in omega (arith, below))
 first_of net n (reaches i j) h = absurd h
 first_of net n (some_of_first family i) h = absurd h
 

@@ -1,7 +1,8 @@
 -- Names on consecutive variables.
-use Rattle.std.proofs.Common.{◌≡◌, ◌≢◌, ℕ, zero, suc, ◌+◌, ◌*◌, ◌<◌, ◌≤◌, List, [], ◌∷◌, ◌++◌, ◌∙◌, length, Some, refl, sym, ap, subst, arith, Contains, map, flat_map, slice_get, inl, inr, ◌⊎◌, option_map}
+use Rattle.std.proofs.Common.{◌≡◌, ◌≢◌, ℕ, zero, suc, ◌+◌, ◌*◌, ◌<◌, ◌≤◌, List, [], ◌∷◌, ◌++◌, ◌∙◌, length, Some, refl, sym, ap, subst, arith, Contains, true, map, flat_map, length-append, slice_get, inl, inr, ◌⊎◌, option_map}
 use Rattle.std.specs.List.{AllByRecursion, range_with_len}
 use Rattle.std.proofs.lemmas.Option.{slice_get-map, slice_get_within}
+use Rattle.std.proofs.lemmas.List.{length-map}
 use Rattle.std.proofs.lemmas.List.FromFn.{length-range_with_len}
 use Rattle.des_base.specs.Lists.{EachPair}
 use Rattle.des_net.specs.Network.{Net}
@@ -13,10 +14,10 @@ use Rattle.log_clauses.proofs.Codes.{has_name}
 use Rattle.log_clauses.specs.Additions.{alarm_added, with_addition}
 use Rattle.log_clauses.specs.Drafts.{taken_events}
 use Rattle.log_clauses.specs.LogClauses.{chain}
-use Rattle.log_clauses.specs.LogNames.{IsLogName, link_names, added_names, first_names, AreNew, AreLogNames, ReadsInOrder, NamesBegin, NamesGrow, PlacesOfNames, OrderedReads}
+use Rattle.log_clauses.specs.LogNames.{IsLogName, link_names, alarm_names, false_names, added_names, first_names, AreNew, AreLogNames, ReadsInOrder, NamesBegin, NamesGrow, PlacesOfNames, OrderedReads}
 use Rattle.log_order.specs.Log.{Log, Alarm}
 use Rattle.prop_core.specs.Clauses.{Clause}
-use Rattle.prop_core.specs.VariableNames.{Name, NamedLiteral, name_of, named_literal, named_clause, matches, unmatched, closed, done, HasEachOnce}
+use Rattle.prop_core.specs.VariableNames.{Name, NamedLiteral, name_of, named_literal, named_clause, matches, unmatched, closed, done, dropped, HasEachOnce}
 use Rattle.prop_core.specs.declared.lit.Lit.{Lit}
 use Rattle.run_clauses.specs.LaidOut.{laid_out}
 use Rattle.run_clauses.specs.StepClauses.{numbers_below}
@@ -145,9 +146,9 @@ module _ (net : Net) (log : Log) (n first : ℕ) (new : Alarm) (names : List (�
       has_name (names ++ laid_out first (added_names net log n (alarm_added new))) (first + k, name) (names_grow net log n first (alarm_added new) names are).once
       (append_right names (laid_out first (added_names net log n (alarm_added new))) (first + k, name) (laid_out_has first (added_names net log n (alarm_added new)) k name is))
 
-  link_at : (p e j : ℕ) → slice_get (taken_events net log new) p ≡ Some e → j < 1 + n * 2 →
-      slice_get (added_names net log n (alarm_added new)) (p * (1 + n * 2) + j) ≡ slice_get (link_names n (length log.alarms) e (length (chain net log e))) j
-  link_at p e j is less =
+  old_link_at : (p e j : ℕ) → slice_get (taken_events net log new) p ≡ Some e → j < 1 + n * 2 →
+      slice_get (alarm_names net log n new) (p * (1 + n * 2) + j) ≡ slice_get (link_names n (length log.alarms) e (length (chain net log e))) j
+  old_link_at p e j is less =
       get_same (flat_map (λ f. link_names n (length log.alarms) f (length (chain net log f))) (taken_events net log new)) (map (λ t. done (length log.alarms) t) (numbers_below (suc n))) (p * (1 + n * 2) + j) inside
       ∙ flat_get (λ f. link_names n (length log.alarms) f (length (chain net log f))) (taken_events net log new) (1 + n * 2) p e j (λ f. link_size n (length log.alarms) f (length (chain net log f))) is less
     where
@@ -162,14 +163,35 @@ module _ (net : Net) (log : Log) (n first : ℕ) (new : Alarm) (names : List (�
           let low = place p (length (taken_events net log new)) (1 + n * 2) (slice_get_within (taken_events net log new) p e is) less in
           subst (λ m. p * (1 + n * 2) + j < m) (sym whole) low
 
-  done_at : (t : ℕ) → t ≤ n → slice_get (added_names net log n (alarm_added new)) (length (taken_events net log new) * (1 + n * 2) + t) ≡ Some (done (length log.alarms) t)
-  done_at t h =
+  old_done_at : (t : ℕ) → t ≤ n → slice_get (alarm_names net log n new) (length (taken_events net log new) * (1 + n * 2) + t) ≡ Some (done (length log.alarms) t)
+  old_done_at t h =
       let whole = flat_length (λ f. link_names n (length log.alarms) f (length (chain net log f))) (taken_events net log new) (1 + n * 2) (λ f. link_size n (length log.alarms) f (length (chain net log f))) in
       let place = ap (λ m. m + t) (sym whole) in
-      ap (slice_get (added_names net log n (alarm_added new))) place
+      ap (slice_get (alarm_names net log n new)) place
       ∙ get_past (flat_map (λ f. link_names n (length log.alarms) f (length (chain net log f))) (taken_events net log new)) (map (λ s. done (length log.alarms) s) (numbers_below (suc n))) t
       ∙ slice_get-map (λ s. done (length log.alarms) s) (numbers_below (suc n)) t
       ∙ ap (option_map (λ s. done (length log.alarms) s)) (number_get (suc n) t (omega arith))
+
+  -- what stands among the names that each alarm has
+  further : (k : ℕ) (name : Name) → slice_get (alarm_names net log n new) k ≡ Some name → slice_get (added_names net log n (alarm_added new)) k ≡ Some name
+  further k name is = get_same (alarm_names net log n new) (false_names new.doubtful (length log.alarms)) k (slice_get_within (alarm_names net log n new) k name is) ∙ is
+
+  link_at : (p e j : ℕ) (name : Name) → slice_get (taken_events net log new) p ≡ Some e → j < 1 + n * 2 → slice_get (link_names n (length log.alarms) e (length (chain net log e))) j ≡ Some name →
+      slice_get (added_names net log n (alarm_added new)) (p * (1 + n * 2) + j) ≡ Some name
+  link_at p e j name is less there = further (p * (1 + n * 2) + j) name (old_link_at p e j is less ∙ there)
+
+  done_at : (t : ℕ) → t ≤ n → slice_get (added_names net log n (alarm_added new)) (length (taken_events net log new) * (1 + n * 2) + t) ≡ Some (done (length log.alarms) t)
+  done_at t h = further (length (taken_events net log new) * (1 + n * 2) + t) (done (length log.alarms) t) (old_done_at t h)
+
+  false_at : new.doubtful ≡ true → slice_get (added_names net log n (alarm_added new)) (length (taken_events net log new) * (1 + n * 2) + suc n) ≡ Some (dropped (length log.alarms))
+  false_at doubtful =
+      let links = flat_length (λ f. link_names n (length log.alarms) f (length (chain net log f))) (taken_events net log new) (1 + n * 2) (λ f. link_size n (length log.alarms) f (length (chain net log f))) in
+      let dones = length-map (numbers_below (suc n)) (λ t. done (length log.alarms) t) ∙ length-range_with_len 0 (suc n) in
+      let whole = length-append (flat_map (λ f. link_names n (length log.alarms) f (length (chain net log f))) (taken_events net log new)) (map (λ t. done (length log.alarms) t) (numbers_below (suc n))) in
+      let place : length (taken_events net log new) * (1 + n * 2) + suc n ≡ length (alarm_names net log n new) + 0 = omega (arith, links, dones, whole) in
+      ap (slice_get (added_names net log n (alarm_added new))) place
+      ∙ get_past (alarm_names net log n new) (false_names new.doubtful (length log.alarms)) 0
+      ∙ ap (λ b. slice_get (false_names b (length log.alarms)) 0) doubtful
 
 pub places_of_names : PlacesOfNames
 places_of_names net log n first new names are = record {
@@ -177,6 +199,7 @@ places_of_names net log n first new names are = record {
   matching = λ p e t is h. matches_at p e is t h;
   passing = λ p e t is h. unmatched_at p e is t h;
   being_done = λ t h. at net log n first new names are (length (taken_events net log new) * (1 + n * 2) + t) (done (length log.alarms) t) (done_at net log n first new names are t h);
+  being_false = λ h. at net log n first new names are (length (taken_events net log new) * (1 + n * 2) + suc n) (dropped (length log.alarms)) (false_at net log n first new names are h);
 }
   where
     closed_at : (p e : ℕ) → slice_get (taken_events net log new) p ≡ Some e →
@@ -184,21 +207,21 @@ places_of_names net log n first new names are = record {
     closed_at p e is =
         let same : p * (1 + n * 2) + 0 ≡ p * (1 + n * 2) = omega arith in
         subst (λ k. name_of (names ++ laid_out first (added_names net log n (alarm_added new))) (first + k) ≡ Some (closed e (suc (length (chain net log e))))) same
-        (at net log n first new names are (p * (1 + n * 2) + 0) (closed e (suc (length (chain net log e)))) (link_at net log n first new names are p e 0 is (omega arith)))
+        (at net log n first new names are (p * (1 + n * 2) + 0) (closed e (suc (length (chain net log e)))) (link_at net log n first new names are p e 0 (closed e (suc (length (chain net log e)))) is (omega arith) refl))
 
     matches_at : (p e : ℕ) → slice_get (taken_events net log new) p ≡ Some e → (t : ℕ) → t < n →
         name_of (names ++ laid_out first (added_names net log n (alarm_added new))) (first + (p * (1 + n * 2) + suc (t * 2))) ≡ Some (matches (length log.alarms) e (suc t))
     matches_at p e is t h =
         let same : suc (t * 2) ≡ suc (t * 2 + 0) = omega arith in
         at net log n first new names are (p * (1 + n * 2) + suc (t * 2)) (matches (length log.alarms) e (suc t))
-        (link_at net log n first new names are p e (suc (t * 2)) is (omega arith)
-        ∙ ap (slice_get (link_names n (length log.alarms) e (length (chain net log e)))) same ∙ step_get n (length log.alarms) e (length (chain net log e)) t 0 h (omega arith))
+        (link_at net log n first new names are p e (suc (t * 2)) (matches (length log.alarms) e (suc t)) is (omega arith)
+        (ap (slice_get (link_names n (length log.alarms) e (length (chain net log e)))) same ∙ step_get n (length log.alarms) e (length (chain net log e)) t 0 h (omega arith)))
 
     unmatched_at : (p e : ℕ) → slice_get (taken_events net log new) p ≡ Some e → (t : ℕ) → t < n →
         name_of (names ++ laid_out first (added_names net log n (alarm_added new))) (first + (p * (1 + n * 2) + suc (t * 2 + 1))) ≡ Some (unmatched e (suc (length (chain net log e))) (suc t))
     unmatched_at p e is t h =
         at net log n first new names are (p * (1 + n * 2) + suc (t * 2 + 1)) (unmatched e (suc (length (chain net log e))) (suc t))
-        (link_at net log n first new names are p e (suc (t * 2 + 1)) is (omega arith) ∙ step_get n (length log.alarms) e (length (chain net log e)) t 1 h (omega arith))
+        (link_at net log n first new names are p e (suc (t * 2 + 1)) (unmatched e (suc (length (chain net log e))) (suc t)) is (omega arith) (step_get n (length log.alarms) e (length (chain net log e)) t 1 h (omega arith)))
 
 pub ordered_reads : OrderedReads
 ordered_reads names clause named zip = record { read = named; by_name = reads clause named zip; same = λ x. (λ h. h, λ h. h) }

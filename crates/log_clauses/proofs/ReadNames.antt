@@ -1,13 +1,13 @@
 -- The names that clauses of logs and guards have.
-use Rattle.std.proofs.Common.{◌≡◌, ℕ, zero, suc, Bool, true, List, [], ◌∷◌, length, refl, sym, ap, map, IsTrue, ◌||◌, ◌∙◌}
+use Rattle.std.proofs.Common.{◌≡◌, ℕ, zero, suc, Bool, true, false, List, [], ◌∷◌, length, refl, sym, ap, map, cond, IsTrue, ◌||◌, ◌∙◌}
 use Rattle.std.specs.List.{AllByRecursion}
 use Rattle.des_net.specs.Network.{Net}
-use Rattle.log_order.specs.Log.{Log}
-use Rattle.log_clauses.specs.LogClauses.{chain, matching_events, observable_events, LogClause, log_clause, guard_literals, chain_closed, takes_rest, uses_up, passes_on, taken_or_passed, not_done_first, stays_done, match_is_done, matched_once, done_by_match, one_match, done_if_asked, before_if_asked}
+use Rattle.log_order.specs.Log.{Log, is_doubtful}
+use Rattle.log_clauses.specs.LogClauses.{chain, matching_events, observable_events, LogClause, log_clause, guard_literals, chain_closed, takes_rest, uses_up, passes_on, taken_or_passed, not_done_first, stays_done, match_is_done, matched_once, match_is_real, done_by_match, one_match, done_if_asked, before_if_asked, or_false}
 use Rattle.log_clauses.specs.LogLaws.{OnlyLogMatters}
 use Rattle.log_clauses.specs.LogTruth.{is_of_log, AgreeOnLog}
 use Rattle.prop_core.specs.NamedClauses.{same_sign, named_true, named_clause_true}
-use Rattle.prop_core.specs.VariableNames.{Name, NamedLiteral, yes, remaining, matches, closed}
+use Rattle.prop_core.specs.VariableNames.{Name, NamedLiteral, yes, remaining, matches, closed, dropped}
 use Rattle.run_clauses.specs.Steps.{is_event}
 
 remaining_read : (e k t : ℕ) → is_event (remaining e k t) || is_of_log (remaining e k t) ≡ true
@@ -18,17 +18,25 @@ each_read : (name : ℕ → Name) (xs : List ℕ) → ((x : ℕ) → is_event (n
 each_read name [] read = tt
 each_read name (x ∷ xs) read = (read x, each_read name xs read)
 
+or_false_read : (log : Log) (i : ℕ) (literals : List NamedLiteral) → AllByRecursion (λ m. is_event m.name || is_of_log m.name ≡ true) literals → AllByRecursion (λ m. is_event m.name || is_of_log m.name ≡ true) (or_false log i literals)
+or_false_read log i literals read = by (is_doubtful log i)
+  where
+    by : (b : Bool) → AllByRecursion (λ m. is_event m.name || is_of_log m.name ≡ true) (cond b (yes (dropped i) ∷ literals) literals)
+    by true = (refl, read)
+    by false = read
+
 clause_read : (net : Net) (log : Log) (n : ℕ) (which : LogClause) → AllByRecursion (λ m. is_event m.name || is_of_log m.name ≡ true) (log_clause net log n which)
 clause_read net log n (chain_closed e k t) = (refl, (remaining_read e k (suc t), tt))
 clause_read net log n (takes_rest i e k t) = (refl, (remaining_read e k (suc t), tt))
 clause_read net log n (uses_up i e k t) = (refl, (refl, tt))
 clause_read net log n (passes_on e k t) = (refl, (remaining_read e k (suc t), tt))
 clause_read net log n (taken_or_passed i e k t) = (remaining_read e k (suc t), (refl, (refl, tt)))
-clause_read net log n (not_done_first i) = (refl, tt)
+clause_read net log n (not_done_first i) = (refl, or_false_read log i [] tt)
 clause_read net log n (stays_done i t) = (refl, (refl, tt))
 clause_read net log n (match_is_done i e t) = (refl, (refl, tt))
 clause_read net log n (matched_once i e t) = (refl, (refl, tt))
-clause_read net log n (done_by_match i t) = (refl, (refl, each_read (λ e. matches i e (suc t)) (matching_events net log i) (λ e. refl)))
+clause_read net log n (match_is_real i e t) = (refl, (refl, tt))
+clause_read net log n (done_by_match i t) = (refl, (refl, or_false_read log i (map (λ e. yes (matches i e (suc t))) (matching_events net log i)) (each_read (λ e. matches i e (suc t)) (matching_events net log i) (λ e. refl))))
 clause_read net log n (one_match i e f t) = (refl, (refl, tt))
 clause_read net log n (done_if_asked i) = (refl, (refl, tt))
 clause_read net log n (before_if_asked i j t) = (refl, (refl, (refl, tt)))

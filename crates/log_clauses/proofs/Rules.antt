@@ -1,5 +1,5 @@
 -- What the clauses of a log say of a value, one rule at a time.
-use Rattle.std.proofs.Common.{◌≡◌, ℕ, zero, suc, ◌+◌, ◌-◌, ◌<◌, ◌≤◌, Bool, true, false, List, [], ◌∷◌, ◌∙◌, length, Option, Some, None, refl, sym, subst, arith, Contains, map, slice_get, filter, is_some, not, inl, inr, ◌⊎◌, ◌||◌, option_map, unwrap_or, IsTrue}
+use Rattle.std.proofs.Common.{◌≡◌, ℕ, zero, suc, ◌+◌, ◌-◌, ◌<◌, ◌≤◌, Bool, true, false, List, [], ◌∷◌, ◌∙◌, length, Option, Some, None, refl, sym, ap, subst, arith, Contains, map, slice_get, filter, is_some, not, inl, inr, ◌⊎◌, ◌||◌, ◌&&◌, cond, option_map, unwrap_or, IsTrue}
 use Rattle.std.specs.Prelude.{bytes_eq, IsSomeAnd}
 use Rattle.std.specs.Option.{option_map_or}
 use Rattle.std.specs.List.{AllByRecursion, list_any}
@@ -8,12 +8,13 @@ use Rattle.std.proofs.lemmas.Option.{slice_get_within, slice_get_past}
 use Rattle.std.proofs.lemmas.Slice.Eq.{bytes_eq-Decides}
 use Rattle.std.proofs.lemmas.List.{get_or_past}
 use Rattle.des_net.specs.Network.{Net, Event, label_of, no_event}
-use Rattle.log_clauses.proofs.Lists.{or_cases, cons_cases, here_first, here_later, none_in_nil, got_contains, contains_got, got_at, filter_has, filter_from, range_has}
-use Rattle.log_clauses.specs.LogClauses.{chain, IsLink, chain_closed, takes_rest, uses_up, passes_on, taken_or_passed, not_done_first, stays_done, match_is_done, matched_once, done_by_match, one_match, done_if_asked, before_if_asked, matching_events}
+use Rattle.log_clauses.proofs.Lists.{clash, as_false, both, and_true, or_cases, cons_cases, here_first, here_later, none_in_nil, got_contains, contains_got, got_at, filter_has, filter_from, range_has}
+use Rattle.log_clauses.specs.LogClauses.{chain, IsLink, chain_closed, takes_rest, uses_up, passes_on, taken_or_passed, not_done_first, stays_done, match_is_done, matched_once, done_by_match, one_match, done_if_asked, before_if_asked, matching_events, match_is_real, or_false}
+use Rattle.log_clauses.specs.Decoded.{is_false, comes}
 use Rattle.log_clauses.specs.LogTruth.{LogClausesHold, GuardsHold}
-use Rattle.log_order.specs.Log.{Log, Alarm, labels_of}
+use Rattle.log_order.specs.Log.{Log, Alarm, labels_of, is_doubtful}
 use Rattle.prop_core.specs.NamedClauses.{named_true}
-use Rattle.prop_core.specs.VariableNames.{Name, yes, happens, asked, matches, done, closed, remaining}
+use Rattle.prop_core.specs.VariableNames.{Name, NamedLiteral, yes, happens, asked, matches, done, closed, dropped, remaining}
 use Rattle.replay.specs.Explanation.{Shows}
 use Rattle.replay.specs.Matching.{has_label}
 use Rattle.replay.specs.QuestionSize.{is_matching}
@@ -42,6 +43,14 @@ under_two true true true h k l = refl
 under_two true true false h k l = cc
 under_two true false c h k l = cc
 under_two false b c h k l = cc
+
+-- these literals, or that the alarm is false
+pub or_false_is : (log : Log) (value : Name → Bool) (i : ℕ) (literals : List NamedLiteral) → list_any (named_true value) (or_false log i literals) ≡ is_false log value i || list_any (named_true value) literals
+or_false_is log value i literals = by (is_doubtful log i)
+  where
+    by : (b : Bool) → list_any (named_true value) (cond b (yes (dropped i) ∷ literals) literals) ≡ (b && value (dropped i)) || list_any (named_true value) literals
+    by true = refl
+    by false = refl
 
 -- one of these names is true
 some_true : (value : Name → Bool) (name : ℕ → Name) (xs : List ℕ) → list_any (named_true value) (map (λ x. yes (name x)) xs) ≡ true → (x : ℕ) × Contains xs x × (value (name x) ≡ true)
@@ -202,18 +211,69 @@ module _ (net : Net) (log : Log) (n : ℕ) (value : Name → Bool) (held : LogCl
       let same : suc (s + d) ≡ s + suc d = omega arith in
       subst (λ x. value (done i x) ≡ true) same (implied (value (done i (s + d))) (value (done i (suc (s + d)))) (held (stays_done i (s + d)) (known, omega arith)) before)
 
-  -- what is done was matched
-  pub matched_before : (m i : ℕ) → i < length log.alarms → m ≤ n → value (done i m) ≡ true → (t : ℕ) × (t < m) × (e : ℕ) × (is_matching net log e i ≡ true) × (value (matches i e (suc t)) ≡ true)
-  matched_before zero i known inside is = absurd (never (value (done i 0)) (held (not_done_first i) known) is)
-  matched_before (suc m) i known inside is =
-      by (either_rest (value (done i (suc m))) (value (done i m)) (list_any (named_true value) (map (λ e. yes (matches i e (suc m))) (matching_events net log i)))
-      (held (done_by_match i m) (known, omega arith)) is) (matched_before m i known (omega arith))
+  -- an alarm that is done from the start is false
+  pub false_first : (i : ℕ) → i < length log.alarms → value (done i 0) ≡ true → is_false log value i ≡ true
+  false_first i known is = implied (value (done i 0)) (is_false log value i) (subst (λ b. not (value (done i 0)) || b ≡ true) (or_false_is log value i []) (held (not_done_first i) known)) is
+
+  -- a true alarm that gets done in a step is matched there
+  pub comes_by_match : (i t : ℕ) → i < length log.alarms → t < n → is_false log value i ≡ false → comes value i (suc t) ≡ true → (e : ℕ) × (is_matching net log e i ≡ true) × (value (matches i e (suc t)) ≡ true)
+  comes_by_match i t known step real is =
+      let parts = both (value (done i (suc t))) (not (value (done i t))) is in
+      let clause : not (value (done i (suc t))) || (value (done i t) || (is_false log value i || list_any (named_true value) (map (λ e. yes (matches i e (suc t))) (matching_events net log i)))) ≡ true =
+      subst (λ b. not (value (done i (suc t))) || (value (done i t) || b) ≡ true) (or_false_is log value i (map (λ e. yes (matches i e (suc t))) (matching_events net log i))) (held (done_by_match i t) (known, step)) in
+      let found = some_true value (λ e. matches i e (suc t)) (matching_events net log i) (last (value (done i (suc t))) (value (done i t)) (is_false log value i) (list_any (named_true value) (map (λ e. yes (matches i e (suc t))) (matching_events net log i))) clause parts.0 parts.1 real) in
+      (found.0, event_matches net log found.0 i found.1, found.2)
     where
-      by : (value (done i m) ≡ true) ⊎ (list_any (named_true value) (map (λ e. yes (matches i e (suc m))) (matching_events net log i)) ≡ true) →
-          (value (done i m) ≡ true → (t : ℕ) × (t < m) × (e : ℕ) × (is_matching net log e i ≡ true) × (value (matches i e (suc t)) ≡ true)) →
-          (t : ℕ) × (t < suc m) × (e : ℕ) × (is_matching net log e i ≡ true) × (value (matches i e (suc t)) ≡ true)
-      by (inl before) later = let found = later before in let less = found.1 in (found.0, omega (arith, less), found.2, found.3, found.4)
-      by (inr now) later = let found = some_true value (λ e. matches i e (suc m)) (matching_events net log i) now in (m, omega arith, found.0, event_matches net log found.0 i found.1, found.2)
+      last : (a b c d : Bool) → not a || (b || (c || d)) ≡ true → a ≡ true → not b ≡ true → c ≡ false → d ≡ true
+      last true false false d h k l m = h
+      last true false true d h k l m = cc
+      last true true c d h k l m = cc
+      last false b c d h k l m = cc
+
+  -- What is done got so in a step, or from the start.
+  pub comes_before : (m i : ℕ) → value (done i m) ≡ true → (t : ℕ) × (t ≤ m) × (comes value i t ≡ true)
+  comes_before zero i is = (0, omega arith, is)
+  comes_before (suc m) i is = by (value (done i m)) refl (comes_before m i)
+    where
+      by : (b : Bool) → value (done i m) ≡ b → (value (done i m) ≡ true → (t : ℕ) × (t ≤ m) × (comes value i t ≡ true)) → (t : ℕ) × (t ≤ suc m) × (comes value i t ≡ true)
+      by true e later = let found = later e in let low = found.1 in (found.0, omega (arith, low), found.2)
+      by false e later = (suc m, omega arith, and_true (value (done i (suc m))) (not (value (done i m))) is (ap not e))
+
+  pub comes_done : (i t : ℕ) → comes value i t ≡ true → value (done i t) ≡ true
+  comes_done i zero is = is
+  comes_done i (suc t) is = (both (value (done i (suc t))) (not (value (done i t))) is).0
+
+  -- it isn't done in an earlier step
+  pub not_before : (i s t : ℕ) → i < length log.alarms → s < t → t ≤ n → value (done i s) ≡ true → comes value i t ≡ true → ⊥
+  not_before i s zero known less inside before is = omega arith
+  not_before i s (suc t) known less inside before is =
+      let gap = difference s t (omega arith) in
+      let same = gap.1 in
+      let later = subst (λ x. value (done i x) ≡ true) same (done_later gap.0 i s known (omega (arith, same)) before) in
+      contra (value (done i t)) later (both (value (done i (suc t))) (not (value (done i t))) is).1
+    where
+      difference : (a b : ℕ) → a ≤ b → (d : ℕ) × (a + d ≡ b)
+      difference a b h = (b - a, omega arith)
+
+      contra : (b : Bool) → b ≡ true → not b ≡ true → ⊥
+      contra true h k = cc
+      contra false h k = cc
+
+  pub one_step : (i s t : ℕ) → i < length log.alarms → s ≤ n → t ≤ n → comes value i s ≡ true → comes value i t ≡ true → s ≡ t
+  one_step i s t known first second here there = by (cases_lt s t) (cases_lt t s)
+    where
+      by : (s < t) ⊎ (t ≤ s) → (t < s) ⊎ (s ≤ t) → s ≡ t
+      by (inl less) other = absurd (not_before i s t known less second (comes_done i s here) there)
+      by (inr h) (inl less) = absurd (not_before i t s known less first (comes_done i t there) here)
+      by (inr h) (inr k) = omega arith
+
+  -- an alarm with a match isn't false
+  pub match_real : (i e t : ℕ) → is_matching net log e i ≡ true → t < n → value (matches i e (suc t)) ≡ true → is_false log value i ≡ false
+  match_real i e t matching step is = by (is_doubtful log i) refl
+    where
+      by : (b : Bool) → is_doubtful log i ≡ b → is_false log value i ≡ false
+      by true e' = rw e' (as_false (value (dropped i)) (neither (value (matches i e (suc t))) (value (dropped i)) (held (match_is_real i e t) (matching, e', step)) is))
+      by false e' = rw e' refl
 
   pub match_done : (i e t : ℕ) → is_matching net log e i ≡ true → t < n → value (matches i e (suc t)) ≡ true → value (done i (suc t)) ≡ true
   match_done i e t matching step is = implied (value (matches i e (suc t))) (value (done i (suc t))) (held (match_is_done i e t) (matching, step)) is
@@ -227,6 +287,12 @@ module _ (net : Net) (log : Log) (n : ℕ) (value : Name → Bool) (held : LogCl
     where
       difference : (a b : ℕ) → a ≤ b → (d : ℕ) × (a + d ≡ b)
       difference a b h = (b - a, omega arith)
+
+  -- it gets done in the step of its match
+  pub match_comes : (i e t : ℕ) → is_matching net log e i ≡ true → t < n → value (matches i e (suc t)) ≡ true → comes value i (suc t) ≡ true
+  match_comes i e t matching step is =
+      and_true (value (done i (suc t))) (not (value (done i t))) (match_done i e t matching step is)
+      (ap not (as_false (value (done i t)) (neither (value (matches i e (suc t))) (value (done i t)) (held (matched_once i e t) (matching, step)) is)))
 
   -- an alarm has one step at most
   pub one_step_less : (i e f s t : ℕ) → is_matching net log e i ≡ true → is_matching net log f i ≡ true → s < t → t < n → value (matches i e (suc s)) ≡ true → value (matches i f (suc t)) ≡ true → ⊥
@@ -242,8 +308,16 @@ module _ (net : Net) (log : Log) (n : ℕ) (value : Name → Bool) (held : LogCl
       by (inr h) (inr k) = omega arith
 
   module _ (guards : GuardsHold net log value) where
-    pub each_done : (i : ℕ) → i < length log.alarms → (t : ℕ) × (t < n) × (e : ℕ) × (is_matching net log e i ≡ true) × (value (matches i e (suc t)) ≡ true)
-    each_done i known = matched_before n i known (omega arith) (implied (value asked) (value (done i n)) (held (done_if_asked i) known) guards.0)
+    pub each_comes : (i : ℕ) → i < length log.alarms → (t : ℕ) × (t ≤ n) × (comes value i t ≡ true)
+    each_comes i known = comes_before n i (implied (value asked) (value (done i n)) (held (done_if_asked i) known) guards.0)
+
+    -- a true alarm has a match
+    pub each_done : (i : ℕ) → i < length log.alarms → is_false log value i ≡ false → (t : ℕ) × (t < n) × (e : ℕ) × (is_matching net log e i ≡ true) × (value (matches i e (suc t)) ≡ true)
+    each_done i known real = let found = each_comes i known in by found.0 found.1 found.2
+      where
+        by : (t : ℕ) → t ≤ n → comes value i t ≡ true → (s : ℕ) × (s < n) × (e : ℕ) × (is_matching net log e i ≡ true) × (value (matches i e (suc s)) ≡ true)
+        by zero inside is = clash (is_false log value i) (false_first i known is) real
+        by (suc t) inside is = let match = comes_by_match i t known (omega arith) real is in (t, omega arith, match.0, match.1, match.2)
 
     -- an observable event that happens has an alarm
     pub has_alarm : (e t : ℕ) → is_some (label_of net e) ≡ true → t < n → value (happens e (suc t)) ≡ true → (i : ℕ) × (is_matching net log e i ≡ true) × (value (matches i e (suc t)) ≡ true)
@@ -267,8 +341,6 @@ module _ (net : Net) (log : Log) (n : ℕ) (value : Name → Bool) (held : LogCl
         shut = from_map observable guards.1 known
 
     -- pairs don't step back
-    pub no_step_back : (i j e f s t : ℕ) → Contains log.pairs (i, j) → is_matching net log e i ≡ true → is_matching net log f j ≡ true → s < t → t < n →
-        value (matches j f (suc s)) ≡ true → value (matches i e (suc t)) ≡ true → ⊥
-    no_step_back i j e f s t pair first second less step later earlier =
-        not_done_before i e s t first less step
-        (under_two (value asked) (value (done j (suc s))) (value (done i (suc s))) (held (before_if_asked i j s) (pair, omega arith)) guards.0 (match_done j f s second (omega arith) later)) earlier
+    pub no_step_back : (i j s t : ℕ) → i < length log.alarms → Contains log.pairs (i, j) → s < t → t ≤ n → comes value j s ≡ true → comes value i t ≡ true → ⊥
+    no_step_back i j s t known pair less inside later earlier =
+        not_before i s t known less inside (under_two (value asked) (value (done j s)) (value (done i s)) (held (before_if_asked i j s) (pair, omega arith)) guards.0 (comes_done j s later)) earlier

@@ -1,14 +1,14 @@
 -- What a longer log keeps of a shorter one.
-use Rattle.std.proofs.Common.{◌≡◌, ℕ, zero, suc, ◌+◌, ◌<◌, ◌≤◌, Bool, true, false, List, [], ◌∷◌, ◌++◌, ◌∙◌, length, refl, sym, ap, subst, arith, map, slice_get, filter, option_map, unwrap_or, length-append, add-zero}
+use Rattle.std.proofs.Common.{◌≡◌, ℕ, zero, suc, ◌+◌, ◌<◌, ◌≤◌, Bool, true, false, List, [], ◌∷◌, ◌++◌, ◌∙◌, length, refl, sym, ap, subst, arith, Some, map, slice_get, filter, option_map, unwrap_or, cond, length-append, add-zero}
 use Rattle.std.specs.Prelude.{bytes_eq}
 use Rattle.std.specs.Option.{option_map_or}
 use Rattle.std.specs.List.{AllByRecursion, list_any, range_with_len}
 use Rattle.std.proofs.lemmas.List.Elements.{filter-append}
 use Rattle.des_net.specs.Network.{Net, label_of}
 use Rattle.log_clauses.proofs.Rules.{matching_alarm}
-use Rattle.log_clauses.specs.LogClauses.{chain, LogClause, IsLogClause, IsLink, log_clause, chain_closed, takes_rest, uses_up, passes_on, taken_or_passed, not_done_first, stays_done, match_is_done, matched_once, done_by_match, one_match, done_if_asked, before_if_asked}
-use Rattle.log_order.specs.Log.{Log, Alarm}
-use Rattle.prop_core.specs.VariableNames.{yes, no, matches, done}
+use Rattle.log_clauses.specs.LogClauses.{chain, doubtful_alarms, matching_events, LogClause, IsLogClause, IsLink, log_clause, chain_closed, takes_rest, uses_up, passes_on, taken_or_passed, not_done_first, stays_done, match_is_done, matched_once, match_is_real, done_by_match, one_match, done_if_asked, before_if_asked, or_false}
+use Rattle.log_order.specs.Log.{Log, Alarm, is_doubtful}
+use Rattle.prop_core.specs.VariableNames.{NamedLiteral, yes, no, matches, done, dropped}
 use Rattle.replay.specs.QuestionSize.{is_matching}
 use Rattle.run_clauses.specs.StepClauses.{numbers_below}
 use Rattle.run_clauses.proofs.Lists.{get_more}
@@ -39,6 +39,17 @@ filter_same p q m (x ∷ xs) same h = rw (same x h.0, filter_same p q m xs same 
 pub matching_same : (net : Net) (log : Log) (new : Alarm) (e i : ℕ) → i < length log.alarms → is_matching net (with_alarm log new) e i ≡ is_matching net log e i
 matching_same net log new e i h = ap (λ o. option_map_or (λ label. list_any (bytes_eq label) (unwrap_or (option_map (λ (alarm : Alarm). alarm.labels) o) [])) (label_of net e) false) (get_same log.alarms (new ∷ []) i h)
 
+pub doubtful_same : (log : Log) (new : Alarm) (i : ℕ) → i < length log.alarms → is_doubtful (with_alarm log new) i ≡ is_doubtful log i
+doubtful_same log new i h = ap (λ o. unwrap_or (option_map (λ (alarm : Alarm). alarm.doubtful) o) false) (get_same log.alarms (new ∷ []) i h)
+
+-- the new alarm is doubtful as it is itself
+pub doubtful_new : (log : Log) (new : Alarm) → is_doubtful (with_alarm log new) (length log.alarms) ≡ new.doubtful
+doubtful_new log new = ap (λ o. unwrap_or (option_map (λ (alarm : Alarm). alarm.doubtful) o) false) (get_last log.alarms)
+  where
+    get_last : (xs : List Alarm) → slice_get (xs ++ new ∷ []) (length xs) ≡ Some new
+    get_last [] = refl
+    get_last (x ∷ xs) = get_last xs
+
 pub chain_is : (net : Net) (log : Log) (new : Alarm) (e : ℕ) →
     chain net (with_alarm log new) e ≡ chain net log e ++ filter (is_matching net (with_alarm log new) e) (length log.alarms ∷ [])
 chain_is net log new e =
@@ -48,6 +59,15 @@ chain_is net log new e =
     ap (λ k. filter p (range_with_len 0 k)) longer ∙ ap (filter p) (range_more 0 m) ∙ filter-append p (range_with_len 0 m) ((0 + m) ∷ [])
     ∙ ap (λ k. filter p (range_with_len 0 m) ++ filter p (k ∷ [])) (omega arith)
     ∙ ap (λ xs. xs ++ filter p (m ∷ [])) (filter_same p (is_matching net log e) m (range_with_len 0 m) (λ x h. matching_same net log new e x h) (subst (λ k. AllByRecursion (λ x. x < k) (range_with_len 0 m)) (omega arith) (range_below 0 m)))
+
+pub doubtful_is : (log : Log) (new : Alarm) → doubtful_alarms (with_alarm log new) ≡ doubtful_alarms log ++ filter (is_doubtful (with_alarm log new)) (length log.alarms ∷ [])
+doubtful_is log new =
+    let m = length log.alarms in
+    let p = is_doubtful (with_alarm log new) in
+    let longer : length (log.alarms ++ new ∷ []) ≡ suc m = omega (arith, length-append log.alarms (new ∷ [])) in
+    ap (λ k. filter p (range_with_len 0 k)) longer ∙ ap (filter p) (range_more 0 m) ∙ filter-append p (range_with_len 0 m) ((0 + m) ∷ [])
+    ∙ ap (λ k. filter p (range_with_len 0 m) ++ filter p (k ∷ [])) (omega arith)
+    ∙ ap (λ xs. xs ++ filter p (m ∷ [])) (filter_same p (is_doubtful log) m (range_with_len 0 m) (λ x h. doubtful_same log new x h) (subst (λ k. AllByRecursion (λ x. x < k) (range_with_len 0 m)) (omega arith) (range_below 0 m)))
 
 chain_more : (net : Net) (log : Log) (new : Alarm) (e : ℕ) → (more : List ℕ) × (chain net (with_alarm log new) e ≡ chain net log e ++ more)
 chain_more net log new e = (filter (is_matching net (with_alarm log new) e) (length log.alarms ∷ []), chain_is net log new e)
@@ -74,6 +94,7 @@ known_stays net log n new (not_done_first i) h = alarms_grow log new i h
 known_stays net log n new (stays_done i t) h = (alarms_grow log new i h.0, h.1)
 known_stays net log n new (match_is_done i e t) h = (matching_stays net log new e i h.0, h.1)
 known_stays net log n new (matched_once i e t) h = (matching_stays net log new e i h.0, h.1)
+known_stays net log n new (match_is_real i e t) h = (matching_stays net log new e i h.0, doubtful_same log new i (matching_alarm net log e i h.0) ∙ h.1, h.2)
 known_stays net log n new (done_by_match i t) h = (alarms_grow log new i h.0, h.1)
 known_stays net log n new (one_match i e f t) h = (matching_stays net log new e i h.0, matching_stays net log new f i h.1, h.2, h.3)
 known_stays net log n new (done_if_asked i) h = alarms_grow log new i h
@@ -82,18 +103,23 @@ known_stays net log n new (before_if_asked i j t) h = h
 pub all_range : (m : ℕ) (p q : ℕ → Bool) → ((x : ℕ) → p x ≡ q x) → filter p (numbers_below m) ≡ filter q (numbers_below m)
 all_range m p q same = filter_same p q m (range_with_len 0 m) (λ x h. same x) (subst (λ k. AllByRecursion (λ x. x < k) (range_with_len 0 m)) (omega arith) (range_below 0 m))
 
+or_false_same : (log : Log) (new : Alarm) (i : ℕ) → i < length log.alarms → (literals : List NamedLiteral) → or_false log i literals ≡ or_false (with_alarm log new) i literals
+or_false_same log new i h literals = ap (λ b. cond b (yes (dropped i) ∷ literals) literals) (sym (doubtful_same log new i h))
+
 pub clause_same : (net : Net) (log : Log) (n : ℕ) (new : Alarm) (which : LogClause) → IsLogClause net log n which → log_clause net log n which ≡ log_clause net (with_alarm log new) n which
 clause_same net log n new (chain_closed e k t) h = refl
 clause_same net log n new (takes_rest i e k t) h = refl
 clause_same net log n new (uses_up i e k t) h = refl
 clause_same net log n new (passes_on e k t) h = refl
 clause_same net log n new (taken_or_passed i e k t) h = refl
-clause_same net log n new (not_done_first i) h = refl
+clause_same net log n new (not_done_first i) h = ap (λ ls. no (done i 0) ∷ ls) (or_false_same log new i h [])
 clause_same net log n new (stays_done i t) h = refl
 clause_same net log n new (match_is_done i e t) h = refl
 clause_same net log n new (matched_once i e t) h = refl
+clause_same net log n new (match_is_real i e t) h = refl
 clause_same net log n new (done_by_match i t) h =
-    ap (λ es. no (done i (suc t)) ∷ yes (done i t) ∷ map (λ e. yes (matches i e (suc t))) es)
+    ap (λ ls. no (done i (suc t)) ∷ yes (done i t) ∷ ls) (or_false_same log new i h.0 (map (λ e. yes (matches i e (suc t))) (matching_events net log i)))
+    ∙ ap (λ es. no (done i (suc t)) ∷ yes (done i t) ∷ or_false (with_alarm log new) i (map (λ e. yes (matches i e (suc t))) es))
     (sym (all_range (length net.events) (λ e. is_matching net (with_alarm log new) e i) (λ e. is_matching net log e i) (λ e. matching_same net log new e i h.0)))
 clause_same net log n new (one_match i e f t) h = refl
 clause_same net log n new (done_if_asked i) h = refl

@@ -1,5 +1,5 @@
 -- Worked chains, clauses and guards, and two alarms in one step with a pair between them, coded and decoded.
-use Rattle.std.proofs.Common.{◌≡◌, ℕ, Bool, true, false, List, [], ◌∷◌, ◌++◌, refl, ◌==◌, length}
+use Rattle.std.proofs.Common.{map, ◌≡◌, ℕ, Bool, true, false, List, [], ◌∷◌, ◌++◌, refl, ◌==◌, length}
 use Rattle.std.specs.Prelude.{codes}
 use Rattle.std.specs.List.{list_all}
 use Rattle.des_net.specs.Models.{apart, pump}
@@ -8,14 +8,27 @@ use Rattle.log_clauses.specs.Additions.{alarm_added, pair_added, with_addition, 
 use Rattle.log_clauses.specs.Coded.{coded, opened}
 use Rattle.log_clauses.specs.Decoded.{decoded, decoded_order, alarm_at, event_at}
 use Rattle.log_clauses.specs.Drafts.{added_clauses, first_clauses}
-use Rattle.log_clauses.specs.LogClauses.{chain, matching_events, observable_events, LogClause, log_clause, guard_literals, chain_closed, takes_rest, uses_up, matched_once, done_by_match, one_match, before_if_asked}
+use Rattle.log_clauses.specs.LogClauses.{chain, matching_events, observable_events, LogClause, log_clause, guard_literals, chain_closed, takes_rest, uses_up, matched_once, done_by_match, one_match, not_done_first, before_if_asked}
 use Rattle.log_clauses.specs.LogNames.{added_names, first_names}
+use Rattle.des_net.specs.Width.{joined}
+use Rattle.replay.specs.Deciding.{explains}
+use Rattle.replay.specs.Explanation.{Entry}
 use Rattle.prop_core.specs.NamedClauses.{named_true, named_clause_true}
-use Rattle.prop_core.specs.VariableNames.{Name, in_state, happens, asked, matches, done, unmatched, closed, reaches, some_of_first, yes, no}
+use Rattle.prop_core.specs.VariableNames.{Name, in_state, happens, asked, matches, done, unmatched, closed, dropped, reaches, some_of_first, yes, no}
 use Rattle.std.specs.Prelude.{Some, None}
 
 abbrev pub alarm : List ℕ → List (List ℕ) → Alarm
-alarm name labels = record { name = name; labels = labels }
+alarm name labels = record { name = name; labels = labels; doubtful = false }
+
+-- one that is perhaps false
+abbrev pub maybe : List ℕ → List (List ℕ) → Alarm
+maybe name labels = record { name = name; labels = labels; doubtful = true }
+
+abbrev entry : ℕ → Bool → Entry
+entry i real = record { alarm = i; real = real }
+
+abbrev all_true : List ℕ → List Entry
+all_true alarms = map (λ i. entry i true) alarms
 
 -- ---- chains
 
@@ -84,20 +97,21 @@ both (matches i e t) = false
 both (done i t) = false
 both (unmatched e k t) = false
 both (closed e k) = false
+both (dropped i) = false
 both (reaches i j) = false
 both (some_of_first family i) = false
 
 -- eb stands for y, and ea for x
 abbrev matched : Name → Bool
-matched = coded apart y_before_x ((1 ∷ 0 ∷ []) ∷ []) ((1 ∷ 0 ∷ []) ∷ []) both
+matched = coded apart y_before_x ((1 ∷ 0 ∷ []) ∷ []) ([] ∷ all_true (1 ∷ 0 ∷ []) ∷ []) both
 
 -- the clauses of the log in one step, as they come
 abbrev all_clauses : List LogClause
 all_clauses = first_clauses apart 1 ++ added_clauses apart no_log 1 (alarm_added x) ++ added_clauses apart (with_addition no_log (alarm_added x)) 1 (alarm_added y)
     ++ added_clauses apart (log_after no_log (alarm_added x ∷ alarm_added y ∷ [])) 1 (pair_added 1 0)
 
--- two of the empty log, eleven of each alarm, one of the pair
-pub clause_count : length all_clauses ≡ 25
+-- two of the empty log, eleven of each alarm, two of the pair
+pub clause_count : length all_clauses ≡ 26
 clause_count = refl
 
 pub guards_of_both : guard_literals apart y_before_x ≡ yes asked ∷ yes (closed 0 1) ∷ yes (closed 1 1) ∷ []
@@ -121,13 +135,13 @@ ea_without_alarm = refl
 pub decodes : decoded apart y_before_x matched (1 ∷ 0 ∷ []) 1 ≡ (1 ∷ 0 ∷ []) ∷ []
 decodes = refl
 
-pub decodes_order : decoded_order apart y_before_x matched (1 ∷ 0 ∷ []) 1 ≡ 1 ∷ 0 ∷ []
+pub decodes_order : decoded_order apart y_before_x matched (1 ∷ 0 ∷ []) 1 ≡ all_true (1 ∷ 0 ∷ [])
 decodes_order = refl
 
 -- ---- what is false
 
 -- with no alarm an event that happens breaks the guard of its chain
-pub empty_log_closes : named_clause_true (coded apart no_log ([] ∷ []) ([] ∷ []) both) (log_clause apart no_log 1 (chain_closed 0 0 0)) ≡ false
+pub empty_log_closes : named_clause_true (coded apart no_log ([] ∷ []) ([] ∷ [] ∷ []) both) (log_clause apart no_log 1 (chain_closed 0 0 0)) ≡ false
 empty_log_closes = refl
 
 -- and without guards nothing is broken
@@ -136,24 +150,79 @@ unguarded_opens = refl
 
 -- x a step before y is against the pair
 abbrev x_first : Name → Bool
-x_first = coded apart y_before_x ((0 ∷ []) ∷ (1 ∷ []) ∷ []) ((0 ∷ []) ∷ (1 ∷ []) ∷ []) both
+x_first = coded apart y_before_x ((0 ∷ []) ∷ (1 ∷ []) ∷ []) ([] ∷ all_true (0 ∷ []) ∷ all_true (1 ∷ []) ∷ []) both
 
-pub pair_broken : named_clause_true x_first (log_clause apart y_before_x 2 (before_if_asked 1 0 0)) ≡ false
+pub pair_broken : named_clause_true x_first (log_clause apart y_before_x 2 (before_if_asked 1 0 1)) ≡ false
 pair_broken = refl
 
 -- one alarm in two steps
 abbrev twice : Name → Bool
-twice = coded apart y_before_x ((0 ∷ []) ∷ (0 ∷ []) ∷ []) ((0 ∷ []) ∷ (0 ∷ []) ∷ []) both
+twice = coded apart y_before_x ((0 ∷ []) ∷ (0 ∷ []) ∷ []) ([] ∷ all_true (0 ∷ []) ∷ all_true (0 ∷ []) ∷ []) both
 
 pub matched_twice : named_clause_true twice (log_clause apart y_before_x 2 (matched_once 0 0 1)) ≡ false
 matched_twice = refl
 
 -- one alarm for two events of a step
 abbrev for_two : Name → Bool
-for_two = coded pump beats ((1 ∷ 3 ∷ []) ∷ []) ((0 ∷ 0 ∷ []) ∷ []) both
+for_two = coded pump beats ((1 ∷ 3 ∷ []) ∷ []) ([] ∷ all_true (0 ∷ 0 ∷ []) ∷ []) both
 
 pub two_events : named_clause_true for_two (log_clause pump beats 1 (one_match 0 1 3 0)) ≡ false
 two_events = refl
+
+-- ---- a false alarm: y before z before x, where z is doubtful and no event shows it
+
+abbrev z : Alarm
+z = maybe (codes "z") (codes "C" ∷ [])
+
+abbrev y_perhaps_z_x : Log
+y_perhaps_z_x = log_after no_log (alarm_added x ∷ alarm_added z ∷ alarm_added y ∷ pair_added 2 1 ∷ pair_added 1 0 ∷ [])
+
+-- z is done in step 1, as the others are
+abbrev z_dropped : Name → Bool
+z_dropped = coded apart y_perhaps_z_x ((1 ∷ 0 ∷ []) ∷ []) ([] ∷ (entry 2 true ∷ entry 1 false ∷ entry 0 true ∷ []) ∷ []) both
+
+abbrev clauses_with_z : List LogClause
+clauses_with_z = first_clauses apart 1 ++ added_clauses apart no_log 1 (alarm_added x) ++ added_clauses apart (log_after no_log (alarm_added x ∷ [])) 1 (alarm_added z)
+    ++ added_clauses apart (log_after no_log (alarm_added x ∷ alarm_added z ∷ [])) 1 (alarm_added y)
+    ++ added_clauses apart (log_after no_log (alarm_added x ∷ alarm_added z ∷ alarm_added y ∷ [])) 1 (pair_added 2 1)
+    ++ added_clauses apart (log_after no_log (alarm_added x ∷ alarm_added z ∷ alarm_added y ∷ pair_added 2 1 ∷ [])) 1 (pair_added 1 0)
+
+pub z-guards : list_all (named_true z_dropped) (guard_literals apart y_perhaps_z_x) ≡ true
+z-guards = refl
+
+pub z-clauses : list_all (λ which. named_clause_true z_dropped (log_clause apart y_perhaps_z_x 1 which)) clauses_with_z ≡ true
+z-clauses = refl
+
+-- eb y, ! z, ea x
+pub z-decodes : decoded apart y_perhaps_z_x z_dropped (2 ∷ 1 ∷ 0 ∷ []) 1 ≡ (1 ∷ 0 ∷ []) ∷ []
+z-decodes = refl
+
+pub z-decodes_order : decoded_order apart y_perhaps_z_x z_dropped (2 ∷ 1 ∷ 0 ∷ []) 1 ≡ entry 2 true ∷ entry 1 false ∷ entry 0 true ∷ []
+z-decodes_order = refl
+
+pub z-explains : explains apart y_perhaps_z_x 1 (joined (decoded apart y_perhaps_z_x z_dropped (2 ∷ 1 ∷ 0 ∷ []) 1)) (decoded_order apart y_perhaps_z_x z_dropped (2 ∷ 1 ∷ 0 ∷ []) 1) ≡ true
+z-explains = refl
+
+-- done from the start it would be before y
+abbrev z_early : Name → Bool
+z_early = coded apart y_perhaps_z_x ((1 ∷ 0 ∷ []) ∷ []) ((entry 1 false ∷ []) ∷ (entry 2 true ∷ entry 0 true ∷ []) ∷ []) both
+
+pub z-too_early : named_clause_true z_early (log_clause apart y_perhaps_z_x 1 (before_if_asked 2 1 0)) ≡ false
+z-too_early = refl
+
+-- a certain alarm isn't done from the start
+pub certain_first : log_clause apart y_perhaps_z_x 1 (not_done_first 0) ≡ no (done 0 0) ∷ []
+certain_first = refl
+
+pub doubtful_first : log_clause apart y_perhaps_z_x 1 (not_done_first 1) ≡ no (done 1 0) ∷ yes (dropped 1) ∷ []
+doubtful_first = refl
+
+pub names_of_z : added_names apart no_log 1 (alarm_added z) ≡ done 0 0 ∷ done 0 1 ∷ dropped 0 ∷ []
+names_of_z = refl
+
+-- a doubtful trip in two steps: one clause more for each match
+pub clauses_of_doubtful : length (added_clauses pump no_log 2 (alarm_added (maybe (codes "a1") (codes "T" ∷ [])))) ≡ 22
+clauses_of_doubtful = refl
 
 -- ---- drafts
 

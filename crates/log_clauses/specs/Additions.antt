@@ -1,8 +1,8 @@
 -- Logs that grow, and the clauses that each addition brings.
-use Rattle.std.specs.Prelude.{◌≡◌, ℕ, suc, ◌<◌, List, [], ◌∷◌, ◌++◌, length, IsTrue, is_some}
+use Rattle.std.specs.Prelude.{◌≡◌, ℕ, suc, ◌<◌, ◌≤◌, List, [], ◌∷◌, ◌++◌, length, IsTrue, is_some}
 use Rattle.des_net.specs.Network.{Net, label_of}
 use Rattle.log_order.specs.Log.{Log, Alarm}
-use Rattle.log_clauses.specs.LogClauses.{chain, LogClause, chain_closed, takes_rest, uses_up, passes_on, taken_or_passed, not_done_first, stays_done, match_is_done, matched_once, done_by_match, one_match, done_if_asked, before_if_asked}
+use Rattle.log_clauses.specs.LogClauses.{chain, LogClause, chain_closed, takes_rest, uses_up, passes_on, taken_or_passed, not_done_first, stays_done, match_is_done, matched_once, match_is_real, done_by_match, one_match, done_if_asked, before_if_asked}
 use Rattle.replay.specs.QuestionSize.{is_matching}
 
 -- one alarm at the end, or one pair
@@ -38,6 +38,7 @@ IsAlarmClause net log n new (not_done_first i) = i ≡ length log.alarms
 IsAlarmClause net log n new (stays_done i t) = (i ≡ length log.alarms) × (t < n)
 IsAlarmClause net log n new (match_is_done i e t) = (i ≡ length log.alarms) × IsTaken net log new e × (t < n)
 IsAlarmClause net log n new (matched_once i e t) = (i ≡ length log.alarms) × IsTaken net log new e × (t < n)
+IsAlarmClause net log n new (match_is_real i e t) = (i ≡ length log.alarms) × IsTaken net log new e × IsTrue new.doubtful × (t < n)
 IsAlarmClause net log n new (done_by_match i t) = (i ≡ length log.alarms) × (t < n)
 IsAlarmClause net log n new (one_match i e f t) = (i ≡ length log.alarms) × IsTaken net log new e × IsTaken net log new f × (e < f) × (t < n)
 IsAlarmClause net log n new (done_if_asked i) = i ≡ length log.alarms
@@ -46,7 +47,7 @@ IsAlarmClause net log n new (before_if_asked i j t) = ⊥
 -- the clauses that an addition brings
 abbrev pub IsAddedClause : Net → Log → ℕ → Addition → LogClause → Type 0
 IsAddedClause net log n (alarm_added new) which = IsAlarmClause net log n new which
-IsAddedClause net log n (pair_added i j) which = (t : ℕ) × (t < n) × (which ≡ before_if_asked i j t)
+IsAddedClause net log n (pair_added i j) which = (t : ℕ) × (t ≤ n) × (which ≡ before_if_asked i j t)
 
 -- the clauses of the empty log: no event that can be seen happens where all chains are closed
 abbrev pub IsFirstClause : Net → ℕ → LogClause → Type 0

@@ -1,12 +1,12 @@
 -- Truths of the names of a log: where it isn't asked for, and of an explanation.
-use Rattle.std.specs.Prelude.{ℕ, zero, suc, Bool, true, false, not, ◌&&◌, ◌||◌, List, [], ◌∷◌, length, take, nat_eq, ◌==◌, slice_index_or}
+use Rattle.std.specs.Prelude.{ℕ, zero, suc, Bool, true, false, not, ◌&&◌, ◌||◌, List, [], ◌∷◌, length, map, flat_map, take, nat_eq, ◌==◌, slice_index_or}
 use Rattle.std.specs.List.{list_any}
 use Rattle.des_net.specs.Network.{Net}
 use Rattle.des_net.specs.Width.{joined}
 use Rattle.log_order.specs.Log.{Log}
 use Rattle.log_clauses.specs.LogClauses.{chain}
-use Rattle.prop_core.specs.VariableNames.{Name, in_state, happens, asked, matches, done, unmatched, closed, reaches, some_of_first}
-use Rattle.replay.specs.Explanation.{observables}
+use Rattle.prop_core.specs.VariableNames.{Name, in_state, happens, asked, matches, done, unmatched, closed, dropped, reaches, some_of_first}
+use Rattle.replay.specs.Explanation.{observables, Entry, alarms_of, real_alarms}
 
 -- Nothing is asked for, no chain is closed, and no alarm stands for an event: each event that happens is passed on.
 abbrev pub opened : (Name → Bool) → Name → Bool
@@ -17,6 +17,7 @@ opened value (matches i e t) = false
 opened value (done i t) = false
 opened value (unmatched e k t) = value (happens e t)
 opened value (closed e k) = false
+opened value (dropped i) = false
 opened value (reaches i j) = value (reaches i j)
 opened value (some_of_first family i) = value (some_of_first family i)
 
@@ -26,20 +27,25 @@ is_paired e i [] is = false
 is_paired e i (x ∷ xs) [] = false
 is_paired e i (x ∷ xs) (j ∷ js) = ((x == e) && (j == i)) || is_paired e i xs js
 
--- Each block lists the alarms of its piece, in the order of the events that can be seen: alarm i stands for e in step t, counted from 1.
-abbrev pub stands : Net → List (List ℕ) → List (List ℕ) → ℕ → ℕ → ℕ → Bool
+-- Each block but the first has the alarms of its piece, the true ones in the order of the events that can be seen: alarm i stands for e in step t, counted from 1.
+abbrev pub stands : Net → List (List ℕ) → List (List Entry) → ℕ → ℕ → ℕ → Bool
 stands net pieces blocks i e zero = false
-stands net pieces blocks i e (suc t) = is_paired e i (observables net (slice_index_or pieces t [])) (slice_index_or blocks t [])
+stands net pieces blocks i e (suc t) = is_paired e i (observables net (slice_index_or pieces t [])) (real_alarms (slice_index_or blocks (suc t) []))
 
--- the truth by which the alarms of each block stand for the events of its piece
-abbrev pub coded : Net → Log → List (List ℕ) → List (List ℕ) → (Name → Bool) → Name → Bool
+-- one of the entries says that alarm i is false
+abbrev pub is_dropped : List Entry → ℕ → Bool
+is_dropped order i = list_any (λ entry. entry.alarm == i && not entry.real) order
+
+-- The truth by which the true alarms of each block stand for the events of its piece, and the false ones are done with it: those of the first block from the start.
+abbrev pub coded : Net → Log → List (List ℕ) → List (List Entry) → (Name → Bool) → Name → Bool
 coded net log pieces blocks value (in_state c q t) = value (in_state c q t)
 coded net log pieces blocks value (happens e t) = value (happens e t)
 coded net log pieces blocks value asked = true
 coded net log pieces blocks value (matches i e t) = stands net pieces blocks i e t
-coded net log pieces blocks value (done i t) = list_any (nat_eq i) (joined (take t blocks))
+coded net log pieces blocks value (done i t) = list_any (nat_eq i) (joined (take (suc t) (map alarms_of blocks)))
 coded net log pieces blocks value (unmatched e k t) =
     value (happens e t) && not (list_any (λ i. stands net pieces blocks i e t) (take k (chain net log e)))
 coded net log pieces blocks value (closed e k) = k == length (chain net log e)
+coded net log pieces blocks value (dropped i) = is_dropped (flat_map (λ block. block) blocks) i
 coded net log pieces blocks value (reaches i j) = value (reaches i j)
 coded net log pieces blocks value (some_of_first family i) = value (some_of_first family i)

@@ -1,9 +1,10 @@
 -- The run and the order of alarms that a truth of names gives.
-use Rattle.std.specs.Prelude.{ℕ, suc, Bool, not, List, [], ◌∷◌, ◌++◌, Option, is_some, filter, find, filter_map}
+use Rattle.std.specs.Prelude.{ℕ, zero, suc, Bool, not, ◌&&◌, List, [], ◌∷◌, ◌++◌, Option, is_some, map, filter, find, filter_map}
 use Rattle.des_net.specs.Network.{Net, label_of}
-use Rattle.log_order.specs.Log.{Log}
+use Rattle.log_order.specs.Log.{Log, is_doubtful}
 use Rattle.log_clauses.specs.LogClauses.{chain, matching_events}
-use Rattle.prop_core.specs.VariableNames.{Name, matches}
+use Rattle.prop_core.specs.VariableNames.{Name, matches, done, dropped}
+use Rattle.replay.specs.Explanation.{Entry}
 use Rattle.run_clauses.specs.Steps.{step_sets}
 
 -- the event that alarm i stands for in the step after t steps
@@ -31,14 +32,34 @@ arranged net log value alarms t [] = []
 arranged net log value alarms t (piece ∷ pieces) =
     (unobservables net piece ++ shown_at net log value alarms t) ∷ arranged net log value alarms (suc t) pieces
 
--- the alarms step by step, within each in their given order
-abbrev pub arranged_order : Net → Log → (Name → Bool) → List ℕ → ℕ → List (List ℕ) → List ℕ
-arranged_order net log value alarms t [] = []
-arranged_order net log value alarms t (piece ∷ pieces) = alarms_at net log value alarms t ++ arranged_order net log value alarms (suc t) pieces
+-- alarm i is false
+abbrev pub is_false : Log → (Name → Bool) → ℕ → Bool
+is_false log value i = is_doubtful log i && value (dropped i)
+
+-- alarm i gets done in step t, or, where that is 0, is so from the start
+abbrev pub comes : (Name → Bool) → ℕ → ℕ → Bool
+comes value i zero = value (done i zero)
+comes value i (suc t) = value (done i (suc t)) && not (value (done i t))
+
+-- the alarms that get done in step t, in their given order, each with whether it is true
+abbrev pub entry_of : Log → (Name → Bool) → ℕ → Entry
+entry_of log value i = record { alarm = i; real = not (is_false log value i) }
+
+abbrev pub entries_at : Log → (Name → Bool) → List ℕ → ℕ → List Entry
+entries_at log value alarms t = map (entry_of log value) (filter (λ i. comes value i t) alarms)
+
+-- those of the steps after t steps, as many as there are pieces
+abbrev pub arranged_order : Log → (Name → Bool) → List ℕ → ℕ → List (List ℕ) → List Entry
+arranged_order log value alarms t [] = []
+arranged_order log value alarms t (piece ∷ pieces) = entries_at log value alarms (suc t) ++ arranged_order log value alarms (suc t) pieces
+
+-- and of all steps: first the false alarms that are done from the start
+abbrev pub whole_order : Log → (Name → Bool) → List ℕ → List (List ℕ) → List Entry
+whole_order log value alarms pieces = entries_at log value alarms 0 ++ arranged_order log value alarms 0 pieces
 
 -- the pieces of n steps and their order of alarms, where the given order of all alarms settles what the steps leave open
 abbrev pub decoded : Net → Log → (Name → Bool) → List ℕ → ℕ → List (List ℕ)
 decoded net log value alarms n = arranged net log value alarms 0 (step_sets net n value)
 
-abbrev pub decoded_order : Net → Log → (Name → Bool) → List ℕ → ℕ → List ℕ
-decoded_order net log value alarms n = arranged_order net log value alarms 0 (step_sets net n value)
+abbrev pub decoded_order : Net → Log → (Name → Bool) → List ℕ → ℕ → List Entry
+decoded_order net log value alarms n = whole_order log value alarms (step_sets net n value)

@@ -1,11 +1,11 @@
 -- The clauses of an addition to a log as a list, in the order in which loops write them.
-use Rattle.std.specs.Prelude.{◌≡◌, ℕ, suc, ◌+◌, ◌*◌, ◌≤◌, List, [], ◌∷◌, ◌++◌, map, flat_map, length}
+use Rattle.std.specs.Prelude.{◌≡◌, ℕ, suc, Bool, true, false, ◌+◌, ◌*◌, ◌≤◌, List, [], ◌∷◌, ◌++◌, map, flat_map, length}
 use Rattle.std.specs.List.{AllZip}
 use Rattle.des_net.specs.Network.{Net}
 use Rattle.des_net.specs.QuestionSize.{observable_count}
 use Rattle.log_order.specs.Log.{Log, Alarm, no_log}
 use Rattle.log_clauses.specs.Additions.{Addition, alarm_added, pair_added, with_addition}
-use Rattle.log_clauses.specs.LogClauses.{chain, matching_events, observable_events, LogClause, log_clause, chain_closed, takes_rest, uses_up, passes_on, taken_or_passed, not_done_first, stays_done, match_is_done, matched_once, done_by_match, one_match, done_if_asked, before_if_asked}
+use Rattle.log_clauses.specs.LogClauses.{chain, matching_events, observable_events, LogClause, log_clause, chain_closed, takes_rest, uses_up, passes_on, taken_or_passed, not_done_first, stays_done, match_is_done, matched_once, match_is_real, done_by_match, one_match, done_if_asked, before_if_asked}
 use Rattle.log_clauses.specs.LogCodes.{IsNamedAdded, IsNamedFirst}
 use Rattle.prop_core.specs.Clauses.{Clause}
 use Rattle.prop_core.specs.NamedClauses.{IsCode}
@@ -38,9 +38,14 @@ alarm_clauses net log n new =
     ++ not_done_first (length log.alarms) ∷ done_if_asked (length log.alarms)
     ∷ flat_map (done_clauses (length log.alarms) (taken_events net log new)) (numbers_below n)
 
+-- where it is doubtful, that none of its matches goes with its being false
+abbrev pub real_clauses : Bool → ℕ → List ℕ → ℕ → List LogClause
+real_clauses false i events n = []
+real_clauses true i events n = flat_map (λ e. map (λ t. match_is_real i e t) (numbers_below n)) events
+
 abbrev pub added_clauses : Net → Log → ℕ → Addition → List LogClause
-added_clauses net log n (alarm_added new) = alarm_clauses net log n new
-added_clauses net log n (pair_added i j) = map (λ t. before_if_asked i j t) (numbers_below n)
+added_clauses net log n (alarm_added new) = alarm_clauses net log n new ++ real_clauses new.doubtful (length log.alarms) (taken_events net log new) n
+added_clauses net log n (pair_added i j) = map (λ t. before_if_asked i j t) (numbers_below (suc n))
 
 -- the clauses of the empty log
 abbrev pub first_clauses : Net → ℕ → List LogClause

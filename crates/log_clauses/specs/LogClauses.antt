@@ -1,9 +1,9 @@
 -- The clauses of an alarm log in n steps of a network, by name: each alarm stands for one event that can be seen, each such event has one alarm, and pairs don't step back.
 -- Observations beside the clauses of runs are as in Grastien, Anbulagan, Rintanen and Kelareva, "Diagnosis of discrete-event systems using satisfiability algorithms", 2007; the chains, by which a log grows, are our own.
-use Rattle.std.specs.Prelude.{◌≡◌, ℕ, suc, ◌<◌, ◌≤◌, List, [], ◌∷◌, map, filter, length, Some, slice_get, is_some, Contains, IsTrue}
+use Rattle.std.specs.Prelude.{◌≡◌, ℕ, suc, ◌<◌, ◌≤◌, List, [], ◌∷◌, map, filter, length, if◌then◌else◌, Some, slice_get, is_some, Contains, IsTrue}
 use Rattle.des_net.specs.Network.{Net, label_of}
-use Rattle.log_order.specs.Log.{Log}
-use Rattle.prop_core.specs.VariableNames.{NamedLiteral, yes, no, asked, matches, done, closed, remaining}
+use Rattle.log_order.specs.Log.{Log, is_doubtful}
+use Rattle.prop_core.specs.VariableNames.{NamedLiteral, yes, no, asked, matches, done, closed, dropped, remaining}
 use Rattle.replay.specs.QuestionSize.{is_matching}
 use Rattle.run_clauses.specs.StepClauses.{numbers_below}
 
@@ -19,6 +19,10 @@ matching_events net log i = filter (λ e. is_matching net log e i) (numbers_belo
 abbrev pub observable_events : Net → List ℕ
 observable_events net = filter (λ e. is_some (label_of net e)) (numbers_below (length net.events))
 
+-- the alarms that are perhaps false, by number
+abbrev pub doubtful_alarms : Log → List ℕ
+doubtful_alarms log = filter (is_doubtful log) (numbers_below (length log.alarms))
+
 -- Which clause of the log it is. Step t leads from what holds after t steps to what holds after t + 1.
 pub data LogClause : Type 0 where
   chain_closed : (e k t : ℕ) → LogClause
@@ -30,10 +34,15 @@ pub data LogClause : Type 0 where
   stays_done : (i t : ℕ) → LogClause
   match_is_done : (i e t : ℕ) → LogClause
   matched_once : (i e t : ℕ) → LogClause
+  match_is_real : (i e t : ℕ) → LogClause
   done_by_match : (i t : ℕ) → LogClause
   one_match : (i e f t : ℕ) → LogClause
   done_if_asked : (i : ℕ) → LogClause
   before_if_asked : (i j t : ℕ) → LogClause
+
+-- these, or that alarm i is false where it is doubtful
+abbrev pub or_false : Log → ℕ → List NamedLiteral → List NamedLiteral
+or_false log i literals = if is_doubtful log i then yes (dropped i) ∷ literals else literals
 
 abbrev pub log_clause : Net → Log → ℕ → LogClause → List NamedLiteral
 -- where the chain of e is closed after k alarms, one of these has taken e
@@ -46,16 +55,17 @@ log_clause net log n (uses_up i e k t) = no (matches i e (suc t)) ∷ no (remain
 log_clause net log n (passes_on e k t) = no (remaining e (suc k) (suc t)) ∷ yes (remaining e k (suc t)) ∷ []
 -- and what comes to alarm i it takes or passes on.
 log_clause net log n (taken_or_passed i e k t) = no (remaining e k (suc t)) ∷ yes (matches i e (suc t)) ∷ yes (remaining e (suc k) (suc t)) ∷ []
--- An alarm is done from its match on, and has one match.
-log_clause net log n (not_done_first i) = no (done i 0) ∷ []
+-- An alarm is done from its match on, and has one match. A false one has none, and is done from any step on, also from the start.
+log_clause net log n (not_done_first i) = no (done i 0) ∷ or_false log i []
 log_clause net log n (stays_done i t) = no (done i t) ∷ yes (done i (suc t)) ∷ []
 log_clause net log n (match_is_done i e t) = no (matches i e (suc t)) ∷ yes (done i (suc t)) ∷ []
 log_clause net log n (matched_once i e t) = no (matches i e (suc t)) ∷ no (done i t) ∷ []
-log_clause net log n (done_by_match i t) = no (done i (suc t)) ∷ yes (done i t) ∷ map (λ e. yes (matches i e (suc t))) (matching_events net log i)
+log_clause net log n (match_is_real i e t) = no (matches i e (suc t)) ∷ no (dropped i) ∷ []
+log_clause net log n (done_by_match i t) = no (done i (suc t)) ∷ yes (done i t) ∷ or_false log i (map (λ e. yes (matches i e (suc t))) (matching_events net log i))
 log_clause net log n (one_match i e f t) = no (matches i e (suc t)) ∷ no (matches i f (suc t)) ∷ []
 -- Where the log is asked for, each alarm is done at the end, and the first of a pair no later than the second.
 log_clause net log n (done_if_asked i) = no asked ∷ yes (done i n) ∷ []
-log_clause net log n (before_if_asked i j t) = no asked ∷ no (done j (suc t)) ∷ yes (done i (suc t)) ∷ []
+log_clause net log n (before_if_asked i j t) = no asked ∷ no (done j t) ∷ yes (done i t) ∷ []
 
 -- alarm i is the one with k before it in the chain of e
 abbrev pub IsLink : Net → Log → ℕ → ℕ → ℕ → Type 0
@@ -72,10 +82,11 @@ IsLogClause net log n (not_done_first i) = i < length log.alarms
 IsLogClause net log n (stays_done i t) = (i < length log.alarms) × (t < n)
 IsLogClause net log n (match_is_done i e t) = IsTrue (is_matching net log e i) × (t < n)
 IsLogClause net log n (matched_once i e t) = IsTrue (is_matching net log e i) × (t < n)
+IsLogClause net log n (match_is_real i e t) = IsTrue (is_matching net log e i) × IsTrue (is_doubtful log i) × (t < n)
 IsLogClause net log n (done_by_match i t) = (i < length log.alarms) × (t < n)
 IsLogClause net log n (one_match i e f t) = IsTrue (is_matching net log e i) × IsTrue (is_matching net log f i) × (e < f) × (t < n)
 IsLogClause net log n (done_if_asked i) = i < length log.alarms
-IsLogClause net log n (before_if_asked i j t) = Contains log.pairs (i, j) × (t < n)
+IsLogClause net log n (before_if_asked i j t) = Contains log.pairs (i, j) × (t ≤ n)
 
 -- What is assumed for this log: it is asked for, and the chain of each event that can be seen ends after its present alarms. Where a chain grows, its earlier end is assumed no more.
 abbrev pub guard_literals : Net → Log → List NamedLiteral

@@ -7,13 +7,13 @@ use Rattle.log_order.specs.Log.{Log, ListsOnce, Keeps, IsValidLog}
 use Rattle.log_clauses.specs.Decoded.{decoded, decoded_order}
 use Rattle.log_clauses.specs.LogClauses.{guard_literals}
 use Rattle.log_clauses.specs.LogCodes.{IsNamedLog}
-use Rattle.log_clauses.specs.LogLaws.{IsArranged, AreMatched}
+use Rattle.log_clauses.specs.LogLaws.{IsArranged, AreMatched, HasFalse}
 use Rattle.log_clauses.specs.LogTruth.{is_of_log}
 use Rattle.prop_core.specs.Clauses.{Clause, AllClausesTrue, AllLiteralsTrue}
 use Rattle.prop_core.specs.NamedClauses.{IsCode, value_by}
 use Rattle.prop_core.specs.VariableNames.{Name, name_of, HasEachOnce, ReadsAs}
 use Rattle.prop_core.specs.declared.lit.Lit.{Lit}
-use Rattle.replay.specs.Explanation.{Linearises, Explains}
+use Rattle.replay.specs.Explanation.{Entry, Linearises, Explains}
 use Rattle.run_clauses.specs.StepCodes.{IsNamedStep}
 use Rattle.run_clauses.specs.Steps.{AreSteps}
 
@@ -40,10 +40,10 @@ pub record IsExactLogCode (net : Net) (log : Log) (n : ℕ) (names : List (ℕ �
   -- Where clauses and guards are true, the sets of the steps, arranged by any order of the alarms that keeps the pairs, linearise the log.
   pub sound : (assignment : ℕ → Bool) (pieces : List (List ℕ)) (alarms : List ℕ) → IsValidLog log → ListsOnce (length log.alarms) alarms → Keeps alarms log.pairs →
       AreSteps net n (value_by names assignment) pieces → MakesLogTrue assignment written assumed → IsArranged net log n (value_by names assignment) alarms pieces
-  -- Where the sets of the steps in some order linearise the log, clauses and guards can be made true by a change of variables of the log alone.
-  pub complete : (given : ℕ → Bool) (pieces : List (List ℕ)) (order : List ℕ) → AreSteps net n (value_by names given) pieces → Linearises net log (joined pieces) order →
-      (assignment : ℕ → Bool) × DifferInLogVariables names given assignment × MakesLogTrue assignment written assumed
-  -- Alarms and events that happen go together one by one.
+  -- Where the sets of the steps in some order linearise the log, clauses and guards can be made true by a change of variables of the log alone, with as many false alarms.
+  pub complete : (given : ℕ → Bool) (pieces : List (List ℕ)) (order : List Entry) → AreSteps net n (value_by names given) pieces → Linearises net log (joined pieces) order →
+      (assignment : ℕ → Bool) × DifferInLogVariables names given assignment × MakesLogTrue assignment written assumed × HasFalse log (value_by names assignment) order
+  -- True alarms and events that happen go together one by one.
   pub matched : (assignment : ℕ → Bool) → MakesLogTrue assignment written assumed → AreMatched net log n (value_by names assignment)
   -- Whatever events happen, the clauses can be made true by such a change where no guard is assumed.
   pub unguarded : (given : ℕ → Bool) → (assignment : ℕ → Bool) × DifferInLogVariables names given assignment × AllClausesTrue assignment written
@@ -65,17 +65,18 @@ pub record MakesQuestionTrue (assignment : ℕ → Bool) (stepped written : List
   pub steps : AllClausesTrue assignment stepped
   pub log_true : MakesLogTrue assignment written assumed
 
--- Each explanation, cut into pieces, has an assignment that makes all true, and whose event variables are those of the pieces.
+-- Each explanation, cut into pieces, has an assignment that makes all true, and whose event variables are those of the pieces, and as many alarms are false by it.
 abbrev pub ExplanationsAreCoded : Type 0
-ExplanationsAreCoded = (net : Net) (log : Log) (n : ℕ) (names : List (ℕ × Name)) (stepped written : List Clause) (assumed : List Lit) (word order : List ℕ) (pieces : List (List ℕ)) →
+ExplanationsAreCoded = (net : Net) (log : Log) (n : ℕ) (names : List (ℕ × Name)) (stepped written : List Clause) (assumed : List Lit) (word : List ℕ) (order : List Entry) (pieces : List (List ℕ)) →
     IsNetwork net → IsUnboundedQuestion net log n names stepped written assumed →
     IsRun net word → length pieces ≡ n → IsCutInto net word pieces → Linearises net log word order →
-    (assignment : ℕ → Bool) × AreSteps net n (value_by names assignment) pieces × MakesQuestionTrue assignment stepped written assumed
+    (assignment : ℕ → Bool) × AreSteps net n (value_by names assignment) pieces × MakesQuestionTrue assignment stepped written assumed × HasFalse log (value_by names assignment) order
 
 -- the pieces and the order that a truth of names gives explain the log, and are its steps
 pub record IsDecoded (net : Net) (log : Log) (n : ℕ) (value : Name → Bool) (alarms : List ℕ) : Type 0 where
   pub steps : AreSteps net n value (decoded net log value alarms n)
   pub explains : Explains net log n (joined (decoded net log value alarms n)) (decoded_order net log value alarms n)
+  pub false_alarms : HasFalse log value (decoded_order net log value alarms n)
 
 -- Each assignment that makes all true gives an explanation, by any order of the alarms that keeps the pairs.
 abbrev pub AssignmentsExplain : Type 0

@@ -1,16 +1,17 @@
 -- The clauses of a log say what explanations are.
-use Rattle.std.specs.Prelude.{◌≡◌, ◌↔◌, ℕ, suc, ◌<◌, ◌≤◌, Bool, true, List, length, IsTrue, Some, is_some, Contains}
+use Rattle.std.specs.Prelude.{◌≡◌, ◌↔◌, ℕ, suc, ◌<◌, ◌≤◌, Bool, true, false, List, length, count_by, IsTrue, Some, is_some, Contains}
 use Rattle.des_net.specs.Network.{Net, label_of}
 use Rattle.des_net.specs.Width.{joined}
 use Rattle.log_order.specs.Log.{Log, ListsOnce, Keeps, IsValidLog}
 use Rattle.log_clauses.specs.Coded.{opened}
-use Rattle.log_clauses.specs.Decoded.{arranged, arranged_order, alarm_at, event_at}
+use Rattle.log_clauses.specs.Decoded.{arranged, whole_order, is_false, comes, alarm_at, event_at}
 use Rattle.log_clauses.specs.LogClauses.{LogClause, log_clause}
 use Rattle.log_clauses.specs.LogTruth.{LogClausesHold, GuardsHold, DifferInLog, AgreeOnLog}
 use Rattle.prop_core.specs.NamedClauses.{named_clause_true}
 use Rattle.prop_core.specs.VariableNames.{Name, happens, matches}
-use Rattle.replay.specs.Explanation.{Linearises}
+use Rattle.replay.specs.Explanation.{Linearises, Entry, false_count}
 use Rattle.replay.specs.QuestionSize.{is_matching}
+use Rattle.run_clauses.specs.StepClauses.{numbers_below}
 use Rattle.run_clauses.specs.Steps.{AreSteps}
 
 -- Without the guards every truth of the events goes with the clauses of each log, all at once.
@@ -19,10 +20,15 @@ LogIsOpen = (value : Name → Bool) →
     DifferInLog value (opened value)
     × ((net : Net) (log : Log) (n : ℕ) (which : LogClause) → IsTrue (named_clause_true (opened value) (log_clause net log n which)))
 
--- the pieces and the order that a truth of names gives are its steps, and linearise the log
+-- by a truth of names as many doubtful alarms are false as in an order
+abbrev pub HasFalse : Log → (Name → Bool) → List Entry → Type 0
+HasFalse log value order = false_count order ≡ count_by (is_false log value) (numbers_below (length log.alarms))
+
+-- the pieces and the order that a truth of names gives are its steps, and linearise the log with as many false alarms
 pub record IsArranged (net : Net) (log : Log) (n : ℕ) (value : Name → Bool) (alarms : List ℕ) (pieces : List (List ℕ)) : Type 0 where
   pub steps : AreSteps net n value (arranged net log value alarms 0 pieces)
-  pub linear : Linearises net log (joined (arranged net log value alarms 0 pieces)) (arranged_order net log value alarms 0 pieces)
+  pub linear : Linearises net log (joined (arranged net log value alarms 0 pieces)) (whole_order log value alarms pieces)
+  pub false_alarms : HasFalse log value (whole_order log value alarms pieces)
 
 -- Where clauses and guards are true, the sets of the steps, arranged by any order of the alarms that keeps the pairs, linearise the log.
 abbrev pub LogIsSound : Type 0
@@ -30,19 +36,27 @@ LogIsSound = (net : Net) (log : Log) (n : ℕ) (value : Name → Bool) (pieces :
     IsValidLog log → ListsOnce (length log.alarms) alarms → Keeps alarms log.pairs →
     AreSteps net n value pieces → LogClausesHold net log n value → GuardsHold net log value → IsArranged net log n value alarms pieces
 
--- Where the sets of the steps in some order linearise the log, the names of the log have a truth that makes clauses and guards true, whatever all other names are.
+-- Where the sets of the steps in some order linearise the log, the names of the log have a truth that makes clauses and guards true, with as many false alarms, whatever all other names are.
 abbrev pub LogIsComplete : Type 0
-LogIsComplete = (net : Net) (log : Log) (n : ℕ) (given : Name → Bool) (pieces : List (List ℕ)) (order : List ℕ) →
+LogIsComplete = (net : Net) (log : Log) (n : ℕ) (given : Name → Bool) (pieces : List (List ℕ)) (order : List Entry) →
     AreSteps net n given pieces → Linearises net log (joined pieces) order →
-    (value : Name → Bool) × DifferInLog given value × LogClausesHold net log n value × GuardsHold net log value
+    (value : Name → Bool) × DifferInLog given value × LogClausesHold net log n value × GuardsHold net log value × HasFalse log value order
 
--- alarm i stands for one event in one step
+-- alarm i gets done in one step, or is so from the start
+pub record HasOneStep (n : ℕ) (value : Name → Bool) (i : ℕ) : Type 0 where
+  pub step : ℕ
+  pub within : step ≤ n
+  pub is : comes value i step ≡ true
+  pub only : (t : ℕ) → t ≤ n → comes value i t ≡ true → t ≡ step
+
+-- alarm i stands for one event in one step, in which it gets done
 pub record HasOneMatch (net : Net) (log : Log) (n : ℕ) (value : Name → Bool) (i : ℕ) : Type 0 where
   pub event : ℕ
   pub step : ℕ
   pub within : step < n
   pub matching : IsTrue (is_matching net log event i)
   pub is : value (matches i event (suc step)) ≡ true
+  pub comes_there : comes value i (suc step) ≡ true
   pub only : (e t : ℕ) → t < n → IsTrue (is_matching net log e i) → value (matches i e (suc t)) ≡ true → (e ≡ event) × (t ≡ step)
 
 -- one alarm stands for event e in the step after t steps
@@ -59,13 +73,14 @@ pub record IsMatchedTo (net : Net) (log : Log) (value : Name → Bool) (e t i : 
   pub is : value (matches i e (suc t)) ≡ true
   pub there : value (happens e (suc t)) ≡ true
 
--- alarms and events that happen and can be seen go together one by one, and pairs don't step back
+-- Each alarm has one step. The true alarms go with the events that happen and can be seen one by one, and a false alarm with none. Pairs don't step back.
 pub record AreMatched (net : Net) (log : Log) (n : ℕ) (value : Name → Bool) : Type 0 where
-  pub alarms : (i : ℕ) → i < length log.alarms → HasOneMatch net log n value i
+  pub steps : (i : ℕ) → i < length log.alarms → HasOneStep n value i
+  pub alarms : (i : ℕ) → i < length log.alarms → is_false log value i ≡ false → HasOneMatch net log n value i
+  pub real : (i e t : ℕ) → t < n → IsTrue (is_matching net log e i) → value (matches i e (suc t)) ≡ true → is_false log value i ≡ false
   pub events : (e t : ℕ) → t < n → IsTrue (is_some (label_of net e)) → value (happens e (suc t)) ≡ true → HasOneAlarm net log value e t
   pub found : (e t i : ℕ) → t < n → alarm_at net log value e (suc t) ≡ Some i → IsMatchedTo net log value e t i
-  pub kept : (i j e f s t : ℕ) → Contains log.pairs (i, j) → s < n → t < n → IsTrue (is_matching net log e i) → IsTrue (is_matching net log f j) →
-      value (matches i e (suc s)) ≡ true → value (matches j f (suc t)) ≡ true → s ≤ t
+  pub kept : (i j s t : ℕ) → i < length log.alarms → Contains log.pairs (i, j) → s ≤ n → t ≤ n → comes value i s ≡ true → comes value j t ≡ true → s ≤ t
 
 -- So they do where clauses and guards are true.
 abbrev pub MatchesAreExact : Type 0

@@ -1,15 +1,15 @@
 -- The names of a log, and their variables, in the order in which additions bring them.
-use Rattle.std.specs.Prelude.{◌≡◌, ◌≢◌, ◌↔◌, ◌⊎◌, ⊤, ℕ, suc, ◌+◌, ◌*◌, ◌<◌, ◌≤◌, List, [], ◌∷◌, ◌++◌, map, flat_map, length, Some, slice_get, is_some, Contains, IsTrue}
+use Rattle.std.specs.Prelude.{◌≡◌, ◌≢◌, ◌↔◌, ◌⊎◌, ⊤, ℕ, suc, ◌+◌, ◌*◌, ◌<◌, ◌≤◌, Bool, true, if◌then◌else◌, List, [], ◌∷◌, ◌++◌, map, flat_map, length, Some, slice_get, is_some, Contains, IsTrue}
 use Rattle.std.specs.List.{AllByRecursion, AllZip}
 use Rattle.des_base.specs.Lists.{EachPair}
 use Rattle.des_net.specs.Network.{Net, label_of}
 use Rattle.des_net.specs.QuestionSize.{observable_count}
-use Rattle.log_order.specs.Log.{Log, Alarm, no_log}
+use Rattle.log_order.specs.Log.{Log, Alarm, no_log, is_doubtful}
 use Rattle.log_clauses.specs.Additions.{Addition, alarm_added, pair_added, with_addition}
 use Rattle.log_clauses.specs.Drafts.{taken_events}
 use Rattle.log_clauses.specs.LogClauses.{chain, observable_events}
 use Rattle.prop_core.specs.Clauses.{Clause}
-use Rattle.prop_core.specs.VariableNames.{Name, in_state, happens, asked, matches, done, unmatched, closed, reaches, some_of_first, NamedLiteral, HasEachOnce, name_of, ReadsAs}
+use Rattle.prop_core.specs.VariableNames.{Name, in_state, happens, asked, matches, done, unmatched, closed, dropped, reaches, some_of_first, NamedLiteral, HasEachOnce, name_of, ReadsAs}
 use Rattle.prop_core.specs.declared.lit.Lit.{Lit}
 use Rattle.replay.specs.QuestionSize.{is_matching, variable_bound}
 use Rattle.run_clauses.specs.LaidOut.{laid_out}
@@ -28,6 +28,7 @@ IsLogName net log n (matches i e t) = IsTrue (is_matching net log e i) × IsStep
 IsLogName net log n (done i t) = (i < length log.alarms) × (t ≤ n)
 IsLogName net log n (unmatched e k t) = (1 ≤ k) × (k ≤ length (chain net log e)) × IsStepNumber n t
 IsLogName net log n (closed e k) = IsTrue (is_some (label_of net e)) × (k ≤ length (chain net log e))
+IsLogName net log n (dropped i) = IsTrue (is_doubtful log i)
 IsLogName net log n (reaches i j) = ⊥
 IsLogName net log n (some_of_first family i) = ⊥
 
@@ -35,11 +36,19 @@ IsLogName net log n (some_of_first family i) = ⊥
 abbrev pub link_names : ℕ → ℕ → ℕ → ℕ → List Name
 link_names n i e k = closed e (suc k) ∷ flat_map (λ t. matches i e (suc t) ∷ unmatched e (suc k) (suc t) ∷ []) (numbers_below n)
 
--- the new names of an addition
-abbrev pub added_names : Net → Log → ℕ → Addition → List Name
-added_names net log n (alarm_added new) =
+-- a link of each event that a new alarm may stand for, and when it is done
+abbrev pub alarm_names : Net → Log → ℕ → Alarm → List Name
+alarm_names net log n new =
     flat_map (λ e. link_names n (length log.alarms) e (length (chain net log e))) (taken_events net log new)
     ++ map (λ t. done (length log.alarms) t) (numbers_below (suc n))
+
+-- where it is doubtful, whether it is false
+abbrev pub false_names : Bool → ℕ → List Name
+false_names doubtful i = if doubtful then dropped i ∷ [] else []
+
+-- the new names of an addition
+abbrev pub added_names : Net → Log → ℕ → Addition → List Name
+added_names net log n (alarm_added new) = alarm_names net log n new ++ false_names new.doubtful (length log.alarms)
 added_names net log n (pair_added i j) = []
 
 -- the names of the empty log
@@ -89,7 +98,7 @@ abbrev pub NamesGrow : Type 0
 NamesGrow = (net : Net) (log : Log) (n first : ℕ) (addition : Addition) (names : List (ℕ × Name)) → AreLogNames net log n first names →
     AreLogNames net (with_addition log addition) n (first + length (added_names net log n addition)) (with_added net log n addition names first)
 
--- Where the names of a new alarm stand: a link of each event that it may stand for, one after another, and at the end when it is done.
+-- Where the names of a new alarm stand: a link of each event that it may stand for, one after another, then when it is done, and at the end, where it is doubtful, whether it is false.
 pub record HasPlaces (net : Net) (log : Log) (n first : ℕ) (new : Alarm) (names : List (ℕ × Name)) : Type 0 where
   pub closing : (p e : ℕ) → slice_get (taken_events net log new) p ≡ Some e →
       name_of names (first + p * (1 + n * 2)) ≡ Some (closed e (suc (length (chain net log e))))
@@ -98,6 +107,7 @@ pub record HasPlaces (net : Net) (log : Log) (n first : ℕ) (new : Alarm) (name
   pub passing : (p e t : ℕ) → slice_get (taken_events net log new) p ≡ Some e → t < n →
       name_of names (first + (p * (1 + n * 2) + suc (t * 2 + 1))) ≡ Some (unmatched e (suc (length (chain net log e))) (suc t))
   pub being_done : (t : ℕ) → t ≤ n → name_of names (first + (length (taken_events net log new) * (1 + n * 2) + t)) ≡ Some (done (length log.alarms) t)
+  pub being_false : new.doubtful ≡ true → name_of names (first + (length (taken_events net log new) * (1 + n * 2) + suc n)) ≡ Some (dropped (length log.alarms))
 
 abbrev pub PlacesOfNames : Type 0
 PlacesOfNames = (net : Net) (log : Log) (n first : ℕ) (new : Alarm) (names : List (ℕ × Name)) → AreLogNames net log n first names →

@@ -5,7 +5,7 @@ use Rattle.des_net.specs.Network.{Net}
 use Rattle.log_order.specs.Log.{Log}
 use Rattle.log_clauses.specs.LogClauses.{LogClause, log_clause, IsLogClause, guard_literals}
 use Rattle.prop_core.specs.NamedClauses.{named_true, named_clause_true}
-use Rattle.prop_core.specs.VariableNames.{Name, in_state, happens, asked, matches, done, unmatched, closed, reaches, some_of_first}
+use Rattle.prop_core.specs.VariableNames.{Name, in_state, happens, asked, matches, done, unmatched, closed, dropped, reaches, some_of_first}
 use Rattle.run_clauses.specs.Steps.{is_event}
 
 -- each clause of the log is true
@@ -25,6 +25,7 @@ is_of_log (matches i e t) = true
 is_of_log (done i t) = true
 is_of_log (unmatched e k t) = true
 is_of_log (closed e k) = true
+is_of_log (dropped i) = true
 is_of_log (reaches i j) = false
 is_of_log (some_of_first family i) = false
 

@@ -45,7 +45,7 @@ place-stays text [] more h = cc
 place-stays text (id ∷ ids) more h = stays_step (bytes_eq text id) (place_of text ids) (place_of text (ids ++ more)) h (place-stays text ids more)
 
 pair-stays : (ids more : List (List ℕ)) (said : Record) → IsKnown ids said → pair_of (ids ++ more) said ≡ pair_of ids said
-pair-stays ids more (alarm id labels) h = refl
+pair-stays ids more (alarm maybe id labels) h = refl
 pair-stays ids more (before first second) h =
     ap (λ o. option_and_then (λ i. option_map (λ j. (i, j)) (place_of second (ids ++ more))) o) (place-stays first ids more h.0)
     ∙ ap (λ o. option_and_then (λ i. option_map (λ j. (i, j)) o) (place_of first ids)) (place-stays second ids more h.1)
@@ -54,7 +54,7 @@ pair-stays ids more nothing h = refl
 pair-stays ids more malformed h = refl
 
 known-stays : (ids more : List (List ℕ)) (said : Record) → IsKnown ids said → IsKnown (ids ++ more) said
-known-stays ids more (alarm id labels) h = tt
+known-stays ids more (alarm maybe id labels) h = tt
 known-stays ids more (before first second) h = (ap is_some (place-stays first ids more h.0) ∙ h.0, ap is_some (place-stays second ids more h.1) ∙ h.1)
 known-stays ids more ask h = tt
 known-stays ids more nothing h = tt
@@ -97,10 +97,10 @@ log-push earlier said log known is alarms pairs = record {
   known = subst (λ ids. AllByRecursion (IsKnown ids) (earlier ++ said ∷ [])) (sym (ids_of-push earlier said)) (all-known (ids_of earlier) (new_ids said) earlier said known is);
 }
 
-pub log-alarm : (earlier : List Record) (id : List ℕ) (labels : List (List ℕ)) (log new : Log) → IsLogOf earlier log → new ≡ with_alarm log id labels → IsLogOf (earlier ++ alarm id labels ∷ []) new
-log-alarm earlier id labels log new h e =
-    log-push earlier (alarm id labels) new h.known tt
-    (ap (λ l. l.alarms) e ∙ ap (λ l. l.alarms ++ record { name = id; labels = with_texts [] labels } ∷ []) h.is)
+pub log-alarm : (earlier : List Record) (maybe : Bool) (id : List ℕ) (labels : List (List ℕ)) (log new : Log) → IsLogOf earlier log → new ≡ with_alarm log id labels maybe → IsLogOf (earlier ++ alarm maybe id labels ∷ []) new
+log-alarm earlier maybe id labels log new h e =
+    log-push earlier (alarm maybe id labels) new h.known tt
+    (ap (λ l. l.alarms) e ∙ ap (λ l. l.alarms ++ record { name = id; labels = with_texts [] labels; doubtful = maybe } ∷ []) h.is)
     (ap (λ l. l.pairs) e ∙ ap (λ l. l.pairs) h.is)
 
 pub log-nothing : (earlier : List Record) (log : Log) → IsLogOf earlier log → IsLogOf (earlier ++ nothing ∷ []) log

@@ -40,7 +40,7 @@ name_first false false true o h f = refl
 name_first false false false o h f = cc
 
 no_words : (said : Record) → is_question said ≡ true → not (list_all is_name_text (words_of said)) ≡ false
-no_words (alarm id labels) h = cc
+no_words (alarm maybe id labels) h = cc
 no_words (before first second) h = cc
 no_words ask h = refl
 no_words nothing h = cc
@@ -77,9 +77,9 @@ alarm_case false false true p h = refl
 alarm_case false false false true h = refl
 alarm_case false false false false h = refl
 
-code-alarm : (earlier : List Record) (id : List ℕ) (labels : List (List ℕ)) → row_code (alarm id labels) ≡ None → record_code earlier (alarm id labels) ≡ option_map code_of (alarm_refusal (log_of_records earlier) id labels)
+code-alarm : (earlier : List Record) (maybe : Bool) (id : List ℕ) (labels : List (List ℕ)) → row_code (alarm maybe id labels) ≡ None → record_code earlier (alarm maybe id labels) ≡ option_map code_of (alarm_refusal (log_of_records earlier) id labels)
 unfolding row_code record_code alarm_refusal
-code-alarm earlier id labels h =
+code-alarm earlier maybe id labels h =
     alarm_case (not (list_all is_name_text (id ∷ labels))) (is_some (place_of id (ids_of earlier))) (nat_le (length labels) 0) (nat_le most_alarms (length (alarms_of earlier)) || nat_lt most_labels (length labels)) h
 
 answer_due : (row : ℕ) (why : Option LogRefusal) (e : LogRefusal) → Answers {X = ℕ} (Err e) why → IsDue (fault_at row (option_map code_of why)) (log_refusal_at row e)
@@ -90,15 +90,15 @@ answer_due row why refused.NoLabels h = ap (λ o. fault_at row (option_map code_
 answer_due row why refused.Limit h = ap (λ o. fault_at row (option_map code_of o)) h
 answer_due row why refused.Memory h = tt
 
-pub alarm-added : (earlier : List Record) (id : List ℕ) (labels : List (List ℕ)) (row : ℕ) (log new : Log) → IsLogOf earlier log → row_code (alarm id labels) ≡ None
-    → alarm_refusal log id labels ≡ None → new ≡ with_alarm log id labels → Adds earlier (alarm id labels) row new (Ok tt)
-alarm-added earlier id labels row log new h named none e =
-    (code-alarm earlier id labels named ∙ ap (λ l. option_map code_of (alarm_refusal l id labels)) (sym h.is) ∙ ap (option_map code_of) none, log-alarm earlier id labels log new h e)
+pub alarm-added : (earlier : List Record) (maybe : Bool) (id : List ℕ) (labels : List (List ℕ)) (row : ℕ) (log new : Log) → IsLogOf earlier log → row_code (alarm maybe id labels) ≡ None
+    → alarm_refusal log id labels ≡ None → new ≡ with_alarm log id labels maybe → Adds earlier (alarm maybe id labels) row new (Ok tt)
+alarm-added earlier maybe id labels row log new h named none e =
+    (code-alarm earlier maybe id labels named ∙ ap (λ l. option_map code_of (alarm_refusal l id labels)) (sym h.is) ∙ ap (option_map code_of) none, log-alarm earlier maybe id labels log new h e)
 
-pub alarm-refused : (earlier : List Record) (id : List ℕ) (labels : List (List ℕ)) (row : ℕ) (log new : Log) (e : LogRefusal) → IsLogOf earlier log → row_code (alarm id labels) ≡ None
-    → Answers {X = ℕ} (Err e) (alarm_refusal log id labels) → Adds earlier (alarm id labels) row new (Err (log_refusal_at row e))
-alarm-refused earlier id labels row log new e h named a =
-    subst (λ (code : Option ℕ). IsDue (fault_at row code) (log_refusal_at row e)) (sym (code-alarm earlier id labels named ∙ ap (λ l. option_map code_of (alarm_refusal l id labels)) (sym h.is)))
+pub alarm-refused : (earlier : List Record) (maybe : Bool) (id : List ℕ) (labels : List (List ℕ)) (row : ℕ) (log new : Log) (e : LogRefusal) → IsLogOf earlier log → row_code (alarm maybe id labels) ≡ None
+    → Answers {X = ℕ} (Err e) (alarm_refusal log id labels) → Adds earlier (alarm maybe id labels) row new (Err (log_refusal_at row e))
+alarm-refused earlier maybe id labels row log new e h named a =
+    subst (λ (code : Option ℕ). IsDue (fault_at row code) (log_refusal_at row e)) (sym (code-alarm earlier maybe id labels named ∙ ap (λ l. option_map code_of (alarm_refusal l id labels)) (sym h.is)))
     (answer_due row (alarm_refusal log id labels) e a)
 
 -- ---- pairs
@@ -174,31 +174,51 @@ pair-refused earlier first second row i j log new e h named a b refusal =
 
 -- ---- rows
 
-alarm-of : (of : Record) (id : List ℕ) (labels : List (List ℕ)) → row_of of ≡ Some (row.Alarm id labels) → of ≡ alarm id labels
-alarm-of (alarm i ls) id labels h = let a : i ≡ id = cc in let b : ls ≡ labels = cc in ap (λ x. alarm x ls) a ∙ ap (alarm id) b
+same_alarm : (maybe : Bool) (i id : List ℕ) (ls labels : List (List ℕ)) → i ≡ id → ls ≡ labels → alarm maybe i ls ≡ alarm maybe id labels
+same_alarm maybe i id ls labels a b = ap (λ x. alarm maybe x ls) a ∙ ap (alarm maybe id) b
+
+alarm-of : (of : Record) (id : List ℕ) (labels : List (List ℕ)) → row_of of ≡ Some (row.Alarm id labels) → of ≡ alarm false id labels
+alarm-of (alarm false i ls) id labels h = let a : i ≡ id = cc in let b : ls ≡ labels = cc in same_alarm false i id ls labels a b
+alarm-of (alarm true i ls) id labels h = cc
 alarm-of (before first second) id labels h = cc
 alarm-of ask id labels h = cc
 alarm-of nothing id labels h = cc
 alarm-of malformed id labels h = cc
 
+maybe-of : (of : Record) (id : List ℕ) (labels : List (List ℕ)) → row_of of ≡ Some (row.Maybe id labels) → of ≡ alarm true id labels
+maybe-of (alarm true i ls) id labels h = let a : i ≡ id = cc in let b : ls ≡ labels = cc in same_alarm true i id ls labels a b
+maybe-of (alarm false i ls) id labels h = cc
+maybe-of (before first second) id labels h = cc
+maybe-of ask id labels h = cc
+maybe-of nothing id labels h = cc
+maybe-of malformed id labels h = cc
+
 before-of : (of : Record) (first second : List ℕ) → row_of of ≡ Some (row.Before first second) → of ≡ before first second
-before-of (alarm i ls) first second h = cc
+before-of (alarm true i ls) first second h = cc
+before-of (alarm false i ls) first second h = cc
 before-of (before f s) first second h = let a : f ≡ first = cc in let b : s ≡ second = cc in ap (λ x. before x s) a ∙ ap (before first) b
 before-of ask first second h = cc
 before-of nothing first second h = cc
 before-of malformed first second h = cc
 
 ask-of : (of : Record) → row_of of ≡ Some row.Ask → of ≡ ask
-ask-of (alarm i ls) h = cc
+ask-of (alarm true i ls) h = cc
+ask-of (alarm false i ls) h = cc
 ask-of (before f s) h = cc
 ask-of ask h = refl
 ask-of nothing h = cc
 ask-of malformed h = cc
 
 pub row-alarm : (earlier : List Record) (of : Record) (id : List ℕ) (labels slice : List (List ℕ)) (number : ℕ) (new : Log) (r : Result (Unit {0}) LogReadRefusal) → row_of of ≡ Some (row.Alarm id labels) → row_code of ≡ None → slice ≡ labels
-    → (row_code (alarm id slice) ≡ None → Adds earlier (alarm id slice) number new r) → Adds earlier of number new r
+    → (row_code (alarm false id slice) ≡ None → Adds earlier (alarm false id slice) number new r) → Adds earlier of number new r
 row-alarm earlier of id labels slice number new r h c e f =
-    let is : of ≡ alarm id slice = alarm-of of id labels h ∙ ap (alarm id) (sym e) in
+    let is : of ≡ alarm false id slice = alarm-of of id labels h ∙ ap (alarm false id) (sym e) in
+    subst (λ (said : Record). Adds earlier said number new r) (sym is) (f (ap row_code (sym is) ∙ c))
+
+pub row-maybe : (earlier : List Record) (of : Record) (id : List ℕ) (labels slice : List (List ℕ)) (number : ℕ) (new : Log) (r : Result (Unit {0}) LogReadRefusal) → row_of of ≡ Some (row.Maybe id labels) → row_code of ≡ None → slice ≡ labels
+    → (row_code (alarm true id slice) ≡ None → Adds earlier (alarm true id slice) number new r) → Adds earlier of number new r
+row-maybe earlier of id labels slice number new r h c e f =
+    let is : of ≡ alarm true id slice = maybe-of of id labels h ∙ ap (alarm true id) (sym e) in
     subst (λ (said : Record). Adds earlier said number new r) (sym is) (f (ap row_code (sym is) ∙ c))
 
 pub row-before : (earlier : List Record) (of : Record) (first second : List ℕ) (number : ℕ) (new : Log) (r : Result (Unit {0}) LogReadRefusal) → row_of of ≡ Some (row.Before first second) → row_code of ≡ None
@@ -212,7 +232,8 @@ row-ask earlier of number h = ap (λ said. fault_at number (record_code earlier 
 
 -- a record without a row is blank, where it has no code
 blank-of : (of : Record) → row_of of ≡ None → row_code of ≡ None → of ≡ nothing
-blank-of (alarm i ls) h c = cc
+blank-of (alarm true i ls) h c = cc
+blank-of (alarm false i ls) h c = cc
 blank-of (before f s) h c = cc
 blank-of ask h c = cc
 blank-of nothing h c = refl

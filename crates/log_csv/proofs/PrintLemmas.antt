@@ -1,10 +1,10 @@
 -- The lines of a log's text, as they are appended.
-use Rattle.std.proofs.Common.{◌≡◌, ◌+◌, ◌-◌, ◌≤◌, ℕ, zero, suc, List, [], ◌∷◌, ◌++◌, length, get_or, drop, take, Option, Some, refl, arith, ap, sym, ◌∙◌, append_assoc, add-one}
+use Rattle.std.proofs.Common.{◌≡◌, ◌+◌, ◌-◌, ◌≤◌, ℕ, zero, suc, Bool, List, [], ◌∷◌, ◌++◌, length, get_or, drop, take, Option, Some, refl, arith, ap, sym, ◌∙◌, append_assoc, add-one}
 use Rattle.std.specs.Prelude.{codes, option_map, slice_get}
 use Rattle.std.specs.List.{flat_map, join_with_byte}
 use Rattle.std.proofs.lemmas.List.{append-nil, flat_map_more}
 use Rattle.log_order.specs.Log.{Alarm}
-use Rattle.log_csv.specs.PrintedLog.{alarm_line, alarm_with, line_of_ids}
+use Rattle.log_csv.specs.PrintedLog.{alarm_line, alarm_with, alarm_word, line_of_ids}
 
 -- a label behind another
 abbrev pub behind_bar : List ℕ → List ℕ
@@ -14,9 +14,9 @@ pub line-pair : (v a b c d e first second : List ℕ) → a ≡ v ++ codes "befo
 unfolding line_of_ids
 line-pair v a b c d e first second h i j k l = rw (l, k, j, i, h) (simp append_assoc)
 
-pub line-alarm : (v a b c d e id : List ℕ) (labels : List (List ℕ)) → a ≡ v ++ codes "alarm," → b ≡ a ++ id → c ≡ b ++ codes "," → d ≡ c ++ join_with_byte 124 labels → e ≡ d ++ codes "\n" → e ≡ v ++ alarm_line (alarm_with id labels)
+pub line-alarm : (maybe : Bool) (v word a b c d e f id : List ℕ) (labels : List (List ℕ)) → word ≡ alarm_word maybe → a ≡ v ++ word → b ≡ a ++ codes "," → c ≡ b ++ id → d ≡ c ++ codes "," → e ≡ d ++ join_with_byte 124 labels → f ≡ e ++ codes "\n" → f ≡ v ++ alarm_line (alarm_with maybe id labels)
 unfolding alarm_line
-line-alarm v a b c d e id labels h i j k l = rw (l, k, j, i, h) (simp append_assoc)
+line-alarm maybe v word a b c d e f id labels w g h i j k l = rw (l, k, j, i, h, g, w) (simp append_assoc)
 
 join-first : (first : List ℕ) (others : List (List ℕ)) → join_with_byte 124 (first ∷ others) ≡ first ++ flat_map behind_bar others
 join-first first [] = sym (append-nil first)
@@ -48,18 +48,20 @@ labels-all v a b (x ∷ xs) others first n h i past some is rest =
     ∙ ap (λ t. v ++ t) (sym (join-first x xs))
 
 -- one more alarm
-one_alarm : (a : Alarm) (id : List ℕ) (labels : List (List ℕ)) → ◌≡◌ {A = Option (List ℕ)} (Some a.name) (Some id) → ◌≡◌ {A = Option (List (List ℕ))} (Some a.labels) (Some labels) → a ≡ alarm_with id labels
-one_alarm a id labels h k = let n : a.name ≡ id = cc in let l : a.labels ≡ labels = cc in ap (λ x. alarm_with x a.labels) n ∙ ap (alarm_with id) l
+one_alarm : (a : Alarm) (maybe : Bool) (id : List ℕ) (labels : List (List ℕ)) → ◌≡◌ {A = Option Bool} (Some a.doubtful) (Some maybe) → ◌≡◌ {A = Option (List ℕ)} (Some a.name) (Some id) → ◌≡◌ {A = Option (List (List ℕ))} (Some a.labels) (Some labels) → a ≡ alarm_with maybe id labels
+one_alarm a maybe id labels m h k =
+    let d : a.doubtful ≡ maybe = cc in let n : a.name ≡ id = cc in let l : a.labels ≡ labels = cc in
+    ap (λ b. alarm_with b a.name a.labels) d ∙ ap (λ x. alarm_with maybe x a.labels) n ∙ ap (alarm_with maybe id) l
 
-alarm-taken : (alarms : List Alarm) (i : ℕ) (id : List ℕ) (labels : List (List ℕ)) → option_map (λ a. a.name) (slice_get alarms i) ≡ Some id → option_map (λ a. a.labels) (slice_get alarms i) ≡ Some labels
-    → take (suc i) alarms ≡ take i alarms ++ alarm_with id labels ∷ []
-alarm-taken [] i id labels h k = cc
-alarm-taken (a ∷ as') zero id labels h k = ap (λ x. x ∷ []) (one_alarm a id labels h k)
-alarm-taken (a ∷ as') (suc i) id labels h k = ap (λ xs. a ∷ xs) (alarm-taken as' i id labels h k)
+alarm-taken : (alarms : List Alarm) (i : ℕ) (maybe : Bool) (id : List ℕ) (labels : List (List ℕ)) → option_map (λ a. a.doubtful) (slice_get alarms i) ≡ Some maybe → option_map (λ a. a.name) (slice_get alarms i) ≡ Some id
+    → option_map (λ a. a.labels) (slice_get alarms i) ≡ Some labels → take (suc i) alarms ≡ take i alarms ++ alarm_with maybe id labels ∷ []
+alarm-taken [] i maybe id labels m h k = cc
+alarm-taken (a ∷ as') zero maybe id labels m h k = ap (λ x. x ∷ []) (one_alarm a maybe id labels m h k)
+alarm-taken (a ∷ as') (suc i) maybe id labels m h k = ap (λ xs. a ∷ xs) (alarm-taken as' i maybe id labels m h k)
 
-pub alarms-on : (v a b : List ℕ) (alarms : List Alarm) (i : ℕ) (id : List ℕ) (labels : List (List ℕ)) → option_map (λ a. a.name) (slice_get alarms i) ≡ Some id → option_map (λ a. a.labels) (slice_get alarms i) ≡ Some labels
-    → a ≡ v ++ flat_map alarm_line (take i alarms) → b ≡ a ++ alarm_line (alarm_with id labels) → b ≡ v ++ flat_map alarm_line (take (i + 1) alarms)
-alarms-on v a b alarms i id labels h k p q =
-    q ∙ ap (λ t. t ++ alarm_line (alarm_with id labels)) p
-    ∙ flat_map_more alarm_line v (take i alarms) (alarm_with id labels)
-    ∙ ap (λ xs. v ++ flat_map alarm_line xs) (sym (alarm-taken alarms i id labels h k) ∙ ap (λ n. take n alarms) (sym (add-one i)))
+pub alarms-on : (v a b : List ℕ) (alarms : List Alarm) (i : ℕ) (maybe : Bool) (id : List ℕ) (labels : List (List ℕ)) → option_map (λ a. a.doubtful) (slice_get alarms i) ≡ Some maybe → option_map (λ a. a.name) (slice_get alarms i) ≡ Some id
+    → option_map (λ a. a.labels) (slice_get alarms i) ≡ Some labels → a ≡ v ++ flat_map alarm_line (take i alarms) → b ≡ a ++ alarm_line (alarm_with maybe id labels) → b ≡ v ++ flat_map alarm_line (take (i + 1) alarms)
+alarms-on v a b alarms i maybe id labels m h k p q =
+    q ∙ ap (λ t. t ++ alarm_line (alarm_with maybe id labels)) p
+    ∙ flat_map_more alarm_line v (take i alarms) (alarm_with maybe id labels)
+    ∙ ap (λ xs. v ++ flat_map alarm_line xs) (sym (alarm-taken alarms i maybe id labels m h k) ∙ ap (λ n. take n alarms) (sym (add-one i)))

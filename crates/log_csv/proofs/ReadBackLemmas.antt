@@ -231,10 +231,10 @@ alarm_next all front rest a earlier h e logged =
     let distinct : AreDistinct (names_of front ++ a.name ∷ names_of rest) = subst AreDistinct (ap names_of (sym e) ∙ names_append front a rest) h.distinct in
     let new : place_of a.name (names_of front) ≡ None = place_of-absent a.name (names_of front) (new_text (names_of front) a.name (names_of rest) distinct) in
     let room : length front < most_alarms = let few = h.few in omega (arith, ap length e, length-append front (a ∷ rest)) in
-    alarm-added earlier a.name a.labels 0 (log_with front []) (log_with (front ++ a ∷ []) []) logged
-    (alarm_accepted a.name a.labels whole.printable.name whole.printable.labels)
+    alarm-added earlier a.doubtful a.name a.labels 0 (log_with front []) (log_with (front ++ a ∷ []) []) logged
+    (alarm_accepted a.doubtful a.name a.labels whole.printable.name whole.printable.labels)
     (alarm_free (log_with front []) a.name a.labels new whole.printable.some whole.few room)
-    (ap (λ labels. log_with (front ++ record { name = a.name; labels = labels } ∷ []) []) (sym whole.once))
+    (ap (λ labels. log_with (front ++ record { name = a.name; labels = labels; doubtful = a.doubtful } ∷ []) []) (sym whole.once))
   where
     names_append : (front : List Alarm) (a : Alarm) (rest : List Alarm) → names_of (front ++ a ∷ rest) ≡ names_of front ++ a.name ∷ names_of rest
     names_append [] a rest = refl

@@ -8,7 +8,7 @@ use Rattle.log_csv.specs.declared.row.Row.TheVariants as row
 use Rattle.log_csv.specs.declared.refusal.RowRefusal.{RowRefusal}
 use Rattle.log_csv.specs.declared.refusal.RowRefusal.TheVariants.{Shape, Name, Memory}
 use Rattle.log_csv.specs.Records.{alarm, before, ask, nothing, malformed, alarm_record, are_empty, ask_record, before_record, labels_in, record_by_word, record_of, two_fields}
-use Rattle.log_csv.specs.ScriptText.{row_code, row_of}
+use Rattle.log_csv.specs.ScriptText.{alarm_row, row_code, row_of}
 use Rattle.log_csv.specs.Reading.{AreNamed, IsNamed, Reads, ReadsRecord}
 
 -- ---- codes
@@ -27,17 +27,17 @@ both_are true true h k = refl
 both_are true false h k = cc
 both_are false b h k = cc
 
-id_refused : (id : List ℕ) (labels : List (List ℕ)) → is_name_text id ≡ false → row_code (alarm id labels) ≡ Some 7
+id_refused : (maybe : Bool) (id : List ℕ) (labels : List (List ℕ)) → is_name_text id ≡ false → row_code (alarm maybe id labels) ≡ Some 7
 unfolding row_code
-id_refused id labels h = not_first (is_name_text id) (list_all is_name_text labels) h
+id_refused maybe id labels h = not_first (is_name_text id) (list_all is_name_text labels) h
 
-labels_refused : (id : List ℕ) (labels : List (List ℕ)) → list_all is_name_text labels ≡ false → row_code (alarm id labels) ≡ Some 7
+labels_refused : (maybe : Bool) (id : List ℕ) (labels : List (List ℕ)) → list_all is_name_text labels ≡ false → row_code (alarm maybe id labels) ≡ Some 7
 unfolding row_code
-labels_refused id labels h = not_second (is_name_text id) (list_all is_name_text labels) h
+labels_refused maybe id labels h = not_second (is_name_text id) (list_all is_name_text labels) h
 
-pub alarm_accepted : (id : List ℕ) (labels : List (List ℕ)) → is_name_text id ≡ true → list_all is_name_text labels ≡ true → row_code (alarm id labels) ≡ None
+pub alarm_accepted : (maybe : Bool) (id : List ℕ) (labels : List (List ℕ)) → is_name_text id ≡ true → list_all is_name_text labels ≡ true → row_code (alarm maybe id labels) ≡ None
 unfolding row_code
-alarm_accepted id labels h k = both_are (is_name_text id) (list_all is_name_text labels) h k
+alarm_accepted maybe id labels h k = both_are (is_name_text id) (list_all is_name_text labels) h k
 
 first_refused : (first second : List ℕ) → is_name_text first ≡ false → row_code (before first second) ≡ Some 7
 unfolding row_code
@@ -61,26 +61,26 @@ ask_accepted = refl
 
 -- ---- alarms
 
-alarm_is : (fields : List (List ℕ)) (id labels : List ℕ) → two_fields fields ≡ Some (id, labels) → alarm_record fields ≡ alarm id (labels_in labels)
-alarm_is fields id labels h = ap (λ o. option_map_or (λ pair. alarm pair.0 (labels_in pair.1)) o malformed) h
+alarm_is : (maybe : Bool) (fields : List (List ℕ)) (id labels : List ℕ) → two_fields fields ≡ Some (id, labels) → alarm_record maybe fields ≡ alarm maybe id (labels_in labels)
+alarm_is maybe fields id labels h = ap (λ o. option_map_or (λ pair. alarm maybe pair.0 (labels_in pair.1)) o malformed) h
 
-pub alarm-none : (fields : List (List ℕ)) → two_fields fields ≡ None → row_code (alarm_record fields) ≡ Some 6
-alarm-none fields h = ap (λ o. row_code (option_map_or (λ pair. alarm pair.0 (labels_in pair.1)) o malformed)) h ∙ malformed_refused
+pub alarm-none : (maybe : Bool) (fields : List (List ℕ)) → two_fields fields ≡ None → row_code (alarm_record maybe fields) ≡ Some 6
+alarm-none maybe fields h = ap (λ o. row_code (option_map_or (λ pair. alarm maybe pair.0 (labels_in pair.1)) o malformed)) h ∙ malformed_refused
 
-pub alarm-id : (fields : List (List ℕ)) (id labels : List ℕ) (e : RowRefusal) → two_fields fields ≡ Some (id, labels) → IsNamed id (Err e) → Reads (alarm_record fields) (Err e)
-alarm-id fields id labels Shape h n = absurd n
-alarm-id fields id labels Name h n = ap row_code (alarm_is fields id labels h) ∙ id_refused id (labels_in labels) n
-alarm-id fields id labels Memory h n = tt
+pub alarm-id : (maybe : Bool) (fields : List (List ℕ)) (id labels : List ℕ) (e : RowRefusal) → two_fields fields ≡ Some (id, labels) → IsNamed id (Err e) → Reads (alarm_record maybe fields) (Err e)
+alarm-id maybe fields id labels Shape h n = absurd n
+alarm-id maybe fields id labels Name h n = ap row_code (alarm_is maybe fields id labels h) ∙ id_refused maybe id (labels_in labels) n
+alarm-id maybe fields id labels Memory h n = tt
 
-pub alarm-labels : (fields : List (List ℕ)) (id labels : List ℕ) (e : RowRefusal) → two_fields fields ≡ Some (id, labels) → AreNamed (labels_in labels) (Err e) → Reads (alarm_record fields) (Err e)
-alarm-labels fields id labels Shape h n = absurd n
-alarm-labels fields id labels Name h n = ap row_code (alarm_is fields id labels h) ∙ labels_refused id (labels_in labels) n
-alarm-labels fields id labels Memory h n = tt
+pub alarm-labels : (maybe : Bool) (fields : List (List ℕ)) (id labels : List ℕ) (e : RowRefusal) → two_fields fields ≡ Some (id, labels) → AreNamed (labels_in labels) (Err e) → Reads (alarm_record maybe fields) (Err e)
+alarm-labels maybe fields id labels Shape h n = absurd n
+alarm-labels maybe fields id labels Name h n = ap row_code (alarm_is maybe fields id labels h) ∙ labels_refused maybe id (labels_in labels) n
+alarm-labels maybe fields id labels Memory h n = tt
 
-pub alarm-read : (fields : List (List ℕ)) (id labels name : List ℕ) (names : List (List ℕ)) → two_fields fields ≡ Some (id, labels) → IsNamed id (Ok name) → AreNamed (labels_in labels) (Ok names) → Reads (alarm_record fields) (Ok (row.Alarm name names))
-alarm-read fields id labels name names h n ns =
-    let is = alarm_is fields id labels h in
-    (ap row_code is ∙ alarm_accepted id (labels_in labels) n.1 ns.1, ap row_of is ∙ ap (λ x. Some (row.Alarm x (labels_in labels))) (sym n.0) ∙ ap (λ xs. Some (row.Alarm name xs)) (sym ns.0))
+pub alarm-read : (maybe : Bool) (fields : List (List ℕ)) (id labels name : List ℕ) (names : List (List ℕ)) → two_fields fields ≡ Some (id, labels) → IsNamed id (Ok name) → AreNamed (labels_in labels) (Ok names) → Reads (alarm_record maybe fields) (Ok (alarm_row maybe name names))
+alarm-read maybe fields id labels name names h n ns =
+    let is = alarm_is maybe fields id labels h in
+    (ap row_code is ∙ alarm_accepted maybe id (labels_in labels) n.1 ns.1, ap row_of is ∙ ap (λ x. Some (alarm_row maybe x (labels_in labels))) (sym n.0) ∙ ap (λ xs. Some (alarm_row maybe name xs)) (sym ns.0))
 
 -- ---- pairs
 

@@ -12,7 +12,7 @@ use Rattle.des_base.specs.Names.{is_name_byte, is_name_text}
 use Rattle.des_base.proofs.BoolLemmas.{both, join, most_is, or_left, otherwise, same}
 use Rattle.log_order.specs.Log.{Alarm, Log}
 use Rattle.log_csv.specs.Records.{Record, alarm, before, is_empty, labels_in, record_of, records_of}
-use Rattle.log_csv.specs.PrintedLog.{alarm_line, id_of, line_of_ids, log_text, pair_line}
+use Rattle.log_csv.specs.PrintedLog.{alarm_line, alarm_word, id_of, line_of_ids, log_text, pair_line}
 use Rattle.log_csv.specs.RecordsLeft.{records_in}
 use Rattle.log_csv.proofs.LabelLemmas.{is_bar}
 use Rattle.log_csv.proofs.NextLemmas.{records_in-none, records_in-some}
@@ -112,7 +112,7 @@ pub record IsPrintable (a : Alarm) : Type 0 where
   pub some : 1 ≤ length a.labels
 
 abbrev pub alarm_fields : Alarm → List (List ℕ)
-alarm_fields a = codes "alarm" ∷ a.name ∷ join_with_byte 124 a.labels ∷ []
+alarm_fields a = alarm_word a.doubtful ∷ a.name ∷ join_with_byte 124 a.labels ∷ []
 
 abbrev pub pair_fields : List Alarm → ℕ × ℕ → List (List ℕ)
 pair_fields alarms pair = codes "before" ∷ id_of alarms pair.0 ∷ id_of alarms pair.1 ∷ []
@@ -122,12 +122,18 @@ row_of_three : (x y z : List ℕ) → list_any (needs_byte default_writer) x ≡
 unfolding is_blank fields_text
 row_of_three x y z h k l = rw (h, k, l) refl
 
+word_plain : (maybe : Bool) → list_any (needs_byte default_writer) (alarm_word maybe) ≡ false
+word_plain true = refl
+word_plain false = refl
+
 alarm-row : (a : Alarm) → IsPrintable a → alarm_line a ≡ row_text default_writer (alarm_fields a)
 unfolding alarm_line
 alarm-row a h =
-    simp append_assoc
-    (sym (row_of_three (codes "alarm") a.name (join_with_byte 124 a.labels) refl (none_needs a.name (name_plain a.name h.name)) (none_needs _ (joined_plain a.labels h.labels))
-    ∙ simp (append_assoc, append-nil)))
+    whole
+    ∙ sym (row_of_three (alarm_word a.doubtful) a.name (join_with_byte 124 a.labels) (word_plain a.doubtful) (none_needs a.name (name_plain a.name h.name)) (none_needs _ (joined_plain a.labels h.labels)))
+  where
+    whole : alarm_line a ≡ (alarm_word a.doubtful ++ 44 ∷ (a.name ++ 44 ∷ (join_with_byte 124 a.labels ++ []))) ++ 10 ∷ []
+    whole = simp (append_assoc, append-nil)
 
 pair-row : (first second : List ℕ) → is_name_text first ≡ true → is_name_text second ≡ true → line_of_ids first second ≡ row_text default_writer (codes "before" ∷ first ∷ second ∷ [])
 unfolding line_of_ids
@@ -151,7 +157,7 @@ alarm_rows : (alarms : List Alarm) (tail : List ℕ) → AllByRecursion IsPrinta
 alarm_rows [] tail h = refl
 alarm_rows (a ∷ as') tail h =
     ap (records_in st.StartRecord) (append_assoc (alarm_line a) (flat_map alarm_line as') tail)
-    ∙ one_row (alarm_line a) (codes "alarm") (a.name ∷ join_with_byte 124 a.labels ∷ []) (flat_map alarm_line as' ++ tail) (alarm-row a h.0)
+    ∙ one_row (alarm_line a) (alarm_word a.doubtful) (a.name ∷ join_with_byte 124 a.labels ∷ []) (flat_map alarm_line as' ++ tail) (alarm-row a h.0)
     ∙ ap (λ rest. alarm_fields a ∷ rest) (alarm_rows as' tail h.1)
 
 -- the ids of a pair are names
@@ -165,24 +171,39 @@ pair_rows alarms (pair ∷ pairs) h =
     one_row (pair_line alarms pair) (codes "before") (id_of alarms pair.0 ∷ id_of alarms pair.1 ∷ []) (flat_map (pair_line alarms) pairs) (pair-row (id_of alarms pair.0) (id_of alarms pair.1) h.0.first h.0.second)
     ∙ ap (λ rest. pair_fields alarms pair ∷ rest) (pair_rows alarms pairs h.1)
 
+word_first : (maybe : Bool) (rest : List ℕ) → strip_bom (alarm_word maybe ++ rest) ≡ alarm_word maybe ++ rest
+unfolding strip_bom
+word_first true rest = refl
+word_first false rest = refl
+
 no_mark : (alarms : List Alarm) (pairs : List (ℕ × ℕ)) (all : List Alarm) → strip_bom (flat_map alarm_line alarms ++ flat_map (pair_line all) pairs) ≡ flat_map alarm_line alarms ++ flat_map (pair_line all) pairs
 unfolding strip_bom alarm_line line_of_ids
 no_mark [] [] all = refl
 no_mark [] (pair ∷ pairs) all = refl
-no_mark (a ∷ as') pairs all = refl
+no_mark (a ∷ as') pairs all = ap strip_bom whole ∙ word_first a.doubtful behind ∙ sym whole
+  where
+    behind : List ℕ
+    behind = codes "," ++ a.name ++ codes "," ++ join_with_byte 124 a.labels ++ codes "\n" ++ flat_map alarm_line as' ++ flat_map (pair_line all) pairs
+
+    whole : flat_map alarm_line (a ∷ as') ++ flat_map (pair_line all) pairs ≡ alarm_word a.doubtful ++ behind
+    whole = simp append_assoc
 
 -- ---- what they say
 
-alarm-said : (a : Alarm) → IsPrintable a → record_of (alarm_fields a) ≡ alarm a.name a.labels
+fields_said : (maybe : Bool) (id labels : List ℕ) → record_of (alarm_word maybe ∷ id ∷ labels ∷ []) ≡ alarm maybe id (labels_in labels)
 unfolding record_of
-alarm-said a h = ap (alarm a.name) (labels_joined a.labels h.some h.labels)
+fields_said true id labels = refl
+fields_said false id labels = refl
+
+alarm-said : (a : Alarm) → IsPrintable a → record_of (alarm_fields a) ≡ alarm a.doubtful a.name a.labels
+alarm-said a h = fields_said a.doubtful a.name (join_with_byte 124 a.labels) ∙ ap (alarm a.doubtful a.name) (labels_joined a.labels h.some h.labels)
 
 pair-said : (first second : List ℕ) → record_of (codes "before" ∷ first ∷ second ∷ []) ≡ before first second
 unfolding record_of
 pair-said first second = refl
 
 abbrev pub alarm_record_of : Alarm → Record
-alarm_record_of a = alarm a.name a.labels
+alarm_record_of a = alarm a.doubtful a.name a.labels
 
 abbrev pub pair_record_of : List Alarm → ℕ × ℕ → Record
 pair_record_of alarms pair = before (id_of alarms pair.0) (id_of alarms pair.1)

@@ -1,11 +1,11 @@
 -- The logs, scripts and first faults of worked texts.
-use Rattle.std.proofs.Common.{◌≡◌, ℕ, [], ◌∷◌, Option, None, Some, refl}
+use Rattle.std.proofs.Common.{◌≡◌, ℕ, true, false, [], ◌∷◌, Option, None, Some, refl}
 use Rattle.std.specs.Prelude.{codes}
 use Rattle.csv.proofs.OnLiterals.{csv_on_literals}
 use Rattle.des_base.specs.Names.{is_name_byte, is_name_text}
 use Rattle.log_order.specs.Log.{Log, no_log}
 use Rattle.log_csv.specs.declared.fault.LogFault.{LogFault}
-use Rattle.log_csv.specs.declared.row.Row.TheVariants.{Alarm, Before, Ask}
+use Rattle.log_csv.specs.declared.row.Row.TheVariants.{Alarm, Maybe, Before, Ask}
 use Rattle.log_csv.specs.Records.{alarm, before, nothing, malformed, record_of}
 use Rattle.log_csv.specs.ScriptText.{first_script_fault, row_code, script_of}
 use Rattle.log_csv.specs.LogText.{first_fault, log_of, log_of_records, record_code}
@@ -16,7 +16,7 @@ at row code = Some (record { row = row; code = code })
 
 -- one alarm, whose record has a quoted field and fields that are empty
 abbrev pub one_trip : Log
-one_trip = record { alarms = record { name = codes "a1"; labels = codes "T" ∷ [] } ∷ []; pairs = [] }
+one_trip = record { alarms = record { name = codes "a1"; labels = codes "T" ∷ []; doubtful = false } ∷ []; pairs = [] }
 
 pub trip-read : log_of (codes "\"alarm\",a1,T,,") ≡ one_trip
 unfolding csv_on_literals record_of
@@ -25,6 +25,14 @@ trip-read = refl
 pub trip-well : first_fault (codes "\"alarm\",a1,T,,") ≡ None
 unfolding csv_on_literals record_of record_code is_name_text is_name_byte
 trip-well = refl
+
+-- the same, but doubtful
+abbrev pub perhaps_trip : Log
+perhaps_trip = record { alarms = record { name = codes "a1"; labels = codes "T" ∷ []; doubtful = true } ∷ []; pairs = [] }
+
+pub perhaps-read : log_of (codes "maybe,a1,T") ≡ perhaps_trip
+unfolding csv_on_literals record_of
+perhaps-read = refl
 
 pub nothing-read : log_of [] ≡ no_log
 unfolding csv_on_literals
@@ -35,6 +43,10 @@ nothing-read = refl
 pub double-alarm : first_fault (codes ",\nalarm,a,T\nalarm,a,F") ≡ at 3 1
 unfolding csv_on_literals record_of record_code is_name_text is_name_byte
 double-alarm = refl
+
+pub double-doubtful : first_fault (codes "alarm,a,T\nmaybe,a,F") ≡ at 2 1
+unfolding csv_on_literals record_of record_code is_name_text is_name_byte
+double-doubtful = refl
 
 pub unknown-alarm : first_fault (codes "alarm,a,T\nbefore,a,z") ≡ at 2 2
 unfolding csv_on_literals record_of record_code is_name_text is_name_byte
@@ -62,11 +74,11 @@ no-name = refl
 
 -- ---- records
 
-pub labels-said : record_of (codes "alarm" ∷ codes "a" ∷ codes "T|F|T" ∷ []) ≡ alarm (codes "a") (codes "T" ∷ codes "F" ∷ codes "T" ∷ [])
+pub labels-said : record_of (codes "alarm" ∷ codes "a" ∷ codes "T|F|T" ∷ []) ≡ alarm false (codes "a") (codes "T" ∷ codes "F" ∷ codes "T" ∷ [])
 unfolding record_of
 labels-said = refl
 
-pub empty-label : row_code (alarm (codes "a") (codes "T" ∷ [] ∷ [])) ≡ Some 7
+pub empty-label : row_code (alarm false (codes "a") (codes "T" ∷ [] ∷ [])) ≡ Some 7
 unfolding row_code is_name_text is_name_byte
 empty-label = refl
 
@@ -79,8 +91,8 @@ unfolding record_of
 further-field = refl
 
 -- a repeated label, a repeated pair and a pair in the other order of the alarms
-pub pairs-read : log_of_records (alarm (codes "b") (codes "T" ∷ codes "T" ∷ []) ∷ alarm (codes "a") (codes "F" ∷ []) ∷ before (codes "a") (codes "b") ∷ nothing ∷ before (codes "a") (codes "b") ∷ [])
-    ≡ record { alarms = record { name = codes "b"; labels = codes "T" ∷ [] } ∷ record { name = codes "a"; labels = codes "F" ∷ [] } ∷ []; pairs = (1, 0) ∷ [] }
+pub pairs-read : log_of_records (alarm false (codes "b") (codes "T" ∷ codes "T" ∷ []) ∷ alarm false (codes "a") (codes "F" ∷ []) ∷ before (codes "a") (codes "b") ∷ nothing ∷ before (codes "a") (codes "b") ∷ [])
+    ≡ record { alarms = record { name = codes "b"; labels = codes "T" ∷ []; doubtful = false } ∷ record { name = codes "a"; labels = codes "F" ∷ []; doubtful = false } ∷ []; pairs = (1, 0) ∷ [] }
 pairs-read = refl
 
 -- ---- scripts
@@ -88,6 +100,10 @@ pairs-read = refl
 pub script-read : script_of (codes "alarm,a,A\nask\nbefore,b,a\n") ≡ Alarm (codes "a") (codes "A" ∷ []) ∷ Ask ∷ Before (codes "b") (codes "a") ∷ []
 unfolding csv_on_literals record_of
 script-read = refl
+
+pub doubtful-row : script_of (codes "maybe,a,A|B\n") ≡ Maybe (codes "a") (codes "A" ∷ codes "B" ∷ []) ∷ []
+unfolding csv_on_literals record_of
+doubtful-row = refl
 
 pub question-too-long : first_script_fault (codes "ask,x") ≡ at 1 6
 unfolding csv_on_literals record_of row_code is_name_text is_name_byte
@@ -102,3 +118,7 @@ script-name = refl
 pub trip-text : log_text one_trip ≡ codes "alarm,a1,T\n"
 unfolding alarm_line
 trip-text = refl
+
+pub perhaps-text : log_text perhaps_trip ≡ codes "maybe,a1,T\n"
+unfolding alarm_line
+perhaps-text = refl

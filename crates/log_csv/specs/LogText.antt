@@ -12,9 +12,9 @@ use Rattle.log_csv.specs.Faults.{fault_at, or_later}
 
 -- ---- the log of records
 
--- an alarm, and its labels, each once and at its first place
+-- an alarm, doubtful or not, and its labels, each once and at its first place
 abbrev pub alarm_of : Record → Option Alarm
-alarm_of (alarm id labels) = Some (record { name = id; labels = with_texts [] labels })
+alarm_of (alarm maybe id labels) = Some (record { name = id; labels = with_texts [] labels; doubtful = maybe })
 alarm_of (before first second) = None
 alarm_of ask = None
 alarm_of nothing = None
@@ -28,7 +28,7 @@ ids_of records = names_of (alarms_of records)
 
 -- two alarms by the places of their ids, where both are known
 abbrev pub pair_of : List (List ℕ) → Record → Option (ℕ × ℕ)
-pair_of ids (alarm id labels) = None
+pair_of ids (alarm maybe id labels) = None
 pair_of ids (before first second) = option_and_then (λ i. option_map (λ j. (i, j)) (place_of second ids)) (place_of first ids)
 pair_of ids ask = None
 pair_of ids nothing = None
@@ -56,7 +56,7 @@ log_of bytes = log_of_records (records_of bytes)
 -- ---- its first fault
 
 abbrev pub is_question : Record → Bool
-is_question (alarm id labels) = false
+is_question (alarm maybe id labels) = false
 is_question (before first second) = false
 is_question ask = true
 is_question nothing = false
@@ -64,7 +64,7 @@ is_question malformed = false
 
 -- an earlier alarm has the id
 abbrev pub is_double : List Record → Record → Bool
-is_double earlier (alarm id labels) = is_some (place_of id (ids_of earlier))
+is_double earlier (alarm maybe id labels) = is_some (place_of id (ids_of earlier))
 is_double earlier (before first second) = false
 is_double earlier ask = false
 is_double earlier nothing = false
@@ -72,7 +72,7 @@ is_double earlier malformed = false
 
 -- one of two alarms isn't among the earlier
 abbrev pub is_unknown : List Record → Record → Bool
-is_unknown earlier (alarm id labels) = false
+is_unknown earlier (alarm maybe id labels) = false
 is_unknown earlier (before first second) = is_none (place_of first (ids_of earlier)) || is_none (place_of second (ids_of earlier))
 is_unknown earlier ask = false
 is_unknown earlier nothing = false
@@ -83,7 +83,7 @@ abbrev pub is_cycle : List Record → Record → Bool
 is_cycle earlier said = option_map_or (λ pair. closes_cycle (pairs_of earlier) pair.0 pair.1) (pair_of (ids_of earlier) said) false
 
 abbrev pub lacks_labels : Record → Bool
-lacks_labels (alarm id labels) = nat_le (length labels) 0
+lacks_labels (alarm maybe id labels) = nat_le (length labels) 0
 lacks_labels (before first second) = false
 lacks_labels ask = false
 lacks_labels nothing = false
@@ -94,7 +94,7 @@ is_pair_past_limit pairs pair = not (has_pair pairs pair.0 pair.1) && nat_le mos
 
 -- a limit would be passed: by one more alarm, by the labels as they are written, or by a pair that is new
 abbrev pub is_past_limit : List Record → Record → Bool
-is_past_limit earlier (alarm id labels) = nat_le most_alarms (length (alarms_of earlier)) || nat_lt most_labels (length labels)
+is_past_limit earlier (alarm maybe id labels) = nat_le most_alarms (length (alarms_of earlier)) || nat_lt most_labels (length labels)
 is_past_limit earlier (before first second) = option_map_or (is_pair_past_limit (pairs_of earlier)) (pair_of (ids_of earlier) (before first second)) false
 is_past_limit earlier ask = false
 is_past_limit earlier nothing = false

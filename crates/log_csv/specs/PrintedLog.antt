@@ -1,14 +1,19 @@
 -- The text that is printed of a log.
-use Rattle.std.specs.Prelude.{ℕ, List, [], ◌++◌, codes, option_map, unwrap_or, slice_get}
+use Rattle.std.specs.Prelude.{ℕ, Bool, true, false, List, [], ◌++◌, codes, option_map, unwrap_or, slice_get}
 use Rattle.std.specs.List.{flat_map, join_with_byte}
 use Rattle.log_order.specs.Log.{Alarm, Log}
 
-abbrev pub alarm_with : List ℕ → List (List ℕ) → Alarm
-alarm_with id labels = record { name = id; labels = labels }
+abbrev pub alarm_with : Bool → List ℕ → List (List ℕ) → Alarm
+alarm_with maybe id labels = record { name = id; labels = labels; doubtful = maybe }
 
--- an alarm: its id, and its labels with bars between them
+-- the keyword of an alarm, certain or doubtful
+abbrev pub alarm_word : Bool → List ℕ
+alarm_word false = codes "alarm"
+alarm_word true = codes "maybe"
+
+-- an alarm: its keyword, its id, and its labels with bars between them
 unfoldable pub alarm_line : Alarm → List ℕ
-alarm_line alarm = codes "alarm," ++ alarm.name ++ codes "," ++ join_with_byte 124 alarm.labels ++ codes "\n"
+alarm_line alarm = alarm_word alarm.doubtful ++ codes "," ++ alarm.name ++ codes "," ++ join_with_byte 124 alarm.labels ++ codes "\n"
 
 unfoldable pub line_of_ids : List ℕ → List ℕ → List ℕ
 line_of_ids first second = codes "before," ++ first ++ codes "," ++ second ++ codes "\n"

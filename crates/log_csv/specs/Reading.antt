@@ -63,7 +63,7 @@ ReadsRecord said (Err Memory) = ⊤
 
 -- the alarms of a pair are among these
 abbrev pub IsKnown : List (List ℕ) → Record → Type 0
-IsKnown ids (alarm id labels) = ⊤
+IsKnown ids (alarm maybe id labels) = ⊤
 IsKnown ids (before first second) = (is_some (place_of first ids) ≡ true) × (is_some (place_of second ids) ≡ true)
 IsKnown ids ask = ⊤
 IsKnown ids nothing = ⊤

@@ -1,15 +1,15 @@
 -- What a record of a log or a script says.
-use Rattle.std.specs.Prelude.{ℕ, Bool, ◌==◌, List, [], ◌∷◌, map, length, Option, Some, None, bytes_eq, codes, if◌then◌else◌}
+use Rattle.std.specs.Prelude.{ℕ, Bool, true, false, ◌==◌, List, [], ◌∷◌, map, length, Option, Some, None, bytes_eq, codes, if◌then◌else◌}
 use Rattle.std.specs.List.{list_all, slice_split}
 use Rattle.std.specs.Option.{option_map_or}
 use Rattle.csv.specs.Reading.{default_config, records, strip_bom}
 use Rattle.log_csv.specs.declared.keyword.Keyword.{Keyword}
 use Rattle.log_csv.specs.declared.keyword.Keyword.TheVariants as word
 
--- An alarm and the labels that are written for it, two alarms of which the first comes before the second, a question, no
--- field that isn't empty, or none of these.
+-- An alarm, whether it is doubtful, and the labels that are written for it; two alarms of which the first comes before the
+-- second; a question; no field that isn't empty; or none of these.
 pub data Record : Type 0 where
-  alarm : List ℕ → List (List ℕ) → Record
+  alarm : (maybe : Bool) (id : List ℕ) (labels : List (List ℕ)) → Record
   before : List ℕ → List ℕ → Record
   ask : Record
   nothing : Record
@@ -31,8 +31,8 @@ two_fields [] = None
 two_fields (first ∷ []) = None
 two_fields (first ∷ second ∷ others) = if are_empty others then Some (first, second) else None
 
-abbrev pub alarm_record : List (List ℕ) → Record
-alarm_record fields = option_map_or (λ pair. alarm pair.0 (labels_in pair.1)) (two_fields fields) malformed
+abbrev pub alarm_record : Bool → List (List ℕ) → Record
+alarm_record maybe fields = option_map_or (λ pair. alarm maybe pair.0 (labels_in pair.1)) (two_fields fields) malformed
 
 abbrev pub before_record : List (List ℕ) → Record
 before_record fields = option_map_or (λ pair. before pair.0 pair.1) (two_fields fields) malformed
@@ -44,13 +44,15 @@ ask_record fields = if are_empty fields then ask else malformed
 abbrev pub keyword_of : List ℕ → Option Keyword
 keyword_of text =
     if bytes_eq text (codes "alarm") then Some word.Alarm
+    else if bytes_eq text (codes "maybe") then Some word.Maybe
     else if bytes_eq text (codes "before") then Some word.Before
     else if bytes_eq text (codes "ask") then Some word.Ask
     else None
 
 abbrev pub record_with : Option Keyword → List (List ℕ) → Record
 record_with None fields = malformed
-record_with (Some word.Alarm) fields = alarm_record fields
+record_with (Some word.Alarm) fields = alarm_record false fields
+record_with (Some word.Maybe) fields = alarm_record true fields
 record_with (Some word.Before) fields = before_record fields
 record_with (Some word.Ask) fields = ask_record fields
 

@@ -4,12 +4,12 @@ use Rattle.std.specs.List.{list_all}
 use Rattle.des_base.specs.Names.{is_name_text}
 use Rattle.log_csv.specs.declared.fault.LogFault.{LogFault}
 use Rattle.log_csv.specs.declared.row.Row.{Row}
-use Rattle.log_csv.specs.declared.row.Row.TheVariants.{Alarm, Before, Ask}
+use Rattle.log_csv.specs.declared.row.Row.TheVariants.{Alarm, Maybe, Before, Ask}
 use Rattle.log_csv.specs.Records.{Record, alarm, before, ask, nothing, malformed, records_of}
 use Rattle.log_csv.specs.Faults.{fault_at, or_later}
 
 abbrev pub is_malformed : Record → Bool
-is_malformed (alarm id labels) = false
+is_malformed (alarm maybe id labels) = false
 is_malformed (before first second) = false
 is_malformed ask = false
 is_malformed nothing = false
@@ -17,7 +17,7 @@ is_malformed malformed = true
 
 -- the texts that must be names
 abbrev pub words_of : Record → List (List ℕ)
-words_of (alarm id labels) = id ∷ labels
+words_of (alarm maybe id labels) = id ∷ labels
 words_of (before first second) = first ∷ second ∷ []
 words_of ask = []
 words_of nothing = []
@@ -39,8 +39,13 @@ first_row_fault row (said ∷ others) = or_later (fault_at row (row_code said)) 
 abbrev pub first_script_fault : List ℕ → Option LogFault
 first_script_fault bytes = first_row_fault 1 (records_of bytes)
 
+-- the row of an alarm, certain or doubtful
+abbrev pub alarm_row : Bool → List ℕ → List (List ℕ) → Row
+alarm_row false id labels = Alarm id labels
+alarm_row true id labels = Maybe id labels
+
 abbrev pub row_of : Record → Option Row
-row_of (alarm id labels) = Some (Alarm id labels)
+row_of (alarm maybe id labels) = Some (alarm_row maybe id labels)
 row_of (before first second) = Some (Before first second)
 row_of ask = Some Ask
 row_of nothing = None

@@ -5,6 +5,7 @@ ghost use Rattle.log_csv.specs.Records.{keyword_of};
 #[derive(Clone, Copy)]
 pub enum Keyword {
     Alarm,
+    Maybe,
     Before,
     Ask,
 }
@@ -15,6 +16,8 @@ pub fn keyword_of(text: &[u8]) -> Option<Keyword>
 {
     if is_word(text, "alarm") {
         Some(Keyword::Alarm)
+    } else if is_word(text, "maybe") {
+        Some(Keyword::Maybe)
     } else if is_word(text, "before") {
         Some(Keyword::Before)
     } else if is_word(text, "ask") {

@@ -1,6 +1,6 @@
 //! Texts of alarm logs and scripts: records of comma-separated fields, after RFC 4180.
 //!
-//! A record is an alarm with its labels, a pair of alarms, "the first before the second", or in scripts a question.
+//! A record is an alarm with its labels, certain or doubtful, a pair of alarms, "the first before the second", or in scripts a question.
 //! `specs/Records.antt` says what a record says, `specs/LogText.antt` which log a text is and what its first fault is, by
 //! selection from its records, and `specs/ScriptText.antt` the same of a script. `print_log` writes a text that reads back
 //! as an equal log (`specs/PrintedLog.antt`).

@@ -1,6 +1,7 @@
 // A log is read record by record.
-ghost use Rattle.std.specs.Prelude.{◌≡◌, ◌^◌, ◌<◌, List, None, Some, length, IfErr, IfOk, OnOk};
+ghost use Rattle.std.specs.Prelude.{◌≡◌, ◌^◌, ◌<◌, List, None, Some, length, IfErr, IfOk, OnErr, OnOk};
 ghost use Rattle.csv.specs.Records.{fields_of};
+ghost use Rattle.log_order.specs.Adding.{Answers, alarm_refusal, with_alarm};
 ghost use Rattle.log_csv.specs.Records.{Record, alarm, before, record_of};
 ghost use Rattle.log_csv.specs.Faults.{IsDue};
 ghost use Rattle.log_csv.specs.ScriptText.{row_code, row_of};
@@ -18,9 +19,9 @@ use std::alloc::Global;
 
 /// The log that the text says.
 ///
-/// A record is `alarm,ID,LABEL`, with bars between several labels, or `before,ID,ID`, "the first before the second". Fields
-/// behind the third are empty, and a record all of whose fields are empty is skipped. A label that is repeated counts
-/// once, and a pair that is there already changes nothing.
+/// A record is `alarm,ID,LABEL`, with bars between several labels, `maybe,ID,LABEL` for a doubtful alarm, or `before,ID,ID`,
+/// "the first before the second". Fields behind the third are empty, and a record all of whose fields are empty is skipped. A
+/// label that is repeated counts once, and a pair that is there already changes nothing.
 #[tactic(auto, using(crate::proofs::LogLemmas::log_steps))]
 pub fn read_log(alloc: Global, bytes: &[u8]) -> Result<AlarmLog, LogReadRefusal>
     requires { length bytes.now < 2 ^ 32 }
@@ -60,18 +61,38 @@ fn add_row(log: &mut AlarmLog, row: u32, said: Row) -> Result<(), LogReadRefusal
     ensures { (earlier : List Record) (of : Record) → IsLogOf earlier log.old → row_code of ≡ None → row_of of ≡ Some said → Adds earlier of row log.new result }
 {
     match said {
-        Row::Alarm { id, labels } => add_alarm(log, row, id, labels.as_slice()),
+        Row::Alarm { id, labels } => add_alarm(log, row, false, id, labels.as_slice()),
+        Row::Maybe { id, labels } => add_alarm(log, row, true, id, labels.as_slice()),
         Row::Before { first, second } => add_pair(log, row, &first, &second),
         Row::Ask => Err(LogReadRefusal::Fault(LogFault { row, code: 6 })),
     }
 }
 
-fn add_alarm(log: &mut AlarmLog, row: u32, id: Name, labels: &[Name]) -> Result<(), LogReadRefusal>
-    ensures { (earlier : List Record) → IsLogOf earlier log.old → row_code (alarm id labels.now) ≡ None → Adds earlier (alarm id labels.now) row log.new result }
+fn add_alarm(
+    log: &mut AlarmLog,
+    row: u32,
+    maybe: bool,
+    id: Name,
+    labels: &[Name],
+) -> Result<(), LogReadRefusal>
+    ensures { (earlier : List Record) → IsLogOf earlier log.old → row_code (alarm maybe id labels.now) ≡ None → Adds earlier (alarm maybe id labels.now) row log.new result }
 {
-    match log.add_alarm(id, labels) {
+    match put_alarm(log, maybe, id, labels) {
         Ok(_number) => Ok(()),
         Err(refusal) => Err(refusal_at(row, refusal)),
+    }
+}
+
+// Adds an alarm, certain or doubtful.
+fn put_alarm(log: &mut AlarmLog, maybe: bool, id: Name, labels: &[Name]) -> Result<u32, LogRefusal>
+    ensures refused { Answers result (alarm_refusal log.old id labels.now) }
+    ensures ok { OnOk result (log.new ≡ with_alarm log.old id labels.now maybe) }
+    ensures err { OnErr result (log.new ≡ log.old) }
+{
+    if maybe {
+        log.add_maybe(id, labels)
+    } else {
+        log.add_alarm(id, labels)
     }
 }
 

@@ -2,7 +2,7 @@
 ghost use Rattle.std.specs.Prelude.{◌≡◌, ◌<◌, ◌++◌, None, length, OnErr, OnOk};
 ghost use Rattle.std.specs.List.{flat_map, join_with_byte};
 ghost use Rattle.log_csv.specs.LogText.{first_fault, log_of};
-ghost use Rattle.log_csv.specs.PrintedLog.{alarm_line, alarm_with, line_of_ids, log_text, pair_line};
+ghost use Rattle.log_csv.specs.PrintedLog.{alarm_line, alarm_with, alarm_word, line_of_ids, log_text, pair_line};
 
 use des_base::{Memory, Name};
 use log_order::AlarmLog;
@@ -29,20 +29,28 @@ fn print_alarms(log: &AlarmLog, text: &mut Vec<u8>) -> Result<(), Memory>
     ensures { OnOk result (text.new.items ≡ text.old.items ++ flat_map alarm_line log.now.alarms) }
 {
     for alarm in 0..log.alarms() {
-        print_alarm(log.id(alarm), log.labels(alarm), text)?;
+        print_alarm(log.is_maybe(alarm), log.id(alarm), log.labels(alarm), text)?;
     }
     Ok(())
 }
 
-fn print_alarm(id: &Name, labels: &[Name], text: &mut Vec<u8>) -> Result<(), Memory>
-    ensures { OnOk result (text.new.items ≡ text.old.items ++ alarm_line (alarm_with id.now labels.now)) }
+fn print_alarm(maybe: bool, id: &Name, labels: &[Name], text: &mut Vec<u8>) -> Result<(), Memory>
+    ensures { OnOk result (text.new.items ≡ text.old.items ++ alarm_line (alarm_with maybe id.now labels.now)) }
 {
-    text.extend_from_slice(b"alarm,")?;
+    text.extend_from_slice(alarm_word(maybe))?;
+    text.extend_from_slice(b",")?;
     print_name(id, text)?;
     text.extend_from_slice(b",")?;
     print_labels(labels, text)?;
     text.extend_from_slice(b"\n")?;
     Ok(())
+}
+
+// The keyword of an alarm, certain or doubtful.
+fn alarm_word(maybe: bool) -> &'static [u8]
+    ensures { result.now ≡ alarm_word maybe }
+{
+    if maybe { b"maybe" } else { b"alarm" }
 }
 
 // The labels, with bars between them.

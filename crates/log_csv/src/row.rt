@@ -5,6 +5,8 @@ use des_base::{Name, NameList};
 pub enum Row {
     /// A new alarm, with its labels as they are written.
     Alarm { id: Name, labels: NameList },
+    /// A new doubtful alarm, with its labels as they are written.
+    Maybe { id: Name, labels: NameList },
     /// The first alarm comes before the second.
     Before { first: Name, second: Name },
     /// A question.

@@ -1,8 +1,9 @@
 // The row that a record says.
-ghost use Rattle.std.specs.Prelude.{drop};
+ghost use Rattle.std.specs.Prelude.{◌≡◌, drop};
 ghost use Rattle.csv.specs.Records.{fields_of};
 ghost use Rattle.log_csv.specs.Records.{alarm_record, before_record, ask_record, record_by_word, record_of};
 ghost use Rattle.log_csv.specs.Reading.{Reads, ReadsRecord};
+ghost use Rattle.log_csv.specs.ScriptText.{alarm_row};
 
 use crate::fields::{are_empty_from, keyword, two_fields};
 use crate::keyword::Keyword;
@@ -10,6 +11,7 @@ use crate::labels::{name_of, read_labels};
 use crate::refusal::RowRefusal;
 use crate::row::Row;
 use csv::ByteRecord;
+use des_base::{Name, NameList};
 use std::alloc::Global;
 
 // The row that a record says, where one of its fields isn't empty.
@@ -30,7 +32,8 @@ fn read_row(alloc: Global, fields: &ByteRecord) -> Result<Row, RowRefusal>
     ensures { Reads (record_by_word (fields_of fields.now)) result }
 {
     match keyword(fields) {
-        Some(Keyword::Alarm) => read_alarm(alloc, fields),
+        Some(Keyword::Alarm) => read_alarm(alloc, fields, false),
+        Some(Keyword::Maybe) => read_alarm(alloc, fields, true),
         Some(Keyword::Before) => read_before(alloc, fields),
         Some(Keyword::Ask) => read_ask(fields),
         None => Err(RowRefusal::Shape),
@@ -38,15 +41,26 @@ fn read_row(alloc: Global, fields: &ByteRecord) -> Result<Row, RowRefusal>
 }
 
 #[tactic(auto, using(crate::proofs::RowLemmas::alarm_records))]
-fn read_alarm(alloc: Global, fields: &ByteRecord) -> Result<Row, RowRefusal>
-    ensures { Reads (alarm_record (drop 1 (fields_of fields.now))) result }
+fn read_alarm(alloc: Global, fields: &ByteRecord, maybe: bool) -> Result<Row, RowRefusal>
+    ensures { Reads (alarm_record maybe (drop 1 (fields_of fields.now))) result }
 {
     let Some((id, labels)) = two_fields(fields) else {
         return Err(RowRefusal::Shape);
     };
     let id = name_of(alloc, id)?;
     let labels = read_labels(alloc, labels)?;
-    Ok(Row::Alarm { id, labels })
+    Ok(alarm_row(maybe, id, labels))
+}
+
+// The row of an alarm, certain or doubtful.
+fn alarm_row(maybe: bool, id: Name, labels: NameList) -> Row
+    ensures { result ≡ alarm_row maybe id labels }
+{
+    if maybe {
+        Row::Maybe { id, labels }
+    } else {
+        Row::Alarm { id, labels }
+    }
 }
 
 #[tactic(auto, using(crate::proofs::RowLemmas::before_records))]

@@ -39,8 +39,8 @@ impl Script {
 
 /// The script that the text says.
 ///
-/// A record is `alarm,ID,LABEL`, with bars between several labels, `before,ID,ID` or `ask`. Fields behind these are empty,
-/// and a record all of whose fields are empty is skipped. Only the shape of a record and its names are looked at here: a
+/// A record is `alarm,ID,LABEL`, with bars between several labels, the same with `maybe`, `before,ID,ID` or `ask`. Fields
+/// behind these are empty, and a record all of whose fields are empty is skipped. Only the shape of a record and its names are looked at here: a
 /// fault has code 6 or 7.
 #[tactic(auto, using(crate::proofs::ScriptLemmas::script_rows))]
 pub fn read_script(alloc: Global, bytes: &[u8]) -> Result<Script, LogReadRefusal>

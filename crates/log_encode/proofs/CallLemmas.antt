@@ -4,10 +4,10 @@ use Rattle.std.specs.List.{AllByRecursion, range_with_len}
 use Rattle.std.proofs.lemmas.List.Elements.{All-from_recursion}
 use Rattle.des_base.specs.declared.TheConstants.{VAR_LIMIT}
 use Rattle.des_net.specs.Network.{Net}
-use Rattle.log_order.specs.Log.{no_log}
+use Rattle.log_order.specs.Log.{no_log, is_doubtful}
 use Rattle.log_clauses.specs.Additions.{alarm_added, with_addition}
 use Rattle.log_clauses.specs.LogClauses.{chain, observable_events, guard_literals, matching_events}
-use Rattle.log_clauses.specs.Decoded.{alarm_at}
+use Rattle.log_clauses.specs.Decoded.{alarm_at, is_false}
 use Rattle.log_clauses.specs.LogCodes.{IsNamedLog, IsNamedAdded}
 use Rattle.log_clauses.specs.LogNames.{first_names, ReadsInOrder}
 use Rattle.log_clauses.proofs.Lists.{all_of, contains_got, none_in_nil, cons_cases, clash, as_false, filter_has, filter_from, got_contains}
@@ -16,18 +16,18 @@ use Rattle.log_clauses.proofs.Numbered.{ordered_reads}
 use Rattle.log_encode.proofs.CodeLemmas.{empty_is_coded, grown_is_coded}
 use Rattle.log_encode.proofs.DraftLemmas.{lifted, asked_named, first_written, alarm_brings}
 use Rattle.log_encode.proofs.EndLemmas.{empty_ends, observables_known, ends_events, ends_count}
-use Rattle.log_encode.proofs.GrowLemmas.{taken_width, new_vars, new_alarm, ends_with_alarm}
+use Rattle.log_encode.proofs.GrowLemmas.{taken_width, new_vars, new_alarm, ends_with_alarm, false_with_alarm}
 use Rattle.log_encode.proofs.TakenLemmas.{map_count}
 use Rattle.log_encode.proofs.VariableLemmas.{link_is_small}
 use Rattle.log_encode.specs.AlarmState.{AlarmState, variables_of, is_matched}
-use Rattle.log_encode.specs.AlarmVariables.{IsWithin, variable_count, match_variable}
-use Rattle.log_encode.specs.CodedLog.{CodedLog, code_names, read_names, empty_code, code_after, addition_width, nameless, IsCodedLog}
+use Rattle.log_encode.specs.AlarmVariables.{IsWithin, variable_count, false_width, match_variable, done_variable, dropped_variable}
+use Rattle.log_encode.specs.CodedLog.{CodedLog, code_names, read_names, empty_code, code_after, addition_width, nameless, false_literals, IsCodedLog}
 use Rattle.log_encode.specs.declared.log_code.LogCode.TheInside.{Inside}
-use Rattle.log_encode.specs.Drafted.{LogCodeState, DraftState, IsDraftOf}
+use Rattle.log_encode.specs.Drafted.{LogCodeState, DraftState, IsDraftOf, IsStepOf}
 use Rattle.log_encode.specs.declared.taken.ChainEnd.{ChainEnd}
 use Rattle.log_encode.specs.declared.taken.Taken.{Taken}
-use Rattle.log_encode.specs.View.{IsChainEnd, IsRest, AreEnds, IsAlarm, AreKept, IsLogCode, coded_of, coded, code_view}
-use Rattle.log_encode.specs.Written.{has_any_label, taken_from, first_ends, guards_of, all_closed_written, alarm_written, ends_after, HasRest, link_from, link_of, holds}
+use Rattle.log_encode.specs.View.{IsChainEnd, IsRest, AreEnds, AreFalse, IsAlarm, AreKept, IsLogCode, coded_of, coded, code_view}
+use Rattle.log_encode.specs.Written.{has_any_label, taken_from, first_ends, guards_of, all_closed_written, alarm_written, dropped_written, ends_after, HasRest, link_from, link_of, holds}
 use Rattle.prop_core.specs.declared.grid.Grid.{Grid}
 use Rattle.prop_core.specs.declared.lit.Lit.{Lit}
 use Rattle.prop_core.specs.Clauses.{Clause}
@@ -38,7 +38,7 @@ use Rattle.run_clauses.specs.StepClauses.{numbers_below}
 use Rattle.std.specs.Option.{option_map_or}
 use Rattle.std.proofs.lemmas.Bool.{eqb-true, eq-eqb}
 use Rattle.log_encode.specs.declared.alarm_vars.AlarmVars.{AlarmVars}
-use Rattle.prop_core.specs.VariableNames.{ReadsAs, name_of, yes, closed, matches}
+use Rattle.prop_core.specs.VariableNames.{Name, NamedLiteral, ReadsAs, name_of, named_literal, named_clause, yes, closed, matches, done, dropped}
 
 -- ---- the empty log
 
@@ -68,12 +68,13 @@ first_guards net grid asked chain_ends is =
     let names = map_count (λ e. closed e 0) (observable_events net) in
     omega (arith, ends', begun, names)
 
-pub first_kept : (net : Net) (grid : Grid) (asked vars : ℕ) (chain_ends : List ChainEnd) (guards : List Lit) (alarms : List AlarmState) (pairs : List (ℕ × ℕ)) → IsBeginning net grid asked chain_ends →
-    guards ≡ guards_of asked chain_ends → alarms ≡ [] → pairs ≡ [] → vars ≡ asked + length (first_names net) → AreKept (coded_of net grid asked vars alarms pairs) chain_ends guards alarms
-first_kept net grid asked vars chain_ends guards alarms pairs is g a p v =
-    rw (g, a, p, v) (record {
+pub first_kept : (net : Net) (grid : Grid) (asked vars : ℕ) (chain_ends : List ChainEnd) (guards lits : List Lit) (alarms : List AlarmState) (pairs : List (ℕ × ℕ)) → IsBeginning net grid asked chain_ends →
+    guards ≡ guards_of asked chain_ends → lits ≡ [] → alarms ≡ [] → pairs ≡ [] → vars ≡ asked + length (first_names net) → AreKept (coded_of net grid asked vars alarms pairs) chain_ends guards lits alarms
+first_kept net grid asked vars chain_ends guards lits alarms pairs is g d a p v =
+    rw (g, d, a, p, v) (record {
       log = empty_is_coded net grid asked is.events is.made is.few;
       chains = subst (λ xs. AreEnds (empty_code net grid asked) xs (guards_of asked xs)) (sym is.begun) (empty_ends net grid asked);
+      false_ones = tt;
       alarms = λ i alarm at. cc;
     })
 
@@ -117,23 +118,23 @@ alarm_within code i alarm coded is = omega (arith, is.within, coded.few)
 
 -- ---- a draft of an alarm
 
-pub record IsDrafting (code : CodedLog) (labels : List (List ℕ)) (first : ℕ) (chain_ends : List ChainEnd) (guards : List Lit) : Type 0 where
+pub record IsDrafting (code : CodedLog) (labels : List (List ℕ)) (maybe : Bool) (first : ℕ) (chain_ends : List ChainEnd) (guards : List Lit) : Type 0 where
   pub coded : IsCodedLog code
   pub chains : AreEnds code chain_ends guards
   pub above : code.vars ≤ first
-  pub few : first + addition_width code (alarm_added (nameless labels)) ≤ VAR_LIMIT
+  pub few : first + addition_width code (alarm_added (nameless labels maybe)) ≤ VAR_LIMIT
 
-pub draft_known : (code : CodedLog) (labels : List (List ℕ)) (first : ℕ) (chain_ends : List ChainEnd) (guards : List Lit) → IsDrafting code labels first chain_ends guards → AllByRecursion (λ (end : ChainEnd). end.event < code.grid.events) chain_ends
-draft_known code labels first chain_ends guards is = all_known code.net code.grid chain_ends is.coded.events is.chains.events
+pub draft_known : (code : CodedLog) (labels : List (List ℕ)) (maybe : Bool) (first : ℕ) (chain_ends : List ChainEnd) (guards : List Lit) → IsDrafting code labels maybe first chain_ends guards → AllByRecursion (λ (end : ChainEnd). end.event < code.grid.events) chain_ends
+draft_known code labels maybe first chain_ends guards is = all_known code.net code.grid chain_ends is.coded.events is.chains.events
 
-pub draft_known_events : (code : CodedLog) (labels : List (List ℕ)) (first : ℕ) (chain_ends : List ChainEnd) (guards : List Lit) → IsDrafting code labels first chain_ends guards → All (λ (end : ChainEnd). end.event < length code.net.events) chain_ends
-draft_known_events code labels first chain_ends guards is =
+pub draft_known_events : (code : CodedLog) (labels : List (List ℕ)) (maybe : Bool) (first : ℕ) (chain_ends : List ChainEnd) (guards : List Lit) → IsDrafting code labels maybe first chain_ends guards → All (λ (end : ChainEnd). end.event < length code.net.events) chain_ends
+draft_known_events code labels maybe first chain_ends guards is =
     All-from_recursion (λ (end : ChainEnd). end.event < length code.net.events) chain_ends
-    (subst (λ k. AllByRecursion (λ (end : ChainEnd). end.event < k) chain_ends) is.coded.events (draft_known code labels first chain_ends guards is))
+    (subst (λ k. AllByRecursion (λ (end : ChainEnd). end.event < k) chain_ends) is.coded.events (draft_known code labels maybe first chain_ends guards is))
 
-pub draft_within : (code : CodedLog) (labels : List (List ℕ)) (first : ℕ) (chain_ends : List ChainEnd) (guards : List Lit) → IsDrafting code labels first chain_ends guards →
-    first + variable_count (length (taken_from code.net labels chain_ends)) code.grid.steps ≤ VAR_LIMIT
-draft_within code labels first chain_ends guards is = omega (arith, is.few, taken_width code labels chain_ends is.chains.events)
+pub draft_within : (code : CodedLog) (labels : List (List ℕ)) (maybe : Bool) (first : ℕ) (chain_ends : List ChainEnd) (guards : List Lit) → IsDrafting code labels maybe first chain_ends guards →
+    first + (variable_count (length (taken_from code.net labels chain_ends)) code.grid.steps + false_width maybe) ≤ VAR_LIMIT
+draft_within code labels maybe first chain_ends guards is = omega (arith, is.few, taken_width code labels maybe chain_ends is.chains.events)
 
 has_rest : (code : CodedLog) (end : ChainEnd) → IsCodedLog code → end.event < code.grid.events → IsChainEnd code end → HasRest code.grid (record { event = end.event; last = end.last })
 has_rest code end coded known is = record { event = known; last = by end.last is.rest }
@@ -150,8 +151,8 @@ rests code labels (end ∷ chain_ends) coded known all = by (has_any_label code.
     by true is later = rw is (has_rest code end coded known.0 all.0, later)
     by false is later = rw is later
 
-pub draft_rests : (code : CodedLog) (labels : List (List ℕ)) (first : ℕ) (chain_ends : List ChainEnd) (guards : List Lit) → IsDrafting code labels first chain_ends guards → All (HasRest code.grid) (taken_from code.net labels chain_ends)
-draft_rests code labels first chain_ends guards is = All-from_recursion (HasRest code.grid) (taken_from code.net labels chain_ends) (rests code labels chain_ends is.coded (draft_known code labels first chain_ends guards is) is.chains.each)
+pub draft_rests : (code : CodedLog) (labels : List (List ℕ)) (maybe : Bool) (first : ℕ) (chain_ends : List ChainEnd) (guards : List Lit) → IsDrafting code labels maybe first chain_ends guards → All (HasRest code.grid) (taken_from code.net labels chain_ends)
+draft_rests code labels maybe first chain_ends guards is = All-from_recursion (HasRest code.grid) (taken_from code.net labels chain_ends) (rests code labels chain_ends is.coded (draft_known code labels maybe first chain_ends guards is) is.chains.each)
 
 pub begins : (net : Net) (grid : Grid) (vars asked : ℕ) (chain_ends : List ChainEnd) → asked ≡ vars → grid.events ≡ length net.events → grid.first + grid.events * grid.steps ≤ vars → vars + length (first_names net) ≤ VAR_LIMIT →
     chain_ends ≡ first_ends (suc asked) (observable_events net) → IsBeginning net grid asked chain_ends
@@ -164,7 +165,7 @@ guards_len net grid asked len chain_ends slice guards is same made count = sym c
 pub found_alarm : (a : Inside) (state : LogCodeState) (i : ℕ) (alarm : AlarmState) → code_view a ≡ state → IsLogCode a → i < length state.code.log.alarms → alarm ≡ slice_index_or a.alarms.items i alarm → IsAlarm state.code i alarm × IsCodedLog state.code
 found_alarm a state i alarm view inv known at =
     subst (λ (s : LogCodeState). i < length s.code.log.alarms → IsAlarm s.code i alarm × IsCodedLog s.code) view
-    (λ known. (inv.kept.alarms i alarm (alarm_at_place a.alarms.items i alarm (omega (arith, known, map_count (λ (x : AlarmState). nameless x.labels) a.alarms.items)) ∙ ap (λ x. Some x) (sym at)), inv.kept.log))
+    (λ known. (inv.kept.alarms i alarm (alarm_at_place a.alarms.items i alarm (omega (arith, known, map_count (λ (x : AlarmState). nameless x.labels x.doubtful) a.alarms.items)) ∙ ap (λ x. Some x) (sym at)), inv.kept.log))
     known
 
 -- ---- which alarm is matched
@@ -271,13 +272,13 @@ find_miss p q m none = find_nothing p q 0 m (λ j high low. none j (omega (arith
 
 -- ---- the draft itself
 
-pub drafting : (a : Inside) (state : LogCodeState) (labels : List (List ℕ)) (first : ℕ) → code_view a ≡ state → IsLogCode a → state.code.vars ≤ first → first + addition_width state.code (alarm_added (nameless labels)) ≤ VAR_LIMIT →
-    IsDrafting (coded a) labels first a.ends.items a.guards.items
-drafting a state labels first view inv made few = record {
+pub drafting : (a : Inside) (state : LogCodeState) (labels : List (List ℕ)) (maybe : Bool) (first : ℕ) → code_view a ≡ state → IsLogCode a → state.code.vars ≤ first → first + addition_width state.code (alarm_added (nameless labels maybe)) ≤ VAR_LIMIT →
+    IsDrafting (coded a) labels maybe first a.ends.items a.guards.items
+drafting a state labels maybe first view inv made few = record {
   coded = inv.kept.log;
   chains = inv.kept.chains;
   above = subst (λ (s : LogCodeState). s.code.vars ≤ first) (sym view) made;
-  few = subst (λ (s : LogCodeState). first + addition_width s.code (alarm_added (nameless labels)) ≤ VAR_LIMIT) (sym view) few;
+  few = subst (λ (s : LogCodeState). first + addition_width s.code (alarm_added (nameless labels maybe)) ≤ VAR_LIMIT) (sym view) few;
 }
 
 pub taken_are : (a : Inside) (state : LogCodeState) (net : Net) (labels : List (List ℕ)) (slice : List ChainEnd) (takes : List Taken) → code_view a ≡ state → net ≡ state.code.net → slice ≡ a.ends.items → takes ≡ taken_from net labels slice →
@@ -286,25 +287,26 @@ taken_are a state net labels slice takes view same sliced is =
     is ∙ ap (λ n. taken_from n labels slice) (same ∙ sym (ap (λ (s : LogCodeState). s.code.net) view)) ∙ ap (taken_from (coded a).net labels) sliced
 
 -- what the draft of an alarm keeps for its commit
-pub record IsReadyAlarm (code : CodedLog) (first : ℕ) (labels : List (List ℕ)) (takes : List Taken) (after : List ChainEnd) (guards : List Lit) : Type 0 where
-  pub alarm : IsAlarm (code_after code (alarm_added (nameless labels)) first) (length code.log.alarms) (record { labels = labels; takes = takes; start = first })
-  pub chains : AreEnds (code_after code (alarm_added (nameless labels)) first) after guards
+pub record IsReadyAlarm (code : CodedLog) (first : ℕ) (labels : List (List ℕ)) (maybe : Bool) (takes : List Taken) (after : List ChainEnd) (guards later : List Lit) : Type 0 where
+  pub alarm : IsAlarm (code_after code (alarm_added (nameless labels maybe)) first) (length code.log.alarms) (record { labels = labels; doubtful = maybe; takes = takes; start = first })
+  pub chains : AreEnds (code_after code (alarm_added (nameless labels maybe)) first) after guards
+  pub false_ones : AreFalse (code_after code (alarm_added (nameless labels maybe)) first) later
 
-pub ready_alarm : (code : CodedLog) (labels : List (List ℕ)) (first links : ℕ) (chain_ends after : List ChainEnd) (guards then : List Lit) (takes : List Taken) → IsDrafting code labels first chain_ends guards → takes ≡ taken_from code.net labels chain_ends → links ≡ length takes →
-    after ≡ ends_after (new_vars code first links) 0 chain_ends takes → then ≡ guards_of code.asked after → IsReadyAlarm code first labels takes after then
-ready_alarm code labels first links chain_ends after guards then takes is t l e g =
-    rw (g, e, l, t) (record { alarm = new_alarm code labels first chain_ends is.coded is.above is.chains.events; chains = ends_with_alarm code labels first chain_ends guards is.coded is.above is.chains })
+pub ready_alarm : (code : CodedLog) (labels : List (List ℕ)) (maybe : Bool) (first links : ℕ) (chain_ends after : List ChainEnd) (guards then old later : List Lit) (takes : List Taken) → IsDrafting code labels maybe first chain_ends guards → takes ≡ taken_from code.net labels chain_ends → links ≡ length takes →
+    after ≡ ends_after (new_vars code first links maybe) 0 chain_ends takes → then ≡ guards_of code.asked after → AreFalse code old → later ≡ old ++ dropped_written (new_vars code first links maybe) → IsReadyAlarm code first labels maybe takes after then later
+ready_alarm code labels maybe first links chain_ends after guards then old later takes is t l e g f d =
+    rw (d, g, e, l, t) (record { false_ones = false_with_alarm code labels maybe first chain_ends old is.coded is.above is.chains.events f; alarm = new_alarm code labels maybe first chain_ends is.coded is.above is.chains.events; chains = ends_with_alarm code labels maybe first chain_ends guards is.coded is.above is.chains })
 
-pub draft_brings : (code : CodedLog) (labels : List (List ℕ)) (first links : ℕ) (chain_ends : List ChainEnd) (guards : List Lit) (takes : List Taken) (clauses : List Clause) → IsDrafting code labels first chain_ends guards → takes ≡ taken_from code.net labels chain_ends → links ≡ length takes →
-    clauses ≡ alarm_written code.grid code.asked (new_vars code first links) takes →
-    IsCode (read_names (code_after code (alarm_added (nameless labels)) first)) (IsNamedAdded code.net code.log code.grid.steps (alarm_added (nameless labels))) clauses
-    × (length clauses + 12 * question_size code.net code.log code.grid.steps ≤ 12 * question_size code.net (with_addition code.log (alarm_added (nameless labels))) code.grid.steps + 12)
-draft_brings code labels first links chain_ends guards takes clauses is t l w =
-    rw (w, l, t) (alarm_brings code labels first chain_ends is.coded (grown_is_coded code (alarm_added (nameless labels)) first is.coded is.above is.few) is.above is.chains.events (draft_known code labels first chain_ends guards is) is.chains.each)
+pub draft_brings : (code : CodedLog) (labels : List (List ℕ)) (maybe : Bool) (first links : ℕ) (chain_ends : List ChainEnd) (guards : List Lit) (takes : List Taken) (clauses : List Clause) → IsDrafting code labels maybe first chain_ends guards → takes ≡ taken_from code.net labels chain_ends → links ≡ length takes →
+    clauses ≡ alarm_written code.grid code.asked (new_vars code first links maybe) takes →
+    IsCode (read_names (code_after code (alarm_added (nameless labels maybe)) first)) (IsNamedAdded code.net code.log code.grid.steps (alarm_added (nameless labels maybe))) clauses
+    × (length clauses + 12 * question_size code.net code.log code.grid.steps ≤ 12 * question_size code.net (with_addition code.log (alarm_added (nameless labels maybe))) code.grid.steps + 12)
+draft_brings code labels maybe first links chain_ends guards takes clauses is t l w =
+    rw (w, l, t) (alarm_brings code labels maybe first chain_ends is.coded (grown_is_coded code (alarm_added (nameless labels maybe)) first is.coded is.above is.few) is.above is.chains.events (draft_known code labels maybe first chain_ends guards is) is.chains.each)
 
-pub draft_width : (code : CodedLog) (labels : List (List ℕ)) (first links : ℕ) (chain_ends : List ChainEnd) (guards : List Lit) (takes : List Taken) → IsDrafting code labels first chain_ends guards → takes ≡ taken_from code.net labels chain_ends → links ≡ length takes →
-    addition_width code (alarm_added (nameless labels)) ≡ variable_count links code.grid.steps
-draft_width code labels first links chain_ends guards takes is t l = rw (l, t) (taken_width code labels chain_ends is.chains.events)
+pub draft_width : (code : CodedLog) (labels : List (List ℕ)) (maybe : Bool) (first links : ℕ) (chain_ends : List ChainEnd) (guards : List Lit) (takes : List Taken) → IsDrafting code labels maybe first chain_ends guards → takes ≡ taken_from code.net labels chain_ends → links ≡ length takes →
+    addition_width code (alarm_added (nameless labels maybe)) ≡ variable_count links code.grid.steps + false_width maybe
+draft_width code labels maybe first links chain_ends guards takes is t l = rw (l, t) (taken_width code labels maybe chain_ends is.chains.events)
 
 -- no alarm so far stands for the event
 pub record NoneSoFar (state : LogCodeState) (value : ℕ → Bool) (e step number : ℕ) : Type 0 where
@@ -325,7 +327,7 @@ pub kept_alarm : (a : Inside) (state : LogCodeState) (i : ℕ) (alarm : AlarmSta
 kept_alarm a state i alarm view inv known at = subst (λ (s : LogCodeState). IsAlarm s.code i alarm × IsCodedLog s.code) view (inv.kept.alarms i alarm at, inv.kept.log)
 
 pub kept_count : (a : Inside) (state : LogCodeState) → code_view a ≡ state → IsLogCode a → (length state.code.log.alarms ≡ length a.alarms.items) × IsCodedLog state.code
-kept_count a state view inv = subst (λ (s : LogCodeState). (length s.code.log.alarms ≡ length a.alarms.items) × IsCodedLog s.code) view (map_count (λ (x : AlarmState). nameless x.labels) a.alarms.items, inv.kept.log)
+kept_count a state view inv = subst (λ (s : LogCodeState). (length s.code.log.alarms ≡ length a.alarms.items) × IsCodedLog s.code) view (map_count (λ (x : AlarmState). nameless x.labels x.doubtful) a.alarms.items, inv.kept.log)
 
 pub found_first : (state : LogCodeState) (value : ℕ → Bool) (e step number : ℕ) → NoneSoFar state value e step number → number < length state.code.log.alarms → stands_for state.code value e step number ≡ true →
     Some number ≡ alarm_at state.code.net state.code.log (value_by (code_names state.code) value) e step
@@ -345,25 +347,77 @@ pub turned_count : (a : Inside) (state : LogCodeState) (slice : List AlarmState)
 turned_count a state slice view inv same = (kept_count a state view inv).0 ∙ ap length (sym same)
 
 -- the same by an equal code and equal labels
-pub ready_change : (code value : CodedLog) (labels kept : List (List ℕ)) (first : ℕ) (takes : List Taken) (after : List ChainEnd) (guards : List Lit) → code ≡ value → kept ≡ labels → IsReadyAlarm code first labels takes after guards →
-    IsAlarm (code_after value (alarm_added (nameless kept)) first) (length value.log.alarms) (record { labels = kept; takes = takes; start = first }) × AreEnds (code_after value (alarm_added (nameless kept)) first) after guards
-ready_change code value labels kept first takes after guards same alike ready =
-    rw alike (subst (λ (k : CodedLog). IsAlarm (code_after k (alarm_added (nameless labels)) first) (length k.log.alarms) (record { labels = labels; takes = takes; start = first }) × AreEnds (code_after k (alarm_added (nameless labels)) first) after guards) same
-    (ready.alarm, ready.chains))
+pub ready_change : (code value : CodedLog) (labels kept : List (List ℕ)) (maybe : Bool) (first : ℕ) (takes : List Taken) (after : List ChainEnd) (guards later : List Lit) → code ≡ value → kept ≡ labels → IsReadyAlarm code first labels maybe takes after guards later →
+    IsAlarm (code_after value (alarm_added (nameless kept maybe)) first) (length value.log.alarms) (record { labels = kept; doubtful = maybe; takes = takes; start = first }) × AreEnds (code_after value (alarm_added (nameless kept maybe)) first) after guards × AreFalse (code_after value (alarm_added (nameless kept maybe)) first) later
+ready_change code value labels kept maybe first takes after guards later same alike ready =
+    rw alike (subst (λ (k : CodedLog). IsAlarm (code_after k (alarm_added (nameless labels maybe)) first) (length k.log.alarms) (record { labels = labels; doubtful = maybe; takes = takes; start = first }) × AreEnds (code_after k (alarm_added (nameless labels maybe)) first) after guards × AreFalse (code_after k (alarm_added (nameless labels maybe)) first) later) same
+    (ready.alarm, ready.chains, ready.false_ones))
 
 -- a draft of the code is one of an equal code
-pub draft_of : (code value : CodedLog) (labels : List (List ℕ)) (first width : ℕ) (clauses : List Clause) (draft : DraftState) → code ≡ value →
-    IsCode (read_names (code_after code (alarm_added (nameless labels)) first)) (IsNamedAdded code.net code.log code.grid.steps (alarm_added (nameless labels))) clauses
-    × (length clauses + 12 * question_size code.net code.log code.grid.steps ≤ 12 * question_size code.net (with_addition code.log (alarm_added (nameless labels))) code.grid.steps + 12) →
-    addition_width code (alarm_added (nameless labels)) ≡ width → draft.code ≡ value → draft.addition ≡ alarm_added (nameless labels) → draft.first ≡ first → draft.vars ≡ width → draft.clauses ≡ clauses →
-    IsDraftOf value (alarm_added (nameless labels)) first draft
-draft_of code value labels first width clauses draft same brings wide of adds begun vars written =
-    subst (λ (k : CodedLog). draft.code ≡ k → IsDraftOf k (alarm_added (nameless labels)) first draft) same
+pub draft_of : (code value : CodedLog) (labels : List (List ℕ)) (maybe : Bool) (first width : ℕ) (clauses : List Clause) (draft : DraftState) → code ≡ value →
+    IsCode (read_names (code_after code (alarm_added (nameless labels maybe)) first)) (IsNamedAdded code.net code.log code.grid.steps (alarm_added (nameless labels maybe))) clauses
+    × (length clauses + 12 * question_size code.net code.log code.grid.steps ≤ 12 * question_size code.net (with_addition code.log (alarm_added (nameless labels maybe))) code.grid.steps + 12) →
+    addition_width code (alarm_added (nameless labels maybe)) ≡ width → draft.code ≡ value → draft.addition ≡ alarm_added (nameless labels maybe) → draft.first ≡ first → draft.vars ≡ width → draft.clauses ≡ clauses →
+    IsDraftOf value (alarm_added (nameless labels maybe)) first draft
+draft_of code value labels maybe first width clauses draft same brings wide of adds begun vars written =
+    subst (λ (k : CodedLog). draft.code ≡ k → IsDraftOf k (alarm_added (nameless labels maybe)) first draft) same
     (λ of. record {
       made_by = of;
       adds = adds;
       begins = begun;
       width = vars ∙ sym wide;
-      brings = subst (IsCode (read_names (code_after code (alarm_added (nameless labels)) first)) (IsNamedAdded code.net code.log code.grid.steps (alarm_added (nameless labels)))) (sym written) brings.0;
+      brings = subst (IsCode (read_names (code_after code (alarm_added (nameless labels maybe)) first)) (IsNamedAdded code.net code.log code.grid.steps (alarm_added (nameless labels maybe)))) (sym written) brings.0;
       small = let few = brings.1 in let long = ap length written in omega (arith, few, long);
     }) of
+
+-- ---- false alarms, and steps
+
+literal_named : (names : List (ℕ × Name)) (l : Lit) (m : NamedLiteral) → name_of names l.var ≡ Some m.name → l.positive ≡ m.positive → named_literal names l ≡ Some m
+literal_named names l m h sign = rw h (λ i. Some (record { name = m.name; positive = sign i }))
+
+clause_named : (names : List (ℕ × Name)) (ls : List Lit) (ms : List NamedLiteral) → ReadsInOrder names ls ms → named_clause names ls ≡ Some ms
+clause_named names [] [] z = refl
+clause_named names [] (m ∷ ms) z = absurd z
+clause_named names (l ∷ ls) [] z = absurd z
+clause_named names (l ∷ ls) (m ∷ ms) z =
+    let here = literal_named names l m z.0.0 z.0.1 in
+    let rest = clause_named names ls ms z.1 in
+    rw (here, rest) refl
+
+pub false_read : (code : CodedLog) (lits : List Lit) → AreFalse code lits → named_clause (code_names code) lits ≡ Some (false_literals code.log)
+false_read code lits are = clause_named (code_names code) lits (false_literals code.log) are
+
+pub false_is : (code : CodedLog) (i : ℕ) (alarm : AlarmState) (value : ℕ → Bool) → IsCodedLog code → IsAlarm code i alarm →
+    (alarm.doubtful && value (dropped_variable (variables_of code.grid.steps alarm))) ≡ is_false code.log (value_by (code_names code) value) i
+false_is code i alarm value coded is = by alarm.doubtful refl
+  where
+    by : (b : Bool) → alarm.doubtful ≡ b → (alarm.doubtful && value (dropped_variable (variables_of code.grid.steps alarm))) ≡ is_false code.log (value_by (code_names code) value) i
+    by true e =
+        let mark : is_doubtful code.log i ≡ true = is.mark ∙ e in
+        let valued = values_match (code_names code) coded.names.once value (dropped_variable (variables_of code.grid.steps alarm)) (dropped i) (is.being_false e) in
+        rw (e, mark) valued
+    by false e = let mark : is_doubtful code.log i ≡ false = is.mark ∙ e in rw (e, mark) refl
+
+pub first_is_step : (code : CodedLog) (i : ℕ) (alarm : AlarmState) (value : ℕ → Bool) (step : ℕ) (vars : AlarmVars) → IsCodedLog code → IsAlarm code i alarm → vars ≡ variables_of code.grid.steps alarm →
+    step ≤ vars.steps → ((t : ℕ) → t < step → value (done_variable vars t) ≡ false) → (step < vars.steps → value (done_variable vars step) ≡ true) → value_by (code_names code) value (done i code.grid.steps) ≡ true →
+    IsStepOf code.grid.steps (value_by (code_names code) value) i step
+first_is_step code i alarm value step vars coded is same = subst (λ (v : AlarmVars). step ≤ v.steps → ((t : ℕ) → t < step → value (done_variable v t) ≡ false) → (step < v.steps → value (done_variable v step) ≡ true) →
+    value_by (code_names code) value (done i code.grid.steps) ≡ true → IsStepOf code.grid.steps (value_by (code_names code) value) i step) (sym same) shown
+  where
+    own : AlarmVars
+    own = variables_of code.grid.steps alarm
+
+    valued : (t : ℕ) → t ≤ code.grid.steps → value_by (code_names code) value (done i t) ≡ value (done_variable own t)
+    valued t h = sym (values_match (code_names code) coded.names.once value (done_variable own t) (done i t) (is.being_done t h))
+
+    shown : step ≤ own.steps → ((t : ℕ) → t < step → value (done_variable own t) ≡ false) → (step < own.steps → value (done_variable own step) ≡ true) →
+        value_by (code_names code) value (done i code.grid.steps) ≡ true → IsStepOf code.grid.steps (value_by (code_names code) value) i step
+    shown within least there last = record {
+      within = within;
+      is = by (step == code.grid.steps) refl;
+      least = λ t h. valued t (omega (arith, h, within)) ∙ least t h;
+    }
+      where
+        by : (b : Bool) → (step == code.grid.steps) ≡ b → value_by (code_names code) value (done i step) ≡ true
+        by true e = subst (λ t. value_by (code_names code) value (done i t) ≡ true) (sym (eqb-true step code.grid.steps e)) last
+        by false e = valued step within ∙ there (omega (arith, within, λ (is : step ≡ code.grid.steps). clash {A = ⊥} (step == code.grid.steps) (eq-eqb step code.grid.steps is) e))

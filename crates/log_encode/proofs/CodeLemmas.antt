@@ -1,21 +1,23 @@
 -- The names of a log's code as it grows.
-use Rattle.std.proofs.Common.{◌≡◌, ℕ, suc, ◌+◌, ◌*◌, ◌<◌, ◌≤◌, ◌∙◌, List, [], ◌∷◌, ◌++◌, length, map, refl, sym, ap, subst, arith, append_assoc, append-nil, length-append}
+use Rattle.std.proofs.Common.{◌≡◌, ℕ, suc, ◌+◌, ◌*◌, ◌<◌, ◌≤◌, ◌∙◌, Bool, true, false, filter, if◌then◌else◌, List, [], ◌∷◌, ◌++◌, length, map, refl, sym, ap, subst, arith, append_assoc, append-nil, length-append}
 use Rattle.std.specs.List.{AllByRecursion}
 use Rattle.des_base.specs.declared.TheConstants.{VAR_LIMIT}
 use Rattle.des_net.specs.Network.{Net}
-use Rattle.log_order.specs.Log.{Log, Alarm, no_log}
+use Rattle.log_order.specs.Log.{Log, Alarm, no_log, is_doubtful}
 use Rattle.log_clauses.specs.Additions.{Addition, alarm_added, pair_added, with_addition}
-use Rattle.log_clauses.specs.LogNames.{added_names, first_names, link_names, AreLogNames}
+use Rattle.log_clauses.specs.LogNames.{added_names, first_names, link_names, alarm_names, false_names, AreLogNames}
 use Rattle.log_clauses.specs.Drafts.{taken_events}
-use Rattle.log_clauses.specs.LogClauses.{chain}
+use Rattle.log_clauses.specs.LogClauses.{chain, doubtful_alarms}
+use Rattle.log_clauses.proofs.Stay.{doubtful_new, doubtful_is}
+use Rattle.std.proofs.lemmas.List.{map-append}
 use Rattle.log_clauses.specs.BesideEvents.{AreBesideEvents, IsAfterEvents}
 use Rattle.log_clauses.proofs.BesideEvents.{names_join_events}
 use Rattle.log_clauses.proofs.Numbered.{names_begin, names_grow}
 use Rattle.log_encode.proofs.Naming.{row_above}
-use Rattle.log_encode.specs.CodedLog.{CodedLog, names_from, code_names, empty_code, code_after, addition_width, IsCodedLog}
+use Rattle.log_encode.specs.CodedLog.{CodedLog, names_from, code_names, empty_code, code_after, addition_width, false_literals, IsCodedLog}
 use Rattle.prop_core.proofs.FamilyLemmas.{all_append}
 use Rattle.prop_core.specs.declared.grid.Grid.{Grid}
-use Rattle.prop_core.specs.VariableNames.{Name, done}
+use Rattle.prop_core.specs.VariableNames.{Name, done, dropped, yes}
 use Rattle.run_clauses.specs.StepClauses.{numbers_below}
 use Rattle.std.specs.Prelude.{flat_map}
 use Rattle.run_clauses.specs.LaidOut.{laid_out}
@@ -92,7 +94,7 @@ still_each code (pair_added i j) first is = is.each
 -- a new alarm has a variable
 width_positive : (code : CodedLog) (new : Alarm) → 1 ≤ addition_width code (alarm_added new)
 width_positive code new =
-    omega (arith, length-append (flat_map (λ e. link_names code.grid.steps (length code.log.alarms) e (length (chain code.net code.log e))) (taken_events code.net code.log new)) (map (λ t. done (length code.log.alarms) t) (numbers_below (suc code.grid.steps))))
+    omega (arith, length-append (alarm_names code.net code.log code.grid.steps new) (false_names new.doubtful (length code.log.alarms)), length-append (flat_map (λ e. link_names code.grid.steps (length code.log.alarms) e (length (chain code.net code.log e))) (taken_events code.net code.log new)) (map (λ t. done (length code.log.alarms) t) (numbers_below (suc code.grid.steps))))
 
 still_fewer : (code : CodedLog) (addition : Addition) (first : ℕ) → IsCodedLog code → code.vars ≤ first → length (code_after code addition first).log.alarms ≤ first + addition_width code addition
 still_fewer code (alarm_added new) first is above = omega (arith, length-append code.log.alarms (new ∷ []), width_positive code new, is.alarms, above)
@@ -124,3 +126,16 @@ beside code coded = names_join_events code.net code.log code.grid.steps code.gri
     all_after : (names : List (ℕ × Name)) → AllByRecursion (λ entry. code.asked ≤ entry.0) names → AllByRecursion (λ entry. IsAfterEvents code.net code.grid.steps code.grid.first entry.0) names
     all_after [] all = tt
     all_after (entry ∷ names) all = (omega (arith, made, all.0), all_after names all.1)
+
+-- ---- what says that alarms are false
+
+-- where it is doubtful, the new alarm comes last
+pub false_more : (log : Log) (new : Alarm) → false_literals (with_addition log (alarm_added new)) ≡ false_literals log ++ (if new.doubtful then yes (dropped (length log.alarms)) ∷ [] else [])
+false_more log new =
+    let longer = with_addition log (alarm_added new) in
+    ap (map (λ i. yes (dropped i))) (doubtful_is log new) ∙ map-append (λ i. yes (dropped i)) (doubtful_alarms log) (filter (is_doubtful longer) (length log.alarms ∷ []))
+    ∙ ap (λ xs. false_literals log ++ xs) (by new.doubtful (doubtful_new log new))
+  where
+    by : (b : Bool) → is_doubtful (with_addition log (alarm_added new)) (length log.alarms) ≡ b → map (λ i. yes (dropped i)) (filter (is_doubtful (with_addition log (alarm_added new))) (length log.alarms ∷ [])) ≡ (if b then yes (dropped (length log.alarms)) ∷ [] else [])
+    by true h = rw h refl
+    by false h = rw h refl

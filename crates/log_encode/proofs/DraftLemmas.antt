@@ -5,18 +5,19 @@ use Rattle.card_counter.specs.AtMostOne.{excluded_pairs}
 use Rattle.des_net.specs.Network.{Net}
 use Rattle.log_order.specs.Log.{Log, Alarm, no_log}
 use Rattle.log_clauses.specs.Additions.{alarm_added, pair_added, with_addition}
-use Rattle.log_clauses.specs.Drafts.{AreListed, link_clauses, added_clauses, taken_events}
+use Rattle.log_clauses.specs.Drafts.{AreListed, link_clauses, alarm_clauses, real_clauses, added_clauses, taken_events}
 use Rattle.log_clauses.specs.LogClauses.{chain, observable_events, chain_closed, before_if_asked}
 use Rattle.log_clauses.specs.LogCodes.{IsNamedAdded, IsNamedLog}
 use Rattle.log_clauses.specs.LogNames.{first_names}
 use Rattle.log_clauses.proofs.Drafts.{drafts_are_code, drafts_are_small}
 use Rattle.log_clauses.proofs.Lists.{zip_append, append_cases, append_left, append_right}
 use Rattle.log_clauses.proofs.Codes.{code_begins}
+use Rattle.log_clauses.proofs.Stay.{doubtful_new}
 use Rattle.log_encode.proofs.GrowLemmas.{places, taken_count, get_at, new_vars}
 use Rattle.log_encode.proofs.CodeLemmas.{beside}
 use Rattle.log_encode.proofs.Naming.{named_more, named_at}
 use Rattle.log_encode.proofs.PairLists.{pairs_by_first, pairs_alike, pairs_count, same_code}
-use Rattle.log_encode.proofs.Reading.{zip_flat, zip_count, AreLinkNames, link_reads, AreAlarmNames, done_reads, done_by_first, step_by_first, reads_two, reads_three, Reads}
+use Rattle.log_encode.proofs.Reading.{zip_flat, zip_count, AreLinkNames, link_reads, AreAlarmNames, done_reads, real_reads, done_by_first, step_by_first, reads_two, reads_three, Reads}
 use Rattle.log_encode.proofs.StayLemmas.{named_still}
 use Rattle.log_encode.proofs.TakenLemmas.{taken_are_events, taken_is_filter}
 use Rattle.log_encode.specs.AlarmVariables.{done_variable}
@@ -25,12 +26,12 @@ use Rattle.log_encode.specs.declared.alarm_vars.AlarmVars.{AlarmVars}
 use Rattle.log_encode.specs.declared.taken.ChainEnd.{ChainEnd}
 use Rattle.log_encode.specs.declared.taken.Taken.{Taken}
 use Rattle.log_encode.specs.View.{IsChainEnd, IsRest}
-use Rattle.log_encode.specs.Written.{has_any_label, taken_from, rest_variable, holds, fails, link_written, link_variables, steps_of_link, links_written, matches_at, step_written, ends_written, done_written, alarm_written, pair_written, closed_written, all_closed_written}
+use Rattle.log_encode.specs.Written.{has_any_label, taken_from, rest_variable, holds, fails, link_written, link_variables, steps_of_link, links_written, matches_at, step_written, ends_written, done_written, dropped_written, real_written, alarm_written, pair_written, closed_written, all_closed_written}
 use Rattle.prop_core.specs.declared.grid.Grid.{Grid}
 use Rattle.prop_core.specs.Clauses.{Clause}
 use Rattle.prop_core.specs.Grids.{grid_variable}
 use Rattle.prop_core.specs.NamedClauses.{IsCode}
-use Rattle.prop_core.specs.VariableNames.{Name, name_of, asked, happens, done, closed, remaining}
+use Rattle.prop_core.specs.VariableNames.{Name, name_of, asked, happens, done, dropped, closed, remaining}
 use Rattle.replay.specs.QuestionSize.{question_size}
 use Rattle.run_clauses.specs.LaidOut.{laid_out}
 use Rattle.run_clauses.specs.StepClauses.{numbers_below}
@@ -57,17 +58,17 @@ rest_named code new first e t (Some start) coded grown known time is =
 
 -- ---- the links
 
-link_named : (code : CodedLog) (labels : List (List ℕ)) (first links link e t : ℕ) (last : Option ℕ) → IsCodedLog code → IsCodedLog (code_after code (alarm_added (nameless labels)) first) → code.vars ≤ first → e < code.grid.events → t < code.grid.steps →
-    slice_get (taken_events code.net code.log (nameless labels)) link ≡ Some e → length (taken_events code.net code.log (nameless labels)) ≡ links → IsRest code e last →
-    AreLinkNames (read_names (code_after code (alarm_added (nameless labels)) first)) (length code.log.alarms) e (length (chain code.net code.log e)) t
-    (link_variables code.grid (new_vars code first links) link (record { event = e; last = last }) t)
-link_named code labels first links link e t last coded grown above known time at count is =
-    let there = places code labels first coded above in
-    let more : (v : ℕ) (x : Name) → name_of (code_names (code_after code (alarm_added (nameless labels)) first)) v ≡ Some x → name_of (read_names (code_after code (alarm_added (nameless labels)) first)) v ≡ Some x =
-    λ v x h. lifted (code_after code (alarm_added (nameless labels)) first) v x grown h in
-    let finished : (u : ℕ) → u ≤ code.grid.steps → name_of (code_names (code_after code (alarm_added (nameless labels)) first)) (done_variable (new_vars code first links) u) ≡ Some (done (length code.log.alarms) u) = λ u within. subst (λ k. name_of (code_names (code_after code (alarm_added (nameless labels)) first)) (first + (k * (1 + code.grid.steps * 2) + u)) ≡ Some (done (length code.log.alarms) u)) count (there.being_done u within) in record {
+link_named : (code : CodedLog) (labels : List (List ℕ)) (maybe : Bool) (first links link e t : ℕ) (last : Option ℕ) → IsCodedLog code → IsCodedLog (code_after code (alarm_added (nameless labels maybe)) first) → code.vars ≤ first → e < code.grid.events → t < code.grid.steps →
+    slice_get (taken_events code.net code.log (nameless labels maybe)) link ≡ Some e → length (taken_events code.net code.log (nameless labels maybe)) ≡ links → IsRest code e last →
+    AreLinkNames (read_names (code_after code (alarm_added (nameless labels maybe)) first)) (length code.log.alarms) e (length (chain code.net code.log e)) t
+    (link_variables code.grid (new_vars code first links maybe) link (record { event = e; last = last }) t)
+link_named code labels maybe first links link e t last coded grown above known time at count is =
+    let there = places code labels maybe first coded above in
+    let more : (v : ℕ) (x : Name) → name_of (code_names (code_after code (alarm_added (nameless labels maybe)) first)) v ≡ Some x → name_of (read_names (code_after code (alarm_added (nameless labels maybe)) first)) v ≡ Some x =
+    λ v x h. lifted (code_after code (alarm_added (nameless labels maybe)) first) v x grown h in
+    let finished : (u : ℕ) → u ≤ code.grid.steps → name_of (code_names (code_after code (alarm_added (nameless labels maybe)) first)) (done_variable (new_vars code first links maybe) u) ≡ Some (done (length code.log.alarms) u) = λ u within. subst (λ k. name_of (code_names (code_after code (alarm_added (nameless labels maybe)) first)) (first + (k * (1 + code.grid.steps * 2) + u)) ≡ Some (done (length code.log.alarms) u)) count (there.being_done u within) in record {
       closing = more _ _ (there.closing link e at);
-      rest = rest_named code (nameless labels) first e t last coded grown known time is;
+      rest = rest_named code (nameless labels maybe) first e t last coded grown known time is;
       matching = more _ _ (there.matching link e t at time);
       passing = more _ _ (there.passing link e t at time);
       before = more _ _ (finished t (omega arith));
@@ -75,50 +76,50 @@ link_named code labels first links link e t last coded grown above known time at
     }
 
 -- those of the ends from one on, after links before
-links_read : (code : CodedLog) (labels : List (List ℕ)) (first links : ℕ) (before : List ℕ) (ends : List ChainEnd) → IsCodedLog code → IsCodedLog (code_after code (alarm_added (nameless labels)) first) → code.vars ≤ first →
-    length (taken_events code.net code.log (nameless labels)) ≡ links →
-    taken_events code.net code.log (nameless labels) ≡ before ++ filter (has_any_label code.net labels) (map (λ (end : ChainEnd). end.event) ends) →
+links_read : (code : CodedLog) (labels : List (List ℕ)) (maybe : Bool) (first links : ℕ) (before : List ℕ) (ends : List ChainEnd) → IsCodedLog code → IsCodedLog (code_after code (alarm_added (nameless labels maybe)) first) → code.vars ≤ first →
+    length (taken_events code.net code.log (nameless labels maybe)) ≡ links →
+    taken_events code.net code.log (nameless labels maybe) ≡ before ++ filter (has_any_label code.net labels) (map (λ (end : ChainEnd). end.event) ends) →
     AllByRecursion (λ (end : ChainEnd). end.event < code.grid.events) ends → AllByRecursion (IsChainEnd code) ends →
-    AllZip (Reads code.net (with_addition code.log (alarm_added (nameless labels))) code.grid.steps (read_names (code_after code (alarm_added (nameless labels)) first)))
-    (links_written code.grid (new_vars code first links) (length before) (taken_from code.net labels ends))
+    AllZip (Reads code.net (with_addition code.log (alarm_added (nameless labels maybe))) code.grid.steps (read_names (code_after code (alarm_added (nameless labels maybe)) first)))
+    (links_written code.grid (new_vars code first links maybe) (length before) (taken_from code.net labels ends))
     (flat_map (λ e. flat_map (link_clauses (length code.log.alarms) e (length (chain code.net code.log e))) (numbers_below code.grid.steps)) (filter (has_any_label code.net labels) (map (λ (end : ChainEnd). end.event) ends)))
-links_read code labels first links before [] coded grown above count are known all = tt
-links_read code labels first links before (end ∷ ends) coded grown above count are known all =
-    by (has_any_label code.net labels end.event) refl (λ earlier same. links_read code labels first links earlier ends coded grown above count same known.1 all.1)
+links_read code labels maybe first links before [] coded grown above count are known all = tt
+links_read code labels maybe first links before (end ∷ ends) coded grown above count are known all =
+    by (has_any_label code.net labels end.event) refl (λ earlier same. links_read code labels maybe first links earlier ends coded grown above count same known.1 all.1)
   where
     rest : List ℕ
     rest = filter (has_any_label code.net labels) (map (λ (x : ChainEnd). x.event) ends)
 
     by : (b : Bool) → has_any_label code.net labels end.event ≡ b →
-        ((earlier : List ℕ) → taken_events code.net code.log (nameless labels) ≡ earlier ++ filter (has_any_label code.net labels) (map (λ (x : ChainEnd). x.event) ends) →
-        AllZip (Reads code.net (with_addition code.log (alarm_added (nameless labels))) code.grid.steps (read_names (code_after code (alarm_added (nameless labels)) first)))
-        (links_written code.grid (new_vars code first links) (length earlier) (taken_from code.net labels ends))
+        ((earlier : List ℕ) → taken_events code.net code.log (nameless labels maybe) ≡ earlier ++ filter (has_any_label code.net labels) (map (λ (x : ChainEnd). x.event) ends) →
+        AllZip (Reads code.net (with_addition code.log (alarm_added (nameless labels maybe))) code.grid.steps (read_names (code_after code (alarm_added (nameless labels maybe)) first)))
+        (links_written code.grid (new_vars code first links maybe) (length earlier) (taken_from code.net labels ends))
         (flat_map (λ e. flat_map (link_clauses (length code.log.alarms) e (length (chain code.net code.log e))) (numbers_below code.grid.steps)) (filter (has_any_label code.net labels) (map (λ (x : ChainEnd). x.event) ends)))) →
-        AllZip (Reads code.net (with_addition code.log (alarm_added (nameless labels))) code.grid.steps (read_names (code_after code (alarm_added (nameless labels)) first)))
-        (links_written code.grid (new_vars code first links) (length before) (taken_from code.net labels (end ∷ ends)))
+        AllZip (Reads code.net (with_addition code.log (alarm_added (nameless labels maybe))) code.grid.steps (read_names (code_after code (alarm_added (nameless labels maybe)) first)))
+        (links_written code.grid (new_vars code first links maybe) (length before) (taken_from code.net labels (end ∷ ends)))
         (flat_map (λ e. flat_map (link_clauses (length code.log.alarms) e (length (chain code.net code.log e))) (numbers_below code.grid.steps)) (filter (has_any_label code.net labels) (map (λ (x : ChainEnd). x.event) (end ∷ ends))))
     by true is later =
-        let split : taken_events code.net code.log (nameless labels) ≡ before ++ end.event ∷ filter (has_any_label code.net labels) (map (λ (x : ChainEnd). x.event) ends) = are ∙ rw is refl in
-        let at : slice_get (taken_events code.net code.log (nameless labels)) (length before) ≡ Some end.event = rw split (get_at before (filter (has_any_label code.net labels) (map (λ (x : ChainEnd). x.event) ends)) end.event) in
+        let split : taken_events code.net code.log (nameless labels maybe) ≡ before ++ end.event ∷ filter (has_any_label code.net labels) (map (λ (x : ChainEnd). x.event) ends) = are ∙ rw is refl in
+        let at : slice_get (taken_events code.net code.log (nameless labels maybe)) (length before) ≡ Some end.event = rw split (get_at before (filter (has_any_label code.net labels) (map (λ (x : ChainEnd). x.event) ends)) end.event) in
         let one : length (before ++ end.event ∷ []) ≡ suc (length before) = omega (arith, length-append before (end.event ∷ [])) in
         let others = later (before ++ end.event ∷ []) (split ∙ sym (append_assoc before (end.event ∷ []) (filter (has_any_label code.net labels) (map (λ (x : ChainEnd). x.event) ends)))) in
-        let here = zip_flat (Reads code.net (with_addition code.log (alarm_added (nameless labels))) code.grid.steps (read_names (code_after code (alarm_added (nameless labels)) first)))
-        (λ t. link_written (link_variables code.grid (new_vars code first links) (length before) (record { event = end.event; last = end.last }) t))
+        let here = zip_flat (Reads code.net (with_addition code.log (alarm_added (nameless labels maybe))) code.grid.steps (read_names (code_after code (alarm_added (nameless labels maybe)) first)))
+        (λ t. link_written (link_variables code.grid (new_vars code first links maybe) (length before) (record { event = end.event; last = end.last }) t))
         (link_clauses (length code.log.alarms) end.event (length (chain code.net code.log end.event))) 0 code.grid.steps
-        (λ t h. link_reads code.net (with_addition code.log (alarm_added (nameless labels))) code.grid.steps (read_names (code_after code (alarm_added (nameless labels)) first)) (length code.log.alarms) end.event (length (chain code.net code.log end.event)) t
-        (link_variables code.grid (new_vars code first links) (length before) (record { event = end.event; last = end.last }) t)
-        (link_named code labels first links (length before) end.event t end.last coded grown above known.0 (omega (arith, h)) at count all.0.rest)) in
-        rw is (zip_append (Reads code.net (with_addition code.log (alarm_added (nameless labels))) code.grid.steps (read_names (code_after code (alarm_added (nameless labels)) first)))
-        (steps_of_link code.grid (new_vars code first links) (length before) (record { event = end.event; last = end.last }) code.grid.steps)
+        (λ t h. link_reads code.net (with_addition code.log (alarm_added (nameless labels maybe))) code.grid.steps (read_names (code_after code (alarm_added (nameless labels maybe)) first)) (length code.log.alarms) end.event (length (chain code.net code.log end.event)) t
+        (link_variables code.grid (new_vars code first links maybe) (length before) (record { event = end.event; last = end.last }) t)
+        (link_named code labels maybe first links (length before) end.event t end.last coded grown above known.0 (omega (arith, h)) at count all.0.rest)) in
+        rw is (zip_append (Reads code.net (with_addition code.log (alarm_added (nameless labels maybe))) code.grid.steps (read_names (code_after code (alarm_added (nameless labels maybe)) first)))
+        (steps_of_link code.grid (new_vars code first links maybe) (length before) (record { event = end.event; last = end.last }) code.grid.steps)
         (flat_map (link_clauses (length code.log.alarms) end.event (length (chain code.net code.log end.event))) (numbers_below code.grid.steps))
-        (links_written code.grid (new_vars code first links) (suc (length before)) (taken_from code.net labels ends))
+        (links_written code.grid (new_vars code first links maybe) (suc (length before)) (taken_from code.net labels ends))
         (flat_map (λ e. flat_map (link_clauses (length code.log.alarms) e (length (chain code.net code.log e))) (numbers_below code.grid.steps)) (filter (has_any_label code.net labels) (map (λ (x : ChainEnd). x.event) ends)))
         here
-        (subst (λ k. AllZip (Reads code.net (with_addition code.log (alarm_added (nameless labels))) code.grid.steps (read_names (code_after code (alarm_added (nameless labels)) first)))
-        (links_written code.grid (new_vars code first links) k (taken_from code.net labels ends))
+        (subst (λ k. AllZip (Reads code.net (with_addition code.log (alarm_added (nameless labels maybe))) code.grid.steps (read_names (code_after code (alarm_added (nameless labels maybe)) first)))
+        (links_written code.grid (new_vars code first links maybe) k (taken_from code.net labels ends))
         (flat_map (λ e. flat_map (link_clauses (length code.log.alarms) e (length (chain code.net code.log e))) (numbers_below code.grid.steps)) (filter (has_any_label code.net labels) (map (λ (x : ChainEnd). x.event) ends)))) one others))
     by false is later =
-        let same : taken_events code.net code.log (nameless labels) ≡ before ++ filter (has_any_label code.net labels) (map (λ (x : ChainEnd). x.event) ends) = are ∙ rw is refl in
+        let same : taken_events code.net code.log (nameless labels maybe) ≡ before ++ filter (has_any_label code.net labels) (map (λ (x : ChainEnd). x.event) ends) = are ∙ rw is refl in
         rw is (later before same)
 
 -- ---- the whole draft of an alarm
@@ -128,43 +129,47 @@ asked_named code =
     let here : name_of (laid_out code.asked (first_names code.net)) code.asked ≡ Some asked = subst (λ v. name_of (laid_out code.asked (first_names code.net)) v ≡ Some asked) (omega arith) (named_at code.asked (first_names code.net) 0 asked refl) in
     named_more (laid_out code.asked (first_names code.net)) (names_from code.net code.grid.steps no_log code.log.alarms code.starts) code.asked asked here
 
-alarm_named : (code : CodedLog) (labels : List (List ℕ)) (first links : ℕ) → IsCodedLog code → IsCodedLog (code_after code (alarm_added (nameless labels)) first) → code.vars ≤ first → length (taken_events code.net code.log (nameless labels)) ≡ links →
-    AreAlarmNames (read_names (code_after code (alarm_added (nameless labels)) first)) code.grid.steps (length code.log.alarms) (taken_events code.net code.log (nameless labels)) (new_vars code first links)
-alarm_named code labels first links coded grown above count =
-    let there = places code labels first coded above in
-    let more : (v : ℕ) (x : Name) → name_of (code_names (code_after code (alarm_added (nameless labels)) first)) v ≡ Some x → name_of (read_names (code_after code (alarm_added (nameless labels)) first)) v ≡ Some x =
-    λ v x h. lifted (code_after code (alarm_added (nameless labels)) first) v x grown h in record {
+alarm_named : (code : CodedLog) (labels : List (List ℕ)) (maybe : Bool) (first links : ℕ) → IsCodedLog code → IsCodedLog (code_after code (alarm_added (nameless labels maybe)) first) → code.vars ≤ first → length (taken_events code.net code.log (nameless labels maybe)) ≡ links →
+    AreAlarmNames (read_names (code_after code (alarm_added (nameless labels maybe)) first)) code.grid.steps (length code.log.alarms) (taken_events code.net code.log (nameless labels maybe)) (new_vars code first links maybe)
+alarm_named code labels maybe first links coded grown above count =
+    let there = places code labels maybe first coded above in
+    let more : (v : ℕ) (x : Name) → name_of (code_names (code_after code (alarm_added (nameless labels maybe)) first)) v ≡ Some x → name_of (read_names (code_after code (alarm_added (nameless labels maybe)) first)) v ≡ Some x =
+    λ v x h. lifted (code_after code (alarm_added (nameless labels maybe)) first) v x grown h in record {
       links = sym count;
       steps = refl;
       matching = λ p e t at time. more _ _ (there.matching p e t at time);
-      being_done = λ t within. more _ _ (subst (λ k. name_of (code_names (code_after code (alarm_added (nameless labels)) first)) (first + (k * (1 + code.grid.steps * 2) + t)) ≡ Some (done (length code.log.alarms) t)) count (there.being_done t within));
+      being_done = λ t within. more _ _ (subst (λ k. name_of (code_names (code_after code (alarm_added (nameless labels maybe)) first)) (first + (k * (1 + code.grid.steps * 2) + t)) ≡ Some (done (length code.log.alarms) t)) count (there.being_done t within));
+      being_false = λ h. more _ _ (subst (λ k. name_of (code_names (code_after code (alarm_added (nameless labels maybe)) first)) (first + (k * (1 + code.grid.steps * 2) + suc code.grid.steps)) ≡ Some (dropped (length code.log.alarms))) count (there.being_false h));
     }
 
 -- with the pairs in the order of the list
 abbrev alarm_by_first : Grid → ℕ → AlarmVars → List Taken → List Clause
-alarm_by_first grid ask vars takes = links_written grid vars 0 takes ++ done_by_first ask vars
+alarm_by_first grid ask vars takes = (links_written grid vars 0 takes ++ done_by_first ask vars) ++ real_written vars
 
-alarm_listed : (code : CodedLog) (labels : List (List ℕ)) (first : ℕ) (ends : List ChainEnd) → IsCodedLog code → IsCodedLog (code_after code (alarm_added (nameless labels)) first) → code.vars ≤ first →
+alarm_listed : (code : CodedLog) (labels : List (List ℕ)) (maybe : Bool) (first : ℕ) (ends : List ChainEnd) → IsCodedLog code → IsCodedLog (code_after code (alarm_added (nameless labels maybe)) first) → code.vars ≤ first →
     map (λ (end : ChainEnd). end.event) ends ≡ observable_events code.net → AllByRecursion (λ (end : ChainEnd). end.event < code.grid.events) ends → AllByRecursion (IsChainEnd code) ends →
-    AreListed code.net (with_addition code.log (alarm_added (nameless labels))) code.grid.steps (read_names (code_after code (alarm_added (nameless labels)) first))
-    (alarm_by_first code.grid code.asked (new_vars code first (length (taken_from code.net labels ends))) (taken_from code.net labels ends))
-    (added_clauses code.net code.log code.grid.steps (alarm_added (nameless labels)))
-alarm_listed code labels first ends coded grown above are known all =
-    let log = with_addition code.log (alarm_added (nameless labels)) in
-    let names = read_names (code_after code (alarm_added (nameless labels)) first) in
-    let count = taken_count code labels ends are in
-    let found : taken_events code.net code.log (nameless labels) ≡ filter (has_any_label code.net labels) (map (λ (end : ChainEnd). end.event) ends) =
-    sym (taken_are_events code.net code.log labels ends are) ∙ taken_is_filter code.net labels ends in
-    let vars = new_vars code first (length (taken_from code.net labels ends)) in
-    let linked = links_read code labels first (length (taken_from code.net labels ends)) [] ends coded grown above count found known all in
-    let finished = done_reads code.net log code.grid.steps names (length code.log.alarms) code.asked (taken_events code.net code.log (nameless labels)) vars
-    (lifted (code_after code (alarm_added (nameless labels)) first) code.asked asked grown (asked_named (code_after code (alarm_added (nameless labels)) first))) refl
-    (alarm_named code labels first (length (taken_from code.net labels ends)) coded grown above count) in
-    zip_append (Reads code.net log code.grid.steps names) (links_written code.grid vars 0 (taken_from code.net labels ends))
-    (flat_map (λ e. flat_map (link_clauses (length code.log.alarms) e (length (chain code.net code.log e))) (numbers_below code.grid.steps)) (taken_events code.net code.log (nameless labels)))
+    AreListed code.net (with_addition code.log (alarm_added (nameless labels maybe))) code.grid.steps (read_names (code_after code (alarm_added (nameless labels maybe)) first))
+    (alarm_by_first code.grid code.asked (new_vars code first (length (taken_from code.net labels ends)) maybe) (taken_from code.net labels ends))
+    (added_clauses code.net code.log code.grid.steps (alarm_added (nameless labels maybe)))
+alarm_listed code labels maybe first ends coded grown above are known all =
+    let log = with_addition code.log (alarm_added (nameless labels maybe)) in
+    let names = read_names (code_after code (alarm_added (nameless labels maybe)) first) in
+    let count = taken_count code labels maybe ends are in
+    let found : taken_events code.net code.log (nameless labels maybe) ≡ filter (has_any_label code.net labels) (map (λ (end : ChainEnd). end.event) ends) =
+    sym (taken_are_events code.net code.log labels maybe ends are) ∙ taken_is_filter code.net labels ends in
+    let vars = new_vars code first (length (taken_from code.net labels ends)) maybe in
+    let linked = links_read code labels maybe first (length (taken_from code.net labels ends)) [] ends coded grown above count found known all in
+    let finished = done_reads code.net log code.grid.steps names (length code.log.alarms) code.asked (taken_events code.net code.log (nameless labels maybe)) vars
+    (lifted (code_after code (alarm_added (nameless labels maybe)) first) code.asked asked grown (asked_named (code_after code (alarm_added (nameless labels maybe)) first))) refl (doubtful_new code.log (nameless labels maybe))
+    (alarm_named code labels maybe first (length (taken_from code.net labels ends)) coded grown above count) in
+    let reals = real_reads code.net log code.grid.steps names (length code.log.alarms) (taken_events code.net code.log (nameless labels maybe)) vars (alarm_named code labels maybe first (length (taken_from code.net labels ends)) coded grown above count) in
+    zip_append (Reads code.net log code.grid.steps names) (links_written code.grid vars 0 (taken_from code.net labels ends) ++ done_by_first code.asked vars) (alarm_clauses code.net code.log code.grid.steps (nameless labels maybe))
+    (real_written vars) (real_clauses maybe (length code.log.alarms) (taken_events code.net code.log (nameless labels maybe)) code.grid.steps)
+    (zip_append (Reads code.net log code.grid.steps names) (links_written code.grid vars 0 (taken_from code.net labels ends))
+    (flat_map (λ e. flat_map (link_clauses (length code.log.alarms) e (length (chain code.net code.log e))) (numbers_below code.grid.steps)) (taken_events code.net code.log (nameless labels maybe)))
     (done_by_first code.asked vars) _
     (subst (λ es. AllZip (Reads code.net log code.grid.steps names) (links_written code.grid vars 0 (taken_from code.net labels ends))
-    (flat_map (λ e. flat_map (link_clauses (length code.log.alarms) e (length (chain code.net code.log e))) (numbers_below code.grid.steps)) es)) (sym found) linked) finished
+    (flat_map (λ e. flat_map (link_clauses (length code.log.alarms) e (length (chain code.net code.log e))) (numbers_below code.grid.steps)) es)) (sym found) linked) finished) reals
 
 -- ---- sizes, and the order of pairs
 
@@ -187,6 +192,13 @@ append_alike xs ys zs same z h = by (append_cases xs ys z h)
     by (inl left) = append_left xs zs z left
     by (inr right) = append_right xs zs z (same z right)
 
+begun_alike : {X : Type 0} (xs ys zs : List X) → ((z : X) → Contains xs z → Contains ys z) → (z : X) → Contains (xs ++ zs) z → Contains (ys ++ zs) z
+begun_alike xs ys zs same z h = by (append_cases xs zs z h)
+  where
+    by : Contains xs z ⊎ Contains zs z → Contains (ys ++ zs) z
+    by (inl left) = append_left ys zs z (same z left)
+    by (inr right) = append_right ys zs z right
+
 step_alike : (vars : AlarmVars) (t : ℕ) (clause : Clause) → Contains (step_by_first vars t) clause ↔ Contains (step_written vars t) clause
 step_alike vars t clause = (
   append_alike first_two (pairs_by_first (matches_at vars t)) (excluded_pairs (matches_at vars t)) (λ z h. (pairs_alike (matches_at vars t) z).0 h) clause,
@@ -194,22 +206,24 @@ step_alike vars t clause = (
 )
   where
     first_two : List Clause
-    first_two = (fails (done_variable vars t) ∷ holds (done_variable vars (suc t)) ∷ []) ∷ (fails (done_variable vars (suc t)) ∷ holds (done_variable vars t) ∷ matches_at vars t) ∷ []
+    first_two = (fails (done_variable vars t) ∷ holds (done_variable vars (suc t)) ∷ []) ∷ (fails (done_variable vars (suc t)) ∷ holds (done_variable vars t) ∷ (dropped_written vars ++ matches_at vars t)) ∷ []
 
 alarm_alike : (grid : Grid) (ask : ℕ) (vars : AlarmVars) (takes : List Taken) (clause : Clause) → Contains (alarm_by_first grid ask vars takes) clause ↔ Contains (alarm_written grid ask vars takes) clause
 alarm_alike grid ask vars takes clause = (
-  append_alike (links_written grid vars 0 takes) (done_by_first ask vars) (done_written ask vars)
+  begun_alike (links_written grid vars 0 takes ++ done_by_first ask vars) (links_written grid vars 0 takes ++ done_written ask vars) (real_written vars) (append_alike (links_written grid vars 0 takes) (done_by_first ask vars) (done_written ask vars)
       (append_alike (ends_written ask vars) (flat_map (step_by_first vars) (numbers_below vars.steps)) (flat_map (step_written vars) (numbers_below vars.steps))
-      (flat_alike (step_by_first vars) (step_written vars) (numbers_below vars.steps) (λ t z h. (step_alike vars t z).0 h))) clause,
-  append_alike (links_written grid vars 0 takes) (done_written ask vars) (done_by_first ask vars)
+      (flat_alike (step_by_first vars) (step_written vars) (numbers_below vars.steps) (λ t z h. (step_alike vars t z).0 h)))) clause,
+  begun_alike (links_written grid vars 0 takes ++ done_written ask vars) (links_written grid vars 0 takes ++ done_by_first ask vars) (real_written vars) (append_alike (links_written grid vars 0 takes) (done_written ask vars) (done_by_first ask vars)
       (append_alike (ends_written ask vars) (flat_map (step_written vars) (numbers_below vars.steps)) (flat_map (step_by_first vars) (numbers_below vars.steps))
-      (flat_alike (step_written vars) (step_by_first vars) (numbers_below vars.steps) (λ t z h. (step_alike vars t z).1 h))) clause,
+      (flat_alike (step_written vars) (step_by_first vars) (numbers_below vars.steps) (λ t z h. (step_alike vars t z).1 h)))) clause,
 )
 
 alarm_count : (grid : Grid) (ask : ℕ) (vars : AlarmVars) (takes : List Taken) → length (alarm_written grid ask vars takes) ≡ length (alarm_by_first grid ask vars takes)
 alarm_count grid ask vars takes =
     omega (
       arith,
+      length-append (links_written grid vars 0 takes ++ done_written ask vars) (real_written vars),
+      length-append (links_written grid vars 0 takes ++ done_by_first ask vars) (real_written vars),
       length-append (links_written grid vars 0 takes) (done_written ask vars),
       length-append (links_written grid vars 0 takes) (done_by_first ask vars),
       length-append (ends_written ask vars) (flat_map (step_written vars) (numbers_below vars.steps)),
@@ -218,33 +232,33 @@ alarm_count grid ask vars takes =
     )
 
 -- what is written of a new alarm is what it brings, and no more than its size allows
-pub alarm_brings : (code : CodedLog) (labels : List (List ℕ)) (first : ℕ) (ends : List ChainEnd) → IsCodedLog code → IsCodedLog (code_after code (alarm_added (nameless labels)) first) → code.vars ≤ first →
+pub alarm_brings : (code : CodedLog) (labels : List (List ℕ)) (maybe : Bool) (first : ℕ) (ends : List ChainEnd) → IsCodedLog code → IsCodedLog (code_after code (alarm_added (nameless labels maybe)) first) → code.vars ≤ first →
     map (λ (end : ChainEnd). end.event) ends ≡ observable_events code.net → AllByRecursion (λ (end : ChainEnd). end.event < code.grid.events) ends → AllByRecursion (IsChainEnd code) ends →
-    IsCode (read_names (code_after code (alarm_added (nameless labels)) first)) (IsNamedAdded code.net code.log code.grid.steps (alarm_added (nameless labels)))
-    (alarm_written code.grid code.asked (new_vars code first (length (taken_from code.net labels ends))) (taken_from code.net labels ends))
-    × (length (alarm_written code.grid code.asked (new_vars code first (length (taken_from code.net labels ends))) (taken_from code.net labels ends)) + 12 * question_size code.net code.log code.grid.steps
-    ≤ 12 * question_size code.net (with_addition code.log (alarm_added (nameless labels))) code.grid.steps + 12)
-alarm_brings code labels first ends coded grown above are known all =
-    let vars = new_vars code first (length (taken_from code.net labels ends)) in
+    IsCode (read_names (code_after code (alarm_added (nameless labels maybe)) first)) (IsNamedAdded code.net code.log code.grid.steps (alarm_added (nameless labels maybe)))
+    (alarm_written code.grid code.asked (new_vars code first (length (taken_from code.net labels ends)) maybe) (taken_from code.net labels ends))
+    × (length (alarm_written code.grid code.asked (new_vars code first (length (taken_from code.net labels ends)) maybe) (taken_from code.net labels ends)) + 12 * question_size code.net code.log code.grid.steps
+    ≤ 12 * question_size code.net (with_addition code.log (alarm_added (nameless labels maybe))) code.grid.steps + 12)
+alarm_brings code labels maybe first ends coded grown above are known all =
+    let vars = new_vars code first (length (taken_from code.net labels ends)) maybe in
     let takes = taken_from code.net labels ends in
-    let names = read_names (code_after code (alarm_added (nameless labels)) first) in
-    let listed = alarm_listed code labels first ends coded grown above are known all in
-    let counted = zip_count (Reads code.net (with_addition code.log (alarm_added (nameless labels))) code.grid.steps names) (alarm_by_first code.grid code.asked vars takes) (added_clauses code.net code.log code.grid.steps (alarm_added (nameless labels))) listed in
-    let small = drafts_are_small code.net code.log code.grid.steps (alarm_added (nameless labels)) in (
-      same_code names (IsNamedAdded code.net code.log code.grid.steps (alarm_added (nameless labels))) (alarm_by_first code.grid code.asked vars takes) (alarm_written code.grid code.asked vars takes)
+    let names = read_names (code_after code (alarm_added (nameless labels maybe)) first) in
+    let listed = alarm_listed code labels maybe first ends coded grown above are known all in
+    let counted = zip_count (Reads code.net (with_addition code.log (alarm_added (nameless labels maybe))) code.grid.steps names) (alarm_by_first code.grid code.asked vars takes) (added_clauses code.net code.log code.grid.steps (alarm_added (nameless labels maybe))) listed in
+    let small = drafts_are_small code.net code.log code.grid.steps (alarm_added (nameless labels maybe)) in (
+      same_code names (IsNamedAdded code.net code.log code.grid.steps (alarm_added (nameless labels maybe))) (alarm_by_first code.grid code.asked vars takes) (alarm_written code.grid code.asked vars takes)
           (alarm_alike code.grid code.asked vars takes)
-          ((drafts_are_code code.net code.grid.steps names (alarm_by_first code.grid code.asked vars takes)).0 code.log (alarm_added (nameless labels)) listed),
+          ((drafts_are_code code.net code.grid.steps names (alarm_by_first code.grid code.asked vars takes)).0 code.log (alarm_added (nameless labels maybe)) listed),
       omega (arith, small, counted, alarm_count code.grid code.asked vars takes),
     )
 
 -- ---- a pair
 
-pair_listed : (net : Net) (log : Log) (n : ℕ) (names : List (ℕ × Name)) (ask first second i j a k : ℕ) → a + k ≤ n → name_of names ask ≡ Some asked →
+pair_listed : (net : Net) (log : Log) (n : ℕ) (names : List (ℕ × Name)) (ask first second i j a k : ℕ) → a + k ≤ n + 1 → name_of names ask ≡ Some asked →
     ((t : ℕ) → t ≤ n → name_of names (first + t) ≡ Some (done i t)) → ((t : ℕ) → t ≤ n → name_of names (second + t) ≡ Some (done j t)) →
-    AllZip (Reads net log n names) (map (λ t. fails ask ∷ fails (second + suc t) ∷ holds (first + suc t) ∷ []) (range_with_len a k)) (map (λ t. before_if_asked i j t) (range_with_len a k))
+    AllZip (Reads net log n names) (map (λ t. fails ask ∷ fails (second + t) ∷ holds (first + t) ∷ []) (range_with_len a k)) (map (λ t. before_if_asked i j t) (range_with_len a k))
 pair_listed net log n names ask first second i j a zero within asks firsts seconds = tt
 pair_listed net log n names ask first second i j a (suc k) within asks firsts seconds = (
-  reads_three names ask (second + suc a) (first + suc a) false false true _ _ _ asks (seconds (suc a) (omega arith)) (firsts (suc a) (omega arith)),
+  reads_three names ask (second + a) (first + a) false false true _ _ _ asks (seconds a (omega arith)) (firsts a (omega arith)),
   pair_listed net log n names ask first second i j (a + 1) k (omega arith) asks firsts seconds,
 )
 
@@ -255,8 +269,11 @@ pub pair_brings : (code : CodedLog) (i j first second start : ℕ) → IsCodedLo
 pair_brings code i j first second start grown firsts seconds =
     let after = code_after code (pair_added i j) start in
     let names = read_names after in
-    let listed = pair_listed code.net (with_addition code.log (pair_added i j)) code.grid.steps names code.asked first second i j 0 code.grid.steps (omega arith) (lifted after code.asked asked grown (asked_named after))
-    (λ t within. lifted after (first + t) _ grown (firsts t within)) (λ t within. lifted after (second + t) _ grown (seconds t within)) in
+    let last : code.grid.steps + 1 ≡ suc code.grid.steps = omega arith in
+    let listed : AllZip (Reads code.net (with_addition code.log (pair_added i j)) code.grid.steps names) (pair_written code.asked first second code.grid.steps) (map (λ t. before_if_asked i j t) (numbers_below (suc code.grid.steps))) =
+    subst (λ k. AllZip (Reads code.net (with_addition code.log (pair_added i j)) code.grid.steps names) (pair_written code.asked first second code.grid.steps) (map (λ t. before_if_asked i j t) (numbers_below k))) last
+    (pair_listed code.net (with_addition code.log (pair_added i j)) code.grid.steps names code.asked first second i j 0 (code.grid.steps + 1) (omega arith) (lifted after code.asked asked grown (asked_named after))
+    (λ t within. lifted after (first + t) _ grown (firsts t within)) (λ t within. lifted after (second + t) _ grown (seconds t within))) in
     let counted = zip_count (Reads code.net (with_addition code.log (pair_added i j)) code.grid.steps names) (pair_written code.asked first second code.grid.steps) (added_clauses code.net code.log code.grid.steps (pair_added i j)) listed in
     let small = drafts_are_small code.net code.log code.grid.steps (pair_added i j) in (
       (drafts_are_code code.net code.grid.steps names (pair_written code.asked first second code.grid.steps)).0 code.log (pair_added i j) listed,

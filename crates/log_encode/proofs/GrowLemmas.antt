@@ -8,22 +8,23 @@ use Rattle.log_order.specs.Log.{Log, Alarm}
 use Rattle.log_clauses.specs.Additions.{alarm_added, with_addition}
 use Rattle.log_clauses.specs.Drafts.{taken_events}
 use Rattle.log_clauses.specs.LogClauses.{chain, observable_events}
-use Rattle.log_clauses.specs.LogNames.{HasPlaces}
-use Rattle.log_clauses.proofs.Lists.{pairs_filter}
+use Rattle.log_clauses.specs.LogNames.{HasPlaces, ReadsInOrder}
+use Rattle.log_clauses.proofs.Lists.{pairs_filter, zip_append}
 use Rattle.log_clauses.proofs.Numbered.{places_of_names}
-use Rattle.log_encode.proofs.CodeLemmas.{names_with_alarm, raised}
-use Rattle.log_encode.proofs.StayLemmas.{end_stays, chain_joined}
+use Rattle.log_clauses.proofs.Stay.{doubtful_new}
+use Rattle.log_encode.proofs.CodeLemmas.{names_with_alarm, raised, false_more}
+use Rattle.log_encode.proofs.StayLemmas.{end_stays, chain_joined, named_still}
 use Rattle.log_encode.proofs.TakenLemmas.{taken_are_events, taken_is_filter, width_is, map_count}
 use Rattle.log_encode.proofs.VariableLemmas.{link_is_small}
-use Rattle.log_encode.specs.AlarmVariables.{variable_count}
-use Rattle.log_encode.specs.CodedLog.{CodedLog, code_names, code_after, addition_width, nameless, IsCodedLog}
+use Rattle.log_encode.specs.AlarmVariables.{variable_count, false_width, dropped_variable}
+use Rattle.log_encode.specs.CodedLog.{CodedLog, code_names, code_after, addition_width, nameless, false_literals, IsCodedLog}
 use Rattle.log_encode.specs.declared.alarm_vars.AlarmVars.{AlarmVars}
 use Rattle.log_encode.specs.declared.taken.ChainEnd.{ChainEnd}
 use Rattle.log_encode.specs.declared.taken.Taken.{Taken}
-use Rattle.log_encode.specs.View.{IsChainEnd, AreEnds, IsAlarm}
-use Rattle.log_encode.specs.Written.{has_any_label, taken_from, end_after, ends_after, guards_of}
+use Rattle.log_encode.specs.View.{IsChainEnd, AreEnds, AreFalse, IsAlarm}
+use Rattle.log_encode.specs.Written.{has_any_label, taken_from, end_after, ends_after, guards_of, dropped_written}
 use Rattle.prop_core.specs.declared.lit.Lit.{Lit}
-use Rattle.prop_core.specs.VariableNames.{name_of, closed, remaining, done}
+use Rattle.prop_core.specs.VariableNames.{Name, NamedLiteral, name_of, yes, closed, remaining, done, dropped}
 use Rattle.std.specs.Prelude.{is_some}
 use Rattle.run_clauses.specs.StepClauses.{numbers_below}
 
@@ -80,14 +81,14 @@ lengthened_events net labels vars link (end ∷ ends) = by (has_any_label net la
     by true is later = rw is (ap (λ xs. end.event ∷ xs) (later (suc link)))
     by false is later = rw is (ap (λ xs. end.event ∷ xs) (later link))
 
-abbrev pub new_vars : CodedLog → ℕ → ℕ → AlarmVars
-new_vars code first links = record { start = first; links = links; steps = code.grid.steps }
+abbrev pub new_vars : CodedLog → ℕ → ℕ → Bool → AlarmVars
+new_vars code first links maybe = record { start = first; links = links; steps = code.grid.steps; doubtful = maybe }
 
 -- the names of the longer log, where they are
-pub places : (code : CodedLog) (labels : List (List ℕ)) (first : ℕ) → IsCodedLog code → code.vars ≤ first → HasPlaces code.net code.log code.grid.steps first (nameless labels) (code_names (code_after code (alarm_added (nameless labels)) first))
-places code labels first coded above =
-    subst (HasPlaces code.net code.log code.grid.steps first (nameless labels)) (sym (names_with_alarm code (nameless labels) first coded.each))
-    (places_of_names code.net code.log code.grid.steps first (nameless labels) (code_names code) (raised code.net code.log code.grid.steps code.vars first (code_names code) above coded.names))
+pub places : (code : CodedLog) (labels : List (List ℕ)) (maybe : Bool) (first : ℕ) → IsCodedLog code → code.vars ≤ first → HasPlaces code.net code.log code.grid.steps first (nameless labels maybe) (code_names (code_after code (alarm_added (nameless labels maybe)) first))
+places code labels maybe first coded above =
+    subst (HasPlaces code.net code.log code.grid.steps first (nameless labels maybe)) (sym (names_with_alarm code (nameless labels maybe) first coded.each))
+    (places_of_names code.net code.log code.grid.steps first (nameless labels maybe) (code_names code) (raised code.net code.log code.grid.steps code.vars first (code_names code) above coded.names))
 
 joined_count : (net : Net) (log : Log) (new : Alarm) (e : ℕ) → has_any_label net new.labels e ≡ true → length (chain net (with_addition log (alarm_added new)) e) ≡ suc (length (chain net log e))
 joined_count net log new e h = ap length (chain_joined net log new e h) ∙ omega (arith, length-append (chain net log e) (length log.alarms ∷ []))
@@ -97,80 +98,105 @@ get_at [] after e = refl
 get_at (x ∷ before) after e = get_at before after e
 
 -- a chain that the alarm joins
-joined_end : (code : CodedLog) (labels : List (List ℕ)) (first links link e : ℕ) → IsCodedLog code → code.vars ≤ first → has_any_label code.net labels e ≡ true →
-    slice_get (taken_events code.net code.log (nameless labels)) link ≡ Some e → link < links → addition_width code (alarm_added (nameless labels)) ≡ variable_count links code.grid.steps →
-    IsChainEnd (code_after code (alarm_added (nameless labels)) first) (end_after (new_vars code first links) link e)
-joined_end code labels first links link e coded above h at inside width =
-    let there = places code labels first coded above in
-    let count = joined_count code.net code.log (nameless labels) e h in
+joined_end : (code : CodedLog) (labels : List (List ℕ)) (maybe : Bool) (first links link e : ℕ) → IsCodedLog code → code.vars ≤ first → has_any_label code.net labels e ≡ true →
+    slice_get (taken_events code.net code.log (nameless labels maybe)) link ≡ Some e → link < links → addition_width code (alarm_added (nameless labels maybe)) ≡ variable_count links code.grid.steps + false_width maybe →
+    IsChainEnd (code_after code (alarm_added (nameless labels maybe)) first) (end_after (new_vars code first links maybe) link e)
+joined_end code labels maybe first links link e coded above h at inside width =
+    let there = places code labels maybe first coded above in
+    let count = joined_count code.net code.log (nameless labels maybe) e h in
     let bound = link_is_small links (1 + code.grid.steps * 2) link inside in record {
-      closing = subst (λ k. name_of (code_names (code_after code (alarm_added (nameless labels)) first)) (first + link * (1 + code.grid.steps * 2)) ≡ Some (closed e k)) (sym count) (there.closing link e at);
+      closing = subst (λ k. name_of (code_names (code_after code (alarm_added (nameless labels maybe)) first)) (first + link * (1 + code.grid.steps * 2)) ≡ Some (closed e k)) (sym count) (there.closing link e at);
       rest = (
         omega (arith, bound, width),
         λ t time.
             let var : first + (link * (1 + code.grid.steps * 2) + suc (t * 2 + 1)) ≡ first + (link * (1 + code.grid.steps * 2) + suc (0 * 2 + 1)) + t * 2 = omega arith in
-            subst (λ v. name_of (code_names (code_after code (alarm_added (nameless labels)) first)) v ≡ Some (remaining e (length (chain code.net (with_addition code.log (alarm_added (nameless labels))) e)) (suc t))) var
-            (subst (λ k. name_of (code_names (code_after code (alarm_added (nameless labels)) first)) (first + (link * (1 + code.grid.steps * 2) + suc (t * 2 + 1))) ≡ Some (remaining e k (suc t))) (sym count) (there.passing link e t at time)),
+            subst (λ v. name_of (code_names (code_after code (alarm_added (nameless labels maybe)) first)) v ≡ Some (remaining e (length (chain code.net (with_addition code.log (alarm_added (nameless labels maybe))) e)) (suc t))) var
+            (subst (λ k. name_of (code_names (code_after code (alarm_added (nameless labels maybe)) first)) (first + (link * (1 + code.grid.steps * 2) + suc (t * 2 + 1))) ≡ Some (remaining e k (suc t))) (sym count) (there.passing link e t at time)),
       );
     }
 
 -- all ends, after the links before
-ends_grow : (code : CodedLog) (labels : List (List ℕ)) (first links : ℕ) (before : List ℕ) (ends : List ChainEnd) → IsCodedLog code → code.vars ≤ first →
-    addition_width code (alarm_added (nameless labels)) ≡ variable_count links code.grid.steps → length (taken_events code.net code.log (nameless labels)) ≡ links →
-    taken_events code.net code.log (nameless labels) ≡ before ++ filter (has_any_label code.net labels) (map (λ (end : ChainEnd). end.event) ends) → AllByRecursion (IsChainEnd code) ends →
-    AllByRecursion (IsChainEnd (code_after code (alarm_added (nameless labels)) first)) (lengthened code.net labels (new_vars code first links) (length before) ends)
-ends_grow code labels first links before [] coded above width count are all = tt
-ends_grow code labels first links before (end ∷ ends) coded above width count are all =
-    by (has_any_label code.net labels end.event) refl (λ earlier same. ends_grow code labels first links earlier ends coded above width count same all.1)
+ends_grow : (code : CodedLog) (labels : List (List ℕ)) (maybe : Bool) (first links : ℕ) (before : List ℕ) (ends : List ChainEnd) → IsCodedLog code → code.vars ≤ first →
+    addition_width code (alarm_added (nameless labels maybe)) ≡ variable_count links code.grid.steps + false_width maybe → length (taken_events code.net code.log (nameless labels maybe)) ≡ links →
+    taken_events code.net code.log (nameless labels maybe) ≡ before ++ filter (has_any_label code.net labels) (map (λ (end : ChainEnd). end.event) ends) → AllByRecursion (IsChainEnd code) ends →
+    AllByRecursion (IsChainEnd (code_after code (alarm_added (nameless labels maybe)) first)) (lengthened code.net labels (new_vars code first links maybe) (length before) ends)
+ends_grow code labels maybe first links before [] coded above width count are all = tt
+ends_grow code labels maybe first links before (end ∷ ends) coded above width count are all =
+    by (has_any_label code.net labels end.event) refl (λ earlier same. ends_grow code labels maybe first links earlier ends coded above width count same all.1)
   where
     by : (b : Bool) → has_any_label code.net labels end.event ≡ b →
-        ((earlier : List ℕ) → taken_events code.net code.log (nameless labels) ≡ earlier ++ filter (has_any_label code.net labels) (map (λ (x : ChainEnd). x.event) ends) →
-        AllByRecursion (IsChainEnd (code_after code (alarm_added (nameless labels)) first)) (lengthened code.net labels (new_vars code first links) (length earlier) ends)) → AllByRecursion (IsChainEnd (code_after code (alarm_added (nameless labels)) first)) (lengthened code.net labels (new_vars code first links) (length before) (end ∷ ends))
+        ((earlier : List ℕ) → taken_events code.net code.log (nameless labels maybe) ≡ earlier ++ filter (has_any_label code.net labels) (map (λ (x : ChainEnd). x.event) ends) →
+        AllByRecursion (IsChainEnd (code_after code (alarm_added (nameless labels maybe)) first)) (lengthened code.net labels (new_vars code first links maybe) (length earlier) ends)) → AllByRecursion (IsChainEnd (code_after code (alarm_added (nameless labels maybe)) first)) (lengthened code.net labels (new_vars code first links maybe) (length before) (end ∷ ends))
     by true is later =
-        let split : taken_events code.net code.log (nameless labels) ≡ before ++ end.event ∷ filter (has_any_label code.net labels) (map (λ (x : ChainEnd). x.event) ends) = are ∙ rw is refl in
-        let at : slice_get (taken_events code.net code.log (nameless labels)) (length before) ≡ Some end.event = rw split (get_at before (filter (has_any_label code.net labels) (map (λ (x : ChainEnd). x.event) ends)) end.event) in
+        let split : taken_events code.net code.log (nameless labels maybe) ≡ before ++ end.event ∷ filter (has_any_label code.net labels) (map (λ (x : ChainEnd). x.event) ends) = are ∙ rw is refl in
+        let at : slice_get (taken_events code.net code.log (nameless labels maybe)) (length before) ≡ Some end.event = rw split (get_at before (filter (has_any_label code.net labels) (map (λ (x : ChainEnd). x.event) ends)) end.event) in
         let inside : length before < links = omega (arith, count, ap length split, length-append before (end.event ∷ filter (has_any_label code.net labels) (map (λ (x : ChainEnd). x.event) ends))) in
         let one : length (before ++ end.event ∷ []) ≡ suc (length before) = omega (arith, length-append before (end.event ∷ [])) in
         let rest = later (before ++ end.event ∷ []) (split ∙ sym (append_assoc before (end.event ∷ []) (filter (has_any_label code.net labels) (map (λ (x : ChainEnd). x.event) ends)))) in
         rw is (
-          joined_end code labels first links (length before) end.event coded above is at inside width,
-          subst (λ k. AllByRecursion (IsChainEnd (code_after code (alarm_added (nameless labels)) first)) (lengthened code.net labels (new_vars code first links) k ends)) one rest,
+          joined_end code labels maybe first links (length before) end.event coded above is at inside width,
+          subst (λ k. AllByRecursion (IsChainEnd (code_after code (alarm_added (nameless labels maybe)) first)) (lengthened code.net labels (new_vars code first links maybe) k ends)) one rest,
         )
     by false is later =
-        let same : taken_events code.net code.log (nameless labels) ≡ before ++ filter (has_any_label code.net labels) (map (λ (x : ChainEnd). x.event) ends) = are ∙ rw is refl in
-        rw is (end_stays code (nameless labels) first end coded above is all.0, later before same)
+        let same : taken_events code.net code.log (nameless labels maybe) ≡ before ++ filter (has_any_label code.net labels) (map (λ (x : ChainEnd). x.event) ends) = are ∙ rw is refl in
+        rw is (end_stays code (nameless labels maybe) first end coded above is all.0, later before same)
 
-pub taken_count : (code : CodedLog) (labels : List (List ℕ)) (ends : List ChainEnd) → map (λ (end : ChainEnd). end.event) ends ≡ observable_events code.net →
-    length (taken_events code.net code.log (nameless labels)) ≡ length (taken_from code.net labels ends)
-taken_count code labels ends are = ap length (sym (taken_are_events code.net code.log labels ends are)) ∙ map_count (λ (taken : Taken). taken.event) (taken_from code.net labels ends)
+pub taken_count : (code : CodedLog) (labels : List (List ℕ)) (maybe : Bool) (ends : List ChainEnd) → map (λ (end : ChainEnd). end.event) ends ≡ observable_events code.net →
+    length (taken_events code.net code.log (nameless labels maybe)) ≡ length (taken_from code.net labels ends)
+taken_count code labels maybe ends are = ap length (sym (taken_are_events code.net code.log labels maybe ends are)) ∙ map_count (λ (taken : Taken). taken.event) (taken_from code.net labels ends)
 
-pub taken_width : (code : CodedLog) (labels : List (List ℕ)) (ends : List ChainEnd) → map (λ (end : ChainEnd). end.event) ends ≡ observable_events code.net →
-    addition_width code (alarm_added (nameless labels)) ≡ variable_count (length (taken_from code.net labels ends)) code.grid.steps
-taken_width code labels ends are = width_is code.net code.log code.grid.steps labels (taken_from code.net labels ends) (taken_are_events code.net code.log labels ends are)
+pub taken_width : (code : CodedLog) (labels : List (List ℕ)) (maybe : Bool) (ends : List ChainEnd) → map (λ (end : ChainEnd). end.event) ends ≡ observable_events code.net →
+    addition_width code (alarm_added (nameless labels maybe)) ≡ variable_count (length (taken_from code.net labels ends)) code.grid.steps + false_width maybe
+taken_width code labels maybe ends are = width_is code.net code.log code.grid.steps labels maybe (taken_from code.net labels ends) (taken_are_events code.net code.log labels maybe ends are)
 
-pub ends_with_alarm : (code : CodedLog) (labels : List (List ℕ)) (first : ℕ) (ends : List ChainEnd) (guards : List Lit) → IsCodedLog code → code.vars ≤ first → AreEnds code ends guards →
-    AreEnds (code_after code (alarm_added (nameless labels)) first)
-    (ends_after (new_vars code first (length (taken_from code.net labels ends))) 0 ends (taken_from code.net labels ends))
-    (guards_of code.asked (ends_after (new_vars code first (length (taken_from code.net labels ends))) 0 ends (taken_from code.net labels ends)))
-ends_with_alarm code labels first ends guards coded above are =
-    let vars = new_vars code first (length (taken_from code.net labels ends)) in
+pub ends_with_alarm : (code : CodedLog) (labels : List (List ℕ)) (maybe : Bool) (first : ℕ) (ends : List ChainEnd) (guards : List Lit) → IsCodedLog code → code.vars ≤ first → AreEnds code ends guards →
+    AreEnds (code_after code (alarm_added (nameless labels maybe)) first)
+    (ends_after (new_vars code first (length (taken_from code.net labels ends)) maybe) 0 ends (taken_from code.net labels ends))
+    (guards_of code.asked (ends_after (new_vars code first (length (taken_from code.net labels ends)) maybe) 0 ends (taken_from code.net labels ends)))
+ends_with_alarm code labels maybe first ends guards coded above are =
+    let vars = new_vars code first (length (taken_from code.net labels ends)) maybe in
     let once : EachPair (λ e f. e ≢ f) (map (λ (end : ChainEnd). end.event) ends) = subst (EachPair (λ e f. e ≢ f)) (sym are.events) (observables_once code.net) in
     let is = after_is code.net labels vars 0 ends once in
-    let found : taken_events code.net code.log (nameless labels) ≡ filter (has_any_label code.net labels) (map (λ (end : ChainEnd). end.event) ends) =
-    sym (taken_are_events code.net code.log labels ends are.events) ∙ taken_is_filter code.net labels ends in record {
+    let found : taken_events code.net code.log (nameless labels maybe) ≡ filter (has_any_label code.net labels) (map (λ (end : ChainEnd). end.event) ends) =
+    sym (taken_are_events code.net code.log labels maybe ends are.events) ∙ taken_is_filter code.net labels ends in record {
       events = ap (map (λ (end : ChainEnd). end.event)) is ∙ lengthened_events code.net labels vars 0 ends ∙ are.events;
-      each = subst (AllByRecursion (IsChainEnd (code_after code (alarm_added (nameless labels)) first))) (sym is)
-          (ends_grow code labels first (length (taken_from code.net labels ends)) [] ends coded above (taken_width code labels ends are.events) (taken_count code labels ends are.events) found are.each);
+      each = subst (AllByRecursion (IsChainEnd (code_after code (alarm_added (nameless labels maybe)) first))) (sym is)
+          (ends_grow code labels maybe first (length (taken_from code.net labels ends)) [] ends coded above (taken_width code labels maybe ends are.events) (taken_count code labels maybe ends are.events) found are.each);
       guarding = refl;
     }
 
-pub new_alarm : (code : CodedLog) (labels : List (List ℕ)) (first : ℕ) (ends : List ChainEnd) → IsCodedLog code → code.vars ≤ first → map (λ (end : ChainEnd). end.event) ends ≡ observable_events code.net →
-    IsAlarm (code_after code (alarm_added (nameless labels)) first) (length code.log.alarms) (record { labels = labels; takes = taken_from code.net labels ends; start = first })
-new_alarm code labels first ends coded above are =
-    let there = places code labels first coded above in
-    let width = taken_width code labels ends are in record {
-      events = taken_are_events code.net code.log labels ends are;
+pub new_alarm : (code : CodedLog) (labels : List (List ℕ)) (maybe : Bool) (first : ℕ) (ends : List ChainEnd) → IsCodedLog code → code.vars ≤ first → map (λ (end : ChainEnd). end.event) ends ≡ observable_events code.net →
+    IsAlarm (code_after code (alarm_added (nameless labels maybe)) first) (length code.log.alarms) (record { labels = labels; doubtful = maybe; takes = taken_from code.net labels ends; start = first })
+new_alarm code labels maybe first ends coded above are =
+    let there = places code labels maybe first coded above in
+    let width = taken_width code labels maybe ends are in record {
+      events = taken_are_events code.net code.log labels maybe ends are;
       within = omega (arith, width);
       matching = λ p e t at time. there.matching p e t at time;
-      being_done = λ t time. subst (λ k. name_of (code_names (code_after code (alarm_added (nameless labels)) first)) (first + (k * (1 + code.grid.steps * 2) + t)) ≡ Some (done (length code.log.alarms) t)) (taken_count code labels ends are) (there.being_done t time);
+      being_done = λ t time. subst (λ k. name_of (code_names (code_after code (alarm_added (nameless labels maybe)) first)) (first + (k * (1 + code.grid.steps * 2) + t)) ≡ Some (done (length code.log.alarms) t)) (taken_count code labels maybe ends are) (there.being_done t time);
+      mark = doubtful_new code.log (nameless labels maybe);
+      being_false = λ h. subst (λ k. name_of (code_names (code_after code (alarm_added (nameless labels maybe)) first)) (first + (k * (1 + code.grid.steps * 2) + suc code.grid.steps)) ≡ Some (dropped (length code.log.alarms))) (taken_count code labels maybe ends are) (there.being_false h);
     }
+
+-- ---- what says that alarms are false
+
+reads_still : (names more : List (ℕ × Name)) (lits : List Lit) (named : List NamedLiteral) → ((v : ℕ) (x : Name) → name_of names v ≡ Some x → name_of more v ≡ Some x) → ReadsInOrder names lits named → ReadsInOrder more lits named
+reads_still names more [] [] still h = tt
+reads_still names more [] (m ∷ named) still h = absurd h
+reads_still names more (l ∷ lits) [] still h = absurd h
+reads_still names more (l ∷ lits) (m ∷ named) still h = ((still l.var m.name h.0.0, h.0.1), reads_still names more lits named still h.1)
+
+pub false_with_alarm : (code : CodedLog) (labels : List (List ℕ)) (maybe : Bool) (first : ℕ) (ends : List ChainEnd) (lits : List Lit) → IsCodedLog code → code.vars ≤ first → map (λ (end : ChainEnd). end.event) ends ≡ observable_events code.net →
+    AreFalse code lits → AreFalse (code_after code (alarm_added (nameless labels maybe)) first) (lits ++ dropped_written (new_vars code first (length (taken_from code.net labels ends)) maybe))
+false_with_alarm code labels maybe first ends lits coded above are old =
+    let after = code_after code (alarm_added (nameless labels maybe)) first in
+    let vars = new_vars code first (length (taken_from code.net labels ends)) maybe in
+    let kept = reads_still (code_names code) (code_names after) lits (false_literals code.log) (λ v x h. named_still code (nameless labels maybe) first v x coded.each h) old in
+    subst (ReadsInOrder (code_names after) (lits ++ dropped_written vars)) (sym (false_more code.log (nameless labels maybe)))
+    (zip_append _ lits (false_literals code.log) (dropped_written vars) (if maybe then yes (dropped (length code.log.alarms)) ∷ [] else []) kept
+    (by maybe (new_alarm code labels maybe first ends coded above are).being_false))
+  where
+    by : (b : Bool) → (b ≡ true → name_of (code_names (code_after code (alarm_added (nameless labels maybe)) first)) (dropped_variable (new_vars code first (length (taken_from code.net labels ends)) maybe)) ≡ Some (dropped (length code.log.alarms))) →
+        ReadsInOrder (code_names (code_after code (alarm_added (nameless labels maybe)) first)) (if b then (record { var = dropped_variable (new_vars code first (length (taken_from code.net labels ends)) maybe); positive = true }) ∷ [] else []) (if b then yes (dropped (length code.log.alarms)) ∷ [] else [])
+    by true h = ((h refl, refl), tt)
+    by false h = tt

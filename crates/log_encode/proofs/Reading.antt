@@ -1,21 +1,21 @@
 -- What is written of a log reads as its clauses, by the names of its variables.
-use Rattle.std.proofs.Common.{◌≡◌, ℕ, zero, suc, ◌+◌, ◌<◌, ◌≤◌, Bool, true, false, List, [], ◌∷◌, ◌++◌, length, map, flat_map, Some, refl, sym, ap, subst, arith, slice_get}
+use Rattle.std.proofs.Common.{◌≡◌, ◌∙◌, ℕ, zero, suc, ◌+◌, ◌<◌, ◌≤◌, Bool, true, false, List, [], ◌∷◌, ◌++◌, length, map, flat_map, Some, refl, sym, ap, subst, arith, slice_get, append-nil}
 use Rattle.std.specs.List.{AllZip, range_with_len}
 use Rattle.card_counter.specs.AtMostOne.{not_both}
 use Rattle.des_net.specs.Network.{Net}
-use Rattle.log_order.specs.Log.{Log}
-use Rattle.log_clauses.specs.Drafts.{link_clauses, match_clauses, done_clauses}
-use Rattle.log_clauses.specs.LogClauses.{LogClause, log_clause, matching_events, one_match, not_done_first, done_if_asked}
+use Rattle.log_order.specs.Log.{Log, is_doubtful}
+use Rattle.log_clauses.specs.Drafts.{link_clauses, match_clauses, done_clauses, real_clauses}
+use Rattle.log_clauses.specs.LogClauses.{LogClause, log_clause, matching_events, one_match, match_is_real, not_done_first, done_if_asked, or_false}
 use Rattle.log_clauses.proofs.Lists.{zip_append}
 use Rattle.log_clauses.proofs.Numbered.{ordered_reads}
 use Rattle.log_encode.proofs.PairLists.{pairs_by_first}
-use Rattle.log_encode.specs.AlarmVariables.{match_variable, done_variable}
+use Rattle.log_encode.specs.AlarmVariables.{match_variable, done_variable, dropped_variable}
 use Rattle.log_encode.specs.declared.alarm_vars.AlarmVars.{AlarmVars}
 use Rattle.log_encode.specs.declared.writing.LinkVars.{LinkVars}
-use Rattle.log_encode.specs.Written.{holds, fails, link_written, matches_at, ends_written}
+use Rattle.log_encode.specs.Written.{holds, fails, link_written, matches_at, ends_written, dropped_written, real_of_link, reals_written, real_written}
 use Rattle.prop_core.specs.declared.lit.Lit.{Lit}
 use Rattle.prop_core.specs.Clauses.{Clause}
-use Rattle.prop_core.specs.VariableNames.{Name, NamedLiteral, ReadsAs, name_of, yes, no, asked, matches, done, closed, remaining}
+use Rattle.prop_core.specs.VariableNames.{Name, NamedLiteral, ReadsAs, name_of, yes, no, asked, matches, done, dropped, closed, remaining}
 use Rattle.run_clauses.specs.StepClauses.{numbers_below}
 
 -- ---- lists side by side
@@ -95,6 +95,7 @@ pub record AreAlarmNames (names : List (ℕ × Name)) (n i : ℕ) (events : List
   pub steps : vars.steps ≡ n
   pub matching : (p e t : ℕ) → slice_get events p ≡ Some e → t < n → name_of names (match_variable vars p t) ≡ Some (matches i e (suc t))
   pub being_done : (t : ℕ) → t ≤ n → name_of names (done_variable vars t) ≡ Some (done i t)
+  pub being_false : vars.doubtful ≡ true → name_of names (dropped_variable vars) ≡ Some (dropped i)
 
 abbrev IsNamed : List (ℕ × Name) → Lit → NamedLiteral → Type 0
 IsNamed names l m = (name_of names l.var ≡ Some m.name) × (l.positive ≡ m.positive)
@@ -102,7 +103,7 @@ IsNamed names l m = (name_of names l.var ≡ Some m.name) × (l.positive ≡ m.p
 -- what is written in a step, with the pairs in another order
 abbrev pub step_by_first : AlarmVars → ℕ → List Clause
 step_by_first vars t = (fails (done_variable vars t) ∷ holds (done_variable vars (suc t)) ∷ [])
-    ∷ (fails (done_variable vars (suc t)) ∷ holds (done_variable vars t) ∷ matches_at vars t) ∷ pairs_by_first (matches_at vars t)
+    ∷ (fails (done_variable vars (suc t)) ∷ holds (done_variable vars t) ∷ (dropped_written vars ++ matches_at vars t)) ∷ pairs_by_first (matches_at vars t)
 
 -- one match with each later one
 one_with : (net : Net) (log : Log) (n : ℕ) (names : List (ℕ × Name)) (i t v e : ℕ) (f : ℕ → ℕ) (a : ℕ) (events : List ℕ) → name_of names v ≡ Some (matches i e (suc t)) →
@@ -124,44 +125,88 @@ pairs_read net log n names i t f a (e ∷ events) each =
     (pairs_by_first (map (λ p. holds (f p)) (range_with_len (a + 1) (length events)))) (match_clauses i t events)
     (one_with net log n names i t (f a) e f (a + 1) events here later) (pairs_read net log n names i t f (a + 1) events later)
 
+-- where it is doubtful, that it is false comes before the others
+dropped_reads : (names : List (ℕ × Name)) (log : Log) (i : ℕ) (vars : AlarmVars) (lits : List Lit) (named : List NamedLiteral) → is_doubtful log i ≡ vars.doubtful → (vars.doubtful ≡ true → name_of names (dropped_variable vars) ≡ Some (dropped i)) →
+    AllZip (IsNamed names) lits named → AllZip (IsNamed names) (dropped_written vars ++ lits) (or_false log i named)
+dropped_reads names log i vars lits named mark h zip = by vars.doubtful refl
+  where
+    by : (b : Bool) → vars.doubtful ≡ b → AllZip (IsNamed names) (dropped_written vars ++ lits) (or_false log i named)
+    by true e = let d : is_doubtful log i ≡ true = mark ∙ e in let at = h e in rw (e, d) ((at, refl), zip)
+    by false e = let d : is_doubtful log i ≡ false = mark ∙ e in rw (e, d) zip
+
+not_first_reads : (names : List (ℕ × Name)) (log : Log) (n i : ℕ) (events : List ℕ) (vars : AlarmVars) → is_doubtful log i ≡ vars.doubtful → AreAlarmNames names n i events vars →
+    ReadsAs names (fails (done_variable vars 0) ∷ dropped_written vars) (no (done i 0) ∷ or_false log i [])
+not_first_reads names log n i events vars mark are =
+    ordered_reads names (fails (done_variable vars 0) ∷ dropped_written vars) (no (done i 0) ∷ or_false log i [])
+    ((are.being_done 0 (omega arith), refl), subst (λ ls. AllZip (IsNamed names) ls (or_false log i [])) (append-nil (dropped_written vars)) (dropped_reads names log i vars [] [] mark are.being_false tt))
+
 -- done after a step, by a match there or before
-by_match_reads : (names : List (ℕ × Name)) (n i t : ℕ) (events : List ℕ) (vars : AlarmVars) → t < n → AreAlarmNames names n i events vars →
-    ReadsAs names (fails (done_variable vars (suc t)) ∷ holds (done_variable vars t) ∷ matches_at vars t) (no (done i (suc t)) ∷ yes (done i t) ∷ map (λ e. yes (matches i e (suc t))) events)
-by_match_reads names n i t events vars time are =
+by_match_reads : (names : List (ℕ × Name)) (log : Log) (n i t : ℕ) (events : List ℕ) (vars : AlarmVars) → t < n → is_doubtful log i ≡ vars.doubtful → AreAlarmNames names n i events vars →
+    ReadsAs names (fails (done_variable vars (suc t)) ∷ holds (done_variable vars t) ∷ (dropped_written vars ++ matches_at vars t)) (no (done i (suc t)) ∷ yes (done i t) ∷ or_false log i (map (λ e. yes (matches i e (suc t))) events))
+by_match_reads names log n i t events vars time mark are =
     let matched : AllZip (IsNamed names) (map (λ p. holds (match_variable vars p t)) (range_with_len 0 (length events))) (map (λ e. yes (matches i e (suc t))) events) =
     zip_numbered (IsNamed names) (λ p. holds (match_variable vars p t)) (λ e. yes (matches i e (suc t))) 0 events
     (λ p e at. (subst (λ q. name_of names (match_variable vars q t) ≡ Some (matches i e (suc t))) (omega arith) (are.matching p e t at time), refl)) in
-    ordered_reads names (fails (done_variable vars (suc t)) ∷ holds (done_variable vars t) ∷ matches_at vars t) (no (done i (suc t)) ∷ yes (done i t) ∷ map (λ e. yes (matches i e (suc t))) events) (
+    ordered_reads names (fails (done_variable vars (suc t)) ∷ holds (done_variable vars t) ∷ (dropped_written vars ++ matches_at vars t)) (no (done i (suc t)) ∷ yes (done i t) ∷ or_false log i (map (λ e. yes (matches i e (suc t))) events)) (
       (are.being_done (suc t) (omega arith), refl),
       (
         (are.being_done t (omega arith), refl),
-        subst (λ k. AllZip (IsNamed names) (map (λ p. holds (match_variable vars p t)) (range_with_len 0 k)) (map (λ e. yes (matches i e (suc t))) events)) (sym are.links) matched,
+        dropped_reads names log i vars (matches_at vars t) (map (λ e. yes (matches i e (suc t))) events) mark are.being_false
+            (subst (λ k. AllZip (IsNamed names) (map (λ p. holds (match_variable vars p t)) (range_with_len 0 k)) (map (λ e. yes (matches i e (suc t))) events)) (sym are.links) matched),
       ),
     )
 
-step_reads : (net : Net) (log : Log) (n : ℕ) (names : List (ℕ × Name)) (i t : ℕ) (events : List ℕ) (vars : AlarmVars) → t < n → matching_events net log i ≡ events → AreAlarmNames names n i events vars →
+step_reads : (net : Net) (log : Log) (n : ℕ) (names : List (ℕ × Name)) (i t : ℕ) (events : List ℕ) (vars : AlarmVars) → t < n → matching_events net log i ≡ events → is_doubtful log i ≡ vars.doubtful → AreAlarmNames names n i events vars →
     AllZip (Reads net log n names) (step_by_first vars t) (done_clauses i events t)
-step_reads net log n names i t events vars time same are = (
+step_reads net log n names i t events vars time same mark are = (
   reads_two names (done_variable vars t) (done_variable vars (suc t)) false true _ _ (are.being_done t (omega arith)) (are.being_done (suc t) (omega arith)),
   (
-    subst (λ es. ReadsAs names (fails (done_variable vars (suc t)) ∷ holds (done_variable vars t) ∷ matches_at vars t) (no (done i (suc t)) ∷ yes (done i t) ∷ map (λ e. yes (matches i e (suc t))) es)) (sym same) (by_match_reads names n i t events vars time are),
+    subst (λ es. ReadsAs names (fails (done_variable vars (suc t)) ∷ holds (done_variable vars t) ∷ (dropped_written vars ++ matches_at vars t)) (no (done i (suc t)) ∷ yes (done i t) ∷ or_false log i (map (λ e. yes (matches i e (suc t))) es))) (sym same) (by_match_reads names log n i t events vars time mark are),
     subst (λ k. AllZip (Reads net log n names) (pairs_by_first (map (λ p. holds (match_variable vars p t)) (range_with_len 0 k))) (match_clauses i t events)) (sym are.links)
         (pairs_read net log n names i t (λ p. match_variable vars p t) 0 events (λ p e at. subst (λ q. name_of names (match_variable vars q t) ≡ Some (matches i e (suc t))) (omega arith) (are.matching p e t at time))),
   ),
 )
 
+-- ---- a false alarm isn't matched
+
+zip_maps : {A B : Type 0} (R : A → B → Type 0) (f : ℕ → A) (g : ℕ → B) (a k : ℕ) → ((t : ℕ) → t < a + k → R (f t) (g t)) → AllZip R (map f (range_with_len a k)) (map g (range_with_len a k))
+zip_maps R f g a zero each = tt
+zip_maps R f g a (suc k) each = (each a (omega arith), zip_maps R f g (a + 1) k (λ t h. each t (omega (arith, h))))
+
+zip_flat_numbered : {A B : Type 0} (R : A → B → Type 0) (f : ℕ → List A) (g : ℕ → List B) (a : ℕ) (xs : List ℕ) → ((p x : ℕ) → slice_get xs p ≡ Some x → AllZip R (f (a + p)) (g x)) → AllZip R (flat_map f (range_with_len a (length xs))) (flat_map g xs)
+zip_flat_numbered R f g a [] each = tt
+zip_flat_numbered R f g a (x ∷ xs) each =
+    zip_append R (f a) (g x) (flat_map f (range_with_len (a + 1) (length xs))) (flat_map g xs) (subst (λ k. AllZip R (f k) (g x)) (omega arith) (each 0 x refl))
+    (zip_flat_numbered R f g (a + 1) xs (λ p y at. subst (λ k. AllZip R (f k) (g y)) (omega arith) (each (suc p) y at)))
+
+pub real_reads : (net : Net) (log : Log) (n : ℕ) (names : List (ℕ × Name)) (i : ℕ) (events : List ℕ) (vars : AlarmVars) → AreAlarmNames names n i events vars → AllZip (Reads net log n names) (real_written vars) (real_clauses vars.doubtful i events n)
+real_reads net log n names i events vars are = by vars.doubtful refl
+  where
+    all : vars.doubtful ≡ true → AllZip (Reads net log n names) (reals_written vars vars.links) (flat_map (λ e. map (λ t. match_is_real i e t) (numbers_below n)) events)
+    all e =
+        subst (λ k. AllZip (Reads net log n names) (reals_written vars k) (flat_map (λ e. map (λ t. match_is_real i e t) (numbers_below n)) events)) (sym are.links)
+        (zip_flat_numbered (Reads net log n names) (λ link. real_of_link vars link vars.steps) (λ e. map (λ t. match_is_real i e t) (numbers_below n)) 0 events
+        (λ p x at. subst (λ k. AllZip (Reads net log n names) (real_of_link vars (0 + p) k) (map (λ t. match_is_real i x t) (numbers_below n))) (sym are.steps)
+        (zip_maps (Reads net log n names) (λ t. fails (match_variable vars (0 + p) t) ∷ fails (dropped_variable vars) ∷ []) (λ t. match_is_real i x t) 0 n
+        (λ t h. reads_two names (match_variable vars (0 + p) t) (dropped_variable vars) false false (matches i x (suc t)) (dropped i)
+        (subst (λ q. name_of names (match_variable vars q t) ≡ Some (matches i x (suc t))) (omega arith) (are.matching p x t at (omega (arith, h)))) (are.being_false e)))))
+
+    by : (b : Bool) → vars.doubtful ≡ b → AllZip (Reads net log n names) (real_written vars) (real_clauses vars.doubtful i events n)
+    by true e = let whole = all e in rw e whole
+    by false e = rw e tt
+
 -- all steps, after the two ends
 abbrev pub done_by_first : ℕ → AlarmVars → List Clause
 done_by_first ask vars = ends_written ask vars ++ flat_map (step_by_first vars) (numbers_below vars.steps)
 
-pub done_reads : (net : Net) (log : Log) (n : ℕ) (names : List (ℕ × Name)) (i ask : ℕ) (events : List ℕ) (vars : AlarmVars) → name_of names ask ≡ Some asked → matching_events net log i ≡ events → AreAlarmNames names n i events vars →
+pub done_reads : (net : Net) (log : Log) (n : ℕ) (names : List (ℕ × Name)) (i ask : ℕ) (events : List ℕ) (vars : AlarmVars) → name_of names ask ≡ Some asked → matching_events net log i ≡ events → is_doubtful log i ≡ vars.doubtful → AreAlarmNames names n i events vars →
     AllZip (Reads net log n names) (done_by_first ask vars) (not_done_first i ∷ done_if_asked i ∷ flat_map (done_clauses i events) (numbers_below n))
-done_reads net log n names i ask events vars asks same are =
+done_reads net log n names i ask events vars asks same mark are =
     let last : name_of names (done_variable vars vars.steps) ≡ Some (done i n) = subst (λ k. name_of names (done_variable vars k) ≡ Some (done i n)) (sym are.steps) (are.being_done n (omega arith)) in (
-      reads_one names (done_variable vars 0) false _ (are.being_done 0 (omega arith)),
+      not_first_reads names log n i events vars mark are,
       (
         reads_two names ask (done_variable vars vars.steps) false true _ _ asks last,
         subst (λ k. AllZip (Reads net log n names) (flat_map (step_by_first vars) (numbers_below k)) (flat_map (done_clauses i events) (numbers_below n))) (sym are.steps)
-            (zip_flat (Reads net log n names) (step_by_first vars) (done_clauses i events) 0 n (λ t h. step_reads net log n names i t events vars (omega (arith, h)) same are)),
+            (zip_flat (Reads net log n names) (step_by_first vars) (done_clauses i events) 0 n (λ t h. step_reads net log n names i t events vars (omega (arith, h)) same mark are)),
       ),
     )

@@ -6,14 +6,14 @@ use Rattle.log_order.specs.Log.{Log, Alarm}
 use Rattle.log_clauses.specs.Additions.{alarm_added, pair_added, with_addition}
 use Rattle.log_clauses.specs.LogClauses.{chain, matching_events}
 use Rattle.log_clauses.specs.LogNames.{added_names}
-use Rattle.log_clauses.proofs.Stay.{matching_same, chain_is}
+use Rattle.log_clauses.proofs.Stay.{matching_same, chain_is, doubtful_same}
 use Rattle.log_encode.proofs.CodeLemmas.{names_with_alarm}
 use Rattle.log_encode.proofs.Naming.{named_more}
 use Rattle.log_encode.proofs.TakenLemmas.{suits_new}
 use Rattle.log_encode.specs.AlarmState.{AlarmState}
 use Rattle.log_encode.specs.CodedLog.{CodedLog, code_names, code_after, addition_width, nameless, IsCodedLog}
 use Rattle.log_encode.specs.declared.taken.ChainEnd.{ChainEnd}
-use Rattle.log_encode.specs.View.{IsChainEnd, IsRest, AreEnds, IsAlarm, AreKept, coded_of}
+use Rattle.log_encode.specs.View.{IsChainEnd, IsRest, AreEnds, AreFalse, IsAlarm, AreKept, coded_of}
 use Rattle.log_encode.specs.Written.{has_any_label}
 use Rattle.prop_core.specs.declared.grid.Grid.{Grid}
 use Rattle.prop_core.specs.declared.lit.Lit.{Lit}
@@ -43,6 +43,8 @@ alarm_stays code new first i alarm coded above known is =
       within = omega (arith, is.within);
       matching = λ p e t at time. named_still code new first _ _ coded.each (is.matching p e t (subst (λ xs. slice_get xs p ≡ Some e) same at) time);
       being_done = λ t time. named_still code new first _ _ coded.each (is.being_done t time);
+      mark = doubtful_same code.log new i known ∙ is.mark;
+      being_false = λ h. named_still code new first _ _ coded.each (is.being_false h);
     }
 
 -- a chain that the new alarm doesn't join
@@ -85,12 +87,13 @@ ends_by_pair code i j first (end ∷ ends) above all = (
   ends_by_pair code i j first ends above all.1,
 )
 
-pub kept_by_pair : (code : CodedLog) (i j first : ℕ) (ends : List ChainEnd) (guards : List Lit) (alarms : List AlarmState) → IsCodedLog (code_after code (pair_added i j) first) → code.vars ≤ first → AreKept code ends guards alarms →
-    AreKept (code_after code (pair_added i j) first) ends guards alarms
-kept_by_pair code i j first ends guards alarms coded above kept = record {
+pub kept_by_pair : (code : CodedLog) (i j first : ℕ) (ends : List ChainEnd) (guards dropped : List Lit) (alarms : List AlarmState) → IsCodedLog (code_after code (pair_added i j) first) → code.vars ≤ first → AreKept code ends guards dropped alarms →
+    AreKept (code_after code (pair_added i j) first) ends guards dropped alarms
+kept_by_pair code i j first ends guards dropped alarms coded above kept = record {
   log = coded;
   chains = record { events = kept.chains.events; each = ends_by_pair code i j first ends above kept.chains.each; guarding = kept.chains.guarding };
-  alarms = λ k alarm at. let is = kept.alarms k alarm at in record { events = is.events; within = omega (arith, is.within); matching = is.matching; being_done = is.being_done };
+  false_ones = kept.false_ones;
+  alarms = λ k alarm at. let is = kept.alarms k alarm at in record { events = is.events; within = omega (arith, is.within); matching = is.matching; being_done = is.being_done; mark = is.mark; being_false = is.being_false };
 }
 
 -- ---- a new alarm among the others
@@ -107,25 +110,26 @@ get_snoc P (y ∷ xs) new each last (suc i) x at = get_snoc (λ k. P (suc k)) xs
 
 -- the code with an alarm more is the code after its addition
 pub coded_with_alarm : (net : Net) (grid : Grid) (asked vars first : ℕ) (alarms : List AlarmState) (pairs : List (ℕ × ℕ)) (alarm : AlarmState) → alarm.start ≡ first →
-    coded_of net grid asked (first + addition_width (coded_of net grid asked vars alarms pairs) (alarm_added (nameless alarm.labels))) (alarms ++ alarm ∷ []) pairs
-    ≡ code_after (coded_of net grid asked vars alarms pairs) (alarm_added (nameless alarm.labels)) first
+    coded_of net grid asked (first + addition_width (coded_of net grid asked vars alarms pairs) (alarm_added (nameless alarm.labels alarm.doubtful))) (alarms ++ alarm ∷ []) pairs
+    ≡ code_after (coded_of net grid asked vars alarms pairs) (alarm_added (nameless alarm.labels alarm.doubtful)) first
 coded_with_alarm net grid asked vars first alarms pairs alarm begins =
     let code = coded_of net grid asked vars alarms pairs in
-    let labels = map_snoc (λ (a : AlarmState). nameless a.labels) alarms alarm in
+    let labels = map_snoc (λ (a : AlarmState). nameless a.labels a.doubtful) alarms alarm in
     let starts = map_snoc (λ (a : AlarmState). a.start) alarms alarm ∙ ap (λ v. map (λ (a : AlarmState). a.start) alarms ++ v ∷ []) begins in
-    ap (λ xs. let made : CodedLog = record { net = net; grid = grid; log = record { alarms = xs; pairs = pairs }; asked = asked; starts = map (λ (a : AlarmState). a.start) (alarms ++ alarm ∷ []); vars = first + addition_width code (alarm_added (nameless alarm.labels)) } in made) labels
-    ∙ ap (λ xs. let made : CodedLog = record { net = net; grid = grid; log = record { alarms = map (λ (a : AlarmState). nameless a.labels) alarms ++ nameless alarm.labels ∷ []; pairs = pairs }; asked = asked; starts = xs; vars = first + addition_width code (alarm_added (nameless alarm.labels)) } in made) starts
+    ap (λ xs. let made : CodedLog = record { net = net; grid = grid; log = record { alarms = xs; pairs = pairs }; asked = asked; starts = map (λ (a : AlarmState). a.start) (alarms ++ alarm ∷ []); vars = first + addition_width code (alarm_added (nameless alarm.labels alarm.doubtful)) } in made) labels
+    ∙ ap (λ xs. let made : CodedLog = record { net = net; grid = grid; log = record { alarms = map (λ (a : AlarmState). nameless a.labels a.doubtful) alarms ++ nameless alarm.labels alarm.doubtful ∷ []; pairs = pairs }; asked = asked; starts = xs; vars = first + addition_width code (alarm_added (nameless alarm.labels alarm.doubtful)) } in made) starts
 
-pub kept_with_alarm : (code : CodedLog) (first : ℕ) (ends after : List ChainEnd) (guards then : List Lit) (alarms : List AlarmState) (alarm : AlarmState) → length code.log.alarms ≡ length alarms →
-    IsCodedLog (code_after code (alarm_added (nameless alarm.labels)) first) → code.vars ≤ first → AreKept code ends guards alarms →
-    AreEnds (code_after code (alarm_added (nameless alarm.labels)) first) after then → IsAlarm (code_after code (alarm_added (nameless alarm.labels)) first) (length code.log.alarms) alarm →
-    AreKept (code_after code (alarm_added (nameless alarm.labels)) first) after then (alarms ++ alarm ∷ [])
-kept_with_alarm code first ends after guards then alarms alarm count coded above kept chains is = record {
+pub kept_with_alarm : (code : CodedLog) (first : ℕ) (ends after : List ChainEnd) (guards then dropped later : List Lit) (alarms : List AlarmState) (alarm : AlarmState) → length code.log.alarms ≡ length alarms →
+    IsCodedLog (code_after code (alarm_added (nameless alarm.labels alarm.doubtful)) first) → code.vars ≤ first → AreKept code ends guards dropped alarms →
+    AreEnds (code_after code (alarm_added (nameless alarm.labels alarm.doubtful)) first) after then → AreFalse (code_after code (alarm_added (nameless alarm.labels alarm.doubtful)) first) later → IsAlarm (code_after code (alarm_added (nameless alarm.labels alarm.doubtful)) first) (length code.log.alarms) alarm →
+    AreKept (code_after code (alarm_added (nameless alarm.labels alarm.doubtful)) first) after then later (alarms ++ alarm ∷ [])
+kept_with_alarm code first ends after guards then dropped later alarms alarm count coded above kept chains false_ones is = record {
   log = coded;
   chains = chains;
-  alarms = get_snoc (IsAlarm (code_after code (alarm_added (nameless alarm.labels)) first)) alarms alarm
-      (λ i a at. alarm_stays code (nameless alarm.labels) first i a kept.log above (omega (arith, count, got_within alarms i a at)) (kept.alarms i a at))
-      (subst (λ k. IsAlarm (code_after code (alarm_added (nameless alarm.labels)) first) k alarm) count is);
+  false_ones = false_ones;
+  alarms = get_snoc (IsAlarm (code_after code (alarm_added (nameless alarm.labels alarm.doubtful)) first)) alarms alarm
+      (λ i a at. alarm_stays code (nameless alarm.labels alarm.doubtful) first i a kept.log above (omega (arith, count, got_within alarms i a at)) (kept.alarms i a at))
+      (subst (λ k. IsAlarm (code_after code (alarm_added (nameless alarm.labels alarm.doubtful)) first) k alarm) count is);
 }
   where
     got_within : (xs : List AlarmState) (i : ℕ) (a : AlarmState) → slice_get xs i ≡ Some a → i < length xs

@@ -1,5 +1,5 @@
 -- The events that a new alarm may stand for, found among the ends of chains.
-use Rattle.std.proofs.Common.{◌≡◌, ℕ, suc, ◌+◌, ◌*◌, ◌∙◌, Bool, true, false, List, [], ◌∷◌, ◌++◌, length, map, filter, Option, Some, None, refl, sym, ap, subst, arith, slice_get, option_map, unwrap_or, length-append}
+use Rattle.std.proofs.Common.{◌≡◌, ℕ, suc, ◌+◌, ◌*◌, ◌≤◌, ◌∙◌, Bool, true, false, List, [], ◌∷◌, ◌++◌, length, map, filter, Option, Some, None, refl, sym, ap, subst, arith, slice_get, option_map, unwrap_or, length-append}
 use Rattle.std.specs.Prelude.{is_some, bytes_eq}
 use Rattle.std.specs.List.{list_any}
 use Rattle.std.specs.Option.{option_map_or}
@@ -8,9 +8,9 @@ use Rattle.log_order.specs.Log.{Log, Alarm}
 use Rattle.log_clauses.specs.Additions.{alarm_added, with_addition}
 use Rattle.log_clauses.specs.Drafts.{taken_events}
 use Rattle.log_clauses.specs.LogClauses.{chain, observable_events}
-use Rattle.log_clauses.specs.LogNames.{added_names, link_names}
+use Rattle.log_clauses.specs.LogNames.{added_names, alarm_names, false_names, link_names}
 use Rattle.log_clauses.proofs.Drafts.{flat_length}
-use Rattle.log_encode.specs.AlarmVariables.{variable_count}
+use Rattle.log_encode.specs.AlarmVariables.{variable_count, false_width}
 use Rattle.log_encode.specs.CodedLog.{nameless}
 use Rattle.log_encode.specs.declared.taken.ChainEnd.{ChainEnd}
 use Rattle.log_encode.specs.declared.taken.Taken.{Taken}
@@ -60,12 +60,12 @@ taken_is_filter net labels (end ∷ ends) = by (has_any_label net labels end.eve
     by true e later = rw e (ap (λ rest. end.event ∷ rest) later)
     by false e later = rw e later
 
-pub taken_are_events : (net : Net) (log : Log) (labels : List (List ℕ)) (ends : List ChainEnd) → map (λ (end : ChainEnd). end.event) ends ≡ observable_events net →
-    map (λ (taken : Taken). taken.event) (taken_from net labels ends) ≡ taken_events net log (nameless labels)
-taken_are_events net log labels ends is =
+pub taken_are_events : (net : Net) (log : Log) (labels : List (List ℕ)) (maybe : Bool) (ends : List ChainEnd) → map (λ (end : ChainEnd). end.event) ends ≡ observable_events net →
+    map (λ (taken : Taken). taken.event) (taken_from net labels ends) ≡ taken_events net log (nameless labels maybe)
+taken_are_events net log labels maybe ends is =
     taken_is_filter net labels ends ∙ ap (filter (has_any_label net labels)) is
     ∙ filter_within (has_any_label net labels) (λ e. is_some (label_of net e)) (numbers_below (length net.events)) (labelled_is_seen net labels)
-    ∙ sym (filter_alike (λ e. is_matching net (with_addition log (alarm_added (nameless labels))) e (length log.alarms)) (has_any_label net labels) (numbers_below (length net.events)) (suits_new net log (nameless labels)))
+    ∙ sym (filter_alike (λ e. is_matching net (with_addition log (alarm_added (nameless labels maybe))) e (length log.alarms)) (has_any_label net labels) (numbers_below (length net.events)) (suits_new net log (nameless labels maybe)))
 
 pub map_count : {X Y : Type 0} (f : X → Y) (xs : List X) → length (map f xs) ≡ length xs
 map_count f [] = refl
@@ -79,14 +79,24 @@ two_each n i e k =
     let pairs = flat_length (λ t. matches i e (suc t) ∷ unmatched e (suc k) (suc t) ∷ []) (numbers_below n) 2 (λ t. refl) in
     omega (arith, pairs, subst (λ m. m * 2 ≡ n * 2) (sym (numbers_count n)) refl)
 
+false_count : (b : Bool) (i : ℕ) → length (false_names b i) ≡ false_width b
+false_count true i = refl
+false_count false i = refl
+
+pub false_is_small : (b : Bool) → false_width b ≤ 1
+false_is_small true = omega arith
+false_is_small false = omega arith
+
 -- how many variables a new alarm takes
-pub width_is : (net : Net) (log : Log) (n : ℕ) (labels : List (List ℕ)) (takes : List Taken) → map (λ (taken : Taken). taken.event) takes ≡ taken_events net log (nameless labels) →
-    length (added_names net log n (alarm_added (nameless labels))) ≡ variable_count (length takes) n
-width_is net log n labels takes is =
-    let new = nameless labels in
+pub width_is : (net : Net) (log : Log) (n : ℕ) (labels : List (List ℕ)) (maybe : Bool) (takes : List Taken) → map (λ (taken : Taken). taken.event) takes ≡ taken_events net log (nameless labels maybe) →
+    length (added_names net log n (alarm_added (nameless labels maybe))) ≡ variable_count (length takes) n + false_width maybe
+width_is net log n labels maybe takes is =
+    let new = nameless labels maybe in
     let links = flat_length (λ e. link_names n (length log.alarms) e (length (chain net log e))) (taken_events net log new) (1 + n * 2) (λ e. two_each n (length log.alarms) e (length (chain net log e))) in
     let count : length (taken_events net log new) ≡ length takes = ap length (sym is) ∙ map_count (λ (taken : Taken). taken.event) takes in
     let dones : length (map (λ t. done (length log.alarms) t) (numbers_below (suc n))) ≡ suc n = map_count (λ t. done (length log.alarms) t) (numbers_below (suc n)) ∙ numbers_count (suc n) in
-    length-append (flat_map (λ e. link_names n (length log.alarms) e (length (chain net log e))) (taken_events net log new)) (map (λ t. done (length log.alarms) t) (numbers_below (suc n)))
+    length-append (alarm_names net log n new) (false_names maybe (length log.alarms))
+    ∙ ap (λ k. length (alarm_names net log n new) + k) (false_count maybe (length log.alarms))
+    ∙ ap (λ k. k + false_width maybe) (length-append (flat_map (λ e. link_names n (length log.alarms) e (length (chain net log e))) (taken_events net log new)) (map (λ t. done (length log.alarms) t) (numbers_below (suc n)))
     ∙ ap (λ k. k + length (map (λ t. done (length log.alarms) t) (numbers_below (suc n)))) (links ∙ ap (λ k. k * (1 + n * 2)) count)
-    ∙ ap (λ k. length takes * (1 + n * 2) + k) dones
+    ∙ ap (λ k. length takes * (1 + n * 2) + k) dones)

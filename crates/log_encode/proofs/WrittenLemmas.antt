@@ -1,9 +1,9 @@
 -- The laws on what was written for a log.
-use Rattle.std.proofs.Common.{◌≡◌, ◌↔◌, ◌⊎◌, inl, inr, ℕ, zero, suc, List, [], ◌∷◌, ◌++◌, length, map, refl, sym, ap, subst, arith, Contains, slice_get, option_map, unwrap_or}
-use Rattle.std.specs.List.{AllZip}
-use Rattle.std.specs.Prelude.{IsSomeAnd}
+use Rattle.std.proofs.Common.{◌≡◌, ◌↔◌, ◌⊎◌, inl, inr, ℕ, zero, suc, Bool, false, ◌||◌, List, [], ◌∷◌, ◌++◌, length, map, refl, sym, ap, subst, arith, Contains, slice_get, option_map, unwrap_or}
+use Rattle.std.specs.List.{AllZip, AllByRecursion}
+use Rattle.std.specs.Prelude.{IsSomeAnd, IsTrue}
 use Rattle.des_net.specs.Network.{Net, label_of}
-use Rattle.log_order.specs.Log.{Log, Alarm, ListsOnce, labels_of}
+use Rattle.log_order.specs.Log.{Log, Alarm, ListsOnce, labels_of, is_doubtful}
 use Rattle.log_clauses.specs.Additions.{Addition, alarm_added, pair_added}
 use Rattle.log_clauses.specs.LogCodes.{AreAmong}
 use Rattle.log_clauses.specs.LogNames.{added_names}
@@ -15,7 +15,7 @@ use Rattle.log_encode.proofs.TakenLemmas.{map_count}
 use Rattle.log_encode.specs.CodedLog.{CodedLog, code_names, read_names, code_after, without_names, nameless, IsCodedLog}
 use Rattle.log_encode.specs.WrittenLog.{WrittenGrows, WrittenIsExact, NamesDontMatter}
 use Rattle.prop_core.specs.VariableNames.{Name}
-use Rattle.replay.specs.Explanation.{Shows, Linearises, observables}
+use Rattle.replay.specs.Explanation.{Entry, alarms_of, real_alarms, Shows, Linearises, observables}
 use Rattle.run_clauses.specs.LaidOut.{laid_out, event_block}
 
 -- the names of a code are among those of a longer one
@@ -51,7 +51,15 @@ written_is_exact code written guards is read =
 labels_same : (log : Log) (i : ℕ) → labels_of (without_names log) i ≡ labels_of log i
 labels_same log i = by log.alarms i
   where
-    by : (alarms : List Alarm) (k : ℕ) → unwrap_or (option_map (λ (a : Alarm). a.labels) (slice_get (map (λ (a : Alarm). nameless a.labels) alarms) k)) [] ≡ unwrap_or (option_map (λ (a : Alarm). a.labels) (slice_get alarms k)) []
+    by : (alarms : List Alarm) (k : ℕ) → unwrap_or (option_map (λ (a : Alarm). a.labels) (slice_get (map (λ (a : Alarm). nameless a.labels a.doubtful) alarms) k)) [] ≡ unwrap_or (option_map (λ (a : Alarm). a.labels) (slice_get alarms k)) []
+    by [] k = refl
+    by (x ∷ alarms) zero = refl
+    by (x ∷ alarms) (suc k) = by alarms k
+
+doubt_same : (log : Log) (i : ℕ) → is_doubtful (without_names log) i ≡ is_doubtful log i
+doubt_same log i = by log.alarms i
+  where
+    by : (alarms : List Alarm) (k : ℕ) → unwrap_or (option_map (λ (a : Alarm). a.doubtful) (slice_get (map (λ (a : Alarm). nameless a.labels a.doubtful) alarms) k)) false ≡ unwrap_or (option_map (λ (a : Alarm). a.doubtful) (slice_get alarms k)) false
     by [] k = refl
     by (x ∷ alarms) zero = refl
     by (x ∷ alarms) (suc k) = by alarms k
@@ -68,12 +76,26 @@ zip_same net log (e ∷ es) (i ∷ is) =
     (λ h. (subst (λ P. P) (shows_same net log e i) h.0, rest.0 h.1), λ h. (subst (λ P. P) (sym (shows_same net log e i)) h.0, rest.1 h.1))
 
 count_same : (log : Log) → length (without_names log).alarms ≡ length log.alarms
-count_same log = map_count (λ (a : Alarm). nameless a.labels) log.alarms
+count_same log = map_count (λ (a : Alarm). nameless a.labels a.doubtful) log.alarms
 
-linear_same : (net : Net) (log : Log) (word order : List ℕ) → Linearises net log word order ↔ Linearises net (without_names log) word order
+stand_same : {p q : Entry → Bool} (order : List Entry) → ((entry : Entry) → IsTrue (p entry) → IsTrue (q entry)) → AllByRecursion (λ entry. IsTrue (p entry)) order → AllByRecursion (λ entry. IsTrue (q entry)) order
+stand_same [] same all = tt
+stand_same (entry ∷ order) same all = (same entry all.0, stand_same order same all.1)
+
+linear_same : (net : Net) (log : Log) (word : List ℕ) (order : List Entry) → Linearises net log word order ↔ Linearises net (without_names log) word order
 linear_same net log word order = (
-  λ h. record { complete = subst (λ k. ListsOnce k order) (sym (count_same log)) h.complete; shown = (zip_same net log (observables net word) order).0 h.shown; kept = h.kept },
-  λ h. record { complete = subst (λ k. ListsOnce k order) (count_same log) h.complete; shown = (zip_same net log (observables net word) order).1 h.shown; kept = h.kept },
+  λ h. record {
+    complete = subst (λ k. ListsOnce k (alarms_of order)) (sym (count_same log)) h.complete;
+    doubted = stand_same order (λ entry. subst (λ b. IsTrue (entry.real || b)) (sym (doubt_same log entry.alarm))) h.doubted;
+    shown = (zip_same net log (observables net word) (real_alarms order)).0 h.shown;
+    kept = h.kept;
+  },
+  λ h. record {
+    complete = subst (λ k. ListsOnce k (alarms_of order)) (count_same log) h.complete;
+    doubted = stand_same order (λ entry. subst (λ b. IsTrue (entry.real || b)) (doubt_same log entry.alarm)) h.doubted;
+    shown = (zip_same net log (observables net word) (real_alarms order)).1 h.shown;
+    kept = h.kept;
+  },
 )
 
 pub names_dont_matter : NamesDontMatter

@@ -8,12 +8,13 @@ use Rattle.log_encode.specs.Written.{link_of}
 
 pub record AlarmState : Type 0 where
   pub labels : List (List ℕ)
+  pub doubtful : Bool
   pub takes : List Taken
   pub start : ℕ
 
 -- where its variables stand, for so many steps
 abbrev pub variables_of : ℕ → AlarmState → AlarmVars
-variables_of steps alarm = record { start = alarm.start; links = length alarm.takes; steps = steps }
+variables_of steps alarm = record { start = alarm.start; links = length alarm.takes; steps = steps; doubtful = alarm.doubtful }
 
 -- it stands for the event in the step after t steps, by the truth of its variables
 abbrev pub is_matched : ℕ → AlarmState → (ℕ → Bool) → ℕ → ℕ → Bool

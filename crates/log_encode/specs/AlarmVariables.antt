@@ -1,5 +1,5 @@
 -- The variables of one alarm, in a row.
-use Rattle.std.specs.Prelude.{ℕ, suc, ◌+◌, ◌*◌, ◌≤◌}
+use Rattle.std.specs.Prelude.{ℕ, suc, ◌+◌, ◌*◌, ◌≤◌, Bool, true, false}
 use Rattle.des_base.specs.declared.TheConstants.{VAR_LIMIT}
 use Rattle.log_encode.specs.declared.alarm_vars.AlarmVars.{AlarmVars}
 
@@ -7,9 +7,17 @@ use Rattle.log_encode.specs.declared.alarm_vars.AlarmVars.{AlarmVars}
 abbrev pub link_width : ℕ → ℕ
 link_width steps = 1 + steps * 2
 
--- how many an alarm has
+-- how many a certain alarm has
 abbrev pub variable_count : ℕ → ℕ → ℕ
 variable_count links steps = links * link_width steps + suc steps
+
+-- and how many more a doubtful one
+abbrev pub false_width : Bool → ℕ
+false_width true = 1
+false_width false = 0
+
+abbrev pub alarm_width : AlarmVars → ℕ
+alarm_width vars = variable_count vars.links vars.steps + false_width vars.doubtful
 
 -- the first variable of a link ends the chain after it
 abbrev pub closed_variable : AlarmVars → ℕ → ℕ
@@ -26,6 +34,10 @@ passed_variable vars link t = vars.start + (link * link_width vars.steps + suc (
 abbrev pub done_variable : AlarmVars → ℕ → ℕ
 done_variable vars t = vars.start + (vars.links * link_width vars.steps + t)
 
+-- and at the end, for a doubtful alarm, whether it is false
+abbrev pub dropped_variable : AlarmVars → ℕ
+dropped_variable vars = vars.start + (vars.links * link_width vars.steps + suc vars.steps)
+
 -- all are within the limit of variables
 abbrev pub IsWithin : AlarmVars → Type 0
-IsWithin vars = vars.start + variable_count vars.links vars.steps ≤ VAR_LIMIT
+IsWithin vars = vars.start + alarm_width vars ≤ VAR_LIMIT

@@ -1,14 +1,15 @@
 -- The code of an alarm log: which variables stand for the names of the log.
-use Rattle.std.specs.Prelude.{ℕ, ◌+◌, ◌*◌, ◌≡◌, ◌≤◌, List, [], ◌∷◌, ◌++◌, map, length}
+use Rattle.std.specs.Prelude.{Bool, ℕ, ◌+◌, ◌*◌, ◌≡◌, ◌≤◌, List, [], ◌∷◌, ◌++◌, map, length}
 use Rattle.std.specs.List.{AllByRecursion}
 use Rattle.des_base.specs.declared.TheConstants.{VAR_LIMIT}
 use Rattle.des_net.specs.Network.{Net}
 use Rattle.log_order.specs.Log.{Log, Alarm, no_log}
 use Rattle.log_clauses.specs.Additions.{Addition, alarm_added, pair_added, with_addition}
 use Rattle.log_clauses.specs.BesideEvents.{with_events}
+use Rattle.log_clauses.specs.LogClauses.{doubtful_alarms}
 use Rattle.log_clauses.specs.LogNames.{added_names, first_names, AreLogNames}
 use Rattle.prop_core.specs.declared.grid.Grid.{Grid}
-use Rattle.prop_core.specs.VariableNames.{Name}
+use Rattle.prop_core.specs.VariableNames.{Name, NamedLiteral, yes, dropped}
 use Rattle.run_clauses.specs.LaidOut.{laid_out}
 
 -- The network, the variables of its events, and the log, whose alarms have no names here; the variable that asks for the log, which is its first, the first variable of each alarm, and a number above all its variables.
@@ -20,13 +21,13 @@ pub record CodedLog : Type 0 where
   pub starts : List ℕ
   pub vars : ℕ
 
--- an alarm with these labels, and without a name
-abbrev pub nameless : List (List ℕ) → Alarm
-nameless labels = record { name = []; labels = labels }
+-- an alarm with these labels, certain or doubtful, and without a name
+abbrev pub nameless : List (List ℕ) → Bool → Alarm
+nameless labels doubtful = record { name = []; labels = labels; doubtful = doubtful }
 
 -- the log, its alarms without their names
 abbrev pub without_names : Log → Log
-without_names log = record { alarms = map (λ (alarm : Alarm). nameless alarm.labels) log.alarms; pairs = log.pairs }
+without_names log = record { alarms = map (λ (alarm : Alarm). nameless alarm.labels alarm.doubtful) log.alarms; pairs = log.pairs }
 
 -- ---- its variables
 
@@ -44,6 +45,10 @@ code_names code = laid_out code.asked (first_names code.net) ++ names_from code.
 -- those that its clauses have: of the events too
 abbrev pub read_names : CodedLog → List (ℕ × Name)
 read_names code = with_events code.net code.grid.steps code.grid.first (code_names code)
+
+-- that an alarm is false, for each doubtful one
+abbrev pub false_literals : Log → List NamedLiteral
+false_literals log = map (λ i. yes (dropped i)) (doubtful_alarms log)
 
 -- ---- how it grows
 

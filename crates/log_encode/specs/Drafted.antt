@@ -1,10 +1,11 @@
 -- A draft of an addition to the log, and what stands ready for it.
-use Rattle.std.specs.Prelude.{◌≡◌, ℕ, ◌+◌, ◌*◌, ◌≤◌, List, length}
+use Rattle.std.specs.Prelude.{◌≡◌, ℕ, Bool, true, false, ◌+◌, ◌*◌, ◌<◌, ◌≤◌, List, length}
 use Rattle.log_clauses.specs.Additions.{Addition, alarm_added, pair_added, with_addition}
 use Rattle.log_clauses.specs.LogCodes.{IsNamedAdded}
 use Rattle.log_encode.specs.CodedLog.{CodedLog, code_after, addition_width, read_names}
 use Rattle.prop_core.specs.Clauses.{Clause}
 use Rattle.prop_core.specs.NamedClauses.{IsCode}
+use Rattle.prop_core.specs.VariableNames.{Name, done}
 use Rattle.replay.specs.QuestionSize.{question_size}
 
 -- a code, and for how many more alarms and pairs there is room in it
@@ -34,3 +35,9 @@ pub record IsDraftOf (code : CodedLog) (addition : Addition) (first : ℕ) (draf
 abbrev pub HasRoomFor : LogCodeState → Addition → Type 0
 HasRoomFor state (alarm_added new) = 1 ≤ state.spare_alarms
 HasRoomFor state (pair_added i j) = 1 ≤ state.spare_pairs
+
+-- the least number of steps within which alarm i is done
+pub record IsStepOf (n : ℕ) (value : Name → Bool) (i step : ℕ) : Type 0 where
+  pub within : step ≤ n
+  pub is : value (done i step) ≡ true
+  pub least : (t : ℕ) → t < step → value (done i t) ≡ false

@@ -1,5 +1,5 @@
 -- What a log's code and a draft are, and what their fields keep.
-use Rattle.std.specs.Prelude.{◌≡◌, ℕ, suc, ◌+◌, ◌*◌, ◌<◌, ◌≤◌, ⊤, List, map, length, Option, Some, None, slice_get, vec_len, vec_capacity}
+use Rattle.std.specs.Prelude.{◌≡◌, ℕ, suc, ◌+◌, ◌*◌, ◌<◌, ◌≤◌, ⊤, true, List, map, length, Option, Some, None, slice_get, vec_len, vec_capacity}
 use Rattle.std.specs.List.{AllByRecursion}
 use Rattle.des_base.specs.declared.TheConstants.{VAR_LIMIT}
 use Rattle.des_net.specs.Network.{Net}
@@ -12,13 +12,15 @@ use Rattle.log_encode.specs.declared.log_code.LogCode.TheInside.{Inside}
 use Rattle.log_encode.specs.declared.taken.ChainEnd.{ChainEnd}
 use Rattle.log_encode.specs.declared.taken.Taken.{Taken}
 use Rattle.log_encode.specs.AlarmState.{AlarmState, variables_of}
-use Rattle.log_encode.specs.AlarmVariables.{match_variable, done_variable, variable_count}
-use Rattle.log_encode.specs.CodedLog.{CodedLog, nameless, code_names, IsCodedLog, code_after, addition_width}
+use Rattle.log_encode.specs.AlarmVariables.{match_variable, done_variable, dropped_variable, alarm_width}
+use Rattle.log_encode.specs.CodedLog.{CodedLog, nameless, code_names, false_literals, IsCodedLog, code_after, addition_width}
 use Rattle.log_encode.specs.Drafted.{LogCodeState, DraftState}
 use Rattle.log_encode.specs.Written.{guards_of}
+use Rattle.log_clauses.specs.LogNames.{ReadsInOrder}
+use Rattle.log_order.specs.Log.{is_doubtful}
 use Rattle.prop_core.specs.declared.grid.Grid.{Grid}
 use Rattle.prop_core.specs.declared.lit.Lit.{Lit}
-use Rattle.prop_core.specs.VariableNames.{name_of, matches, done, closed, remaining}
+use Rattle.prop_core.specs.VariableNames.{name_of, matches, done, dropped, closed, remaining}
 
 -- ---- the code
 
@@ -26,7 +28,7 @@ abbrev pub coded_of : Net → Grid → ℕ → ℕ → List AlarmState → List 
 coded_of net grid asked vars alarms pairs = record {
   net = net;
   grid = grid;
-  log = record { alarms = map (λ (alarm : AlarmState). nameless alarm.labels) alarms; pairs = pairs };
+  log = record { alarms = map (λ (alarm : AlarmState). nameless alarm.labels alarm.doubtful) alarms; pairs = pairs };
   asked = asked;
   starts = map (λ (alarm : AlarmState). alarm.start) alarms;
   vars = vars;
@@ -57,26 +59,33 @@ pub record AreEnds (code : CodedLog) (ends : List ChainEnd) (guards : List Lit) 
 -- alarm i takes the events that it may stand for, and its variables are its own
 pub record IsAlarm (code : CodedLog) (i : ℕ) (alarm : AlarmState) : Type 0 where
   pub events : map (λ (taken : Taken). taken.event) alarm.takes ≡ matching_events code.net code.log i
-  pub within : alarm.start + variable_count (length alarm.takes) code.grid.steps ≤ code.vars
+  pub within : alarm.start + alarm_width (variables_of code.grid.steps alarm) ≤ code.vars
   pub matching : (p e t : ℕ) → slice_get (matching_events code.net code.log i) p ≡ Some e → t < code.grid.steps →
       name_of (code_names code) (match_variable (variables_of code.grid.steps alarm) p t) ≡ Some (matches i e (suc t))
   pub being_done : (t : ℕ) → t ≤ code.grid.steps → name_of (code_names code) (done_variable (variables_of code.grid.steps alarm) t) ≡ Some (done i t)
+  pub mark : is_doubtful code.log i ≡ alarm.doubtful
+  pub being_false : alarm.doubtful ≡ true → name_of (code_names code) (dropped_variable (variables_of code.grid.steps alarm)) ≡ Some (dropped i)
+
+-- these say of the doubtful alarms, one after another, that they are false
+abbrev pub AreFalse : CodedLog → List Lit → Type 0
+AreFalse code lits = ReadsInOrder (code_names code) lits (false_literals code.log)
 
 -- what is kept beside a code
-pub record AreKept (code : CodedLog) (ends : List ChainEnd) (guards : List Lit) (states : List AlarmState) : Type 0 where
+pub record AreKept (code : CodedLog) (ends : List ChainEnd) (guards dropped : List Lit) (states : List AlarmState) : Type 0 where
   pub log : IsCodedLog code
   pub chains : AreEnds code ends guards
+  pub false_ones : AreFalse code dropped
   pub alarms : (i : ℕ) (alarm : AlarmState) → slice_get states i ≡ Some alarm → IsAlarm code i alarm
 
 pub record IsLogCode (a : Inside) : Type 0 where
-  pub kept : AreKept (coded a) a.ends.items a.guards.items a.alarms.items
+  pub kept : AreKept (coded a) a.ends.items a.guards.items a.dropped.items a.alarms.items
   pub room_for_alarms : vec_len a.alarms + a.spare_alarms ≤ vec_capacity a.alarms
   pub room_for_pairs : vec_len a.pairs + a.spare_pairs ≤ vec_capacity a.pairs
 
 -- ---- a draft
 
 abbrev pub addition_of : Change → Addition
-addition_of (Alarm alarm ends guards) = alarm_added (nameless alarm.labels)
+addition_of (Alarm alarm ends guards lits) = alarm_added (nameless alarm.labels alarm.doubtful)
 addition_of (Pair first second) = pair_added first second
 
 abbrev pub draft_view : DraftInside → DraftState
@@ -84,10 +93,11 @@ draft_view a = record { code = a.code.value.code; addition = addition_of a.chang
 
 -- the alarm, the ends of chains and the guards are those of the longer log
 abbrev pub IsReadyChange : CodedLog → ℕ → Change → Type 0
-IsReadyChange code first (Alarm alarm ends guards) =
+IsReadyChange code first (Alarm alarm ends guards lits) =
     (alarm.start ≡ first)
-    × IsAlarm (code_after code (alarm_added (nameless alarm.labels)) first) (length code.log.alarms) alarm
-    × AreEnds (code_after code (alarm_added (nameless alarm.labels)) first) ends.items guards.items
+    × IsAlarm (code_after code (alarm_added (nameless alarm.labels alarm.doubtful)) first) (length code.log.alarms) alarm
+    × AreEnds (code_after code (alarm_added (nameless alarm.labels alarm.doubtful)) first) ends.items guards.items
+    × AreFalse (code_after code (alarm_added (nameless alarm.labels alarm.doubtful)) first) lits.items
 IsReadyChange code first (Pair i j) = ⊤
 
 pub record IsReadyDraft (a : DraftInside) : Type 0 where

@@ -14,7 +14,7 @@ use Rattle.log_encode.specs.declared.alarm_vars.AlarmVars.{AlarmVars}
 use Rattle.log_encode.specs.declared.taken.Taken.{Taken}
 use Rattle.log_encode.specs.declared.taken.ChainEnd.{ChainEnd}
 use Rattle.log_encode.specs.declared.writing.LinkVars.{LinkVars}
-use Rattle.log_encode.specs.AlarmVariables.{closed_variable, match_variable, passed_variable, done_variable}
+use Rattle.log_encode.specs.AlarmVariables.{closed_variable, match_variable, passed_variable, done_variable, dropped_variable}
 
 abbrev pub holds : ℕ → Lit
 holds var = record { var = var; positive = true }
@@ -90,22 +90,36 @@ links_written grid vars link (taken ∷ takes) = steps_of_link grid vars link ta
 
 -- ---- whether the alarm is matched
 
+-- that it is false, where it is doubtful
+abbrev pub dropped_written : AlarmVars → List Lit
+dropped_written vars = if vars.doubtful then holds (dropped_variable vars) ∷ [] else []
+
 abbrev pub matches_at : AlarmVars → ℕ → List Lit
 matches_at vars t = map (λ link. holds (match_variable vars link t)) (numbers_below vars.links)
 
 abbrev pub step_written : AlarmVars → ℕ → List Clause
 step_written vars t = (fails (done_variable vars t) ∷ holds (done_variable vars (suc t)) ∷ [])
-    ∷ (fails (done_variable vars (suc t)) ∷ holds (done_variable vars t) ∷ matches_at vars t) ∷ excluded_pairs (matches_at vars t)
+    ∷ (fails (done_variable vars (suc t)) ∷ holds (done_variable vars t) ∷ (dropped_written vars ++ matches_at vars t)) ∷ excluded_pairs (matches_at vars t)
 
 abbrev pub ends_written : ℕ → AlarmVars → List Clause
-ends_written asked vars = (fails (done_variable vars 0) ∷ []) ∷ (fails asked ∷ holds (done_variable vars vars.steps) ∷ []) ∷ []
+ends_written asked vars = (fails (done_variable vars 0) ∷ dropped_written vars) ∷ (fails asked ∷ holds (done_variable vars vars.steps) ∷ []) ∷ []
 
 abbrev pub done_written : ℕ → AlarmVars → List Clause
 done_written asked vars = ends_written asked vars ++ flat_map (step_written vars) (numbers_below vars.steps)
 
+-- a false alarm isn't matched to the event of a link in any of so many steps
+abbrev pub real_of_link : AlarmVars → ℕ → ℕ → List Clause
+real_of_link vars link n = map (λ t. fails (match_variable vars link t) ∷ fails (dropped_variable vars) ∷ []) (numbers_below n)
+
+abbrev pub reals_written : AlarmVars → ℕ → List Clause
+reals_written vars links = flat_map (λ link. real_of_link vars link vars.steps) (numbers_below links)
+
+abbrev pub real_written : AlarmVars → List Clause
+real_written vars = if vars.doubtful then reals_written vars vars.links else []
+
 -- all that is written of an alarm
 abbrev pub alarm_written : Grid → ℕ → AlarmVars → List Taken → List Clause
-alarm_written grid asked vars takes = links_written grid vars 0 takes ++ done_written asked vars
+alarm_written grid asked vars takes = (links_written grid vars 0 takes ++ done_written asked vars) ++ real_written vars
 
 -- ---- a pair, and the empty log
 
@@ -117,9 +131,12 @@ first_ends var (e ∷ events) = record { event = e; closed = var; last = None } 
 abbrev pub guards_of : ℕ → List ChainEnd → List Lit
 guards_of asked ends = holds asked ∷ map (λ (end : ChainEnd). holds end.closed) ends
 
--- that the first alarm, whose done variables begin here, is matched no later than the second
+-- that the first alarm, whose done variables begin here, is done no later than the second, for fewer than so many steps
+abbrev pub pair_first : ℕ → ℕ → ℕ → ℕ → List Clause
+pair_first asked first second k = map (λ t. fails asked ∷ fails (second + t) ∷ holds (first + t) ∷ []) (numbers_below k)
+
 abbrev pub pair_written : ℕ → ℕ → ℕ → ℕ → List Clause
-pair_written asked first second n = map (λ t. fails asked ∷ fails (second + suc t) ∷ holds (first + suc t) ∷ []) (numbers_below n)
+pair_written asked first second n = pair_first asked first second (n + 1)
 
 -- that an event whose chain ends doesn't happen
 abbrev pub closed_first : Grid → ChainEnd → ℕ → List Clause

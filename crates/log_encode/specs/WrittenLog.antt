@@ -13,7 +13,7 @@ use Rattle.prop_core.specs.declared.lit.Lit.{Lit}
 use Rattle.prop_core.specs.Clauses.{Clause}
 use Rattle.prop_core.specs.NamedClauses.{IsCode}
 use Rattle.prop_core.specs.VariableNames.{ReadsAs}
-use Rattle.replay.specs.Explanation.{Explains}
+use Rattle.replay.specs.Explanation.{Entry, Explains}
 
 -- by the names of the code's variables the clauses are those of its log
 pub record IsWritten (code : CodedLog) (written : List Clause) : Type 0 where
@@ -37,4 +37,4 @@ WrittenIsExact = (code : CodedLog) (written : List Clause) (guards : List Lit) �
 
 -- The names of alarms don't matter for what explains a log.
 abbrev pub NamesDontMatter : Type 0
-NamesDontMatter = (net : Net) (log : Log) (n : ℕ) (word order : List ℕ) → Explains net log n word order ↔ Explains net (without_names log) n word order
+NamesDontMatter = (net : Net) (log : Log) (n : ℕ) (word : List ℕ) (order : List Entry) → Explains net log n word order ↔ Explains net (without_names log) n word order

@@ -6,10 +6,11 @@ use des_base::{EventId, Memory, Name, NameList, VAR_LIMIT};
 use std::alloc::Global;
 use std::marker::Model;
 
-// An alarm of the log: its labels, the events that it may stand for, and its first variable.
+// An alarm of the log: its labels, whether it is doubtful, the events that it may stand for, and its first variable.
 #[derive(Drop)]
 pub struct AlarmCode {
     pub labels: NameList,
+    pub doubtful: bool,
     pub takes: Vec<Taken>,
     pub start: u32,
 }
@@ -19,7 +20,7 @@ impl Model for AlarmCode {
 
     ghost Value = { AlarmState };
 
-    ghost view = { λ a. record { labels = a.labels; takes = a.takes.items; start = a.start } };
+    ghost view = { λ a. record { labels = a.labels; doubtful = a.doubtful; takes = a.takes.items; start = a.start } };
 }
 
 impl AlarmCode {

@@ -1,14 +1,21 @@
-ghost use Rattle.std.specs.Prelude.{◌≡◌, ◌<◌, ◌≤◌};
-ghost use Rattle.log_encode.specs.AlarmVariables.{closed_variable, match_variable, passed_variable, done_variable, variable_count, IsWithin};
+ghost use Rattle.std.specs.Prelude.{◌≡◌, ◌<◌, ◌≤◌, true};
+ghost use Rattle.log_encode.specs.AlarmVariables.{closed_variable, match_variable, passed_variable, done_variable, dropped_variable, alarm_width, false_width, IsWithin};
 
 // Where the variables of an alarm stand: for each event that it may stand for, its link, one that ends the event's chain
 // after it, and for each step one that matches it to the event and one that passes the event on. Behind the links stand those
-// that say within how many steps it is done.
+// that say within how many steps it is done, and at the end, where the alarm is doubtful, one that says that it is false.
 #[derive(Clone, Copy)]
 pub struct AlarmVars {
     pub start: u32,
     pub links: u32,
     pub steps: u32,
+    pub doubtful: bool,
+}
+
+fn false_width(doubtful: bool) -> u32
+    ensures { result ≡ false_width doubtful }
+{
+    if doubtful { 1 } else { 0 }
 }
 
 impl AlarmVars {
@@ -16,9 +23,9 @@ impl AlarmVars {
     #[tactic(auto, using(crate::proofs::VariableLemmas::count_is_small))]
     pub fn count(self) -> u32
         requires { IsWithin self }
-        ensures { result ≡ variable_count self.links self.steps }
+        ensures { result ≡ alarm_width self }
     {
-        self.links * (1 + self.steps * 2) + (1 + self.steps)
+        self.links * (1 + self.steps * 2) + (1 + self.steps) + false_width(self.doubtful)
     }
 
     // Ends the chain after a link.
@@ -71,5 +78,15 @@ impl AlarmVars {
         ensures { result ≡ done_variable self steps }
     {
         self.start + (self.links * (1 + self.steps * 2) + steps)
+    }
+
+    // Says that the alarm is false.
+    #[tactic(auto, using(crate::proofs::VariableLemmas::count_is_small))]
+    pub fn dropped(self) -> u32
+        requires within { IsWithin self }
+        requires doubtful { self.doubtful ≡ true }
+        ensures { result ≡ dropped_variable self }
+    {
+        self.start + (self.links * (1 + self.steps * 2) + (1 + self.steps))
     }
 }

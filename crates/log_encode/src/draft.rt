@@ -7,13 +7,14 @@ use prop_core::{Clauses, Lit};
 use std::marker::Model;
 use std::snapshot::Snapshot;
 
-// What a draft adds: an alarm, with the ends of all chains and the guards as they then are, or a pair.
+// What a draft adds: an alarm, with the ends of all chains, the guards, and what says that alarms are false, as they then are, or a pair.
 #[derive(Drop)]
 pub enum Change {
     Alarm {
         alarm: AlarmCode,
         ends: Vec<ChainEnd>,
         guards: Vec<Lit>,
+        dropped: Vec<Lit>,
     },
     Pair(u32, u32),
 }

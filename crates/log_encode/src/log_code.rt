@@ -1,24 +1,24 @@
-ghost use Rattle.std.specs.Prelude.{◌≡◌, ◌<◌, ◌≤◌, ◌+◌, ◌*◌, ◌++◌, ◌∷◌, [], ℕ, Some, length, vec_len, vec_capacity, IfOk, OnOk, OnErr};
+ghost use Rattle.std.specs.Prelude.{◌≡◌, ◌<◌, ◌≤◌, ◌+◌, ◌*◌, ◌++◌, ◌∷◌, [], ℕ, Some, true, false, ◌&&◌, length, vec_len, vec_capacity, IfOk, OnOk, OnErr};
 ghost use Rattle.log_order.specs.Log.{no_log};
 ghost use Rattle.log_clauses.specs.Additions.{alarm_added, pair_added};
-ghost use Rattle.log_clauses.specs.Decoded.{alarm_at};
+ghost use Rattle.log_clauses.specs.Decoded.{alarm_at, is_false};
 ghost use Rattle.log_clauses.specs.LogClauses.{guard_literals};
 ghost use Rattle.log_clauses.specs.LogCodes.{IsNamedLog};
 ghost use Rattle.log_clauses.specs.LogNames.{first_names};
 ghost use Rattle.prop_core.specs.Clauses.{value_in};
 ghost use Rattle.prop_core.specs.NamedClauses.{Appends, value_by};
-ghost use Rattle.prop_core.specs.VariableNames.{ReadsAs, name_of, done};
+ghost use Rattle.prop_core.specs.VariableNames.{ReadsAs, name_of, named_clause, done};
 ghost use Rattle.log_encode.specs.AlarmState.{variables_of, is_matched};
-ghost use Rattle.log_encode.specs.AlarmVariables.{IsWithin, variable_count};
-ghost use Rattle.log_encode.specs.CodedLog.{IsCodedLog, empty_code, code_after, code_names, read_names, nameless, addition_width};
-ghost use Rattle.log_encode.specs.Drafted.{IsDraftOf, HasRoomFor};
+ghost use Rattle.log_encode.specs.AlarmVariables.{IsWithin, alarm_width, done_variable, dropped_variable};
+ghost use Rattle.log_encode.specs.CodedLog.{IsCodedLog, empty_code, code_after, code_names, false_literals, read_names, nameless, addition_width};
+ghost use Rattle.log_encode.specs.Drafted.{IsDraftOf, IsStepOf, HasRoomFor};
 
 use crate::alarm_code::{AlarmCode, copy_labels};
 use crate::alarm_vars::AlarmVars;
 use crate::chains::{first_ends, guards_of};
 use crate::draft::{Change, Draft};
 use crate::taken::{ChainEnd, ends_after, taken_by};
-use crate::writing::{write_all_closed, write_done, write_links, write_pair};
+use crate::writing::{dropped_after, write_alarm, write_all_closed, write_pair};
 use des_base::{EventId, Memory, Name, VAR_LIMIT};
 use des_net::Network;
 use prop_core::{Assignment, Clauses, Grid, Lit, Vars};
@@ -38,6 +38,7 @@ pub struct LogCode {
     asked: u32,
     ends: Vec<ChainEnd>,
     guards: Vec<Lit>,
+    dropped: Vec<Lit>,
     alarms: Vec<AlarmCode>,
     pairs: Vec<(u32, u32)>,
     vars: u32,
@@ -89,6 +90,7 @@ impl LogCode {
             asked,
             ends,
             guards,
+            dropped: Vec::new(alloc),
             alarms: Vec::new(alloc),
             pairs: Vec::new(alloc),
             vars: vars.count(),
@@ -97,46 +99,58 @@ impl LogCode {
         })
     }
 
-    /// Drafts an alarm with these labels, in the network that the code was made for.
+    /// Drafts an alarm with these labels, in the network that the code was made for: a doubtful one where it is `maybe` false.
     ///
     /// Its variables begin at `first_var`: make them by one `fresh` before the draft is committed.
     pub fn draft_alarm(
         &self,
         net: &Network,
         labels: &[Name],
+        maybe: bool,
         first_var: u32,
     ) -> Result<Draft, Memory>
         requires net { net.now ≡ self.now.code.net }
         requires made { self.now.code.vars ≤ first_var }
-        requires few { first_var + addition_width self.now.code (alarm_added (nameless labels.now)) ≤ VAR_LIMIT }
-        ensures { IfOk result (IsDraftOf self.now.code (alarm_added (nameless labels.now)) first_var) }
+        requires few { first_var + addition_width self.now.code (alarm_added (nameless labels.now maybe)) ≤ VAR_LIMIT }
+        ensures { IfOk result (IsDraftOf self.now.code (alarm_added (nameless labels.now maybe)) first_var) }
     {
         let takes = taken_by(self.alloc, net, self.ends.as_slice(), labels)?;
         let vars = AlarmVars {
             start: first_var,
             links: takes.len() as u32,
             steps: self.grid.steps,
+            doubtful: maybe,
         };
         // The count as it will be once the caller has made the variables.
         let mut fresh = Vars::new();
         fresh.fresh(first_var);
         fresh.fresh(vars.count());
         let mut clauses = Clauses::new(self.alloc);
-        write_links(self.grid, vars, takes.as_slice(), &mut clauses)?;
-        write_done(self.alloc, self.asked, vars, &mut fresh, &mut clauses)?;
+        write_alarm(
+            self.alloc,
+            self.grid,
+            self.asked,
+            vars,
+            takes.as_slice(),
+            &mut fresh,
+            &mut clauses,
+        )?;
         let ends = ends_after(self.alloc, self.ends.as_slice(), vars, takes.as_slice())?;
         let guards = guards_of(self.alloc, self.asked, ends.as_slice())?;
+        let dropped = dropped_after(self.alloc, self.dropped.as_slice(), vars)?;
         let labels = copy_labels(self.alloc, labels)?;
         Ok(Draft {
             code: Snapshot::of(self),
             change: Change::Alarm {
                 alarm: AlarmCode {
                     labels,
+                    doubtful: maybe,
                     takes,
                     start: first_var,
                 },
                 ends,
                 guards,
+                dropped,
             },
             first: first_var,
             vars: fresh.count() - first_var,
@@ -207,9 +221,11 @@ impl LogCode {
                 alarm,
                 ends,
                 guards,
+                dropped,
             } => {
                 self.ends = ends;
                 self.guards = guards;
+                self.dropped = dropped;
                 push_alarm(&mut self.alarms, alarm);
                 self.spare_alarms -= 1;
             }
@@ -226,6 +242,13 @@ impl LogCode {
         ensures whole { IsCodedLog self.now.code }
     {
         self.guards.as_slice()
+    }
+
+    /// That an alarm is false, for each doubtful alarm of the log.
+    pub fn false_lits(&self) -> &[Lit]
+        ensures { named_clause (code_names self.now.code) result.now ≡ Some (false_literals self.now.code.log) }
+    {
+        self.dropped.as_slice()
     }
 
     /// A number above all its variables.
@@ -252,11 +275,40 @@ impl LogCode {
         None
     }
 
+    /// Whether the alarm is false.
+    pub fn is_false(&self, assign: &Assignment, alarm: u32) -> bool
+        requires alarm { alarm < length self.now.code.log.alarms }
+        requires values { self.now.code.vars ≤ length assign.now }
+        ensures { result ≡ is_false self.now.code.log (value_by (code_names self.now.code) (value_in assign.now)) alarm }
+    {
+        self.is_dropped(&self.alarms[alarm as usize], assign)
+    }
+
+    /// The least number of steps within which the alarm is done. It is done in the end: so it is where the clauses and the guards
+    /// are true.
+    pub fn step_of(&self, assign: &Assignment, alarm: u32) -> u32
+        requires alarm { alarm < length self.now.code.log.alarms }
+        requires values { self.now.code.vars ≤ length assign.now }
+        requires last { value_by (code_names self.now.code) (value_in assign.now) (done alarm self.now.code.grid.steps) ≡ true }
+        ensures { IsStepOf self.now.code.grid.steps (value_by (code_names self.now.code) (value_in assign.now)) alarm result }
+    {
+        first_done(self.vars_of(&self.alarms[alarm as usize]), assign)
+    }
+
+    // Whether the alarm is false.
+    fn is_dropped(&self, alarm: &AlarmCode, assign: &Assignment) -> bool
+        requires within { IsWithin (variables_of self.now.code.grid.steps alarm.now) }
+        requires values { alarm.now.start + alarm_width (variables_of self.now.code.grid.steps alarm.now) ≤ length assign.now }
+        ensures { result ≡ (alarm.now.doubtful && value_in assign.now (dropped_variable (variables_of self.now.code.grid.steps alarm.now))) }
+    {
+        alarm.doubtful && assign.value(self.vars_of(alarm).dropped())
+    }
+
     // Whether the alarm stands for the event in the step after so many.
     fn is_matched(&self, alarm: &AlarmCode, assign: &Assignment, event: EventId, step: u32) -> bool
         requires step { step < self.now.code.grid.steps }
         requires within { IsWithin (variables_of self.now.code.grid.steps alarm.now) }
-        requires values { alarm.now.start + variable_count (length alarm.now.takes) self.now.code.grid.steps ≤ length assign.now }
+        requires values { alarm.now.start + alarm_width (variables_of self.now.code.grid.steps alarm.now) ≤ length assign.now }
         ensures { result ≡ is_matched self.now.code.grid.steps alarm.now (value_in assign.now) event step }
     {
         match alarm.link_of(event) {
@@ -274,6 +326,7 @@ impl LogCode {
             start: alarm.start,
             links: alarm.takes.len() as u32,
             steps: self.grid.steps,
+            doubtful: alarm.doubtful,
         }
     }
 
@@ -285,6 +338,22 @@ impl LogCode {
     {
         self.vars_of(&self.alarms[alarm as usize]).done(0)
     }
+}
+
+// The least number of steps within which the alarm of these variables is done, or the number of all steps.
+fn first_done(vars: AlarmVars, assign: &Assignment) -> u32
+    requires within { IsWithin vars }
+    requires values { vars.start + alarm_width vars ≤ length assign.now }
+    ensures within { result ≤ vars.steps }
+    ensures least { (t : ℕ) → t < result → value_in assign.now (done_variable vars t) ≡ false }
+    ensures is { result < vars.steps → value_in assign.now (done_variable vars result) ≡ true }
+{
+    for step in 0..vars.steps {
+        if assign.value(vars.done(step)) {
+            return step;
+        }
+    }
+    vars.steps
 }
 
 // Adds an alarm in room that is there.

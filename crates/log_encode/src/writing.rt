@@ -1,7 +1,7 @@
 ghost use Rattle.std.specs.Prelude.{◌≡◌, ◌<◌, ◌≤◌, ◌+◌, ◌*◌, ◌++◌, ◌∷◌, [], true, false, length, All, IfOk, OnOk};
 ghost use Rattle.des_base.specs.declared.TheConstants.{VAR_LIMIT};
-ghost use Rattle.log_encode.specs.AlarmVariables.{IsWithin};
-ghost use Rattle.log_encode.specs.Written.{all_closed_written, closed_written, done_written, ends_written, link_variables, link_written, links_written, matches_at, pair_written, step_written, steps_of_link, HasRest};
+ghost use Rattle.log_encode.specs.AlarmVariables.{IsWithin, done_variable};
+ghost use Rattle.log_encode.specs.Written.{alarm_written, all_closed_written, closed_written, done_written, dropped_written, ends_written, fails, link_variables, link_written, links_written, matches_at, pair_written, real_of_link, real_written, reals_written, step_written, steps_of_link, HasRest};
 
 use crate::alarm_vars::AlarmVars;
 use crate::taken::{ChainEnd, Taken};
@@ -95,7 +95,7 @@ fn write_steps(
 }
 
 // All links.
-pub fn write_links(
+fn write_links(
     grid: Grid,
     vars: AlarmVars,
     takes: &[Taken],
@@ -127,7 +127,19 @@ fn matches_at(alloc: Global, vars: AlarmVars, step: u32) -> Result<Vec<Lit>, Mem
     Ok(lits)
 }
 
-// Whether the alarm is matched after a step: where it was before, or one of its events is its match there, and one at most.
+// That the alarm is false, where it is doubtful.
+fn push_dropped(vars: AlarmVars, lits: &mut Vec<Lit>) -> Result<(), Memory>
+    requires { IsWithin vars }
+    ensures { OnOk result (lits.new.items ≡ lits.old.items ++ dropped_written vars) }
+{
+    if vars.doubtful {
+        lits.push(holds(vars.dropped()))?;
+    }
+    Ok(())
+}
+
+// Whether the alarm is done after a step: where it was before, or one of its events is its match there, and one at most. A
+// doubtful one is so where it is false.
 fn write_step(
     alloc: Global,
     vars: AlarmVars,
@@ -147,13 +159,27 @@ fn write_step(
     let mut by_match = Vec::new(alloc);
     by_match.push(fails(after))?;
     by_match.push(holds(before))?;
+    push_dropped(vars, &mut by_match)?;
     by_match.extend_from_slice(matches.as_slice())?;
     out.push(by_match.as_slice())?;
     at_most_one(matches.as_slice(), fresh, out)
 }
 
-// Whether the alarm is matched, within all numbers of steps: at first it isn't, and at last it is where the log is asked for.
-pub fn write_done(
+// At first the alarm isn't done, unless it is false.
+fn write_first(alloc: Global, vars: AlarmVars, out: &mut Clauses) -> Result<(), Memory>
+    requires { IsWithin vars }
+    ensures { OnOk result (out.new.clauses ≡ out.old.clauses ++ (fails (done_variable vars 0) ∷ dropped_written vars) ∷ []) }
+{
+    let mut first = Vec::new(alloc);
+    first.push(fails(vars.done(0)))?;
+    push_dropped(vars, &mut first)?;
+    out.push(first.as_slice())?;
+    Ok(())
+}
+
+// Whether the alarm is done, within all numbers of steps: at first it isn't, unless it is false, and at last it is where the log
+// is asked for.
+fn write_done(
     alloc: Global,
     asked: u32,
     vars: AlarmVars,
@@ -164,7 +190,7 @@ pub fn write_done(
     ensures fresh { fresh.new ≡ fresh.old }
     ensures written { OnOk result (out.new.clauses ≡ out.old.clauses ++ done_written asked vars) }
 {
-    out.push(&[fails(vars.done(0))])?;
+    write_first(alloc, vars, out)?;
     out.push(&[fails(asked), holds(vars.done(vars.steps))])?;
     for step in 0..vars.steps {
         write_step(alloc, vars, step, fresh, out)?;
@@ -172,7 +198,79 @@ pub fn write_done(
     Ok(())
 }
 
-// That the first alarm is matched no later than the second where the log is asked for. Each begins with its own variable for 0
+// That a false alarm isn't matched to the event of a link.
+#[tactic(auto, using(crate::proofs::LoopLemmas::map_more_on))]
+fn write_real_link(vars: AlarmVars, link: u32, out: &mut Clauses) -> Result<(), Memory>
+    requires within { IsWithin vars }
+    requires doubtful { vars.doubtful ≡ true }
+    requires link { link < vars.links }
+    ensures { OnOk result (out.new.clauses ≡ out.old.clauses ++ real_of_link vars link vars.steps) }
+{
+    for step in 0..vars.steps {
+        out.push(&[fails(vars.matched(link, step)), fails(vars.dropped())])?;
+    }
+    Ok(())
+}
+
+// The same for all links.
+#[tactic(auto, using(crate::proofs::LoopLemmas::flat_more_on))]
+fn write_reals(vars: AlarmVars, out: &mut Clauses) -> Result<(), Memory>
+    requires within { IsWithin vars }
+    requires doubtful { vars.doubtful ≡ true }
+    ensures { OnOk result (out.new.clauses ≡ out.old.clauses ++ reals_written vars vars.links) }
+{
+    for link in 0..vars.links {
+        write_real_link(vars, link, out)?;
+    }
+    Ok(())
+}
+
+// The same where the alarm is doubtful.
+fn write_real(vars: AlarmVars, out: &mut Clauses) -> Result<(), Memory>
+    requires { IsWithin vars }
+    ensures { OnOk result (out.new.clauses ≡ out.old.clauses ++ real_written vars) }
+{
+    if vars.doubtful {
+        write_reals(vars, out)?;
+    }
+    Ok(())
+}
+
+// All that is written of an alarm.
+pub fn write_alarm(
+    alloc: Global,
+    grid: Grid,
+    asked: u32,
+    vars: AlarmVars,
+    takes: &[Taken],
+    fresh: &mut Vars,
+    out: &mut Clauses,
+) -> Result<(), Memory>
+    requires within { IsWithin vars }
+    requires steps { vars.steps ≡ grid.steps }
+    requires links { vars.links ≡ length takes.now }
+    requires few { grid.first + grid.events * grid.steps ≤ VAR_LIMIT }
+    requires rest { All (HasRest grid) takes.now }
+    ensures fresh { fresh.new ≡ fresh.old }
+    ensures written { OnOk result (out.new.clauses ≡ out.old.clauses ++ alarm_written grid asked vars takes.now) }
+{
+    write_links(grid, vars, takes, out)?;
+    write_done(alloc, asked, vars, fresh, out)?;
+    write_real(vars, out)
+}
+
+// That alarms are false, with the new one.
+pub fn dropped_after(alloc: Global, dropped: &[Lit], vars: AlarmVars) -> Result<Vec<Lit>, Memory>
+    requires { IsWithin vars }
+    ensures { IfOk result (λ after. after.items ≡ dropped.now ++ dropped_written vars) }
+{
+    let mut after = Vec::new(alloc);
+    after.extend_from_slice(dropped)?;
+    push_dropped(vars, &mut after)?;
+    Ok(after)
+}
+
+// That the first alarm is done no later than the second where the log is asked for. Each begins with its own variable for 0
 // steps.
 #[tactic(auto, using(crate::proofs::LoopLemmas::map_more_on))]
 pub fn write_pair(
@@ -186,12 +284,8 @@ pub fn write_pair(
     requires second { second + steps < VAR_LIMIT }
     ensures { OnOk result (out.new.clauses ≡ out.old.clauses ++ pair_written asked first second steps) }
 {
-    for step in 0..steps {
-        out.push(&[
-            fails(asked),
-            fails(second + (step + 1)),
-            holds(first + (step + 1)),
-        ])?;
+    for step in 0..steps + 1 {
+        out.push(&[fails(asked), fails(second + step), holds(first + step)])?;
     }
     Ok(())
 }

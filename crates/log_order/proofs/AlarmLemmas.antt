@@ -58,8 +58,8 @@ some [] h = absurd (omega arith)
 some (x ∷ xs) h = with_texts-longer (x ∷ []) xs
 
 -- an alarm from the labels that are given
-pub IsAlarm-from : (name : List ℕ) (labels : List (List ℕ)) → AreNames (with_texts [] labels) → 1 ≤ length labels → length labels ≤ most_labels → IsAlarm (record { name = name; labels = with_texts [] labels })
-IsAlarm-from name labels names h few = record { labels = names; some = some labels h; few = let less = with_texts-few [] labels in omega arith }
+pub IsAlarm-from : (name : List ℕ) (labels : List (List ℕ)) (doubtful : Bool) → AreNames (with_texts [] labels) → 1 ≤ length labels → length labels ≤ most_labels → IsAlarm (record { name = name; labels = with_texts [] labels; doubtful = doubtful })
+IsAlarm-from name labels doubtful names h few = record { labels = names; some = some labels h; few = let less = with_texts-few [] labels in omega arith }
 
 -- ---- an alarm that isn't refused
 

@@ -1,5 +1,5 @@
 -- What each call on a log refuses, what it adds, and what stays true of the log.
-use Rattle.std.specs.Prelude.{◌≡◌, ⊤, ℕ, ◌≤◌, nat_le, nat_lt, ◌&&◌, ◌||◌, not, List, [], ◌∷◌, ◌++◌, map, length, Option, Some, None, is_some, if◌then◌else◌, Result, Ok, Err, bytes_eq}
+use Rattle.std.specs.Prelude.{◌≡◌, ⊤, ℕ, Bool, ◌≤◌, nat_le, nat_lt, ◌&&◌, ◌||◌, not, List, [], ◌∷◌, ◌++◌, map, length, Option, Some, None, is_some, if◌then◌else◌, Result, Ok, Err, bytes_eq}
 use Rattle.std.specs.List.{list_any, AllByRecursion}
 use Rattle.des_base.specs.Names.{place_of, AreNames}
 use Rattle.log_order.specs.declared.refusal.LogRefusal.{LogRefusal}
@@ -49,8 +49,8 @@ with_texts texts [] = texts
 with_texts texts (other ∷ others) = with_texts (with_text texts other) others
 
 -- it is added last, with each of its labels once, at its first place
-abbrev pub with_alarm : Log → List ℕ → List (List ℕ) → Log
-with_alarm log name labels = record log { alarms = log.alarms ++ record { name = name; labels = with_texts [] labels } ∷ [] }
+abbrev pub with_alarm : Log → List ℕ → List (List ℕ) → Bool → Log
+with_alarm log name labels doubtful = record log { alarms = log.alarms ++ record { name = name; labels = with_texts [] labels; doubtful = doubtful } ∷ [] }
 
 -- ---- a pair
 

@@ -3,10 +3,11 @@ use Rattle.std.specs.Prelude.{◌≡◌, ℕ, ⊤, ◌<◌, Bool, false, ◌&&�
 use Rattle.std.specs.List.{list_any, position_or_len, AllByRecursion}
 use Rattle.des_base.specs.Lists.{EachPair}
 
--- an alarm, and the labels that it may stand for
+-- an alarm, the labels that it may stand for, and whether it is doubtful: perhaps false, so that it stands for no event
 pub record Alarm : Type 0 where
   pub name : List ℕ
   pub labels : List (List ℕ)
+  pub doubtful : Bool
 
 -- Alarms are numbered by their places. A pair says that its first alarm comes before its second.
 pub record Log : Type 0 where
@@ -19,6 +20,10 @@ no_log = record { alarms = []; pairs = [] }
 -- the labels that alarm i may stand for
 abbrev pub labels_of : Log → ℕ → List (List ℕ)
 labels_of log i = unwrap_or (option_map (λ alarm. alarm.labels) (slice_get log.alarms i)) []
+
+-- alarm i is perhaps false
+abbrev pub is_doubtful : Log → ℕ → Bool
+is_doubtful log i = unwrap_or (option_map (λ alarm. alarm.doubtful) (slice_get log.alarms i)) false
 
 -- ---- orders
 

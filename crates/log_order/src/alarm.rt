@@ -7,11 +7,12 @@ use des_base::{Memory, Name};
 use std::alloc::Global;
 use std::marker::Model;
 
-// An alarm: its id and its labels.
+// An alarm: its id and its labels, and whether it is perhaps false.
 #[derive(Drop)]
 pub struct Alarm {
     pub id: Name,
     pub labels: Vec<Name>,
+    pub doubtful: bool,
 }
 
 impl Model for Alarm {
@@ -19,7 +20,7 @@ impl Model for Alarm {
 
     ghost Value = { Alarm };
 
-    ghost view = { λ a. record { name = a.id; labels = a.labels.items } };
+    ghost view = { λ a. record { name = a.id; labels = a.labels.items; doubtful = a.doubtful } };
 }
 
 impl Alarm {
@@ -33,6 +34,12 @@ impl Alarm {
         ensures { result.now ≡ self.now.labels }
     {
         self.labels.as_slice()
+    }
+
+    pub fn is_doubtful(&self) -> bool
+        ensures { result ≡ self.now.doubtful }
+    {
+        self.doubtful
     }
 }
 

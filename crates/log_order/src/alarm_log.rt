@@ -1,4 +1,4 @@
-ghost use Rattle.std.specs.Prelude.{◌≡◌, ◌<◌, ◌≤◌, length, slice_get, option_map, not, IfOk, OnErr, OnOk, Some, None, Err};
+ghost use Rattle.std.specs.Prelude.{◌≡◌, ◌<◌, ◌≤◌, length, slice_get, option_map, not, true, false, IfOk, OnErr, OnOk, Some, None, Err};
 ghost use Rattle.des_base.specs.Names.{place_of};
 ghost use Rattle.log_order.specs.Log.{no_log, has_pair, ListsOnce, Keeps, IsValidLog, StandOnce};
 ghost use Rattle.log_order.specs.Adding.{Answers, alarm_refusal, with_alarm, before_refusal, with_pair, names_of, IsLog};
@@ -16,7 +16,7 @@ const MOST_ALARMS: usize = 2_000;
 // Given for one alarm.
 const MOST_LABELS: usize = 64;
 
-/// A log: alarms, each with an id and labels, and pairs of alarms, "the first before the second".
+/// A log: alarms, each with an id and labels, and certain or doubtful, and pairs of alarms, "the first before the second".
 ///
 /// It is always valid: some order of all alarms keeps every pair. Alarms are numbered from 0 as they are added. A refused
 /// call changes nothing. Where several refusals hold, the first of `Double`, `Unknown`, `Cycle`, `NoLabels` and `Limit` is
@@ -78,6 +78,14 @@ impl AlarmLog {
         self.alarms[alarm as usize].labels()
     }
 
+    /// Whether an alarm is doubtful: perhaps false, so that it stands for no event.
+    pub fn is_maybe(&self, alarm: u32) -> bool
+        requires { alarm < length self.now.alarms }
+        ensures { option_map (λ a. a.doubtful) (slice_get self.now.alarms alarm) ≡ Some result }
+    {
+        self.alarms[alarm as usize].is_doubtful()
+    }
+
     /// The pairs, in the order in which they were added.
     pub fn pairs(&self) -> &[(u32, u32)]
         ensures { result.now ≡ self.now.pairs }
@@ -121,13 +129,33 @@ impl AlarmLog {
     /// Adds an alarm, and answers its number. A repeated label counts once, and keeps its first place.
     pub fn add_alarm(&mut self, id: Name, labels: &[Name]) -> Result<u32, LogRefusal>
         ensures refused { Answers result (alarm_refusal self.old id labels.now) }
-        ensures ok { OnOk result (self.new ≡ with_alarm self.old id labels.now) }
+        ensures ok { OnOk result (self.new ≡ with_alarm self.old id labels.now false) }
+        ensures place { IfOk result (λ alarm. alarm ≡ length self.old.alarms) }
+        ensures err { OnErr result (self.new ≡ self.old) }
+    {
+        self.add(id, labels, false)
+    }
+
+    /// Adds an alarm that is perhaps false, and answers its number.
+    pub fn add_maybe(&mut self, id: Name, labels: &[Name]) -> Result<u32, LogRefusal>
+        ensures refused { Answers result (alarm_refusal self.old id labels.now) }
+        ensures ok { OnOk result (self.new ≡ with_alarm self.old id labels.now true) }
+        ensures place { IfOk result (λ alarm. alarm ≡ length self.old.alarms) }
+        ensures err { OnErr result (self.new ≡ self.old) }
+    {
+        self.add(id, labels, true)
+    }
+
+    // Adds an alarm, where it isn't refused.
+    fn add(&mut self, id: Name, labels: &[Name], doubtful: bool) -> Result<u32, LogRefusal>
+        ensures refused { Answers result (alarm_refusal self.old id labels.now) }
+        ensures ok { OnOk result (self.new ≡ with_alarm self.old id labels.now doubtful) }
         ensures place { IfOk result (λ alarm. alarm ≡ length self.old.alarms) }
         ensures err { OnErr result (self.new ≡ self.old) }
     {
         match self.test_alarm(&id, labels) {
             Some(refusal) => Err(refusal),
-            None => Ok(self.put_alarm(id, labels)?),
+            None => Ok(self.put_alarm(id, labels, doubtful)?),
         }
     }
 
@@ -144,9 +172,9 @@ impl AlarmLog {
     }
 
     // Adds an alarm that isn't refused.
-    fn put_alarm(&mut self, id: Name, labels: &[Name]) -> Result<u32, Memory>
+    fn put_alarm(&mut self, id: Name, labels: &[Name], doubtful: bool) -> Result<u32, Memory>
         requires { alarm_refusal self.old id labels.now ≡ None }
-        ensures ok { OnOk result (self.new ≡ with_alarm self.old id labels.now) }
+        ensures ok { OnOk result (self.new ≡ with_alarm self.old id labels.now doubtful) }
         ensures place { IfOk result (λ alarm. alarm ≡ length self.old.alarms) }
         ensures err { OnErr result (self.new ≡ self.old) }
     {
@@ -154,6 +182,7 @@ impl AlarmLog {
         let alarm = Alarm {
             id: id.copy()?,
             labels: each_once(self.alloc, labels)?,
+            doubtful,
         };
         self.alarms.reserve(1)?;
         let number = self.precedence.add_number(&mut self.ids, id)?;

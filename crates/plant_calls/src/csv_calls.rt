@@ -1,5 +1,6 @@
 // Scripts, their faults, and printed logs.
 use crate::made::{name, put};
+use des_base::Name;
 use log_csv::{LogReadRefusal, Row, Script, print_log, read_log, read_script};
 use log_order::AlarmLog;
 use std::alloc::Global;
@@ -25,10 +26,14 @@ fn reads_and_prints(rt: &impl Abort, alloc: Global, text: &str, want: &str) -> b
     prints(rt, alloc, &read(rt, alloc, text), want)
 }
 
-const LOGS: [(&str, &str); 6] = [
+const LOGS: [(&str, &str); 7] = [
     ("", "log\n"),
     ("\"alarm\",a1,T,,", "log\nalarm,a1,T\n"),
     ("alarm,a1,T|F|T|G\n", "log\nalarm,a1,T|F|G\n"),
+    (
+        "maybe,z,A|B|A\nalarm,a,T\nbefore,a,z\n",
+        "log\nmaybe,z,A|B\nalarm,a,T\nbefore,a,z\n",
+    ),
     (
         "\u{feff}alarm,a1,T\r\n\r\nalarm,a2,T\r\n",
         "log\nalarm,a1,T\nalarm,a2,T\n",
@@ -62,14 +67,22 @@ fn prints_a_log_that_was_built(rt: HostRuntime) {
     assert!(rt; prints(&rt, rt.alloc(), &log, "log\nalarm,x,A\n"));
 }
 
-// Writes a row of a script: an alarm and its labels, a pair with `<`, or `?`, and then `;`.
+fn put_names(rt: &impl Abort, id: &Name, labels: &[Name], text: &mut String) {
+    put(rt, text, id.as_str());
+    for label in labels {
+        put(rt, text, label.as_str());
+    }
+}
+
+// Writes a row of a script: an alarm and its labels, behind `~` where it is doubtful, a pair with `<`, or `?`, and then `;`.
 fn put_row(rt: &impl Abort, row: &Row, text: &mut String) {
     match row {
         Row::Alarm { id, labels } => {
-            put(rt, text, id.as_str());
-            for label in labels.as_slice() {
-                put(rt, text, label.as_str());
-            }
+            put_names(rt, id, labels.as_slice(), text);
+        }
+        Row::Maybe { id, labels } => {
+            put(rt, text, "~");
+            put_names(rt, id, labels.as_slice(), text);
         }
         Row::Before { first, second } => {
             put(rt, text, first.as_str());
@@ -106,8 +119,9 @@ fn reads_as(rt: &impl Abort, alloc: Global, text: &str, rows: usize, want: &str)
     says(rt, alloc, &script(rt, alloc, text), rows, want)
 }
 
-const SCRIPTS: [(&str, usize, &str); 3] = [
+const SCRIPTS: [(&str, usize, &str); 4] = [
     ("", 0, ""),
+    ("maybe,a,A|B\nalarm,b,A\nask\n", 3, "~aAB;bA;?;"),
     (
         "alarm,a,A\nask\nalarm,b,B\nbefore,b,a\nask\nbefore,a,b\nask\n",
         7,
@@ -141,6 +155,7 @@ fn names_the_first_fault_of_a_script(rt: HostRuntime) {
     let alloc = rt.alloc();
     assert!(rt; is_faulty(&rt, alloc, "ask,x", 1, 6));
     assert!(rt; is_faulty(&rt, alloc, "before,a b,c", 1, 7));
+    assert!(rt; is_faulty(&rt, alloc, "maybe,a", 1, 6));
     assert!(rt; is_faulty(&rt, alloc, "ask\n\n,\nbefore,a", 3, 6));
     assert!(rt; is_faulty(&rt, alloc, "ask\nalarm,a,T||F\nalarm", 2, 7));
 }

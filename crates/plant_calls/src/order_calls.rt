@@ -214,3 +214,17 @@ fn takes_a_later_alarm_first(rt: HostRuntime) {
     let log = ordered(&rt, rt.alloc(), &[(3, 0), (2, 1)]);
     assert!(rt; has_order(&rt, rt.alloc(), &log, &[2, 1, 3, 0]));
 }
+
+fn expect_doubtful(rt: &impl Abort, alloc: Global, log: &mut AlarmLog) {
+    let one = [name(rt, alloc, b"L")];
+    assert!(rt; said(log.add_maybe(name(rt, alloc, b"a"), &one)) == "added");
+    assert!(rt; said(log.add_alarm(name(rt, alloc, b"a"), &one)) == "double");
+    assert!(rt; said(log.add_alarm(name(rt, alloc, b"b"), &one)) == "added");
+    assert!(rt; said(log.add_maybe(name(rt, alloc, b"b"), &one)) == "double");
+    assert!(rt; log.alarms() == 2 && log.is_maybe(0) && !log.is_maybe(1));
+}
+
+#[test]
+fn marks_doubtful_alarms(rt: HostRuntime) {
+    expect_doubtful(&rt, rt.alloc(), &mut AlarmLog::new(rt.alloc()));
+}

@@ -5,7 +5,7 @@ use Rattle.std.specs.List.{AllByRecursion, list_any}
 use Rattle.std.proofs.lemmas.Bool.{and_parts, eqb-true, eq-eqb, false_from_ne_true}
 use Rattle.prop_core.specs.declared.lit.Lit.{Lit}
 use Rattle.prop_core.specs.Clauses.{Clause, clause_true, AllClausesTrue}
-use Rattle.prop_core.specs.VariableNames.{Name, in_state, happens, asked, matches, done, unmatched, closed, reaches, some_of_first, Exclusion, of_states, of_events, of_matches, NamedLiteral, HasEachOnce, name_of, named_literal, with_literal, named_clause, ReadsAs}
+use Rattle.prop_core.specs.VariableNames.{Name, in_state, happens, asked, matches, done, unmatched, closed, dropped, reaches, some_of_first, Exclusion, of_states, of_events, of_matches, NamedLiteral, HasEachOnce, name_of, named_literal, with_literal, named_clause, ReadsAs}
 use Rattle.prop_core.specs.NamedClauses.{same_sign, named_true, named_clause_true, same_exclusion, same_name, variable_of, Match, ValuesMatch, AssignmentsMatch, AllHold, CodeHolds}
 
 pub at_each : {X : Type 0} (P : X → Type 0) (xs : List X) (x : X) → AllByRecursion P xs → Contains xs x → P x
@@ -72,6 +72,7 @@ same_name_true (matches i e t) (matches j f u) h = let p = equal3 i j e f t u h 
 same_name_true (done i t) (done j u) h = let p = equal2 i j t u h in cc
 same_name_true (unmatched e k t) (unmatched f l u) h = let p = equal3 e f k l t u h in cc
 same_name_true (closed e k) (closed f l) h = let p = equal2 e f k l h in cc
+same_name_true (dropped i) (dropped j) h = let p = eqb-true i j h in cc
 same_name_true (reaches i j) (reaches k l) h = let p = equal2 i k j l h in cc
 same_name_true (some_of_first a i) (some_of_first b j) h = let p = and_parts (same_exclusion a b) (i == j) h in let x = same_exclusion_true a b p.0 in let y = eqb-true i j p.1 in cc
 same_name_true a b h = cc
@@ -92,6 +93,7 @@ same_name_itself (matches i e t) = simp itself_eqb
 same_name_itself (done i t) = simp itself_eqb
 same_name_itself (unmatched e k t) = simp itself_eqb
 same_name_itself (closed e k) = simp itself_eqb
+same_name_itself (dropped i) = simp itself_eqb
 same_name_itself (reaches i j) = simp itself_eqb
 same_name_itself (some_of_first a i) = simp (itself_eqb, same_exclusion_itself)
 

@@ -2,7 +2,7 @@
 use Rattle.std.specs.Prelude.{◌≡◌, ◌↔◌, ◌⊎◌, ◌++◌, ℕ, ◌<◌, Bool, true, false, not, ◌&&◌, ◌==◌, List, Option, Some, find, option_map, unwrap_or, Contains, IsTrue}
 use Rattle.std.specs.List.{AllByRecursion, list_any}
 use Rattle.prop_core.specs.Clauses.{Clause, AllClausesTrue}
-use Rattle.prop_core.specs.VariableNames.{Name, in_state, happens, asked, matches, done, unmatched, closed, reaches, some_of_first, Exclusion, of_states, of_events, of_matches, NamedLiteral, HasEachOnce, name_of, ReadsAs}
+use Rattle.prop_core.specs.VariableNames.{Name, in_state, happens, asked, matches, done, unmatched, closed, dropped, reaches, some_of_first, Exclusion, of_states, of_events, of_matches, NamedLiteral, HasEachOnce, name_of, ReadsAs}
 
 -- ---- truth by name
 
@@ -32,6 +32,7 @@ same_name (matches i e t) (matches j f u) = (i == j) && ((e == f) && (t == u))
 same_name (done i t) (done j u) = (i == j) && (t == u)
 same_name (unmatched e k t) (unmatched f l u) = (e == f) && ((k == l) && (t == u))
 same_name (closed e k) (closed f l) = (e == f) && (k == l)
+same_name (dropped i) (dropped j) = i == j
 same_name (reaches i j) (reaches k l) = (i == k) && (j == l)
 same_name (some_of_first a i) (some_of_first b j) = same_exclusion a b && (i == j)
 same_name a b = false

@@ -25,6 +25,8 @@ pub data Name : Type 0 where
   unmatched : (event alarms step : ℕ) → Name
   -- the chain of the event ends after so many alarms
   closed : (event alarms : ℕ) → Name
+  -- the alarm, which is perhaps false, is
+  dropped : (alarm : ℕ) → Name
   -- of the first inputs at least so many are true
   reaches : (inputs amount : ℕ) → Name
   -- one of the first inputs of an "at most one" is true

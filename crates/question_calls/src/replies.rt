@@ -36,9 +36,10 @@ fn run_of(rt: &impl Abort, alloc: Global, net: &Network, text: &str) -> Run
 }
 
 // A text of a run, and how the run is printed.
-const RUNS: [(&str, &str); 4] = [
+const RUNS: [(&str, &str); 5] = [
     ("run 0", "> run 0\n"),
     ("run 1\njam\n", "> run 1\njam\n"),
+    ("run 2\n! a1\njam\n", "> run 2\n! a1\njam\n"),
     (
         "EXPLAINED 2\n# by hand\nrun 3\r\n\njam\n trip\ta1\njam",
         "> run 3\njam\ntrip a1\njam\n",

@@ -1,6 +1,6 @@
 // What a run and a book must show of an answer.
-ghost use Rattle.std.specs.Prelude.{◌≡◌, ◌<◌, All, IsTrue, length};
-ghost use Rattle.replay.specs.Traced.{word_of};
+ghost use Rattle.std.specs.Prelude.{◌≡◌, ◌<◌, All, IfSome, IsTrue, length};
+ghost use Rattle.replay.specs.Traced.{event_of, word_of};
 
 use des_net::Network;
 use least_faults::{Best, Found};
@@ -15,11 +15,21 @@ fn are_known(net: &Network, steps: &[RunStep]) -> bool
     ensures { IsTrue result → All (λ e. e < length net.now.events) (word_of steps.now) }
 {
     for step in steps {
-        if step.event.0 >= net.events() {
+        if !is_known(net, step) {
             return false;
         }
     }
     true
+}
+
+// Whether the event of the step, if it has one, is the network's.
+fn is_known(net: &Network, step: &RunStep) -> bool
+    ensures { IsTrue result → IfSome (event_of step.now) (λ e. e < length net.now.events) }
+{
+    match step {
+        RunStep::Happens { event, .. } => event.0 < net.events(),
+        RunStep::Dropped { .. } => true,
+    }
 }
 
 // Sees that the run explains the log, with so many faults.

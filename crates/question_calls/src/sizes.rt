@@ -13,9 +13,10 @@ type Row = (&'static str, u32, u64);
 const SIZES_OF_NOTHING: [Row; 2] = [("", 3, 0), ("alarm,x0,T\n", 3, 3)];
 
 // One component, of 3 states, which 4 events touch; one of these is a fault.
-const SIZES_OF_VALVE: [Row; 4] = [
+const SIZES_OF_VALVE: [Row; 5] = [
     ("", 2, 2 * 49 + 512),
     ("alarm,x0,T\n", 2, 614),
+    ("maybe,x0,T\n", 2, 870),
     ("alarm,x0,T\n", 0, 0),
     (
         "alarm,x0,T|F|B\nalarm,x1,X\nbefore,x0,x1\n",

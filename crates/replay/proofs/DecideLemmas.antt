@@ -1,7 +1,7 @@
 -- The test for explanations is right.
 use Rattle.std.proofs.Common.{◌≡◌, ℕ, true, false, ◌&&◌, List, [], ◌∷◌, length, Option, None, Some, refl, ap, Contains, nat_le}
 use Rattle.std.specs.Prelude.{is_none, IsSomeAnd}
-use Rattle.std.specs.List.{AllZip}
+use Rattle.std.specs.List.{AllByRecursion, AllZip, list_all}
 use Rattle.std.specs.Option.{option_map_or}
 use Rattle.des_base.proofs.BoolLemmas.{both, join, is_most, most_is}
 use Rattle.des_net.specs.Network.{Net, label_of}
@@ -10,7 +10,7 @@ use Rattle.des_net.specs.Width.{need}
 use Rattle.des_net.proofs.Local.{runs_are_local}
 use Rattle.des_net.proofs.WidthLemmas.{need_is_least}
 use Rattle.log_order.specs.Log.{Log, labels_of}
-use Rattle.replay.specs.Explanation.{observables, Shows, Linearises}
+use Rattle.replay.specs.Explanation.{Entry, alarms_of, real_alarms, may_stand, observables, Shows, Linearises}
 use Rattle.replay.specs.Matching.{has_label, wrong_pair}
 use Rattle.replay.specs.Deciding.{all_show, lists_once, linearises, ExplainsDecides}
 use Rattle.replay.proofs.ListTests.{text_in, in_text, none_is, listed_from, listed_test, kept_from, none_wrong}
@@ -38,17 +38,32 @@ shown_test net log (e ∷ events) [] h = absurd h
 shown_test net log (e ∷ events) (i ∷ order) h =
     join (option_map_or (has_label log i) (label_of net e) false) (all_show net log events order) (in_label log i (label_of net e) h.0) (shown_test net log events order h.1)
 
-linear_from : (net : Net) (log : Log) (word order : List ℕ) → linearises net log word order ≡ true → Linearises net log word order
-linear_from net log word order h =
-    let two = both (lists_once (length log.alarms) order && all_show net log (observables net word) order) (is_none (wrong_pair order log.pairs)) h in
-    let parts = both (lists_once (length log.alarms) order) (all_show net log (observables net word) order) two.0 in
-    record { complete = listed_from (length log.alarms) order parts.0; shown = shown_from net log (observables net word) order parts.1; kept = kept_from order log.pairs (none_is _ two.1) }
+standing_from : (log : Log) (order : List Entry) → list_all (may_stand log) order ≡ true → AllByRecursion (λ entry. may_stand log entry ≡ true) order
+standing_from log [] h = tt
+standing_from log (entry ∷ order) h = let two = both (may_stand log entry) (list_all (may_stand log) order) h in (two.0, standing_from log order two.1)
 
-linear_test : (net : Net) (log : Log) (word order : List ℕ) → Linearises net log word order → linearises net log word order ≡ true
+standing_test : (log : Log) (order : List Entry) → AllByRecursion (λ entry. may_stand log entry ≡ true) order → list_all (may_stand log) order ≡ true
+standing_test log [] h = refl
+standing_test log (entry ∷ order) h = join (may_stand log entry) (list_all (may_stand log) order) h.0 (standing_test log order h.1)
+
+linear_from : (net : Net) (log : Log) (word : List ℕ) (order : List Entry) → linearises net log word order ≡ true → Linearises net log word order
+linear_from net log word order h =
+    let three = both (lists_once (length log.alarms) (alarms_of order) && list_all (may_stand log) order && all_show net log (observables net word) (real_alarms order)) (is_none (wrong_pair (alarms_of order) log.pairs)) h in
+    let two = both (lists_once (length log.alarms) (alarms_of order) && list_all (may_stand log) order) (all_show net log (observables net word) (real_alarms order)) three.0 in
+    let parts = both (lists_once (length log.alarms) (alarms_of order)) (list_all (may_stand log) order) two.0 in record {
+      complete = listed_from (length log.alarms) (alarms_of order) parts.0;
+      doubted = standing_from log order parts.1;
+      shown = shown_from net log (observables net word) (real_alarms order) two.1;
+      kept = kept_from (alarms_of order) log.pairs (none_is _ three.1);
+    }
+
+linear_test : (net : Net) (log : Log) (word : List ℕ) (order : List Entry) → Linearises net log word order → linearises net log word order ≡ true
 linear_test net log word order h =
-    join (lists_once (length log.alarms) order && all_show net log (observables net word) order) (is_none (wrong_pair order log.pairs))
-    (join (lists_once (length log.alarms) order) (all_show net log (observables net word) order) (listed_test (length log.alarms) order h.complete) (shown_test net log (observables net word) order h.shown))
-    (ap is_none (none_wrong order log.pairs h.kept))
+    join (lists_once (length log.alarms) (alarms_of order) && list_all (may_stand log) order && all_show net log (observables net word) (real_alarms order)) (is_none (wrong_pair (alarms_of order) log.pairs))
+    (join (lists_once (length log.alarms) (alarms_of order) && list_all (may_stand log) order) (all_show net log (observables net word) (real_alarms order))
+    (join (lists_once (length log.alarms) (alarms_of order)) (list_all (may_stand log) order) (listed_test (length log.alarms) (alarms_of order) h.complete) (standing_test log order h.doubted))
+    (shown_test net log (observables net word) (real_alarms order) h.shown))
+    (ap is_none (none_wrong (alarms_of order) log.pairs h.kept))
 
 pub explains_decides : ExplainsDecides
 explains_decides net log n word order = (

@@ -1,13 +1,13 @@
 -- Worked sizes of questions, and bounds on their variables.
-use Rattle.std.proofs.Common.{◌≡◌, List, [], ◌∷◌, refl}
+use Rattle.std.proofs.Common.{◌≡◌, true, false, [], ◌∷◌, refl}
 use Rattle.std.specs.Prelude.{codes}
 use Rattle.des_net.specs.Models.{pump, nothing, settled}
-use Rattle.log_order.specs.Log.{Alarm, Log, no_log}
+use Rattle.log_order.specs.Log.{Log, no_log}
 use Rattle.replay.specs.QuestionSize.{question_size, variable_bound}
 
 -- one alarm, that of a trip
 abbrev tripped : Log
-tripped = record { alarms = record { name = codes "a1"; labels = codes "T" ∷ [] } ∷ []; pairs = [] }
+tripped = record { alarms = record { name = codes "a1"; labels = codes "T" ∷ []; doubtful = false } ∷ []; pairs = [] }
 
 pub pump-size : question_size pump tripped 2 ≡ 614
 pump-size = refl
@@ -16,9 +16,19 @@ pump-size = refl
 pub pump-variables : variable_bound pump tripped 2 ≡ 541
 pump-variables = refl
 
+-- the same where it is doubtful: 256 more for the counter, and one variable beside
+abbrev perhaps_tripped : Log
+perhaps_tripped = record { alarms = record { name = codes "a1"; labels = codes "T" ∷ []; doubtful = true } ∷ []; pairs = [] }
+
+pub pump-perhaps_size : question_size pump perhaps_tripped 2 ≡ 870
+pump-perhaps_size = refl
+
+pub pump-perhaps_variables : variable_bound pump perhaps_tripped 2 ≡ 798
+pump-perhaps_variables = refl
+
 -- two alarms, of either event
 abbrev both_seen : Log
-both_seen = record { alarms = record { name = codes "x"; labels = codes "A" ∷ [] } ∷ record { name = codes "y"; labels = codes "B" ∷ [] } ∷ []; pairs = [] }
+both_seen = record { alarms = record { name = codes "x"; labels = codes "A" ∷ []; doubtful = false } ∷ record { name = codes "y"; labels = codes "B" ∷ []; doubtful = false } ∷ []; pairs = [] }
 
 pub settled-variables : variable_bound settled both_seen 2 ≡ 29
 settled-variables = refl

@@ -1,14 +1,14 @@
 -- What the lines of a run text say, line by line.
-use Rattle.std.proofs.Common.{◌≡◌, ◌<◌, ℕ, suc, Bool, true, false, cond, List, [], ◌∷◌, length, Option, None, Some, arith, ap, sym, ◌∙◌, subst}
-use Rattle.std.specs.Prelude.{option_map, IfSome}
+use Rattle.std.proofs.Common.{◌≡◌, ◌<◌, ℕ, suc, Bool, true, false, cond, List, [], ◌∷◌, length, Option, None, Some, refl, arith, ap, sym, ◌∙◌, subst}
+use Rattle.std.specs.Prelude.{option_map, IfSome, nat_le, not, is_none, ◌≤◌}
+use Rattle.std.specs.List.{list_all}
+use Rattle.std.proofs.lemmas.Bool.Decides.{nat_tests}
+use Rattle.des_base.specs.Names.{is_name_text}
 use Rattle.des_base.specs.Names.{place_by, place_of}
 use Rattle.des_base.specs.CountedLines.{NumberedLine, counted_lines, numbered, tokens_of, last_line}
 use Rattle.des_net.specs.Network.{Net}
 use Rattle.des_net.specs.Building.{IsDraft}
-use Rattle.std.specs.Option.{option_or}
-use Rattle.replay.specs.declared.run_text.RunFault.{RunFault}
-use Rattle.replay.specs.declared.run_text.RunRefusal.{RunRefusal}
-use Rattle.replay.specs.RunText.{after_reply_line, stated_length, fault_at, fault_of_steps, fault_of_lines, first_fault, Tells}
+use Rattle.replay.specs.RunText.{step_code, step_words, names_in, knows_event, after_reply_line, stated_length, fault_of_steps, fault_of_lines, first_fault}
 
 place_step : (b : Bool) (q : Option ℕ) (n : ℕ) → IfSome q (λ j. j < n) → IfSome (cond b (Some 0) (option_map suc q)) (λ k. k < suc n)
 place_step true q n rest = omega arith
@@ -29,3 +29,17 @@ pub first_fault-steps : (net : Net) (bytes : List ℕ) (lines : List NumberedLin
 first_fault-steps net bytes lines number text stated steps all header length =
     ap (λ (ls : List NumberedLine). fault_of_lines net (last_line bytes) (after_reply_line ls)) (sym all) ∙ ap (fault_of_lines net (last_line bytes)) header
     ∙ ap (λ o. fault_of_steps net (last_line bytes) number o steps) (sym length)
+
+-- a line is well only where a line may still come
+above : (left : ℕ) → nat_le left 0 ≡ false → 1 ≤ left
+above left h = grind (arith, nat_tests)
+
+pub some_left : (net : Net) (left : ℕ) (words : List (List ℕ)) → step_code net left words ≡ None → 1 ≤ left
+some_left net left words h = by (nat_le left 0) refl h
+  where
+    rest : Option ℕ
+    rest = cond (is_none (step_words words)) (Some 2) (cond (not (list_all is_name_text (names_in words))) (Some 3) (cond (not (knows_event net words)) (Some 5) None))
+
+    by : (b : Bool) → nat_le left 0 ≡ b → (let code : Option ℕ = cond b (Some 4) rest in code ≡ None) → 1 ≤ left
+    by true e is = cc
+    by false e is = above left e

@@ -4,6 +4,7 @@ use Rattle.std.specs.Prelude.{codes, flat_map}
 use Rattle.des_net.specs.Network.{Net, no_net}
 use Rattle.des_base.specs.Names.{is_name_text, is_name_byte}
 use Rattle.replay.specs.declared.run.RunStep.{RunStep}
+use Rattle.replay.specs.declared.run.RunStep.TheVariants.{Happens, Dropped}
 use Rattle.replay.specs.declared.run_text.RunFault.{RunFault}
 use Rattle.replay.specs.RunText.{first_fault, run_of}
 
@@ -18,7 +19,7 @@ abbrev fault : ℕ → ℕ → Option RunFault
 fault line code = Some (record { line = line; code = code })
 
 abbrev step : ℕ → Option (List ℕ) → RunStep
-step event alarm = record { event = event; alarm = alarm }
+step event alarm = Happens event alarm
 
 -- ---- texts without a fault
 
@@ -39,6 +40,24 @@ reply = refl
 
 pub reply-run : run_of net (text_of (codes "EXPLAINED 1" ∷ codes "run 2" ∷ codes "g" ∷ codes "ea x1" ∷ [])) ≡ step 0 None ∷ step 1 (Some (codes "x1")) ∷ []
 reply-run = refl
+
+-- a false alarm
+pub false_alarm : first_fault net (text_of (codes "run 2" ∷ codes "! z" ∷ codes "eb" ∷ [])) ≡ None
+unfolding is_name_text is_name_byte
+false_alarm = refl
+
+pub false_alarm-run : run_of net (text_of (codes "run 2" ∷ codes "! z" ∷ codes "eb" ∷ [])) ≡ Dropped (codes "z") ∷ step 2 None ∷ []
+false_alarm-run = refl
+
+pub mark_alone : first_fault net (text_of (codes "run 1" ∷ codes "!" ∷ [])) ≡ fault 2 2
+mark_alone = refl
+
+pub false_no_name : first_fault net (text_of (codes "run 1" ∷ codes "! !" ∷ [])) ≡ fault 2 3
+unfolding is_name_text is_name_byte
+false_no_name = refl
+
+pub false_three_words : first_fault net (text_of (codes "run 1" ∷ codes "! x y" ∷ [])) ≡ fault 2 2
+false_three_words = refl
 
 -- ---- no header
 

@@ -7,7 +7,7 @@ use Rattle.des_net.specs.LocalRuns.{can_run}
 use Rattle.des_net.specs.Width.{need}
 use Rattle.log_order.specs.Log.{Log}
 use Rattle.log_order.specs.Precedence.{is_in}
-use Rattle.replay.specs.Explanation.{Explains, observables}
+use Rattle.replay.specs.Explanation.{Entry, alarms_of, real_alarms, may_stand, Explains, observables}
 use Rattle.replay.specs.Matching.{has_label, missing_alarm, wrong_pair}
 
 -- no number stands twice
@@ -26,12 +26,13 @@ all_show net log [] (alarm ∷ order) = false
 all_show net log (e ∷ events) [] = false
 all_show net log (e ∷ events) (alarm ∷ order) = option_map_or (has_label log alarm) (label_of net e) false && all_show net log events order
 
-abbrev pub linearises : Net → Log → List ℕ → List ℕ → Bool
-linearises net log word order = lists_once (length log.alarms) order && all_show net log (observables net word) order && is_none (wrong_pair order log.pairs)
+abbrev pub linearises : Net → Log → List ℕ → List Entry → Bool
+linearises net log word order =
+    lists_once (length log.alarms) (alarms_of order) && list_all (may_stand log) order && all_show net log (observables net word) (real_alarms order) && is_none (wrong_pair (alarms_of order) log.pairs)
 
-abbrev pub explains : Net → Log → ℕ → List ℕ → List ℕ → Bool
+abbrev pub explains : Net → Log → ℕ → List ℕ → List Entry → Bool
 explains net log n word order = can_run net word && nat_le (need net word) n && linearises net log word order
 
 -- the test tells what explains
 abbrev pub ExplainsDecides : Type 0
-ExplainsDecides = (net : Net) (log : Log) (n : ℕ) (word order : List ℕ) → IsTrue (explains net log n word order) ↔ Explains net log n word order
+ExplainsDecides = (net : Net) (log : Log) (n : ℕ) (word : List ℕ) (order : List Entry) → IsTrue (explains net log n word order) ↔ Explains net log n word order

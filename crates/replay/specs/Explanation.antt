@@ -1,10 +1,10 @@
 -- What explains an alarm log, and the least number of faults (Sampath et al., "Diagnosability of discrete-event systems", 1995; Grastien et al., "Diagnosis of discrete-event systems using satisfiability algorithms", 2007).
-use Rattle.std.specs.Prelude.{◌≡◌, ℕ, ◌<◌, ◌≤◌, List, length, Contains, filter, is_some, IsSomeAnd}
-use Rattle.std.specs.List.{AllZip}
+use Rattle.std.specs.Prelude.{◌≡◌, ℕ, ◌+◌, ◌<◌, ◌≤◌, Bool, not, ◌||◌, List, length, Contains, map, filter, count_by, is_some, IsSomeAnd, IsTrue}
+use Rattle.std.specs.List.{AllByRecursion, AllZip}
 use Rattle.des_net.specs.Network.{Net, label_of}
 use Rattle.des_net.specs.Run.{IsRun, fault_count}
 use Rattle.des_net.specs.Width.{Fits}
-use Rattle.log_order.specs.Log.{Log, ListsOnce, Keeps, labels_of}
+use Rattle.log_order.specs.Log.{Log, ListsOnce, Keeps, labels_of, is_doubtful}
 
 -- the events of a word that can be seen, in order
 abbrev pub observables : Net → List ℕ → List ℕ
@@ -14,30 +14,56 @@ observables net word = filter (λ e. is_some (label_of net e)) word
 abbrev pub Shows : Net → Log → ℕ → ℕ → Type 0
 Shows net log e alarm = IsSomeAnd (label_of net e) (Contains (labels_of log alarm))
 
--- The order has each alarm once. It is as long as the word has events that can be seen, and each of these shows the alarm at its place. The first alarm of each pair stands before the second.
-pub record Linearises (net : Net) (log : Log) (word order : List ℕ) : Type 0 where
-  pub complete : ListsOnce (length log.alarms) order
-  pub shown : AllZip (Shows net log) (observables net word) order
-  pub kept : Keeps order log.pairs
+-- an alarm in its place, and whether it is true: a false one stands for no event
+pub record Entry : Type 0 where
+  pub alarm : ℕ
+  pub real : Bool
 
--- a run of n pieces whose events that can be seen are, in this order, all alarms
-pub record Explains (net : Net) (log : Log) (n : ℕ) (word order : List ℕ) : Type 0 where
+-- the alarms in their order
+abbrev pub alarms_of : List Entry → List ℕ
+alarms_of order = map (λ entry. entry.alarm) order
+
+-- the true ones among them
+abbrev pub real_alarms : List Entry → List ℕ
+real_alarms order = alarms_of (filter (λ entry. entry.real) order)
+
+-- how many are false
+abbrev pub false_count : List Entry → ℕ
+false_count order = count_by (λ entry. not entry.real) order
+
+-- a false alarm is doubtful
+abbrev pub may_stand : Log → Entry → Bool
+may_stand log entry = entry.real || is_doubtful log entry.alarm
+
+-- The order has each alarm once, and a false one is doubtful. The true ones are as many as the events of the word that can be seen, and each of these shows the alarm at its place. The first alarm of each pair, true or false, stands before the second.
+pub record Linearises (net : Net) (log : Log) (word : List ℕ) (order : List Entry) : Type 0 where
+  pub complete : ListsOnce (length log.alarms) (alarms_of order)
+  pub doubted : AllByRecursion (λ entry. IsTrue (may_stand log entry)) order
+  pub shown : AllZip (Shows net log) (observables net word) (real_alarms order)
+  pub kept : Keeps (alarms_of order) log.pairs
+
+-- a run of n pieces whose events that can be seen are, in this order, all true alarms
+pub record Explains (net : Net) (log : Log) (n : ℕ) (word : List ℕ) (order : List Entry) : Type 0 where
   pub run : IsRun net word
   pub fits : Fits net word n
   pub linear : Linearises net log word order
+
+-- the fault events of a word, by occurrence, and the false alarms, each of which is one fault
+abbrev pub faults_of : Net → List ℕ → List Entry → ℕ
+faults_of net word order = fault_count net word + false_count order
 
 -- ---- answers
 
 -- some explanation has k faults
 pub record IsExplained (net : Net) (log : Log) (n k : ℕ) : Type 0 where
   pub word : List ℕ
-  pub order : List ℕ
+  pub order : List Entry
   pub explains : Explains net log n word order
-  pub faults : fault_count net word ≡ k
+  pub faults : faults_of net word order ≡ k
 
 -- each explanation has at least k faults
 abbrev pub NeedsFaults : Net → Log → ℕ → ℕ → Type 0
-NeedsFaults net log n k = (word order : List ℕ) → Explains net log n word order → k ≤ fault_count net word
+NeedsFaults net log n k = (word : List ℕ) (order : List Entry) → Explains net log n word order → k ≤ faults_of net word order
 
 -- k is the least number of faults of an explanation
 pub record IsLeast (net : Net) (log : Log) (n k : ℕ) : Type 0 where
@@ -46,7 +72,7 @@ pub record IsLeast (net : Net) (log : Log) (n k : ℕ) : Type 0 where
 
 -- nothing explains the log
 abbrev pub IsAbsent : Net → Log → ℕ → Type 0
-IsAbsent net log n = (word order : List ℕ) → Explains net log n word order → ⊥
+IsAbsent net log n = (word : List ℕ) (order : List Entry) → Explains net log n word order → ⊥
 
 -- something explains the log, and all that does has more than 255 faults
 pub record IsMany (net : Net) (log : Log) (n : ℕ) : Type 0 where

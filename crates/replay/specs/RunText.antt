@@ -7,6 +7,7 @@ use Rattle.des_base.specs.Numbers.{number_up_to}
 use Rattle.des_base.specs.CountedLines.{NumberedLine, counted_lines, tokens_of, last_line}
 use Rattle.des_net.specs.Network.{Net}
 use Rattle.replay.specs.declared.run.RunStep.{RunStep}
+use Rattle.replay.specs.declared.run.RunStep.TheVariants.{Happens, Dropped}
 use Rattle.replay.specs.declared.run_text.RunFault.{RunFault}
 use Rattle.replay.specs.declared.run_text.RunRefusal.{RunRefusal}
 use Rattle.replay.specs.declared.run_text.RunRefusal.TheVariants.{Fault, Memory}
@@ -31,24 +32,33 @@ stated_length (word ∷ []) = None
 stated_length (word ∷ count ∷ []) = if bytes_eq word (codes "run") then number_up_to 4000000 count else None
 stated_length (word ∷ count ∷ more ∷ words) = None
 
--- the words of a step's line: its event, and the name of an alarm where there is one
+-- with this word the line of a false alarm begins; it is no name
+abbrev pub is_mark : List ℕ → Bool
+is_mark word = bytes_eq word (codes "!")
+
+-- the words of a step's line: its event or the mark of a false alarm, and the name of an alarm where there is one, as after the mark
 abbrev pub step_words : List (List ℕ) → Option (List ℕ × Option (List ℕ))
 step_words [] = None
-step_words (event ∷ []) = Some (event, None)
+step_words (event ∷ []) = if is_mark event then None else Some (event, None)
 step_words (event ∷ alarm ∷ []) = Some (event, Some alarm)
 step_words (event ∷ alarm ∷ more ∷ words) = None
+
+-- those of them that must be names
+abbrev pub names_in : List (List ℕ) → List (List ℕ)
+names_in [] = []
+names_in (event ∷ words) = if is_mark event then words else event ∷ words
 
 -- the event is the network's
 abbrev pub knows_event : Net → List (List ℕ) → Bool
 knows_event net [] = false
-knows_event net (event ∷ words) = not (is_none (place_of event net.event_names))
+knows_event net (event ∷ words) = is_mark event || not (is_none (place_of event net.event_names))
 
--- The first code of a step's line, where so many lines may still come. A counted line has a word, so code 2 is for more than two.
+-- The first code of a step's line, where so many lines may still come. A counted line has a word, so code 2 is for more than two, or for the mark alone.
 abbrev pub step_code : Net → ℕ → List (List ℕ) → Option ℕ
 step_code net left words =
     if nat_le left 0 then Some 4
     else if is_none (step_words words) then Some 2
-    else if not (list_all is_name_text words) then Some 3
+    else if not (list_all is_name_text (names_in words)) then Some 3
     else if not (knows_event net words) then Some 5
     else None
 
@@ -81,8 +91,8 @@ first_fault net bytes = fault_of_lines net (last_line bytes) (after_reply_line (
 -- the step that a line says, where its event is known
 abbrev pub step_of : Net → List (List ℕ) → Option RunStep
 step_of net [] = None
-step_of net (event ∷ []) = option_map (λ e. record { event = e; alarm = None }) (place_of event net.event_names)
-step_of net (event ∷ alarm ∷ words) = option_map (λ e. record { event = e; alarm = Some alarm }) (place_of event net.event_names)
+step_of net (event ∷ []) = option_map (λ e. Happens e None) (place_of event net.event_names)
+step_of net (event ∷ alarm ∷ words) = if is_mark event then Some (Dropped alarm) else option_map (λ e. Happens e (Some alarm)) (place_of event net.event_names)
 
 abbrev pub steps_of : Net → List NumberedLine → List RunStep
 steps_of net lines = filter_map (λ line. step_of net (tokens_of line.text)) lines

@@ -1,10 +1,10 @@
-ghost use Rattle.std.specs.Prelude.{◌≡◌, ◌<◌, ◌≤◌, ◌++◌, length, All, IfOk, OnErr, true, None, bytes_eq, option_and_then};
+ghost use Rattle.std.specs.Prelude.{◌≡◌, ◌<◌, ◌≤◌, ◌++◌, length, All, IfOk, IfSome, OnErr, true, None, bytes_eq, option_and_then};
 ghost use Rattle.std.specs.List.{list_any};
 ghost use Rattle.std.specs.Option.{option_to_list};
 ghost use Rattle.des_base.specs.Names.{place_of};
 ghost use Rattle.log_order.specs.Adding.{names_of};
-ghost use Rattle.replay.specs.Traced.{word_of};
-ghost use Rattle.replay.specs.Matching.{order_of, suits, suits_name, with_step, bad_alarm};
+ghost use Rattle.replay.specs.Traced.{event_of, word_of};
+ghost use Rattle.replay.specs.Matching.{alarms_on, suits, suits_name, suits_alone, with_step, bad_alarm};
 ghost use Rattle.replay.specs.Placed.{none_placed};
 
 use crate::placing::Placing;
@@ -40,22 +40,41 @@ fn place_alarm(
     Ok(true)
 }
 
-// Gives the step's alarm its place, where the step's event can be seen: true where the alarm suits the event, and else false.
+// Gives the alarm of this name its place, where it is there, is doubtful and has none: then true, and else false.
+fn place_alone(placing: &mut Placing, log: &AlarmLog, name: &Name) -> Result<bool, Memory>
+    requires { placing.old.alarms ≡ length log.now.alarms }
+    ensures suits { IfOk result (λ suits. suits ≡ suits_alone log.now placing.old.order name.now) }
+    ensures placed { IfOk result (λ suits. suits ≡ true → placing.new ≡ record placing.old { order = placing.old.order ++ option_to_list (place_of name.now (names_of log.now.alarms)) }) }
+{
+    let Some(alarm) = log.find(name.as_str().as_bytes()) else {
+        return Ok(false);
+    };
+    if !log.is_maybe(alarm) || placing.has(alarm) {
+        return Ok(false);
+    }
+    placing.push(alarm)?;
+    Ok(true)
+}
+
+// Gives the step's alarm its place, where the step's event can be seen, or it has none: true where the alarm suits it, and else false.
 fn place_step(
     placing: &mut Placing,
     net: &Network,
     log: &AlarmLog,
     step: &RunStep,
 ) -> Result<bool, Memory>
-    requires event { step.now.event < length net.now.events }
+    requires event { IfSome (event_of step.now) (λ e. e < length net.now.events) }
     requires alarms { placing.old.alarms ≡ length log.now.alarms }
     ensures suits { IfOk result (λ good. good ≡ suits net.now log.now placing.old.order step.now) }
     ensures placed { IfOk result (λ good. good ≡ true → placing.new ≡ record placing.old { order = with_step log.now placing.old.order step.now }) }
 {
-    match (net.label(step.event), &step.alarm) {
-        (Some(label), Some(name)) => place_alarm(placing, log, label, name),
-        (None, None) => Ok(true),
-        _ => Ok(false),
+    match step {
+        RunStep::Happens { event, alarm } => match (net.label(*event), alarm) {
+            (Some(label), Some(name)) => place_alarm(placing, log, label, name),
+            (None, None) => Ok(true),
+            _ => Ok(false),
+        },
+        RunStep::Dropped { alarm } => place_alone(placing, log, alarm),
     }
 }
 
@@ -70,7 +89,7 @@ pub fn place_alarms(
     requires few { length steps.now ≤ 4000000 }
     requires none { placing.old ≡ none_placed (length log.now.alarms) }
     ensures bad { IfOk result (λ bad. bad ≡ bad_alarm net.now log.now steps.now) }
-    ensures placed { IfOk result (λ bad. bad ≡ None → placing.new ≡ record placing.old { order = order_of log.now steps.now }) }
+    ensures placed { IfOk result (λ bad. bad ≡ None → placing.new ≡ record placing.old { order = alarms_on log.now steps.now }) }
 {
     for (i, step) in steps.iter().enumerate() {
         if !place_step(placing, net, log, step)? {

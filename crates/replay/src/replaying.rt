@@ -1,6 +1,7 @@
-ghost use Rattle.std.specs.Prelude.{◌≡◌, ◌<◌, ◌≤◌, ◌↔◌, ℕ, length, All, IfOk, IfSome, MatchOption};
+ghost use Rattle.std.specs.Prelude.{◌≡◌, ◌<◌, ◌≤◌, ◌↔◌, ℕ, not, length, count_by, All, IfOk, IfSome, MatchOption};
 ghost use Rattle.des_net.specs.Run.{IsRun};
 ghost use Rattle.replay.specs.Traced.{word_of};
+ghost use Rattle.replay.specs.Matching.{is_real};
 ghost use Rattle.replay.specs.Replayed.{IsReplayed, IsAccepted, HasAlarms, NamesKnown};
 
 use crate::matching::place_alarms;
@@ -16,12 +17,13 @@ use std::alloc::Global;
 /// What replaying a run against a log tells: the first of these that holds.
 #[derive(Clone, Copy)]
 pub enum Replayed {
-    /// The run explains the log. The faults are the places with a fault event.
+    /// The run explains the log. The faults are the places with a fault event, and the false alarms.
     Accepted { faults: u32 },
     /// The first event that the network can't perform, by its place, counted from 1.
     Stuck { at: u32 },
     /// The first event that can be seen and has no alarm, that can't be seen and has one, or whose alarm isn't in the log,
-    /// hasn't its label or came before, by its place, counted from 1.
+    /// hasn't its label or came before, or false alarm that isn't in the log, isn't doubtful or came before, by its place,
+    /// counted from 1.
     BadAlarm { at: u32 },
     /// The first alarm of the log that the run doesn't name, counted from 0.
     Missing { alarm: u32 },
@@ -57,7 +59,24 @@ pub fn replay(
     if need > n {
         return Ok(Replayed::TooWide { need });
     }
-    Ok(Replayed::Accepted { faults })
+    Ok(Replayed::Accepted {
+        faults: faults + count_dropped(steps),
+    })
+}
+
+// How many steps are false alarms.
+fn count_dropped(steps: &[RunStep]) -> u32
+    requires { length steps.now ≤ 4000000 }
+    ensures count { result ≡ count_by (λ step. not (is_real step)) steps.now }
+    ensures few { result ≤ 4000000 }
+{
+    let mut dropped = 0;
+    for step in steps {
+        if step.is_dropped() {
+            dropped += 1;
+        }
+    }
+    dropped
 }
 
 // The first that is wrong with the alarms that the steps name.

@@ -1,4 +1,6 @@
-ghost use Rattle.std.specs.Prelude.{◌≡◌, ◌<◌, ◌≤◌, [], ◌∷◌, ◌++◌, length, OnOk, OnErr};
+ghost use Rattle.std.specs.Prelude.{◌≡◌, ◌<◌, ◌≤◌, [], ◌∷◌, ◌++◌, not, length, OnOk, OnErr};
+ghost use Rattle.replay.specs.Traced.{event_of};
+ghost use Rattle.replay.specs.Matching.{is_real};
 
 use des_base::{EventId, Memory, Name};
 use std::alloc::Global;
@@ -6,11 +8,35 @@ use std::marker::Model;
 
 const STEPS: usize = 4_000_000;
 
-/// One event of a run, and the name of the alarm that it is matched to.
+/// A step of a run as it was written down.
 #[derive(Drop)]
-pub struct RunStep {
-    pub event: EventId,
-    pub alarm: Option<Name>,
+pub enum RunStep {
+    /// An event, and the name of the alarm that it is matched to.
+    Happens { event: EventId, alarm: Option<Name> },
+    /// The name of an alarm that is false: it stands for no event.
+    Dropped { alarm: Name },
+}
+
+impl RunStep {
+    /// The event of the step.
+    pub fn event(&self) -> Option<EventId>
+        ensures { result ≡ event_of self.now }
+    {
+        match self {
+            RunStep::Happens { event, .. } => Some(*event),
+            RunStep::Dropped { .. } => None,
+        }
+    }
+
+    // Whether it is a false alarm.
+    pub(crate) fn is_dropped(&self) -> bool
+        ensures { result ≡ not (is_real self.now) }
+    {
+        match self {
+            RunStep::Happens { .. } => false,
+            RunStep::Dropped { .. } => true,
+        }
+    }
 }
 
 /// A run as it was written down: at most 4,000,000 steps.

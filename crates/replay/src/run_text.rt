@@ -1,10 +1,10 @@
-ghost use Rattle.std.specs.Prelude.{◌≡◌, ◌<◌, ◌≤◌, ◌^◌, ℕ, [], ◌∷◌, length, All, IfOk, IfErr, IfSome, OnOk, MatchOption, Some, None, codes, true, if◌then◌else◌};
+ghost use Rattle.std.specs.Prelude.{◌≡◌, ◌<◌, ◌≤◌, ◌^◌, ℕ, [], ◌∷◌, length, All, IfOk, IfErr, IfSome, OnOk, MatchOption, ⊤, is_none, Some, None, codes, true, if◌then◌else◌};
 ghost use Rattle.std.specs.Option.{option_copied, option_to_list};
 ghost use Rattle.std.specs.List.{list_all};
 ghost use Rattle.des_base.specs.Names.{is_name_text};
 ghost use Rattle.des_base.specs.CountedLines.{numbered, tokens_of, last_line};
-ghost use Rattle.replay.specs.Traced.{word_of};
-ghost use Rattle.replay.specs.RunText.{is_reply_word, is_reply_line, after_reply_line, stated_length, step_code, step_words, step_of, steps_of, fault_at, fault_of_steps, first_fault, run_of, Tells};
+ghost use Rattle.replay.specs.Traced.{event_of, word_of};
+ghost use Rattle.replay.specs.RunText.{is_reply_word, is_reply_line, is_mark, after_reply_line, stated_length, step_code, step_words, step_of, steps_of, fault_at, fault_of_steps, first_fault, run_of, Tells};
 ghost use Rattle.replay.specs.declared.run_text.RunRefusal.TheVariants.{Memory as NoMemory};
 
 use crate::run::{Run, RunStep};
@@ -15,7 +15,7 @@ use std::alloc::Global;
 /// The line of the first fault of a run text, counted from 1, and its code.
 ///
 /// 1: the first counted line (but for that of a printed reply) isn't `run T`, or is missing. 2: a line has more than two
-/// words. 3: a word isn't a name. 4: there are fewer lines than T, which is a fault of the text's end, or more. 5: the
+/// words, or the mark `!` alone. 3: a word isn't a name. 4: there are fewer lines than T, which is a fault of the text's end, or more. 5: the
 /// network has no such event.
 #[derive(Clone, Copy)]
 pub struct RunFault {
@@ -52,14 +52,14 @@ const OTHER_LENGTH: u8 = 4;
 
 const UNKNOWN_EVENT: u8 = 5;
 
-// The words of a step's line.
+// The words of a step's line: its event or the mark of a false alarm, and an alarm, which stands after a mark.
 #[derive(Clone, Copy)]
 struct StepWords<'a> {
     event: &'a [u8],
     alarm: Option<&'a [u8]>,
 }
 
-/// The run that the text says: a line `run T`, and then T lines `EVENT` or `EVENT ALARM`, at most 4,000,000.
+/// The run that the text says: a line `run T`, and then T lines `EVENT`, `EVENT ALARM` or `! ALARM`, at most 4,000,000.
 ///
 /// Words stand between spaces and tabs. Blank lines and lines that begin with `#` are skipped. A printed reply that has a
 /// run is a run text as it stands: its first line is skipped. Alarm names are kept as they are, whether or not there is
@@ -158,7 +158,7 @@ fn read_steps(
 // The step of a line, where so many steps may still come.
 fn read_step(alloc: Global, net: &Network, left: u64, line: Line<'_>) -> Result<RunStep, RunRefusal>
     ensures step { IfOk result (λ step. step_of net.now (tokens_of line.entry.text.now) ≡ Some step) }
-    ensures known { IfOk result (λ step. step.event < length net.now.events) }
+    ensures known { IfOk result (λ step. IfSome (event_of step) (λ e. e < length net.now.events)) }
     ensures well { OnOk result (step_code net.now left (tokens_of line.entry.text.now) ≡ None) }
     ensures refused { IfErr result (Tells (fault_at line.entry.number (step_code net.now left (tokens_of line.entry.text.now)))) }
 {
@@ -168,24 +168,46 @@ fn read_step(alloc: Global, net: &Network, left: u64, line: Line<'_>) -> Result<
     let Some(words) = step_words(line) else {
         return Err(fault(line.number, TOO_MANY_WORDS));
     };
+    if is_mark(words.event) {
+        return read_dropped(alloc, line.number, words.alarm);
+    }
     if !is_name(words.event) {
         return Err(fault(line.number, NO_NAME));
     }
     let alarm = read_alarm(alloc, line.number, words.alarm)?;
     match net.find_event(words.event) {
-        Some(event) => Ok(RunStep { event, alarm }),
+        Some(event) => Ok(RunStep::Happens { event, alarm }),
         None => Err(fault(line.number, UNKNOWN_EVENT)),
     }
 }
 
-// The words of a step's line, one or two.
+// Whether a false alarm's line begins with this word.
+fn is_mark(word: &[u8]) -> bool
+    ensures { result ≡ is_mark word.now }
+{
+    word == b"!".as_slice()
+}
+
+// The false alarm of this name.
+fn read_dropped(alloc: Global, line: u32, text: Option<&[u8]>) -> Result<RunStep, RunRefusal>
+    ensures step { IfOk result (λ step. MatchOption (option_copied text.entry) ⊤ (λ name. step ≡ RunStep.Dropped name)) }
+    ensures name { OnOk result (list_all is_name_text (option_to_list (option_copied text.entry)) ≡ true) }
+    ensures refused { IfErr result (Tells (fault_at line (if is_none (option_copied text.entry) then Some 2 else if list_all is_name_text (option_to_list (option_copied text.entry)) then None else Some 3))) }
+{
+    match read_alarm(alloc, line, text)? {
+        Some(alarm) => Ok(RunStep::Dropped { alarm }),
+        None => Err(fault(line, TOO_MANY_WORDS)),
+    }
+}
+
+// The words of a step's line, one or two. The mark doesn't stand alone.
 fn step_words<'a>(line: Line<'a>) -> Option<StepWords<'a>>
     ensures { MatchOption result (step_words (tokens_of line.entry.text.now) ≡ None) (λ words. step_words (tokens_of line.entry.text.now) ≡ Some (words.event.now, option_copied words.alarm)) }
 {
     let mut tokens = line.tokens();
     let event = tokens.next_token()?.text;
     let Some(alarm) = tokens.next_token() else {
-        return Some(StepWords { event, alarm: None });
+        return lone_event(event);
     };
     match tokens.next_token() {
         Some(_) => None,
@@ -194,6 +216,16 @@ fn step_words<'a>(line: Line<'a>) -> Option<StepWords<'a>>
             alarm: Some(alarm.text),
         }),
     }
+}
+
+// The one word of a line, where it is no mark.
+fn lone_event<'a>(event: &'a [u8]) -> Option<StepWords<'a>>
+    ensures { MatchOption result (step_words (event.now ∷ []) ≡ None) (λ words. step_words (event.now ∷ []) ≡ Some (words.event.now, option_copied words.alarm)) }
+{
+    if is_mark(event) {
+        return None;
+    }
+    Some(StepWords { event, alarm: None })
 }
 
 // The name of an alarm, where there is one, on the line of this number.

@@ -1,12 +1,13 @@
-ghost use Rattle.std.specs.Prelude.{◌≡◌, ◌<◌, ◌≤◌, ◌==◌, ◌+◌, ℕ, length, All, IfOk, slice_index, if◌then◌else◌};
+ghost use Rattle.std.specs.Prelude.{◌≡◌, ◌<◌, ◌≤◌, ◌==◌, ◌+◌, ◌++◌, ℕ, length, All, IfOk, OnOk, slice_index, if◌then◌else◌};
 ghost use Rattle.std.specs.List.{list_any};
 ghost use Rattle.des_net.specs.Network.{parts_of, has_part};
 ghost use Rattle.des_net.specs.Width.{need};
 ghost use Rattle.des_net.specs.Building.{IsDraft};
-ghost use Rattle.replay.specs.Traced.{word_of};
+ghost use Rattle.std.specs.Option.{option_to_list};
+ghost use Rattle.replay.specs.Traced.{event_of, word_of};
 
 use crate::run::RunStep;
-use des_base::Memory;
+use des_base::{EventId, Memory};
 use des_net::{Network, Part};
 use std::alloc::Global;
 
@@ -19,10 +20,41 @@ pub fn need(alloc: Global, net: &Network, steps: &[RunStep]) -> Result<u32, Memo
     requires few { length steps.now ≤ 4000000 }
     ensures { IfOk result (λ pieces. pieces ≡ need net.now (word_of steps.now)) }
 {
+    let events = events_of(alloc, steps)?;
+    pieces_of(alloc, net, events.as_slice())
+}
+
+// The events of the steps, in order.
+fn events_of(alloc: Global, steps: &[RunStep]) -> Result<Vec<EventId>, Memory>
+    ensures events { IfOk result (λ events. events.items ≡ word_of steps.now) }
+    ensures few { IfOk result (λ events. length events.items ≤ length steps.now) }
+{
+    let mut events = Vec::new(alloc);
+    for step in steps {
+        push_event(&mut events, step)?;
+    }
+    Ok(events)
+}
+
+fn push_event(events: &mut Vec<EventId>, step: &RunStep) -> Result<(), Memory>
+    ensures { OnOk result (events.new.items ≡ events.old.items ++ option_to_list (event_of step.now)) }
+{
+    if let Some(event) = step.event() {
+        events.push(event)?;
+    }
+    Ok(())
+}
+
+// The least number of pieces that the events take.
+fn pieces_of(alloc: Global, net: &Network, events: &[EventId]) -> Result<u32, Memory>
+    requires known { All (λ e. e < length net.now.events) events.now }
+    requires few { length events.now ≤ 4000000 }
+    ensures { IfOk result (λ pieces. pieces ≡ need net.now events.now) }
+{
     let mut last = vec![in alloc; 0u32; net.components() as usize]?;
     let mut pieces = 0u32;
-    for step in steps {
-        let event = net.event(step.event);
+    for number in events {
+        let event = net.event(*number);
         pieces = take_event(&mut last, event.parts.as_slice(), pieces);
     }
     Ok(pieces)

@@ -6,6 +6,7 @@ use Rattle.des_net.specs.Models.{pump}
 use Rattle.least_faults.specs.declared.answer.Found.TheVariants.{Explained, Absent, Many, Undecided}
 use Rattle.proof_ledger.specs.declared.checker.Checked.TheVariants.{Rejected}
 use Rattle.replay.specs.declared.run.RunStep.{RunStep}
+use Rattle.replay.specs.declared.run.RunStep.TheVariants.{Happens, Dropped}
 use Rattle.replay.specs.declared.replaying.Replayed.TheVariants.{Missing, Order}
 use Rattle.replay.specs.declared.tracing.Traced.TheVariants.{Stuck}
 use Rattle.report.specs.Replies.{text_of_traced, text_of_replayed, text_of_checked, text_of_run, text_of_found}
@@ -28,13 +29,17 @@ pub nothing_happened : text_of_run pump [] ≡ codes "run 0\n"
 unfolding digits
 nothing_happened = refl
 
-pub jammed_and_tripped : text_of_run pump (record { event = 0; alarm = None } ∷ record { event = 1; alarm = Some (codes "x1") } ∷ []) ≡ codes "run 2\njam\ntrip x1\n"
+pub jammed_and_tripped : text_of_run pump (Happens 0 None ∷ Happens 1 (Some (codes "x1")) ∷ []) ≡ codes "run 2\njam\ntrip x1\n"
 unfolding digits
 jammed_and_tripped = refl
 
+pub one_false_alarm : text_of_run pump (Dropped (codes "a1") ∷ Happens 0 None ∷ []) ≡ codes "run 2\n! a1\njam\n"
+unfolding digits
+one_false_alarm = refl
+
 -- it jams
 abbrev jammed : List RunStep
-jammed = record { event = 0; alarm = None } ∷ []
+jammed = Happens 0 None ∷ []
 
 pub one_fault : text_of_found pump 2 (Explained (record { faults = 1; run = jammed })) ≡ codes "EXPLAINED 1\nrun 1\njam\n"
 unfolding digits

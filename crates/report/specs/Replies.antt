@@ -9,6 +9,7 @@ use Rattle.proof_ledger.specs.declared.checker.Checked.TheVariants.{Verified, Re
 use Rattle.replay.specs.declared.replaying.Replayed.{Replayed}
 use Rattle.replay.specs.declared.replaying.Replayed.TheVariants.{Accepted, Stuck as AtEvent, BadAlarm, Missing, Order, TooWide}
 use Rattle.replay.specs.declared.run.RunStep.{RunStep}
+use Rattle.replay.specs.declared.run.RunStep.TheVariants.{Happens, Dropped}
 use Rattle.replay.specs.Traced.{word_of}
 use Rattle.replay.specs.declared.tracing.Traced.{Traced}
 use Rattle.replay.specs.declared.tracing.Traced.TheVariants.{Ran, Stuck}
@@ -57,11 +58,12 @@ abbrev pub text_of_alarm : Option (List ℕ) → List ℕ
 text_of_alarm (Some name) = 32 ∷ name
 text_of_alarm None = []
 
--- the name of the event, and of the alarm where it has one
+-- the name of the event, and of the alarm where it has one; or a mark and the name of a false alarm
 abbrev pub text_of_step : Net → RunStep → List ℕ
-text_of_step net step = slice_index_or net.event_names step.event [] ++ text_of_alarm step.alarm ++ 10 ∷ []
+text_of_step net (Happens event alarm) = slice_index_or net.event_names event [] ++ text_of_alarm alarm ++ 10 ∷ []
+text_of_step net (Dropped alarm) = named (codes "! ") alarm
 
--- the number of the events, and then a line for each
+-- the number of the steps, and then a line for each
 abbrev pub text_of_run : Net → List RunStep → List ℕ
 text_of_run net steps = numbered (codes "run ") (length steps) ++ flat_map (text_of_step net) steps
 

@@ -1,14 +1,15 @@
-ghost use Rattle.std.specs.Prelude.{◌≡◌, ◌<◌, ◌++◌, [], All, length, flat_map, slice_index_or, OnErr, OnOk};
-ghost use Rattle.replay.specs.Traced.{word_of};
+ghost use Rattle.std.specs.Prelude.{◌≡◌, ◌<◌, ◌++◌, ◌∷◌, [], All, IfSome, length, flat_map, slice_index_or, OnErr, OnOk};
+ghost use Rattle.replay.specs.Traced.{event_of, word_of};
 ghost use Rattle.report.specs.Appending.{Extends};
 ghost use Rattle.report.specs.Replies.{text_of_alarm, text_of_run, text_of_step};
 
-use crate::pieces::{push_numbered, push_text, whole_or_nothing};
+use crate::pieces::{push_named, push_numbered, push_text, whole_or_nothing};
 use des_base::{EventId, Memory, Name};
 use des_net::Network;
 use replay::{Run, RunStep};
 
-/// Appends a run: `run` and the number of its events, and then a line for each event, with its name and that of its alarm.
+/// Appends a run: `run` and the number of its steps, and then a line for each step, with the name of its event and that of its
+/// alarm. A false alarm stands behind the mark `!`.
 pub fn print_run(run: &Run, net: &Network, out: &mut Vec<u8>) -> Result<(), Memory>
     requires { All (λ e. e < length net.now.events) (word_of run.now) }
     ensures ok { OnOk result (out.new.items ≡ out.old.items ++ text_of_run net.now run.now) }
@@ -42,12 +43,29 @@ fn push_steps(steps: &[RunStep], net: &Network, out: &mut Vec<u8>) -> Result<(),
 }
 
 fn push_step(step: &RunStep, net: &Network, out: &mut Vec<u8>) -> Result<(), Memory>
-    requires { step.now.event < length net.now.events }
+    requires { IfSome (event_of step.now) (λ e. e < length net.now.events) }
     ensures ok { OnOk result (out.new.items ≡ out.old.items ++ text_of_step net.now step.now) }
     ensures kept { Extends out.old.items out.new.items }
 {
-    push_text(name_of(net, step.event), out)?;
-    push_alarm(&step.alarm, out)?;
+    match step {
+        RunStep::Happens { event, alarm } => push_event(*event, alarm, net, out),
+        RunStep::Dropped { alarm } => push_named("! ", alarm.as_str(), out),
+    }
+}
+
+// The line of an event, with its alarm.
+fn push_event(
+    event: EventId,
+    alarm: &Option<Name>,
+    net: &Network,
+    out: &mut Vec<u8>,
+) -> Result<(), Memory>
+    requires { event < length net.now.events }
+    ensures ok { OnOk result (out.new.items ≡ out.old.items ++ (slice_index_or net.now.event_names event [] ++ text_of_alarm alarm.now ++ 10 ∷ [])) }
+    ensures kept { Extends out.old.items out.new.items }
+{
+    push_text(name_of(net, event), out)?;
+    push_alarm(alarm, out)?;
     push_text("\n", out)
 }
 

@@ -9,7 +9,7 @@ use Rattle.log_clauses.specs.LogClauses.{chain, observable_events, guard_literal
 use Rattle.log_order.specs.Log.{Log}
 use Rattle.prop_core.proofs.FamilyLemmas.{all_append}
 use Rattle.prop_core.specs.Clauses.{negation}
-use Rattle.prop_core.specs.VariableNames.{Name, in_state, happens, asked, matches, done, unmatched, closed, reaches, some_of_first, NamedLiteral, yes, name_of, named_literal, named_clause, ReadsAs}
+use Rattle.prop_core.specs.VariableNames.{Name, in_state, happens, asked, matches, done, unmatched, closed, dropped, reaches, some_of_first, NamedLiteral, yes, name_of, named_literal, named_clause, ReadsAs}
 use Rattle.prop_core.specs.declared.lit.Lit.{Lit}
 use Rattle.run_decode.specs.Drawn.{fault_inputs, at_most, bound_literals, assumption_literals}
 
@@ -21,6 +21,7 @@ is_guard (matches i e t) = false
 is_guard (done i t) = false
 is_guard (unmatched e k t) = false
 is_guard (closed e k) = true
+is_guard (dropped i) = false
 is_guard (reaches i j) = false
 is_guard (some_of_first family i) = false
 
@@ -36,12 +37,12 @@ at_most_signed : (m b : ℕ) → AllByRecursion HasSign (at_most m b)
 at_most_signed zero b = tt
 at_most_signed (suc m) b = (refl, tt)
 
-bound_signed : (net : Net) (n : ℕ) (bound : Option ℕ) → AllByRecursion HasSign (bound_literals net n bound)
-bound_signed net n None = tt
-bound_signed net n (Some b) = at_most_signed (length (fault_inputs net n)) b
+bound_signed : (net : Net) (log : Log) (n : ℕ) (bound : Option ℕ) → AllByRecursion HasSign (bound_literals net log n bound)
+bound_signed net log n None = tt
+bound_signed net log n (Some b) = at_most_signed (length (fault_inputs net log n)) b
 
 assumptions_signed : (net : Net) (log : Log) (n : ℕ) (bound : Option ℕ) → AllByRecursion HasSign (assumption_literals net log n bound)
-assumptions_signed net log n bound = all_append HasSign (guard_literals net log) (bound_literals net n bound) (refl, ends_signed net log (observable_events net)) (bound_signed net n bound)
+assumptions_signed net log n bound = all_append HasSign (guard_literals net log) (bound_literals net log n bound) (refl, ends_signed net log (observable_events net)) (bound_signed net log n bound)
 
 -- ---- over variables
 

@@ -3,20 +3,19 @@ use Rattle.std.proofs.Common.{◌≡◌, ℕ, suc, ◌<◌, ◌≤◌, ◌⊎◌
 use Rattle.std.proofs.lemmas.Bool.{cases_lt}
 use Rattle.std.specs.Bool.{beq}
 use Rattle.des_net.specs.Network.{Net}
-use Rattle.des_net.specs.Run.{fault_count}
 use Rattle.log_clauses.proofs.Lists.{all_at, or_cases}
 use Rattle.log_order.specs.Log.{Log}
 use Rattle.prop_core.specs.Clauses.{Clause, literal_true, clause_true, negation, AllLiteralsTrue}
 use Rattle.prop_core.specs.declared.lit.Lit.{Lit}
-use Rattle.replay.specs.Explanation.{NeedsFaults}
+use Rattle.replay.specs.Explanation.{NeedsFaults, faults_of}
 use Rattle.run_decode.proofs.Questions.{question_is_faithful}
 use Rattle.run_decode.specs.Decided.{IsRefuted, Entails, NegatesOnly, FaithfulDecides, RefutedIsDecided, NoneIsLeast, QuestionIsDecided}
 use Rattle.run_decode.specs.Faithful.{IsFaithful}
 
 above : (net : Net) (log : Log) (n b : ℕ) (clauses : List Clause) (assumed : List Lit) → IsFaithful clauses assumed net log n (Some b) → IsRefuted clauses assumed → NeedsFaults net log n (suc b)
-above net log n b clauses assumed faithful refuted word order explains = by (cases_lt b (fault_count net word))
+above net log n b clauses assumed faithful refuted word order explains = by (cases_lt b (faults_of net word order))
   where
-    by : (b < fault_count net word) ⊎ (fault_count net word ≤ b) → suc b ≤ fault_count net word
+    by : (b < faults_of net word order) ⊎ (faults_of net word order ≤ b) → suc b ≤ faults_of net word order
     by (inl more) = omega (arith, more)
     by (inr few) = absurd (let found = faithful.complete word order explains few in refuted found.0 found.1)
 

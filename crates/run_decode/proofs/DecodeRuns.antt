@@ -1,28 +1,31 @@
 -- The run that is decoded, by steps: what its word and its alarms are, and how long it is.
-use Rattle.std.proofs.Common.{◌≡◌, ◌≢◌, ℕ, zero, suc, ◌+◌, ◌<◌, ◌≤◌, ◌∙◌, Bool, true, false, List, [], ◌∷◌, ◌++◌, length, map, flat_map, filter, filter_map, Option, Some, None, refl, sym, ap, subst, arith, slice_index_or, Contains, not, ◌==◌}
+use Rattle.std.proofs.Common.{◌≡◌, ℕ, zero, suc, ◌+◌, ◌<◌, ◌≤◌, ◌∙◌, Bool, true, false, List, [], ◌∷◌, ◌++◌, length, map, flat_map, filter, filter_map, Option, Some, None, refl, sym, ap, subst, arith, slice_index_or, not, ◌&&◌, length-append}
 use Rattle.std.specs.Prelude.{is_some}
-use Rattle.std.specs.List.{AllByRecursion, IsDistinct, list_any, range_with_len}
-use Rattle.std.proofs.lemmas.Bool.{eqb-true, false_from_ne_true}
-use Rattle.std.proofs.lemmas.Map.Steps.{length-le_from_distinct_below}
-use Rattle.des_base.specs.Lists.{EachPair}
+use Rattle.std.specs.List.{AllByRecursion, range_with_len}
 use Rattle.des_net.specs.Network.{Net, IsNetwork, label_of}
-use Rattle.des_net.specs.Width.{joined}
+use Rattle.des_net.specs.Width.{joined, IsPiece}
 use Rattle.log_order.specs.Log.{Log, ListsOnce, Keeps, IsValidLog}
-use Rattle.log_clauses.specs.Decoded.{event_at, shown_at, unobservables, arranged, decoded}
+use Rattle.log_clauses.specs.Decoded.{event_at, comes, is_false, shown_at, unobservables, arranged, decoded}
 use Rattle.log_clauses.specs.LogLaws.{IsArranged}
 use Rattle.log_clauses.specs.LogTruth.{LogClausesHold, GuardsHold}
-use Rattle.log_clauses.proofs.Lists.{filter_from}
-use Rattle.log_clauses.proofs.Sound.{log_is_sound}
+use Rattle.log_clauses.proofs.Lists.{filter_from, all_of, all_at, map_has}
+use Rattle.log_clauses.proofs.Sound.{log_is_sound, real_at}
 use Rattle.log_encode.proofs.TakenLemmas.{map_count}
 use Rattle.log_encode.specs.CodedLog.{without_names}
-use Rattle.prop_core.specs.VariableNames.{Name, happens}
+use Rattle.prop_core.specs.VariableNames.{Name, happens, done}
 use Rattle.replay.specs.declared.run.RunStep.{RunStep}
-use Rattle.replay.specs.Traced.{word_of}
+use Rattle.replay.specs.Traced.{word_of, event_of}
 use Rattle.run_clauses.proofs.Exact.{steps_are_exact}
-use Rattle.run_clauses.proofs.Lists.{from_numbers}
+use Rattle.run_clauses.proofs.Lists.{from_numbers, in_numbers}
 use Rattle.run_clauses.specs.StepClauses.{numbers_below}
 use Rattle.run_clauses.specs.Steps.{IsOrderOf, events_at, step_sets}
-use Rattle.run_decode.specs.Decoding.{plain_step, shown_steps, is_plain, plain_events, decoded_step, decoded_run}
+use Rattle.run_decode.specs.Decoding.{plain_step, alarm_step, shown_steps, is_plain, plain_events, falls, no_event, first_steps, decoded_step, decoded_run}
+use Rattle.run_decode.proofs.ShownSteps.{shown_word}
+use Rattle.run_decode.proofs.SmallPieces.{piece_small}
+use Rattle.log_clauses.proofs.Rules.{false_first}
+use Rattle.run_clauses.proofs.Sound.{steps_are_sound}
+use Rattle.run_clauses.specs.Steps.{StepClausesHold}
+use Rattle.std.proofs.lemmas.List.Elements.{filter_map-append}
 
 -- ---- words
 
@@ -30,17 +33,30 @@ plain_word : (events : List ℕ) → word_of (map plain_step events) ≡ events
 plain_word [] = refl
 plain_word (e ∷ events) = ap (λ xs. e ∷ xs) (plain_word events)
 
-shown_word : (log : Log) (event : ℕ → Option ℕ) (order : List ℕ) → word_of (shown_steps log event order) ≡ filter_map event order
-shown_word log event [] = refl
-shown_word log event (i ∷ order) = by (event i) refl (shown_word log event order)
-  where
-    by : (o : Option ℕ) → event i ≡ o → word_of (shown_steps log event order) ≡ filter_map event order → word_of (shown_steps log event (i ∷ order)) ≡ filter_map event (i ∷ order)
-    by None at later = rw at later
-    by (Some e) at later = rw at (ap (λ xs. e ∷ xs) later)
-
 word_append : (xs ys : List RunStep) → word_of (xs ++ ys) ≡ word_of xs ++ word_of ys
-word_append [] ys = refl
-word_append (x ∷ xs) ys = ap (λ es. x.event ∷ es) (word_append xs ys)
+word_append xs ys = filter_map-append event_of xs ys
+
+-- what the clauses of a log settle of its alarms in each step
+pub record AreSettled (net : Net) (log : Log) (n : ℕ) (value : Name → Bool) : Type 0 where
+  pub at : (t i : ℕ) → t < n → i < length log.alarms → comes value i (suc t) && not (is_false log value i) ≡ is_some (event_at net log value t i)
+  pub first : (i : ℕ) → i < length log.alarms → comes value i 0 && not (is_false log value i) ≡ false
+
+pub are_settled : (net : Net) (log : Log) (n : ℕ) (value : Name → Bool) (order : List ℕ) → LogClausesHold net log n value → GuardsHold net log value → ListsOnce (length log.alarms) order → Keeps order log.pairs → AreSettled net log n value
+are_settled net log n value order logged guarded listed kept = record {
+  at = real_at net log n value logged guarded order listed kept;
+  first = λ i known. by (value (done i 0)) refl (is_false log value i) refl (false_first net log n value logged i known);
+}
+  where
+    by : {i : ℕ} (a : Bool) → value (done i 0) ≡ a → (b : Bool) → is_false log value i ≡ b → (value (done i 0) ≡ true → is_false log value i ≡ true) → value (done i 0) && not (is_false log value i) ≡ false
+    by true e true f h = rw (e, f) refl
+    by true e false f h = let bad : false ≡ true = sym f ∙ h e in cc
+    by false e b f h = rw e refl
+
+none_of : (a b : Bool) (o : Option ℕ) → a && not b ≡ is_some o → a && b ≡ true → o ≡ None
+none_of true true None h k = refl
+none_of true true (Some e) h k = cc
+none_of true false o h k = cc
+none_of false b o h k = cc
 
 -- the events that can't be seen among those of the step
 plain_is : (net : Net) (value : Name → Bool) (t : ℕ) → plain_events net value t ≡ unobservables net (events_at net value (suc t))
@@ -60,11 +76,22 @@ plain_is net value t = by (numbers_below (length net.events))
 abbrev piece : Net → Log → (Name → Bool) → List ℕ → ℕ → List ℕ
 piece net log value order t = unobservables net (events_at net value (suc t)) ++ shown_at net log value order t
 
-pub step_word : (net : Net) (log : Log) (value : Name → Bool) (order : List ℕ) (t : ℕ) → word_of (decoded_step net log value order t) ≡ piece net (without_names log) value order t
-step_word net log value order t =
-    word_append (map plain_step (plain_events net value t)) (shown_steps log (event_at net (without_names log) value t) order)
-    ∙ ap (λ xs. xs ++ word_of (shown_steps log (event_at net (without_names log) value t) order)) (plain_word (plain_events net value t) ∙ plain_is net value t)
-    ∙ ap (λ xs. unobservables net (events_at net value (suc t)) ++ xs) (shown_word log (event_at net (without_names log) value t) order)
+pub step_word : (net : Net) (log : Log) (n : ℕ) (value : Name → Bool) (order : List ℕ) (t : ℕ) → AreSettled net (without_names log) n value → AllByRecursion (λ i. i < length (without_names log).alarms) order → t < n →
+    word_of (decoded_step net log value order t) ≡ piece net (without_names log) value order t
+step_word net log n value order t settled known time =
+    let bare = without_names log in
+    let shown = shown_steps log (event_at net bare value t) (falls bare value (suc t)) order in
+    word_append (map plain_step (plain_events net value t)) shown
+    ∙ ap (λ xs. xs ++ word_of shown) (plain_word (plain_events net value t) ∙ plain_is net value t)
+    ∙ ap (λ xs. unobservables net (events_at net value (suc t)) ++ xs) (shown_word log (event_at net bare value t) (falls bare value (suc t)) order (λ i in' fallen.
+    none_of (comes value i (suc t)) (is_false bare value i) (event_at net bare value t i) (settled.at t i time (all_at (λ j. j < length bare.alarms) order known i in')) fallen))
+
+first_word : (log : Log) (value : Name → Bool) (order : List ℕ) → word_of (first_steps log value order) ≡ []
+first_word log value order = shown_word log no_event (falls (without_names log) value 0) order (λ i in' h. refl) ∙ none order
+  where
+    none : (xs : List ℕ) → filter_map no_event xs ≡ []
+    none [] = refl
+    none (x ∷ xs) = none xs
 
 -- the pieces from step a on
 pieces_from : (net : Net) (log : Log) (value : Name → Bool) (order : List ℕ) (a k : ℕ) → arranged net log value order a (map (λ t. events_at net value (suc t)) (range_with_len a k)) ≡ map (piece net log value order) (range_with_len a k)
@@ -78,40 +105,24 @@ joined_map : (f : ℕ → List ℕ) (xs : List ℕ) → joined (map f xs) ≡ fl
 joined_map f [] = refl
 joined_map f (x ∷ xs) = ap (λ rest. f x ++ rest) (joined_map f xs)
 
-run_word_from : (net : Net) (log : Log) (value : Name → Bool) (order xs : List ℕ) → word_of (flat_map (decoded_step net log value order) xs) ≡ flat_map (piece net (without_names log) value order) xs
-run_word_from net log value order [] = refl
-run_word_from net log value order (t ∷ xs) =
+run_word_from : (net : Net) (log : Log) (n : ℕ) (value : Name → Bool) (order xs : List ℕ) → AreSettled net (without_names log) n value → AllByRecursion (λ i. i < length (without_names log).alarms) order → AllByRecursion (λ t. t < n) xs →
+    word_of (flat_map (decoded_step net log value order) xs) ≡ flat_map (piece net (without_names log) value order) xs
+run_word_from net log n value order [] settled known times = refl
+run_word_from net log n value order (t ∷ xs) settled known times =
     word_append (decoded_step net log value order t) (flat_map (decoded_step net log value order) xs)
-    ∙ ap (λ ys. ys ++ word_of (flat_map (decoded_step net log value order) xs)) (step_word net log value order t) ∙ ap (λ ys. piece net (without_names log) value order t ++ ys) (run_word_from net log value order xs)
+    ∙ ap (λ ys. ys ++ word_of (flat_map (decoded_step net log value order) xs)) (step_word net log n value order t settled known times.0) ∙ ap (λ ys. piece net (without_names log) value order t ++ ys) (run_word_from net log n value order xs settled known times.1)
+
+pub below_all : (n : ℕ) → AllByRecursion (λ t. t < n) (numbers_below n)
+below_all n = all_of (λ t. t < n) (numbers_below n) (λ t in'. from_numbers n t in')
 
 -- the word of the run is that of the arranged pieces
-pub run_word : (net : Net) (log : Log) (value : Name → Bool) (order : List ℕ) (n : ℕ) → word_of (decoded_run net log value order n) ≡ joined (decoded net (without_names log) value order n)
-run_word net log value order n =
-    run_word_from net log value order (numbers_below n) ∙ sym (joined_map (piece net (without_names log) value order) (numbers_below n)) ∙ ap joined (sym (pieces_from net (without_names log) value order 0 n))
+pub run_word : (net : Net) (log : Log) (value : Name → Bool) (order : List ℕ) (n : ℕ) → AreSettled net (without_names log) n value → AllByRecursion (λ i. i < length (without_names log).alarms) order →
+    word_of (decoded_run net log value order n) ≡ joined (decoded net (without_names log) value order n)
+run_word net log value order n settled known =
+    word_append (first_steps log value order) (flat_map (decoded_step net log value order) (numbers_below n)) ∙ ap (λ xs. xs ++ word_of (flat_map (decoded_step net log value order) (numbers_below n))) (first_word log value order)
+    ∙ run_word_from net log n value order (numbers_below n) settled known (below_all n) ∙ sym (joined_map (piece net (without_names log) value order) (numbers_below n)) ∙ ap joined (sym (pieces_from net (without_names log) value order 0 n))
 
 -- ---- its length
-
-distinct : (xs : List ℕ) → EachPair (λ e f. e ≢ f) xs → IsDistinct (λ a b. a == b) xs
-unfolding IsDistinct
-distinct [] h = tt
-distinct (x ∷ xs) h = (each xs h.0, distinct xs h.1)
-  where
-    each : (ys : List ℕ) → AllByRecursion (λ f. x ≢ f) ys → AllByRecursion (λ y. (x == y) ≡ false) ys
-    each [] all = tt
-    each (y ∷ ys) all = (false_from_ne_true _ (λ same. all.0 (eqb-true x y same)), each ys all.1)
-
-any_there : (q : ℕ) (xs : List ℕ) → list_any (λ x. q == x) xs ≡ true → Contains xs q
-any_there q [] h = cc
-any_there q (x ∷ xs) h = by (q == x) refl (any_there q xs)
-  where
-    by : (b : Bool) → (q == x) ≡ b → (list_any (λ y. q == y) xs ≡ true → Contains xs q) → Contains (x ∷ xs) q
-    by true e later = (0, omega arith, sym (eqb-true q x e))
-    by false e later = let rest = later (rw e at h) in (suc rest.0, omega (arith, rest.1), rest.2)
-
-few_events : (net : Net) (value : Name → Bool) (t : ℕ) (xs : List ℕ) → IsOrderOf (events_at net value (suc t)) xs → length xs ≤ length net.events
-few_events net value t xs is =
-    length-le_from_distinct_below xs (length net.events) (distinct xs is.once) (λ q h.
-    from_numbers (length net.events) q (filter_from (λ e. value (happens e (suc t))) (numbers_below (length net.events)) q ((is.same q).0 (any_there q xs h))).1)
 
 map_at : (f : ℕ → List ℕ) (a k t : ℕ) → t < k → slice_index_or (map f (range_with_len a k)) t [] ≡ f (a + t)
 map_at f a zero t h = absurd (omega (arith, h))
@@ -124,15 +135,31 @@ pub decoded_arranged : (net : Net) (log : Log) (n : ℕ) (value : Name → Bool)
 decoded_arranged net log n value order network valid logged guarded listed kept =
     log_is_sound net log n value (step_sets net n value) order valid listed kept ((steps_are_exact net n value network).in_order) logged guarded
 
--- a step has no more events than the network
-pub step_small : (net : Net) (log : Log) (n t : ℕ) (value : Name → Bool) (order : List ℕ) → IsNetwork net → IsValidLog (without_names log) → LogClausesHold net (without_names log) n value → GuardsHold net (without_names log) value →
-    ListsOnce (length (without_names log).alarms) order → Keeps order log.pairs → t < n → length (decoded_step net log value order t) ≤ length net.events
-step_small net log n t value order network valid logged guarded listed kept time =
+pub shown_short : (log : Log) (event : ℕ → Option ℕ) (dropped : ℕ → Bool) (order : List ℕ) → length (shown_steps log event dropped order) ≤ length order
+shown_short log event dropped [] = omega arith
+shown_short log event dropped (i ∷ order) = by (alarm_step log event dropped i) refl (shown_short log event dropped order)
+  where
+    by : (o : Option RunStep) → alarm_step log event dropped i ≡ o → length (shown_steps log event dropped order) ≤ length order → length (shown_steps log event dropped (i ∷ order)) ≤ suc (length order)
+    by None e h = rw e (omega (arith, h))
+    by (Some s) e h = rw e (omega (arith, h))
+
+-- a step has no more events that can't be seen than the network has components, and the alarms
+pub step_small : (net : Net) (log : Log) (n t : ℕ) (value : Name → Bool) (order : List ℕ) → IsNetwork net → IsValidLog (without_names log) → StepClausesHold net n value → LogClausesHold net (without_names log) n value → GuardsHold net (without_names log) value →
+    ListsOnce (length (without_names log).alarms) order → Keeps order log.pairs → t < n → length (decoded_step net log value order t) ≤ length net.components + length order
+step_small net log n t value order network valid stepped logged guarded listed kept time =
     let bare = without_names log in
     let arranged_so = decoded_arranged net bare n value order network valid logged guarded listed kept in
+    let run = steps_are_sound net n value (decoded net bare value order n) network stepped arranged_so.steps in
+    let pieces = pieces_from net bare value order 0 n in
     let at : slice_index_or (arranged net bare value order 0 (step_sets net n value)) t [] ≡ piece net bare value order t =
-    ap (λ xs. slice_index_or xs t []) (pieces_from net bare value order 0 n) ∙ map_at (piece net bare value order) 0 n t time ∙ ap (piece net bare value order) (omega arith) in
+    ap (λ xs. slice_index_or xs t []) pieces ∙ map_at (piece net bare value order) 0 n t time ∙ ap (piece net bare value order) (omega arith) in
     let order_of_step : IsOrderOf (events_at net value (suc t)) (piece net bare value order t) = subst (IsOrderOf (events_at net value (suc t))) at (arranged_so.steps.each t time) in
-    let few = few_events net value t (piece net bare value order t) order_of_step in
-    let long = sym (map_count (λ (s : RunStep). s.event) (decoded_step net log value order t)) ∙ ap length (step_word net log value order t) in
-    omega (arith, few, long)
+    let apart = all_at (IsPiece net) (map (piece net bare value order) (numbers_below n)) (subst (AllByRecursion (IsPiece net)) pieces run.1.apart) (piece net bare value order t) (map_has (piece net bare value order) (numbers_below n) t (in_numbers n t time)) in
+    let few = piece_small net network (piece net bare value order t) (all_of (λ e. e < length net.events) (piece net bare value order t) (λ q h.
+    from_numbers (length net.events) q (filter_from (λ e. value (happens e (suc t))) (numbers_below (length net.events)) q ((order_of_step.same q).0 h)).1)) apart in
+    let parts = length-append (unobservables net (events_at net value (suc t))) (shown_at net bare value order t) in
+    let plain = ap length (plain_is net value t) in
+    let shown = shown_short log (event_at net bare value t) (falls bare value (suc t)) order in
+    let whole = length-append (map plain_step (plain_events net value t)) (shown_steps log (event_at net bare value t) (falls bare value (suc t)) order) in
+    let mapped = map_count plain_step (plain_events net value t) in
+    omega (arith, few, parts, plain, shown, whole, mapped)

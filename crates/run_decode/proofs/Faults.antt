@@ -1,67 +1,26 @@
 -- The faults of a word in pieces are the true inputs of the counter.
-use Rattle.std.proofs.Common.{◌≡◌, ◌≢◌, ◌↔◌, ◌∙◌, ℕ, suc, ◌+◌, ◌≤◌, ◌⊎◌, inl, inr, Bool, List, [], ◌∷◌, ◌++◌, length, refl, sym, ap, arith, Contains, map, filter, flat_map, cond, count_by}
+use Rattle.std.proofs.Common.{◌≡◌, ◌≢◌, ◌∙◌, ℕ, suc, ◌+◌, Bool, true, false, ◌&&◌, List, [], ◌∷◌, ◌++◌, length, refl, sym, ap, arith, Contains, map, filter, flat_map, cond, count_by}
 use Rattle.std.specs.List.{range_with_len}
 use Rattle.std.proofs.lemmas.List.Sums.{sum_by-append, length-filter}
 use Rattle.card_counter.proofs.Counts.{count_cons}
-use Rattle.des_base.specs.Lists.{EachPair}
 use Rattle.des_net.specs.Network.{Net, is_fault}
 use Rattle.des_net.specs.Width.{joined}
 use Rattle.log_clauses.proofs.Fronts.{range_once}
-use Rattle.log_clauses.proofs.Lists.{cons_cases, here_first, here_later, none_in_nil, filter_has, filter_from, all_at, pairs_filter}
+use Rattle.log_clauses.proofs.Entries.{same_size}
+use Rattle.log_clauses.proofs.Lists.{filter_has, filter_from, pairs_filter}
+use Rattle.log_clauses.specs.Decoded.{is_false}
+use Rattle.log_order.specs.Log.{Log, is_doubtful}
 use Rattle.log_clauses.proofs.Pieces.{IsStepSet, AreFrom, pieces_are_steps}
 use Rattle.prop_core.specs.NamedClauses.{named_true}
-use Rattle.prop_core.specs.VariableNames.{Name, happens, yes}
+use Rattle.prop_core.specs.VariableNames.{Name, happens, dropped, yes}
 use Rattle.run_clauses.proofs.Lists.{in_numbers, from_numbers}
 use Rattle.run_clauses.specs.StepClauses.{numbers_below}
 use Rattle.run_decode.specs.DecodedRuns.{FaultsAreInputs}
+use Rattle.run_decode.specs.Drawn.{dropped_names}
 use Rattle.step_encode.specs.FaultInputs.{fault_events, fault_names}
 
 count_append : {X : Type 0} (p : X → Bool) (xs ys : List X) → count_by p (xs ++ ys) ≡ count_by p xs + count_by p ys
 count_append p xs ys = sum_by-append (λ x. cond (p x) 1 0) xs ys
-
--- ---- lists with the same elements, each once, are equally long
-
--- a list without one of its elements
-record Without {X : Type 0} (xs : List X) (x : X) : Type 0 where
-  rest : List X
-  shorter : length xs ≡ suc (length rest)
-  others : (y : X) → Contains xs y → y ≢ x → Contains rest y
-
-without : {X : Type 0} (xs : List X) (x : X) → Contains xs x → Without xs x
-without [] x in' = absurd (none_in_nil x in')
-without (y ∷ xs) x in' = by (cons_cases y xs x in') (without xs x)
-  where
-    by : (y ≡ x) ⊎ Contains xs x → (Contains xs x → Without xs x) → Without (y ∷ xs) x
-    by (inl is) later = record { rest = xs; shorter = refl; others = others }
-      where
-        others : (z : _) → Contains (y ∷ xs) z → z ≢ x → Contains xs z
-        others z in2 differ = at (cons_cases y xs z in2)
-          where
-            at : (y ≡ z) ⊎ Contains xs z → Contains xs z
-            at (inl same) = absurd (differ (sym same ∙ is))
-            at (inr rest) = rest
-    by (inr rest) later = let shorter = later rest in record { rest = y ∷ shorter.rest; shorter = ap suc shorter.shorter; others = others shorter.rest shorter.others }
-      where
-        others : (ys : List _) → ((z : _) → Contains xs z → z ≢ x → Contains ys z) → (z : _) → Contains (y ∷ xs) z → z ≢ x → Contains (y ∷ ys) z
-        others ys inner z in2 differ = at (cons_cases y xs z in2)
-          where
-            at : (y ≡ z) ⊎ Contains xs z → Contains (y ∷ ys) z
-            at (inl same) = here_first y ys z same
-            at (inr rest) = here_later y ys z (inner z rest differ)
-
-no_longer : {X : Type 0} (xs ys : List X) → EachPair (λ a b. a ≢ b) xs → ((x : X) → Contains xs x → Contains ys x) → length xs ≤ length ys
-no_longer [] ys once h = omega arith
-no_longer (x ∷ xs) ys once h =
-    let smaller = without ys x (h x (here_first x xs x refl)) in
-    let rest = no_longer xs smaller.rest once.1 (λ y in'. smaller.others y (h y (here_later x xs y in')) (λ same. all_at (λ z. x ≢ z) xs once.0 y in' (sym same))) in
-    let shorter = smaller.shorter in
-    omega (arith, rest, shorter)
-
-same_size : {X : Type 0} (xs ys : List X) → EachPair (λ a b. a ≢ b) xs → EachPair (λ a b. a ≢ b) ys → ((x : X) → Contains xs x ↔ Contains ys x) → length xs ≡ length ys
-same_size xs ys once other h =
-    let a = no_longer xs ys once (λ x. (h x).0) in
-    let b = no_longer ys xs other (λ x. (h x).1) in
-    omega (arith, a, b)
 
 -- ---- one step
 
@@ -129,9 +88,27 @@ named_count value (name ∷ names) =
     let right = count_cons value name names in
     omega (arith, rest, left, right)
 
+-- names are true as inputs where they are as names, of doubtful alarms alone
+doubtful_count_is : (log : Log) (value : Name → Bool) (xs : List ℕ) → count_by value (map (λ i. dropped i) (filter (is_doubtful log) xs)) ≡ count_by (is_false log value) xs
+doubtful_count_is log value [] = refl
+doubtful_count_is log value (x ∷ xs) = by (is_doubtful log x) refl (doubtful_count_is log value xs)
+  where
+    by : (b : Bool) → is_doubtful log x ≡ b → count_by value (map (λ i. dropped i) (filter (is_doubtful log) xs)) ≡ count_by (is_false log value) xs →
+        count_by value (map (λ i. dropped i) (cond b (x ∷ filter (is_doubtful log) xs) (filter (is_doubtful log) xs))) ≡ count_by (is_false log value) (x ∷ xs)
+    by true e rest =
+        let left = count_cons value (dropped x) (map (λ i. dropped i) (filter (is_doubtful log) xs)) in
+        let right = count_cons (is_false log value) x xs in
+        let same = ap {B = ℕ} (λ b. cond (b && value (dropped x)) 1 0) e in
+        omega (arith, rest, left, right, same)
+    by false e rest =
+        let right = count_cons (is_false log value) x xs in
+        let same = ap {B = ℕ} (λ b. cond (b && value (dropped x)) 1 0) e in
+        omega (arith, rest, right, same)
+
 pub faults_are_inputs : FaultsAreInputs
-faults_are_inputs net n value pieces are =
+faults_are_inputs net log n value pieces order are false' =
     let from = (pieces_are_steps net n value pieces).0 are in
-    faults_from net value 0 pieces from.1
-    ∙ ap (λ m. count_by value (inputs_from 0 m (fault_events net))) from.0
-    ∙ sym (named_count value (fault_names net n))
+    let events = faults_from net value 0 pieces from.1 ∙ ap (λ m. count_by value (inputs_from 0 m (fault_events net))) from.0 in
+    let alarms = doubtful_count_is log value (numbers_below (length log.alarms)) in
+    let both = count_append value (fault_names net n) (dropped_names log) in
+    omega (arith, events, false', alarms, both) ∙ sym (named_count value (fault_names net n ++ dropped_names log))

@@ -2,25 +2,30 @@
 use Rattle.std.proofs.Common.{◌≡◌, ◌∙◌, ℕ, zero, suc, ◌+◌, ◌*◌, ◌≤◌, List, [], ◌∷◌, ◌++◌, length, refl, sym, ap, subst, arith, map, flat_map, sum_by, length-append, append-nil, append_assoc}
 use Rattle.std.proofs.lemmas.List.FromFn.{length-range_with_len, length-map-range_with_len}
 use Rattle.std.proofs.lemmas.List.Sums.{sum_by-append, length-filter}
+use Rattle.std.proofs.lemmas.List.{length-map}
+use Rattle.std.proofs.Math.Nat.{mul-le-mul_right}
+use Rattle.card_counter.proofs.CodeLemmas.{read_length}
+use Rattle.log_clauses.specs.LogClauses.{doubtful_alarms}
 use Rattle.card_counter.specs.CounterState.{CounterState, counter_names, variable}
 use Rattle.des_net.specs.Network.{Net, is_fault}
 use Rattle.des_net.specs.QuestionSize.{state_number, at_most_one_count, step_variables, counter_size, fault_event_count}
-use Rattle.log_clauses.proofs.NewNames.{names_are_few, first_names_are_all}
+use Rattle.log_clauses.proofs.NewNames.{names_leave_room, first_names_are_all}
 use Rattle.log_clauses.proofs.Stay.{range_more}
 use Rattle.log_clauses.specs.Additions.{alarm_added}
 use Rattle.log_clauses.specs.LogNames.{first_names, added_names}
-use Rattle.log_encode.specs.CodedLog.{CodedLog, names_from, code_names as log_names}
-use Rattle.log_order.specs.Log.{Log, Alarm, no_log}
+use Rattle.log_encode.specs.CodedLog.{CodedLog, names_from, code_names as log_names, false_literals}
+use Rattle.log_order.specs.Log.{Log, Alarm, no_log, is_doubtful}
 use Rattle.prop_core.specs.declared.grid.Grid.{Grid}
-use Rattle.prop_core.specs.VariableNames.{Name, reaches}
-use Rattle.replay.specs.QuestionSize.{variable_bound}
+use Rattle.prop_core.specs.declared.lit.Lit.{Lit}
+use Rattle.prop_core.specs.VariableNames.{Name, reaches, yes, dropped}
+use Rattle.replay.specs.QuestionSize.{doubtful_count, variable_bound}
 use Rattle.run_clauses.proofs.LaidOut.{steps_are_laid_out}
 use Rattle.run_clauses.specs.LaidOut.{laid_out, state_block, step_names as names_of_steps}
 use Rattle.run_clauses.specs.StepClauses.{numbers_below, state_count}
 use Rattle.run_decode.proofs.Nameless.{nameless_bound}
-use Rattle.run_decode.specs.WholeNaming.{TogetherAreFew}
+use Rattle.run_decode.specs.WholeNaming.{AreInputs, TogetherAreFew}
 use Rattle.step_encode.proofs.Codes.{names_end, variables_are_counted}
-use Rattle.step_encode.specs.Coded.{code_names as step_names, code_grid}
+use Rattle.step_encode.specs.Coded.{CodedSteps, code_names as step_names, code_grid}
 use Rattle.step_encode.specs.FaultInputs.{fault_events, event_literals, fault_literals}
 
 row_length : (first : ℕ) (names : List Name) → length (laid_out first names) ≡ length names
@@ -86,24 +91,24 @@ of_alarms : List Alarm → Log
 of_alarms alarms = record { alarms = alarms; pairs = [] }
 
 alarms_few : (net : Net) (n : ℕ) (before alarms : List Alarm) (starts : List ℕ) → length starts ≡ length alarms →
-    length (names_from net n (of_alarms before) alarms starts) + variable_bound net (of_alarms before) n ≤ variable_bound net (of_alarms (before ++ alarms)) n
+    length (names_from net n (of_alarms before) alarms starts) + variable_bound net (of_alarms before) n + 256 * doubtful_count (of_alarms (before ++ alarms)) ≤ variable_bound net (of_alarms (before ++ alarms)) n + 256 * doubtful_count (of_alarms before)
 unfolding of_alarms
 alarms_few net n before [] starts same =
-    subst (λ xs. 0 + variable_bound net (of_alarms before) n ≤ variable_bound net (of_alarms xs) n) (sym (append-nil before)) (omega arith)
+    subst (λ xs. 0 + variable_bound net (of_alarms before) n + 256 * doubtful_count (of_alarms xs) ≤ variable_bound net (of_alarms xs) n + 256 * doubtful_count (of_alarms before)) (sym (append-nil before)) (omega arith)
 alarms_few net n before (alarm ∷ alarms) [] same = absurd (omega (arith, same))
 alarms_few net n before (alarm ∷ alarms) (start ∷ starts) same =
     let rest = alarms_few net n (before ++ alarm ∷ []) alarms starts (omega (arith, same)) in
-    let moved = subst (λ xs. length (names_from net n (of_alarms (before ++ alarm ∷ [])) alarms starts) + variable_bound net (of_alarms (before ++ alarm ∷ [])) n ≤ variable_bound net (of_alarms xs) n) (append_assoc before (alarm ∷ []) alarms) rest in
-    let few = names_are_few net (of_alarms before) n (alarm_added alarm) in
+    let moved = subst (λ xs. length (names_from net n (of_alarms (before ++ alarm ∷ [])) alarms starts) + variable_bound net (of_alarms (before ++ alarm ∷ [])) n + 256 * doubtful_count (of_alarms xs) ≤ variable_bound net (of_alarms xs) n + 256 * doubtful_count (of_alarms (before ++ alarm ∷ []))) (append_assoc before (alarm ∷ []) alarms) rest in
+    let few = names_leave_room net (of_alarms before) n alarm in
     let row = row_length start (added_names net (of_alarms before) n (alarm_added alarm)) in
     let whole = length-append (laid_out start (added_names net (of_alarms before) n (alarm_added alarm))) (names_from net n (of_alarms (before ++ alarm ∷ [])) alarms starts) in
     omega (arith, moved, few, row, whole)
 
 log_few : (code : CodedLog) (n : ℕ) → code.grid.steps ≡ n → length code.starts ≡ length code.log.alarms →
-    length (log_names code) + step_variables code.net n + counter_size code.net n ≤ variable_bound code.net code.log n
+    length (log_names code) + step_variables code.net n + (counter_size code.net n + 256 * doubtful_count code.log) ≤ variable_bound code.net code.log n
 unfolding of_alarms
 log_few code n is same =
-    subst (λ m. length (log_names code) + step_variables code.net m + counter_size code.net m ≤ variable_bound code.net code.log m) is
+    subst (λ m. length (log_names code) + step_variables code.net m + (counter_size code.net m + 256 * doubtful_count code.log) ≤ variable_bound code.net code.log m) is
     (let few = alarms_few code.net code.grid.steps [] code.log.alarms code.starts same in
     let first = (first_names_are_all code.net code.grid.steps).few in
     let row = row_length code.asked (first_names code.net) in
@@ -117,14 +122,22 @@ inputs_count net grid =
     flat_length (event_literals grid) grid.steps (λ e. length-map-range_with_len (λ t. _) 0 grid.steps) (fault_events net)
     ∙ ap (λ m. m * grid.steps) (length-filter (is_fault net) (numbers_below (length net.events)))
 
+-- the faults of the steps, and the doubtful alarms
+pub inputs_are_counted : (steps : CodedSteps) (code : CodedLog) (inputs : List Lit) → AreInputs steps code inputs → length inputs ≡ fault_event_count steps.net * steps.steps + doubtful_count code.log
+inputs_are_counted steps code inputs own =
+    let false_count : length own.false_lits ≡ doubtful_count code.log = sym (read_length (log_names code) own.false_lits (false_literals code.log) own.read)
+    ∙ length-map (doubtful_alarms code.log) (λ i. yes (dropped i)) ∙ length-filter (is_doubtful code.log) (numbers_below (length code.log.alarms)) in
+    ap length own.whole ∙ length-append (fault_literals steps.net (code_grid steps)) own.false_lits ∙ ap (λ m. m + length own.false_lits) (inputs_count steps.net (code_grid steps))
+    ∙ ap (λ m. fault_event_count steps.net * steps.steps + m) false_count
+
 counter_count : (counter : CounterState) → length (counter_names counter) ≡ length counter.columns * length counter.inputs
 counter_count counter =
     flat_length (λ j. map (λ i. (variable counter i j, reaches (suc i) (suc j))) (numbers_below (length counter.inputs))) (length counter.inputs)
     (λ j. length-map-range_with_len (λ i. (variable counter i j, reaches (suc i) (suc j))) 0 (length counter.inputs)) (numbers_below (length counter.columns))
     ∙ ap (λ m. m * length counter.inputs) (length-range_with_len 0 (length counter.columns))
 
-columns_few : (k f n : ℕ) → k ≤ 256 → k * (f * n) ≤ 256 * n * f
-columns_few k f n few = grind (arith, few)
+columns_few : (k f n d : ℕ) → k ≤ 256 → k * (f * n + d) ≤ 256 * n * f + 256 * d
+columns_few k f n d few = let most = mul-le-mul_right (f * n + d) few in let spread : 256 * (f * n + d) ≡ 256 * n * f + 256 * d = grind arith in omega (arith, most, spread)
 
 -- ---- all
 
@@ -132,12 +145,11 @@ pub together_are_few : TogetherAreFew
 together_are_few steps code counter log together nameless few =
     let names = steps_few steps.net steps.steps in
     let row = row_length steps.first (names_of_steps steps.net steps.steps) in
-    let logged = subst (λ net. length (log_names code) + step_variables net steps.steps + counter_size net steps.steps ≤ variable_bound net code.log steps.steps) together.beside.net
+    let logged = subst (λ net. length (log_names code) + step_variables net steps.steps + (counter_size net steps.steps + 256 * doubtful_count code.log) ≤ variable_bound net code.log steps.steps) together.beside.net
     (log_few code steps.steps (ap (λ (grid : Grid). grid.steps) together.beside.grid) together.beside.logged.each) in
     let bound = ap (λ (l : Log). variable_bound steps.net l steps.steps) nameless ∙ sym (nameless_bound steps.net log steps.steps) in
-    let inputs = ap length together.inputs ∙ inputs_count steps.net (code_grid steps) in
-    let counted = counter_count counter ∙ ap (λ m. length counter.columns * m) inputs in
-    let columns = columns_few (length counter.columns) (fault_event_count steps.net) steps.steps few in
+    let counted = counter_count counter ∙ ap (λ m. length counter.columns * m) (inputs_are_counted steps code counter.inputs together.inputs) in
+    let columns = columns_few (length counter.columns) (fault_event_count steps.net) steps.steps (doubtful_count code.log) few in
     let two = length-append (step_names steps) (log_names code ++ counter_names counter) in
     let three = length-append (log_names code) (counter_names counter) in
     omega (arith, names, row, logged, bound, counted, columns, two, three)

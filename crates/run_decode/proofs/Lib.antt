@@ -13,10 +13,13 @@ pub mod RunNames
 pub mod WholeNames
 pub mod DecodeNames
 pub mod DecodeTable
+pub mod SmallPieces
+pub mod ShownSteps
 pub mod DecodeLoops
 pub mod DecodeRuns
 pub mod DecodeOrder
 pub mod DecodeBounds
+pub mod DecodeFalls
 pub mod WholeClauses
 pub mod FewNames
 pub mod NamingVectors

@@ -5,12 +5,14 @@ use Rattle.card_counter.proofs.States.{none_is_made}
 use Rattle.card_counter.specs.CounterState.{CounterState, IsMade, with_column, bound_literal}
 use Rattle.des_net.specs.Models.{pump}
 use Rattle.log_encode.proofs.CodeLemmas.{empty_is_coded}
-use Rattle.log_encode.specs.CodedLog.{CodedLog, empty_code}
+use Rattle.log_order.specs.Log.{Alarm}
+use Rattle.log_clauses.specs.Additions.{alarm_added}
+use Rattle.log_encode.specs.CodedLog.{nameless, CodedLog, empty_code}
 use Rattle.prop_core.specs.VariableNames.{in_state, happens, asked, closed, reaches}
 use Rattle.prop_core.specs.declared.lit.Lit.{Lit}
 use Rattle.run_decode.proofs.WholeNames.{together_begins, together_grow}
 use Rattle.run_decode.specs.RunNaming.{IsCodedBeside, run_names}
-use Rattle.run_decode.specs.WholeNaming.{whole_names, AreCodedTogether}
+use Rattle.run_decode.specs.WholeNaming.{counter_after, whole_names, AreCodedTogether}
 use Rattle.step_encode.specs.Coded.{CodedSteps, code_grid}
 use Rattle.step_encode.specs.FaultInputs.{fault_literals}
 
@@ -39,7 +41,7 @@ coded_beside = record { net = refl; grid = refl; logged = empty_is_coded pump (c
 
 pub coded_together : AreCodedTogether steps code counter
 coded_together =
-    let begun = together_begins steps code no_columns coded_beside refl in
+    let begun = together_begins steps code no_columns [] coded_beside refl refl in
     let made : IsMade 21 no_columns = none_is_made 21 inputs (All-from_recursion (λ (l : Lit). l.var < 21) inputs (omega arith, (omega arith, tt))) in
     (together_grow steps code no_columns 21 begun (omega arith) made).by_column (omega arith)
 
@@ -54,3 +56,17 @@ names_of_all = refl
 
 pub no_jam_literal : bound_literal counter 0 ≡ record { var = 22; positive = false }
 no_jam_literal = refl
+
+-- a doubtful alarm that may stand for the trip: five variables of its link, three of when it is done, and one that it is false
+abbrev perhaps : Alarm
+perhaps = nameless ((84 ∷ []) ∷ []) true
+
+pub counted_too : counter_after code counter (alarm_added perhaps) 23 ≡ record {
+  inputs = inputs ++ record { var = 31; positive = true } ∷ [];
+  columns = (21 ∷ 22 ∷ 32 ∷ []) ∷ [];
+}
+counted_too = refl
+
+-- a certain one changes nothing
+pub not_counted : counter_after code counter (alarm_added (nameless ((84 ∷ []) ∷ []) false)) 23 ≡ counter
+not_counted = refl

@@ -32,8 +32,8 @@ parts_make_question net log n columns names clauses stepped logged counted once 
     log_code : IsCode names (IsNamedLog net log n) logged
     log_code = part_code names (IsNamedLog net log n) logged once logs
 
-    count_code : IsCode names (IsNamedCount (fault_inputs net n) columns) counted
-    count_code = part_code names (IsNamedCount (fault_inputs net n) columns) counted once counts
+    count_code : IsCode names (IsNamedCount (fault_inputs net log n) columns) counted
+    count_code = part_code names (IsNamedCount (fault_inputs net log n) columns) counted once counts
 
     all : (named : List NamedLiteral) → IsNamedQuestion net log n columns named → IsThere names clauses named
     all named (inl is) = let there = step_code.all named is in (there.0, (same there.0).1 (inl there.1), there.2)
@@ -44,7 +44,7 @@ parts_make_question net log n columns names clauses stepped logged counted once 
     only clause (inl in') = let found = all_at (λ c. (named : List NamedLiteral) × IsNamedStep net n named × ReadsAs names c named) stepped step_code.only clause in' in (found.0, inl found.1, found.2)
     only clause (inr (inl in')) = let found = all_at (λ c. (named : List NamedLiteral) × IsNamedLog net log n named × ReadsAs names c named) logged log_code.only clause in' in (found.0, inr (inl found.1), found.2)
     only clause (inr (inr in')) =
-        let found = all_at (λ c. (named : List NamedLiteral) × IsNamedCount (fault_inputs net n) columns named × ReadsAs names c named) counted count_code.only clause in' in
+        let found = all_at (λ c. (named : List NamedLiteral) × IsNamedCount (fault_inputs net log n) columns named × ReadsAs names c named) counted count_code.only clause in' in
         (found.0, inr (inr found.1), found.2)
 
 -- lists with the same elements, one after another
@@ -58,12 +58,12 @@ both_ways xs as' ys bs f g x in' = by (append_cases xs ys x in')
 pub parts_are_assumed : PartsAreAssumed
 parts_are_assumed net log n bound names guards bounds once guarded bounded =
     let first = readings_stay guarded.own names guards (guard_literals net log) once guarded.among guarded.reads in
-    let second = readings_stay bounded.own names bounds (bound_literals net n bound) once bounded.among bounded.reads in
+    let second = readings_stay bounded.own names bounds (bound_literals net log n bound) once bounded.among bounded.reads in
     record {
       read = first.read ++ second.read;
       by_name = read_append names guards bounds first.read second.read first.by_name second.by_name;
       same = λ x. (
-        both_ways first.read (guard_literals net log) second.read (bound_literals net n bound) (λ y. (first.same y).0) (λ y. (second.same y).0) x,
-        both_ways (guard_literals net log) first.read (bound_literals net n bound) second.read (λ y. (first.same y).1) (λ y. (second.same y).1) x,
+        both_ways first.read (guard_literals net log) second.read (bound_literals net log n bound) (λ y. (first.same y).0) (λ y. (second.same y).0) x,
+        both_ways (guard_literals net log) first.read (bound_literals net log n bound) second.read (λ y. (first.same y).1) (λ y. (second.same y).1) x,
       );
     }

@@ -32,7 +32,7 @@ use Rattle.run_decode.specs.QuestionLaws.{QuestionIsFaithful, QuestionIsDrawn, Q
 record HoldsWith (net : Net) (log : Log) (n columns : ℕ) (value : Name → Bool) : Type 0 where
   steps : StepClausesHold net n value
   logged : LogClausesHold net log n value
-  count : AllHold (IsNamedCount (fault_inputs net n) columns) value
+  count : AllHold (IsNamedCount (fault_inputs net log n) columns) value
 
 holds_from_all : (net : Net) (log : Log) (n columns : ℕ) (value : Name → Bool) → AllHold (IsNamedQuestion net log n columns) value → HoldsWith net log n columns value
 holds_from_all net log n columns value all = record {
@@ -59,26 +59,26 @@ module _ (net : Net) (log : Log) (n : ℕ) (bound : Option ℕ) (names : List (�
       (code_holds (IsNamedQuestion net log n asks.columns) names clauses assignment value asks.question.code match).1 (all_from_holds net log n asks.columns value holds)
 
   -- what is true by name is true by variable
-  made_true : (value : Name → Bool) → QuestionHolds net log n value → GuardsHold net log value → BoundHolds net n bound value → MakesTrue (assignment_by names value (λ var. false)) clauses assumed
+  made_true : (value : Name → Bool) → QuestionHolds net log n value → GuardsHold net log value → BoundHolds net log n bound value → MakesTrue (assignment_by names value (λ var. false)) clauses assumed
   made_true value holds guards bounds =
       let match = assignments_match names value (λ var. false) in record {
         clauses_true = clauses_true (assignment_by names value (λ var. false)) value match holds;
         assumed_true = (literals_by_name names (assignment_by names value (λ var. false)) value match assumed (assumption_literals net log n bound) asks.assumes).1
-            (all_append (λ l. IsTrue (named_true value l)) (guard_literals net log) (bound_literals net n bound) guards bounds);
+            (all_append (λ l. IsTrue (named_true value l)) (guard_literals net log) (bound_literals net log n bound) guards bounds);
       }
 
   -- and the other way round
   record SaysByName (value : Name → Bool) : Type 0 where
     holds : HoldsWith net log n asks.columns value
     guards : GuardsHold net log value
-    bounds : BoundHolds net n bound value
+    bounds : BoundHolds net log n bound value
 
   says : (assignment : ℕ → Bool) → MakesTrue assignment clauses assumed → SaysByName (value_by names assignment)
   says assignment makes =
       let value = value_by names assignment in
       let match = values_match names asks.question.once assignment in
       let all = (code_holds (IsNamedQuestion net log n asks.columns) names clauses assignment value asks.question.code match).0 makes.clauses_true in
-      let both = all_split (λ l. IsTrue (named_true value l)) (guard_literals net log) (bound_literals net n bound)
+      let both = all_split (λ l. IsTrue (named_true value l)) (guard_literals net log) (bound_literals net log n bound)
       ((literals_by_name names assignment value match assumed (assumption_literals net log n bound) asks.assumes).0 makes.assumed_true) in
       record { holds = holds_from_all net log n asks.columns value all; guards = both.0; bounds = both.1 }
 
@@ -88,7 +88,7 @@ question_gives_explanations net log n bound names clauses assumed assignment ala
     let gives = decoded_by_name net log n (value_by names assignment) alarms network valid complete kept true'.holds.steps true'.holds.logged true'.guards in
     let explanation = gives_explanation net log n names assignment alarms asks.question.once gives in record {
       explanation = explanation;
-      within = subst (IsWithin bound) (sym explanation.faults) (bound_says net n asks.columns bound (value_by names assignment) asks.column true'.holds.count true'.bounds);
+      within = subst (IsWithin bound) (sym explanation.faults) (bound_says net log n asks.columns bound (value_by names assignment) asks.column true'.holds.count true'.bounds);
     }
 
 pub question_is_faithful : QuestionIsFaithful

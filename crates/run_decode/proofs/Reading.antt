@@ -21,14 +21,14 @@ literal_stays own names once among l m h = by (name_of own l.var) refl h
     by None e is = cc
     by (Some name) e is = rw (has_name names (l.var, name) once (among (l.var, name) (named_entry own l.var name e))) is
 
-clause_stays : (own names : List (ℕ × Name)) → HasEachOnce names → AreAmong own names → (clause : Clause) (read : List NamedLiteral) → named_clause own clause ≡ Some read → named_clause names clause ≡ Some read
+pub clause_stays : (own names : List (ℕ × Name)) → HasEachOnce names → AreAmong own names → (clause : Clause) (read : List NamedLiteral) → named_clause own clause ≡ Some read → named_clause names clause ≡ Some read
 clause_stays own names once among [] read h = h
 clause_stays own names once among (l ∷ clause) read h =
     let parts = read_of own l clause read h in
     rw (literal_stays own names once among l parts.first parts.literal, clause_stays own names once among clause parts.rest parts.later) (ap Some (sym parts.whole))
 
 pub fault_literals_stay : FaultLiteralsStay
-fault_literals_stay own names net n inputs once among reads = clause_stays own names once among inputs (fault_inputs net n) reads
+fault_literals_stay own names net log n inputs once among reads = clause_stays own names once among inputs (fault_inputs net log n) reads
 
 -- ---- the bound
 
@@ -36,16 +36,16 @@ negative_reads : (names : List (ℕ × Name)) (var : ℕ) (name : Name) → name
 negative_reads names var name h = ap (λ o. with_literal (option_map (λ (name' : Name). record { name = name'; positive = (negative var).positive }) o) (Some [])) h
 
 pub bound_is_read : BoundIsRead
-bound_is_read net n names state k counter named less = by (length state.inputs) refl
+bound_is_read net log n names state k counter named less = by (length state.inputs) refl
   where
-    size : length (fault_inputs net n) ≡ length state.inputs
-    size = read_length names state.inputs (fault_inputs net n) named.inputs_read
+    size : length (fault_inputs net log n) ≡ length state.inputs
+    size = read_length names state.inputs (fault_inputs net log n) named.inputs_read
 
-    by : (m : ℕ) → length state.inputs ≡ m → ReadsAs names (bound_literal state k ∷ []) (bound_literals net n (Some k))
+    by : (m : ℕ) → length state.inputs ≡ m → ReadsAs names (bound_literal state k ∷ []) (bound_literals net log n (Some k))
     by zero h = let some = counter.filled (omega (arith, less)) in absurd (omega (arith, some, h))
     by (suc m) h =
         let last : length state.inputs - 1 ≡ m = omega (arith, h) in
         let called = named.called m k (record { input = omega (arith, h); column = less }) in
-        subst (λ i. ReadsAs names (negative (variable state i k) ∷ []) (bound_literals net n (Some k))) (sym last)
+        subst (λ i. ReadsAs names (negative (variable state i k) ∷ []) (bound_literals net log n (Some k))) (sym last)
         (subst (λ c. ReadsAs names (negative (variable state m k) ∷ []) (at_most c k)) (sym (size ∙ h))
         (reads_whole names (negative (variable state m k) ∷ []) (no (reaches (suc m) (suc k)) ∷ []) (negative_reads names (variable state m k) (reaches (suc m) (suc k)) called)))

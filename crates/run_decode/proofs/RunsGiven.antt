@@ -6,7 +6,7 @@ use Rattle.des_net.specs.Network.{Net, IsNetwork}
 use Rattle.log_clauses.proofs.Codes.{read_of}
 use Rattle.log_clauses.proofs.Explained.{assignments_explain}
 use Rattle.log_clauses.proofs.Sound.{log_is_sound}
-use Rattle.log_clauses.specs.Decoded.{decoded}
+use Rattle.log_clauses.specs.Decoded.{decoded, decoded_order}
 use Rattle.log_clauses.specs.LogCodeLaws.{IsDecoded}
 use Rattle.log_clauses.specs.LogTruth.{LogClausesHold, GuardsHold}
 use Rattle.log_order.specs.Log.{Log, ListsOnce, Keeps, IsValidLog}
@@ -32,6 +32,7 @@ decoded_by_name net log n value alarms network valid complete kept steps logged 
     record {
       steps = arranged'.steps;
       explains = record { run = run.0; fits = (decoded net log value alarms n, arranged'.steps.count, run.1); linear = arranged'.linear };
+      false_alarms = arranged'.false_alarms;
     }
 
 -- ---- by variable
@@ -75,10 +76,10 @@ count_read names assignment value match (l ∷ literals) read h =
 pub gives_explanation : (net : Net) (log : Log) (n : ℕ) (names : List (ℕ × Name)) (assignment : ℕ → Bool) (alarms : List ℕ) → HasEachOnce names → IsDecoded net log n (value_by names assignment) alarms →
     GivesExplanation net log n names assignment alarms
 gives_explanation net log n names assignment alarms once gives =
-    let faults = faults_are_inputs net n (value_by names assignment) (decoded net log (value_by names assignment) alarms n) gives.steps in record {
+    let faults = faults_are_inputs net log n (value_by names assignment) (decoded net log (value_by names assignment) alarms n) (decoded_order net log (value_by names assignment) alarms n) gives.steps gives.false_alarms in record {
       gives = gives;
       faults = faults;
-      fault_variables = λ inputs read. faults ∙ sym (count_read names assignment (value_by names assignment) (values_match names once assignment) inputs (fault_inputs net n) read);
+      fault_variables = λ inputs read. faults ∙ sym (count_read names assignment (value_by names assignment) (values_match names once assignment) inputs (fault_inputs net log n) read);
     }
 
 pub decoded_explains : DecodedExplains

@@ -1,28 +1,29 @@
 -- The truth of names by which all clauses of a question are true: of an explanation, with its guards and its bound, and of the empty run, with none.
-use Rattle.std.proofs.Common.{◌≡◌, ◌∙◌, ℕ, zero, suc, ◌≤◌, ◌⊎◌, inl, inr, Bool, true, false, not, ◌||◌, List, [], ◌∷◌, length, Option, Some, None, refl, sym, ap, subst, arith, Contains, slice_get, IsTrue, count_by, map}
+use Rattle.std.proofs.Common.{◌≡◌, ◌∙◌, ℕ, zero, suc, ◌≤◌, ◌⊎◌, inl, inr, Bool, true, false, not, ◌||◌, List, [], ◌∷◌, ◌++◌, length, Option, Some, None, refl, sym, ap, subst, arith, Contains, slice_get, IsTrue, count_by, map}
 use Rattle.std.specs.List.{AllByRecursion, AllZip, list_any}
 use Rattle.card_counter.proofs.Exact.{named_count_is_exact}
 use Rattle.card_counter.specs.Counting.{is_count, counted}
 use Rattle.card_counter.specs.CounterClauses.{IsNamedCount}
 use Rattle.des_net.specs.Network.{Net, Component, IsNetwork, IsComponent}
-use Rattle.des_net.specs.Run.{IsRun, fault_count}
+use Rattle.des_net.specs.Run.{IsRun}
 use Rattle.des_net.specs.Width.{IsPiece, joined}
 use Rattle.log_clauses.proofs.Complete.{log_is_complete}
-use Rattle.log_clauses.proofs.Lists.{or_cases, flat_from, map_from}
+use Rattle.log_clauses.proofs.Lists.{or_cases, flat_from, map_from, append_cases}
 use Rattle.log_clauses.proofs.Open.{log_is_open}
 use Rattle.log_clauses.proofs.ReadNames.{only_log_matters}
 use Rattle.log_clauses.specs.Coded.{opened}
+use Rattle.log_clauses.specs.LogClauses.{doubtful_alarms}
 use Rattle.log_clauses.specs.LogTruth.{LogClausesHold, GuardsHold, is_of_log}
 use Rattle.log_order.specs.Log.{Log}
 use Rattle.prop_core.specs.NamedClauses.{named_true, AllHold}
-use Rattle.prop_core.specs.VariableNames.{Name, in_state, happens, asked, matches, done, unmatched, closed, reaches, some_of_first, NamedLiteral, yes}
-use Rattle.replay.specs.Explanation.{Explains, Linearises}
+use Rattle.prop_core.specs.VariableNames.{Name, in_state, happens, asked, matches, done, unmatched, closed, dropped, reaches, some_of_first, NamedLiteral, yes}
+use Rattle.replay.specs.Explanation.{Entry, faults_of, Explains, Linearises}
 use Rattle.run_clauses.proofs.Exact.{runs_have_steps, only_steps_matter, same_sets}
 use Rattle.run_clauses.specs.StepClauses.{numbers_below}
 use Rattle.run_clauses.specs.Steps.{StepClausesHold, AreSteps, AgreeOnSteps, is_event}
 use Rattle.run_decode.proofs.Faults.{faults_are_inputs}
 use Rattle.run_decode.specs.DecodedRuns.{true_faults}
-use Rattle.run_decode.specs.Drawn.{fault_inputs, at_most, bound_literals}
+use Rattle.run_decode.specs.Drawn.{fault_inputs, dropped_names, at_most, bound_literals}
 use Rattle.run_decode.specs.Faithful.{IsWithin}
 use Rattle.run_decode.specs.Question.{HasColumn}
 use Rattle.step_encode.specs.FaultInputs.{fault_events, fault_names}
@@ -31,10 +32,10 @@ use Rattle.step_encode.specs.FaultInputs.{fault_events, fault_names}
 pub record QuestionHolds (net : Net) (log : Log) (n : ℕ) (value : Name → Bool) : Type 0 where
   pub steps : StepClausesHold net n value
   pub logged : LogClausesHold net log n value
-  pub count : (columns : ℕ) → AllHold (IsNamedCount (fault_inputs net n) columns) value
+  pub count : (columns : ℕ) → AllHold (IsNamedCount (fault_inputs net log n) columns) value
 
-abbrev pub BoundHolds : Net → ℕ → Option ℕ → (Name → Bool) → Type 0
-BoundHolds net n bound value = AllByRecursion (λ l. IsTrue (named_true value l)) (bound_literals net n bound)
+abbrev pub BoundHolds : Net → Log → ℕ → Option ℕ → (Name → Bool) → Type 0
+BoundHolds net log n bound value = AllByRecursion (λ l. IsTrue (named_true value l)) (bound_literals net log n bound)
 
 -- ---- the counter beside the steps and the log
 
@@ -46,29 +47,35 @@ not_count (matches i e t) h = refl
 not_count (done i t) h = refl
 not_count (unmatched e k t) h = refl
 not_count (closed e k) h = refl
+not_count (dropped i) h = refl
 not_count (reaches i j) h = cc
 not_count (some_of_first family i) h = refl
 
-inputs_are_events : (net : Net) (n : ℕ) (x : NamedLiteral) → Contains (fault_inputs net n) x → is_count x.name ≡ false
-inputs_are_events net n x in' =
-    let named = map_from yes (fault_names net n) x in' in
-    let event = flat_from (λ e. map (λ t. happens e (suc t)) (numbers_below n)) (fault_events net) named.0 named.1 in
-    let step = map_from (λ t. happens event.0 (suc t)) (numbers_below n) named.0 event.2 in
-    subst (λ (y : NamedLiteral). is_count y.name ≡ false) named.2 (subst (λ name. is_count name ≡ false) step.2 refl)
+inputs_are_named : (net : Net) (log : Log) (n : ℕ) (x : NamedLiteral) → Contains (fault_inputs net log n) x → is_count x.name ≡ false
+inputs_are_named net log n x in' =
+    let named = map_from yes (fault_names net n ++ dropped_names log) x in' in
+    subst (λ (y : NamedLiteral). is_count y.name ≡ false) named.2 (by named.0 (append_cases (fault_names net n) (dropped_names log) named.0 named.1))
+  where
+    by : (name : Name) → Contains (fault_names net n) name ⊎ Contains (dropped_names log) name → is_count name ≡ false
+    by name (inl of_event) =
+        let event = flat_from (λ e. map (λ t. happens e (suc t)) (numbers_below n)) (fault_events net) name of_event in
+        let step = map_from (λ t. happens event.0 (suc t)) (numbers_below n) name event.2 in
+        subst (λ m. is_count m ≡ false) step.2 refl
+    by name (inr of_alarm) = let alarm = map_from (λ i. dropped i) (doubtful_alarms log) name of_alarm in subst (λ m. is_count m ≡ false) alarm.2 refl
 
 -- the count goes with every truth of the steps and the log
-pub count_holds : (net : Net) (log : Log) (n : ℕ) (value : Name → Bool) → StepClausesHold net n value → LogClausesHold net log n value → QuestionHolds net log n (counted (fault_inputs net n) value)
+pub count_holds : (net : Net) (log : Log) (n : ℕ) (value : Name → Bool) → StepClausesHold net n value → LogClausesHold net log n value → QuestionHolds net log n (counted (fault_inputs net log n) value)
 count_holds net log n value steps logged =
-    let exact = named_count_is_exact (fault_inputs net n) value in record {
-      steps = only_steps_matter net n value (counted (fault_inputs net n) value) (record { states = λ c q t. refl; events = λ e t. refl }) steps;
-      logged = (only_log_matters net log n value (counted (fault_inputs net n) value) (λ name h. sym (exact.others name (not_count name h)))).0 logged;
-      count = exact.free (inputs_are_events net n);
+    let exact = named_count_is_exact (fault_inputs net log n) value in record {
+      steps = only_steps_matter net n value (counted (fault_inputs net log n) value) (record { states = λ c q t. refl; events = λ e t. refl }) steps;
+      logged = (only_log_matters net log n value (counted (fault_inputs net log n) value) (λ name h. sym (exact.others name (not_count name h)))).0 logged;
+      count = exact.free (inputs_are_named net log n);
     }
 
-guards_hold : (net : Net) (log : Log) (n : ℕ) (value : Name → Bool) → GuardsHold net log value → GuardsHold net log (counted (fault_inputs net n) value)
+guards_hold : (net : Net) (log : Log) (n : ℕ) (value : Name → Bool) → GuardsHold net log value → GuardsHold net log (counted (fault_inputs net log n) value)
 guards_hold net log n value guards =
-    let exact = named_count_is_exact (fault_inputs net n) value in
-    (only_log_matters net log n value (counted (fault_inputs net n) value) (λ name h. sym (exact.others name (not_count name h)))).1 guards
+    let exact = named_count_is_exact (fault_inputs net log n) value in
+    (only_log_matters net log n value (counted (fault_inputs net log n) value) (λ name h. sym (exact.others name (not_count name h)))).1 guards
 
 -- ---- the bound
 
@@ -76,10 +83,10 @@ at_most_true : (value : Name → Bool) (m b : ℕ) → value (reaches m (suc b))
 at_most_true value zero b h = tt
 at_most_true value (suc m) b h = (ap not h, tt)
 
-pub bound_holds : (net : Net) (n : ℕ) (bound : Option ℕ) (value : Name → Bool) → IsWithin bound (true_faults net n value) → BoundHolds net n bound (counted (fault_inputs net n) value)
-bound_holds net n None value within = tt
-bound_holds net n (Some b) value within =
-    at_most_true (counted (fault_inputs net n) value) (length (fault_inputs net n)) b ((named_count_is_exact (fault_inputs net n) value).bound b within)
+pub bound_holds : (net : Net) (log : Log) (n : ℕ) (bound : Option ℕ) (value : Name → Bool) → IsWithin bound (true_faults net log n value) → BoundHolds net log n bound (counted (fault_inputs net log n) value)
+bound_holds net log n None value within = tt
+bound_holds net log n (Some b) value within =
+    at_most_true (counted (fault_inputs net log n) value) (length (fault_inputs net log n)) b ((named_count_is_exact (fault_inputs net log n) value).bound b within)
 
 none_counted : (p : NamedLiteral → Bool) (xs : List NamedLiteral) → length xs ≡ 0 → count_by p xs ≡ 0
 none_counted p [] h = refl
@@ -89,15 +96,15 @@ not_true : (b : Bool) → not b ≡ true → b ≡ false
 not_true true h = cc
 not_true false h = refl
 
-pub bound_says : (net : Net) (n columns : ℕ) (bound : Option ℕ) (value : Name → Bool) → HasColumn net n columns bound → AllHold (IsNamedCount (fault_inputs net n) columns) value →
-    BoundHolds net n bound value → IsWithin bound (true_faults net n value)
-bound_says net n columns None value column count bounds = tt
-bound_says net n columns (Some b) value column count bounds = by (length (fault_inputs net n)) refl bounds
+pub bound_says : (net : Net) (log : Log) (n columns : ℕ) (bound : Option ℕ) (value : Name → Bool) → HasColumn net log n columns bound → AllHold (IsNamedCount (fault_inputs net log n) columns) value →
+    BoundHolds net log n bound value → IsWithin bound (true_faults net log n value)
+bound_says net log n columns None value column count bounds = tt
+bound_says net log n columns (Some b) value column count bounds = by (length (fault_inputs net log n)) refl bounds
   where
-    by : (m : ℕ) → length (fault_inputs net n) ≡ m → AllByRecursion (λ l. IsTrue (named_true value l)) (at_most m b) → true_faults net n value ≤ b
-    by zero size all = let none = none_counted (named_true value) (fault_inputs net n) size in omega (arith, none)
+    by : (m : ℕ) → length (fault_inputs net log n) ≡ m → AllByRecursion (λ l. IsTrue (named_true value l)) (at_most m b) → true_faults net log n value ≤ b
+    by zero size all = let none = none_counted (named_true value) (fault_inputs net log n) size in omega (arith, none)
     by (suc m) size all =
-        (named_count_is_exact (fault_inputs net n) value).few columns b count (column (omega (arith, size)))
+        (named_count_is_exact (fault_inputs net log n) value).few columns b count (column (omega (arith, size)))
         (subst (λ k. value (reaches k (suc b)) ≡ false) (sym size) (not_true (value (reaches (suc m) (suc b))) all.0))
 
 -- ---- of an explanation
@@ -106,9 +113,9 @@ pub record HasTruth (net : Net) (log : Log) (n : ℕ) (bound : Option ℕ) : Typ
   pub value : Name → Bool
   pub holds : QuestionHolds net log n value
   pub guards : GuardsHold net log value
-  pub bounds : BoundHolds net n bound value
+  pub bounds : BoundHolds net log n bound value
 
-pub explained_has_truth : (net : Net) (log : Log) (n : ℕ) (bound : Option ℕ) (word order : List ℕ) → IsNetwork net → Explains net log n word order → IsWithin bound (fault_count net word) → HasTruth net log n bound
+pub explained_has_truth : (net : Net) (log : Log) (n : ℕ) (bound : Option ℕ) (word : List ℕ) (order : List Entry) → IsNetwork net → Explains net log n word order → IsWithin bound (faults_of net word order) → HasTruth net log n bound
 explained_has_truth net log n bound word order network explains within =
     let pieces = explains.fits.0 in
     let count = explains.fits.1 in
@@ -119,11 +126,11 @@ explained_has_truth net log n bound word order network explains within =
     let made = log_is_complete net log n given.0 pieces order steps (subst (λ w. Linearises net log w order) cut.whole explains.linear) in
     let same : AgreeOnSteps given.0 made.0 = record { states = λ c q t. sym (made.1 (in_state c q t) refl); events = λ e t. sym (made.1 (happens e t) refl) } in
     let are = same_sets net n given.0 made.0 pieces (λ e t known step. made.1 (happens e (suc t)) refl) steps in
-    let faults : fault_count net word ≡ true_faults net n made.0 = ap (fault_count net) cut.whole ∙ faults_are_inputs net n made.0 pieces are in record {
-      value = counted (fault_inputs net n) made.0;
+    let faults : faults_of net word order ≡ true_faults net log n made.0 = ap (λ w. faults_of net w order) cut.whole ∙ faults_are_inputs net log n made.0 pieces order are made.4 in record {
+      value = counted (fault_inputs net log n) made.0;
       holds = count_holds net log n made.0 (only_steps_matter net n given.0 made.0 same clauses) made.2;
       guards = guards_hold net log n made.0 made.3;
-      bounds = bound_holds net n bound made.0 (subst (IsWithin bound) faults within);
+      bounds = bound_holds net log n bound made.0 (subst (IsWithin bound) faults within);
     }
 
 -- ---- of the empty run
@@ -166,4 +173,4 @@ question_has_truth net log n network =
     let clauses = subst (λ m. StepClausesHold net m given.0) blank.size given.1 in
     let open' = log_is_open given.0 in
     let steps = only_steps_matter net n given.0 (opened given.0) (record { states = λ c q t. refl; events = λ e t. refl }) clauses in
-    (counted (fault_inputs net n) (opened given.0), count_holds net log n (opened given.0) steps (λ which is. open'.1 net log n which))
+    (counted (fault_inputs net log n) (opened given.0), count_holds net log n (opened given.0) steps (λ which is. open'.1 net log n which))

@@ -3,7 +3,7 @@ use Rattle.std.proofs.Common.{◌≡◌, ℕ, suc, ◌⊎◌, inl, inr, true, fa
 use Rattle.card_counter.specs.CounterClauses.{CountClause, counts_on, counts_up, count_clause, unless_reached, opposite}
 use Rattle.des_net.specs.Models.{apart, pump}
 use Rattle.log_clauses.proofs.Lists.{cons_cases, none_in_nil, here_first, here_later, append_right}
-use Rattle.log_clauses.specs.LogClauses.{LogClause, log_clause, chain_closed, takes_rest, uses_up, passes_on, taken_or_passed, not_done_first, stays_done, match_is_done, matched_once, done_by_match, one_match, done_if_asked, before_if_asked}
+use Rattle.log_clauses.specs.LogClauses.{LogClause, log_clause, chain_closed, takes_rest, uses_up, passes_on, taken_or_passed, not_done_first, stays_done, match_is_done, matched_once, match_is_real, done_by_match, one_match, done_if_asked, before_if_asked}
 use Rattle.log_order.specs.Log.{no_log}
 use Rattle.prop_core.proofs.FamilyLemmas.{reads_whole}
 use Rattle.prop_core.specs.VariableNames.{Name, in_state, happens, asked, matches, done, unmatched, closed, reaches, NamedLiteral, yes, no, named_clause}
@@ -14,29 +14,29 @@ use Rattle.run_decode.specs.Drawn.{fault_inputs, bound_literals, assumption_lite
 -- ---- inputs, bounds and assumptions
 
 -- the pump jams in the first step, or in the second
-pub pump_inputs : fault_inputs pump 2 ≡ yes (happens 0 1) ∷ yes (happens 0 2) ∷ []
+pub pump_inputs : fault_inputs pump no_log 2 ≡ yes (happens 0 1) ∷ yes (happens 0 2) ∷ []
 pump_inputs = refl
 
-pub inputs_without_faults : fault_inputs apart 2 ≡ []
+pub inputs_without_faults : fault_inputs apart no_log 2 ≡ []
 inputs_without_faults = refl
 
-pub inputs_without_steps : fault_inputs pump 0 ≡ []
+pub inputs_without_steps : fault_inputs pump no_log 0 ≡ []
 inputs_without_steps = refl
 
-pub no_jam : bound_literals pump 2 (Some 0) ≡ no (reaches 2 1) ∷ []
+pub no_jam : bound_literals pump no_log 2 (Some 0) ≡ no (reaches 2 1) ∷ []
 no_jam = refl
 
-pub one_jam : bound_literals pump 2 (Some 1) ≡ no (reaches 2 2) ∷ []
+pub one_jam : bound_literals pump no_log 2 (Some 1) ≡ no (reaches 2 2) ∷ []
 one_jam = refl
 
-pub many_jams : bound_literals pump 2 (Some 255) ≡ no (reaches 2 256) ∷ []
+pub many_jams : bound_literals pump no_log 2 (Some 255) ≡ no (reaches 2 256) ∷ []
 many_jams = refl
 
-pub without_bound : bound_literals pump 2 None ≡ []
+pub without_bound : bound_literals pump no_log 2 None ≡ []
 without_bound = refl
 
 -- where nothing can fail there is nothing to bound
-pub bound_without_faults : bound_literals apart 2 (Some 0) ≡ []
+pub bound_without_faults : bound_literals apart no_log 2 (Some 0) ≡ []
 bound_without_faults = refl
 
 pub pump_assumptions : assumption_literals pump no_log 2 (Some 0) ≡ yes asked ∷ yes (closed 1 0) ∷ yes (closed 2 0) ∷ yes (closed 3 0) ∷ no (reaches 2 1) ∷ []
@@ -115,6 +115,7 @@ not_of_log (not_done_first i) each = let same = each (no (done i 0)) (0, omega a
 not_of_log (stays_done i t) each = let same = each (no (done i t)) (0, omega arith, refl) in cc
 not_of_log (match_is_done i e t) each = let same = each (no (matches i e (suc t))) (0, omega arith, refl) in cc
 not_of_log (matched_once i e t) each = let same = each (no (matches i e (suc t))) (0, omega arith, refl) in cc
+not_of_log (match_is_real i e t) each = let same = each (no (matches i e (suc t))) (0, omega arith, refl) in cc
 not_of_log (done_by_match i t) each = let same = each (no (done i (suc t))) (0, omega arith, refl) in cc
 not_of_log (one_match i e f t) each = let same = each (no (matches i e (suc t))) (0, omega arith, refl) in cc
 not_of_log (done_if_asked i) each = let same = each (no asked) (0, omega arith, refl) in cc

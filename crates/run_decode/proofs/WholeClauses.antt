@@ -1,12 +1,15 @@
 -- The clauses of a question that is coded in parts, as the parts grow.
-use Rattle.std.proofs.Common.{◌≡◌, ◌↔◌, ◌⊎◌, inl, inr, List, [], ◌++◌, length, sym, ap, subst, Contains, flat_map}
+use Rattle.std.proofs.Common.{◌≡◌, ◌↔◌, ◌⊎◌, inl, inr, ℕ, ◌+◌, Bool, true, false, if◌then◌else◌, append-nil, List, [], ◌++◌, length, sym, ap, subst, Contains, flat_map}
 use Rattle.card_counter.proofs.States.{columns_add_clauses}
-use Rattle.card_counter.specs.CounterState.{CounterState, column_clauses, column_before, column_at, numbers_below, counter_clauses, next_clauses}
+use Rattle.card_counter.proofs.Inputs.{inputs_add_clauses}
+use Rattle.log_clauses.specs.Additions.{Addition, alarm_added, pair_added}
+use Rattle.prop_core.specs.declared.lit.Lit.{Lit}
+use Rattle.card_counter.specs.CounterState.{CounterState, column_clauses, column_before, column_at, numbers_below, counter_clauses, next_clauses, input_clauses, with_input, IsFull}
 use Rattle.log_clauses.proofs.Lists.{append_cases, append_left, append_right, none_in_nil}
 use Rattle.log_encode.proofs.WrittenLemmas.{written_grows}
-use Rattle.log_encode.specs.CodedLog.{CodedLog}
+use Rattle.log_encode.specs.CodedLog.{CodedLog, code_after, addition_width}
 use Rattle.prop_core.specs.Clauses.{Clause}
-use Rattle.run_decode.specs.WholeNaming.{AreClausesOf, ClausesBegin, ClausesGrow}
+use Rattle.run_decode.specs.WholeNaming.{AreClausesOf, ClausesBegin, ClausesGrow, counter_after, counted_after, false_input}
 use Rattle.step_encode.specs.Coded.{CodedSteps}
 
 no_clauses : (counter : CounterState) → counter.columns ≡ [] → counter_clauses counter ≡ []
@@ -72,15 +75,55 @@ module _ (steps : CodedSteps) (code : CodedLog) (counter : CounterState) (clause
       from (inr (inl of_log)) = append_left clauses more clause ((are.same clause).1 (inr (inl of_log)))
       from (inr (inr of_counter)) = count_part (append_cases (counter_clauses counter) more clause of_counter)
 
+-- with the clauses of an input more they are those of the longer counter
+input_more : (steps : CodedSteps) (code : CodedLog) (counter : CounterState) (clauses : List Clause) (input : Lit) (first : ℕ) → IsFull counter → AreClausesOf steps code counter clauses → AreClausesOf steps code (with_input counter input first) (clauses ++ input_clauses counter input first)
+input_more steps code counter clauses input first full are = record { stepped = are.stepped; written = are.written; step_code = are.step_code; log_code = are.log_code; same = same }
+  where
+    more : List Clause
+    more = input_clauses counter input first
+
+    same : (clause : Clause) → Contains (clauses ++ input_clauses counter input first) clause ↔ Contains are.stepped clause ⊎ (Contains are.written clause ⊎ Contains (counter_clauses (with_input counter input first)) clause)
+    same clause = (λ in'. to (join.0 in'), λ h. join.1 (from h))
+      where
+        join : Contains (clauses ++ input_clauses counter input first) clause ↔ Contains are.stepped clause ⊎ (Contains are.written clause ⊎ Contains (counter_clauses counter ++ input_clauses counter input first) clause)
+        join = count_more steps code counter clauses are (input_clauses counter input first) clause
+
+        law : Contains (counter_clauses (with_input counter input first)) clause ↔ Contains (counter_clauses counter) clause ⊎ Contains (input_clauses counter input first) clause
+        law = inputs_add_clauses counter input first full clause
+
+        back : Contains (counter_clauses counter) clause ⊎ Contains (input_clauses counter input first) clause → Contains (counter_clauses counter ++ input_clauses counter input first) clause
+        back (inl old) = append_left (counter_clauses counter) (input_clauses counter input first) clause old
+        back (inr new) = append_right (counter_clauses counter) (input_clauses counter input first) clause new
+
+        to : Contains are.stepped clause ⊎ (Contains are.written clause ⊎ Contains (counter_clauses counter ++ input_clauses counter input first) clause) → Contains are.stepped clause ⊎ (Contains are.written clause ⊎ Contains (counter_clauses (with_input counter input first)) clause)
+        to (inl of_steps) = inl of_steps
+        to (inr (inl of_log)) = inr (inl of_log)
+        to (inr (inr of_counter)) = inr (inr (law.1 (append_cases (counter_clauses counter) (input_clauses counter input first) clause of_counter)))
+
+        from : Contains are.stepped clause ⊎ (Contains are.written clause ⊎ Contains (counter_clauses (with_input counter input first)) clause) → Contains are.stepped clause ⊎ (Contains are.written clause ⊎ Contains (counter_clauses counter ++ input_clauses counter input first) clause)
+        from (inl of_steps) = inl of_steps
+        from (inr (inl of_log)) = inr (inl of_log)
+        from (inr (inr of_counter)) = inr (inr (back (law.0 of_counter)))
+
+-- with the clauses that the counter gets with an addition
+counted_more : (steps : CodedSteps) (code after : CodedLog) (counter : CounterState) (addition : Addition) (first : ℕ) (clauses : List Clause) → IsFull counter → AreClausesOf steps after counter clauses →
+    AreClausesOf steps after (counter_after code counter addition first) (clauses ++ counted_after code counter addition first)
+counted_more steps code after counter (pair_added i j) first clauses full are = subst (AreClausesOf steps after counter) (sym (append-nil clauses)) are
+counted_more steps code after counter (alarm_added new) first clauses full are = by new.doubtful
+  where
+    by : (b : Bool) → AreClausesOf steps after (if b then with_input counter (false_input code new first) (first + addition_width code (alarm_added new)) else counter) (clauses ++ (if b then input_clauses counter (false_input code new first) (first + addition_width code (alarm_added new)) else []))
+    by true = input_more steps after counter clauses (false_input code new first) (first + addition_width code (alarm_added new)) full are
+    by false = subst (AreClausesOf steps after counter) (sym (append-nil clauses)) are
+
 pub clauses_grow : ClausesGrow
-clauses_grow steps code counter clauses are = record {
-  drafts = λ addition draft made follows. record {
+clauses_grow steps code counter clauses full are = record {
+  drafts = λ addition draft made follows. counted_more steps code (code_after code addition draft.first) counter addition draft.first (clauses ++ draft.clauses) full (record {
     stepped = are.stepped;
     written = are.written ++ draft.clauses;
     step_code = are.step_code;
     log_code = written_grows code addition draft are.written are.log_code made follows;
     same = log_more steps code counter clauses are draft.clauses;
-  };
+  });
   columns = λ first. record {
     stepped = are.stepped;
     written = are.written;

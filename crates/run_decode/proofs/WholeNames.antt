@@ -1,33 +1,40 @@
 -- Steps, log and counter by one naming.
-use Rattle.std.proofs.Common.{◌≡◌, ◌≢◌, ◌∙◌, ℕ, suc, ◌+◌, ◌*◌, ◌<◌, ◌≤◌, ◌⊎◌, inl, inr, true, false, List, [], ◌∷◌, ◌++◌, length, None, Some, refl, sym, ap, subst, arith, Contains, append-nil}
+use Rattle.std.proofs.Common.{◌≡◌, ◌≢◌, ◌∙◌, ℕ, suc, ◌+◌, ◌*◌, ◌<◌, ◌≤◌, ◌⊎◌, inl, inr, Bool, true, false, ◌-◌, if◌then◌else◌, slice_get, option_map, length-append, append_assoc, List, [], ◌∷◌, ◌++◌, length, None, Some, refl, sym, ap, subst, arith, Contains, append-nil}
 use Rattle.card_counter.proofs.CodeLemmas.{counter_is_code}
 use Rattle.card_counter.proofs.NameLemmas.{counter_names_stand}
-use Rattle.card_counter.proofs.States.{place_cases, variable_before, variable_last, grown_is_counter, none_is_counter}
+use Rattle.card_counter.proofs.States.{place_cases, variable_before, variable_last, grown_is_counter, none_is_counter, made_later}
+use Rattle.card_counter.proofs.Inputs.{inputs_grow, place_cases as places_with_input}
 use Rattle.card_counter.specs.CounterClauses.{IsNamedCount}
-use Rattle.card_counter.specs.CounterState.{CounterState, IsCounter, IsMade, IsPlace, variable, counter_names, counter_clauses, bound_literal, with_column}
+use Rattle.card_counter.specs.CounterState.{CounterState, IsCounter, IsMade, IsPlace, variable, counter_names, counter_clauses, bound_literal, with_column, with_input, HasInput}
 use Rattle.log_clauses.proofs.Lists.{append_cases, append_left, append_right, all_at, pairs_append}
 use Rattle.log_clauses.proofs.Numbered.{laid_out_from}
 use Rattle.log_clauses.specs.Additions.{Addition, alarm_added, pair_added}
 use Rattle.log_clauses.specs.LogClauses.{guard_literals}
 use Rattle.log_clauses.specs.LogCodes.{IsNamedLog, AreAmong}
-use Rattle.log_clauses.specs.LogNames.{IsLogName, added_names}
-use Rattle.log_encode.proofs.CodeLemmas.{names_with_alarm, asked_below, grown_is_coded}
-use Rattle.log_encode.specs.CodedLog.{CodedLog, code_names as log_names, read_names, code_after}
+use Rattle.log_clauses.specs.LogNames.{IsLogName, added_names, alarm_names, false_names}
+use Rattle.log_encode.proofs.CodeLemmas.{names_with_alarm, asked_below, grown_is_coded, false_more}
+use Rattle.log_encode.proofs.Naming.{named_at}
+use Rattle.log_encode.specs.CodedLog.{CodedLog, code_names as log_names, read_names, false_literals, addition_width, code_after, IsCodedLog}
+use Rattle.des_base.specs.declared.TheConstants.{VAR_LIMIT}
+use Rattle.log_clauses.proofs.Codes.{has_name, named_entry}
+use Rattle.log_order.specs.Log.{Alarm}
+use Rattle.prop_core.proofs.FamilyLemmas.{read_append}
+use Rattle.run_decode.specs.DecodedRuns.{AreFaultLiterals}
+use Rattle.run_decode.specs.RunNaming.{AreFalseLiterals, IsCodedBeside}
 use Rattle.prop_core.specs.Clauses.{Clause}
 use Rattle.prop_core.specs.NamedClauses.{IsCode}
-use Rattle.prop_core.specs.VariableNames.{Name, reaches, HasEachOnce, ReadsAs, named_clause}
+use Rattle.prop_core.specs.VariableNames.{Name, dropped, yes, reaches, HasEachOnce, ReadsAs, named_clause, with_literal}
 use Rattle.prop_core.specs.declared.grid.Grid.{Grid}
 use Rattle.prop_core.specs.declared.lit.Lit.{Lit}
 use Rattle.run_clauses.proofs.LaidOut.{steps_are_laid_out}
 use Rattle.run_clauses.specs.LaidOut.{laid_out, event_block}
 use Rattle.run_decode.proofs.Parts.{parts_make_question, parts_are_assumed}
-use Rattle.run_decode.proofs.RunNames.{is_step, Differ, step_entry, log_entry, steps_and_log, events_among}
-use Rattle.run_decode.proofs.Reading.{fault_literals_stay, bound_is_read}
+use Rattle.run_decode.proofs.RunNames.{is_step, Differ, step_entry, log_entry, steps_and_log, events_among, inputs_read}
+use Rattle.run_decode.proofs.Reading.{clause_stays, bound_is_read}
 use Rattle.run_decode.specs.Drawn.{fault_inputs, assumption_literals}
 use Rattle.run_decode.specs.Question.{IsReadAmong, IsQuestion}
-use Rattle.run_decode.specs.WholeNaming.{whole_names, AreApart, AreCodedTogether, HaveOneNaming, TogetherOneNaming, TogetherBegins, TogetherGrow, AreClausesOf, TogetherAsk}
+use Rattle.run_decode.specs.WholeNaming.{whole_names, false_input, counter_after, AreApart, AreCodedTogether, HaveOneNaming, TogetherOneNaming, TogetherBegins, TogetherGrow, AreClausesOf, TogetherAsk}
 use Rattle.step_encode.proofs.Codes.{grid_ends}
-use Rattle.step_encode.proofs.FaultLemmas.{faults_read}
 use Rattle.step_encode.specs.Coded.{CodedSteps, code_names as step_names, code_grid, variable_count}
 use Rattle.step_encode.specs.FaultInputs.{fault_literals}
 
@@ -95,13 +102,15 @@ pub together_one_naming : TogetherOneNaming
 together_one_naming steps code counter together =
     let once = names_once steps code counter together in
     let of_steps = steps_among steps code counter together in
-    let faults = fault_literals_stay (step_names steps) (whole_names steps code counter) steps.net steps.steps (fault_literals steps.net (code_grid steps)) once of_steps (faults_read steps) in record {
+    let inputs = together.inputs in
+    let faults : AreFaultLiterals (whole_names steps code counter) steps.net code.log steps.steps counter.inputs =
+    subst (AreFaultLiterals (whole_names steps code counter) steps.net code.log steps.steps) (sym inputs.whole) (inputs_read steps code (whole_names steps code counter) inputs.false_lits once of_steps (log_among steps code counter together) inputs.read) in record {
       once = once;
       of_steps = of_steps;
       of_log = read_among steps code counter together;
       of_faults = faults;
       of_counter = record {
-        inputs_read = subst (λ inputs. named_clause (whole_names steps code counter) inputs ≡ Some (fault_inputs steps.net steps.steps)) (sym together.inputs) faults;
+        inputs_read = faults;
         called = (counter_names_stand counter together.counted).called (whole_names steps code counter) once (counter_among steps code counter together);
       };
     }
@@ -112,11 +121,11 @@ no_place : (inputs : List Lit) (counter : CounterState) → counter ≡ record {
 no_place inputs counter is i j place = let none = ap (λ (c : CounterState). length c.columns) is in let below = place.column in omega (arith, none, below)
 
 pub together_begins : TogetherBegins
-together_begins steps code counter beside is =
-    let none = no_place (fault_literals steps.net (code_grid steps)) counter is in record {
+together_begins steps code counter false_lits beside read is =
+    let none = no_place (fault_literals steps.net (code_grid steps) ++ false_lits) counter is in record {
       beside = beside;
-      counted = subst IsCounter (sym is) (none_is_counter (fault_literals steps.net (code_grid steps)));
-      inputs = ap (λ (c : CounterState). c.inputs) is;
+      counted = subst IsCounter (sym is) (none_is_counter (fault_literals steps.net (code_grid steps) ++ false_lits));
+      inputs = record { false_lits = false_lits; whole = ap (λ (c : CounterState). c.inputs) is; read = read };
       later = λ i j place. absurd (none i j place);
       apart = λ entry i j in' place. absurd (none i j place);
     }
@@ -162,15 +171,133 @@ module _ (steps : CodedSteps) (code : CodedLog) (counter : CounterState) (first 
           let low = all_at (λ (e : ℕ × Name). e.0 < code.vars) (log_names code) together.beside.logged.names.below entry in' in
           λ same. omega (arith, low, last, same, above)
 
+  module _ (addition : Addition) (few : first + addition_width code addition ≤ VAR_LIMIT) where
+    grown : IsCodedLog (code_after code addition first)
+    grown = grown_is_coded code addition first together.beside.logged above few
+
+    beside_after : IsCodedBeside steps (code_after code addition first)
+    beside_after = record { net = together.beside.net; grid = together.beside.grid; logged = grown }
+
+    -- where the literals of false alarms stay
+    same_counter : AreFalseLiterals (code_after code addition first) together.inputs.false_lits → AreCodedTogether steps (code_after code addition first) counter
+    same_counter read = record {
+      beside = beside_after;
+      counted = together.counted;
+      inputs = record { false_lits = together.inputs.false_lits; whole = together.inputs.whole; read = read };
+      later = together.later;
+      apart = apart_by_addition addition;
+    }
+
+  module _ (new : Alarm) (few : first + addition_width code (alarm_added new) ≤ VAR_LIMIT) where
+    longer_code : CodedLog
+    longer_code = code_after code (alarm_added new) first
+
+    -- what says by the names of the log that alarms are false says so by those of the longer log
+    false_stay : named_clause (log_names longer_code) together.inputs.false_lits ≡ Some (false_literals code.log)
+    unfolding longer_code
+    false_stay = clause_stays (log_names code) (log_names longer_code) (grown (alarm_added new) few).names.once
+        (λ entry in'. subst (λ names. Contains names entry) (sym (names_with_alarm code new first together.beside.logged.each)) (append_left (log_names code) (laid_out first (added_names code.net code.log code.grid.steps (alarm_added new))) entry in'))
+        together.inputs.false_lits (false_literals code.log) together.inputs.read
+
+    wide : new.doubtful ≡ true → addition_width code (alarm_added new) ≡ suc (length (alarm_names code.net code.log code.grid.steps new))
+    wide h =
+        let one : length (false_names new.doubtful (length code.log.alarms)) ≡ 1 = ap (λ b. length (false_names b (length code.log.alarms))) h in
+        let whole = length-append (alarm_names code.net code.log code.grid.steps new) (false_names new.doubtful (length code.log.alarms)) in
+        omega (arith, one, whole)
+
+    input_entry : new.doubtful ≡ true → Contains (log_names longer_code) ((false_input code new first).var, dropped (length code.log.alarms))
+    unfolding longer_code
+    input_entry h =
+        let names = alarm_names code.net code.log code.grid.steps new in
+        let last : addition_width code (alarm_added new) - 1 ≡ length names = omega (arith, wide h) in
+        let split : added_names code.net code.log code.grid.steps (alarm_added new) ≡ names ++ dropped (length code.log.alarms) ∷ [] = ap (λ b. names ++ false_names b (length code.log.alarms)) h in
+        let at = named_at first (added_names code.net code.log code.grid.steps (alarm_added new)) (length names) (dropped (length code.log.alarms))
+        (subst (λ xs. slice_get xs (length names) ≡ Some (dropped (length code.log.alarms))) (sym split) (at_seam names (dropped (length code.log.alarms)))) in
+        let row = laid_out first (added_names code.net code.log code.grid.steps (alarm_added new)) in
+        let there = named_entry row (first + length names) (dropped (length code.log.alarms)) at in
+        subst (λ names'. Contains names' ((false_input code new first).var, dropped (length code.log.alarms))) (sym (names_with_alarm code new first together.beside.logged.each))
+        (append_right (log_names code) row ((false_input code new first).var, dropped (length code.log.alarms)) (subst (λ k. Contains row (first + k, dropped (length code.log.alarms))) (sym last) there))
+      where
+        at_seam : (xs : List Name) (x : Name) → slice_get (xs ++ x ∷ []) (length xs) ≡ Some x
+        at_seam [] x = refl
+        at_seam (y ∷ xs) x = at_seam xs x
+
+    next : ℕ
+    next = first + addition_width code (alarm_added new)
+
+    longer_counter : CounterState
+    longer_counter = with_input counter (false_input code new first) next
+
+    counted_more : new.doubtful ≡ true → HasInput counter (false_input code new first) next
+    unfolding next
+    counted_more h =
+        let width = wide h in
+        inputs_grow counter (false_input code new first) (first + addition_width code (alarm_added new)) together.counted (made_later first (first + addition_width code (alarm_added new)) counter (omega arith) made) (omega (arith, width))
+        (λ i j place same. let below = made.columns i j place in omega (arith, below, same))
+
+    -- a variable of the longer counter is an old one, or comes after those of the addition
+    place_of_input : new.doubtful ≡ true → (i j : ℕ) → IsPlace longer_counter i j → (IsPlace counter i j × (variable longer_counter i j ≡ variable counter i j)) ⊎ (next ≤ variable longer_counter i j)
+    unfolding next longer_counter
+    place_of_input h i j place = by (places_with_input counter (false_input code new first) next together.counted.full i j place)
+      where
+        by : IsPlace counter i j ⊎ ((i ≡ length counter.inputs) × (j < length counter.columns)) → (IsPlace counter i j × (variable longer_counter i j ≡ variable counter i j)) ⊎ (next ≤ variable longer_counter i j)
+        by (inl old) = inl (old, (counted_more h).before i j old)
+        by (inr (is, inside)) =
+            let last = subst (λ k. variable (with_input counter (false_input code new first) next) k j ≡ next + j) (sym is) ((counted_more h).last j inside) in
+            inr (omega (arith, last))
+
+    doubtful_counter : new.doubtful ≡ true → AreCodedTogether steps (code_after code (alarm_added new) first) (with_input counter (false_input code new first) (first + addition_width code (alarm_added new)))
+    unfolding next longer_counter longer_code
+    doubtful_counter h = record {
+      beside = beside_after (alarm_added new) few;
+      counted = (counted_more h).counter;
+      inputs = record {
+        false_lits = together.inputs.false_lits ++ false_input code new first ∷ [];
+        whole = ap (λ ls. ls ++ false_input code new first ∷ []) together.inputs.whole ∙ append_assoc (fault_literals steps.net (code_grid steps)) together.inputs.false_lits (false_input code new first ∷ []);
+        read = read_append (log_names longer_code) together.inputs.false_lits (false_input code new first ∷ []) (false_literals code.log) (yes (dropped (length code.log.alarms)) ∷ []) false_stay one
+            ∙ ap (λ xs. Some (false_literals code.log ++ xs)) (sym (ap (λ b. if b then yes (dropped (length code.log.alarms)) ∷ [] else []) h)) ∙ ap Some (sym (false_more code.log new));
+      };
+      later = λ i j place. later i j (place_of_input h i j place);
+      apart = λ entry i j in' place. apart entry i j in' (place_of_input h i j place);
+    }
+      where
+        one : named_clause (log_names longer_code) (false_input code new first ∷ []) ≡ Some (yes (dropped (length code.log.alarms)) ∷ [])
+        one =
+            let name = has_name (log_names longer_code) ((false_input code new first).var, dropped (length code.log.alarms)) (grown (alarm_added new) few).names.once (input_entry h) in
+            ap (λ o. with_literal (option_map (λ (name' : Name). record { name = name'; positive = true }) o) (Some [])) name
+
+        begins : steps.first + variable_count steps.net steps.steps ≤ first
+        begins =
+            let before = subst (λ (grid : Grid). grid.first + grid.events * grid.steps ≤ code.asked) together.beside.grid together.beside.logged.made in
+            let ends = grid_ends steps in
+            let asked' = asked_below code together.beside.logged in
+            omega (arith, before, ends, asked', above)
+
+        later : (i j : ℕ) → (IsPlace counter i j × (variable longer_counter i j ≡ variable counter i j)) ⊎ (next ≤ variable longer_counter i j) → steps.first + variable_count steps.net steps.steps ≤ variable longer_counter i j
+        later i j (inl (old, same)) = let low = together.later i j old in omega (arith, low, same)
+        later i j (inr high) = omega (arith, high, begins)
+
+        apart : (entry : ℕ × Name) (i j : ℕ) → Contains (log_names longer_code) entry → (IsPlace counter i j × (variable longer_counter i j ≡ variable counter i j)) ⊎ (next ≤ variable longer_counter i j) → entry.0 ≢ variable longer_counter i j
+        apart entry i j in' (inl (old, is)) = λ same. apart_by_addition (alarm_added new) entry i j in' old (same ∙ is)
+        apart entry i j in' (inr high) =
+            let low = all_at (λ (e : ℕ × Name). e.0 < first + addition_width code (alarm_added new)) (log_names longer_code) (grown (alarm_added new) few).names.below entry in' in
+            λ same. omega (arith, low, high, same)
+
+  by_addition : (addition : Addition) → first + addition_width code addition ≤ VAR_LIMIT → AreCodedTogether steps (code_after code addition first) (counter_after code counter addition first)
+  unfolding longer_code
+  by_addition (pair_added a b) few = same_counter (pair_added a b) few together.inputs.read
+  by_addition (alarm_added new) few = by new.doubtful refl
+    where
+      by : (b : Bool) → new.doubtful ≡ b → AreCodedTogether steps (code_after code (alarm_added new) first) (if b then with_input counter (false_input code new first) (first + addition_width code (alarm_added new)) else counter)
+      by true h = doubtful_counter new few h
+      by false h = same_counter (alarm_added new) few (certain h)
+        where
+          certain : new.doubtful ≡ false → AreFalseLiterals (code_after code (alarm_added new) first) together.inputs.false_lits
+          certain h = false_stay new few ∙ ap Some (sym (false_more code.log new ∙ ap (λ b. false_literals code.log ++ (if b then yes (dropped (length code.log.alarms)) ∷ [] else [])) h ∙ append-nil (false_literals code.log)))
+
 pub together_grow : TogetherGrow
 together_grow steps code counter first together above made = record {
-  by_addition = λ addition few. record {
-    beside = record { net = together.beside.net; grid = together.beside.grid; logged = grown_is_coded code addition first together.beside.logged above few };
-    counted = together.counted;
-    inputs = together.inputs;
-    later = together.later;
-    apart = apart_by_addition steps code counter first together above made addition;
-  };
+  by_addition = by_addition steps code counter first together above made;
   by_column = λ some. record {
     beside = together.beside;
     counted = grown_is_counter counter first together.counted made some;
@@ -194,8 +321,8 @@ module _ (steps : CodedSteps) (code : CodedLog) (counter : CounterState) (clause
       subst (λ m. IsCode (read_names code) (IsNamedLog steps.net code.log m) are.written) steps_same
       (subst (λ net. IsCode (read_names code) (IsNamedLog net code.log code.grid.steps) are.written) together.beside.net are.log_code.clauses)
 
-  count_code : IsCode (whole_names steps code counter) (IsNamedCount (fault_inputs steps.net steps.steps) (length counter.columns)) (counter_clauses counter)
-  count_code = counter_is_code (whole_names steps code counter) (fault_inputs steps.net steps.steps) counter naming.of_counter
+  count_code : IsCode (whole_names steps code counter) (IsNamedCount (fault_inputs steps.net code.log steps.steps) (length counter.columns)) (counter_clauses counter)
+  count_code = counter_is_code (whole_names steps code counter) (fault_inputs steps.net code.log steps.steps) counter naming.of_counter
 
   is_question : IsQuestion steps.net code.log steps.steps (length counter.columns) (whole_names steps code counter) clauses
   is_question =
@@ -215,7 +342,7 @@ module _ (steps : CodedSteps) (code : CodedLog) (counter : CounterState) (clause
 
     bound : (k : ℕ) → k < length counter.columns → ReadsAs (whole_names steps code counter) (guards ++ bound_literal counter k ∷ []) (assumption_literals steps.net code.log steps.steps (Some k))
     bound k less = parts_are_assumed steps.net code.log steps.steps (Some k) (whole_names steps code counter) guards (bound_literal counter k ∷ []) naming.once guards_read
-        (record { own = whole_names steps code counter; among = λ entry in'. in'; reads = bound_is_read steps.net steps.steps (whole_names steps code counter) counter k together.counted naming.of_counter less })
+        (record { own = whole_names steps code counter; among = λ entry in'. in'; reads = bound_is_read steps.net code.log steps.steps (whole_names steps code counter) counter k together.counted naming.of_counter less })
 
 pub together_ask : TogetherAsk
 together_ask steps code counter clauses guards together are read = record {

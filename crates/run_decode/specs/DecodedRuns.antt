@@ -2,10 +2,11 @@
 use Rattle.std.specs.Prelude.{◌≡◌, ℕ, Bool, List, length, Some, count_by}
 use Rattle.card_counter.specs.Counting.{true_count}
 use Rattle.des_net.specs.Network.{Net, IsNetwork}
-use Rattle.des_net.specs.Run.{fault_count}
 use Rattle.des_net.specs.Width.{joined}
-use Rattle.log_clauses.specs.Decoded.{decoded}
+use Rattle.log_clauses.specs.Decoded.{decoded, decoded_order}
 use Rattle.log_clauses.specs.LogCodes.{AreAmong}
+use Rattle.log_clauses.specs.LogLaws.{HasFalse}
+use Rattle.replay.specs.Explanation.{Entry, faults_of}
 use Rattle.log_clauses.specs.LogCodeLaws.{IsDecoded, IsUnboundedQuestion, MakesQuestionTrue}
 use Rattle.log_order.specs.Log.{Log, ListsOnce, Keeps, IsValidLog}
 use Rattle.prop_core.specs.Clauses.{Clause}
@@ -15,24 +16,24 @@ use Rattle.prop_core.specs.declared.lit.Lit.{Lit}
 use Rattle.run_clauses.specs.Steps.{AreSteps}
 use Rattle.run_decode.specs.Drawn.{fault_inputs}
 
--- how many fault events happen in the steps, by the truth of their names
-abbrev pub true_faults : Net → ℕ → (Name → Bool) → ℕ
-true_faults net n value = count_by (named_true value) (fault_inputs net n)
+-- how many fault events happen in the steps, and doubtful alarms are false, by the truth of their names
+abbrev pub true_faults : Net → Log → ℕ → (Name → Bool) → ℕ
+true_faults net log n value = count_by (named_true value) (fault_inputs net log n)
 
--- The events of the steps, each step in whatever order, have as many faults as names of fault events are true.
+-- The events of the steps, each step in whatever order, with an order of alarms have as many faults as names of fault events and of false alarms are true.
 abbrev pub FaultsAreInputs : Type 0
-FaultsAreInputs = (net : Net) (n : ℕ) (value : Name → Bool) (pieces : List (List ℕ)) → AreSteps net n value pieces → fault_count net (joined pieces) ≡ true_faults net n value
+FaultsAreInputs = (net : Net) (log : Log) (n : ℕ) (value : Name → Bool) (pieces : List (List ℕ)) (order : List Entry) → AreSteps net n value pieces → HasFalse log value order → faults_of net (joined pieces) order ≡ true_faults net log n value
 
 -- the literals are, by these names, the inputs of the counter
-abbrev pub AreFaultLiterals : List (ℕ × Name) → Net → ℕ → List Lit → Type 0
-AreFaultLiterals names net n inputs = named_clause names inputs ≡ Some (fault_inputs net n)
+abbrev pub AreFaultLiterals : List (ℕ × Name) → Net → Log → ℕ → List Lit → Type 0
+AreFaultLiterals names net log n inputs = named_clause names inputs ≡ Some (fault_inputs net log n)
 
--- The pieces and the order of alarms that the assignment gives explain the log, with as many faults as fault variables are true.
+-- The pieces and the order of alarms that the assignment gives explain the log, with as many faults as inputs of the counter are true.
 pub record GivesExplanation (net : Net) (log : Log) (n : ℕ) (names : List (ℕ × Name)) (assignment : ℕ → Bool) (alarms : List ℕ) : Type 0 where
   pub gives : IsDecoded net log n (value_by names assignment) alarms
-  pub faults : fault_count net (joined (decoded net log (value_by names assignment) alarms n)) ≡ true_faults net n (value_by names assignment)
-  pub fault_variables : (inputs : List Lit) → AreFaultLiterals names net n inputs →
-      fault_count net (joined (decoded net log (value_by names assignment) alarms n)) ≡ true_count assignment inputs
+  pub faults : faults_of net (joined (decoded net log (value_by names assignment) alarms n)) (decoded_order net log (value_by names assignment) alarms n) ≡ true_faults net log n (value_by names assignment)
+  pub fault_variables : (inputs : List Lit) → AreFaultLiterals names net log n inputs →
+      faults_of net (joined (decoded net log (value_by names assignment) alarms n)) (decoded_order net log (value_by names assignment) alarms n) ≡ true_count assignment inputs
 
 -- So it does where it makes the clauses of the steps and of the log true, and the guards, by any order of the alarms that keeps the pairs.
 abbrev pub DecodedExplains : Type 0
@@ -42,4 +43,4 @@ DecodedExplains = (net : Net) (log : Log) (n : ℕ) (names : List (ℕ × Name))
 
 -- Literals that are the inputs of the counter by some of the names are so by all.
 abbrev pub FaultLiteralsStay : Type 0
-FaultLiteralsStay = (own names : List (ℕ × Name)) (net : Net) (n : ℕ) (inputs : List Lit) → HasEachOnce names → AreAmong own names → AreFaultLiterals own net n inputs → AreFaultLiterals names net n inputs
+FaultLiteralsStay = (own names : List (ℕ × Name)) (net : Net) (log : Log) (n : ℕ) (inputs : List Lit) → HasEachOnce names → AreAmong own names → AreFaultLiterals own net log n inputs → AreFaultLiterals names net log n inputs

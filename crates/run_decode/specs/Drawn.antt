@@ -4,17 +4,21 @@ use Rattle.std.specs.List.{AllByRecursion}
 use Rattle.card_counter.specs.CounterClauses.{CountClause, count_clause, IsCountClause}
 use Rattle.des_net.specs.Network.{Net}
 use Rattle.log_order.specs.Log.{Log}
-use Rattle.log_clauses.specs.LogClauses.{guard_literals}
+use Rattle.log_clauses.specs.LogClauses.{guard_literals, doubtful_alarms}
 use Rattle.log_clauses.specs.LogCodes.{IsNamedLog}
 use Rattle.prop_core.specs.Clauses.{Clause}
-use Rattle.prop_core.specs.VariableNames.{Name, reaches, NamedLiteral, yes, no, HasEachOnce, ReadsAs}
+use Rattle.prop_core.specs.VariableNames.{Name, dropped, reaches, NamedLiteral, yes, no, HasEachOnce, ReadsAs}
 use Rattle.prop_core.specs.declared.lit.Lit.{Lit}
 use Rattle.run_clauses.specs.StepCodes.{IsNamedStep}
 use Rattle.step_encode.specs.FaultInputs.{fault_names}
 
--- the inputs of the counter: that a fault event happens in a step, for each of both
-abbrev pub fault_inputs : Net → ℕ → List NamedLiteral
-fault_inputs net n = map yes (fault_names net n)
+-- that a doubtful alarm is false, for each of them
+abbrev pub dropped_names : Log → List Name
+dropped_names log = map (λ i. dropped i) (doubtful_alarms log)
+
+-- the inputs of the counter: that a fault event happens in a step, for each of both, and then that a doubtful alarm is false
+abbrev pub fault_inputs : Net → Log → ℕ → List NamedLiteral
+fault_inputs net log n = map yes (fault_names net n ++ dropped_names log)
 
 -- a clause of a counter over these inputs, of whichever column
 abbrev pub IsNamedCounting : List NamedLiteral → List NamedLiteral → Type 0
@@ -22,7 +26,7 @@ IsNamedCounting inputs named = (which : CountClause) × IsCountClause inputs whi
 
 -- a clause of the steps, of the log with each end that its chains ever had, or of the counter of faults
 abbrev pub IsNamedClause : Net → Log → ℕ → List NamedLiteral → Type 0
-IsNamedClause net log n named = IsNamedStep net n named ⊎ (IsNamedLog net log n named ⊎ IsNamedCounting (fault_inputs net n) named)
+IsNamedClause net log n named = IsNamedStep net n named ⊎ (IsNamedLog net log n named ⊎ IsNamedCounting (fault_inputs net log n) named)
 
 -- By these names the clause is, as a set, one of them.
 abbrev pub IsInstance : Net → Log → ℕ → List (ℕ × Name) → Clause → Type 0
@@ -33,14 +37,14 @@ abbrev pub at_most : ℕ → ℕ → List NamedLiteral
 at_most zero b = []
 at_most (suc m) b = no (reaches (suc m) (suc b)) ∷ []
 
--- the literal for at most b faults, where there is a fault event and a step; None sets no bound
-abbrev pub bound_literals : Net → ℕ → Option ℕ → List NamedLiteral
-bound_literals net n None = []
-bound_literals net n (Some b) = at_most (length (fault_inputs net n)) b
+-- the literal for at most b faults, where the counter has an input; None sets no bound
+abbrev pub bound_literals : Net → Log → ℕ → Option ℕ → List NamedLiteral
+bound_literals net log n None = []
+bound_literals net log n (Some b) = at_most (length (fault_inputs net log n)) b
 
 -- what a question assumes: the guards of its log, and the bound
 abbrev pub assumption_literals : Net → Log → ℕ → Option ℕ → List NamedLiteral
-assumption_literals net log n bound = guard_literals net log ++ bound_literals net n bound
+assumption_literals net log n bound = guard_literals net log ++ bound_literals net log n bound
 
 -- Some naming, of which neither a variable nor a name stands twice, names each variable: by it all clauses are instances, and the assumptions are, as a set, the guards and the bound.
 pub record IsDrawn (clauses : List Clause) (assumed : List Lit) (net : Net) (log : Log) (n : ℕ) (bound : Option ℕ) : Type 0 where

@@ -2,11 +2,10 @@
 use Rattle.std.specs.Prelude.{◌≢◌, ℕ, ◌≤◌, ⊤, Bool, List, Option, Some, None}
 use Rattle.des_base.specs.Lists.{EachPair}
 use Rattle.des_net.specs.Network.{Net}
-use Rattle.des_net.specs.Run.{fault_count}
 use Rattle.log_order.specs.Log.{Log}
 use Rattle.prop_core.specs.Clauses.{Clause, negation, AllClausesTrue, AllLiteralsTrue}
 use Rattle.prop_core.specs.declared.lit.Lit.{Lit}
-use Rattle.replay.specs.Explanation.{Explains}
+use Rattle.replay.specs.Explanation.{Entry, faults_of, Explains}
 
 -- at most b faults; None sets no bound
 abbrev pub IsWithin : Option ℕ → ℕ → Type 0
@@ -21,13 +20,13 @@ pub record MakesTrue (assignment : ℕ → Bool) (clauses : List Clause) (assume
 -- some word with some order of the alarms explains the log within the bound
 pub record IsExplainedWithin (net : Net) (log : Log) (n : ℕ) (bound : Option ℕ) : Type 0 where
   pub word : List ℕ
-  pub order : List ℕ
+  pub order : List Entry
   pub explains : Explains net log n word order
-  pub within : IsWithin bound (fault_count net word)
+  pub within : IsWithin bound (faults_of net word order)
 
 pub record IsFaithful (clauses : List Clause) (assumed : List Lit) (net : Net) (log : Log) (n : ℕ) (bound : Option ℕ) : Type 0 where
   -- what explains within the bound has an assignment
-  pub complete : (word order : List ℕ) → Explains net log n word order → IsWithin bound (fault_count net word) → (assignment : ℕ → Bool) × MakesTrue assignment clauses assumed
+  pub complete : (word : List ℕ) (order : List Entry) → Explains net log n word order → IsWithin bound (faults_of net word order) → (assignment : ℕ → Bool) × MakesTrue assignment clauses assumed
   -- where there is an assignment, something explains within the bound
   pub sound : (assignment : ℕ → Bool) → MakesTrue assignment clauses assumed → IsExplainedWithin net log n bound
   -- without the assumptions the clauses don't contradict each other

@@ -13,7 +13,7 @@ use Rattle.run_decode.specs.Drawn.{fault_inputs, assumption_literals}
 
 -- the clauses of the steps, of the log, and of so many columns of the counter
 abbrev pub IsNamedQuestion : Net → Log → ℕ → ℕ → List NamedLiteral → Type 0
-IsNamedQuestion net log n columns = Both (IsNamedStep net n) (Both (IsNamedLog net log n) (IsNamedCount (fault_inputs net n) columns))
+IsNamedQuestion net log n columns = Both (IsNamedStep net n) (Both (IsNamedLog net log n) (IsNamedCount (fault_inputs net log n) columns))
 
 -- by these names, each with one variable, the clauses are those, all of them and no others
 pub record IsQuestion (net : Net) (log : Log) (n columns : ℕ) (names : List (ℕ × Name)) (clauses : List Clause) : Type 0 where
@@ -21,15 +21,15 @@ pub record IsQuestion (net : Net) (log : Log) (n columns : ℕ) (names : List (�
   pub code : IsCode names (IsNamedQuestion net log n columns) clauses
 
 -- where the counter has an input, it has the column of the bound
-abbrev pub HasColumn : Net → ℕ → ℕ → Option ℕ → Type 0
-HasColumn net n columns None = ⊤
-HasColumn net n columns (Some b) = 0 < length (fault_inputs net n) → b < columns
+abbrev pub HasColumn : Net → Log → ℕ → ℕ → Option ℕ → Type 0
+HasColumn net log n columns None = ⊤
+HasColumn net log n columns (Some b) = 0 < length (fault_inputs net log n) → b < columns
 
 -- The clauses are those of a question, and what is assumed asks it within the bound.
 pub record Asks (net : Net) (log : Log) (n : ℕ) (bound : Option ℕ) (names : List (ℕ × Name)) (clauses : List Clause) (assumed : List Lit) : Type 0 where
   pub columns : ℕ
   pub question : IsQuestion net log n columns names clauses
-  pub column : HasColumn net n columns bound
+  pub column : HasColumn net log n columns bound
   pub assumes : ReadsAs names assumed (assumption_literals net log n bound)
 
 -- ---- from its parts

@@ -1,7 +1,7 @@
 -- Clauses and assumptions that ask a question say what it asks, and are drawn from its families.
 use Rattle.std.specs.Prelude.{◌≡◌, ◌↔◌, ◌⊎◌, ℕ, ◌<◌, Bool, List, [], ◌∷◌, ◌++◌, length, Option, Some, Contains}
 use Rattle.des_net.specs.Network.{Net, IsNetwork}
-use Rattle.des_net.specs.Run.{fault_count}
+use Rattle.replay.specs.Explanation.{faults_of}
 use Rattle.des_net.specs.Width.{joined}
 use Rattle.card_counter.specs.CounterClauses.{IsNamedCount}
 use Rattle.card_counter.specs.CounterState.{CounterState, IsCounter, bound_literal}
@@ -35,7 +35,7 @@ QuestionIsDrawn = (net : Net) (log : Log) (n : ℕ) (bound : Option ℕ) (names 
 -- An assignment that makes all true gives an explanation within the bound.
 pub record GivesWithin (net : Net) (log : Log) (n : ℕ) (bound : Option ℕ) (names : List (ℕ × Name)) (assignment : ℕ → Bool) (alarms : List ℕ) : Type 0 where
   pub explanation : GivesExplanation net log n names assignment alarms
-  pub within : IsWithin bound (fault_count net (joined (decoded net log (value_by names assignment) alarms n)))
+  pub within : IsWithin bound (faults_of net (joined (decoded net log (value_by names assignment) alarms n)) (decoded_order net log (value_by names assignment) alarms n))
 
 abbrev pub QuestionGivesExplanations : Type 0
 QuestionGivesExplanations = (net : Net) (log : Log) (n : ℕ) (bound : Option ℕ) (names : List (ℕ × Name)) (clauses : List Clause) (assumed : List Lit) (assignment : ℕ → Bool) (alarms : List ℕ) →
@@ -54,20 +54,20 @@ InstancesStay = (net : Net) (log : Log) (n : ℕ) (addition : Addition) (names m
 -- Clauses that are those of the three parts, each by some of the names, are those of the question,
 abbrev pub PartsMakeQuestion : Type 0
 PartsMakeQuestion = (net : Net) (log : Log) (n columns : ℕ) (names : List (ℕ × Name)) (clauses stepped logged counted : List Clause) → HasEachOnce names →
-    IsPart names (IsNamedStep net n) stepped → IsPart names (IsNamedLog net log n) logged → IsPart names (IsNamedCount (fault_inputs net n) columns) counted →
+    IsPart names (IsNamedStep net n) stepped → IsPart names (IsNamedLog net log n) logged → IsPart names (IsNamedCount (fault_inputs net log n) columns) counted →
     ((clause : Clause) → Contains clauses clause ↔ Contains stepped clause ⊎ (Contains logged clause ⊎ Contains counted clause)) →
     IsQuestion net log n columns names clauses
 
 -- and guards and bound are assumed together.
 abbrev pub PartsAreAssumed : Type 0
 PartsAreAssumed = (net : Net) (log : Log) (n : ℕ) (bound : Option ℕ) (names : List (ℕ × Name)) (guards bounds : List Lit) → HasEachOnce names →
-    IsReadAmong names guards (guard_literals net log) → IsReadAmong names bounds (bound_literals net n bound) →
+    IsReadAmong names guards (guard_literals net log) → IsReadAmong names bounds (bound_literals net log n bound) →
     ReadsAs names (guards ++ bounds) (assumption_literals net log n bound)
 
 -- the literal for at most so many, by a counter of the faults, is the bound
 abbrev pub BoundIsRead : Type 0
-BoundIsRead = (net : Net) (n : ℕ) (names : List (ℕ × Name)) (state : CounterState) (k : ℕ) → IsCounter state → IsNamedBy names (fault_inputs net n) state → k < length state.columns →
-    ReadsAs names (bound_literal state k ∷ []) (bound_literals net n (Some k))
+BoundIsRead = (net : Net) (log : Log) (n : ℕ) (names : List (ℕ × Name)) (state : CounterState) (k : ℕ) → IsCounter state → IsNamedBy names (fault_inputs net log n) state → k < length state.columns →
+    ReadsAs names (bound_literal state k ∷ []) (bound_literals net log n (Some k))
 
 -- ---- the names of alarms
 

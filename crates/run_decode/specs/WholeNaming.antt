@@ -1,12 +1,12 @@
 -- One naming for a question whose steps, log and counter are coded on variables of their own: each part names its own, and the events of the log are those of the steps.
-use Rattle.std.specs.Prelude.{◌≡◌, ◌≢◌, ◌↔◌, ◌⊎◌, ℕ, ◌+◌, ◌<◌, ◌≤◌, List, [], ◌∷◌, ◌++◌, length, Contains, None, Some}
-use Rattle.card_counter.specs.CounterState.{CounterState, IsCounter, IsMade, IsPlace, variable, counter_names, counter_clauses, next_clauses, bound_literal, with_column}
+use Rattle.std.specs.Prelude.{◌≡◌, ◌≢◌, ◌↔◌, ◌⊎◌, ℕ, ◌+◌, ◌-◌, ◌<◌, ◌≤◌, true, if◌then◌else◌, List, [], ◌∷◌, ◌++◌, length, Contains, None, Some}
+use Rattle.card_counter.specs.CounterState.{CounterState, IsCounter, IsMade, IsPlace, variable, counter_names, counter_clauses, next_clauses, input_clauses, bound_literal, with_column, with_input, IsFull}
 use Rattle.card_counter.specs.Counting.{IsNamedBy}
 use Rattle.des_base.specs.declared.TheConstants.{VAR_LIMIT}
-use Rattle.log_clauses.specs.Additions.{Addition}
+use Rattle.log_clauses.specs.Additions.{Addition, alarm_added, pair_added}
 use Rattle.log_clauses.specs.LogClauses.{guard_literals}
 use Rattle.log_clauses.specs.LogCodes.{AreAmong}
-use Rattle.log_order.specs.Log.{Log}
+use Rattle.log_order.specs.Log.{Log, Alarm}
 use Rattle.replay.specs.QuestionSize.{variable_bound}
 use Rattle.log_encode.specs.CodedLog.{without_names, CodedLog, code_names as log_names, read_names, code_after, addition_width}
 use Rattle.log_encode.specs.Drafted.{DraftState, IsDraftOf}
@@ -19,7 +19,7 @@ use Rattle.run_clauses.specs.StepCodes.{IsNamedStep}
 use Rattle.run_decode.specs.DecodedRuns.{AreFaultLiterals}
 use Rattle.run_decode.specs.Drawn.{fault_inputs}
 use Rattle.run_decode.specs.Question.{Asks}
-use Rattle.run_decode.specs.RunNaming.{IsCodedBeside}
+use Rattle.run_decode.specs.RunNaming.{AreFalseLiterals, IsCodedBeside}
 use Rattle.step_encode.specs.Coded.{CodedSteps, code_names as step_names, code_grid, variable_count}
 use Rattle.step_encode.specs.FaultInputs.{fault_literals}
 
@@ -31,21 +31,27 @@ whole_names steps code counter = step_names steps ++ (log_names code ++ counter_
 abbrev pub AreApart : CodedLog → CounterState → Type 0
 AreApart code counter = (entry : ℕ × Name) (i j : ℕ) → Contains (log_names code) entry → IsPlace counter i j → entry.0 ≢ variable counter i j
 
--- The log is coded beside the events of the steps, in the same network; the counter counts the faults of the steps, on later variables; and log and counter have no variable in common.
+-- The inputs are the faults of the steps, and then that alarms of the log are false.
+pub record AreInputs (steps : CodedSteps) (code : CodedLog) (inputs : List Lit) : Type 0 where
+  pub false_lits : List Lit
+  pub whole : inputs ≡ fault_literals steps.net (code_grid steps) ++ false_lits
+  pub read : AreFalseLiterals code false_lits
+
+-- The log is coded beside the events of the steps, in the same network; the counter counts the faults of the steps and the false alarms, on later variables; and log and counter have no variable in common.
 pub record AreCodedTogether (steps : CodedSteps) (code : CodedLog) (counter : CounterState) : Type 0 where
   pub beside : IsCodedBeside steps code
   pub counted : IsCounter counter
-  pub inputs : counter.inputs ≡ fault_literals steps.net (code_grid steps)
+  pub inputs : AreInputs steps code counter.inputs
   pub later : (i j : ℕ) → IsPlace counter i j → steps.first + variable_count steps.net steps.steps ≤ variable counter i j
   pub apart : AreApart code counter
 
--- No name and no variable stands twice; the parts keep their names, and the inputs of the counter read as the fault events in all steps.
+-- No name and no variable stands twice; the parts keep their names, and the inputs of the counter read as the fault events in all steps and the false alarms.
 pub record HaveOneNaming (steps : CodedSteps) (code : CodedLog) (counter : CounterState) : Type 0 where
   pub once : HasEachOnce (whole_names steps code counter)
   pub of_steps : AreAmong (step_names steps) (whole_names steps code counter)
   pub of_log : AreAmong (read_names code) (whole_names steps code counter)
-  pub of_faults : AreFaultLiterals (whole_names steps code counter) steps.net steps.steps (fault_literals steps.net (code_grid steps))
-  pub of_counter : IsNamedBy (whole_names steps code counter) (fault_inputs steps.net steps.steps) counter
+  pub of_faults : AreFaultLiterals (whole_names steps code counter) steps.net code.log steps.steps counter.inputs
+  pub of_counter : IsNamedBy (whole_names steps code counter) (fault_inputs steps.net code.log steps.steps) counter
 
 -- What is coded together has one naming.
 abbrev pub TogetherOneNaming : Type 0
@@ -55,12 +61,28 @@ TogetherOneNaming = (steps : CodedSteps) (code : CodedLog) (counter : CounterSta
 
 -- A counter without columns has no variables of its own.
 abbrev pub TogetherBegins : Type 0
-TogetherBegins = (steps : CodedSteps) (code : CodedLog) (counter : CounterState) → IsCodedBeside steps code →
-    counter ≡ record { inputs = fault_literals steps.net (code_grid steps); columns = [] } → AreCodedTogether steps code counter
+TogetherBegins = (steps : CodedSteps) (code : CodedLog) (counter : CounterState) (false_lits : List Lit) → IsCodedBeside steps code → AreFalseLiterals code false_lits →
+    counter ≡ record { inputs = fault_literals steps.net (code_grid steps) ++ false_lits; columns = [] } → AreCodedTogether steps code counter
 
--- The log may get an addition on variables after those of the counter, and the counter a column on variables after those of the log.
+-- the literal that says that a new alarm is false: its variable is the last of those of the addition
+abbrev pub false_input : CodedLog → Alarm → ℕ → Lit
+false_input code new first = record { var = first + (addition_width code (alarm_added new) - 1); positive = true }
+
+-- the counter after an addition whose variables begin at a number: it counts a doubtful alarm, in each column on a variable after them
+abbrev pub counter_after : CodedLog → CounterState → Addition → ℕ → CounterState
+counter_after code counter (alarm_added new) first =
+    if new.doubtful then with_input counter (false_input code new first) (first + addition_width code (alarm_added new)) else counter
+counter_after code counter (pair_added i j) first = counter
+
+-- and the clauses that the counter gets with it
+abbrev pub counted_after : CodedLog → CounterState → Addition → ℕ → List Clause
+counted_after code counter (alarm_added new) first =
+    if new.doubtful then input_clauses counter (false_input code new first) (first + addition_width code (alarm_added new)) else []
+counted_after code counter (pair_added i j) first = []
+
+-- The log may get an addition, and the counter the input that comes with it, on variables after those of both, and the counter a column on variables after those of the log.
 pub record GrowTogether (steps : CodedSteps) (code : CodedLog) (counter : CounterState) (first : ℕ) : Type 0 where
-  pub by_addition : (addition : Addition) → first + addition_width code addition ≤ VAR_LIMIT → AreCodedTogether steps (code_after code addition first) counter
+  pub by_addition : (addition : Addition) → first + addition_width code addition ≤ VAR_LIMIT → AreCodedTogether steps (code_after code addition first) (counter_after code counter addition first)
   pub by_column : 0 < length counter.inputs → AreCodedTogether steps code (with_column counter first)
 
 abbrev pub TogetherGrow : Type 0
@@ -81,13 +103,14 @@ abbrev pub ClausesBegin : Type 0
 ClausesBegin = (steps : CodedSteps) (code : CodedLog) (counter : CounterState) (stepped written : List Clause) → counter.columns ≡ [] →
     IsCode (step_names steps) (IsNamedStep steps.net steps.steps) stepped → IsWritten code written → AreClausesOf steps code counter (stepped ++ written)
 
--- The clauses of a draft, and those of a column more, come behind them.
+-- The clauses of a draft, with those of the counter's new input, and those of a column more, come behind them.
 pub record AreJoinedBy (steps : CodedSteps) (code : CodedLog) (counter : CounterState) (clauses : List Clause) : Type 0 where
-  pub drafts : (addition : Addition) (draft : DraftState) → IsDraftOf code addition draft.first draft → Follows code draft → AreClausesOf steps (code_after code addition draft.first) counter (clauses ++ draft.clauses)
+  pub drafts : (addition : Addition) (draft : DraftState) → IsDraftOf code addition draft.first draft → Follows code draft →
+      AreClausesOf steps (code_after code addition draft.first) (counter_after code counter addition draft.first) ((clauses ++ draft.clauses) ++ counted_after code counter addition draft.first)
   pub columns : (first : ℕ) → AreClausesOf steps code (with_column counter first) (clauses ++ next_clauses counter first)
 
 abbrev pub ClausesGrow : Type 0
-ClausesGrow = (steps : CodedSteps) (code : CodedLog) (counter : CounterState) (clauses : List Clause) → AreClausesOf steps code counter clauses → AreJoinedBy steps code counter clauses
+ClausesGrow = (steps : CodedSteps) (code : CodedLog) (counter : CounterState) (clauses : List Clause) → IsFull counter → AreClausesOf steps code counter clauses → AreJoinedBy steps code counter clauses
 
 -- With the guards they ask without a bound, and with the counter's literal for at most k besides, they ask within k.
 pub record AskTogether (steps : CodedSteps) (code : CodedLog) (counter : CounterState) (clauses : List Clause) (guards : List Lit) : Type 0 where

@@ -1,8 +1,15 @@
-use Rattle.std.proofs.Common.{sym, subst}
+use Rattle.std.proofs.Common.{arith, length, sym, subst}
+use Rattle.least_faults.proofs.Assuming.{with_bound, without_bound}
+use Rattle.least_faults.proofs.Columns.{adds_none}
 use Rattle.least_faults.proofs.asking.assumptions.Goals as goal
 use Rattle.least_faults.proofs.asking.assumptions.Goals.{in-Some+in_ok-bound+in_ok-push, in_default}
+use Rattle.least_faults.specs.Asking.{AreAssumptions}
+use Rattle.least_faults.specs.Growing.{AddsAxioms}
 use Rattle.least_faults.specs.Parts.{AreReady}
 use Rattle.least_faults.specs.declared.parts.Parts.{Parts}
+use Rattle.log_clauses.specs.LogClauses.{guard_literals}
+use Rattle.log_encode.specs.CodedLog.{read_names}
+use Rattle.prop_core.specs.VariableNames.{ReadsAs}
 
 pub returns-clause-ready : goal.returns-clause-ready
 returns-clause-ready g c = elim c.match-within.branch [
@@ -12,4 +19,25 @@ returns-clause-ready g c = elim c.match-within.branch [
   | in_default w ↦
       subst (λ (p : Parts g.row.R.Denot). AreReady p.step p.code.code p.counter p.vars p.solver.adopted p.solver.vars c.match-within.book.entries) (sym w.parts-is)
       (subst (λ b. AreReady c.args.parts.now.step c.args.parts.now.code.code c.args.parts.now.counter c.args.parts.now.vars c.args.parts.now.solver.adopted c.args.parts.now.solver.vars b.entries) (sym w.book-is) c.requires.ready)
+]
+
+pub returns-clause-axioms : goal.returns-clause-axioms
+returns-clause-axioms g c = elim c.match-within.branch [
+  | in-Some+in_ok-bound+in_ok-push w ↦ subst (λ b. AddsAxioms c.args.book.now.entries b.entries) (sym w.book-is) w.bound.ensures.axioms
+  | in_default w ↦ subst (λ b. AddsAxioms c.args.book.now.entries b.entries) (sym w.book-is) (adds_none c.args.book.now.entries)
+]
+
+pub returns-clause-assumed : goal.returns-clause-assumed
+returns-clause-assumed g c = elim c.match-within.branch [
+  | in-Some+in_ok-bound+in_ok-push w ↦
+      subst (λ (p : Parts g.row.R.Denot). AreAssumptions p.code.code p.counter c.args.within c.match-within.assumed.items) (sym w.parts-is)
+      (subst (λ within. AreAssumptions w.bound.new.parts.code.code w.bound.new.parts.counter within c.match-within.assumed.items) (sym w.in-Some.is)
+      (with_bound w.bound.new.parts.code.code w.bound.new.parts.counter w.in-Some.k (length c.args.parts.now.counter.columns) c.guards.result.now w.in_ok-bound.field-0 c.match-within.assumed.items
+      (subst (λ code. ReadsAs (read_names code.code) c.guards.result.now (guard_literals code.code.net code.code.log)) (sym w.bound.ensures.same_code) c.guards.ensures.guards)
+      w.in_ok-bound.ensures.columns w.in_ok-bound.ensures.literal (grind (arith, w.assumed-is, w.in_ok-push.ensures.items, c.in_ok-extend_from_slice.ensures.items, c.new-assumed.ensures.items))))
+  | in_default w ↦
+      subst (λ (p : Parts g.row.R.Denot). AreAssumptions p.code.code p.counter c.args.within c.match-within.assumed.items) (sym w.parts-is)
+      (subst (λ within. AreAssumptions c.args.parts.now.code.code c.args.parts.now.counter within c.match-within.assumed.items) (sym w.in_default.is)
+      (without_bound c.args.parts.now.code.code c.args.parts.now.counter c.guards.result.now c.match-within.assumed.items c.guards.ensures.guards
+      (grind (arith, w.assumed-is, c.in_ok-extend_from_slice.ensures.items, c.new-assumed.ensures.items))))
 ]

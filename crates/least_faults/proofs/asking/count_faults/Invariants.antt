@@ -1,8 +1,10 @@
 -- the count is that of the steps so far
-use Rattle.std.proofs.Common.{◌≡◌, take}
-use Rattle.des_net.specs.Run.{fault_count}
+use Rattle.std.proofs.Common.{◌≡◌, ◌≤◌, count_by, take}
 use Rattle.least_faults.proofs.asking.count_faults.Given as goal
-use Rattle.replay.specs.Traced.{word_of}
+use Rattle.least_faults.specs.Answers.{is_fault_step}
 
 abbrev pub invariant-loop-step : goal.invariant-loop-step
-invariant-loop-step l = l.faults ≡ fault_count l.net (take l.step-index (word_of l.steps))
+invariant-loop-step l = record {
+  count : l.faults ≡ count_by (is_fault_step l.net) (take l.step-index l.steps);
+  few : l.faults ≤ l.step-index;
+}

@@ -8,9 +8,9 @@ use Rattle.log_csv.proofs.log_text.add_alarm.Goals as goal
 
 pub returns-in-Ok : goal.returns-in-Ok
 returns-in-Ok c = λ earlier logged named.
-    alarm-added earlier c.args.id c.args.labels.now c.args.row c.args.log.now c.add_alarm.new.self logged named c.in-Ok.ensures.refused c.in-Ok.ensures.ok
+    alarm-added earlier c.args.maybe c.args.id c.args.labels.now c.args.row c.args.log.now c.put_alarm.new.log logged named c.in-Ok.ensures.refused c.in-Ok.ensures.ok
 
 pub returns-in-Err : goal.returns-in-Err
 returns-in-Err c = λ earlier logged named.
-    subst (λ (e : LogReadRefusal). Adds earlier (alarm c.args.id c.args.labels.now) c.args.row c.add_alarm.new.self (Err e)) (sym c.refusal_at.ensures)
-    (alarm-refused earlier c.args.id c.args.labels.now c.args.row c.args.log.now c.add_alarm.new.self c.in-Err.refusal logged named c.in-Err.ensures.refused)
+    subst (λ (e : LogReadRefusal). Adds earlier (alarm c.args.maybe c.args.id c.args.labels.now) c.args.row c.put_alarm.new.log (Err e)) (sym c.refusal_at.ensures)
+    (alarm-refused earlier c.args.maybe c.args.id c.args.labels.now c.args.row c.args.log.now c.put_alarm.new.log c.in-Err.refusal logged named c.in-Err.ensures.refused)

@@ -1,8 +1,7 @@
-use Rattle.std.proofs.Common.{◌<◌, All, length, subst, ap, arith}
-use Rattle.std.proofs.lemmas.List.{take_all}
-use Rattle.std.proofs.lemmas.List.Elements.{All-more}
+use Rattle.std.proofs.Common.{◌∙◌, ◌<◌, ◌++◌, ◌∷◌, [], All, List, length, subst, ap, arith, sym, take}
+use Rattle.std.proofs.lemmas.List.{take_all, take_more}
 use Rattle.question_calls.proofs.shown.are_known.Goals as goal
-use Rattle.replay.proofs.RunLemmas.{event_at_step, length-word_of}
+use Rattle.replay.proofs.RunLemmas.{known_more}
 use Rattle.replay.specs.declared.run.RunStep.{RunStep}
 use Rattle.replay.specs.Traced.{word_of}
 
@@ -12,11 +11,9 @@ loop-step-preserved c =
     let n = length c.args.net.now.events in
     let i = c.loop-step.step-index in
     let step = c.step-item.result in
-    let event = ap (λ (s : RunStep). s.event) c.step.view_is in
-    let same = event_at_step steps i step c.loop-step-test.true c.step-item.is in
-    All-more (λ e. e < n) (word_of steps) i step.event (omega (arith, c.loop-step-test.true, length-word_of steps)) c.loop-step.invariant (subst (λ e. e < n) same (omega (arith, event, c.if-step-events.false, c.events.ensures)))
+    let longer = ap (λ (s : RunStep). take i steps ++ s ∷ []) c.step-item.is ∙ sym (take_more steps i step c.loop-step-test.true) in
+    subst (λ (some : List RunStep). All (λ e. e < n) (word_of some)) longer (known_more (take i steps) step n c.loop-step.invariant (c.is_known.ensures c.if-not-is_known.false))
 
 pub returns : goal.returns
 returns c = λ yes.
-    let steps = c.args.steps.now in
-    subst (All (λ e. e < length c.args.net.now.events)) (take_all c.loop-step.step-index (word_of steps) (omega (arith, c.loop-step-test.false, length-word_of steps))) c.loop-step.invariant
+    subst (λ (some : List RunStep). All (λ e. e < length c.args.net.now.events) (word_of some)) (take_all c.loop-step.step-index c.args.steps.now (omega (arith, c.loop-step-test.false))) c.loop-step.invariant

@@ -4,4 +4,4 @@ use Rattle.question_calls.proofs.shown.are_known.Given as goal
 use Rattle.replay.specs.Traced.{word_of}
 
 abbrev pub invariant-loop-step : goal.invariant-loop-step
-invariant-loop-step l = All (λ e. e < length l.net.events) (take l.step-index (word_of l.steps))
+invariant-loop-step l = All (λ e. e < length l.net.events) (word_of (take l.step-index l.steps))

@@ -1,7 +1,6 @@
 -- The text's first fault is that of its steps, where its header is well.
 use Rattle.std.proofs.Common.{◌≡◌, sym, subst, Option, None}
 use Rattle.std.specs.Prelude.{OnOk, IfErr}
-use Rattle.des_base.specs.CountedLines.{last_line}
 use Rattle.replay.specs.declared.run_text.RunFault.{RunFault}
 use Rattle.replay.specs.RunText.{Tells}
 use Rattle.replay.proofs.TextLemmas.{first_fault-steps}

@@ -1,12 +1,13 @@
-use Rattle.std.proofs.Common.{◌≡◌, ◌∙◌, ◌-◌, ◌+◌, ◌++◌, ◌∷◌, [], ℕ, suc, ◌<◌, ◌≤◌, List, Option, Some, None, length, append_assoc, length-append, sym, subst, ap, arith}
+use Rattle.std.proofs.Common.{◌≡◌, ◌∙◌, ◌-◌, ◌+◌, ◌++◌, ◌∷◌, [], ℕ, suc, ◌<◌, List, Option, Some, None, length, append_assoc, length-append, sym, subst, ap, arith}
 use Rattle.std.specs.Prelude.{All}
-use Rattle.std.proofs.lemmas.Grind.{common_steps}
 use Rattle.des_base.specs.CountedLines.{NumberedLine, numbered, tokens_of}
 use Rattle.des_net.specs.Network.{Net}
 use Rattle.replay.specs.declared.run.RunStep.{RunStep}
 use Rattle.replay.specs.declared.run_text.RunFault.{RunFault}
 use Rattle.replay.specs.Traced.{word_of}
 use Rattle.replay.specs.RunText.{step_of, steps_of, step_code, first_fault_in}
+use Rattle.replay.proofs.RunLemmas.{known_more}
+use Rattle.replay.proofs.TextLemmas.{some_left}
 use Rattle.replay.proofs.run_text.read_steps.Goals as goal
 
 -- a line's step stands before those of the lines behind it
@@ -19,14 +20,6 @@ more_faults : (net : Net) (left number : ℕ) (text : List ℕ) (before after : 
     step_code net left (tokens_of text) ≡ None → first_fault_in net left before ≡ all → first_fault_in net (left - 1) after ≡ all
 more_faults net left number text before after all front well had = grind arith
 
--- a line without a fault may still come
-some_left : (net : Net) (left : ℕ) (words : List (List ℕ)) → step_code net left words ≡ None → 1 ≤ left
-some_left net left words well = grind arith
-
--- a known event more
-more_known : (run : List RunStep) (step : RunStep) (n : ℕ) → All (λ e. e < n) (word_of run) → step.event < n → All (λ e. e < n) (word_of (run ++ step ∷ []))
-more_known run step n known one = grind (arith, common_steps)
-
 pub loop-line-preserved : goal.loop-line-preserved
 loop-line-preserved c =
     let net = c.args.net.now in
@@ -38,8 +31,8 @@ loop-line-preserved c =
     record {
       steps = ap (λ (run : List RunStep). run ++ steps_of net c.next_line.new.self) pushed
           ∙ more_steps net c.loop-line.run _ step line.number line.text.now c.loop-line.lines c.next_line.new.self c.in-Some.ensures.line c.in_ok-step.ensures.step c.loop-line.invariant.steps;
-      known = subst (λ (run : List RunStep). All (λ e. e < length net.events) (word_of run)) (sym pushed) (more_known c.loop-line.run step (length net.events) c.loop-line.invariant.known c.in_ok-step.ensures.known);
-      left = omega (arith, longer, shorter, c.loop-line.invariant.left, some_left net c.loop-line.left _ c.in_ok-step.ensures.well);
+      known = subst (λ (run : List RunStep). All (λ e. e < length net.events) (word_of run)) (sym pushed) (known_more c.loop-line.run step (length net.events) c.loop-line.invariant.known c.in_ok-step.ensures.known);
+      left = omega (arith, longer, shorter, c.loop-line.invariant.left, some_left net c.loop-line.left (tokens_of line.text.now) c.in_ok-step.ensures.well);
       few = c.loop-line.invariant.few;
       long = omega (arith, longer, shorter, c.loop-line.invariant.long);
       faults = more_faults net c.loop-line.left line.number line.text.now c.loop-line.lines c.next_line.new.self _ c.in-Some.ensures.line c.in_ok-step.ensures.well c.loop-line.invariant.faults;

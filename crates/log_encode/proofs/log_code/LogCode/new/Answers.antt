@@ -35,10 +35,10 @@ invariant_of-result c =
     let is = begins c.args.net.now c.args.grid c.args.vars.now c.count-asked.result c.in_ok-ends.ends.items c.count-asked.ensures.count c.requires.events c.requires.made c.requires.few c.in_ok-ends.ensures in
     let count = guards_len c.args.net.now c.args.grid c.count-asked.result c.len.result c.in_ok-ends.ends.items c.as_slice.result.now c.in_ok-guards.guards.items is c.as_slice.ensures.value c.in_ok-guards.ensures (omega (arith, c.in_ok-guards.guards.ok, c.len.ensures)) in
     let total : c.count.result ≡ c.count-asked.result + length (first_names c.args.net.now) = omega (arith, c.count.ensures.count, c.fresh.ensures.count, count, c.count-asked.ensures.count) in record {
-      kept = subst (λ (net : Net). AreKept (coded_of net c.args.grid c.count-asked.result c.count.result c.new.result.items c.new-2.result.items) c.in_ok-ends.ends.items c.in_ok-guards.guards.items c.new.result.items) (sym c.of.ensures)
-          (first_kept c.args.net.now c.args.grid c.count-asked.result c.count.result c.in_ok-ends.ends.items c.in_ok-guards.guards.items c.new.result.items c.new-2.result.items is (c.in_ok-guards.ensures ∙ ap (guards_of c.count-asked.result) c.as_slice.ensures.value) c.new.ensures.items c.new-2.ensures.items total);
-      room_for_alarms = omega (arith, c.new.ensures.len);
-      room_for_pairs = omega (arith, c.new-2.ensures.len);
+      kept = subst (λ (net : Net). AreKept (coded_of net c.args.grid c.count-asked.result c.count.result c.new-2.result.items c.new-3.result.items) c.in_ok-ends.ends.items c.in_ok-guards.guards.items c.new.result.items c.new-2.result.items) (sym c.of.ensures)
+          (first_kept c.args.net.now c.args.grid c.count-asked.result c.count.result c.in_ok-ends.ends.items c.in_ok-guards.guards.items c.new.result.items c.new-2.result.items c.new-3.result.items is (c.in_ok-guards.ensures ∙ ap (guards_of c.count-asked.result) c.as_slice.ensures.value) c.new.ensures.items c.new-2.ensures.items c.new-3.ensures.items total);
+      room_for_alarms = omega (arith, c.new-2.ensures.len);
+      room_for_pairs = omega (arith, c.new-3.ensures.len);
     }
 
 pub returns-clause-code : goal.returns-clause-code
@@ -46,8 +46,8 @@ returns-clause-code c =
     let is = begins c.args.net.now c.args.grid c.args.vars.now c.count-asked.result c.in_ok-ends.ends.items c.count-asked.ensures.count c.requires.events c.requires.made c.requires.few c.in_ok-ends.ensures in
     let count = guards_len c.args.net.now c.args.grid c.count-asked.result c.len.result c.in_ok-ends.ends.items c.as_slice.result.now c.in_ok-guards.guards.items is c.as_slice.ensures.value c.in_ok-guards.ensures (omega (arith, c.in_ok-guards.guards.ok, c.len.ensures)) in
     let total : c.count.result ≡ c.count-asked.result + length (first_names c.args.net.now) = omega (arith, c.count.ensures.count, c.fresh.ensures.count, count, c.count-asked.ensures.count) in
-    ap (λ (net : Net). coded_of net c.args.grid c.count-asked.result c.count.result c.new.result.items c.new-2.result.items) c.of.ensures
-    ∙ first_is_empty c.args.net.now c.args.grid c.count-asked.result c.count.result c.new.result.items c.new-2.result.items c.new.ensures.items c.new-2.ensures.items total
+    ap (λ (net : Net). coded_of net c.args.grid c.count-asked.result c.count.result c.new-2.result.items c.new-3.result.items) c.of.ensures
+    ∙ first_is_empty c.args.net.now c.args.grid c.count-asked.result c.count.result c.new-2.result.items c.new-3.result.items c.new-2.ensures.items c.new-3.ensures.items total
     ∙ ap (empty_code c.args.net.now c.args.grid) c.count-asked.ensures.count
 
 pub returns-clause-vars : goal.returns-clause-vars

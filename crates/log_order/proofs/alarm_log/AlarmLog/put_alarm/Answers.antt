@@ -25,15 +25,15 @@ add_number-requires-clause-few c = few_ids _ _ c.self.invariant.named (room c)
 pub add_number-requires-clause-new : goal.add_number-requires-clause-new
 add_number-requires-clause-new c = ap (place_of c.args.id) (c.self.invariant.named ∙ ap (λ (log : Log). names_of log.alarms) c.self.view_is) ∙ (IsNewAlarm-from _ _ _ c.requires).new
 
-alarms_are : (c : goal.After-push_reserved) → c.push_reserved.new.self.items ≡ c.self.inside.alarms.items ++ record { name = c.args.id; labels = with_texts [] c.args.labels.now } ∷ []
+alarms_are : (c : goal.After-push_reserved) → c.push_reserved.new.self.items ≡ c.self.inside.alarms.items ++ record { name = c.args.id; labels = with_texts [] c.args.labels.now; doubtful = c.args.doubtful } ∷ []
 alarms_are c =
-    let made : (name : List ℕ) (labels : List (List ℕ)) → Alarm = λ name labels. record { name = name; labels = labels } in
+    let made : (name : List ℕ) (labels : List (List ℕ)) → Alarm = λ name labels. record { name = name; labels = labels; doubtful = c.args.doubtful } in
     c.push_reserved.ensures.items ∙ ap (λ alarms. alarms ++ made c.in_ok-copy.field-0 c.in_ok-each_once.field-0.items ∷ []) c.in_ok-reserve.ensures.items
     ∙ (λ i. c.self.inside.alarms.items ++ made (c.in_ok-copy.ensures i) (c.in_ok-each_once.ensures.once i) ∷ [])
 
 pub invariant_of-self-2 : goal.invariant_of-self-2
 invariant_of-self-2 c =
-    let alarm : Alarm = record { name = c.args.id; labels = with_texts [] c.args.labels.now } in
+    let alarm : Alarm = record { name = c.args.id; labels = with_texts [] c.args.labels.now; doubtful = c.args.doubtful } in
     let alarms = c.self.inside.alarms.items in
     let is : c.push_reserved.new.self.items ≡ c.self.inside.alarms.items ++ alarm ∷ [] = alarms_are c in
     let new = IsNewAlarm-from _ _ _ c.requires in
@@ -46,7 +46,7 @@ invariant_of-self-2 c =
       named = c.in_ok-number.ensures.ids ∙ ap (λ ids. ids ++ c.args.id ∷ []) c.self.invariant.named ∙ sym names;
       counted = ap (λ (p : Precedence). p.count) c.in_ok-number.ensures.ok ∙ ap (λ n. n + 1) c.self.invariant.counted ∙ sym long;
       names = subst AreNames (sym names) (AreNames-push (names_of c.self.inside.alarms.items) c.args.id c.self.invariant.names c.as_str-text.ensures.name fresh (omega (arith, length-names_of alarms)));
-      alarms = subst (λ (xs : List Alarm). AllByRecursion IsAlarm xs) (sym is) (all_append IsAlarm alarms (alarm ∷ []) c.self.invariant.alarms (IsAlarm-from c.args.id c.args.labels.now labels new.some new.few, tt));
+      alarms = subst (λ (xs : List Alarm). AllByRecursion IsAlarm xs) (sym is) (all_append IsAlarm alarms (alarm ∷ []) c.self.invariant.alarms (IsAlarm-from c.args.id c.args.labels.now c.args.doubtful labels new.some new.few, tt));
       few_alarms = omega (arith, long);
       few_pairs = subst (λ (p : Precedence). length p.pairs ≤ most_pairs) (sym c.in_ok-number.ensures.ok) c.self.invariant.few_pairs;
     }
