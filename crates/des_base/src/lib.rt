@@ -4,9 +4,10 @@
 //! - A *name* is 1 to 64 letters, digits, `_` or `-`; a table numbers names in the order in which they were added.
 //! - A text is cut into *counted lines* and these into *tokens*: blank lines and comments are skipped.
 //! - A *shelf* gives files by name, a *sink* takes bytes. Both count their faults, so that a fault has its cause. They
-//!   come here in memory; the real ones stand in the program.
+//!   come here in memory, a sink also as a count of bytes; the real ones stand in the program.
 #![tactic(auto)]
 
+mod count_sink;
 mod ids;
 mod laws;
 mod lines;
@@ -22,6 +23,7 @@ mod outside;
 mod tokens;
 mod word_list;
 
+pub use count_sink::CountSink;
 pub use ids::{ActionId, CompId, EventId, StateId};
 pub use laws::{numbers_are_decimal, tokens_are_pieces};
 pub use lines::{Line, Lines, last_line};

@@ -1,8 +1,8 @@
 // Names, tables and lists of them, numbers, lines, tokens, and files and output in memory.
 use crate::made::name;
 use des_base::{
-    Line, Lines, LoadFault, MemShelf, MemSink, Name, NameFault, NameList, NameTable, Shelf, Sink,
-    Tokens, WordList, read_number,
+    CountSink, Line, Lines, LoadFault, MemShelf, MemSink, Name, NameFault, NameList, NameTable,
+    Shelf, Sink, Tokens, WordList, read_number,
 };
 use std::alloc::Global;
 use std::cmp::Ordering;
@@ -333,4 +333,19 @@ fn expect_puts(rt: &impl Abort, sink: &mut MemSink) {
 #[test]
 fn takes_pieces(rt: HostRuntime) {
     expect_puts(&rt, &mut sink(&rt, rt.alloc()));
+}
+
+// The piece, and how many bytes were taken then.
+const COUNTS: [(&[u8], u64); 4] = [(b"abc", 3), (b"", 3), (b"d", 4), (b"efgh", 8)];
+
+#[test]
+fn counts_bytes(rt: HostRuntime) {
+    let mut sink = CountSink::new();
+    assert!(rt; sink.bytes() == 0);
+    for (piece, bytes) in &COUNTS {
+        assert!(rt;
+            sink.put(piece).is_ok() && sink.bytes() == *bytes,
+            "{piece:?}"
+        );
+    }
 }
