@@ -1,15 +1,14 @@
 -- A counter with one input more.
-use Rattle.std.proofs.Common.{◌≡◌, ◌≢◌, ◌↔◌, ℕ, zero, suc, ◌+◌, ◌<◌, ◌≤◌, ◌∙◌, ◌⊎◌, inl, inr, List, [], ◌∷◌, ◌++◌, length, Option, Some, refl, sym, ap, subst, arith, Contains, flat_map, length-append, get_or}
-use Rattle.std.specs.Prelude.{All}
+use Rattle.std.proofs.Common.{◌≡◌, ℕ, zero, suc, ◌+◌, ◌<◌, ◌≤◌, ◌∙◌, ◌⊎◌, inl, inr, List, [], ◌∷◌, ◌++◌, length, refl, sym, ap, subst, arith, Contains, length-append, get_or}
 use Rattle.std.proofs.Math.ListN.{get_or-append}
 use Rattle.std.proofs.Math.Seq.{get_or-append_seam}
-use Rattle.std.proofs.lemmas.Bool.{cases_order, cases_lt}
-use Rattle.std.proofs.lemmas.List.Elements.{All-contains, All-weaker, All-append, Contains-append_left, Contains-append_right, Contains-append_cases}
+use Rattle.std.proofs.lemmas.Bool.{cases_lt}
+use Rattle.std.proofs.lemmas.List.Elements.{All-contains, All-append, Contains-append_cases}
 use Rattle.prop_core.specs.declared.lit.Lit.{Lit}
-use Rattle.prop_core.specs.Clauses.{Clause, HasValues, negation}
-use Rattle.card_counter.proofs.ListLemmas.{flat_contains, flat_of, flat_next}
+use Rattle.prop_core.specs.Clauses.{Clause, negation}
+use Rattle.card_counter.proofs.ListLemmas.{flat_contains, flat_of}
 use Rattle.card_counter.proofs.States.{made_later}
-use Rattle.card_counter.specs.CounterState.{CounterState, IsPlace, IsCounter, IsMade, Reached, reached_in, reached_before, told_by, under, positive, variable, var_at, column_at, column_before, input_at, no_input, place_clauses, column_clauses, counter_clauses, numbers_below, longer, with_input, input_clauses, IsFull, IsOutside, HasInput, InputsGrow, InputsAddClauses}
+use Rattle.card_counter.specs.CounterState.{CounterState, IsPlace, IsCounter, IsMade, reached_in, reached_before, told_by, under, positive, variable, var_at, column_at, column_before, input_at, no_input, place_clauses, column_clauses, counter_clauses, longer, with_input, input_clauses, IsFull, IsOutside, InputsGrow, InputsAddClauses}
 
 -- ---- longer columns
 

@@ -3,7 +3,7 @@ use Rattle.std.proofs.Common.{◌≡◌, ℕ, suc, ◌<◌, ◌≤◌, Bool, tru
 use Rattle.std.proofs.lemmas.Bool.{cases_lt}
 use Rattle.des_net.specs.Network.{Net, label_of}
 use Rattle.log_clauses.proofs.Lists.{found_is, finds, filter_from}
-use Rattle.log_clauses.proofs.Rules.{has_event, event_matches, is_shown, in_chain, matching_alarm, alarm_happens, one_alarm, one_event, one_step, one_step_less, match_comes, match_real, each_comes, each_done, has_alarm, no_step_back}
+use Rattle.log_clauses.proofs.Rules.{has_event, event_matches, is_shown, in_chain, alarm_happens, one_alarm, one_event, one_step, one_step_less, match_comes, match_real, each_comes, each_done, has_alarm, no_step_back}
 use Rattle.log_clauses.specs.Decoded.{alarm_at, event_at, is_false, comes}
 use Rattle.log_clauses.specs.LogClauses.{chain, matching_events}
 use Rattle.log_clauses.specs.LogLaws.{EventsAndAlarms, MatchesAreExact, HasOneStep, HasOneMatch, HasOneAlarm}

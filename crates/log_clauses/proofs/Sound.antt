@@ -11,7 +11,7 @@ use Rattle.log_clauses.proofs.Lists.{clash, cons_cases, here_first, here_later, 
 use Rattle.log_clauses.proofs.Pieces.{IsStepSet, AreFrom, pieces_are_steps}
 use Rattle.log_clauses.proofs.Rules as rules
 use Rattle.log_clauses.proofs.Rules.{shows, is_shown, shown_event, matching_alarm, has_event, event_matches, match_happens, in_chain, one_alarm, one_event, one_step, false_first, comes_by_match, match_comes, match_real, each_comes, has_alarm, no_step_back}
-use Rattle.log_clauses.specs.Decoded.{event_at, alarms_at, shown_at, unobservables, is_false, comes, entry_of, entries_at, arranged, arranged_order, whole_order}
+use Rattle.log_clauses.specs.Decoded.{event_at, alarms_at, shown_at, unobservables, is_false, comes, entries_at, arranged, arranged_order, whole_order}
 use Rattle.log_clauses.specs.LogClauses.{matching_events}
 use Rattle.log_clauses.specs.LogLaws.{IsArranged, LogIsSound}
 use Rattle.log_clauses.specs.LogTruth.{LogClausesHold, GuardsHold}

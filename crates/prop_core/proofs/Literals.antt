@@ -1,16 +1,16 @@
 -- Lists of literals, and the places where they stand.
-use Rattle.std.proofs.Common.{◌≡◌, ◌∙◌, ℕ, zero, suc, ◌<◌, ◌≤◌, Bool, true, false, not, ◌&&◌, ◌||◌, ◌++◌, ◌∷◌, [], List, refl, ap, sym, map, length, take, get_or, arith, subst, inl, inr, ⊎_elim, eqb}
+use Rattle.std.proofs.Common.{◌≡◌, ◌∙◌, ℕ, suc, ◌<◌, ◌≤◌, Bool, true, false, not, ◌||◌, ◌++◌, ◌∷◌, [], List, refl, ap, sym, map, length, take, get_or, arith, subst, inl, inr, ⊎_elim, eqb}
 use Rattle.std.specs.Prelude.{◌⊎◌, nat_eq}
-use Rattle.std.specs.List.{list_any, list_all, AllByRecursion, IsDistinct, All}
+use Rattle.std.specs.List.{list_any, list_all, AllByRecursion, IsDistinct}
 use Rattle.std.specs.Bool.{beq}
 use Rattle.std.proofs.lemmas.Grind.{common_steps}
-use Rattle.std.proofs.lemmas.Bool.{eqb-true, eq-eqb, ne_eqb, and_parts, and_from, and_right, or_cases, or_right, or_parts, cases_Bool, cases_eq, cases_order, not-true}
+use Rattle.std.proofs.lemmas.Bool.{eqb-true, eq-eqb, ne_eqb, and_parts, and_from, and_right, or_cases, or_right, or_parts, cases_Bool, cases_order, not-true}
 use Rattle.std.proofs.lemmas.List.{get_or-map}
-use Rattle.std.proofs.lemmas.List.Folds.{list_any_at, list_any-append}
+use Rattle.std.proofs.lemmas.List.Folds.{list_any_at}
 use Rattle.std.proofs.lemmas.List.Elements.{All-get_or, All-from_get_or}
 use Rattle.std.proofs.lemmas.Map.Keys.{apart_from_distinct, IsDistinct-from_apart, IsDistinct-cons}
 use Rattle.prop_core.specs.declared.lit.Lit.{Lit}
-use Rattle.prop_core.specs.Clauses.{Clause, negation, same_literal, is_true, is_false, is_open, HasValues}
+use Rattle.prop_core.specs.Clauses.{negation, same_literal, is_true, is_false, is_open, HasValues}
 use Rattle.prop_core.specs.Trail.{has_var, HasVarsOnce, no_literal}
 use Rattle.prop_core.proofs.Entailed.{beq_is, same_itself}
 
