@@ -1,5 +1,6 @@
 //! The clauses of an alarm log in n parallel steps of a network, beside those of its runs: each alarm stands for one event
-//! that can be seen, each such event has one alarm, and the first alarm of a pair is done no later than the second.
+//! that can be seen, each such event has one alarm, and the first alarm of a pair is done no later than the second. An alarm that
+//! is doubtful may be false instead: then it stands for no event, and is done in whatever step.
 //!
 //! Each event has a *chain* of the alarms that may stand for it. In each step it is passed along its chain until one of
 //! them takes it. A log grows at the end of its chains, so that no clause is ever taken back; what ends a chain is a

@@ -1,4 +1,4 @@
-//! Alarm logs: alarms with an id and labels, and pairs of alarms, "the first before the second".
+//! Alarm logs: alarms with an id and labels, certain or doubtful, and pairs of alarms, "the first before the second".
 //!
 //! A log is always valid: some order of all alarms, each once, keeps every pair. An `AlarmLog` refuses what would break
 //! this, what is there already and what passes a limit, and then changes nothing. Contracts see it as a record of lists
