@@ -11,8 +11,15 @@ pub mod LawLemmas
 pub mod RefusalLemmas
 pub mod StartLemmas
 pub mod RepeatLemmas
+pub mod PrintLemmas
 pub mod Vectors
 pub mod HasNamesLemmas
 pub mod PieceLemmas
 pub mod AdditionLemmas
 pub mod ReadLemmas
+pub mod AdditionFacts
+pub mod DraftSteps
+pub mod ReadOrder
+pub mod PrintedGrowth
+pub mod PrintedWords
+pub mod ReadBackLemmas

@@ -3,6 +3,8 @@ use Rattle.std.proofs.Common.{◌≡◌, [], ◌∷◌, None, refl}
 use Rattle.std.specs.Prelude.{ℕ, List, ◌++◌, codes, flat_map, map}
 use Rattle.des_base.specs.Names.{is_name_text, is_name_byte}
 use Rattle.model_text.specs.ModelFaults.{first_fault, network_of}
+use Rattle.des_net.specs.Network.{no_net}
+use Rattle.model_text.specs.PrintedModel.{line_text, model_text}
 use Rattle.model_text.specs.Samples.{text_of, wide_text_of, fault_at, valve_lines, valve, pair_lines, pair}
 
 -- seventeen letters
@@ -150,3 +152,18 @@ lines_before_initial_states = refl
 pub too_many_parts : first_fault (text_of (codes "des 1" ∷ flat_map (λ name. (codes "component " ++ name) ∷ codes "state s init" ∷ codes "trans s a s" ∷ []) seventeen ++ (codes "event e :" ++ flat_map (λ name. 32 ∷ name ++ codes ".a") seventeen) ∷ [])) ≡ fault_at 53 8
 unfolding is_name_text is_name_byte
 too_many_parts = refl
+
+-- ---- what is printed
+
+pub valve_is_printed : model_text valve ≡ text_of valve_lines
+unfolding line_text
+valve_is_printed = refl
+
+-- components before events, one space between tokens, nothing else
+pub pair_is_printed : model_text pair ≡ text_of (codes "des 1" ∷ codes "component pump" ∷ codes "state on init" ∷ codes "trans on run on" ∷ codes "component tank" ∷ codes "state low init" ∷ codes "state full init"
+    ∷ codes "trans low fill full" ∷ codes "event run : pump.run" ∷ codes "event fill alarm A fault : tank.fill pump.run" ∷ [])
+unfolding line_text
+pair_is_printed = refl
+
+pub nothing_is_printed : model_text no_net ≡ codes "des 1\n"
+nothing_is_printed = refl

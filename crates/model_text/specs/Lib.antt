@@ -4,6 +4,8 @@ pub mod ModelFaults
 pub mod Growth
 pub mod LineCodes
 pub mod GrowthLaw
+pub mod PrintedModel
+pub mod ReadBack
 pub mod Samples
 pub mod Refusals
 pub mod Extends

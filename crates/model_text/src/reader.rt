@@ -4,6 +4,7 @@ ghost use Rattle.des_base.specs.CountedLines.{counted_lines, tokens_of};
 ghost use Rattle.model_text.specs.ModelLines.{model_line};
 ghost use Rattle.model_text.specs.ModelNetwork.{begins_component};
 ghost use Rattle.model_text.specs.ModelFaults.{body, component_numbers, first_fault, network_of, IsDue};
+ghost use Rattle.model_text.specs.ReadBack.{IsAsRead};
 ghost use Rattle.model_text.specs.Extends.{BuildsLines};
 
 use crate::addition::add_line;
@@ -26,6 +27,7 @@ pub fn read_model(alloc: Global, bytes: &[u8]) -> Result<Network, ModelRefusal>
     requires { length bytes.now < 2 ^ 32 }
     ensures network { IfOk result (λ net. net ≡ network_of bytes.now) }
     ensures well { OnOk result (first_fault bytes.now ≡ None) }
+    ensures as_read { IfOk result IsAsRead }
     ensures refused { IfErr result (IsDue (first_fault bytes.now)) }
 {
     let mut lines = Lines::new(bytes, b'#');

@@ -1,0 +1,5 @@
+use Rattle.model_text.proofs.ReadBackLemmas.{reads_back}
+use Rattle.model_text.proofs.print.print_model.Goals as goal
+
+pub returns-clause-reads_back : goal.returns-clause-reads_back
+returns-clause-reads_back c = reads_back c.args.net.now c.components-components.ensures.whole c.components-components.ensures.network c.components-components.ensures.started
