@@ -102,13 +102,13 @@ line-event v a b d name label fault parts h i j =
     joined v name l m ps a b d h i j = rw (j, i, h) (simp append_assoc)
 
 -- an event of a network
-module _ (net : Net) (at : ℕ) (name : List ℕ) (label : Option (List ℕ)) (fault : Bool) (parts : List Part) where
-  pub event-whole : (v a b d : List ℕ) → slice_get net.event_names at ≡ Some name → label ≡ (event_at net at).label → fault ≡ (event_at net at).fault → parts ≡ (event_at net at).parts
-      → a ≡ v ++ event_head name label fault → b ≡ a ++ spaced (map part_token (map (part_by_name net) parts)) → d ≡ b ++ codes "\n"
+module _ (net : Net) (at : ℕ) (name : List ℕ) (label : Option (List ℕ)) (fault : Bool) where
+  pub event-whole : (v a b d : List ℕ) → slice_get net.event_names at ≡ Some name → label ≡ (event_at net at).label → fault ≡ (event_at net at).fault
+      → a ≡ v ++ event_head name label fault → b ≡ a ++ spaced (map part_token (map (part_by_name net) (event_at net at).parts)) → d ≡ b ++ codes "\n"
       → d ≡ v ++ flat_map line_text (line_of_event net (name_at net.event_names at) (event_at net at))
-  event-whole v a b d n l f p h i j =
-      line-event v a b d name label fault (map (part_by_name net) parts) h i j
-      ∙ (λ k. v ++ flat_map line_text (event (sym (name_at-get net.event_names at name n) k) (l k) (f k) (map (part_by_name net) (p k)) ∷ []))
+  event-whole v a b d n l f h i j =
+      line-event v a b d name label fault (map (part_by_name net) (event_at net at).parts) h i j
+      ∙ (λ k. v ++ flat_map line_text (event (sym (name_at-get net.event_names at name n) k) (l k) (f k) (map (part_by_name net) (event_at net at).parts) ∷ []))
 
 -- ---- a component
 

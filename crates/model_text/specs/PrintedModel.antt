@@ -29,10 +29,7 @@ tokens_of_line (state name initial) = codes "state" ∷ name ∷ mark_tokens ini
 tokens_of_line (transition from action to) = codes "trans" ∷ from ∷ action ∷ to ∷ []
 tokens_of_line (event name label fault parts) = codes "event" ∷ name ∷ label_tokens label ++ (fault_tokens fault ++ codes ":" ∷ map part_token parts)
 
--- each token behind a space
-abbrev pub spaced : List (List ℕ) → List ℕ
-spaced tokens = flat_map (λ token. 32 ∷ token) tokens
-
+-- the tokens with one space between two, and a line feed
 unfoldable pub line_text : ModelLine → List ℕ
 line_text line = join_with_byte 32 (tokens_of_line line) ++ codes "\n"
 
@@ -69,7 +66,12 @@ lines_of_network net = each_named lines_of_component net.component_names net.com
 abbrev pub model_text : Net → List ℕ
 model_text net = codes "des 1\n" ++ flat_map line_text (lines_of_network net)
 
--- ---- an event up to its colon, as it is printed
+-- ---- pieces of lines, as they are printed
 
+-- each token behind a space
+abbrev pub spaced : List (List ℕ) → List ℕ
+spaced tokens = flat_map (λ token. 32 ∷ token) tokens
+
+-- an event up to its colon
 abbrev pub event_head : List ℕ → Option (List ℕ) → Bool → List ℕ
 event_head name label fault = codes "event " ++ name ++ spaced (label_tokens label) ++ spaced (fault_tokens fault) ++ codes " :"

@@ -20,6 +20,7 @@ pub fn print_model(net: &Network, out: &mut Vec<u8>) -> Result<(), Memory>
     ensures reads_back { OnOk result (IsAsRead net.now → ReadsBack net.now) }
     ensures err { OnErr result (out.new.items ≡ out.old.items) }
 {
+    // Its reader tells that the network is whole.
     let _components = net.components();
     let mut text = Vec::new(*out.allocator());
     text.extend_from_slice(b"des 1\n")?;
@@ -118,6 +119,7 @@ fn print_transition(from: &Name, action: &Name, to: &Name, text: &mut Vec<u8>) -
 fn print_events(net: &Network, text: &mut Vec<u8>) -> Result<(), Memory>
     ensures { OnOk result (text.new.items ≡ text.old.items ++ flat_map line_text (each_named (line_of_event net.now) net.now.event_names net.now.events)) }
 {
+    // Its reader tells that events name what is there.
     let _components = net.components();
     for event in 0..net.events() {
         print_event(net, EventId(event), text)?;
@@ -136,8 +138,18 @@ fn print_event(net: &Network, event: EventId, text: &mut Vec<u8>) -> Result<(), 
         net.is_fault(event),
         text,
     )?;
-    print_parts(net, parts_of(net, event), text)?;
+    print_parts_of(net, event, text)?;
     text.extend_from_slice(b"\n")?;
+    Ok(())
+}
+
+// All parts of the event.
+fn print_parts_of(net: &Network, event: EventId, text: &mut Vec<u8>) -> Result<(), Memory>
+    requires event { event < length net.now.events }
+    requires known { AllByRecursion (IsPart net.now.components) (event_at net.now event).parts }
+    ensures { OnOk result (text.new.items ≡ text.old.items ++ spaced (map part_token (map (part_by_name net.now) (event_at net.now event).parts))) }
+{
+    print_parts(net, parts_of(net, event), text)?;
     Ok(())
 }
 

@@ -1,9 +1,9 @@
 // What a network says that was read of a text: its names, their order, and numbers.
 use crate::made::{part, trans};
-use crate::net_calls::{is_empty, tells};
+use crate::net_calls::{is_empty, tells, two};
 use des_base::{CompId, EventId};
 use des_net::{Network, Part, Trans};
-use model_text::read_model;
+use model_text::{print_model, read_model};
 use std::alloc::Global;
 use std::process::Abort;
 
@@ -122,4 +122,58 @@ fn are_two(net: &Network) -> bool {
 #[test]
 fn reads_two_components(rt: HostRuntime) {
     assert!(rt; are_two(&network(&rt, rt.alloc(), TWO_COMPONENTS)));
+}
+
+// The text of two components behind a line that is there, with the components before the events and nothing but single spaces.
+const TWO_PRINTED: &str = "models
+des 1
+component p
+state s init
+state t init
+trans s a t
+trans s a s
+trans t c s
+component q
+state t
+state s init
+trans s c t
+trans t a s
+event e : p.a
+event f alarm L fault : q.a p.c
+";
+
+// Whether this is printed of a network, behind the line "models".
+fn prints(rt: &impl Abort, alloc: Global, net: &Network, want: &str) -> bool {
+    match Vec::from_slice(alloc, b"models\n") {
+        Ok(mut out) => print_model(net, &mut out).is_ok() && out.as_slice() == want.as_bytes(),
+        Err(_) => panic!(rt; "no memory"),
+    }
+}
+
+fn reads_and_prints(rt: &impl Abort, alloc: Global, text: &str, want: &str) -> bool {
+    prints(rt, alloc, &network(rt, alloc, text), want)
+}
+
+#[test]
+fn prints_models(rt: HostRuntime) {
+    assert!(rt; reads_and_prints(&rt, rt.alloc(), "des 1", "models\ndes 1\n"));
+    assert!(rt; reads_and_prints(&rt, rt.alloc(), TWO_COMPONENTS, TWO_PRINTED));
+}
+
+#[test]
+fn prints_a_network_that_was_built(rt: HostRuntime) {
+    let want = "models
+des 1
+component p
+state s init
+state t init
+trans s a t
+trans t c s
+component q
+state s init
+trans s c s
+event e alarm L : p.c q.c
+event f fault : p.a
+";
+    assert!(rt; prints(&rt, rt.alloc(), &two(&rt, rt.alloc()), want));
 }

@@ -40,7 +40,7 @@ fn add_events(rt: &impl Abort, alloc: Global, builder: &mut Builder) {
 }
 
 // The network of them.
-fn two(rt: &impl Abort, alloc: Global) -> Network {
+pub fn two(rt: &impl Abort, alloc: Global) -> Network {
     finished(rt, two_components(rt, alloc))
 }
 
