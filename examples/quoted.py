@@ -12,7 +12,7 @@ import textwrap
 
 HERE = os.path.dirname(os.path.abspath(__file__))
 PAGES = ["../docs/tutorial.md", "propulsion/README.md", "feeder/README.md", "ring/README.md"]
-COMMAND = re.compile(r"    rt run -- (trace|diagnose|replay) ")
+COMMAND = re.compile(r"    rt run -- (trace|show|diagnose|replay) ")
 
 
 def read(name):

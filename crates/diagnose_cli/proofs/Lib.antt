@@ -7,6 +7,7 @@ pub mod Reading
 pub mod Answered
 pub mod TraceAnswers
 pub mod TraceRows
+pub mod ShowRows
 pub mod ReplayAnswers
 pub mod CheckAnswers
 pub mod ReplayRows

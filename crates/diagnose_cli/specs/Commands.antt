@@ -4,6 +4,7 @@ use Rattle.des_base.specs.CommandWords.{word_at}
 use Rattle.des_base.specs.Numbers.{number_up_to}
 use Rattle.des_net.specs.Network.{Net}
 use Rattle.model_text.specs.ModelFaults.{network_of, first_fault as first_model_fault}
+use Rattle.model_text.specs.PrintedModel.{model_text}
 use Rattle.replay.specs.RunText.{run_of, first_fault as first_run_fault}
 use Rattle.least_faults.specs.Parts.{most_size}
 use Rattle.least_faults.specs.declared.answer.Best.{Best}
@@ -27,7 +28,7 @@ use Rattle.replay.specs.declared.tracing.Traced.{Traced}
 use Rattle.replay.specs.declared.tracing.Traced.TheVariants.{Ran, Stuck}
 use Rattle.report.specs.Replies.{text_of_traced, text_of_replayed, text_of_checked, text_of_found}
 use Rattle.diagnose_cli.specs.declared.command.Command.{Command}
-use Rattle.diagnose_cli.specs.declared.command.Command.TheVariants.{Trace, Replay, Check, Diagnose}
+use Rattle.diagnose_cli.specs.declared.command.Command.TheVariants.{Trace, Show, Replay, Check, Diagnose}
 use Rattle.diagnose_cli.specs.declared.stop.FaultyText.{FaultyText}
 use Rattle.diagnose_cli.specs.declared.stop.FaultyText.TheVariants.{Model, Log, Run, Cnf, Lrat}
 use Rattle.diagnose_cli.specs.declared.stop.Stop.TheVariants.{Usage, Faulty, Large}
@@ -57,6 +58,7 @@ diagnose_of steps budget = option_and_then (λ n. option_map (λ b. Diagnose n b
 abbrev pub command_of : List (List ℕ) → Option Command
 command_of words =
     if calls words (codes "trace") 3 then Some Trace
+    else if calls words (codes "show") 2 then Some Show
     else if calls words (codes "replay") 5 then option_map (λ steps. Replay steps) (number_up_to most_steps (word_at words 4))
     else if calls words (codes "check") 3 then Some Check
     else if calls words (codes "diagnose") 5 then diagnose_of (word_at words 3) (word_at words 4)
@@ -112,6 +114,7 @@ fault_of_text lrat (text ∷ files) bytes = fault_of_lrat (formula_of text) byte
 -- the files of a command, in the order of the words
 abbrev pub files_of : Command → List FileKind
 files_of Trace = model ∷ run ∷ []
+files_of Show = model ∷ []
 files_of (Replay steps) = model ∷ log ∷ run ∷ []
 files_of Check = cnf ∷ lrat ∷ []
 files_of (Diagnose steps budget) = model ∷ log ∷ []
@@ -127,6 +130,10 @@ reply_of_traced traced = (kind_of_traced traced, text_of_traced traced)
 abbrev pub SaysTraced : List ℕ → List ℕ → (Kind × List ℕ) → Type 0
 SaysTraced text steps reply =
     (traced : Traced) × IsTraced (network_of text) (run_of (network_of text) steps) traced × (reply ≡ reply_of_traced traced)
+
+-- the plain form of a network
+abbrev pub reply_of_model : Net → Kind × List ℕ
+reply_of_model net = (Done, model_text net)
 
 abbrev pub kind_of_replayed : Replayed → Kind
 kind_of_replayed (Accepted faults) = Done
@@ -192,6 +199,7 @@ SaysDiagnosed steps budget text alarms book reply =
 -- what a command may say over the bytes of its files, where it leaves this book
 abbrev pub Says : Command → List BookEntry → List (List ℕ) → Transcript → Type 0
 Says Trace book (text ∷ steps ∷ []) told = (reply : Kind × List ℕ) × SaysTraced text steps reply × (told ≡ whole reply)
+Says Show book (text ∷ []) told = told ≡ whole (reply_of_model (network_of text))
 Says (Replay steps) book (text ∷ alarms ∷ events ∷ []) told = (reply : Kind × List ℕ) × SaysReplayed steps text alarms events reply × (told ≡ whole reply)
 Says Check book (formula ∷ proof ∷ []) told = (reply : Kind × List ℕ) × SaysChecked formula proof reply × (told ≡ whole reply)
 Says (Diagnose steps budget) book (text ∷ alarms ∷ []) told = (reply : Kind × List ℕ) × SaysDiagnosed steps budget text alarms book reply × (told ≡ whole reply)

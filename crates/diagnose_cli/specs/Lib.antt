@@ -8,6 +8,7 @@ pub mod Exact
 pub mod Puts
 pub mod Run
 pub mod Trace
+pub mod Show
 pub mod Replay
 pub mod Check
 pub mod Diagnose

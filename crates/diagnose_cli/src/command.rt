@@ -8,6 +8,8 @@ use des_base::{WordList, read_number};
 pub enum Command {
     /// `trace MODEL RUN`: can the network perform the run.
     Trace,
+    /// `show MODEL`: the model in its plain form.
+    Show,
     /// `replay MODEL LOG RUN N`: does the run explain the log within this many parallel steps.
     Replay(u32),
     /// `check CNF LRAT`: does the proof refute the formula.
@@ -35,6 +37,8 @@ pub fn command_of(words: &WordList) -> Option<Command>
 {
     if is_call(words, "trace", 3) {
         Some(Command::Trace)
+    } else if is_call(words, "show", 2) {
+        Some(Command::Show)
     } else if is_call(words, "replay", 5) {
         let steps = read_number(words.word(4).as_bytes(), STEP_LIMIT)?;
         Some(Command::Replay(steps as u32))

@@ -14,6 +14,7 @@ mod files;
 mod out_sink;
 mod replay_command;
 mod run;
+mod show_command;
 mod stop;
 #[cfg(test)]
 mod tests;

@@ -7,6 +7,7 @@ ghost use Rattle.diagnose_cli.specs.Commands.{Due, command_of};
 ghost use Rattle.diagnose_cli.specs.Exact.{StopRow};
 ghost use Rattle.diagnose_cli.specs.Run.{Ran, Ends, Broke, CutOff, LoadRow, AsksNone};
 ghost use Rattle.diagnose_cli.specs.Trace.{TraceRow};
+ghost use Rattle.diagnose_cli.specs.Show.{ShowRow};
 ghost use Rattle.diagnose_cli.specs.Replay.{ReplayRow};
 ghost use Rattle.diagnose_cli.specs.Check.{CheckRow, RefutedRow};
 ghost use Rattle.diagnose_cli.specs.Diagnose.{DiagnoseRow, ExplainedRow, AbsentRow, UndecidedRow, ManyRow};
@@ -16,6 +17,7 @@ use crate::command::{Command, command_of};
 use crate::diagnose_command::diagnose_command;
 use crate::ending::{Reply, put_once};
 use crate::replay_command::replay_command;
+use crate::show_command::show_command;
 use crate::stop::Stop;
 use crate::trace_command::trace_command;
 use des_base::{Shelf, Sink, WordList};
@@ -45,6 +47,7 @@ pub fn run<F: Shelf, S: Sink>(
     ensures checked { result ≢ 3 → result ≢ 4 → result ≢ 9 → CheckRow (F.held shelf.old) words.now (S.taken out.old) (S.taken out.new) result }
     ensures refuted { RefutedRow (F.held shelf.old) words.now result }
     ensures traced { result ≢ 3 → result ≢ 4 → result ≢ 9 → TraceRow (F.held shelf.old) words.now (S.taken out.old) (S.taken out.new) result }
+    ensures shown { result ≢ 3 → result ≢ 4 → result ≢ 9 → ShowRow (F.held shelf.old) words.now (S.taken out.old) (S.taken out.new) result }
     ensures no_question { AsksNone words.now → book.new ≡ book.old }
     ensures stops { result ≢ 3 → result ≢ 4 → result ≢ 9 → StopRow (F.held shelf.old) words.now (S.taken out.old) (S.taken out.new) result }
     ensures usage { result ≡ 2 → command_of words.now ≡ None }
@@ -87,6 +90,7 @@ fn answer<F: Shelf>(
     match command_of(words) {
         None => Err(Stop::Usage),
         Some(Command::Trace) => trace_command(alloc, words, shelf),
+        Some(Command::Show) => show_command(alloc, words, shelf),
         Some(Command::Replay(steps)) => replay_command(alloc, words, shelf, steps),
         Some(Command::Check) => check_command(alloc, words, shelf),
         Some(Command::Diagnose { steps, budget }) => {

@@ -1,6 +1,6 @@
 -- Each command answers what is due for its words.
 use Rattle.std.proofs.Common.{◌≡◌, sym, ◌∙◌, ap, Some}
-use Rattle.diagnose_cli.specs.declared.command.Command.TheVariants.{Trace, Replay, Check, Diagnose}
+use Rattle.diagnose_cli.specs.declared.command.Command.TheVariants.{Trace, Show, Replay, Check, Diagnose}
 use Rattle.diagnose_cli.specs.Commands.{command_of}
 use Rattle.diagnose_cli.specs.Files.{loads}
 use Rattle.diagnose_cli.proofs.Orders.{due_of}
@@ -10,6 +10,11 @@ pub returns-in-Some-Trace-clause-due : goal.returns-in-Some-Trace-clause-due
 returns-in-Some-Trace-clause-due g c =
     let called : command_of c.args.words.now ≡ Some Trace = sym c.command_of.ensures.command ∙ c.in-Some-Trace.is ∙ ap Some c.in-Some-Trace.field-0-is in
     due_of (loads g.F.Shelf.held g.F.Shelf.faults c.args.shelf.now c.trace_command.new.shelf) c.args.words.now Trace c.args.book.now.entries c.trace_command.result called (c.trace_command.ensures c.args.book.now.entries)
+
+pub returns-in-Some-Show-clause-due : goal.returns-in-Some-Show-clause-due
+returns-in-Some-Show-clause-due g c =
+    let called : command_of c.args.words.now ≡ Some Show = sym c.command_of.ensures.command ∙ c.in-Some-Show.is ∙ ap Some c.in-Some-Show.field-0-is in
+    due_of (loads g.F.Shelf.held g.F.Shelf.faults c.args.shelf.now c.show_command.new.shelf) c.args.words.now Show c.args.book.now.entries c.show_command.result called (c.show_command.ensures c.args.book.now.entries)
 
 pub returns-in-Some-Replay-clause-due : goal.returns-in-Some-Replay-clause-due
 returns-in-Some-Replay-clause-due g c =

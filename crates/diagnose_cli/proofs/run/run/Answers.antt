@@ -3,6 +3,7 @@ use Rattle.std.proofs.Common.{◌≡◌, arith}
 use Rattle.diagnose_cli.proofs.Exact.{stop_row}
 use Rattle.diagnose_cli.proofs.Rows.{load_row}
 use Rattle.diagnose_cli.proofs.TraceRows.{trace_row}
+use Rattle.diagnose_cli.proofs.ShowRows.{show_row}
 use Rattle.diagnose_cli.proofs.ReplayRows.{replay_row}
 use Rattle.diagnose_cli.proofs.CheckRows.{check_row, refuted_row}
 use Rattle.diagnose_cli.proofs.DiagnoseRows.{diagnose_row}
@@ -15,6 +16,9 @@ returns-clause-stops g c three four nine = stop_row _ _ _ _ _ _ (c.run_once.ensu
 
 pub returns-clause-traced : goal.returns-clause-traced
 returns-clause-traced g c three four nine = trace_row _ _ _ _ _ _ (c.run_once.ensures.ran.ends four nine) three nine
+
+pub returns-clause-shown : goal.returns-clause-shown
+returns-clause-shown g c three four nine = show_row _ _ _ _ _ _ (c.run_once.ensures.ran.ends four nine) three nine
 
 pub returns-clause-replayed : goal.returns-clause-replayed
 returns-clause-replayed g c three four nine = replay_row _ _ _ _ _ _ (c.run_once.ensures.ran.ends four nine) three nine

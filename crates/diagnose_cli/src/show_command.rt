@@ -1,0 +1,32 @@
+ghost use Rattle.std.specs.Prelude.{◌≡◌, ◌<◌, List, length, IfOk};
+ghost use Rattle.proof_ledger.specs.Book.{BookEntry};
+ghost use Rattle.diagnose_cli.specs.Files.{loads};
+ghost use Rattle.diagnose_cli.specs.Transcripts.{UnlessMemory, once};
+ghost use Rattle.diagnose_cli.specs.Commands.{Answers, reply_of_model};
+
+use crate::command::Command;
+use crate::ending::{Kind, Reply};
+use crate::files::fetch_model;
+use crate::stop::Stop;
+use des_base::{Memory, Shelf, WordList};
+use des_net::Network;
+use model_text::print_model;
+use std::alloc::Global;
+
+/// Prints the network of a model in its plain form.
+pub fn show_command<F: Shelf>(alloc: Global, words: &WordList, shelf: &mut F) -> Result<Reply, Stop>
+    requires { 1 < length words.now }
+    ensures { (book : List BookEntry) → UnlessMemory result (Answers (loads F.held F.faults shelf.old shelf.new) words.now Command.Show book (once result)) }
+{
+    let net = fetch_model(alloc, words, shelf, 1)?;
+    Ok(reply_of_model(alloc, &net)?)
+}
+
+// The reply that has the text of the network.
+fn reply_of_model(alloc: Global, net: &Network) -> Result<Reply, Memory>
+    ensures { IfOk result (λ reply. reply ≡ reply_of_model net.now) }
+{
+    let mut text = Vec::new(alloc);
+    print_model(net, &mut text)?;
+    Ok(Reply::new(Kind::Done, text))
+}
