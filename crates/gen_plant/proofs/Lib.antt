@@ -1,0 +1,6 @@
+pub mod AlarmLemmas
+pub mod ComponentLemmas
+pub mod EventLemmas
+pub mod Lists
+pub mod NameLemmas
+pub mod Vectors

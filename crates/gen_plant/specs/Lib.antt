@@ -1,0 +1,2 @@
+pub mod Plant
+pub mod Stages
