@@ -9,6 +9,8 @@ mod base_calls;
 #[cfg(test)]
 mod csv_calls;
 #[cfg(test)]
+mod generated_calls;
+#[cfg(test)]
 mod indep_calls;
 #[cfg(test)]
 mod limit_calls;
