@@ -54,14 +54,14 @@ read_length names (l ∷ inputs) read h =
     let first = first_read (named_literal names l) (named_clause names inputs) read h in
     ap length first.4 ∙ ap suc (read_length names inputs first.1 first.3)
 
-read_negation : (names : List (ℕ × Name)) (l : Lit) (x : NamedLiteral) → named_literal names l ≡ Some x → named_literal names (negation l) ≡ Some (opposite x)
+pub read_negation : (names : List (ℕ × Name)) (l : Lit) (x : NamedLiteral) → named_literal names l ≡ Some x → named_literal names (negation l) ≡ Some (opposite x)
 read_negation names l x h = by (name_of names l.var) h
   where
     by : (o : Option Name) → option_map (λ (name : Name). record { name = name; positive = l.positive }) o ≡ Some x → option_map (λ (name : Name). record { name = name; positive = not l.positive }) o ≡ Some (opposite x)
     by None e = cc
     by (Some name) e = let same : record { name = name; positive = l.positive } ≡ x = cc in ap (λ y. Some (opposite y)) same
 
-read_two : (names : List (ℕ × Name)) (a b : Lit) (x y : NamedLiteral) → named_literal names a ≡ Some x → named_literal names b ≡ Some y → named_clause names (a ∷ b ∷ []) ≡ Some (x ∷ y ∷ [])
+pub read_two : (names : List (ℕ × Name)) (a b : Lit) (x y : NamedLiteral) → named_literal names a ≡ Some x → named_literal names b ≡ Some y → named_clause names (a ∷ b ∷ []) ≡ Some (x ∷ y ∷ [])
 read_two names a b x y first second = ap (λ o. with_literal o (with_literal (named_literal names b) (Some []))) first ∙ ap (λ o. with_literal (Some x) (with_literal o (Some []))) second
 
 read_three : (names : List (ℕ × Name)) (a b c : Lit) (x y z : NamedLiteral) → named_literal names a ≡ Some x → named_literal names b ≡ Some y → named_literal names c ≡ Some z → named_clause names (a ∷ b ∷ c ∷ []) ≡ Some (x ∷ y ∷ z ∷ [])

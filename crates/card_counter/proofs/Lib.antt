@@ -8,3 +8,6 @@ pub mod Exact
 pub mod RowLemmas
 pub mod Vectors
 pub mod Inputs
+pub mod Chains
+pub mod Listed
+pub mod Exclusions

@@ -9,10 +9,10 @@ use Rattle.des_base.specs.Lists.{EachPair}
 use Rattle.prop_core.specs.declared.lit.Lit.{Lit}
 use Rattle.prop_core.specs.Clauses.{Clause, negation, literal_true, clause_true, AllClausesTrue}
 use Rattle.prop_core.specs.NamedClauses.{IsCode, One, Each, Appends}
-use Rattle.prop_core.specs.VariableNames.{Name, NamedLiteral, no}
+use Rattle.prop_core.specs.VariableNames.{Name, NamedLiteral, no, name_of}
 use Rattle.prop_core.proofs.FamilyLemmas.{all_append, code_each_none, code_each_more, code_one, reads_two}
 use Rattle.card_counter.proofs.ListLemmas.{all_split, all_change, all_both, some_at, take_more, map_append}
-use Rattle.card_counter.specs.AtMostOne.{AreNotBothTrue, not_both, pairs_after, excluded_pairs, PairsExclude, AddsAtMostOne, AreNamed, ExcludedNames, PairsExcludeNames}
+use Rattle.card_counter.specs.AtMostOne.{AreNotBothTrue, not_both, pairs_after, excluded_pairs, PairsExclude}
 
 -- ---- the pairs of a longer list
 
@@ -119,13 +119,15 @@ module _ (value : ℕ → Bool) where
 pub pairs_exclude : PairsExclude
 pairs_exclude value inputs = ((λ all. (pairs_say value [] inputs all).1), (λ pairs. pairs_said value [] inputs (none_across value inputs) pairs))
 
-pub adds_at_most_one : (inputs : List Lit) (old new : List Clause) → new ≡ old ++ excluded_pairs inputs → AddsAtMostOne inputs old new
-adds_at_most_one inputs old new whole = subst (AddsAtMostOne inputs old) (sym whole) (λ value. (
-  (λ all. let both = all_split (λ clause. IsTrue (clause_true value clause)) old (excluded_pairs inputs) all in (both.0, (pairs_exclude value inputs).0 both.1)),
-  (λ both. all_append (λ clause. IsTrue (clause_true value clause)) old (excluded_pairs inputs) both.0 ((pairs_exclude value inputs).1 both.1)),
-))
-
 -- ---- by name
+
+-- each input is the variable of the name that its place has
+abbrev pub AreNamed : List (ℕ × Name) → (ℕ → Name) → List Lit → Type 0
+AreNamed names name inputs = (q : ℕ) (l : Lit) → slice_get inputs q ≡ Some l → (l.positive ≡ true) × (name_of names l.var ≡ Some (name q))
+
+-- for each two of the first k names, that not both are true
+abbrev pub ExcludedNames : ℕ → (ℕ → Name) → List NamedLiteral → Type 0
+ExcludedNames k name = Each k (λ r. Each r (λ q. One (no (name q) ∷ no (name r) ∷ [])))
 
 module _ (names : List (ℕ × Name)) (name : ℕ → Name) (inputs : List Lit) (named : AreNamed names name inputs) where
   abbrev Excluded : ℕ → ℕ → List NamedLiteral → Type 0
@@ -161,7 +163,7 @@ module _ (names : List (ℕ × Name)) (name : ℕ → Name) (inputs : List Lit) 
       let next : k + 1 ≡ suc k = omega arith in
       rw whole (subst (λ n. IsCode names (ExcludedNames n name) (excluded_pairs (take k inputs) ++ map (not_both at.0) (take k inputs))) next more)
 
-pub pairs_exclude_names : PairsExcludeNames
+pub pairs_exclude_names : (names : List (ℕ × Name)) (name : ℕ → Name) (inputs : List Lit) → AreNamed names name inputs → IsCode names (ExcludedNames (length inputs) name) (excluded_pairs inputs)
 pairs_exclude_names names name inputs named =
     let whole = take_whole inputs in
     subst (λ xs. IsCode names (ExcludedNames (length inputs) name) (excluded_pairs xs)) whole (all_rows names name inputs named (length inputs) (omega arith))
@@ -169,11 +171,6 @@ pairs_exclude_names names name inputs named =
     take_whole : (xs : List Lit) → take (length xs) xs ≡ xs
     take_whole [] = refl
     take_whole (x ∷ xs) = ap (λ rest. x ∷ rest) (take_whole xs)
-
--- the same for a list that grows
-pub appends_pairs : (names : List (ℕ × Name)) (name : ℕ → Name) (inputs : List Lit) (old new : List Clause) → AreNamed names name inputs → new ≡ old ++ excluded_pairs inputs →
-    Appends names (ExcludedNames (length inputs) name) old new
-appends_pairs names name inputs old new named whole = record { more = excluded_pairs inputs; whole = whole; code = pairs_exclude_names names name inputs named }
 
 -- ---- how many they are
 

@@ -1,10 +1,13 @@
--- At most one of a list of literals is true, and the clauses that say so: one for each pair.
-use Rattle.std.specs.Prelude.{◌≡◌, ◌↔◌, ℕ, Bool, true, List, [], ◌∷◌, ◌++◌, map, length, Some, slice_get, IsTrue}
+-- At most one of a list of literals is true, and the clauses that say so: one for each pair of at most four, and a chain over more.
+use Rattle.std.specs.Prelude.{◌≡◌, ◌↔◌, ◌⊎◌, ◌+◌, ◌-◌, ◌<◌, ◌≤◌, ℕ, suc, Bool, true, List, [], ◌∷◌, ◌++◌, map, flat_map, length, Some, slice_get, IsTrue, nat_le, nat_lt, if◌then◌else◌}
+use Rattle.std.specs.List.{AllZip}
 use Rattle.des_base.specs.Lists.{EachPair}
 use Rattle.prop_core.specs.declared.lit.Lit.{Lit}
-use Rattle.prop_core.specs.Clauses.{Clause, negation, literal_true, AllClausesTrue}
-use Rattle.prop_core.specs.NamedClauses.{IsCode, One, Each}
-use Rattle.prop_core.specs.VariableNames.{Name, NamedLiteral, no, name_of}
+use Rattle.prop_core.specs.Clauses.{Clause, negation, literal_true, AllClausesTrue, HasValues}
+use Rattle.prop_core.specs.NamedClauses.{IsCode}
+use Rattle.prop_core.specs.VariableNames.{Name, Exclusion, some_of_first, yes, name_of, named_clause, ReadsAs}
+use Rattle.card_counter.specs.CounterState.{positive, negative, input_at, numbers_below}
+use Rattle.card_counter.specs.Exclusions.{exclusion_clause, IsNamedExclusion, exclusion_list}
 
 abbrev pub AreNotBothTrue : (ℕ → Bool) → Lit → Lit → Type 0
 AreNotBothTrue value x y = IsTrue (literal_true value x) → IsTrue (literal_true value y) → ⊥
@@ -27,27 +30,58 @@ pairs_after earlier (x ∷ later) = map (not_both x) earlier ++ pairs_after (ear
 abbrev pub excluded_pairs : List Lit → List Clause
 excluded_pairs inputs = pairs_after [] inputs
 
+-- how many variables an "at most one" of so many inputs makes
+abbrev pub chain_count : ℕ → ℕ
+chain_count k = if nat_le k 4 then 0 else k - 1
+
+-- The variable at place i of a chain says that one of the inputs up to place i is true: an input opens the chain at its place, the chain shuts out the next input, and goes on to the next place if there is one.
+abbrev pub link_clauses : List Lit → ℕ → ℕ → List Clause
+link_clauses inputs first i =
+    (negation (input_at inputs i) ∷ positive (first + i) ∷ [])
+    ∷ (negation (input_at inputs (suc i)) ∷ negative (first + i) ∷ [])
+    ∷ (if nat_lt (suc i) (length inputs - 1) then (negative (first + i) ∷ positive (first + suc i) ∷ []) ∷ [] else [])
+
+-- the first so many places of a chain, whose variables stand in a row
+abbrev pub chain_up_to : List Lit → ℕ → ℕ → List Clause
+chain_up_to inputs first k = flat_map (link_clauses inputs first) (numbers_below k)
+
+abbrev pub chain_clauses : List Lit → ℕ → List Clause
+chain_clauses inputs first = chain_up_to inputs first (length inputs - 1)
+
+-- what is written, with this first variable of the chain if there is one
+abbrev pub exclusion_clauses : List Lit → ℕ → List Clause
+exclusion_clauses inputs first = if nat_le (length inputs) 4 then excluded_pairs inputs else chain_clauses inputs first
+
 -- ---- what they say
 
 -- The clauses of all pairs are true exactly where at most one input is.
 abbrev pub PairsExclude : Type 0
 PairsExclude = (value : ℕ → Bool) (inputs : List Lit) → AllClausesTrue value (excluded_pairs inputs) ↔ AtMostOneTrue value inputs
 
--- The new clauses are true exactly where the old ones are and at most one input is.
-abbrev pub AddsAtMostOne : List Lit → List Clause → List Clause → Type 0
-AddsAtMostOne inputs old new = (value : ℕ → Bool) → AllClausesTrue value new ↔ AllClausesTrue value old × AtMostOneTrue value inputs
+-- the same truth for each variable but so many from the first on
+abbrev pub AgreeBut : ℕ → ℕ → (ℕ → Bool) → (ℕ → Bool) → Type 0
+AgreeBut first count given assignment = (var : ℕ) → (var < first) ⊎ (first + count ≤ var) → assignment var ≡ given var
+
+-- Of inputs that were made before the chain, an assignment extends to the clauses, by a change of the chain's variables alone, exactly where at most one input is true.
+abbrev pub ExcludesAllButOne : List Lit → ℕ → List Clause → Type 0
+ExcludesAllButOne inputs first clauses = HasValues first inputs → (given : ℕ → Bool) →
+    ((assignment : ℕ → Bool) × AgreeBut first (chain_count (length inputs)) given assignment × AllClausesTrue assignment clauses) ↔ AtMostOneTrue given inputs
+
+abbrev pub ExclusionIsExact : Type 0
+ExclusionIsExact = (inputs : List Lit) (first : ℕ) → ExcludesAllButOne inputs first (exclusion_clauses inputs first)
 
 -- ---- by name
 
--- each input is the variable of the name that its place has
-abbrev pub AreNamed : List (ℕ × Name) → (ℕ → Name) → List Lit → Type 0
-AreNamed names name inputs = (q : ℕ) (l : Lit) → slice_get inputs q ≡ Some l → (l.positive ≡ true) × (name_of names l.var ≡ Some (name q))
+-- The variables of the chain are called by what they say.
+abbrev pub IsNamedChain : List (ℕ × Name) → Exclusion → ℕ → ℕ → Type 0
+IsNamedChain names family first count = (i : ℕ) → i < count → name_of names (first + i) ≡ Some (some_of_first family (suc i))
 
--- for each two of the first k names, that not both are true
-abbrev pub ExcludedNames : ℕ → (ℕ → Name) → List NamedLiteral → Type 0
-ExcludedNames k name = Each k (λ r. Each r (λ q. One (no (name q) ∷ no (name r) ∷ [])))
+-- The clauses are, by name, those of an "at most one" of what the inputs read as.
+abbrev pub ExclusionIsCode : Type 0
+ExclusionIsCode = (names : List (ℕ × Name)) (family : Exclusion) (called : List Name) (inputs : List Lit) (first : ℕ) → named_clause names inputs ≡ Some (map yes called) →
+    IsNamedChain names family first (chain_count (length inputs)) → IsCode names (IsNamedExclusion family called) (exclusion_clauses inputs first)
 
--- The clauses of all pairs are, by name, those that exclude each two of the names.
-abbrev pub PairsExcludeNames : Type 0
-PairsExcludeNames = (names : List (ℕ × Name)) (name : ℕ → Name) (inputs : List Lit) → AreNamed names name inputs →
-    IsCode names (ExcludedNames (length inputs) name) (excluded_pairs inputs)
+-- One after another they are those of the list.
+abbrev pub ExclusionsRead : Type 0
+ExclusionsRead = (names : List (ℕ × Name)) (family : Exclusion) (called : List Name) (inputs : List Lit) (first : ℕ) → named_clause names inputs ≡ Some (map yes called) →
+    IsNamedChain names family first (chain_count (length inputs)) → AllZip (λ clause which. ReadsAs names clause (exclusion_clause family which)) (exclusion_clauses inputs first) (exclusion_list called)

@@ -1,3 +1,4 @@
+pub mod Exclusions
 pub mod AtMostOne
 pub mod CounterClauses
 pub mod CounterState

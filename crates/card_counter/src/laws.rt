@@ -1,15 +1,36 @@
-ghost use Rattle.card_counter.specs.AtMostOne.{PairsExclude, PairsExcludeNames};
+ghost use Rattle.card_counter.specs.AtMostOne.{ExclusionIsExact, ExclusionIsCode, ExclusionsRead};
 ghost use Rattle.card_counter.specs.CounterState.{ColumnsAddClauses, ColumnsAddNames, InputsAddClauses, InputsGrow};
 ghost use Rattle.card_counter.specs.Counting.{NamesGrow, CounterIsExact, NamedCountIsExact, NamedColumnsGrow, CounterIsCode, ColumnIsCode, CounterNamesStand};
+ghost use Rattle.card_counter.specs.Exclusions.{ExclusionsAreListed, ExclusionIsSound, ExclusionIsComplete};
 
-/// A law: the clauses of all pairs are true exactly where at most one input is.
-pub fn pairs_exclude()
-    ensures { PairsExclude }
+/// A law: an assignment of the inputs extends to the clauses of an "at most one" exactly where at most one input is true.
+pub fn exclusion_is_exact()
+    ensures { ExclusionIsExact }
 {}
 
-/// A law: by name, the clauses of all pairs exclude each two of the names.
-pub fn pairs_exclude_names()
-    ensures { PairsExcludeNames }
+/// A law: by name, the clauses of an "at most one" are those of the names that its inputs read as.
+pub fn exclusion_is_code()
+    ensures { ExclusionIsCode }
+{}
+
+/// A law: by name they are the clauses of a list.
+pub fn exclusions_are_listed()
+    ensures { ExclusionsAreListed }
+{}
+
+/// A law: one after another they read as those of the list.
+pub fn exclusions_read()
+    ensures { ExclusionsRead }
+{}
+
+/// A law: where these clauses are true by name, at most one input is.
+pub fn exclusion_is_sound()
+    ensures { ExclusionIsSound }
+{}
+
+/// A law: where at most one input is true, the names of all chains can be chosen so that they are.
+pub fn exclusion_is_complete()
+    ensures { ExclusionIsComplete }
 {}
 
 /// A law: a column more has its clauses behind those of the others.

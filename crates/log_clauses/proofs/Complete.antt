@@ -1,8 +1,11 @@
 -- A linearisation has a value for the names of its log.
-use Rattle.std.proofs.Common.{◌≡◌, ◌≢◌, ℕ, zero, suc, ◌+◌, ◌<◌, Bool, true, false, List, [], ◌∷◌, ◌++◌, ◌∙◌, length, refl, sym, ap, subst, arith, Contains, map, flat_map, filter, is_some, not, inl, inr, ◌⊎◌, ◌||◌, ◌&&◌, ◌==◌, take, drop, get_or, IsTrue, take_all}
+use Rattle.std.proofs.Common.{◌≡◌, ◌≢◌, ℕ, zero, suc, ◌+◌, ◌<◌, Bool, true, false, List, [], ◌∷◌, ◌++◌, ◌∙◌, length, refl, sym, ap, subst, arith, Contains, map, flat_map, filter, is_some, not, inl, inr, ◌⊎◌, ◌||◌, ◌&&◌, ◌==◌, take, drop, get_or, slice_get, Some, IsTrue, take_all}
 use Rattle.std.specs.List.{AllByRecursion, AllZip, list_any}
 use Rattle.std.proofs.lemmas.Bool.{eqb-true, eq-eqb}
 use Rattle.std.proofs.lemmas.List.{length-map}
+use Rattle.card_counter.proofs.Chains.{pair_at}
+use Rattle.card_counter.proofs.Exclusions.{chains_hold}
+use Rattle.card_counter.specs.Exclusions.{AtMostOneOf}
 use Rattle.des_base.specs.Lists.{EachPair}
 use Rattle.des_net.specs.Network.{Net, label_of}
 use Rattle.des_net.specs.Width.{joined}
@@ -11,13 +14,13 @@ use Rattle.log_clauses.proofs.Pieces.{IsStepSet, AreFrom, piece_is, pieces_are_s
 use Rattle.log_clauses.proofs.Rules.{or_false_is, shown_matches, shown_event, in_chain, has_event}
 use Rattle.log_clauses.proofs.Entries.{real_in, real_once, entry_in, real_has, real_from, one_entry, dropped_has, dropped_from, has_false}
 use Rattle.log_clauses.specs.Coded.{stands, coded}
-use Rattle.log_clauses.specs.LogClauses.{chain, LogClause, log_clause, IsLogClause, chain_closed, takes_rest, uses_up, passes_on, taken_or_passed, not_done_first, stays_done, match_is_done, matched_once, match_is_real, done_by_match, one_match, done_if_asked, before_if_asked, matching_events}
+use Rattle.log_clauses.specs.LogClauses.{chain, LogClause, log_clause, IsLogClause, chain_closed, takes_rest, uses_up, passes_on, taken_or_passed, not_done_first, stays_done, match_is_done, matched_once, match_is_real, done_by_match, one_match, done_if_asked, before_if_asked, matching_events, match_inputs}
 use Rattle.log_clauses.specs.Decoded.{is_false}
 use Rattle.log_clauses.specs.LogLaws.{HasFalse, LogIsComplete}
 use Rattle.log_clauses.specs.LogTruth.{LogClausesHold, GuardsHold, DifferInLog}
 use Rattle.log_order.specs.Log.{Log, is_doubtful, place_in}
 use Rattle.prop_core.specs.NamedClauses.{named_true, named_clause_true}
-use Rattle.prop_core.specs.VariableNames.{Name, yes, in_state, happens, asked, matches, done, unmatched, closed, dropped, reaches, some_of_first, remaining}
+use Rattle.prop_core.specs.VariableNames.{Name, yes, in_state, happens, asked, matches, done, unmatched, closed, dropped, reaches, some_of_first, of_states, of_events, of_matches, remaining}
 use Rattle.replay.specs.Explanation.{Entry, alarms_of, real_alarms, may_stand, observables, Shows, Linearises}
 use Rattle.replay.specs.QuestionSize.{is_matching}
 use Rattle.run_clauses.proofs.StepLemmas.{found, among, mapped, or_right, two_negations}
@@ -29,6 +32,12 @@ use Rattle.log_clauses.proofs.Blocks.{cut_order, blocks_length, block_at, block_
 pub c_implied : (a b : Bool) → (a ≡ true → b ≡ true) → not a || (b || false) ≡ true
 c_implied true b h = or_left b false (h refl)
 c_implied false b h = refl
+
+-- what stands in a list that was changed element by element
+mapped_at : {X Y : Type 0} (f : X → Y) (xs : List X) (k : ℕ) (y : Y) → slice_get (map f xs) k ≡ Some y → (x : X) × (slice_get xs k ≡ Some x) × (f x ≡ y)
+mapped_at f [] k y at = cc
+mapped_at f (x ∷ xs) zero y at = let same : f x ≡ y = cc in (x, refl, same)
+mapped_at f (x ∷ xs) (suc k) y at = mapped_at f xs k y at
 
 c_one_of : (a b c : Bool) → (a ≡ true → (b ≡ true) ⊎ (c ≡ true)) → not a || (b || (c || false)) ≡ true
 c_one_of true true c h = refl
@@ -191,6 +200,22 @@ module _ (net : Net) (log : Log) (value : Name → Bool) (pieces : List (List �
           inr (event.0, stands_match i event.0 t h event.1, event.1)
       by entry here is false e = inl (subst (λ j. is_false log truth j ≡ true) is (false_by entry (append_right before (flat_map (λ block. block) blocks) entry (block_has blocks t entry here)) e))
 
+  -- a front of the chain over its matches
+  any_of_matches : (i t : ℕ) (es : List ℕ) (k : ℕ) → list_any truth (take k (map (λ e. matches i e (suc t)) es)) ≡ list_any (λ e. stands net pieces (before ∷ blocks) i e (suc t)) (take k es)
+  any_of_matches i t [] zero = refl
+  any_of_matches i t [] (suc k) = refl
+  any_of_matches i t (e ∷ es) zero = refl
+  any_of_matches i t (e ∷ es) (suc k) = ap (λ b. stands net pieces (before ∷ blocks) i e (suc t) || b) (any_of_matches i t es k)
+
+  -- an alarm stands for one event of a step
+  one_of_matches : (i t : ℕ) → AtMostOneOf truth (match_inputs net log i (suc t))
+  one_of_matches i t a b x y less at_a at_b here there =
+      let first = mapped_at (λ e. matches i e (suc t)) (matching_events net log i) a x at_a in
+      let second = mapped_at (λ e. matches i e (suc t)) (matching_events net log i) b y at_b in
+      pair_at (λ e f. e ≢ f) (matching_events net log i) a b first.0 second.0
+      (pairs_filter (λ e f. e ≢ f) (λ e. is_matching net log e i) (numbers_below (length net.events)) (range_once 0 (length net.events))) less first.1 second.1
+      (same_event first.0 second.0 i (seen t) (reals t) (reals_once t) (ap truth first.2 ∙ here) (ap truth second.2 ∙ there))
+
   clause_true : (which : LogClause) → IsLogClause net log (length pieces) which → named_clause_true (coded net log pieces (before ∷ blocks) value) (log_clause net log (length pieces) which) ≡ true
   clause_true (chain_closed e k t) h =
       two_negations (k == length (chain net log e)) (coded net log pieces (before ∷ blocks) value (remaining e k (suc t))) (λ shut is.
@@ -256,10 +281,8 @@ module _ (net : Net) (log : Log) (value : Name → Bool) (pieces : List (List �
           at (inr (e, matching, is)) =
               or_right (is_false log truth i) (list_any (named_true truth) (map (λ f. yes (matches i f (suc t))) (matching_events net log i)))
               (mapped truth (λ f. matches i f (suc t)) (matching_events net log i) e (has_event net log e i matching) is)
-  clause_true (one_match i e f t) h =
-      two_negations (stands net pieces (before ∷ blocks) i e (suc t)) (stands net pieces (before ∷ blocks) i f (suc t)) (λ is other.
-      let same = same_event e f i (seen t) (reals t) (reals_once t) is other in
-      let less = h.2 in omega (arith, same, less))
+  clause_true (one_match i t which) h =
+      chains_hold truth (of_matches i (suc t)) (match_inputs net log i (suc t)) (λ k. sym (any_of_matches i t (matching_events net log i) k)) (one_of_matches i t) which h.2
   clause_true (done_if_asked i) h =
       or_left (truth (done i (length pieces))) false
       (done_to i (length pieces) (subst (λ xs. Contains (joined xs) i) (sym (take_all (suc (length pieces)) steps (omega (arith, step_count)))) (each i h)))
@@ -287,7 +310,9 @@ differs net log pieces blocks given (unmatched e k t) h = cc
 differs net log pieces blocks given (closed e k) h = cc
 differs net log pieces blocks given (dropped i) h = cc
 differs net log pieces blocks given (reaches i j) h = refl
-differs net log pieces blocks given (some_of_first family i) h = refl
+differs net log pieces blocks given (some_of_first (of_states c t) k) h = refl
+differs net log pieces blocks given (some_of_first (of_events t g) k) h = refl
+differs net log pieces blocks given (some_of_first (of_matches i t) k) h = cc
 
 complete_from : (net : Net) (log : Log) (given : Name → Bool) (pieces : List (List ℕ)) (order : List Entry) → AreFrom net given 0 pieces → Linearises net log (joined pieces) order →
     (value : Name → Bool) × DifferInLog given value × LogClausesHold net log (length pieces) value × GuardsHold net log value × HasFalse log value order

@@ -5,7 +5,8 @@ use Rattle.std.proofs.lemmas.List.{length-map}
 use Rattle.std.proofs.lemmas.List.Sums.{length-filter, sum_by-append, sum_by-cons}
 use Rattle.std.proofs.lemmas.List.FromFn.{length-range_with_len}
 use Rattle.std.proofs.Math.Nat.{mul-le-mul_left, pow-succ', pow-zero}
-use Rattle.des_base.specs.Lists.{EachPair}
+use Rattle.card_counter.proofs.Listed.{exclusions_are_listed}
+use Rattle.card_counter.specs.Exclusions.{IsExclusionClause, exclusion_list}
 use Rattle.des_net.specs.Network.{Net, label_of}
 use Rattle.des_net.specs.QuestionSize.{touching_count, fault_event_count}
 use Rattle.log_clauses.proofs.Lists.{flat_has, flat_from, map_has, map_from, cons_cases, here_first, here_later, none_in_nil, all_of, all_at, append_cases, append_left, append_right, filter_has, filter_from, range_from, pairs_filter}
@@ -13,18 +14,14 @@ use Rattle.log_clauses.proofs.Rules.{has_event, event_matches, shown_event}
 use Rattle.log_clauses.proofs.Stay.{with_alarm, with_pair, range_more, matching_same, doubtful_same, doubtful_new}
 use Rattle.log_clauses.specs.Additions.{Addition, alarm_added, pair_added, with_addition, IsTaken, IsAlarmClause, IsAddedClause, IsFirstClause}
 use Rattle.log_clauses.specs.Drafts.{taken_events, link_clauses, match_clauses, done_clauses, alarm_clauses, real_clauses, added_clauses, first_clauses, DraftsAreCode, DraftsAreSmall, FirstClausesAreFew}
-use Rattle.log_clauses.specs.LogClauses.{chain, observable_events, LogClause, log_clause, chain_closed, takes_rest, uses_up, passes_on, taken_or_passed, not_done_first, stays_done, match_is_done, matched_once, match_is_real, done_by_match, one_match, done_if_asked, before_if_asked}
+use Rattle.log_clauses.specs.LogClauses.{chain, match_inputs, observable_events, LogClause, log_clause, chain_closed, takes_rest, uses_up, passes_on, taken_or_passed, not_done_first, stays_done, match_is_done, matched_once, match_is_real, done_by_match, one_match, done_if_asked, before_if_asked}
 use Rattle.log_order.specs.Log.{Log, Alarm, no_log, is_doubtful}
 use Rattle.prop_core.specs.Clauses.{Clause}
 use Rattle.prop_core.specs.NamedClauses.{IsCode}
-use Rattle.prop_core.specs.VariableNames.{Name, NamedLiteral, ReadsAs}
+use Rattle.prop_core.specs.VariableNames.{Name, matches, NamedLiteral, ReadsAs}
 use Rattle.replay.specs.QuestionSize.{is_matching, question_size, matching_count, doubtful_count}
 use Rattle.run_clauses.specs.StepClauses.{numbers_below, state_count}
 use Rattle.run_clauses.proofs.Lists.{from_numbers, in_numbers}
-
-range_up : (a m : ℕ) → EachPair (λ x y. x < y) (range_with_len a m)
-range_up a zero = tt
-range_up a (suc m) = (all_of (λ y. a < y) (range_with_len (a + 1) m) (λ y in'. let low = (range_from (a + 1) m y in').0 in omega (arith, low)), range_up (a + 1) m)
 
 -- Clauses that read as a list of what is wanted are the code of it.
 listed : {W : Type 0} (names : List (ℕ × Name)) (wanted : W → Type 0) (literals : W → List NamedLiteral) (clauses : List Clause) (list : List W) →
@@ -51,36 +48,10 @@ listed names wanted literals clauses list same zip = record {
         by (inl is) later = (c, here_first c cs c refl, subst (λ x. ReadsAs names c (literals x)) is z.0)
         by (inr rest) later = let found = later rest in (found.0, here_later c cs found.0 found.1, found.2)
 
--- the pairs of events of an alarm
-match_from : (i t : ℕ) (events : List ℕ) (which : LogClause) → EachPair (λ e f. e < f) events → Contains (match_clauses i t events) which →
-    (e : ℕ) × (f : ℕ) × Contains events e × Contains events f × (e < f) × (one_match i e f t ≡ which)
-match_from i t [] which up in' = absurd (none_in_nil which in')
-match_from i t (x ∷ events) which up in' = by (append_cases (map (λ f. one_match i x f t) events) (match_clauses i t events) which in') (match_from i t events which up.1)
-  where
-    by : Contains (map (λ f. one_match i x f t) events) which ⊎ Contains (match_clauses i t events) which →
-        (Contains (match_clauses i t events) which → (e : ℕ) × (f : ℕ) × Contains events e × Contains events f × (e < f) × (one_match i e f t ≡ which)) →
-        (e : ℕ) × (f : ℕ) × Contains (x ∷ events) e × Contains (x ∷ events) f × (e < f) × (one_match i e f t ≡ which)
-    by (inl here) later =
-        let found = map_from (λ f. one_match i x f t) events which here in
-        (x, found.0, here_first x events x refl, here_later x events found.0 found.1, all_at (λ f. x < f) events up.0 found.0 found.1, found.2)
-    by (inr rest) later = let found = later rest in (found.0, found.1, here_later x events found.0 found.2, here_later x events found.1 found.3, found.4, found.5)
-
-match_has : (i t : ℕ) (events : List ℕ) (e f : ℕ) → EachPair (λ a b. a < b) events → Contains events e → Contains events f → e < f → Contains (match_clauses i t events) (one_match i e f t)
-match_has i t [] e f up in' in2 less = absurd (none_in_nil e in')
-match_has i t (x ∷ events) e f up in' in2 less = by (cons_cases x events e in') (cons_cases x events f in2) (λ a b. match_has i t events e f up.1 a b less)
-  where
-    by : (x ≡ e) ⊎ Contains events e → (x ≡ f) ⊎ Contains events f → (Contains events e → Contains events f → Contains (match_clauses i t events) (one_match i e f t)) →
-        Contains (map (λ g. one_match i x g t) events ++ match_clauses i t events) (one_match i e f t)
-    by (inl a) (inl b) later = absurd (omega (arith, a, b))
-    by (inl a) (inr b) later =
-        append_left (map (λ g. one_match i x g t) events) (match_clauses i t events) (one_match i e f t)
-        (subst (λ y. Contains (map (λ g. one_match i x g t) events) (one_match i y f t)) a (map_has (λ g. one_match i x g t) events f b))
-    by (inr a) (inl b) later = absurd (let above = all_at (λ y. x < y) events up.0 e a in omega (arith, above, b))
-    by (inr a) (inr b) later = append_right (map (λ g. one_match i x g t) events) (match_clauses i t events) (one_match i e f t) (later a b)
-
 module _ (net : Net) (log : Log) (n : ℕ) (new : Alarm) where
-  up : EachPair (λ e f. e < f) (taken_events net log new)
-  up = pairs_filter (λ e f. e < f) (λ e. is_matching net (with_alarm log new) e (length log.alarms)) (numbers_below (length net.events)) (range_up 0 (length net.events))
+  -- that the alarm stands for one of the events in the step after t steps
+  abbrev inputs : ℕ → List Name
+  inputs t = map (λ e. matches (length log.alarms) e (suc t)) (taken_events net log new)
 
   pub taken_is : (e : ℕ) → Contains (taken_events net log new) e → IsTaken net log new e
   taken_is e in' = event_matches net (with_alarm log new) e (length log.alarms) in'
@@ -114,8 +85,8 @@ module _ (net : Net) (log : Log) (n : ℕ) (new : Alarm) where
           second : (done_by_match (length log.alarms) t ≡ which) ⊎ Contains (match_clauses (length log.alarms) t (taken_events net log new)) which → IsAlarmClause net log n new which
           second (inl is) = subst (IsAlarmClause net log n new) is (refl, step)
           second (inr rest) =
-              let found = match_from (length log.alarms) t (taken_events net log new) which up rest in
-              subst (IsAlarmClause net log n new) found.5 (refl, taken_is found.0 found.2, taken_is found.1 found.3, found.4, step)
+              let found = map_from (one_match (length log.alarms) t) (exclusion_list (inputs t)) which rest in
+              subst (IsAlarmClause net log n new) found.2 (refl, step, ((exclusions_are_listed (inputs t)).same found.0).0 found.1)
 
           first : (stays_done (length log.alarms) t ≡ which) ⊎ Contains (done_by_match (length log.alarms) t ∷ match_clauses (length log.alarms) t (taken_events net log new)) which → IsAlarmClause net log n new which
           first (inl is) = subst (IsAlarmClause net log n new) is (refl, step)
@@ -212,12 +183,13 @@ module _ (net : Net) (log : Log) (n : ℕ) (new : Alarm) where
       subst (λ x. Contains (added_clauses net log n (alarm_added new)) (match_is_real x e t)) (sym h.0)
       (append_right (alarm_clauses net log n new) (real_clauses new.doubtful (length log.alarms) (taken_events net log new) n) (match_is_real (length log.alarms) e t) (real_has new.doubtful e t h.2 h.1 h.3))
   wanted_listed (done_by_match i t) h = subst (λ x. Contains (added_clauses net log n (alarm_added new)) (done_by_match x t)) (sym h.0) (in_steps t (done_by_match (length log.alarms) t) h.1 (1, omega arith, refl))
-  wanted_listed (one_match i e f t) h =
-      subst (λ x. Contains (added_clauses net log n (alarm_added new)) (one_match x e f t)) (sym h.0)
-      (in_steps t (one_match (length log.alarms) e f t) h.4
-      (here_later (stays_done (length log.alarms) t) (done_by_match (length log.alarms) t ∷ match_clauses (length log.alarms) t (taken_events net log new)) (one_match (length log.alarms) e f t)
-      (here_later (done_by_match (length log.alarms) t) (match_clauses (length log.alarms) t (taken_events net log new)) (one_match (length log.alarms) e f t)
-      (match_has (length log.alarms) t (taken_events net log new) e f up (is_taken e h.1) (is_taken f h.2) h.3))))
+  wanted_listed (one_match i t which) h =
+      let here = ((exclusions_are_listed (inputs t)).same which).1 (subst (λ x. IsExclusionClause (match_inputs net (with_alarm log new) x (suc t)) which) h.0 h.2) in
+      subst (λ x. Contains (added_clauses net log n (alarm_added new)) (one_match x t which)) (sym h.0)
+      (in_steps t (one_match (length log.alarms) t which) h.1
+      (here_later (stays_done (length log.alarms) t) (done_by_match (length log.alarms) t ∷ match_clauses (length log.alarms) t (taken_events net log new)) (one_match (length log.alarms) t which)
+      (here_later (done_by_match (length log.alarms) t) (match_clauses (length log.alarms) t (taken_events net log new)) (one_match (length log.alarms) t which)
+      (map_has (one_match (length log.alarms) t) (exclusion_list (inputs t)) which here))))
   wanted_listed (done_if_asked i) h = subst (λ x. Contains (added_clauses net log n (alarm_added new)) (done_if_asked x)) (sym h) (in_rest (done_if_asked (length log.alarms)) (1, omega arith, refl))
   wanted_listed (before_if_asked i j t) h = absurd h
 
@@ -255,22 +227,25 @@ pub flat_length : {Y : Type 0} (f : ℕ → List Y) (xs : List ℕ) (c : ℕ) �
 flat_length f [] c h = omega arith
 flat_length f (x ∷ xs) c h = let rest = flat_length f xs c h in let first = h x in let whole = length-append (f x) (flat_map f xs) in omega (arith, rest, first, whole)
 
-match_size : (i t : ℕ) (events : List ℕ) → length (match_clauses i t events) + length (match_clauses i t events) + length events ≡ length events * length events
-match_size i t [] = omega arith
-match_size i t (e ∷ events) =
-    let rest = match_size i t events in
-    let whole = length-append (map (λ f. one_match i e f t) events) (match_clauses i t events) in
-    let front = length-map events (λ f. one_match i e f t) in
-    omega (arith, rest, whole, front)
+flat_few : {Y : Type 0} (f : ℕ → List Y) (xs : List ℕ) (c : ℕ) → ((x : ℕ) → length (f x) ≤ c) → length (flat_map f xs) ≤ length xs * c
+flat_few f [] c h = omega arith
+flat_few f (x ∷ xs) c h = let rest = flat_few f xs c h in let first = h x in let whole = length-append (f x) (flat_map f xs) in omega (arith, rest, first, whole)
+
+match_few : (i t : ℕ) (events : List ℕ) → length (match_clauses i t events) ≤ 3 * length events
+match_few i t events =
+    let few = (exclusions_are_listed (map (λ e. matches i e (suc t)) events)).few in
+    let size = length-map (exclusion_list (map (λ e. matches i e (suc t)) events)) (one_match i t) in
+    let same = length-map events (λ e. matches i e (suc t)) in
+    omega (arith, few, size, same)
 
 square : (m : ℕ) → m ≤ m * m
 square zero = omega arith
 square (suc m) = omega arith
 
-few_clauses : (n m l r : ℕ) → l + l + m ≡ m * m → r ≤ m * n → m * (n * 7) + (2 + n * (2 + l)) + r ≤ 12 * (n * (m * m + 1)) + 12
-few_clauses n m l r h real =
+few_clauses : (n m r : ℕ) → r ≤ m * n → m * (n * 7) + (2 + n * (2 + 3 * m)) + r ≤ 12 * (n * (m * m + 1)) + 12
+few_clauses n m r real =
     let more = square m in
-    let each : 8 * m + (2 + l) ≤ 12 * (m * m + 1) = omega (arith, more, h) in
+    let each : 8 * m + (2 + 3 * m) ≤ 12 * (m * m + 1) = omega (arith, more) in
     let all = mul-le-mul_left n each in
     omega (arith, all, real)
 
@@ -313,14 +288,14 @@ module _ (net : Net) (log : Log) (n : ℕ) (new : Alarm) where
   pub same_count : (i : ℕ) → i < length log.alarms → matching_count net (with_alarm log new) i ≡ matching_count net log i
   same_count i h = ap (λ (p : ℕ → Bool). count_by p (numbers_below (length net.events))) (λ j e. matching_same net log new e i h j)
 
-  alarm_size : length (alarm_clauses net log n new) ≡ length (taken_events net log new) * (n * 7) + (2 + n * (2 + length (match_clauses (length log.alarms) 0 (taken_events net log new))))
+  alarm_size : length (alarm_clauses net log n new) ≤ length (taken_events net log new) * (n * 7) + (2 + n * (2 + 3 * length (taken_events net log new)))
   alarm_size =
       let range = length-range_with_len 0 n in
       let front = flat_length (λ e. flat_map (link_clauses (length log.alarms) e (length (chain net log e))) (numbers_below n)) (taken_events net log new) (n * 7) (λ e.
       let inner = flat_length (link_clauses (length log.alarms) e (length (chain net log e))) (numbers_below n) 7 (λ t. refl) in omega (arith, inner, range)) in
-      let back = flat_length (done_clauses (length log.alarms) (taken_events net log new)) (numbers_below n) (2 + length (match_clauses (length log.alarms) 0 (taken_events net log new))) (λ t.
-      let a = match_size (length log.alarms) t (taken_events net log new) in let b = match_size (length log.alarms) 0 (taken_events net log new) in omega (arith, a, b)) in
-      let moved = ap (λ k. k * (2 + length (match_clauses (length log.alarms) 0 (taken_events net log new)))) range in
+      let back = flat_few (done_clauses (length log.alarms) (taken_events net log new)) (numbers_below n) (2 + 3 * length (taken_events net log new)) (λ t.
+      let few = match_few (length log.alarms) t (taken_events net log new) in omega (arith, few)) in
+      let moved = ap (λ k. k * (2 + 3 * length (taken_events net log new))) range in
       let whole = length-append (flat_map (λ e. flat_map (link_clauses (length log.alarms) e (length (chain net log e))) (numbers_below n)) (taken_events net log new))
       (not_done_first (length log.alarms) ∷ done_if_asked (length log.alarms) ∷ flat_map (done_clauses (length log.alarms) (taken_events net log new)) (numbers_below n)) in
       omega (arith, range, front, back, whole, moved)
@@ -345,11 +320,9 @@ module _ (net : Net) (log : Log) (n : ℕ) (new : Alarm) where
   few : length (added_clauses net log n (alarm_added new)) ≤ 12 * (n * (matching_count net (with_alarm log new) (length log.alarms) ^ 2 + 1)) + 12
   few =
       let size = alarm_size in
-      let pairs = match_size (length log.alarms) 0 (taken_events net log new) in
       let real = real_size new.doubtful in
       let whole = length-append (alarm_clauses net log n new) (real_clauses new.doubtful (length log.alarms) (taken_events net log new) n) in
-      let bound = few_clauses n (length (taken_events net log new)) (length (match_clauses (length log.alarms) 0 (taken_events net log new)))
-      (length (real_clauses new.doubtful (length log.alarms) (taken_events net log new) n)) pairs real in
+      let bound = few_clauses n (length (taken_events net log new)) (length (real_clauses new.doubtful (length log.alarms) (taken_events net log new) n)) real in
       let squares = square_is (length (taken_events net log new)) in
       let same : length (taken_events net log new) * length (taken_events net log new) + 1 ≡ matching_count net (with_alarm log new) (length log.alarms) ^ 2 + 1 =
       ap (λ k. k + 1) (sym squares ∙ ap (λ k. k ^ 2) taken_count) in

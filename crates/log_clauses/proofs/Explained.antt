@@ -1,5 +1,5 @@
 -- The code of a log under assignments of variables.
-use Rattle.std.proofs.Common.{◌≡◌, ◌∙◌, ℕ, suc, ◌<◌, ◌≤◌, Bool, true, false, List, [], ◌∷◌, inl, inr, ◌⊎◌, cond, count_by, Option, Some, None, refl, sym, ap, subst, arith, Contains, IsTrue, option_map, unwrap_or, length}
+use Rattle.std.proofs.Common.{◌≡◌, ◌∙◌, ℕ, suc, ◌<◌, ◌≤◌, Bool, true, false, List, [], ◌∷◌, inl, inr, ◌⊎◌, cond, count_by, Option, Some, None, refl, sym, ap, subst, arith, Contains, IsTrue, not, option_map, unwrap_or, length}
 use Rattle.std.specs.List.{list_any}
 use Rattle.std.proofs.lemmas.Bool.{cases_lt}
 use Rattle.std.proofs.lemmas.Option.{slice_get_past}
@@ -24,7 +24,7 @@ use Rattle.log_clauses.specs.LogLaws.{HasFalse}
 use Rattle.prop_core.proofs.NameLemmas.{values_match, assignments_match, code_holds}
 use Rattle.prop_core.specs.Clauses.{Clause, AllClausesTrue}
 use Rattle.prop_core.specs.NamedClauses.{named_clause_true, Match, value_by, assignment_by, IsCode, AllHold}
-use Rattle.prop_core.specs.VariableNames.{Name, in_state, happens, done, dropped, name_of, yes, no}
+use Rattle.prop_core.specs.VariableNames.{Name, in_state, happens, done, dropped, some_of_first, name_of, yes, no}
 use Rattle.prop_core.specs.declared.lit.Lit.{Lit}
 use Rattle.run_clauses.proofs.Exact.{runs_have_steps, only_steps_matter, sets_in_order, same_sets}
 use Rattle.run_clauses.proofs.Sound.{steps_are_sound}
@@ -108,7 +108,7 @@ module _ (net : Net) (log : Log) (n : ℕ) (names : List (ℕ × Name)) (written
       let law = log_is_open (value_by names given) in (
         assignment_by names (opened (value_by names given)) given,
         kept given (opened (value_by names given)) law.0,
-        written_true (assignment_by names (opened (value_by names given)) given) (opened (value_by names given)) (assignments_match names (opened (value_by names given)) given) (λ which h. law.1 net log n which),
+        written_true (assignment_by names (opened (value_by names given)) given) (opened (value_by names given)) (assignments_match names (opened (value_by names given)) given) (λ which h. law.1 net log n which h),
       )
 
 pub log_code_is_exact : LogCodeIsExact
@@ -168,7 +168,7 @@ stepped_from net log n names stepped written assumed pieces network question giv
 )
   where
     same : AgreeOnSteps given value
-    same = record { states = λ c q t. sym (differ (in_state c q t) refl); events = λ e t. sym (differ (happens e t) refl) }
+    same = record { states = λ c q t. sym (differ (in_state c q t) refl); events = λ e t. sym (differ (happens e t) refl); chains = λ family k of_steps. sym (differ (some_of_first family k) (ap not of_steps)) }
 
     agree : AgreeOnEvents net n given (value_by names (by_variable names value))
     agree e t known step =
@@ -198,7 +198,7 @@ runs_stay_open net log n names stepped written assumed word pieces network quest
       by_variable names (opened given.0),
       all.0,
       all.1,
-      written_true net log n names written assumed question.log_code (by_variable names (opened given.0)) (opened given.0) (matched_by names (opened given.0)) (λ which h. law.1 net log n which),
+      written_true net log n names written assumed question.log_code (by_variable names (opened given.0)) (opened given.0) (matched_by names (opened given.0)) (λ which h. law.1 net log n which h),
     )
 
 pub assignments_explain : AssignmentsExplain

@@ -2,11 +2,12 @@
 use Rattle.std.proofs.Common.{◌≡◌, ℕ, zero, suc, ◌+◌, ◌<◌, ◌≤◌, Bool, true, false, List, [], ◌∷◌, ◌++◌, ◌∙◌, length, Some, refl, sym, ap, subst, arith, Contains, slice_get, filter, cond, inl, inr, ◌⊎◌, take, length-append}
 use Rattle.std.proofs.lemmas.Bool.{cases_lt}
 use Rattle.std.proofs.lemmas.List.Elements.{Contains-push_cases}
+use Rattle.card_counter.specs.Exclusions.{IsExclusionClause}
 use Rattle.des_net.specs.Network.{Net}
 use Rattle.log_clauses.proofs.Lists.{append_left, append_right, here_first, none_in_nil}
 use Rattle.log_clauses.proofs.Open.{log_is_open}
 use Rattle.log_clauses.proofs.Rules.{matching_alarm, is_shown}
-use Rattle.log_clauses.proofs.Stay.{with_alarm, with_pair, chain_is, known_stays, clause_same, matching_same, doubtful_same, doubtful_new}
+use Rattle.log_clauses.proofs.Stay.{with_alarm, with_pair, chain_is, inputs_same, known_stays, clause_same, matching_same, doubtful_same, doubtful_new}
 use Rattle.log_clauses.specs.AdditionLaws.{ChainsGrow, AdditionsAreExact, EmptyLogIsExact, AdditionsStayOpen}
 use Rattle.log_clauses.specs.Additions.{Addition, alarm_added, pair_added, with_addition, log_after, IsTaken, IsNewLink, IsAlarmClause, IsFirstClause}
 use Rattle.log_clauses.specs.LogClauses.{chain, LogClause, log_clause, IsLogClause, IsLink, chain_closed, takes_rest, uses_up, passes_on, taken_or_passed, not_done_first, stays_done, match_is_done, matched_once, match_is_real, done_by_match, one_match, done_if_asked, before_if_asked}
@@ -158,12 +159,11 @@ module _ (net : Net) (log : Log) (n : ℕ) (new : Alarm) where
       by : (i < length log.alarms) ⊎ (i ≡ length log.alarms) → IsLogClause net log n (done_by_match i t) ⊎ IsAlarmClause net log n new (done_by_match i t)
       by (inl a) = inl (a, h.1)
       by (inr b) = inr (b, h.1)
-  alarm_split (one_match i e f t) h = by (match_split e i h.0) (match_split f i h.1)
+  alarm_split (one_match i t which) h = by (number_split i h.0)
     where
-      by : (is_matching net log e i ≡ true) ⊎ (i ≡ length log.alarms) → (is_matching net log f i ≡ true) ⊎ (i ≡ length log.alarms) → IsLogClause net log n (one_match i e f t) ⊎ IsAlarmClause net log n new (one_match i e f t)
-      by (inl a) (inl b) = inl (a, b, h.2, h.3)
-      by (inr a) other = inr (a, taken e i a h.0, taken f i a h.1, h.2, h.3)
-      by (inl a) (inr b) = inr (b, taken e i b h.0, taken f i b h.1, h.2, h.3)
+      by : (i < length log.alarms) ⊎ (i ≡ length log.alarms) → IsLogClause net log n (one_match i t which) ⊎ IsAlarmClause net log n new (one_match i t which)
+      by (inl a) = inl (a, h.1, subst (λ xs. IsExclusionClause xs which) (sym (inputs_same net log new i (suc t) a)) h.2)
+      by (inr b) = inr (b, h.1, h.2)
   alarm_split (done_if_asked i) h = number_split i h
   alarm_split (before_if_asked i j t) h = inl h
 
@@ -184,7 +184,7 @@ module _ (net : Net) (log : Log) (n : ℕ) (new : Alarm) where
   alarm_new (matched_once i e t) h = (taken_back e i h.0 h.1, h.2)
   alarm_new (match_is_real i e t) h = (taken_back e i h.0 h.1, subst (λ x. is_doubtful (with_alarm log new) x ≡ true) (sym h.0) (doubtful_new log new ∙ h.2), h.3)
   alarm_new (done_by_match i t) h = (number_new i h.0, h.1)
-  alarm_new (one_match i e f t) h = (taken_back e i h.0 h.1, taken_back f i h.0 h.2, h.3, h.4)
+  alarm_new (one_match i t which) h = (number_new i h.0, h.1, h.2)
   alarm_new (done_if_asked i) h = number_new i h
   alarm_new (before_if_asked i j t) h = absurd h
 
@@ -201,7 +201,7 @@ module _ (net : Net) (log : Log) (n i j : ℕ) where
   pair_split (matched_once a e t) h = inl h
   pair_split (match_is_real a e t) h = inl h
   pair_split (done_by_match a t) h = inl h
-  pair_split (one_match a e f t) h = inl h
+  pair_split (one_match a t which) h = inl h
   pair_split (done_if_asked a) h = inl h
   pair_split (before_if_asked a b t) h = by (Contains-push_cases log.pairs (i, j) (a, b) h.0)
     where
@@ -221,7 +221,7 @@ module _ (net : Net) (log : Log) (n i j : ℕ) where
   pair_new (matched_once a e t) h = h
   pair_new (match_is_real a e t) h = h
   pair_new (done_by_match a t) h = h
-  pair_new (one_match a e f t) h = h
+  pair_new (one_match a t which) h = h
   pair_new (done_if_asked a) h = h
   pair_new (before_if_asked a b t) h = (append_left log.pairs ((i, j) ∷ []) (a, b) h.0, h.1)
 
@@ -240,7 +240,7 @@ module _ (net : Net) (log : Log) (n i j : ℕ) where
   pair_same (matched_once a e t) = refl
   pair_same (match_is_real a e t) = refl
   pair_same (done_by_match a t) = refl
-  pair_same (one_match a e f t) = refl
+  pair_same (one_match a t which) = refl
   pair_same (done_if_asked a) = refl
   pair_same (before_if_asked a b t) = refl
 
@@ -275,7 +275,7 @@ prefixes net log n (addition ∷ additions) value held (suc k) = prefixes net (w
 
 pub additions_stay_open : AdditionsStayOpen
 additions_stay_open net log n additions value =
-    (prefixes net log n additions value, λ k which h. (log_is_open value).1 net (log_after log (take k additions)) n which)
+    (prefixes net log n additions value, λ k which h. (log_is_open value).1 net (log_after log (take k additions)) n which h)
 
 -- the empty log
 first_split : (net : Net) (n : ℕ) (which : LogClause) → IsLogClause net no_log n which → IsFirstClause net n which
@@ -290,7 +290,7 @@ first_split net n (match_is_done i e t) h = absurd (let below = matching_alarm n
 first_split net n (matched_once i e t) h = absurd (let below = matching_alarm net no_log e i h.0 in omega (arith, below))
 first_split net n (match_is_real i e t) h = absurd (let below = matching_alarm net no_log e i h.0 in omega (arith, below))
 first_split net n (done_by_match i t) h = absurd (omega (arith, h.0))
-first_split net n (one_match i e f t) h = absurd (let below = matching_alarm net no_log e i h.0 in omega (arith, below))
+first_split net n (one_match i t which) h = absurd (omega (arith, h.0))
 first_split net n (done_if_asked i) h = absurd (omega arith)
 first_split net n (before_if_asked i j t) h = absurd (none_in_nil (i, j) h.0)
 

@@ -3,6 +3,7 @@ use Rattle.std.proofs.Common.{◌≡◌, ◌≢◌, ℕ, zero, suc, ◌+◌, ◌
 use Rattle.std.proofs.lemmas.List.{length-map}
 use Rattle.std.proofs.lemmas.List.Sums.{length-filter}
 use Rattle.std.proofs.lemmas.List.FromFn.{length-range_with_len}
+use Rattle.card_counter.specs.AtMostOne.{chain_count}
 use Rattle.des_base.specs.Lists.{EachPair}
 use Rattle.des_net.specs.Network.{Net, label_of}
 use Rattle.des_net.specs.QuestionSize.{at_most_one_count}
@@ -11,15 +12,16 @@ use Rattle.log_clauses.proofs.Drafts.{flat_length, sum_more, same_count, taken_c
 use Rattle.log_clauses.proofs.Growth.{length_split, length_end, grown, number_split, match_split, taken}
 use Rattle.log_clauses.proofs.Lists.{flat_has, flat_from, map_has, map_from, cons_cases, here_first, here_later, none_in_nil, all_of, all_at, append_cases, append_left, append_right, filter_has, filter_from, pairs_filter, pairs_append}
 use Rattle.log_clauses.proofs.Rules.{matching_alarm, is_shown, shown_event}
-use Rattle.log_clauses.proofs.Stay.{with_alarm, with_pair, matching_same, doubtful_same, doubtful_new}
+use Rattle.log_clauses.proofs.Stay.{with_alarm, with_pair, all_range, matching_same, doubtful_same, doubtful_new}
 use Rattle.log_clauses.proofs.Explained.{doubtful_below}
 use Rattle.log_clauses.specs.Additions.{alarm_added, pair_added, IsTaken}
 use Rattle.log_clauses.specs.Drafts.{taken_events}
-use Rattle.log_clauses.specs.LogClauses.{chain, observable_events}
-use Rattle.log_clauses.specs.LogNames.{IsLogName, link_names, alarm_names, false_names, added_names, first_names, NamesAreNew, NamesAreFew, FirstNamesAreAll}
+use Rattle.log_clauses.specs.LogClauses.{chain, matching_events, observable_events}
+use Rattle.log_clauses.specs.LogNames.{IsLogName, link_names, alarm_names, match_chains, false_names, added_names, first_names, NamesAreNew, NamesAreFew, FirstNamesAreAll}
 use Rattle.log_order.specs.Log.{Log, Alarm, no_log, is_doubtful}
-use Rattle.prop_core.specs.VariableNames.{Name, in_state, happens, asked, matches, done, unmatched, closed, dropped, reaches, some_of_first}
+use Rattle.prop_core.specs.VariableNames.{Name, in_state, happens, asked, matches, done, unmatched, closed, dropped, reaches, some_of_first, of_states, of_events, of_matches}
 use Rattle.replay.specs.QuestionSize.{is_matching, alarm_variables, variable_bound, matching_count, doubtful_count}
+use Rattle.run_clauses.specs.LaidOut.{chain_names}
 use Rattle.run_clauses.specs.StepClauses.{numbers_below}
 use Rattle.run_clauses.proofs.Lists.{from_numbers, in_numbers}
 
@@ -181,12 +183,58 @@ module _ (net : Net) (log : Log) (n : ℕ) (new : Alarm) where
       by (inl is) = (e, sym is)
       by (inr none) = absurd (none_in_nil name none)
 
-  added_split : (name : Name) → Contains (added_names net log n (alarm_added new)) name → Contains (alarm_names net log n new) name ⊎ ((new.doubtful ≡ true) × (name ≡ dropped (length log.alarms)))
-  added_split name in' = by (append_cases (alarm_names net log n new) (false_names new.doubtful (length log.alarms)) name in')
+  -- how long the chains over its matches are
+  abbrev links : ℕ
+  links = chain_count (length (taken_events net log new))
+
+  abbrev chains : List Name
+  chains = match_chains n (length log.alarms) (length (taken_events net log new))
+
+  abbrev falses : List Name
+  falses = false_names new.doubtful (length log.alarms)
+
+  -- it may be a link of such a chain
+  chain_from : (name : Name) → Contains chains name → (t : ℕ) × (k : ℕ) × (t < n) × (k < links) × (name ≡ some_of_first (of_matches (length log.alarms) (suc t)) (suc k))
+  chain_from name in' =
+      let step = flat_from (λ t. chain_names (of_matches (length log.alarms) (suc t)) (length (taken_events net log new))) (numbers_below n) name in' in
+      let link = map_from (λ k. some_of_first (of_matches (length log.alarms) (suc step.0)) (suc k)) (numbers_below links) name step.2 in
+      (step.0, link.0, from_numbers n step.0 step.1, from_numbers links link.0 link.1, sym link.2)
+
+  chain_has : (t k : ℕ) → t < n → k < links → Contains chains (some_of_first (of_matches (length log.alarms) (suc t)) (suc k))
+  chain_has t k step below =
+      flat_has (λ s. chain_names (of_matches (length log.alarms) (suc s)) (length (taken_events net log new))) (numbers_below n) t (some_of_first (of_matches (length log.alarms) (suc t)) (suc k)) (in_numbers n t step)
+      (map_has (λ j. some_of_first (of_matches (length log.alarms) (suc t)) (suc j)) (numbers_below links) k (in_numbers links k below))
+
+  chains_once : EachPair (λ a b. a ≢ b) chains
+  chains_once =
+      pairs_flat (λ t. chain_names (of_matches (length log.alarms) (suc t)) (length (taken_events net log new))) (numbers_below n) (range_once 0 n)
+      (λ t. pairs_map (λ k. some_of_first (of_matches (length log.alarms) (suc t)) (suc k)) (numbers_below links) (range_once 0 links) (same_link t)) same_step
     where
-      by : Contains (alarm_names net log n new) name ⊎ Contains (false_names new.doubtful (length log.alarms)) name → Contains (alarm_names net log n new) name ⊎ ((new.doubtful ≡ true) × (name ≡ dropped (length log.alarms)))
+      same_link : (t j k : ℕ) → some_of_first (of_matches (length log.alarms) (suc t)) (suc j) ≡ some_of_first (of_matches (length log.alarms) (suc t)) (suc k) → j ≡ k
+      same_link t j k h = cc
+
+      one_step : (s t j k : ℕ) → some_of_first (of_matches (length log.alarms) (suc s)) (suc j) ≡ some_of_first (of_matches (length log.alarms) (suc t)) (suc k) → s ≡ t
+      one_step s t j k h = cc
+
+      same_step : (s t : ℕ) (a : Name) → Contains (chain_names (of_matches (length log.alarms) (suc s)) (length (taken_events net log new))) a → Contains (chain_names (of_matches (length log.alarms) (suc t)) (length (taken_events net log new))) a → s ≡ t
+      same_step s t a in' in2 =
+          let first = map_from (λ k. some_of_first (of_matches (length log.alarms) (suc s)) (suc k)) (numbers_below links) a in' in
+          let second = map_from (λ k. some_of_first (of_matches (length log.alarms) (suc t)) (suc k)) (numbers_below links) a in2 in
+          one_step s t first.0 second.0 (first.2 ∙ sym second.2)
+
+  abbrev pub IsLinkName : Name → Type 0
+  IsLinkName name = (t : ℕ) × (k : ℕ) × (t < n) × (k < links) × (name ≡ some_of_first (of_matches (length log.alarms) (suc t)) (suc k))
+
+  added_split : (name : Name) → Contains (added_names net log n (alarm_added new)) name → Contains (alarm_names net log n new) name ⊎ (IsLinkName name ⊎ ((new.doubtful ≡ true) × (name ≡ dropped (length log.alarms))))
+  added_split name in' = by (append_cases (alarm_names net log n new) (chains ++ falses) name in')
+    where
+      behind : Contains chains name ⊎ Contains falses name → IsLinkName name ⊎ ((new.doubtful ≡ true) × (name ≡ dropped (length log.alarms)))
+      behind (inl a) = inl (chain_from name a)
+      behind (inr b) = inr (false_from new.doubtful name refl b)
+
+      by : Contains (alarm_names net log n new) name ⊎ Contains (chains ++ falses) name → Contains (alarm_names net log n new) name ⊎ (IsLinkName name ⊎ ((new.doubtful ≡ true) × (name ≡ dropped (length log.alarms))))
       by (inl a) = inl a
-      by (inr b) = inr (false_from new.doubtful name refl b)
+      by (inr b) = inr (behind (append_cases chains falses name b))
 
   not_dropped : (i : ℕ) → Contains (alarm_names net log n new) (dropped i) → ⊥
   not_dropped i in' = by (new_from (dropped i) in')
@@ -200,13 +248,37 @@ module _ (net : Net) (log : Log) (n : ℕ) (new : Alarm) where
       by (inr (inr (inl (e, t, h, step, is)))) = cc
       by (inr (inr (inr (t, h, is)))) = cc
 
+  not_link : (name : Name) → IsLinkName name → Contains (alarm_names net log n new) name → ⊥
+  not_link name (s, j, step', below, link) in' = by (new_from name in')
+    where
+      by : ((e : ℕ) × IsTaken net log new e × (name ≡ closed e (suc (length (chain net log e)))))
+          ⊎ ((e : ℕ) × (t : ℕ) × IsTaken net log new e × (t < n) × (name ≡ matches (length log.alarms) e (suc t)))
+          ⊎ ((e : ℕ) × (t : ℕ) × IsTaken net log new e × (t < n) × (name ≡ unmatched e (suc (length (chain net log e))) (suc t)))
+          ⊎ ((t : ℕ) × (t ≤ n) × (name ≡ done (length log.alarms) t)) → ⊥
+      by (inl (e, h, is)) = let both = sym is ∙ link in cc
+      by (inr (inl (e, t, h, step, is))) = let both = sym is ∙ link in cc
+      by (inr (inr (inl (e, t, h, step, is)))) = let both = sym is ∙ link in cc
+      by (inr (inr (inr (t, h, is)))) = let both = sym is ∙ link in cc
+
   added_once : EachPair (λ a b. a ≢ b) (added_names net log n (alarm_added new))
-  added_once = pairs_append (λ a b. a ≢ b) (alarm_names net log n new) (false_names new.doubtful (length log.alarms)) alarm_once (one new.doubtful) (λ a b in' in2 same.
-      let found = false_from new.doubtful b refl in2 in not_dropped (length log.alarms) (subst (λ x. Contains (alarm_names net log n new) x) (same ∙ found.1) in'))
+  added_once =
+      pairs_append (λ a b. a ≢ b) (alarm_names net log n new) (chains ++ falses) alarm_once
+      (pairs_append (λ a b. a ≢ b) chains falses chains_once (one new.doubtful) (λ a b in' in2 same.
+      let link = chain_from a in' in
+      let found = false_from new.doubtful b refl in2 in
+      no_both link.0 link.1 (sym link.4 ∙ same ∙ found.1)))
+      (λ a b in' in2 same. apart a b in' same (append_cases chains falses b in2))
     where
       one : (b : Bool) → EachPair (λ x y. x ≢ y) (false_names b (length log.alarms))
       one true = (tt, tt)
       one false = tt
+
+      no_both : (t k : ℕ) → some_of_first (of_matches (length log.alarms) (suc t)) (suc k) ≡ dropped (length log.alarms) → ⊥
+      no_both t k h = cc
+
+      apart : (a b : Name) → Contains (alarm_names net log n new) a → a ≡ b → Contains chains b ⊎ Contains falses b → ⊥
+      apart a b in' same (inl chain) = not_link b (chain_from b chain) (subst (λ x. Contains (alarm_names net log n new) x) same in')
+      apart a b in' same (inr false') = let found = false_from new.doubtful b refl false' in not_dropped (length log.alarms) (subst (λ x. Contains (alarm_names net log n new) x) (same ∙ found.1) in')
 
   alarm_not_old : (name : Name) → Contains (alarm_names net log n new) name → IsLogName net log n name → ⊥
   alarm_not_old name in' old = by (new_from name in')
@@ -223,12 +295,13 @@ module _ (net : Net) (log : Log) (n : ℕ) (new : Alarm) where
   not_old : (name : Name) → Contains (added_names net log n (alarm_added new)) name → IsLogName net log n name → ⊥
   not_old name in' old = by (added_split name in')
     where
-      by : Contains (alarm_names net log n new) name ⊎ ((new.doubtful ≡ true) × (name ≡ dropped (length log.alarms))) → ⊥
+      by : Contains (alarm_names net log n new) name ⊎ (IsLinkName name ⊎ ((new.doubtful ≡ true) × (name ≡ dropped (length log.alarms)))) → ⊥
       by (inl a) = alarm_not_old name a old
-      by (inr b) = let below = doubtful_below log (length log.alarms) (subst (IsLogName net log n) b.1 old) in omega (arith, below)
+      by (inr (inl (t, k, step, below, is))) = let known = subst (IsLogName net log n) is old in let low = known.0 in omega (arith, low)
+      by (inr (inr b)) = let below = doubtful_below log (length log.alarms) (subst (IsLogName net log n) b.1 old) in omega (arith, below)
 
   in_alarm : (name : Name) → Contains (alarm_names net log n new) name → Contains (added_names net log n (alarm_added new)) name
-  in_alarm name there = append_left (alarm_names net log n new) (false_names new.doubtful (length log.alarms)) name there
+  in_alarm name there = append_left (alarm_names net log n new) (chains ++ falses) name there
 
   in_links : (e : ℕ) (name : Name) → IsTaken net log new e → Contains (link_names n (length log.alarms) e (length (chain net log e))) name → Contains (added_names net log n (alarm_added new)) name
   in_links e name h there =
@@ -261,6 +334,9 @@ module _ (net : Net) (log : Log) (n : ℕ) (new : Alarm) where
   chain_keeps e =
       let more = length-append (chain net log e) (filter (is_matching net (with_alarm log new) e) (length log.alarms ∷ [])) in
       subst (λ xs. length (chain net log e) ≤ length xs) (sym (grown net log n new e)) (omega (arith, more))
+
+  same_matches : (i : ℕ) → i < length log.alarms → length (matching_events net (with_alarm log new) i) ≡ length (matching_events net log i)
+  same_matches i h = ap length (all_range (length net.events) (λ e. is_matching net (with_alarm log new) e i) (λ e. is_matching net log e i) (λ e. matching_same net log new e i h))
 
   name_split : (name : Name) → IsLogName net (with_alarm log new) n name → IsLogName net log n name ⊎ Contains (added_names net log n (alarm_added new)) name
   name_split (in_state c q t) h = absurd h
@@ -302,10 +378,23 @@ module _ (net : Net) (log : Log) (n : ℕ) (new : Alarm) where
       by : (i < length log.alarms) ⊎ (i ≡ length log.alarms) → IsLogName net log n (dropped i) ⊎ Contains (added_names net log n (alarm_added new)) (dropped i)
       by (inl a) = inl (sym (doubtful_same log new i a) ∙ h)
       by (inr b) = inr (subst (λ x. Contains (added_names net log n (alarm_added new)) (dropped x)) (sym b)
-          (append_right (alarm_names net log n new) (false_names new.doubtful (length log.alarms)) (dropped (length log.alarms))
-          (own new.doubtful (sym (doubtful_new log new) ∙ subst (λ x. is_doubtful (with_alarm log new) x ≡ true) b h))))
+          (append_right (alarm_names net log n new) (chains ++ falses) (dropped (length log.alarms))
+          (append_right chains falses (dropped (length log.alarms)) (own new.doubtful (sym (doubtful_new log new) ∙ subst (λ x. is_doubtful (with_alarm log new) x ≡ true) b h)))))
   name_split (reaches i j) h = absurd h
-  name_split (some_of_first family i) h = absurd h
+  name_split (some_of_first (of_states c t) k) h = absurd h
+  name_split (some_of_first (of_events t g) k) h = absurd h
+  name_split (some_of_first (of_matches i zero) k) h = absurd (omega (arith, h.1.0))
+  name_split (some_of_first (of_matches i (suc t)) zero) h = absurd (omega (arith, h.2))
+  name_split (some_of_first (of_matches i (suc t)) (suc k)) h = by (number_split net log n new i h.0)
+    where
+      by : (i < length log.alarms) ⊎ (i ≡ length log.alarms) →
+          IsLogName net log n (some_of_first (of_matches i (suc t)) (suc k)) ⊎ Contains (added_names net log n (alarm_added new)) (some_of_first (of_matches i (suc t)) (suc k))
+      by (inl a) = inl (a, h.1, h.2, subst (λ m. suc k ≤ chain_count m) (same_matches i a) h.3)
+      by (inr b) =
+          let below : suc k ≤ links = subst (λ x. suc k ≤ chain_count (length (matching_events net (with_alarm log new) x))) b h.3 in
+          inr (subst (λ x. Contains (added_names net log n (alarm_added new)) (some_of_first (of_matches x (suc t)) (suc k))) (sym b)
+          (append_right (alarm_names net log n new) (chains ++ falses) (some_of_first (of_matches (length log.alarms) (suc t)) (suc k))
+          (append_left chains falses (some_of_first (of_matches (length log.alarms) (suc t)) (suc k)) (chain_has t k (omega (arith, h.1.1)) (omega (arith, below))))))
 
   name_keeps : (name : Name) → IsLogName net log n name → IsLogName net (with_alarm log new) n name
   name_keeps (in_state c q t) h = absurd h
@@ -317,7 +406,9 @@ module _ (net : Net) (log : Log) (n : ℕ) (new : Alarm) where
   name_keeps (closed e k) h = (h.0, let more = chain_keeps e in omega (arith, more, h.1))
   name_keeps (dropped i) h = doubtful_same log new i (doubtful_below log i h) ∙ h
   name_keeps (reaches i j) h = absurd h
-  name_keeps (some_of_first family i) h = absurd h
+  name_keeps (some_of_first (of_states c t) k) h = absurd h
+  name_keeps (some_of_first (of_events t g) k) h = absurd h
+  name_keeps (some_of_first (of_matches i t) k) h = (let more = longer net log n new in omega (arith, more, h.0), h.1, h.2, subst (λ m. k ≤ chain_count m) (sym (same_matches i h.0)) h.3)
 
   alarm_known : (name : Name) → Contains (alarm_names net log n new) name → IsLogName net (with_alarm log new) n name
   alarm_known name in' = by (new_from name in')
@@ -334,12 +425,13 @@ module _ (net : Net) (log : Log) (n : ℕ) (new : Alarm) where
   new_known : (name : Name) → Contains (added_names net log n (alarm_added new)) name → IsLogName net (with_alarm log new) n name
   new_known name in' = by (added_split name in')
     where
-      by : Contains (alarm_names net log n new) name ⊎ ((new.doubtful ≡ true) × (name ≡ dropped (length log.alarms))) → IsLogName net (with_alarm log new) n name
+      by : Contains (alarm_names net log n new) name ⊎ (IsLinkName name ⊎ ((new.doubtful ≡ true) × (name ≡ dropped (length log.alarms)))) → IsLogName net (with_alarm log new) n name
       by (inl a) = alarm_known name a
-      by (inr b) = subst (IsLogName net (with_alarm log new) n) (sym b.1) (doubtful_new log new ∙ b.0)
+      by (inr (inl (t, k, step, below, is))) = subst (IsLogName net (with_alarm log new) n) (sym is) (let more = longer net log n new in omega (arith, more), (omega arith, omega (arith, step)), omega arith, omega (arith, below))
+      by (inr (inr b)) = subst (IsLogName net (with_alarm log new) n) (sym b.1) (doubtful_new log new ∙ b.0)
 
   -- how many they are
-  names_size : length (added_names net log n (alarm_added new)) ≡ length (taken_events net log new) * (1 + n * 2) + suc n + cond new.doubtful 1 0
+  names_size : length (added_names net log n (alarm_added new)) ≡ length (taken_events net log new) * (1 + n * 2) + suc n + n * links + cond new.doubtful 1 0
   names_size =
       let range = length-range_with_len 0 n in
       let inner : (e : ℕ) → length (link_names n (length log.alarms) e (length (chain net log e))) ≡ 1 + n * 2 = λ e.
@@ -348,9 +440,13 @@ module _ (net : Net) (log : Log) (n : ℕ) (new : Alarm) where
       let back = length-map (numbers_below (suc n)) (λ t. done (length log.alarms) t) in
       let range' = length-range_with_len 0 (suc n) in
       let whole = length-append (flat_map (λ e. link_names n (length log.alarms) e (length (chain net log e))) (taken_events net log new)) (map (λ t. done (length log.alarms) t) (numbers_below (suc n))) in
-      let all = length-append (alarm_names net log n new) (false_names new.doubtful (length log.alarms)) in
+      let all = length-append (alarm_names net log n new) (chains ++ falses) in
+      let both = length-append chains falses in
+      let steps = flat_length (λ t. chain_names (of_matches (length log.alarms) (suc t)) (length (taken_events net log new))) (numbers_below n) links
+      (λ t. length-map (numbers_below links) (λ k. some_of_first (of_matches (length log.alarms) (suc t)) (suc k)) ∙ length-range_with_len 0 links) in
+      let moved = ap (λ k. k * links) range in
       let last = false_size new.doubtful in
-      omega (arith, front, back, range', whole, all, last)
+      omega (arith, front, back, range', whole, all, both, steps, moved, last)
     where
       false_size : (b : Bool) → length (false_names b (length log.alarms)) ≡ cond b 1 0
       false_size true = refl
@@ -364,12 +460,14 @@ names_leave_room net log n new =
     (λ i below. ap (alarm_variables n) (same_count net log n new i below)) in
     let more = ap (λ k. sum_by (λ i. alarm_variables n (matching_count net (with_alarm log new) i)) (numbers_below k)) (longer net log n new) in
     let size = names_size net log n new in
-    let moved = ap (λ k. k * (1 + n * 2) + suc n) (taken_count net log n new) in
+    let moved : length (taken_events net log new) * (1 + n * 2) + suc n + n * chain_count (length (taken_events net log new))
+    ≡ matching_count net (with_alarm log new) (length log.alarms) * (1 + n * 2) + suc n + n * at_most_one_count (matching_count net (with_alarm log new) (length log.alarms)) =
+    ap (λ k. k * (1 + n * 2) + suc n + n * chain_count k) (taken_count net log n new) in
     let doubt = doubtful_more net log n new in
     let few = names_few n (matching_count net (with_alarm log new) (length log.alarms)) (at_most_one_count (matching_count net (with_alarm log new) (length log.alarms))) in
     omega (arith, sum, more, size, moved, doubt, few)
   where
-    names_few : (k m o : ℕ) → m * (1 + k * 2) + suc k ≤ k * (2 * m + o + 1) + 1 + m
+    names_few : (k m o : ℕ) → m * (1 + k * 2) + suc k + k * o ≤ k * (2 * m + o + 1) + 1 + m
     names_few k m o = omega arith
 
 names_small : (net : Net) (log : Log) (n : ℕ) (new : Alarm) → length (added_names net log n (alarm_added new)) + variable_bound net log n ≤ variable_bound net (with_alarm log new) n
@@ -399,7 +497,9 @@ names_are_new net log n (pair_added i j) =
     same (closed e k) h = h
     same (dropped a) h = h
     same (reaches a b) h = h
-    same (some_of_first family a) h = h
+    same (some_of_first (of_states c t) k) h = h
+    same (some_of_first (of_events t g) k) h = h
+    same (some_of_first (of_matches a t) k) h = h
 
     again : (name : Name) → IsLogName net log n name → IsLogName net (with_pair log i j) n name
     again (in_state c q t) h = h
@@ -411,7 +511,9 @@ names_are_new net log n (pair_added i j) =
     again (closed e k) h = h
     again (dropped a) h = h
     again (reaches a b) h = h
-    again (some_of_first family a) h = h
+    again (some_of_first (of_states c t) k) h = h
+    again (some_of_first (of_events t g) k) h = h
+    again (some_of_first (of_matches a t) k) h = h
 
     back : (name : Name) → IsLogName net log n name ⊎ Contains [] name → IsLogName net (with_pair log i j) n name
     back name (inl old) = again name old
@@ -431,7 +533,9 @@ first_of net n (closed e k) h =
     (here_later asked (map (λ f. closed f 0) (observable_events net)) (closed e 0) (map_has (λ f. closed f 0) (observable_events net) e (filter_has (λ f. is_some (label_of net f)) (numbers_below (length net.events)) e h.0 (in_numbers (length net.events) e (shown_event net e h.0)))))
 first_of net n (dropped i) h = absurd (let below = doubtful_below no_log i h in omega (arith, below))
 first_of net n (reaches i j) h = absurd h
-first_of net n (some_of_first family i) h = absurd h
+first_of net n (some_of_first (of_states c t) k) h = absurd h
+first_of net n (some_of_first (of_events t g) k) h = absurd h
+first_of net n (some_of_first (of_matches i t) k) h = absurd (omega (arith, h.0))
 
 first_back : (net : Net) (n : ℕ) (name : Name) → Contains (first_names net) name → IsLogName net no_log n name
 first_back net n name in' = by (cons_cases asked (map (λ e. closed e 0) (observable_events net)) name in')

@@ -4,6 +4,7 @@ use Rattle.std.specs.List.{AllByRecursion, range_with_len}
 use Rattle.std.proofs.lemmas.Option.{slice_get-map, slice_get_within}
 use Rattle.std.proofs.lemmas.List.{length-map}
 use Rattle.std.proofs.lemmas.List.FromFn.{length-range_with_len}
+use Rattle.card_counter.specs.AtMostOne.{chain_count}
 use Rattle.des_base.specs.Lists.{EachPair}
 use Rattle.des_net.specs.Network.{Net}
 use Rattle.log_clauses.proofs.Drafts.{flat_length}
@@ -14,12 +15,12 @@ use Rattle.log_clauses.proofs.Codes.{has_name}
 use Rattle.log_clauses.specs.Additions.{alarm_added, with_addition}
 use Rattle.log_clauses.specs.Drafts.{taken_events}
 use Rattle.log_clauses.specs.LogClauses.{chain}
-use Rattle.log_clauses.specs.LogNames.{IsLogName, link_names, alarm_names, false_names, added_names, first_names, AreNew, AreLogNames, ReadsInOrder, NamesBegin, NamesGrow, PlacesOfNames, OrderedReads}
+use Rattle.log_clauses.specs.LogNames.{IsLogName, link_names, alarm_names, match_chains, false_names, added_names, first_names, AreNew, AreLogNames, ReadsInOrder, NamesBegin, NamesGrow, PlacesOfNames, OrderedReads}
 use Rattle.log_order.specs.Log.{Log, Alarm}
 use Rattle.prop_core.specs.Clauses.{Clause}
-use Rattle.prop_core.specs.VariableNames.{Name, NamedLiteral, name_of, named_literal, named_clause, matches, unmatched, closed, done, dropped, HasEachOnce}
+use Rattle.prop_core.specs.VariableNames.{Name, NamedLiteral, name_of, named_literal, named_clause, matches, unmatched, closed, done, dropped, some_of_first, of_matches, HasEachOnce}
 use Rattle.prop_core.specs.declared.lit.Lit.{Lit}
-use Rattle.run_clauses.specs.LaidOut.{laid_out}
+use Rattle.run_clauses.specs.LaidOut.{laid_out, chain_names}
 use Rattle.run_clauses.specs.StepClauses.{numbers_below}
 
 pub laid_out_from : (first : ℕ) (xs : List Name) (entry : ℕ × Name) → Contains (laid_out first xs) entry → Contains xs entry.1 × (first ≤ entry.0) × (entry.0 < first + length xs)
@@ -141,6 +142,16 @@ step_get : (n i e k t j : ℕ) → t < n → j < 2 → slice_get (link_names n i
 step_get n i e k t j h less = flat_get (λ s. matches i e (suc s) ∷ unmatched e (suc k) (suc s) ∷ []) (numbers_below n) 2 t t j (λ s. refl) (number_get n t h) less
 
 module _ (net : Net) (log : Log) (n first : ℕ) (new : Alarm) (names : List (ℕ × Name)) (are : AreLogNames net log n first names) where
+  -- how long the chains over its matches are, and these
+  abbrev links : ℕ
+  links = chain_count (length (taken_events net log new))
+
+  abbrev chains : List Name
+  chains = match_chains n (length log.alarms) (length (taken_events net log new))
+
+  abbrev falses : List Name
+  falses = false_names new.doubtful (length log.alarms)
+
   at : (k : ℕ) (name : Name) → slice_get (added_names net log n (alarm_added new)) k ≡ Some name → name_of (names ++ laid_out first (added_names net log n (alarm_added new))) (first + k) ≡ Some name
   at k name is =
       has_name (names ++ laid_out first (added_names net log n (alarm_added new))) (first + k, name) (names_grow net log n first (alarm_added new) names are).once
@@ -174,7 +185,7 @@ module _ (net : Net) (log : Log) (n first : ℕ) (new : Alarm) (names : List (�
 
   -- what stands among the names that each alarm has
   further : (k : ℕ) (name : Name) → slice_get (alarm_names net log n new) k ≡ Some name → slice_get (added_names net log n (alarm_added new)) k ≡ Some name
-  further k name is = get_same (alarm_names net log n new) (false_names new.doubtful (length log.alarms)) k (slice_get_within (alarm_names net log n new) k name is) ∙ is
+  further k name is = get_same (alarm_names net log n new) (chains ++ falses) k (slice_get_within (alarm_names net log n new) k name is) ∙ is
 
   link_at : (p e j : ℕ) (name : Name) → slice_get (taken_events net log new) p ≡ Some e → j < 1 + n * 2 → slice_get (link_names n (length log.alarms) e (length (chain net log e))) j ≡ Some name →
       slice_get (added_names net log n (alarm_added new)) (p * (1 + n * 2) + j) ≡ Some name
@@ -183,14 +194,42 @@ module _ (net : Net) (log : Log) (n first : ℕ) (new : Alarm) (names : List (�
   done_at : (t : ℕ) → t ≤ n → slice_get (added_names net log n (alarm_added new)) (length (taken_events net log new) * (1 + n * 2) + t) ≡ Some (done (length log.alarms) t)
   done_at t h = further (length (taken_events net log new) * (1 + n * 2) + t) (done (length log.alarms) t) (old_done_at t h)
 
-  false_at : new.doubtful ≡ true → slice_get (added_names net log n (alarm_added new)) (length (taken_events net log new) * (1 + n * 2) + suc n) ≡ Some (dropped (length log.alarms))
-  false_at doubtful =
-      let links = flat_length (λ f. link_names n (length log.alarms) f (length (chain net log f))) (taken_events net log new) (1 + n * 2) (λ f. link_size n (length log.alarms) f (length (chain net log f))) in
+  names_long : length (alarm_names net log n new) ≡ length (taken_events net log new) * (1 + n * 2) + suc n
+  names_long =
+      let all = flat_length (λ f. link_names n (length log.alarms) f (length (chain net log f))) (taken_events net log new) (1 + n * 2) (λ f. link_size n (length log.alarms) f (length (chain net log f))) in
       let dones = length-map (numbers_below (suc n)) (λ t. done (length log.alarms) t) ∙ length-range_with_len 0 (suc n) in
       let whole = length-append (flat_map (λ f. link_names n (length log.alarms) f (length (chain net log f))) (taken_events net log new)) (map (λ t. done (length log.alarms) t) (numbers_below (suc n))) in
-      let place : length (taken_events net log new) * (1 + n * 2) + suc n ≡ length (alarm_names net log n new) + 0 = omega (arith, links, dones, whole) in
+      omega (arith, all, dones, whole)
+
+  chain_long : (t : ℕ) → length (chain_names (of_matches (length log.alarms) (suc t)) (length (taken_events net log new))) ≡ links
+  chain_long t = length-map (numbers_below links) (λ k. some_of_first (of_matches (length log.alarms) (suc t)) (suc k)) ∙ length-range_with_len 0 links
+
+  chains_long : length chains ≡ n * links
+  chains_long =
+      flat_length (λ t. chain_names (of_matches (length log.alarms) (suc t)) (length (taken_events net log new))) (numbers_below n) links chain_long ∙ ap (λ k. k * links) (length-range_with_len 0 n)
+
+  chain_at : (t k : ℕ) → t < n → k < links → slice_get (added_names net log n (alarm_added new)) (length (taken_events net log new) * (1 + n * 2) + (suc n + t * links) + k) ≡ Some (some_of_first (of_matches (length log.alarms) (suc t)) (suc k))
+  chain_at t k step below =
+      let place : length (taken_events net log new) * (1 + n * 2) + (suc n + t * links) + k ≡ length (alarm_names net log n new) + (t * links + k) = omega (arith, names_long) in
+      let inside = within t n links k step below in
       ap (slice_get (added_names net log n (alarm_added new))) place
-      ∙ get_past (alarm_names net log n new) (false_names new.doubtful (length log.alarms)) 0
+      ∙ get_past (alarm_names net log n new) (chains ++ falses) (t * links + k)
+      ∙ get_same chains falses (t * links + k) (omega (arith, inside, chains_long))
+      ∙ flat_get (λ s. chain_names (of_matches (length log.alarms) (suc s)) (length (taken_events net log new))) (numbers_below n) links t t k chain_long (number_get n t step) below
+      ∙ slice_get-map (λ j. some_of_first (of_matches (length log.alarms) (suc t)) (suc j)) (numbers_below links) k
+      ∙ ap (option_map (λ j. some_of_first (of_matches (length log.alarms) (suc t)) (suc j))) (number_get links k below)
+    where
+      within : (q m c j : ℕ) → q < m → j < c → q * c + j < m * c
+      within q zero c j h l = absurd (omega (arith, h))
+      within zero (suc m) c j h l = omega (arith, l)
+      within (suc q) (suc m) c j h l = let rest = within q m c j (omega (arith, h)) l in omega (arith, rest)
+
+  false_at : new.doubtful ≡ true → slice_get (added_names net log n (alarm_added new)) (length (taken_events net log new) * (1 + n * 2) + (suc n + n * links)) ≡ Some (dropped (length log.alarms))
+  false_at doubtful =
+      let place : length (taken_events net log new) * (1 + n * 2) + (suc n + n * links) ≡ length (alarm_names net log n new) + (length chains + 0) = omega (arith, names_long, chains_long) in
+      ap (slice_get (added_names net log n (alarm_added new))) place
+      ∙ get_past (alarm_names net log n new) (chains ++ falses) (length chains + 0)
+      ∙ get_past chains falses 0
       ∙ ap (λ b. slice_get (false_names b (length log.alarms)) 0) doubtful
 
 pub places_of_names : PlacesOfNames
@@ -199,9 +238,18 @@ places_of_names net log n first new names are = record {
   matching = λ p e t is h. matches_at p e is t h;
   passing = λ p e t is h. unmatched_at p e is t h;
   being_done = λ t h. at net log n first new names are (length (taken_events net log new) * (1 + n * 2) + t) (done (length log.alarms) t) (done_at net log n first new names are t h);
-  being_false = λ h. at net log n first new names are (length (taken_events net log new) * (1 + n * 2) + suc n) (dropped (length log.alarms)) (false_at net log n first new names are h);
+  chaining = λ t step k below. chained_at t step k below;
+  being_false = λ h. at net log n first new names are (length (taken_events net log new) * (1 + n * 2) + (suc n + n * chain_count (length (taken_events net log new)))) (dropped (length log.alarms)) (false_at net log n first new names are h);
 }
   where
+    chained_at : (t : ℕ) → t < n → (k : ℕ) → k < chain_count (length (taken_events net log new)) →
+        name_of (names ++ laid_out first (added_names net log n (alarm_added new))) (first + (length (taken_events net log new) * (1 + n * 2) + (suc n + t * chain_count (length (taken_events net log new)))) + k) ≡ Some (some_of_first (of_matches (length log.alarms) (suc t)) (suc k))
+    chained_at t step k below =
+        let same : first + (length (taken_events net log new) * (1 + n * 2) + (suc n + t * chain_count (length (taken_events net log new))) + k) ≡ first + (length (taken_events net log new) * (1 + n * 2) + (suc n + t * chain_count (length (taken_events net log new)))) + k = omega arith in
+        subst (λ v. name_of (names ++ laid_out first (added_names net log n (alarm_added new))) v ≡ Some (some_of_first (of_matches (length log.alarms) (suc t)) (suc k))) same
+        (at net log n first new names are (length (taken_events net log new) * (1 + n * 2) + (suc n + t * chain_count (length (taken_events net log new))) + k) (some_of_first (of_matches (length log.alarms) (suc t)) (suc k))
+        (chain_at net log n first new names are t k step below))
+
     closed_at : (p e : ℕ) → slice_get (taken_events net log new) p ≡ Some e →
         name_of (names ++ laid_out first (added_names net log n (alarm_added new))) (first + p * (1 + n * 2)) ≡ Some (closed e (suc (length (chain net log e))))
     closed_at p e is =
@@ -223,14 +271,14 @@ places_of_names net log n first new names are = record {
         at net log n first new names are (p * (1 + n * 2) + suc (t * 2 + 1)) (unmatched e (suc (length (chain net log e))) (suc t))
         (link_at net log n first new names are p e (suc (t * 2 + 1)) (unmatched e (suc (length (chain net log e))) (suc t)) is (omega arith) (step_get n (length log.alarms) e (length (chain net log e)) t 1 h (omega arith)))
 
-pub ordered_reads : OrderedReads
-ordered_reads names clause named zip = record { read = named; by_name = reads clause named zip; same = λ x. (λ h. h, λ h. h) }
-  where
-    literal : (l : Lit) (m : NamedLiteral) → name_of names l.var ≡ Some m.name → l.positive ≡ m.positive → named_literal names l ≡ Some m
-    literal l m h sign = rw h (λ i. Some (record { name = m.name; positive = sign i }))
+ordered_literal : (names : List (ℕ × Name)) (l : Lit) (m : NamedLiteral) → name_of names l.var ≡ Some m.name → l.positive ≡ m.positive → named_literal names l ≡ Some m
+ordered_literal names l m h sign = rw h (λ i. Some (record { name = m.name; positive = sign i }))
 
-    reads : (ls : Clause) (ms : List NamedLiteral) → ReadsInOrder names ls ms → named_clause names ls ≡ Some ms
-    reads [] [] z = refl
-    reads [] (m ∷ ms) z = absurd z
-    reads (l ∷ ls) [] z = absurd z
-    reads (l ∷ ls) (m ∷ ms) z = rw (literal l m z.0.0 z.0.1, reads ls ms z.1) refl
+pub ordered_names : (names : List (ℕ × Name)) (clause : Clause) (named : List NamedLiteral) → ReadsInOrder names clause named → named_clause names clause ≡ Some named
+ordered_names names [] [] z = refl
+ordered_names names [] (m ∷ ms) z = absurd z
+ordered_names names (l ∷ ls) [] z = absurd z
+ordered_names names (l ∷ ls) (m ∷ ms) z = rw (ordered_literal names l m z.0.0 z.0.1, ordered_names names ls ms z.1) refl
+
+pub ordered_reads : OrderedReads
+ordered_reads names clause named zip = record { read = named; by_name = ordered_names names clause named zip; same = λ x. (λ h. h, λ h. h) }

@@ -1,13 +1,14 @@
 -- Without the guards the clauses are true where nothing is matched.
-use Rattle.std.proofs.Common.{◌≡◌, ℕ, zero, suc, Bool, true, false, refl, not, ◌||◌}
+use Rattle.std.proofs.Common.{◌≡◌, ℕ, zero, suc, Bool, true, false, List, [], ◌∷◌, map, Some, slice_get, refl, sym, ap, not, ◌||◌}
+use Rattle.card_counter.specs.Exclusions.{two, opens, goes_on, shuts_out}
 use Rattle.des_net.specs.Network.{Net}
 use Rattle.log_clauses.specs.Coded.{opened}
-use Rattle.log_clauses.specs.LogClauses.{LogClause, log_clause, chain_closed, takes_rest, uses_up, passes_on, taken_or_passed, not_done_first, stays_done, match_is_done, matched_once, match_is_real, done_by_match, one_match, done_if_asked, before_if_asked}
+use Rattle.log_clauses.specs.LogClauses.{LogClause, log_clause, IsLogClause, matching_events, chain_closed, takes_rest, uses_up, passes_on, taken_or_passed, not_done_first, stays_done, match_is_done, matched_once, match_is_real, done_by_match, one_match, done_if_asked, before_if_asked}
 use Rattle.log_clauses.specs.LogLaws.{LogIsOpen}
 use Rattle.log_clauses.specs.LogTruth.{DifferInLog}
 use Rattle.log_order.specs.Log.{Log}
 use Rattle.prop_core.specs.NamedClauses.{named_clause_true}
-use Rattle.prop_core.specs.VariableNames.{Name, in_state, happens, asked, matches, done, unmatched, closed, dropped, reaches, some_of_first}
+use Rattle.prop_core.specs.VariableNames.{Name, in_state, happens, asked, matches, done, unmatched, closed, dropped, reaches, some_of_first, of_states, of_events, of_matches}
 
 itself : (b : Bool) → not b || (b || false) ≡ true
 itself true = refl
@@ -17,23 +18,36 @@ passed : (b : Bool) → not b || (false || (b || false)) ≡ true
 passed true = refl
 passed false = refl
 
-all_open : (value : Name → Bool) (net : Net) (log : Log) (n : ℕ) (which : LogClause) → named_clause_true (opened value) (log_clause net log n which) ≡ true
-all_open value net log n (chain_closed e k t) = refl
-all_open value net log n (takes_rest i e k t) = refl
-all_open value net log n (uses_up i e k t) = refl
-all_open value net log n (passes_on e zero t) = itself (value (happens e (suc t)))
-all_open value net log n (passes_on e (suc k) t) = itself (value (happens e (suc t)))
-all_open value net log n (taken_or_passed i e zero t) = passed (value (happens e (suc t)))
-all_open value net log n (taken_or_passed i e (suc k) t) = passed (value (happens e (suc t)))
-all_open value net log n (not_done_first i) = refl
-all_open value net log n (stays_done i t) = refl
-all_open value net log n (match_is_done i e t) = refl
-all_open value net log n (matched_once i e t) = refl
-all_open value net log n (match_is_real i e t) = refl
-all_open value net log n (done_by_match i t) = refl
-all_open value net log n (one_match i e f t) = refl
-all_open value net log n (done_if_asked i) = refl
-all_open value net log n (before_if_asked i j t) = refl
+-- no match is so
+none_matched : (value : Name → Bool) (i t : ℕ) (es : List ℕ) (k : ℕ) (x : Name) → slice_get (map (λ e. matches i e t) es) k ≡ Some x → opened value x ≡ false
+none_matched value i t [] k x at = cc
+none_matched value i t (e ∷ es) zero x at = let same : matches i e t ≡ x = cc in sym (ap (opened value) same)
+none_matched value i t (e ∷ es) (suc k) x at = none_matched value i t es k x at
+
+first_fails : (a b : Bool) → a ≡ false → not a || b ≡ true
+first_fails false b h = refl
+first_fails true b h = cc
+
+all_open : (value : Name → Bool) (net : Net) (log : Log) (n : ℕ) (which : LogClause) → IsLogClause net log n which → named_clause_true (opened value) (log_clause net log n which) ≡ true
+all_open value net log n (chain_closed e k t) h = refl
+all_open value net log n (takes_rest i e k t) h = refl
+all_open value net log n (uses_up i e k t) h = refl
+all_open value net log n (passes_on e zero t) h = itself (value (happens e (suc t)))
+all_open value net log n (passes_on e (suc k) t) h = itself (value (happens e (suc t)))
+all_open value net log n (taken_or_passed i e zero t) h = passed (value (happens e (suc t)))
+all_open value net log n (taken_or_passed i e (suc k) t) h = passed (value (happens e (suc t)))
+all_open value net log n (not_done_first i) h = refl
+all_open value net log n (stays_done i t) h = refl
+all_open value net log n (match_is_done i e t) h = refl
+all_open value net log n (matched_once i e t) h = refl
+all_open value net log n (match_is_real i e t) h = refl
+all_open value net log n (done_by_match i t) h = refl
+all_open value net log n (one_match i t (two a b x y)) (known, step, (few, less, at_a, at_b)) = first_fails (opened value x) (not (opened value y) || false) (none_matched value i (suc t) (matching_events net log i) a x at_a)
+all_open value net log n (one_match i t (opens a x)) (known, step, (long, below, at)) = first_fails (opened value x) false (none_matched value i (suc t) (matching_events net log i) a x at)
+all_open value net log n (one_match i t (goes_on a)) h = refl
+all_open value net log n (one_match i t (shuts_out a x)) (known, step, (long, at)) = first_fails (opened value x) (not false || false) (none_matched value i (suc t) (matching_events net log i) (suc a) x at)
+all_open value net log n (done_if_asked i) h = refl
+all_open value net log n (before_if_asked i j t) h = refl
 
 differs : (value : Name → Bool) → DifferInLog value (opened value)
 differs value (in_state c q t) h = refl
@@ -45,7 +59,9 @@ differs value (unmatched e k t) h = cc
 differs value (closed e k) h = cc
 differs value (dropped i) h = cc
 differs value (reaches i j) h = refl
-differs value (some_of_first family i) h = refl
+differs value (some_of_first (of_states c t) k) h = refl
+differs value (some_of_first (of_events t g) k) h = refl
+differs value (some_of_first (of_matches i t) k) h = cc
 
 pub log_is_open : LogIsOpen
-log_is_open value = (differs value, λ net log n which. all_open value net log n which)
+log_is_open value = (differs value, λ net log n which h. all_open value net log n which h)

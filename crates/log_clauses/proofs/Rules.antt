@@ -3,18 +3,20 @@ use Rattle.std.proofs.Common.{◌≡◌, ℕ, zero, suc, ◌+◌, ◌-◌, ◌<�
 use Rattle.std.specs.Prelude.{bytes_eq, IsSomeAnd}
 use Rattle.std.specs.Option.{option_map_or}
 use Rattle.std.specs.List.{AllByRecursion, list_any}
-use Rattle.std.proofs.lemmas.Bool.{cases_lt}
-use Rattle.std.proofs.lemmas.Option.{slice_get_within, slice_get_past}
+use Rattle.std.proofs.lemmas.Bool.{cases_lt, cases_order}
+use Rattle.std.proofs.lemmas.Option.{slice_get_within, slice_get_past, slice_get-map}
 use Rattle.std.proofs.lemmas.Slice.Eq.{bytes_eq-Decides}
 use Rattle.std.proofs.lemmas.List.{get_or_past}
+use Rattle.card_counter.proofs.Exclusions.{exclusion_is_sound}
+use Rattle.card_counter.specs.Exclusions.{AtMostOneOf}
 use Rattle.des_net.specs.Network.{Net, Event, label_of, no_event}
 use Rattle.log_clauses.proofs.Lists.{clash, as_false, both, and_true, or_cases, cons_cases, here_first, here_later, none_in_nil, got_contains, contains_got, got_at, filter_has, filter_from, range_has}
-use Rattle.log_clauses.specs.LogClauses.{chain, IsLink, chain_closed, takes_rest, uses_up, passes_on, taken_or_passed, not_done_first, stays_done, match_is_done, matched_once, done_by_match, one_match, done_if_asked, before_if_asked, matching_events, match_is_real, or_false}
+use Rattle.log_clauses.specs.LogClauses.{chain, IsLink, chain_closed, takes_rest, uses_up, passes_on, taken_or_passed, not_done_first, stays_done, match_is_done, matched_once, done_by_match, one_match, done_if_asked, before_if_asked, matching_events, match_inputs, match_is_real, or_false}
 use Rattle.log_clauses.specs.Decoded.{is_false, comes}
 use Rattle.log_clauses.specs.LogTruth.{LogClausesHold, GuardsHold}
 use Rattle.log_order.specs.Log.{Log, Alarm, labels_of, is_doubtful}
 use Rattle.prop_core.specs.NamedClauses.{named_true}
-use Rattle.prop_core.specs.VariableNames.{Name, NamedLiteral, yes, happens, asked, matches, done, closed, dropped, remaining}
+use Rattle.prop_core.specs.VariableNames.{Name, NamedLiteral, yes, happens, asked, matches, done, closed, dropped, remaining, of_matches}
 use Rattle.replay.specs.Explanation.{Shows}
 use Rattle.replay.specs.Matching.{has_label}
 use Rattle.replay.specs.QuestionSize.{is_matching}
@@ -140,6 +142,13 @@ has_event net log e i h =
 
 pub event_matches : (net : Net) (log : Log) (e i : ℕ) → Contains (matching_events net log i) e → is_matching net log e i ≡ true
 event_matches net log e i in' = (filter_from (λ f. is_matching net log f i) (numbers_below (length net.events)) e in').0
+
+-- where an element stands, and what becomes of it
+pub place_of : {X Y : Type 0} (f : X → Y) (xs : List X) (x : X) → Contains xs x → (k : ℕ) × (slice_get xs k ≡ Some x) × (slice_get (map f xs) k ≡ Some (f x))
+place_of f xs x in' = let got = contains_got xs x in' in (got.0, got.1, slice_get-map f xs got.0 ∙ ap (option_map f) got.1)
+
+one_there : (xs : List ℕ) (j k x y : ℕ) → j ≡ k → slice_get xs j ≡ Some x → slice_get xs k ≡ Some y → x ≡ y
+one_there xs j k x y same at_j at_k = let both : Some x ≡ Some y = sym at_j ∙ ap (slice_get xs) same ∙ at_k in cc
 
 module _ (net : Net) (log : Log) (n : ℕ) (value : Name → Bool) (held : LogClausesHold net log n value) where
   -- what holds further down a chain holds further up
@@ -300,12 +309,21 @@ module _ (net : Net) (log : Log) (n : ℕ) (value : Name → Bool) (held : LogCl
 
   -- and one event there
   pub one_event : (i e f t : ℕ) → is_matching net log e i ≡ true → is_matching net log f i ≡ true → t < n → value (matches i e (suc t)) ≡ true → value (matches i f (suc t)) ≡ true → e ≡ f
-  one_event i e f t first second step here there = by (cases_lt e f) (cases_lt f e)
+  one_event i e f t first second step here there = by (cases_order at_e.0 at_f.0)
     where
-      by : (e < f) ⊎ (f ≤ e) → (f < e) ⊎ (e ≤ f) → e ≡ f
-      by (inl less) other = absurd (neither (value (matches i e (suc t))) (value (matches i f (suc t))) (held (one_match i e f t) (first, second, less, step)) here there)
-      by (inr h) (inl less) = absurd (neither (value (matches i f (suc t))) (value (matches i e (suc t))) (held (one_match i f e t) (second, first, less, step)) there here)
-      by (inr h) (inr k) = omega arith
+      sound : AtMostOneOf value (match_inputs net log i (suc t))
+      sound = exclusion_is_sound value (of_matches i (suc t)) (match_inputs net log i (suc t)) (λ which is. held (one_match i t which) (matching_alarm net log e i first, step, is))
+
+      at_e : (k : ℕ) × (slice_get (matching_events net log i) k ≡ Some e) × (slice_get (match_inputs net log i (suc t)) k ≡ Some (matches i e (suc t)))
+      at_e = place_of (λ g. matches i g (suc t)) (matching_events net log i) e (has_event net log e i first)
+
+      at_f : (k : ℕ) × (slice_get (matching_events net log i) k ≡ Some f) × (slice_get (match_inputs net log i (suc t)) k ≡ Some (matches i f (suc t)))
+      at_f = place_of (λ g. matches i g (suc t)) (matching_events net log i) f (has_event net log f i second)
+
+      by : (at_e.0 ≡ at_f.0) ⊎ ((at_e.0 < at_f.0) ⊎ (at_f.0 < at_e.0)) → e ≡ f
+      by (inl same) = one_there (matching_events net log i) at_e.0 at_f.0 e f same at_e.1 at_f.1
+      by (inr (inl less)) = absurd (sound at_e.0 at_f.0 (matches i e (suc t)) (matches i f (suc t)) less at_e.2 at_f.2 here there)
+      by (inr (inr more)) = absurd (sound at_f.0 at_e.0 (matches i f (suc t)) (matches i e (suc t)) more at_f.2 at_e.2 there here)
 
   module _ (guards : GuardsHold net log value) where
     pub each_comes : (i : ℕ) → i < length log.alarms → (t : ℕ) × (t ≤ n) × (comes value i t ≡ true)

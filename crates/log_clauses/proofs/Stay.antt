@@ -6,8 +6,9 @@ use Rattle.std.specs.List.{AllByRecursion, list_any, range_with_len}
 use Rattle.std.proofs.lemmas.List.Elements.{filter-append}
 use Rattle.des_net.specs.Network.{Net, label_of}
 use Rattle.log_clauses.proofs.Rules.{matching_alarm}
-use Rattle.log_clauses.specs.LogClauses.{chain, doubtful_alarms, matching_events, LogClause, IsLogClause, IsLink, log_clause, chain_closed, takes_rest, uses_up, passes_on, taken_or_passed, not_done_first, stays_done, match_is_done, matched_once, match_is_real, done_by_match, one_match, done_if_asked, before_if_asked, or_false}
+use Rattle.log_clauses.specs.LogClauses.{chain, doubtful_alarms, match_inputs, matching_events, LogClause, IsLogClause, IsLink, log_clause, chain_closed, takes_rest, uses_up, passes_on, taken_or_passed, not_done_first, stays_done, match_is_done, matched_once, match_is_real, done_by_match, one_match, done_if_asked, before_if_asked, or_false}
 use Rattle.log_order.specs.Log.{Log, Alarm, is_doubtful}
+use Rattle.card_counter.specs.Exclusions.{IsExclusionClause}
 use Rattle.prop_core.specs.VariableNames.{NamedLiteral, yes, no, matches, done, dropped}
 use Rattle.replay.specs.QuestionSize.{is_matching}
 use Rattle.run_clauses.specs.StepClauses.{numbers_below}
@@ -84,6 +85,14 @@ chain_grows net log new e = let more = chain_more net log new e in rw more.1 (om
 pub alarms_grow : (log : Log) (new : Alarm) (i : ℕ) → i < length log.alarms → i < length (log.alarms ++ new ∷ [])
 alarms_grow log new i h = omega (arith, length-append log.alarms (new ∷ []))
 
+pub all_range : (m : ℕ) (p q : ℕ → Bool) → ((x : ℕ) → p x ≡ q x) → filter p (numbers_below m) ≡ filter q (numbers_below m)
+all_range m p q same = filter_same p q m (range_with_len 0 m) (λ x h. same x) (subst (λ k. AllByRecursion (λ x. x < k) (range_with_len 0 m)) (omega arith) (range_below 0 m))
+
+-- an alarm that was there before has the matches that it had
+pub inputs_same : (net : Net) (log : Log) (new : Alarm) (i t : ℕ) → i < length log.alarms → match_inputs net log i t ≡ match_inputs net (with_alarm log new) i t
+inputs_same net log new i t h =
+    ap (map (λ e. matches i e t)) (sym (all_range (length net.events) (λ e. is_matching net (with_alarm log new) e i) (λ e. is_matching net log e i) (λ e. matching_same net log new e i h)))
+
 pub known_stays : (net : Net) (log : Log) (n : ℕ) (new : Alarm) (which : LogClause) → IsLogClause net log n which → IsLogClause net (with_alarm log new) n which
 known_stays net log n new (chain_closed e k t) h = let grows = chain_grows net log new e in (h.0, omega (arith, h.1, grows), h.2)
 known_stays net log n new (takes_rest i e k t) h = (link_stays net log new i e k h.0, h.1)
@@ -96,12 +105,9 @@ known_stays net log n new (match_is_done i e t) h = (matching_stays net log new 
 known_stays net log n new (matched_once i e t) h = (matching_stays net log new e i h.0, h.1)
 known_stays net log n new (match_is_real i e t) h = (matching_stays net log new e i h.0, doubtful_same log new i (matching_alarm net log e i h.0) ∙ h.1, h.2)
 known_stays net log n new (done_by_match i t) h = (alarms_grow log new i h.0, h.1)
-known_stays net log n new (one_match i e f t) h = (matching_stays net log new e i h.0, matching_stays net log new f i h.1, h.2, h.3)
+known_stays net log n new (one_match i t which) h = (alarms_grow log new i h.0, h.1, subst (λ xs. IsExclusionClause xs which) (inputs_same net log new i (suc t) h.0) h.2)
 known_stays net log n new (done_if_asked i) h = alarms_grow log new i h
 known_stays net log n new (before_if_asked i j t) h = h
-
-pub all_range : (m : ℕ) (p q : ℕ → Bool) → ((x : ℕ) → p x ≡ q x) → filter p (numbers_below m) ≡ filter q (numbers_below m)
-all_range m p q same = filter_same p q m (range_with_len 0 m) (λ x h. same x) (subst (λ k. AllByRecursion (λ x. x < k) (range_with_len 0 m)) (omega arith) (range_below 0 m))
 
 or_false_same : (log : Log) (new : Alarm) (i : ℕ) → i < length log.alarms → (literals : List NamedLiteral) → or_false log i literals ≡ or_false (with_alarm log new) i literals
 or_false_same log new i h literals = ap (λ b. cond b (yes (dropped i) ∷ literals) literals) (sym (doubtful_same log new i h))
@@ -121,6 +127,6 @@ clause_same net log n new (done_by_match i t) h =
     ap (λ ls. no (done i (suc t)) ∷ yes (done i t) ∷ ls) (or_false_same log new i h.0 (map (λ e. yes (matches i e (suc t))) (matching_events net log i)))
     ∙ ap (λ es. no (done i (suc t)) ∷ yes (done i t) ∷ or_false (with_alarm log new) i (map (λ e. yes (matches i e (suc t))) es))
     (sym (all_range (length net.events) (λ e. is_matching net (with_alarm log new) e i) (λ e. is_matching net log e i) (λ e. matching_same net log new e i h.0)))
-clause_same net log n new (one_match i e f t) h = refl
+clause_same net log n new (one_match i t which) h = refl
 clause_same net log n new (done_if_asked i) h = refl
 clause_same net log n new (before_if_asked i j t) h = refl

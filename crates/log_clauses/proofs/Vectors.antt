@@ -14,6 +14,7 @@ use Rattle.des_net.specs.Width.{joined}
 use Rattle.replay.specs.Deciding.{explains}
 use Rattle.replay.specs.Explanation.{Entry}
 use Rattle.prop_core.specs.NamedClauses.{named_true, named_clause_true}
+use Rattle.card_counter.specs.Exclusions.{two}
 use Rattle.prop_core.specs.VariableNames.{Name, in_state, happens, asked, matches, done, unmatched, closed, dropped, reaches, some_of_first, yes, no}
 use Rattle.std.specs.Prelude.{Some, None}
 
@@ -166,7 +167,7 @@ matched_twice = refl
 abbrev for_two : Name → Bool
 for_two = coded pump beats ((1 ∷ 3 ∷ []) ∷ []) ([] ∷ all_true (0 ∷ 0 ∷ []) ∷ []) both
 
-pub two_events : named_clause_true for_two (log_clause pump beats 1 (one_match 0 1 3 0)) ≡ false
+pub two_events : named_clause_true for_two (log_clause pump beats 1 (one_match 0 0 (two 0 1 (matches 0 1 1) (matches 0 3 1)))) ≡ false
 two_events = refl
 
 -- ---- a false alarm: y before z before x, where z is doubtful and no event shows it

@@ -2,7 +2,8 @@
 use Rattle.std.specs.Prelude.{◌≡◌, ℕ, suc, ◌<◌, ◌≤◌, List, [], ◌∷◌, ◌++◌, length, IsTrue, is_some}
 use Rattle.des_net.specs.Network.{Net, label_of}
 use Rattle.log_order.specs.Log.{Log, Alarm}
-use Rattle.log_clauses.specs.LogClauses.{chain, LogClause, chain_closed, takes_rest, uses_up, passes_on, taken_or_passed, not_done_first, stays_done, match_is_done, matched_once, match_is_real, done_by_match, one_match, done_if_asked, before_if_asked}
+use Rattle.log_clauses.specs.LogClauses.{chain, match_inputs, LogClause, chain_closed, takes_rest, uses_up, passes_on, taken_or_passed, not_done_first, stays_done, match_is_done, matched_once, match_is_real, done_by_match, one_match, done_if_asked, before_if_asked}
+use Rattle.card_counter.specs.Exclusions.{IsExclusionClause}
 use Rattle.replay.specs.QuestionSize.{is_matching}
 
 -- one alarm at the end, or one pair
@@ -40,7 +41,7 @@ IsAlarmClause net log n new (match_is_done i e t) = (i ≡ length log.alarms) ×
 IsAlarmClause net log n new (matched_once i e t) = (i ≡ length log.alarms) × IsTaken net log new e × (t < n)
 IsAlarmClause net log n new (match_is_real i e t) = (i ≡ length log.alarms) × IsTaken net log new e × IsTrue new.doubtful × (t < n)
 IsAlarmClause net log n new (done_by_match i t) = (i ≡ length log.alarms) × (t < n)
-IsAlarmClause net log n new (one_match i e f t) = (i ≡ length log.alarms) × IsTaken net log new e × IsTaken net log new f × (e < f) × (t < n)
+IsAlarmClause net log n new (one_match i t which) = (i ≡ length log.alarms) × (t < n) × IsExclusionClause (match_inputs net (with_addition log (alarm_added new)) i (suc t)) which
 IsAlarmClause net log n new (done_if_asked i) = i ≡ length log.alarms
 IsAlarmClause net log n new (before_if_asked i j t) = ⊥
 

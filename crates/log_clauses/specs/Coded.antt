@@ -4,8 +4,8 @@ use Rattle.std.specs.List.{list_any}
 use Rattle.des_net.specs.Network.{Net}
 use Rattle.des_net.specs.Width.{joined}
 use Rattle.log_order.specs.Log.{Log}
-use Rattle.log_clauses.specs.LogClauses.{chain}
-use Rattle.prop_core.specs.VariableNames.{Name, in_state, happens, asked, matches, done, unmatched, closed, dropped, reaches, some_of_first}
+use Rattle.log_clauses.specs.LogClauses.{chain, matching_events}
+use Rattle.prop_core.specs.VariableNames.{Name, in_state, happens, asked, matches, done, unmatched, closed, dropped, reaches, some_of_first, of_states, of_events, of_matches}
 use Rattle.replay.specs.Explanation.{observables, Entry, alarms_of, real_alarms}
 
 -- Nothing is asked for, no chain is closed, and no alarm stands for an event: each event that happens is passed on.
@@ -19,7 +19,9 @@ opened value (unmatched e k t) = value (happens e t)
 opened value (closed e k) = false
 opened value (dropped i) = false
 opened value (reaches i j) = value (reaches i j)
-opened value (some_of_first family i) = value (some_of_first family i)
+opened value (some_of_first (of_states c t) k) = value (some_of_first (of_states c t) k)
+opened value (some_of_first (of_events t g) k) = value (some_of_first (of_events t g) k)
+opened value (some_of_first (of_matches i t) k) = false
 
 -- e and i stand at one place of two lists
 abbrev pub is_paired : ℕ → ℕ → List ℕ → List ℕ → Bool
@@ -48,4 +50,6 @@ coded net log pieces blocks value (unmatched e k t) =
 coded net log pieces blocks value (closed e k) = k == length (chain net log e)
 coded net log pieces blocks value (dropped i) = is_dropped (flat_map (λ block. block) blocks) i
 coded net log pieces blocks value (reaches i j) = value (reaches i j)
-coded net log pieces blocks value (some_of_first family i) = value (some_of_first family i)
+coded net log pieces blocks value (some_of_first (of_states c t) k) = value (some_of_first (of_states c t) k)
+coded net log pieces blocks value (some_of_first (of_events t g) k) = value (some_of_first (of_events t g) k)
+coded net log pieces blocks value (some_of_first (of_matches i t) k) = list_any (λ e. stands net pieces blocks i e t) (take k (matching_events net log i))

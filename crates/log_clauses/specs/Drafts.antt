@@ -9,7 +9,8 @@ use Rattle.log_clauses.specs.LogClauses.{chain, matching_events, observable_even
 use Rattle.log_clauses.specs.LogCodes.{IsNamedAdded, IsNamedFirst}
 use Rattle.prop_core.specs.Clauses.{Clause}
 use Rattle.prop_core.specs.NamedClauses.{IsCode}
-use Rattle.prop_core.specs.VariableNames.{Name, ReadsAs}
+use Rattle.card_counter.specs.Exclusions.{exclusion_list}
+use Rattle.prop_core.specs.VariableNames.{Name, matches, ReadsAs}
 use Rattle.replay.specs.QuestionSize.{question_size}
 use Rattle.run_clauses.specs.StepClauses.{numbers_below}
 
@@ -22,10 +23,9 @@ abbrev pub link_clauses : ℕ → ℕ → ℕ → ℕ → List LogClause
 link_clauses i e k t = chain_closed e (suc k) t ∷ takes_rest i e k t ∷ uses_up i e k t ∷ passes_on e k t ∷ taken_or_passed i e k t
     ∷ match_is_done i e t ∷ matched_once i e t ∷ []
 
--- no two of these events for alarm i in the step after t steps
+-- at most one of these events for alarm i in the step after t steps
 abbrev pub match_clauses : ℕ → ℕ → List ℕ → List LogClause
-match_clauses i t [] = []
-match_clauses i t (e ∷ events) = map (λ f. one_match i e f t) events ++ match_clauses i t events
+match_clauses i t events = map (one_match i t) (exclusion_list (map (λ e. matches i e (suc t)) events))
 
 -- of alarm i, which may stand for these events, and the step after t steps
 abbrev pub done_clauses : ℕ → List ℕ → ℕ → List LogClause

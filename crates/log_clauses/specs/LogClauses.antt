@@ -3,7 +3,8 @@
 use Rattle.std.specs.Prelude.{◌≡◌, ℕ, suc, ◌<◌, ◌≤◌, List, [], ◌∷◌, map, filter, length, if◌then◌else◌, Some, slice_get, is_some, Contains, IsTrue}
 use Rattle.des_net.specs.Network.{Net, label_of}
 use Rattle.log_order.specs.Log.{Log, is_doubtful}
-use Rattle.prop_core.specs.VariableNames.{NamedLiteral, yes, no, asked, matches, done, closed, dropped, remaining}
+use Rattle.card_counter.specs.Exclusions.{ExclusionClause, exclusion_clause, IsExclusionClause}
+use Rattle.prop_core.specs.VariableNames.{Name, NamedLiteral, yes, no, asked, matches, done, closed, dropped, remaining, of_matches}
 use Rattle.replay.specs.QuestionSize.{is_matching}
 use Rattle.run_clauses.specs.StepClauses.{numbers_below}
 
@@ -14,6 +15,10 @@ chain net log e = filter (is_matching net log e) (numbers_below (length log.alar
 -- the events that alarm i may stand for, by number
 abbrev pub matching_events : Net → Log → ℕ → List ℕ
 matching_events net log i = filter (λ e. is_matching net log e i) (numbers_below (length net.events))
+
+-- of what at most one is so: that alarm i stands for one of these events in step t, counted from 1
+abbrev pub match_inputs : Net → Log → ℕ → ℕ → List Name
+match_inputs net log i t = map (λ e. matches i e t) (matching_events net log i)
 
 -- the events that can be seen, by number
 abbrev pub observable_events : Net → List ℕ
@@ -36,7 +41,7 @@ pub data LogClause : Type 0 where
   matched_once : (i e t : ℕ) → LogClause
   match_is_real : (i e t : ℕ) → LogClause
   done_by_match : (i t : ℕ) → LogClause
-  one_match : (i e f t : ℕ) → LogClause
+  one_match : (i t : ℕ) → ExclusionClause → LogClause
   done_if_asked : (i : ℕ) → LogClause
   before_if_asked : (i j t : ℕ) → LogClause
 
@@ -62,7 +67,7 @@ log_clause net log n (match_is_done i e t) = no (matches i e (suc t)) ∷ yes (d
 log_clause net log n (matched_once i e t) = no (matches i e (suc t)) ∷ no (done i t) ∷ []
 log_clause net log n (match_is_real i e t) = no (matches i e (suc t)) ∷ no (dropped i) ∷ []
 log_clause net log n (done_by_match i t) = no (done i (suc t)) ∷ yes (done i t) ∷ or_false log i (map (λ e. yes (matches i e (suc t))) (matching_events net log i))
-log_clause net log n (one_match i e f t) = no (matches i e (suc t)) ∷ no (matches i f (suc t)) ∷ []
+log_clause net log n (one_match i t which) = exclusion_clause (of_matches i (suc t)) which
 -- Where the log is asked for, each alarm is done at the end, and the first of a pair no later than the second.
 log_clause net log n (done_if_asked i) = no asked ∷ yes (done i n) ∷ []
 log_clause net log n (before_if_asked i j t) = no asked ∷ no (done j t) ∷ yes (done i t) ∷ []
@@ -84,7 +89,7 @@ IsLogClause net log n (match_is_done i e t) = IsTrue (is_matching net log e i) �
 IsLogClause net log n (matched_once i e t) = IsTrue (is_matching net log e i) × (t < n)
 IsLogClause net log n (match_is_real i e t) = IsTrue (is_matching net log e i) × IsTrue (is_doubtful log i) × (t < n)
 IsLogClause net log n (done_by_match i t) = (i < length log.alarms) × (t < n)
-IsLogClause net log n (one_match i e f t) = IsTrue (is_matching net log e i) × IsTrue (is_matching net log f i) × (e < f) × (t < n)
+IsLogClause net log n (one_match i t which) = (i < length log.alarms) × (t < n) × IsExclusionClause (match_inputs net log i (suc t)) which
 IsLogClause net log n (done_if_asked i) = i < length log.alarms
 IsLogClause net log n (before_if_asked i j t) = Contains log.pairs (i, j) × (t ≤ n)
 

@@ -18,7 +18,7 @@ use Rattle.run_clauses.specs.Steps.{AreSteps}
 abbrev pub LogIsOpen : Type 0
 LogIsOpen = (value : Name → Bool) →
     DifferInLog value (opened value)
-    × ((net : Net) (log : Log) (n : ℕ) (which : LogClause) → IsTrue (named_clause_true (opened value) (log_clause net log n which)))
+    × ((net : Net) (log : Log) (n : ℕ) → LogClausesHold net log n (opened value))
 
 -- by a truth of names as many doubtful alarms are false as in an order
 abbrev pub HasFalse : Log → (Name → Bool) → List Entry → Type 0

@@ -7,12 +7,13 @@ use Rattle.des_net.specs.QuestionSize.{observable_count}
 use Rattle.log_order.specs.Log.{Log, Alarm, no_log, is_doubtful}
 use Rattle.log_clauses.specs.Additions.{Addition, alarm_added, pair_added, with_addition}
 use Rattle.log_clauses.specs.Drafts.{taken_events}
-use Rattle.log_clauses.specs.LogClauses.{chain, observable_events}
+use Rattle.log_clauses.specs.LogClauses.{chain, matching_events, observable_events}
 use Rattle.prop_core.specs.Clauses.{Clause}
-use Rattle.prop_core.specs.VariableNames.{Name, in_state, happens, asked, matches, done, unmatched, closed, dropped, reaches, some_of_first, NamedLiteral, HasEachOnce, name_of, ReadsAs}
+use Rattle.prop_core.specs.VariableNames.{Name, in_state, happens, asked, matches, done, unmatched, closed, dropped, reaches, some_of_first, of_states, of_events, of_matches, NamedLiteral, HasEachOnce, name_of, ReadsAs}
 use Rattle.prop_core.specs.declared.lit.Lit.{Lit}
 use Rattle.replay.specs.QuestionSize.{is_matching, variable_bound}
-use Rattle.run_clauses.specs.LaidOut.{laid_out}
+use Rattle.card_counter.specs.AtMostOne.{chain_count, IsNamedChain}
+use Rattle.run_clauses.specs.LaidOut.{laid_out, chain_names}
 use Rattle.run_clauses.specs.StepClauses.{numbers_below}
 
 -- t is the number of one of n steps, counted from 1
@@ -30,7 +31,9 @@ IsLogName net log n (unmatched e k t) = (1 ≤ k) × (k ≤ length (chain net lo
 IsLogName net log n (closed e k) = IsTrue (is_some (label_of net e)) × (k ≤ length (chain net log e))
 IsLogName net log n (dropped i) = IsTrue (is_doubtful log i)
 IsLogName net log n (reaches i j) = ⊥
-IsLogName net log n (some_of_first family i) = ⊥
+IsLogName net log n (some_of_first (of_states c t) k) = ⊥
+IsLogName net log n (some_of_first (of_events t g) k) = ⊥
+IsLogName net log n (some_of_first (of_matches i t) k) = (i < length log.alarms) × IsStepNumber n t × (1 ≤ k) × (k ≤ chain_count (length (matching_events net log i)))
 
 -- what alarm i brings for event e, whose chain had k alarms: the end of the longer chain, and then the match and what is passed on, step by step
 abbrev pub link_names : ℕ → ℕ → ℕ → ℕ → List Name
@@ -42,13 +45,18 @@ alarm_names net log n new =
     flat_map (λ e. link_names n (length log.alarms) e (length (chain net log e))) (taken_events net log new)
     ++ map (λ t. done (length log.alarms) t) (numbers_below (suc n))
 
+-- the chains over its matches, of which there may be m in a step, step by step
+abbrev pub match_chains : ℕ → ℕ → ℕ → List Name
+match_chains n i m = flat_map (λ t. chain_names (of_matches i (suc t)) m) (numbers_below n)
+
 -- where it is doubtful, whether it is false
 abbrev pub false_names : Bool → ℕ → List Name
 false_names doubtful i = if doubtful then dropped i ∷ [] else []
 
 -- the new names of an addition
 abbrev pub added_names : Net → Log → ℕ → Addition → List Name
-added_names net log n (alarm_added new) = alarm_names net log n new ++ false_names new.doubtful (length log.alarms)
+added_names net log n (alarm_added new) =
+    alarm_names net log n new ++ (match_chains n (length log.alarms) (length (taken_events net log new)) ++ false_names new.doubtful (length log.alarms))
 added_names net log n (pair_added i j) = []
 
 -- the names of the empty log
@@ -98,7 +106,7 @@ abbrev pub NamesGrow : Type 0
 NamesGrow = (net : Net) (log : Log) (n first : ℕ) (addition : Addition) (names : List (ℕ × Name)) → AreLogNames net log n first names →
     AreLogNames net (with_addition log addition) n (first + length (added_names net log n addition)) (with_added net log n addition names first)
 
--- Where the names of a new alarm stand: a link of each event that it may stand for, one after another, then when it is done, and at the end, where it is doubtful, whether it is false.
+-- Where the names of a new alarm stand: a link of each event that it may stand for, one after another, then when it is done, then the chains over its matches, and at the end, where it is doubtful, whether it is false.
 pub record HasPlaces (net : Net) (log : Log) (n first : ℕ) (new : Alarm) (names : List (ℕ × Name)) : Type 0 where
   pub closing : (p e : ℕ) → slice_get (taken_events net log new) p ≡ Some e →
       name_of names (first + p * (1 + n * 2)) ≡ Some (closed e (suc (length (chain net log e))))
@@ -107,7 +115,10 @@ pub record HasPlaces (net : Net) (log : Log) (n first : ℕ) (new : Alarm) (name
   pub passing : (p e t : ℕ) → slice_get (taken_events net log new) p ≡ Some e → t < n →
       name_of names (first + (p * (1 + n * 2) + suc (t * 2 + 1))) ≡ Some (unmatched e (suc (length (chain net log e))) (suc t))
   pub being_done : (t : ℕ) → t ≤ n → name_of names (first + (length (taken_events net log new) * (1 + n * 2) + t)) ≡ Some (done (length log.alarms) t)
-  pub being_false : new.doubtful ≡ true → name_of names (first + (length (taken_events net log new) * (1 + n * 2) + suc n)) ≡ Some (dropped (length log.alarms))
+  pub chaining : (t : ℕ) → t < n → IsNamedChain names (of_matches (length log.alarms) (suc t))
+      (first + (length (taken_events net log new) * (1 + n * 2) + (suc n + t * chain_count (length (taken_events net log new))))) (chain_count (length (taken_events net log new)))
+  pub being_false : new.doubtful ≡ true →
+      name_of names (first + (length (taken_events net log new) * (1 + n * 2) + (suc n + n * chain_count (length (taken_events net log new))))) ≡ Some (dropped (length log.alarms))
 
 abbrev pub PlacesOfNames : Type 0
 PlacesOfNames = (net : Net) (log : Log) (n first : ℕ) (new : Alarm) (names : List (ℕ × Name)) → AreLogNames net log n first names →

@@ -1,12 +1,12 @@
 -- When names by their truth make the clauses of a log true, and its guards.
-use Rattle.std.specs.Prelude.{◌≡◌, ℕ, Bool, true, false, ◌||◌, IsTrue}
+use Rattle.std.specs.Prelude.{◌≡◌, ℕ, Bool, true, false, not, ◌||◌, IsTrue}
 use Rattle.std.specs.List.{AllByRecursion}
 use Rattle.des_net.specs.Network.{Net}
 use Rattle.log_order.specs.Log.{Log}
 use Rattle.log_clauses.specs.LogClauses.{LogClause, log_clause, IsLogClause, guard_literals}
 use Rattle.prop_core.specs.NamedClauses.{named_true, named_clause_true}
 use Rattle.prop_core.specs.VariableNames.{Name, in_state, happens, asked, matches, done, unmatched, closed, dropped, reaches, some_of_first}
-use Rattle.run_clauses.specs.Steps.{is_event}
+use Rattle.run_clauses.specs.Steps.{is_event, is_of_steps}
 
 -- each clause of the log is true
 abbrev pub LogClausesHold : Net → Log → ℕ → (Name → Bool) → Type 0
@@ -27,7 +27,7 @@ is_of_log (unmatched e k t) = true
 is_of_log (closed e k) = true
 is_of_log (dropped i) = true
 is_of_log (reaches i j) = false
-is_of_log (some_of_first family i) = false
+is_of_log (some_of_first family i) = not (is_of_steps family)
 
 -- the same truth for all names but those of a log
 abbrev pub DifferInLog : (Name → Bool) → (Name → Bool) → Type 0

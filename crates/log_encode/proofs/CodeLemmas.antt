@@ -5,7 +5,7 @@ use Rattle.des_base.specs.declared.TheConstants.{VAR_LIMIT}
 use Rattle.des_net.specs.Network.{Net}
 use Rattle.log_order.specs.Log.{Log, Alarm, no_log, is_doubtful}
 use Rattle.log_clauses.specs.Additions.{Addition, alarm_added, pair_added, with_addition}
-use Rattle.log_clauses.specs.LogNames.{added_names, first_names, link_names, alarm_names, false_names, AreLogNames}
+use Rattle.log_clauses.specs.LogNames.{added_names, first_names, link_names, alarm_names, match_chains, false_names, AreLogNames}
 use Rattle.log_clauses.specs.Drafts.{taken_events}
 use Rattle.log_clauses.specs.LogClauses.{chain, doubtful_alarms}
 use Rattle.log_clauses.proofs.Stay.{doubtful_new, doubtful_is}
@@ -94,7 +94,7 @@ still_each code (pair_added i j) first is = is.each
 -- a new alarm has a variable
 width_positive : (code : CodedLog) (new : Alarm) → 1 ≤ addition_width code (alarm_added new)
 width_positive code new =
-    omega (arith, length-append (alarm_names code.net code.log code.grid.steps new) (false_names new.doubtful (length code.log.alarms)), length-append (flat_map (λ e. link_names code.grid.steps (length code.log.alarms) e (length (chain code.net code.log e))) (taken_events code.net code.log new)) (map (λ t. done (length code.log.alarms) t) (numbers_below (suc code.grid.steps))))
+    omega (arith, length-append (alarm_names code.net code.log code.grid.steps new) (match_chains code.grid.steps (length code.log.alarms) (length (taken_events code.net code.log new)) ++ false_names new.doubtful (length code.log.alarms)), length-append (flat_map (λ e. link_names code.grid.steps (length code.log.alarms) e (length (chain code.net code.log e))) (taken_events code.net code.log new)) (map (λ t. done (length code.log.alarms) t) (numbers_below (suc code.grid.steps))))
 
 still_fewer : (code : CodedLog) (addition : Addition) (first : ℕ) → IsCodedLog code → code.vars ≤ first → length (code_after code addition first).log.alarms ≤ first + addition_width code addition
 still_fewer code (alarm_added new) first is above = omega (arith, length-append code.log.alarms (new ∷ []), width_positive code new, is.alarms, above)

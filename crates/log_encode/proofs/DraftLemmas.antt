@@ -1,7 +1,7 @@
 -- What is drafted is the code of the addition, and what is written at first that of the empty log.
 use Rattle.std.proofs.Common.{◌≡◌, ◌↔◌, ◌⊎◌, inl, inr, ℕ, zero, suc, ◌+◌, ◌*◌, ◌<◌, ◌≤◌, ◌∙◌, Bool, true, false, List, [], ◌∷◌, ◌++◌, length, map, flat_map, filter, Option, Some, None, refl, sym, ap, subst, arith, slice_get, Contains, length-append, append_assoc}
 use Rattle.std.specs.List.{AllByRecursion, AllZip, range_with_len}
-use Rattle.card_counter.specs.AtMostOne.{excluded_pairs}
+use Rattle.card_counter.specs.AtMostOne.{chain_count}
 use Rattle.des_net.specs.Network.{Net}
 use Rattle.log_order.specs.Log.{Log, Alarm, no_log}
 use Rattle.log_clauses.specs.Additions.{alarm_added, pair_added, with_addition}
@@ -16,8 +16,7 @@ use Rattle.log_clauses.proofs.Stay.{doubtful_new}
 use Rattle.log_encode.proofs.GrowLemmas.{places, taken_count, get_at, new_vars}
 use Rattle.log_encode.proofs.CodeLemmas.{beside}
 use Rattle.log_encode.proofs.Naming.{named_more, named_at}
-use Rattle.log_encode.proofs.PairLists.{pairs_by_first, pairs_alike, pairs_count, same_code}
-use Rattle.log_encode.proofs.Reading.{zip_flat, zip_count, AreLinkNames, link_reads, AreAlarmNames, done_reads, real_reads, done_by_first, step_by_first, reads_two, reads_three, Reads}
+use Rattle.log_encode.proofs.Reading.{zip_flat, zip_count, AreLinkNames, link_reads, AreAlarmNames, done_reads, real_reads, reads_two, reads_three, Reads}
 use Rattle.log_encode.proofs.StayLemmas.{named_still}
 use Rattle.log_encode.proofs.TakenLemmas.{taken_are_events, taken_is_filter}
 use Rattle.log_encode.specs.AlarmVariables.{done_variable}
@@ -31,7 +30,7 @@ use Rattle.prop_core.specs.declared.grid.Grid.{Grid}
 use Rattle.prop_core.specs.Clauses.{Clause}
 use Rattle.prop_core.specs.Grids.{grid_variable}
 use Rattle.prop_core.specs.NamedClauses.{IsCode}
-use Rattle.prop_core.specs.VariableNames.{Name, name_of, asked, happens, done, dropped, closed, remaining}
+use Rattle.prop_core.specs.VariableNames.{Name, name_of, asked, happens, done, dropped, closed, remaining, some_of_first, of_matches}
 use Rattle.replay.specs.QuestionSize.{question_size}
 use Rattle.run_clauses.specs.LaidOut.{laid_out}
 use Rattle.run_clauses.specs.StepClauses.{numbers_below}
@@ -139,17 +138,17 @@ alarm_named code labels maybe first links coded grown above count =
       steps = refl;
       matching = λ p e t at time. more _ _ (there.matching p e t at time);
       being_done = λ t within. more _ _ (subst (λ k. name_of (code_names (code_after code (alarm_added (nameless labels maybe)) first)) (first + (k * (1 + code.grid.steps * 2) + t)) ≡ Some (done (length code.log.alarms) t)) count (there.being_done t within));
-      being_false = λ h. more _ _ (subst (λ k. name_of (code_names (code_after code (alarm_added (nameless labels maybe)) first)) (first + (k * (1 + code.grid.steps * 2) + suc code.grid.steps)) ≡ Some (dropped (length code.log.alarms))) count (there.being_false h));
+      chaining = λ t time k below.
+          let links : chain_count links ≡ chain_count (length (taken_events code.net code.log (nameless labels maybe))) = ap chain_count (sym count) in
+          let name = there.chaining t time k (subst (λ m. k < m) links below) in
+          more _ _ (subst (λ m. name_of (code_names (code_after code (alarm_added (nameless labels maybe)) first)) (first + (m * (1 + code.grid.steps * 2) + (suc code.grid.steps + t * chain_count m)) + k) ≡ Some (some_of_first (of_matches (length code.log.alarms) (suc t)) (suc k))) count name);
+      being_false = λ h. more _ _ (subst (λ m. name_of (code_names (code_after code (alarm_added (nameless labels maybe)) first)) (first + (m * (1 + code.grid.steps * 2) + (suc code.grid.steps + code.grid.steps * chain_count m))) ≡ Some (dropped (length code.log.alarms))) count (there.being_false h));
     }
-
--- with the pairs in the order of the list
-abbrev alarm_by_first : Grid → ℕ → AlarmVars → List Taken → List Clause
-alarm_by_first grid ask vars takes = (links_written grid vars 0 takes ++ done_by_first ask vars) ++ real_written vars
 
 alarm_listed : (code : CodedLog) (labels : List (List ℕ)) (maybe : Bool) (first : ℕ) (ends : List ChainEnd) → IsCodedLog code → IsCodedLog (code_after code (alarm_added (nameless labels maybe)) first) → code.vars ≤ first →
     map (λ (end : ChainEnd). end.event) ends ≡ observable_events code.net → AllByRecursion (λ (end : ChainEnd). end.event < code.grid.events) ends → AllByRecursion (IsChainEnd code) ends →
     AreListed code.net (with_addition code.log (alarm_added (nameless labels maybe))) code.grid.steps (read_names (code_after code (alarm_added (nameless labels maybe)) first))
-    (alarm_by_first code.grid code.asked (new_vars code first (length (taken_from code.net labels ends)) maybe) (taken_from code.net labels ends))
+    (alarm_written code.grid code.asked (new_vars code first (length (taken_from code.net labels ends)) maybe) (taken_from code.net labels ends))
     (added_clauses code.net code.log code.grid.steps (alarm_added (nameless labels maybe)))
 alarm_listed code labels maybe first ends coded grown above are known all =
     let log = with_addition code.log (alarm_added (nameless labels maybe)) in
@@ -163,73 +162,13 @@ alarm_listed code labels maybe first ends coded grown above are known all =
     (lifted (code_after code (alarm_added (nameless labels maybe)) first) code.asked asked grown (asked_named (code_after code (alarm_added (nameless labels maybe)) first))) refl (doubtful_new code.log (nameless labels maybe))
     (alarm_named code labels maybe first (length (taken_from code.net labels ends)) coded grown above count) in
     let reals = real_reads code.net log code.grid.steps names (length code.log.alarms) (taken_events code.net code.log (nameless labels maybe)) vars (alarm_named code labels maybe first (length (taken_from code.net labels ends)) coded grown above count) in
-    zip_append (Reads code.net log code.grid.steps names) (links_written code.grid vars 0 (taken_from code.net labels ends) ++ done_by_first code.asked vars) (alarm_clauses code.net code.log code.grid.steps (nameless labels maybe))
+    zip_append (Reads code.net log code.grid.steps names) (links_written code.grid vars 0 (taken_from code.net labels ends) ++ done_written code.asked vars) (alarm_clauses code.net code.log code.grid.steps (nameless labels maybe))
     (real_written vars) (real_clauses maybe (length code.log.alarms) (taken_events code.net code.log (nameless labels maybe)) code.grid.steps)
     (zip_append (Reads code.net log code.grid.steps names) (links_written code.grid vars 0 (taken_from code.net labels ends))
     (flat_map (λ e. flat_map (link_clauses (length code.log.alarms) e (length (chain code.net code.log e))) (numbers_below code.grid.steps)) (taken_events code.net code.log (nameless labels maybe)))
-    (done_by_first code.asked vars) _
+    (done_written code.asked vars) _
     (subst (λ es. AllZip (Reads code.net log code.grid.steps names) (links_written code.grid vars 0 (taken_from code.net labels ends))
     (flat_map (λ e. flat_map (link_clauses (length code.log.alarms) e (length (chain code.net code.log e))) (numbers_below code.grid.steps)) es)) (sym found) linked) finished) reals
-
--- ---- sizes, and the order of pairs
-
-flat_count : {X : Type 0} (f g : ℕ → List X) (xs : List ℕ) → ((x : ℕ) → length (f x) ≡ length (g x)) → length (flat_map f xs) ≡ length (flat_map g xs)
-flat_count f g [] same = refl
-flat_count f g (x ∷ xs) same = omega (arith, same x, flat_count f g xs same, length-append (f x) (flat_map f xs), length-append (g x) (flat_map g xs))
-
-flat_alike : {X : Type 0} (f g : ℕ → List X) (xs : List ℕ) → ((x : ℕ) (y : X) → Contains (f x) y → Contains (g x) y) → (y : X) → Contains (flat_map f xs) y → Contains (flat_map g xs) y
-flat_alike f g [] same y h = h
-flat_alike f g (x ∷ xs) same y h = by (append_cases (f x) (flat_map f xs) y h) (flat_alike f g xs same y)
-  where
-    by : Contains (f x) y ⊎ Contains (flat_map f xs) y → (Contains (flat_map f xs) y → Contains (flat_map g xs) y) → Contains (g x ++ flat_map g xs) y
-    by (inl here) later = append_left (g x) (flat_map g xs) y (same x y here)
-    by (inr rest) later = append_right (g x) (flat_map g xs) y (later rest)
-
-append_alike : {X : Type 0} (xs ys zs : List X) → ((z : X) → Contains ys z → Contains zs z) → (z : X) → Contains (xs ++ ys) z → Contains (xs ++ zs) z
-append_alike xs ys zs same z h = by (append_cases xs ys z h)
-  where
-    by : Contains xs z ⊎ Contains ys z → Contains (xs ++ zs) z
-    by (inl left) = append_left xs zs z left
-    by (inr right) = append_right xs zs z (same z right)
-
-begun_alike : {X : Type 0} (xs ys zs : List X) → ((z : X) → Contains xs z → Contains ys z) → (z : X) → Contains (xs ++ zs) z → Contains (ys ++ zs) z
-begun_alike xs ys zs same z h = by (append_cases xs zs z h)
-  where
-    by : Contains xs z ⊎ Contains zs z → Contains (ys ++ zs) z
-    by (inl left) = append_left ys zs z (same z left)
-    by (inr right) = append_right ys zs z right
-
-step_alike : (vars : AlarmVars) (t : ℕ) (clause : Clause) → Contains (step_by_first vars t) clause ↔ Contains (step_written vars t) clause
-step_alike vars t clause = (
-  append_alike first_two (pairs_by_first (matches_at vars t)) (excluded_pairs (matches_at vars t)) (λ z h. (pairs_alike (matches_at vars t) z).0 h) clause,
-  append_alike first_two (excluded_pairs (matches_at vars t)) (pairs_by_first (matches_at vars t)) (λ z h. (pairs_alike (matches_at vars t) z).1 h) clause,
-)
-  where
-    first_two : List Clause
-    first_two = (fails (done_variable vars t) ∷ holds (done_variable vars (suc t)) ∷ []) ∷ (fails (done_variable vars (suc t)) ∷ holds (done_variable vars t) ∷ (dropped_written vars ++ matches_at vars t)) ∷ []
-
-alarm_alike : (grid : Grid) (ask : ℕ) (vars : AlarmVars) (takes : List Taken) (clause : Clause) → Contains (alarm_by_first grid ask vars takes) clause ↔ Contains (alarm_written grid ask vars takes) clause
-alarm_alike grid ask vars takes clause = (
-  begun_alike (links_written grid vars 0 takes ++ done_by_first ask vars) (links_written grid vars 0 takes ++ done_written ask vars) (real_written vars) (append_alike (links_written grid vars 0 takes) (done_by_first ask vars) (done_written ask vars)
-      (append_alike (ends_written ask vars) (flat_map (step_by_first vars) (numbers_below vars.steps)) (flat_map (step_written vars) (numbers_below vars.steps))
-      (flat_alike (step_by_first vars) (step_written vars) (numbers_below vars.steps) (λ t z h. (step_alike vars t z).0 h)))) clause,
-  begun_alike (links_written grid vars 0 takes ++ done_written ask vars) (links_written grid vars 0 takes ++ done_by_first ask vars) (real_written vars) (append_alike (links_written grid vars 0 takes) (done_written ask vars) (done_by_first ask vars)
-      (append_alike (ends_written ask vars) (flat_map (step_written vars) (numbers_below vars.steps)) (flat_map (step_by_first vars) (numbers_below vars.steps))
-      (flat_alike (step_written vars) (step_by_first vars) (numbers_below vars.steps) (λ t z h. (step_alike vars t z).1 h)))) clause,
-)
-
-alarm_count : (grid : Grid) (ask : ℕ) (vars : AlarmVars) (takes : List Taken) → length (alarm_written grid ask vars takes) ≡ length (alarm_by_first grid ask vars takes)
-alarm_count grid ask vars takes =
-    omega (
-      arith,
-      length-append (links_written grid vars 0 takes ++ done_written ask vars) (real_written vars),
-      length-append (links_written grid vars 0 takes ++ done_by_first ask vars) (real_written vars),
-      length-append (links_written grid vars 0 takes) (done_written ask vars),
-      length-append (links_written grid vars 0 takes) (done_by_first ask vars),
-      length-append (ends_written ask vars) (flat_map (step_written vars) (numbers_below vars.steps)),
-      length-append (ends_written ask vars) (flat_map (step_by_first vars) (numbers_below vars.steps)),
-      flat_count (step_written vars) (step_by_first vars) (numbers_below vars.steps) (λ t. ap (λ k. suc (suc k)) (pairs_count (matches_at vars t))),
-    )
 
 -- what is written of a new alarm is what it brings, and no more than its size allows
 pub alarm_brings : (code : CodedLog) (labels : List (List ℕ)) (maybe : Bool) (first : ℕ) (ends : List ChainEnd) → IsCodedLog code → IsCodedLog (code_after code (alarm_added (nameless labels maybe)) first) → code.vars ≤ first →
@@ -243,13 +182,9 @@ alarm_brings code labels maybe first ends coded grown above are known all =
     let takes = taken_from code.net labels ends in
     let names = read_names (code_after code (alarm_added (nameless labels maybe)) first) in
     let listed = alarm_listed code labels maybe first ends coded grown above are known all in
-    let counted = zip_count (Reads code.net (with_addition code.log (alarm_added (nameless labels maybe))) code.grid.steps names) (alarm_by_first code.grid code.asked vars takes) (added_clauses code.net code.log code.grid.steps (alarm_added (nameless labels maybe))) listed in
-    let small = drafts_are_small code.net code.log code.grid.steps (alarm_added (nameless labels maybe)) in (
-      same_code names (IsNamedAdded code.net code.log code.grid.steps (alarm_added (nameless labels maybe))) (alarm_by_first code.grid code.asked vars takes) (alarm_written code.grid code.asked vars takes)
-          (alarm_alike code.grid code.asked vars takes)
-          ((drafts_are_code code.net code.grid.steps names (alarm_by_first code.grid code.asked vars takes)).0 code.log (alarm_added (nameless labels maybe)) listed),
-      omega (arith, small, counted, alarm_count code.grid code.asked vars takes),
-    )
+    let counted = zip_count (Reads code.net (with_addition code.log (alarm_added (nameless labels maybe))) code.grid.steps names) (alarm_written code.grid code.asked vars takes) (added_clauses code.net code.log code.grid.steps (alarm_added (nameless labels maybe))) listed in
+    let small = drafts_are_small code.net code.log code.grid.steps (alarm_added (nameless labels maybe)) in
+    ((drafts_are_code code.net code.grid.steps names (alarm_written code.grid code.asked vars takes)).0 code.log (alarm_added (nameless labels maybe)) listed, omega (arith, small, counted))
 
 -- ---- a pair
 

@@ -16,6 +16,7 @@ use Rattle.log_encode.proofs.CodeLemmas.{names_with_alarm, raised, false_more}
 use Rattle.log_encode.proofs.StayLemmas.{end_stays, chain_joined, named_still}
 use Rattle.log_encode.proofs.TakenLemmas.{taken_are_events, taken_is_filter, width_is, map_count}
 use Rattle.log_encode.proofs.VariableLemmas.{link_is_small}
+use Rattle.card_counter.specs.AtMostOne.{chain_count}
 use Rattle.log_encode.specs.AlarmVariables.{variable_count, false_width, dropped_variable}
 use Rattle.log_encode.specs.CodedLog.{CodedLog, code_names, code_after, addition_width, nameless, false_literals, IsCodedLog}
 use Rattle.log_encode.specs.declared.alarm_vars.AlarmVars.{AlarmVars}
@@ -175,7 +176,7 @@ new_alarm code labels maybe first ends coded above are =
       matching = λ p e t at time. there.matching p e t at time;
       being_done = λ t time. subst (λ k. name_of (code_names (code_after code (alarm_added (nameless labels maybe)) first)) (first + (k * (1 + code.grid.steps * 2) + t)) ≡ Some (done (length code.log.alarms) t)) (taken_count code labels maybe ends are) (there.being_done t time);
       mark = doubtful_new code.log (nameless labels maybe);
-      being_false = λ h. subst (λ k. name_of (code_names (code_after code (alarm_added (nameless labels maybe)) first)) (first + (k * (1 + code.grid.steps * 2) + suc code.grid.steps)) ≡ Some (dropped (length code.log.alarms))) (taken_count code labels maybe ends are) (there.being_false h);
+      being_false = λ h. subst (λ k. name_of (code_names (code_after code (alarm_added (nameless labels maybe)) first)) (first + (k * (1 + code.grid.steps * 2) + (suc code.grid.steps + code.grid.steps * chain_count k))) ≡ Some (dropped (length code.log.alarms))) (taken_count code labels maybe ends are) (there.being_false h);
     }
 
 -- ---- what says that alarms are false

@@ -6,7 +6,6 @@ pub mod EndLemmas
 pub mod TakenLemmas
 pub mod StayLemmas
 pub mod GrowLemmas
-pub mod PairLists
 pub mod Reading
 pub mod DraftLemmas
 pub mod CallLemmas

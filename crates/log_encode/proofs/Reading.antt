@@ -1,21 +1,24 @@
 -- What is written of a log reads as its clauses, by the names of its variables.
 use Rattle.std.proofs.Common.{◌≡◌, ◌∙◌, ℕ, zero, suc, ◌+◌, ◌<◌, ◌≤◌, Bool, true, false, List, [], ◌∷◌, ◌++◌, length, map, flat_map, Some, refl, sym, ap, subst, arith, slice_get, append-nil}
 use Rattle.std.specs.List.{AllZip, range_with_len}
-use Rattle.card_counter.specs.AtMostOne.{not_both}
+use Rattle.std.proofs.lemmas.List.{length-map}
+use Rattle.std.proofs.lemmas.List.FromFn.{length-range_with_len}
+use Rattle.card_counter.proofs.Listed.{exclusions_read}
+use Rattle.card_counter.specs.AtMostOne.{chain_count, exclusion_clauses, IsNamedChain}
+use Rattle.card_counter.specs.Exclusions.{exclusion_list}
 use Rattle.des_net.specs.Network.{Net}
 use Rattle.log_order.specs.Log.{Log, is_doubtful}
 use Rattle.log_clauses.specs.Drafts.{link_clauses, match_clauses, done_clauses, real_clauses}
 use Rattle.log_clauses.specs.LogClauses.{LogClause, log_clause, matching_events, one_match, match_is_real, not_done_first, done_if_asked, or_false}
 use Rattle.log_clauses.proofs.Lists.{zip_append}
-use Rattle.log_clauses.proofs.Numbered.{ordered_reads}
-use Rattle.log_encode.proofs.PairLists.{pairs_by_first}
-use Rattle.log_encode.specs.AlarmVariables.{match_variable, done_variable, dropped_variable}
+use Rattle.log_clauses.proofs.Numbered.{ordered_reads, ordered_names}
+use Rattle.log_encode.specs.AlarmVariables.{match_variable, done_variable, chain_variable, dropped_variable}
 use Rattle.log_encode.specs.declared.alarm_vars.AlarmVars.{AlarmVars}
 use Rattle.log_encode.specs.declared.writing.LinkVars.{LinkVars}
-use Rattle.log_encode.specs.Written.{holds, fails, link_written, matches_at, ends_written, dropped_written, real_of_link, reals_written, real_written}
+use Rattle.log_encode.specs.Written.{holds, fails, link_written, matches_at, step_written, ends_written, done_written, dropped_written, real_of_link, reals_written, real_written}
 use Rattle.prop_core.specs.declared.lit.Lit.{Lit}
 use Rattle.prop_core.specs.Clauses.{Clause}
-use Rattle.prop_core.specs.VariableNames.{Name, NamedLiteral, ReadsAs, name_of, yes, no, asked, matches, done, dropped, closed, remaining}
+use Rattle.prop_core.specs.VariableNames.{Name, NamedLiteral, ReadsAs, name_of, yes, no, asked, matches, done, dropped, closed, remaining, of_matches}
 use Rattle.run_clauses.specs.StepClauses.{numbers_below}
 
 -- ---- lists side by side
@@ -95,35 +98,33 @@ pub record AreAlarmNames (names : List (ℕ × Name)) (n i : ℕ) (events : List
   pub steps : vars.steps ≡ n
   pub matching : (p e t : ℕ) → slice_get events p ≡ Some e → t < n → name_of names (match_variable vars p t) ≡ Some (matches i e (suc t))
   pub being_done : (t : ℕ) → t ≤ n → name_of names (done_variable vars t) ≡ Some (done i t)
+  pub chaining : (t : ℕ) → t < n → IsNamedChain names (of_matches i (suc t)) (chain_variable vars t) (chain_count vars.links)
   pub being_false : vars.doubtful ≡ true → name_of names (dropped_variable vars) ≡ Some (dropped i)
 
 abbrev IsNamed : List (ℕ × Name) → Lit → NamedLiteral → Type 0
 IsNamed names l m = (name_of names l.var ≡ Some m.name) × (l.positive ≡ m.positive)
 
--- what is written in a step, with the pairs in another order
-abbrev pub step_by_first : AlarmVars → ℕ → List Clause
-step_by_first vars t = (fails (done_variable vars t) ∷ holds (done_variable vars (suc t)) ∷ [])
-    ∷ (fails (done_variable vars (suc t)) ∷ holds (done_variable vars t) ∷ (dropped_written vars ++ matches_at vars t)) ∷ pairs_by_first (matches_at vars t)
+-- what reads as clauses of a list reads as what these become
+zip_renamed : {A B C : Type 0} (R : A → C → Type 0) (f : B → C) (xs : List A) (ys : List B) → AllZip (λ x y. R x (f y)) xs ys → AllZip R xs (map f ys)
+zip_renamed R f [] [] h = tt
+zip_renamed R f [] (y ∷ ys) h = absurd h
+zip_renamed R f (x ∷ xs) [] h = absurd h
+zip_renamed R f (x ∷ xs) (y ∷ ys) h = (h.0, zip_renamed R f xs ys h.1)
 
--- one match with each later one
-one_with : (net : Net) (log : Log) (n : ℕ) (names : List (ℕ × Name)) (i t v e : ℕ) (f : ℕ → ℕ) (a : ℕ) (events : List ℕ) → name_of names v ≡ Some (matches i e (suc t)) →
-    ((p x : ℕ) → slice_get events p ≡ Some x → name_of names (f (a + p)) ≡ Some (matches i x (suc t))) →
-    AllZip (Reads net log n names) (map (λ (y : Lit). not_both y (holds v)) (map (λ p. holds (f p)) (range_with_len a (length events)))) (map (λ x. one_match i e x t) events)
-one_with net log n names i t v e f a [] here each = tt
-one_with net log n names i t v e f a (x ∷ events) here each = (
-  reads_two names v (f a) false false _ _ here (subst (λ k. name_of names (f k) ≡ Some (matches i x (suc t))) (omega arith) (each 0 x refl)),
-  one_with net log n names i t v e f (a + 1) events here (λ p y at. subst (λ k. name_of names (f k) ≡ Some (matches i y (suc t))) (omega arith) (each (suc p) y at)),
-)
+map_twice : (f : ℕ → Name) (xs : List ℕ) → map (λ x. yes (f x)) xs ≡ map (λ name. yes name) (map f xs)
+map_twice f [] = refl
+map_twice f (x ∷ xs) = ap (λ rest. yes (f x) ∷ rest) (map_twice f xs)
 
-pairs_read : (net : Net) (log : Log) (n : ℕ) (names : List (ℕ × Name)) (i t : ℕ) (f : ℕ → ℕ) (a : ℕ) (events : List ℕ) → ((p x : ℕ) → slice_get events p ≡ Some x → name_of names (f (a + p)) ≡ Some (matches i x (suc t))) →
-    AllZip (Reads net log n names) (pairs_by_first (map (λ p. holds (f p)) (range_with_len a (length events)))) (match_clauses i t events)
-pairs_read net log n names i t f a [] each = tt
-pairs_read net log n names i t f a (e ∷ events) each =
-    let here : name_of names (f a) ≡ Some (matches i e (suc t)) = subst (λ k. name_of names (f k) ≡ Some (matches i e (suc t))) (omega arith) (each 0 e refl) in
-    let later : (p x : ℕ) → slice_get events p ≡ Some x → name_of names (f (a + 1 + p)) ≡ Some (matches i x (suc t)) = λ p x at. subst (λ k. name_of names (f k) ≡ Some (matches i x (suc t))) (omega arith) (each (suc p) x at) in
-    zip_append (Reads net log n names) (map (λ (y : Lit). not_both y (holds (f a))) (map (λ p. holds (f p)) (range_with_len (a + 1) (length events)))) (map (λ x. one_match i e x t) events)
-    (pairs_by_first (map (λ p. holds (f p)) (range_with_len (a + 1) (length events)))) (match_clauses i t events)
-    (one_with net log n names i t (f a) e f (a + 1) events here later) (pairs_read net log n names i t f (a + 1) events later)
+-- at most one match in a step
+one_reads : (net : Net) (log : Log) (n : ℕ) (names : List (ℕ × Name)) (i t : ℕ) (events : List ℕ) (vars : AlarmVars) → t < n → AreAlarmNames names n i events vars → AllZip (IsNamed names) (matches_at vars t) (map (λ e. yes (matches i e (suc t))) events) →
+    AllZip (Reads net log n names) (exclusion_clauses (matches_at vars t) (chain_variable vars t)) (match_clauses i t events)
+one_reads net log n names i t events vars time are matched =
+    let named = ordered_names names (matches_at vars t) (map (λ e. yes (matches i e (suc t))) events) matched in
+    let reads = named ∙ ap Some (map_twice (λ e. matches i e (suc t)) events) in
+    let count : length (matches_at vars t) ≡ vars.links = length-map (numbers_below vars.links) (λ link. holds (match_variable vars link t)) ∙ length-range_with_len 0 vars.links in
+    let chain = subst (λ m. IsNamedChain names (of_matches i (suc t)) (chain_variable vars t) (chain_count m)) (sym count) (are.chaining t time) in
+    zip_renamed (Reads net log n names) (one_match i t) (exclusion_clauses (matches_at vars t) (chain_variable vars t)) (exclusion_list (map (λ e. matches i e (suc t)) events))
+    (exclusions_read names (of_matches i (suc t)) (map (λ e. matches i e (suc t)) events) (matches_at vars t) (chain_variable vars t) reads chain)
 
 -- where it is doubtful, that it is false comes before the others
 dropped_reads : (names : List (ℕ × Name)) (log : Log) (i : ℕ) (vars : AlarmVars) (lits : List Lit) (named : List NamedLiteral) → is_doubtful log i ≡ vars.doubtful → (vars.doubtful ≡ true → name_of names (dropped_variable vars) ≡ Some (dropped i)) →
@@ -140,30 +141,32 @@ not_first_reads names log n i events vars mark are =
     ordered_reads names (fails (done_variable vars 0) ∷ dropped_written vars) (no (done i 0) ∷ or_false log i [])
     ((are.being_done 0 (omega arith), refl), subst (λ ls. AllZip (IsNamed names) ls (or_false log i [])) (append-nil (dropped_written vars)) (dropped_reads names log i vars [] [] mark are.being_false tt))
 
+-- the matches of a step
+matches_read : (names : List (ℕ × Name)) (n i t : ℕ) (events : List ℕ) (vars : AlarmVars) → t < n → AreAlarmNames names n i events vars → AllZip (IsNamed names) (matches_at vars t) (map (λ e. yes (matches i e (suc t))) events)
+matches_read names n i t events vars time are =
+    subst (λ k. AllZip (IsNamed names) (map (λ p. holds (match_variable vars p t)) (range_with_len 0 k)) (map (λ e. yes (matches i e (suc t))) events)) (sym are.links)
+    (zip_numbered (IsNamed names) (λ p. holds (match_variable vars p t)) (λ e. yes (matches i e (suc t))) 0 events
+    (λ p e at. (subst (λ q. name_of names (match_variable vars q t) ≡ Some (matches i e (suc t))) (omega arith) (are.matching p e t at time), refl)))
+
 -- done after a step, by a match there or before
 by_match_reads : (names : List (ℕ × Name)) (log : Log) (n i t : ℕ) (events : List ℕ) (vars : AlarmVars) → t < n → is_doubtful log i ≡ vars.doubtful → AreAlarmNames names n i events vars →
     ReadsAs names (fails (done_variable vars (suc t)) ∷ holds (done_variable vars t) ∷ (dropped_written vars ++ matches_at vars t)) (no (done i (suc t)) ∷ yes (done i t) ∷ or_false log i (map (λ e. yes (matches i e (suc t))) events))
 by_match_reads names log n i t events vars time mark are =
-    let matched : AllZip (IsNamed names) (map (λ p. holds (match_variable vars p t)) (range_with_len 0 (length events))) (map (λ e. yes (matches i e (suc t))) events) =
-    zip_numbered (IsNamed names) (λ p. holds (match_variable vars p t)) (λ e. yes (matches i e (suc t))) 0 events
-    (λ p e at. (subst (λ q. name_of names (match_variable vars q t) ≡ Some (matches i e (suc t))) (omega arith) (are.matching p e t at time), refl)) in
     ordered_reads names (fails (done_variable vars (suc t)) ∷ holds (done_variable vars t) ∷ (dropped_written vars ++ matches_at vars t)) (no (done i (suc t)) ∷ yes (done i t) ∷ or_false log i (map (λ e. yes (matches i e (suc t))) events)) (
       (are.being_done (suc t) (omega arith), refl),
       (
         (are.being_done t (omega arith), refl),
-        dropped_reads names log i vars (matches_at vars t) (map (λ e. yes (matches i e (suc t))) events) mark are.being_false
-            (subst (λ k. AllZip (IsNamed names) (map (λ p. holds (match_variable vars p t)) (range_with_len 0 k)) (map (λ e. yes (matches i e (suc t))) events)) (sym are.links) matched),
+        dropped_reads names log i vars (matches_at vars t) (map (λ e. yes (matches i e (suc t))) events) mark are.being_false (matches_read names n i t events vars time are),
       ),
     )
 
 step_reads : (net : Net) (log : Log) (n : ℕ) (names : List (ℕ × Name)) (i t : ℕ) (events : List ℕ) (vars : AlarmVars) → t < n → matching_events net log i ≡ events → is_doubtful log i ≡ vars.doubtful → AreAlarmNames names n i events vars →
-    AllZip (Reads net log n names) (step_by_first vars t) (done_clauses i events t)
+    AllZip (Reads net log n names) (step_written vars t) (done_clauses i events t)
 step_reads net log n names i t events vars time same mark are = (
   reads_two names (done_variable vars t) (done_variable vars (suc t)) false true _ _ (are.being_done t (omega arith)) (are.being_done (suc t) (omega arith)),
   (
     subst (λ es. ReadsAs names (fails (done_variable vars (suc t)) ∷ holds (done_variable vars t) ∷ (dropped_written vars ++ matches_at vars t)) (no (done i (suc t)) ∷ yes (done i t) ∷ or_false log i (map (λ e. yes (matches i e (suc t))) es))) (sym same) (by_match_reads names log n i t events vars time mark are),
-    subst (λ k. AllZip (Reads net log n names) (pairs_by_first (map (λ p. holds (match_variable vars p t)) (range_with_len 0 k))) (match_clauses i t events)) (sym are.links)
-        (pairs_read net log n names i t (λ p. match_variable vars p t) 0 events (λ p e at. subst (λ q. name_of names (match_variable vars q t) ≡ Some (matches i e (suc t))) (omega arith) (are.matching p e t at time))),
+    one_reads net log n names i t events vars time are (matches_read names n i t events vars time are),
   ),
 )
 
@@ -195,18 +198,14 @@ real_reads net log n names i events vars are = by vars.doubtful refl
     by true e = let whole = all e in rw e whole
     by false e = rw e tt
 
--- all steps, after the two ends
-abbrev pub done_by_first : ℕ → AlarmVars → List Clause
-done_by_first ask vars = ends_written ask vars ++ flat_map (step_by_first vars) (numbers_below vars.steps)
-
 pub done_reads : (net : Net) (log : Log) (n : ℕ) (names : List (ℕ × Name)) (i ask : ℕ) (events : List ℕ) (vars : AlarmVars) → name_of names ask ≡ Some asked → matching_events net log i ≡ events → is_doubtful log i ≡ vars.doubtful → AreAlarmNames names n i events vars →
-    AllZip (Reads net log n names) (done_by_first ask vars) (not_done_first i ∷ done_if_asked i ∷ flat_map (done_clauses i events) (numbers_below n))
+    AllZip (Reads net log n names) (done_written ask vars) (not_done_first i ∷ done_if_asked i ∷ flat_map (done_clauses i events) (numbers_below n))
 done_reads net log n names i ask events vars asks same mark are =
     let last : name_of names (done_variable vars vars.steps) ≡ Some (done i n) = subst (λ k. name_of names (done_variable vars k) ≡ Some (done i n)) (sym are.steps) (are.being_done n (omega arith)) in (
       not_first_reads names log n i events vars mark are,
       (
         reads_two names ask (done_variable vars vars.steps) false true _ _ asks last,
-        subst (λ k. AllZip (Reads net log n names) (flat_map (step_by_first vars) (numbers_below k)) (flat_map (done_clauses i events) (numbers_below n))) (sym are.steps)
-            (zip_flat (Reads net log n names) (step_by_first vars) (done_clauses i events) 0 n (λ t h. step_reads net log n names i t events vars (omega (arith, h)) same mark are)),
+        subst (λ k. AllZip (Reads net log n names) (flat_map (step_written vars) (numbers_below k)) (flat_map (done_clauses i events) (numbers_below n))) (sym are.steps)
+            (zip_flat (Reads net log n names) (step_written vars) (done_clauses i events) 0 n (λ t h. step_reads net log n names i t events vars (omega (arith, h)) same mark are)),
       ),
     )

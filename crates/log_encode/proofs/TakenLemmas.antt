@@ -3,12 +3,13 @@ use Rattle.std.proofs.Common.{◌≡◌, ℕ, suc, ◌+◌, ◌*◌, ◌≤◌, 
 use Rattle.std.specs.Prelude.{is_some, bytes_eq}
 use Rattle.std.specs.List.{list_any}
 use Rattle.std.specs.Option.{option_map_or}
+use Rattle.card_counter.specs.AtMostOne.{chain_count}
 use Rattle.des_net.specs.Network.{Net, label_of}
 use Rattle.log_order.specs.Log.{Log, Alarm}
 use Rattle.log_clauses.specs.Additions.{alarm_added, with_addition}
 use Rattle.log_clauses.specs.Drafts.{taken_events}
 use Rattle.log_clauses.specs.LogClauses.{chain, observable_events}
-use Rattle.log_clauses.specs.LogNames.{added_names, alarm_names, false_names, link_names}
+use Rattle.log_clauses.specs.LogNames.{added_names, alarm_names, match_chains, false_names, link_names}
 use Rattle.log_clauses.proofs.Drafts.{flat_length}
 use Rattle.log_encode.specs.AlarmVariables.{variable_count, false_width}
 use Rattle.log_encode.specs.CodedLog.{nameless}
@@ -16,10 +17,11 @@ use Rattle.log_encode.specs.declared.taken.ChainEnd.{ChainEnd}
 use Rattle.log_encode.specs.declared.taken.Taken.{Taken}
 use Rattle.log_encode.specs.Written.{has_any_label, taken_from}
 use Rattle.replay.specs.QuestionSize.{is_matching}
+use Rattle.run_clauses.specs.LaidOut.{chain_names}
 use Rattle.run_clauses.specs.StepClauses.{numbers_below}
 use Rattle.std.specs.Prelude.{flat_map}
 use Rattle.std.proofs.lemmas.List.FromFn.{length-range_with_len}
-use Rattle.prop_core.specs.VariableNames.{matches, unmatched, done}
+use Rattle.prop_core.specs.VariableNames.{matches, unmatched, done, some_of_first, of_matches}
 
 get_last : (xs : List Alarm) (new : Alarm) → slice_get (xs ++ new ∷ []) (length xs) ≡ Some new
 get_last [] new = refl
@@ -95,8 +97,11 @@ width_is net log n labels maybe takes is =
     let links = flat_length (λ e. link_names n (length log.alarms) e (length (chain net log e))) (taken_events net log new) (1 + n * 2) (λ e. two_each n (length log.alarms) e (length (chain net log e))) in
     let count : length (taken_events net log new) ≡ length takes = ap length (sym is) ∙ map_count (λ (taken : Taken). taken.event) takes in
     let dones : length (map (λ t. done (length log.alarms) t) (numbers_below (suc n))) ≡ suc n = map_count (λ t. done (length log.alarms) t) (numbers_below (suc n)) ∙ numbers_count (suc n) in
-    length-append (alarm_names net log n new) (false_names maybe (length log.alarms))
-    ∙ ap (λ k. length (alarm_names net log n new) + k) (false_count maybe (length log.alarms))
-    ∙ ap (λ k. k + false_width maybe) (length-append (flat_map (λ e. link_names n (length log.alarms) e (length (chain net log e))) (taken_events net log new)) (map (λ t. done (length log.alarms) t) (numbers_below (suc n)))
-    ∙ ap (λ k. k + length (map (λ t. done (length log.alarms) t) (numbers_below (suc n)))) (links ∙ ap (λ k. k * (1 + n * 2)) count)
-    ∙ ap (λ k. length takes * (1 + n * 2) + k) dones)
+    let whole = length-append (alarm_names net log n new) (match_chains n (length log.alarms) (length (taken_events net log new)) ++ false_names maybe (length log.alarms)) in
+    let both = length-append (match_chains n (length log.alarms) (length (taken_events net log new))) (false_names maybe (length log.alarms)) in
+    let two = length-append (flat_map (λ e. link_names n (length log.alarms) e (length (chain net log e))) (taken_events net log new)) (map (λ t. done (length log.alarms) t) (numbers_below (suc n))) in
+    let chains = flat_length (λ t. chain_names (of_matches (length log.alarms) (suc t)) (length (taken_events net log new))) (numbers_below n) (chain_count (length (taken_events net log new)))
+    (λ t. map_count (λ k. some_of_first (of_matches (length log.alarms) (suc t)) (suc k)) (numbers_below (chain_count (length (taken_events net log new)))) ∙ numbers_count (chain_count (length (taken_events net log new)))) in
+    let row = ap (λ k. k * chain_count (length (taken_events net log new))) (numbers_count n) ∙ ap (λ m. n * chain_count m) count in
+    let front = ap (λ k. k * (1 + n * 2)) count in
+    omega (arith, whole, both, two, links, dones, chains, row, front, false_count maybe (length log.alarms))

@@ -1,5 +1,6 @@
 -- The variables of one alarm, in a row.
 use Rattle.std.specs.Prelude.{ℕ, suc, ◌+◌, ◌*◌, ◌≤◌, Bool, true, false}
+use Rattle.card_counter.specs.AtMostOne.{chain_count}
 use Rattle.des_base.specs.declared.TheConstants.{VAR_LIMIT}
 use Rattle.log_encode.specs.declared.alarm_vars.AlarmVars.{AlarmVars}
 
@@ -7,9 +8,9 @@ use Rattle.log_encode.specs.declared.alarm_vars.AlarmVars.{AlarmVars}
 abbrev pub link_width : ℕ → ℕ
 link_width steps = 1 + steps * 2
 
--- how many a certain alarm has
+-- how many a certain alarm has: of its links, of when it is done, and of the chains over its matches
 abbrev pub variable_count : ℕ → ℕ → ℕ
-variable_count links steps = links * link_width steps + suc steps
+variable_count links steps = links * link_width steps + (suc steps + steps * chain_count links)
 
 -- and how many more a doubtful one
 abbrev pub false_width : Bool → ℕ
@@ -34,9 +35,13 @@ passed_variable vars link t = vars.start + (link * link_width vars.steps + suc (
 abbrev pub done_variable : AlarmVars → ℕ → ℕ
 done_variable vars t = vars.start + (vars.links * link_width vars.steps + t)
 
+-- behind these, for the step after t steps, the first one of the chain over its matches
+abbrev pub chain_variable : AlarmVars → ℕ → ℕ
+chain_variable vars t = vars.start + (vars.links * link_width vars.steps + (suc vars.steps + t * chain_count vars.links))
+
 -- and at the end, for a doubtful alarm, whether it is false
 abbrev pub dropped_variable : AlarmVars → ℕ
-dropped_variable vars = vars.start + (vars.links * link_width vars.steps + suc vars.steps)
+dropped_variable vars = vars.start + (vars.links * link_width vars.steps + (suc vars.steps + vars.steps * chain_count vars.links))
 
 -- all are within the limit of variables
 abbrev pub IsWithin : AlarmVars → Type 0

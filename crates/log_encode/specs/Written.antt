@@ -9,12 +9,12 @@ use Rattle.prop_core.specs.declared.grid.Grid.{Grid}
 use Rattle.prop_core.specs.declared.lit.Lit.{Lit}
 use Rattle.prop_core.specs.Clauses.{Clause}
 use Rattle.prop_core.specs.Grids.{grid_variable}
-use Rattle.card_counter.specs.AtMostOne.{excluded_pairs}
+use Rattle.card_counter.specs.AtMostOne.{exclusion_clauses}
 use Rattle.log_encode.specs.declared.alarm_vars.AlarmVars.{AlarmVars}
 use Rattle.log_encode.specs.declared.taken.Taken.{Taken}
 use Rattle.log_encode.specs.declared.taken.ChainEnd.{ChainEnd}
 use Rattle.log_encode.specs.declared.writing.LinkVars.{LinkVars}
-use Rattle.log_encode.specs.AlarmVariables.{closed_variable, match_variable, passed_variable, done_variable, dropped_variable}
+use Rattle.log_encode.specs.AlarmVariables.{closed_variable, match_variable, passed_variable, done_variable, chain_variable, dropped_variable}
 
 abbrev pub holds : ℕ → Lit
 holds var = record { var = var; positive = true }
@@ -99,7 +99,7 @@ matches_at vars t = map (λ link. holds (match_variable vars link t)) (numbers_b
 
 abbrev pub step_written : AlarmVars → ℕ → List Clause
 step_written vars t = (fails (done_variable vars t) ∷ holds (done_variable vars (suc t)) ∷ [])
-    ∷ (fails (done_variable vars (suc t)) ∷ holds (done_variable vars t) ∷ (dropped_written vars ++ matches_at vars t)) ∷ excluded_pairs (matches_at vars t)
+    ∷ (fails (done_variable vars (suc t)) ∷ holds (done_variable vars t) ∷ (dropped_written vars ++ matches_at vars t)) ∷ exclusion_clauses (matches_at vars t) (chain_variable vars t)
 
 abbrev pub ends_written : ℕ → AlarmVars → List Clause
 ends_written asked vars = (fails (done_variable vars 0) ∷ dropped_written vars) ∷ (fails asked ∷ holds (done_variable vars vars.steps) ∷ []) ∷ []

@@ -1,9 +1,14 @@
-ghost use Rattle.std.specs.Prelude.{◌≡◌, ◌<◌, ◌≤◌, true};
-ghost use Rattle.log_encode.specs.AlarmVariables.{closed_variable, match_variable, passed_variable, done_variable, dropped_variable, alarm_width, false_width, IsWithin};
+ghost use Rattle.std.specs.Prelude.{◌≡◌, ◌+◌, ◌<◌, ◌≤◌, true};
+ghost use Rattle.card_counter.specs.AtMostOne.{chain_count};
+ghost use Rattle.des_base.specs.declared.TheConstants.{VAR_LIMIT};
+ghost use Rattle.log_encode.specs.AlarmVariables.{closed_variable, match_variable, passed_variable, done_variable, chain_variable, dropped_variable, alarm_width, false_width, IsWithin};
+
+use card_counter::chain_count;
 
 // Where the variables of an alarm stand: for each event that it may stand for, its link, one that ends the event's chain
 // after it, and for each step one that matches it to the event and one that passes the event on. Behind the links stand those
-// that say within how many steps it is done, and at the end, where the alarm is doubtful, one that says that it is false.
+// that say within how many steps it is done, then for each step those by which it is matched at most once there, and at the
+// end, where the alarm is doubtful, one that says that it is false.
 #[derive(Clone, Copy)]
 pub struct AlarmVars {
     pub start: u32,
@@ -25,7 +30,9 @@ impl AlarmVars {
         requires { IsWithin self }
         ensures { result ≡ alarm_width self }
     {
-        self.links * (1 + self.steps * 2) + (1 + self.steps) + false_width(self.doubtful)
+        self.links * (1 + self.steps * 2)
+            + (1 + self.steps + self.steps * chain_count(self.links))
+            + false_width(self.doubtful)
     }
 
     // Ends the chain after a link.
@@ -80,6 +87,18 @@ impl AlarmVars {
         self.start + (self.links * (1 + self.steps * 2) + steps)
     }
 
+    // The first of those by which the alarm is matched at most once in the step after so many.
+    pub fn chain(self, step: u32) -> u32
+        requires within { IsWithin self }
+        requires step { step < self.steps }
+        ensures first { result ≡ chain_variable self step }
+        ensures room { result + chain_count self.links ≤ VAR_LIMIT }
+    {
+        self.start
+            + (self.links * (1 + self.steps * 2)
+                + (1 + self.steps + step * chain_count(self.links)))
+    }
+
     // Says that the alarm is false.
     #[tactic(auto, using(crate::proofs::VariableLemmas::count_is_small))]
     pub fn dropped(self) -> u32
@@ -87,6 +106,8 @@ impl AlarmVars {
         requires doubtful { self.doubtful ≡ true }
         ensures { result ≡ dropped_variable self }
     {
-        self.start + (self.links * (1 + self.steps * 2) + (1 + self.steps))
+        self.start
+            + (self.links * (1 + self.steps * 2)
+                + (1 + self.steps + self.steps * chain_count(self.links)))
     }
 }

@@ -121,10 +121,6 @@ impl LogCode {
             steps: self.grid.steps,
             doubtful: maybe,
         };
-        // The count as it will be once the caller has made the variables.
-        let mut fresh = Vars::new();
-        fresh.fresh(first_var);
-        fresh.fresh(vars.count());
         let mut clauses = Clauses::new(self.alloc);
         write_alarm(
             self.alloc,
@@ -132,7 +128,6 @@ impl LogCode {
             self.asked,
             vars,
             takes.as_slice(),
-            &mut fresh,
             &mut clauses,
         )?;
         let ends = ends_after(self.alloc, self.ends.as_slice(), vars, takes.as_slice())?;
@@ -153,7 +148,7 @@ impl LogCode {
                 dropped,
             },
             first: first_var,
-            vars: fresh.count() - first_var,
+            vars: vars.count(),
             clauses,
         })
     }

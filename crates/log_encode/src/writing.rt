@@ -1,5 +1,6 @@
 ghost use Rattle.std.specs.Prelude.{◌≡◌, ◌<◌, ◌≤◌, ◌+◌, ◌*◌, ◌++◌, ◌∷◌, [], true, false, length, All, IfOk, OnOk};
 ghost use Rattle.des_base.specs.declared.TheConstants.{VAR_LIMIT};
+ghost use Rattle.card_counter.specs.AtMostOne.{chain_count, exclusion_clauses};
 ghost use Rattle.log_encode.specs.AlarmVariables.{IsWithin, done_variable};
 ghost use Rattle.log_encode.specs.Written.{alarm_written, all_closed_written, closed_written, done_written, dropped_written, ends_written, fails, link_variables, link_written, links_written, matches_at, pair_written, real_of_link, real_written, reals_written, step_written, steps_of_link, HasRest};
 
@@ -138,19 +139,22 @@ fn push_dropped(vars: AlarmVars, lits: &mut Vec<Lit>) -> Result<(), Memory>
     Ok(())
 }
 
+// That the alarm is matched to at most one event in a step. Where there is a chain, its variables stand from this one on.
+fn exclude(matches: &[Lit], first: u32, out: &mut Clauses) -> Result<(), Memory>
+    requires { first + chain_count (length matches.now) ≤ VAR_LIMIT }
+    ensures { OnOk result (out.new.clauses ≡ out.old.clauses ++ exclusion_clauses matches.now first) }
+{
+    let mut vars = Vars::new();
+    vars.fresh(first);
+    at_most_one(matches, &mut vars, out)
+}
+
 // Whether the alarm is done after a step: where it was before, or one of its events is its match there, and one at most. A
 // doubtful one is so where it is false.
-fn write_step(
-    alloc: Global,
-    vars: AlarmVars,
-    step: u32,
-    fresh: &mut Vars,
-    out: &mut Clauses,
-) -> Result<(), Memory>
+fn write_step(alloc: Global, vars: AlarmVars, step: u32, out: &mut Clauses) -> Result<(), Memory>
     requires within { IsWithin vars }
     requires step { step < vars.steps }
-    ensures fresh { fresh.new ≡ fresh.old }
-    ensures written { OnOk result (out.new.clauses ≡ out.old.clauses ++ step_written vars step) }
+    ensures { OnOk result (out.new.clauses ≡ out.old.clauses ++ step_written vars step) }
 {
     let matches = matches_at(alloc, vars, step)?;
     let before = vars.done(step);
@@ -162,7 +166,7 @@ fn write_step(
     push_dropped(vars, &mut by_match)?;
     by_match.extend_from_slice(matches.as_slice())?;
     out.push(by_match.as_slice())?;
-    at_most_one(matches.as_slice(), fresh, out)
+    exclude(matches.as_slice(), vars.chain(step), out)
 }
 
 // At first the alarm isn't done, unless it is false.
@@ -179,21 +183,14 @@ fn write_first(alloc: Global, vars: AlarmVars, out: &mut Clauses) -> Result<(), 
 
 // Whether the alarm is done, within all numbers of steps: at first it isn't, unless it is false, and at last it is where the log
 // is asked for.
-fn write_done(
-    alloc: Global,
-    asked: u32,
-    vars: AlarmVars,
-    fresh: &mut Vars,
-    out: &mut Clauses,
-) -> Result<(), Memory>
+fn write_done(alloc: Global, asked: u32, vars: AlarmVars, out: &mut Clauses) -> Result<(), Memory>
     requires { IsWithin vars }
-    ensures fresh { fresh.new ≡ fresh.old }
-    ensures written { OnOk result (out.new.clauses ≡ out.old.clauses ++ done_written asked vars) }
+    ensures { OnOk result (out.new.clauses ≡ out.old.clauses ++ done_written asked vars) }
 {
     write_first(alloc, vars, out)?;
     out.push(&[fails(asked), holds(vars.done(vars.steps))])?;
     for step in 0..vars.steps {
-        write_step(alloc, vars, step, fresh, out)?;
+        write_step(alloc, vars, step, out)?;
     }
     Ok(())
 }
@@ -243,7 +240,6 @@ pub fn write_alarm(
     asked: u32,
     vars: AlarmVars,
     takes: &[Taken],
-    fresh: &mut Vars,
     out: &mut Clauses,
 ) -> Result<(), Memory>
     requires within { IsWithin vars }
@@ -251,11 +247,10 @@ pub fn write_alarm(
     requires links { vars.links ≡ length takes.now }
     requires few { grid.first + grid.events * grid.steps ≤ VAR_LIMIT }
     requires rest { All (HasRest grid) takes.now }
-    ensures fresh { fresh.new ≡ fresh.old }
-    ensures written { OnOk result (out.new.clauses ≡ out.old.clauses ++ alarm_written grid asked vars takes.now) }
+    ensures { OnOk result (out.new.clauses ≡ out.old.clauses ++ alarm_written grid asked vars takes.now) }
 {
     write_links(grid, vars, takes, out)?;
-    write_done(alloc, asked, vars, fresh, out)?;
+    write_done(alloc, asked, vars, out)?;
     write_real(vars, out)
 }
 

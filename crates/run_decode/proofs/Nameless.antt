@@ -4,6 +4,7 @@ use Rattle.std.specs.Prelude.{bytes_eq, find}
 use Rattle.std.specs.List.{list_any}
 use Rattle.std.specs.Option.{option_map_or}
 use Rattle.std.proofs.lemmas.List.{length-map}
+use Rattle.card_counter.specs.Exclusions.{IsExclusionClause}
 use Rattle.des_net.specs.Network.{Net, label_of}
 use Rattle.log_clauses.specs.Decoded.{alarm_at, event_at, is_false, comes, entry_of, arranged, arranged_order, whole_order}
 use Rattle.log_clauses.specs.LogClauses.{guard_literals, chain, matching_events, observable_events, LogClause, log_clause, IsLogClause, chain_closed, takes_rest, uses_up, passes_on, taken_or_passed, not_done_first, stays_done, match_is_done, matched_once, match_is_real, done_by_match, one_match, done_if_asked, before_if_asked, or_false}
@@ -80,7 +81,7 @@ module _ (net : Net) (log other : Log) (alike : AreAlike log other) where
   known_alike n (matched_once i e t) h = (sym (matching_alike e i) ∙ h.0, h.1)
   known_alike n (match_is_real i e t) h = (sym (matching_alike e i) ∙ h.0, sym (alike.marks i) ∙ h.1, h.2)
   known_alike n (done_by_match i t) h = (subst (λ m. i < m) alike.count h.0, h.1)
-  known_alike n (one_match i e f t) h = (sym (matching_alike e i) ∙ h.0, sym (matching_alike f i) ∙ h.1, h.2, h.3)
+  known_alike n (one_match i t which) h = (subst (λ m. i < m) alike.count h.0, h.1, subst (λ es. IsExclusionClause (map (λ e. matches i e (suc t)) es) which) (events_alike i) h.2)
   known_alike n (done_if_asked i) h = subst (λ m. i < m) alike.count h
   known_alike n (before_if_asked i j t) h = (subst (λ ps. Contains ps (i, j)) alike.pairs h.0, h.1)
 
@@ -98,7 +99,7 @@ module _ (net : Net) (log other : Log) (alike : AreAlike log other) where
   clause_alike n (done_by_match i t) =
       ap (λ b. no (done i (suc t)) ∷ yes (done i t) ∷ cond b (yes (dropped i) ∷ map (λ e. yes (matches i e (suc t))) (matching_events net log i)) (map (λ e. yes (matches i e (suc t))) (matching_events net log i))) (alike.marks i)
       ∙ ap (λ es. no (done i (suc t)) ∷ yes (done i t) ∷ or_false other i (map (λ e. yes (matches i e (suc t))) es)) (events_alike i)
-  clause_alike n (one_match i e f t) = refl
+  clause_alike n (one_match i t which) = refl
   clause_alike n (done_if_asked i) = refl
   clause_alike n (before_if_asked i j t) = refl
 

@@ -16,11 +16,11 @@ use Rattle.log_clauses.specs.LogClauses.{doubtful_alarms}
 use Rattle.log_clauses.specs.LogTruth.{LogClausesHold, GuardsHold, is_of_log}
 use Rattle.log_order.specs.Log.{Log}
 use Rattle.prop_core.specs.NamedClauses.{named_true, AllHold}
-use Rattle.prop_core.specs.VariableNames.{Name, in_state, happens, asked, matches, done, unmatched, closed, dropped, reaches, some_of_first, NamedLiteral, yes}
+use Rattle.prop_core.specs.VariableNames.{Name, in_state, happens, asked, matches, done, unmatched, closed, dropped, reaches, some_of_first, Exclusion, of_states, of_events, of_matches, NamedLiteral, yes}
 use Rattle.replay.specs.Explanation.{Entry, faults_of, Explains, Linearises}
 use Rattle.run_clauses.proofs.Exact.{runs_have_steps, only_steps_matter, same_sets}
 use Rattle.run_clauses.specs.StepClauses.{numbers_below}
-use Rattle.run_clauses.specs.Steps.{StepClausesHold, AreSteps, AgreeOnSteps, is_event}
+use Rattle.run_clauses.specs.Steps.{StepClausesHold, AreSteps, AgreeOnSteps, is_event, is_of_steps}
 use Rattle.run_decode.proofs.Faults.{faults_are_inputs}
 use Rattle.run_decode.specs.DecodedRuns.{true_faults}
 use Rattle.run_decode.specs.Drawn.{fault_inputs, dropped_names, at_most, bound_literals}
@@ -67,7 +67,7 @@ inputs_are_named net log n x in' =
 pub count_holds : (net : Net) (log : Log) (n : ℕ) (value : Name → Bool) → StepClausesHold net n value → LogClausesHold net log n value → QuestionHolds net log n (counted (fault_inputs net log n) value)
 count_holds net log n value steps logged =
     let exact = named_count_is_exact (fault_inputs net log n) value in record {
-      steps = only_steps_matter net n value (counted (fault_inputs net log n) value) (record { states = λ c q t. refl; events = λ e t. refl }) steps;
+      steps = only_steps_matter net n value (counted (fault_inputs net log n) value) (record { states = λ c q t. refl; events = λ e t. refl; chains = λ family k of_steps. refl }) steps;
       logged = (only_log_matters net log n value (counted (fault_inputs net log n) value) (λ name h. sym (exact.others name (not_count name h)))).0 logged;
       count = exact.free (inputs_are_named net log n);
     }
@@ -124,7 +124,7 @@ explained_has_truth net log n bound word order network explains within =
     let clauses = subst (λ m. StepClausesHold net m given.0) count given.1 in
     let steps = subst (λ m. AreSteps net m given.0 pieces) count given.2 in
     let made = log_is_complete net log n given.0 pieces order steps (subst (λ w. Linearises net log w order) cut.whole explains.linear) in
-    let same : AgreeOnSteps given.0 made.0 = record { states = λ c q t. sym (made.1 (in_state c q t) refl); events = λ e t. sym (made.1 (happens e t) refl) } in
+    let same : AgreeOnSteps given.0 made.0 = record { states = λ c q t. sym (made.1 (in_state c q t) refl); events = λ e t. sym (made.1 (happens e t) refl); chains = λ family k of_steps. sym (made.1 (some_of_first family k) (ap not of_steps)) } in
     let are = same_sets net n given.0 made.0 pieces (λ e t known step. made.1 (happens e (suc t)) refl) steps in
     let faults : faults_of net word order ≡ true_faults net log n made.0 = ap (λ w. faults_of net w order) cut.whole ∙ faults_are_inputs net log n made.0 pieces order are made.4 in record {
       value = counted (fault_inputs net log n) made.0;
@@ -164,6 +164,12 @@ unfolding blanks
 are_blank net zero = record { size = refl; empty = refl; apart = tt }
 are_blank net (suc n) = let rest = are_blank net n in record { size = ap suc rest.size; empty = rest.empty; apart = (tt, rest.apart) }
 
+-- the chains of the steps keep their truth
+same_chains : (value : Name → Bool) (family : Exclusion) (k : ℕ) → is_of_steps family ≡ true → value (some_of_first family k) ≡ opened value (some_of_first family k)
+same_chains value (of_states c t) k h = refl
+same_chains value (of_events t g) k h = refl
+same_chains value (of_matches i t) k h = cc
+
 pub question_has_truth : (net : Net) (log : Log) (n : ℕ) → IsNetwork net → (value : Name → Bool) × QuestionHolds net log n value
 question_has_truth net log n network =
     let start = starts net.components network.components in
@@ -172,5 +178,5 @@ question_has_truth net log n network =
     let given = runs_have_steps net [] (blanks n) (λ name. false) network run (record { whole = blank.empty; apart = blank.apart }) in
     let clauses = subst (λ m. StepClausesHold net m given.0) blank.size given.1 in
     let open' = log_is_open given.0 in
-    let steps = only_steps_matter net n given.0 (opened given.0) (record { states = λ c q t. refl; events = λ e t. refl }) clauses in
-    (counted (fault_inputs net log n) (opened given.0), count_holds net log n (opened given.0) steps (λ which is. open'.1 net log n which))
+    let steps = only_steps_matter net n given.0 (opened given.0) (record { states = λ c q t. refl; events = λ e t. refl; chains = same_chains given.0 }) clauses in
+    (counted (fault_inputs net log n) (opened given.0), count_holds net log n (opened given.0) steps (λ which is. open'.1 net log n which is))

@@ -9,9 +9,10 @@ use Rattle.card_counter.specs.CounterState.{CounterState, IsCounter, IsMade, IsP
 use Rattle.log_clauses.proofs.Lists.{append_cases, append_left, append_right, all_at, pairs_append}
 use Rattle.log_clauses.proofs.Numbered.{laid_out_from}
 use Rattle.log_clauses.specs.Additions.{Addition, alarm_added, pair_added}
+use Rattle.log_clauses.specs.Drafts.{taken_events}
 use Rattle.log_clauses.specs.LogClauses.{guard_literals}
 use Rattle.log_clauses.specs.LogCodes.{IsNamedLog, AreAmong}
-use Rattle.log_clauses.specs.LogNames.{IsLogName, added_names, alarm_names, false_names}
+use Rattle.log_clauses.specs.LogNames.{IsLogName, added_names, alarm_names, match_chains, false_names}
 use Rattle.log_encode.proofs.CodeLemmas.{names_with_alarm, asked_below, grown_is_coded, false_more}
 use Rattle.log_encode.proofs.Naming.{named_at}
 use Rattle.log_encode.specs.CodedLog.{CodedLog, code_names as log_names, read_names, false_literals, addition_width, code_after, IsCodedLog}
@@ -199,18 +200,24 @@ module _ (steps : CodedSteps) (code : CodedLog) (counter : CounterState) (first 
         (λ entry in'. subst (λ names. Contains names entry) (sym (names_with_alarm code new first together.beside.logged.each)) (append_left (log_names code) (laid_out first (added_names code.net code.log code.grid.steps (alarm_added new))) entry in'))
         together.inputs.false_lits (false_literals code.log) together.inputs.read
 
-    wide : new.doubtful ≡ true → addition_width code (alarm_added new) ≡ suc (length (alarm_names code.net code.log code.grid.steps new))
-    wide h =
-        let one : length (false_names new.doubtful (length code.log.alarms)) ≡ 1 = ap (λ b. length (false_names b (length code.log.alarms))) h in
-        let whole = length-append (alarm_names code.net code.log code.grid.steps new) (false_names new.doubtful (length code.log.alarms)) in
-        omega (arith, one, whole)
+    -- its names but that it is false
+    abbrev own_names : List Name
+    own_names = alarm_names code.net code.log code.grid.steps new ++ match_chains code.grid.steps (length code.log.alarms) (length (taken_events code.net code.log new))
+
+    names_split : new.doubtful ≡ true → added_names code.net code.log code.grid.steps (alarm_added new) ≡ own_names ++ dropped (length code.log.alarms) ∷ []
+    names_split h =
+        ap (λ b. alarm_names code.net code.log code.grid.steps new ++ (match_chains code.grid.steps (length code.log.alarms) (length (taken_events code.net code.log new)) ++ false_names b (length code.log.alarms))) h
+        ∙ sym (append_assoc (alarm_names code.net code.log code.grid.steps new) (match_chains code.grid.steps (length code.log.alarms) (length (taken_events code.net code.log new))) (dropped (length code.log.alarms) ∷ []))
+
+    wide : new.doubtful ≡ true → addition_width code (alarm_added new) ≡ suc (length own_names)
+    wide h = let whole = ap length (names_split h) in let both = length-append own_names (dropped (length code.log.alarms) ∷ []) in omega (arith, whole, both)
 
     input_entry : new.doubtful ≡ true → Contains (log_names longer_code) ((false_input code new first).var, dropped (length code.log.alarms))
     unfolding longer_code
     input_entry h =
-        let names = alarm_names code.net code.log code.grid.steps new in
+        let names = own_names in
         let last : addition_width code (alarm_added new) - 1 ≡ length names = omega (arith, wide h) in
-        let split : added_names code.net code.log code.grid.steps (alarm_added new) ≡ names ++ dropped (length code.log.alarms) ∷ [] = ap (λ b. names ++ false_names b (length code.log.alarms)) h in
+        let split : added_names code.net code.log code.grid.steps (alarm_added new) ≡ names ++ dropped (length code.log.alarms) ∷ [] = names_split h in
         let at = named_at first (added_names code.net code.log code.grid.steps (alarm_added new)) (length names) (dropped (length code.log.alarms))
         (subst (λ xs. slice_get xs (length names) ≡ Some (dropped (length code.log.alarms))) (sym split) (at_seam names (dropped (length code.log.alarms)))) in
         let row = laid_out first (added_names code.net code.log code.grid.steps (alarm_added new)) in

@@ -1,4 +1,4 @@
-// Counters and pairs by brute force: every assignment of all variables.
+// Counters, pairs and chains by brute force: every assignment of all variables.
 ghost use Rattle.std.specs.Prelude.{◌≡◌, ◌+◌, ◌*◌, ◌<◌, ◌≤◌, [], length, true, false};
 ghost use Rattle.prop_core.specs.Clauses.{HasValues};
 ghost use Rattle.card_counter.specs.CounterState.{IsMade};
@@ -157,32 +157,41 @@ fn counters_count(rt: HostRuntime) {
     assert!(rt; counts(rt.alloc(), &[yes(0), yes(0), no(0), yes(1)], 2, 2));
 }
 
-// Whether the clauses for these inputs, whose variables are below 4, are true just where at most one input is.
-fn excludes(alloc: Global, inputs: &[Lit]) -> bool {
+// Whether the clauses for these inputs, whose variables are below 6, can be made true just where at most one input is: so many
+// clauses, by so many variables behind the sixth.
+fn excludes(alloc: Global, inputs: &[Lit], clauses: u64, further: u32) -> bool
+    requires { further < 16 }
+{
     let mut vars = Vars::new();
+    vars.fresh(6);
     let mut out = Clauses::new(alloc);
-    if at_most_one(inputs, &mut vars, &mut out).is_err() {
+    if inputs.len() > 16 || at_most_one(inputs, &mut vars, &mut out).is_err() {
         return false;
     }
-    for bits in 0..16 {
-        if holds(&out, bits) != (count(inputs, bits) <= 1) {
+    for bits in 0..64 {
+        if can_hold(&out, bits, 6, further, None) != (count(inputs, bits) <= 1) {
             return false;
         }
     }
-    vars.count() == 0
+    vars.count() == 6 + further && out.len() == clauses
 }
 
+// At most four inputs have a clause for each pair, more have a chain. One literal may stand there more than once.
 #[test]
 fn at_most_one_is_true(rt: HostRuntime) {
-    let cases: [&[Lit]; 5] = [
-        &[],
-        &[yes(1)],
-        &[yes(0), no(1), yes(2), no(3)],
-        &[yes(0), yes(0)],
-        &[yes(0), no(0)],
+    let cases: [(&[Lit], u64, u32); 9] = [
+        (&[], 0, 0),
+        (&[yes(1)], 0, 0),
+        (&[yes(0), no(1), yes(2), no(3)], 6, 0),
+        (&[yes(0), yes(0)], 1, 0),
+        (&[yes(0), no(0)], 1, 0),
+        (&[yes(0), yes(1), yes(2), yes(3), yes(4)], 11, 4),
+        (&[yes(5), no(4), yes(3), no(2), yes(1), no(0)], 14, 5),
+        (&[yes(0), yes(1), yes(0), yes(2), yes(3)], 11, 4),
+        (&[yes(0), no(0), yes(1), yes(2), yes(3)], 11, 4),
     ];
-    for inputs in cases {
-        assert!(rt; excludes(rt.alloc(), inputs));
+    for (inputs, clauses, further) in cases {
+        assert!(rt; excludes(rt.alloc(), inputs, clauses, further));
     }
 }
 

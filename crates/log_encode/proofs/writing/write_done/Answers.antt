@@ -4,8 +4,6 @@ use Rattle.log_encode.proofs.LoopLemmas.{flat_more_after}
 use Rattle.log_encode.proofs.writing.write_done.Goals as goal
 
 pub loop-step-preserved : goal.loop-step-preserved
-loop-step-preserved c = (
-  c.in_ok-write_step.ensures.written ∙ ap (λ xs. xs ++ step_written c.args.vars c.loop-step.step) c.loop-step.invariant.0
-      ∙ flat_more_after (step_written c.args.vars) c.loop-step.step c.args.out.now.clauses (ends_written c.args.asked c.args.vars),
-  c.in_ok-write_step.ensures.fresh ∙ c.loop-step.invariant.1,
-)
+loop-step-preserved c =
+    c.in_ok-write_step.ensures ∙ ap (λ xs. xs ++ step_written c.args.vars c.loop-step.step) c.loop-step.invariant
+    ∙ flat_more_after (step_written c.args.vars) c.loop-step.step c.args.out.now.clauses (ends_written c.args.asked c.args.vars)

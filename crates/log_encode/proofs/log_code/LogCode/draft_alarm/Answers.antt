@@ -38,15 +38,6 @@ count-requires c =
     let few = is.few in
     omega (arith, width, few)
 
-pub fresh-requires-2 : goal.fresh-requires-2
-fresh-requires-2 c =
-    let is = drafting c.self.inside c.args.self.now c.args.labels.now c.args.maybe c.args.first_var c.self.view_is c.self.invariant c.requires.made c.requires.few in
-    let takes = taken_are c.self.inside c.args.self.now c.args.net.now c.args.labels.now c.as_slice.result.now c.in_ok-takes.takes.items c.self.view_is c.requires.net c.as_slice.ensures.value c.in_ok-takes.ensures in
-    let links : c.len.result ≡ length c.in_ok-takes.takes.items = omega (arith, c.in_ok-takes.takes.ok, c.len.ensures) in
-    let width = draft_width (coded c.self.inside) c.args.labels.now c.args.maybe c.args.first_var c.len.result c.self.inside.ends.items c.self.inside.guards.items c.in_ok-takes.takes.items is takes links in
-    let few = is.few in
-    omega (arith, width, few, c.count.ensures, c.fresh.ensures.count, c.new-fresh.ensures)
-
 pub write_alarm-requires-clause-within : goal.write_alarm-requires-clause-within
 write_alarm-requires-clause-within c =
     let is = drafting c.self.inside c.args.self.now c.args.labels.now c.args.maybe c.args.first_var c.self.view_is c.self.invariant c.requires.made c.requires.few in
@@ -90,7 +81,6 @@ invariant_of-result c =
     let links : c.len.result ≡ length c.in_ok-takes.takes.items = omega (arith, c.in_ok-takes.takes.ok, c.len.ensures) in
     let width = draft_width (coded c.self.inside) c.args.labels.now c.args.maybe c.args.first_var c.len.result c.self.inside.ends.items c.self.inside.guards.items c.in_ok-takes.takes.items is takes links in
     let few = is.few in
-    let steps : c.count-2.result ≡ c.args.first_var + c.count.result = omega (arith, c.count-2.ensures.count, c.in_ok-write_alarm.ensures.fresh, c.fresh-2.ensures.count, c.fresh.ensures.count, c.new-fresh.ensures) in
     let value_is : coded c.self.inside ≡ c.of.result.value.code = ap (λ (s : LogCodeState). s.code) c.self.view_is ∙ sym (ap (λ (s : LogCodeState). s.code) c.of.ensures) in
     let ready = ready_alarm (coded c.self.inside) c.args.labels.now c.args.maybe c.args.first_var c.len.result c.self.inside.ends.items c.in_ok-ends.ends.items c.self.inside.guards.items c.in_ok-guards.guards.items c.self.inside.dropped.items c.in_ok-dropped.dropped.items c.in_ok-takes.takes.items is takes links
     (c.in_ok-ends.ensures ∙ ap (λ xs. ends_after (new_vars (coded c.self.inside) c.args.first_var c.len.result c.args.maybe) 0 xs c.as_slice-4.result.now) c.as_slice-3.ensures.value ∙ ap (ends_after (new_vars (coded c.self.inside) c.args.first_var c.len.result c.args.maybe) 0 c.self.inside.ends.items) c.as_slice-4.ensures.value)
@@ -100,9 +90,9 @@ invariant_of-result c =
     let above = is.above in record {
       change = (refl, change.0, change.1, change.2);
       after = subst (λ (k : CodedLog). k.vars ≤ c.args.first_var) value_is above;
-      width = subst (λ (ls : List (List ℕ)). c.count-2.result - c.args.first_var ≡ addition_width c.of.result.value.code (alarm_added (nameless ls c.args.maybe))) (sym c.in_ok-labels.ensures)
-          (subst (λ (k : CodedLog). c.count-2.result - c.args.first_var ≡ addition_width k (alarm_added (nameless c.args.labels.now c.args.maybe))) value_is (omega (arith, steps, width, c.count.ensures)));
-      few = omega (arith, steps, width, c.count.ensures, few);
+      width = subst (λ (ls : List (List ℕ)). c.count.result ≡ addition_width c.of.result.value.code (alarm_added (nameless ls c.args.maybe))) (sym c.in_ok-labels.ensures)
+          (subst (λ (k : CodedLog). c.count.result ≡ addition_width k (alarm_added (nameless c.args.labels.now c.args.maybe))) value_is (omega (arith, width, c.count.ensures)));
+      few = omega (arith, width, c.count.ensures, few);
     }
 
 pub returns : goal.returns
@@ -112,12 +102,11 @@ returns c =
     let links : c.len.result ≡ length c.in_ok-takes.takes.items = omega (arith, c.in_ok-takes.takes.ok, c.len.ensures) in
     let width = draft_width (coded c.self.inside) c.args.labels.now c.args.maybe c.args.first_var c.len.result c.self.inside.ends.items c.self.inside.guards.items c.in_ok-takes.takes.items is takes links in
     let few = is.few in
-    let steps : c.count-2.result ≡ c.args.first_var + c.count.result = omega (arith, c.count-2.ensures.count, c.in_ok-write_alarm.ensures.fresh, c.fresh-2.ensures.count, c.fresh.ensures.count, c.new-fresh.ensures) in
     let value_is : coded c.self.inside ≡ c.of.result.value.code = ap (λ (s : LogCodeState). s.code) c.self.view_is ∙ sym (ap (λ (s : LogCodeState). s.code) c.of.ensures) in
     let written : c.write_alarm.new.out.clauses ≡ alarm_written (coded c.self.inside).grid (coded c.self.inside).asked (new_vars (coded c.self.inside) c.args.first_var c.len.result c.args.maybe) c.in_ok-takes.takes.items =
-    c.in_ok-write_alarm.ensures.written
+    c.in_ok-write_alarm.ensures
     ∙ ap (λ (s : ClauseStore). s.clauses ++ alarm_written c.self.inside.grid c.self.inside.asked (new_vars (coded c.self.inside) c.args.first_var c.len.result c.args.maybe) c.as_slice-2.result.now) c.new-clauses.ensures
     ∙ ap (alarm_written c.self.inside.grid c.self.inside.asked (new_vars (coded c.self.inside) c.args.first_var c.len.result c.args.maybe)) c.as_slice-2.ensures.value in
     let brings = draft_brings (coded c.self.inside) c.args.labels.now c.args.maybe c.args.first_var c.len.result c.self.inside.ends.items c.self.inside.guards.items c.in_ok-takes.takes.items c.write_alarm.new.out.clauses is takes links written in
     draft_of (coded c.self.inside) c.args.self.now.code c.args.labels.now c.args.maybe c.args.first_var c.count.result c.write_alarm.new.out.clauses _ (ap (λ (s : LogCodeState). s.code) c.self.view_is) brings
-    (omega (arith, width, c.count.ensures)) (ap (λ (s : LogCodeState). s.code) c.of.ensures) (ap (λ ls. alarm_added (nameless ls c.args.maybe)) c.in_ok-labels.ensures) refl (omega (arith, steps)) refl
+    (omega (arith, width, c.count.ensures)) (ap (λ (s : LogCodeState). s.code) c.of.ensures) (ap (λ ls. alarm_added (nameless ls c.args.maybe)) c.in_ok-labels.ensures) refl refl refl

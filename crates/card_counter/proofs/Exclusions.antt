@@ -1,0 +1,242 @@
+-- "At most one" by pairs or by a chain is exact by name, and its clauses are those of the names.
+use Rattle.std.proofs.Common.{◌≡◌, ℕ, zero, suc, ◌+◌, ◌-◌, ◌<◌, ◌≤◌, ◌∙◌, ◌⊎◌, inl, inr, Bool, true, false, List, [], ◌∷◌, ◌++◌, length, take, map, Option, Some, None, refl, sym, ap, subst, arith, Contains, IsTrue, slice_get, get_or, not, ◌||◌, nat_le, nat_lt, option_map, unwrap_or, cond, tests}
+use Rattle.std.specs.List.{list_any}
+use Rattle.std.proofs.lemmas.Bool.{cases_lt, cases_eq, cases_order}
+use Rattle.std.proofs.lemmas.Bool.{ltb-true, lt-ltb}
+use Rattle.std.proofs.lemmas.List.{length-map}
+use Rattle.std.proofs.lemmas.Option.{slice_get_within, slice_get-get_or, get_or_from_slice_get, slice_get-map}
+use Rattle.prop_core.specs.declared.lit.Lit.{Lit}
+use Rattle.prop_core.specs.Clauses.{Clause, negation}
+use Rattle.prop_core.specs.NamedClauses.{named_clause_true, IsCode, One, Both, Each, When}
+use Rattle.prop_core.specs.VariableNames.{Name, in_state, happens, asked, matches, done, unmatched, closed, dropped, reaches, some_of_first, Exclusion, NamedLiteral, yes, no, name_of, named_literal, named_clause}
+use Rattle.prop_core.proofs.FamilyLemmas.{code_one, code_append, code_same, code_when_true, code_when_false, reads_whole}
+use Rattle.card_counter.proofs.CodeLemmas.{code_flat, IsRead, read_at, read_length, read_negation, read_two}
+use Rattle.card_counter.proofs.ListLemmas.{contains_at}
+use Rattle.card_counter.proofs.PairLemmas.{AreNamed, ExcludedNames, pairs_exclude_names}
+use Rattle.card_counter.specs.AtMostOne.{excluded_pairs, chain_count, link_clauses, chain_clauses, exclusion_clauses, IsNamedChain, ExclusionIsCode}
+use Rattle.card_counter.specs.CounterState.{positive, negative, input_at}
+use Rattle.card_counter.specs.Exclusions.{ExclusionClause, exclusion_clause, IsExclusionClause, input_name, two, opens, goes_on, shuts_out, IsNamedExclusion, AtMostOneOf, ExclusionsHold, is_chain, with_chains, ChainsComplete, ExclusionIsSound, ExclusionIsComplete}
+
+-- a premise and a conclusion
+implied : (a b : Bool) → not a || (b || false) ≡ true → a ≡ true → b ≡ true
+implied true true h e = refl
+implied true false h e = cc
+implied false b h e = cc
+
+implies : (a b : Bool) → (a ≡ true → b ≡ true) → not a || (b || false) ≡ true
+implies true b h = let is : b ≡ true = h refl in rw is refl
+implies false b h = refl
+
+neither : (a b : Bool) → not a || (not b || false) ≡ true → a ≡ true → b ≡ true → ⊥
+neither true true h e f = cc
+neither true false h e f = cc
+neither false b h e f = cc
+
+two_negations : (a b : Bool) → (a ≡ true → b ≡ true → ⊥) → not a || (not b || false) ≡ true
+two_negations true true h = absurd (h refl refl)
+two_negations true false h = refl
+two_negations false b h = refl
+
+-- the chain is open from the first true input on
+chain_open : (value : Name → Bool) (family : Exclusion) (inputs : List Name) → ExclusionsHold value family inputs → 5 ≤ length inputs → (i : ℕ) (x : Name) → slice_get inputs i ≡ Some x → value x ≡ true →
+    (k : ℕ) → i ≤ k → suc k < length inputs → value (some_of_first family (suc k)) ≡ true
+chain_open value family inputs holds long i x at is zero h below =
+    let same : i ≡ 0 = omega arith in
+    implied (value x) (value (some_of_first family 1)) (holds (opens 0 x) (long, below, subst (λ n. slice_get inputs n ≡ Some x) same at)) is
+chain_open value family inputs holds long i x at is (suc k) h below = by (cases_eq i (suc k)) (chain_open value family inputs holds long i x at is k)
+  where
+    by : (i ≡ suc k) ⊎ (i ≡ suc k → ⊥) → (i ≤ k → suc k < length inputs → value (some_of_first family (suc k)) ≡ true) → value (some_of_first family (suc (suc k))) ≡ true
+    by (inl same) later = implied (value x) (value (some_of_first family (suc (suc k)))) (holds (opens (suc k) x) (long, below, subst (λ n. slice_get inputs n ≡ Some x) same at)) is
+    by (inr other) later = implied (value (some_of_first family (suc k))) (value (some_of_first family (suc (suc k)))) (holds (goes_on k) (long, below)) (later (omega arith) (omega arith))
+
+pub exclusion_is_sound : ExclusionIsSound
+exclusion_is_sound value family inputs holds i zero x y less at_i at_j first second = omega arith
+exclusion_is_sound value family inputs holds i (suc j) x y less at_i at_j first second = by (cases_lt 4 (length inputs))
+  where
+    by : (4 < length inputs) ⊎ (length inputs ≤ 4) → ⊥
+    by (inl long) =
+        let within = slice_get_within inputs (suc j) y at_j in
+        let open_there = chain_open value family inputs holds (omega arith) i x at_i first j (omega arith) within in
+        neither (value y) (value (some_of_first family (suc j))) (holds (shuts_out j y) (omega arith, at_j)) second open_there
+    by (inr short) = neither (value x) (value y) (holds (two i (suc j) x y) (short, less, at_i, at_j)) first second
+
+pub any_in_front : {X : Type 0} (p : X → Bool) (xs : List X) (i k : ℕ) (x : X) → i < k → slice_get xs i ≡ Some x → p x ≡ true → list_any p (take k xs) ≡ true
+any_in_front p [] i k x less at is = cc
+any_in_front p (y ∷ xs) i zero x less at is = absurd (omega arith)
+any_in_front p (y ∷ xs) zero (suc k) x less at is = let same : y ≡ x = cc in let here : p y ≡ true = ap p same ∙ is in rw here refl
+any_in_front p (y ∷ xs) (suc i) (suc k) x less at is = by (p y) (any_in_front p xs i k x (omega arith) at is)
+  where
+    by : (b : Bool) → list_any p (take k xs) ≡ true → b || list_any p (take k xs) ≡ true
+    by true rest = refl
+    by false rest = rest
+
+pub any_from_front : {X : Type 0} (p : X → Bool) (xs : List X) (k : ℕ) → list_any p (take k xs) ≡ true → (i : ℕ) × (x : X) × (i < k) × (slice_get xs i ≡ Some x) × (p x ≡ true)
+any_from_front p [] zero any = cc
+any_from_front p [] (suc k) any = cc
+any_from_front p (y ∷ xs) zero any = cc
+any_from_front {X} p (y ∷ xs) (suc k) any = by (p y) refl (any_from_front p xs k)
+  where
+    by : (b : Bool) → p y ≡ b → (list_any p (take k xs) ≡ true → (i : ℕ) × (x : X) × (i < k) × (slice_get xs i ≡ Some x) × (p x ≡ true)) →
+        (i : ℕ) × (x : X) × (i < suc k) × (slice_get (y ∷ xs) i ≡ Some x) × (p x ≡ true)
+    by true e later = (0, y, omega arith, refl, e)
+    by false e later = let rest = later (rw e at any) in (suc rest.0, rest.1, omega (arith, rest.2), rest.3, rest.4)
+
+pub same_but_chains : (inputs : Exclusion → Option (List Name)) (value : Name → Bool) (name : Name) → is_chain name ≡ false → with_chains inputs value name ≡ value name
+same_but_chains inputs value (in_state c q t) h = refl
+same_but_chains inputs value (happens e t) h = refl
+same_but_chains inputs value asked h = refl
+same_but_chains inputs value (matches i e t) h = refl
+same_but_chains inputs value (done i t) h = refl
+same_but_chains inputs value (unmatched e k t) h = refl
+same_but_chains inputs value (closed e k) h = refl
+same_but_chains inputs value (dropped i) h = refl
+same_but_chains inputs value (reaches i j) h = refl
+same_but_chains inputs value (some_of_first family i) h = cc
+
+-- where at most one input is true, and the chain says of each front whether one of it is
+pub chains_hold : (value : Name → Bool) (family : Exclusion) (xs : List Name) → ((k : ℕ) → value (some_of_first family k) ≡ list_any value (take k xs)) → AtMostOneOf value xs → ExclusionsHold value family xs
+chains_hold value family xs chain one (two i j x y) (short, less, at_i, at_j) = two_negations (value x) (value y) (λ a b. one i j x y less at_i at_j a b)
+chains_hold value family xs chain one (opens i x) (long, below, at) =
+    implies (value x) (value (some_of_first family (suc i))) (λ a. chain (suc i) ∙ any_in_front value xs i (suc i) x (omega arith) at a)
+chains_hold value family xs chain one (goes_on i) (long, below) =
+    implies (value (some_of_first family (suc i))) (value (some_of_first family (suc (suc i))))
+    (λ a. let rest = any_from_front value xs (suc i) (sym (chain (suc i)) ∙ a) in chain (suc (suc i)) ∙ any_in_front value xs rest.0 (suc (suc i)) rest.1 (omega (arith, rest.2)) rest.3 rest.4)
+chains_hold value family xs chain one (shuts_out i x) (long, at) =
+    two_negations (value x) (value (some_of_first family (suc i)))
+    (λ a b. let rest = any_from_front value xs (suc i) (sym (chain (suc i)) ∙ b) in one rest.0 (suc i) rest.1 x rest.2 rest.3 at rest.4 a)
+
+-- the inputs are no chains, so they keep their truth
+any_same : (value other : Name → Bool) (xs : List Name) (k : ℕ) → ((x : Name) → Contains xs x → value x ≡ other x) → list_any value (take k xs) ≡ list_any other (take k xs)
+any_same value other [] zero same = refl
+any_same value other [] (suc k) same = refl
+any_same value other (x ∷ xs) zero same = refl
+any_same value other (x ∷ xs) (suc k) same =
+    let here = same x (0, omega arith, refl) in
+    let rest = any_same value other xs k (λ y in'. same y (suc in'.0, omega (arith, in'.1), in'.2)) in
+    rw (here, rest) refl
+
+pub exclusion_is_complete : ExclusionIsComplete
+exclusion_is_complete inputs value = record {
+  others = same_but_chains inputs value;
+  kept = λ family k none. ap (λ o. unwrap_or (option_map (λ xs. list_any value (take k xs)) o) (value (some_of_first family k))) none;
+  hold = λ family xs some plain one.
+      let same : (x : Name) → Contains xs x → value x ≡ with_chains inputs value x = λ x in'. sym (same_but_chains inputs value x (plain x in')) in
+      chains_hold (with_chains inputs value) family xs
+      (λ k. ap (λ o. unwrap_or (option_map (λ ys. list_any value (take k ys)) o) (value (some_of_first family k))) some ∙ any_same value (with_chains inputs value) xs k same)
+      (λ i j x y less at_i at_j a b. one i j x y less at_i at_j (same x (contains_at xs i x at_i) ∙ a) (same y (contains_at xs j y at_j) ∙ b));
+}
+
+-- what the clauses read: the inputs and the chain of the family
+pub exclusion_same : (value other : Name → Bool) (family : Exclusion) (inputs : List Name) → ((x : Name) → Contains inputs x → value x ≡ other x) →
+    ((k : ℕ) → value (some_of_first family k) ≡ other (some_of_first family k)) → (which : ExclusionClause) → IsExclusionClause inputs which →
+    named_clause_true value (exclusion_clause family which) ≡ named_clause_true other (exclusion_clause family which)
+exclusion_same value other family inputs same chain (two i j x y) (short, less, at_i, at_j) =
+    let a = same x (contains_at inputs i x at_i) in let b = same y (contains_at inputs j y at_j) in cc
+exclusion_same value other family inputs same chain (opens i x) (long, below, at) = let a = same x (contains_at inputs i x at) in let b = chain (suc i) in cc
+exclusion_same value other family inputs same chain (goes_on i) (long, below) = let a = chain (suc i) in let b = chain (suc (suc i)) in cc
+exclusion_same value other family inputs same chain (shuts_out i x) (long, at) = let a = same x (contains_at inputs (suc i) x at) in let b = chain (suc i) in cc
+
+-- ---- from variables to names
+
+-- a literal that reads as a name is the variable of that name
+read_yes : (names : List (ℕ × Name)) (l : Lit) (name : Name) → named_literal names l ≡ Some (yes name) → (l.positive ≡ true) × (name_of names l.var ≡ Some name)
+read_yes names l name h = by (name_of names l.var) refl h
+  where
+    by : (o : Option Name) → name_of names l.var ≡ o → option_map (λ (n : Name). record { name = n; positive = l.positive }) o ≡ Some (yes name) → (l.positive ≡ true) × (name_of names l.var ≡ Some name)
+    by None e is = cc
+    by (Some n) e is =
+        let same : record { name = n; positive = l.positive } ≡ yes name = cc in
+        (ap (λ (x : NamedLiteral). x.positive) same, e ∙ ap (λ (x : NamedLiteral). Some x.name) same)
+
+module _ (names : List (ℕ × Name)) (family : Exclusion) (called : List Name) (inputs : List Lit) (first : ℕ) (reads : named_clause names inputs ≡ Some (map (λ name. yes name) called)) where
+  pub count : length called ≡ length inputs
+  count = sym (length-map called (λ (name : Name). yes name)) ∙ read_length names inputs (map (λ name. yes name) called) reads
+
+  abbrev pub called_at : ℕ → Name
+  called_at q = input_name called q
+
+  pub at_place : (q : ℕ) → q < length inputs → slice_get called q ≡ Some (called_at q)
+  at_place q h = slice_get-get_or called q asked (omega (arith, count))
+
+  is_called : (q : ℕ) (x : Name) → slice_get called q ≡ Some x → called_at q ≡ x
+  is_called q x at = get_or_from_slice_get called q x asked at
+
+  pub input_reads : (q : ℕ) → q < length inputs → named_literal names (input_at inputs q) ≡ Some (yes (called_at q))
+  input_reads q h =
+      let at = read_at names inputs (map (λ name. yes name) called) reads q h in
+      let there : slice_get (map (λ name. yes name) called) q ≡ Some (yes (called_at q)) = slice_get-map (λ (name : Name). yes name) called q ∙ ap (option_map (λ (name : Name). yes name)) (at_place q h) in
+      at.as_read ∙ sym at.at ∙ there
+
+  -- pairs
+  are_named : AreNamed names called_at inputs
+  are_named q l at =
+      let within = slice_get_within inputs q l at in
+      let same : input_at inputs q ≡ l = get_or_from_slice_get inputs q l (record { var = 0; positive = false }) at in
+      subst (λ (x : Lit). (x.positive ≡ true) × (name_of names x.var ≡ Some (called_at q))) same (read_yes names (input_at inputs q) (called_at q) (input_reads q within))
+
+  pairs_to : length inputs ≤ 4 → (named : List NamedLiteral) → ExcludedNames (length inputs) called_at named → IsNamedExclusion family called named
+  pairs_to short named (r, r_below, (q, q_below, same)) = (two q r (called_at q) (called_at r), (omega (arith, count), q_below, at_place q (omega arith), at_place r r_below), same)
+
+  pairs_back : length inputs ≤ 4 → (named : List NamedLiteral) → IsNamedExclusion family called named → ExcludedNames (length inputs) called_at named
+  pairs_back short named (two i j x y, (few, less, at_i, at_j), same) =
+      let within = slice_get_within called j y at_j in
+      (j, omega (arith, count), (i, less, subst (λ n. (no n ∷ no (called_at j) ∷ []) ≡ named) (sym (is_called i x at_i)) (subst (λ n. (no x ∷ no n ∷ []) ≡ named) (sym (is_called j y at_j)) same)))
+  pairs_back short named (opens i x, (long, below, at), same) = absurd (omega (arith, count))
+  pairs_back short named (goes_on i, (long, below), same) = absurd (omega (arith, count))
+  pairs_back short named (shuts_out i x, (long, at), same) = absurd (omega (arith, count))
+
+  pub short_code : length inputs ≤ 4 → IsCode names (IsNamedExclusion family called) (excluded_pairs inputs)
+  short_code short = code_same names (ExcludedNames (length inputs) called_at) (IsNamedExclusion family called) (excluded_pairs inputs) (pairs_to short) (pairs_back short) (pairs_exclude_names names called_at inputs are_named)
+
+  -- a chain
+  abbrev Link : ℕ → List NamedLiteral → Type 0
+  Link i = Both (One (exclusion_clause family (opens i (called_at i)))) (Both (One (exclusion_clause family (shuts_out i (called_at (suc i))))) (When (nat_lt (suc i) (length inputs - 1)) (One (exclusion_clause family (goes_on i)))))
+
+  pub open_reads : IsNamedChain names family first (length inputs - 1) → (i : ℕ) → i < length inputs - 1 → (named_literal names (positive (first + i)) ≡ Some (yes (some_of_first family (suc i)))) × (named_literal names (negative (first + i)) ≡ Some (no (some_of_first family (suc i))))
+  open_reads chain i h = (ap (option_map (λ (name : Name). yes name)) (chain i h), ap (option_map (λ (name : Name). no name)) (chain i h))
+
+  one_of_two : (a b : Lit) (x y : NamedLiteral) → named_literal names a ≡ Some x → named_literal names b ≡ Some y → IsCode names (One (x ∷ y ∷ [])) ((a ∷ b ∷ []) ∷ [])
+  one_of_two a b x y h k = code_one names (a ∷ b ∷ []) (x ∷ y ∷ []) (reads_whole names (a ∷ b ∷ []) (x ∷ y ∷ []) (read_two names a b x y h k))
+
+  rest_code : IsNamedChain names family first (length inputs - 1) → (i : ℕ) → i < length inputs - 1 → (b : Bool) → nat_lt (suc i) (length inputs - 1) ≡ b →
+      IsCode names (When (nat_lt (suc i) (length inputs - 1)) (One (exclusion_clause family (goes_on i)))) (cond b ((negative (first + i) ∷ positive (first + suc i) ∷ []) ∷ []) [])
+  rest_code chain i h true e = code_when_true names (nat_lt (suc i) (length inputs - 1)) (One (exclusion_clause family (goes_on i))) ((negative (first + i) ∷ positive (first + suc i) ∷ []) ∷ []) e
+      (one_of_two (negative (first + i)) (positive (first + suc i)) (no (some_of_first family (suc i))) (yes (some_of_first family (suc (suc i)))) (open_reads chain i h).1 (open_reads chain (suc i) (ltb-true (suc i) (length inputs - 1) e)).0)
+  rest_code chain i h false e = code_when_false names (nat_lt (suc i) (length inputs - 1)) (One (exclusion_clause family (goes_on i))) e
+
+  link_code : IsNamedChain names family first (length inputs - 1) → (i : ℕ) → i < length inputs - 1 → IsCode names (Link i) (link_clauses inputs first i)
+  link_code chain i h =
+      let first_code = one_of_two (negation (input_at inputs i)) (positive (first + i)) (no (called_at i)) (yes (some_of_first family (suc i))) (read_negation names (input_at inputs i) (yes (called_at i)) (input_reads i (omega arith))) (open_reads chain i h).0 in
+      let second_code = one_of_two (negation (input_at inputs (suc i))) (negative (first + i)) (no (called_at (suc i))) (no (some_of_first family (suc i))) (read_negation names (input_at inputs (suc i)) (yes (called_at (suc i))) (input_reads (suc i) (omega arith))) (open_reads chain i h).1 in
+      let rest = rest_code chain i h (nat_lt (suc i) (length inputs - 1)) refl in
+      code_append names _ _ _ _ first_code (code_append names _ _ _ _ second_code rest)
+
+  chain_to : 5 ≤ length inputs → (named : List NamedLiteral) → Each (length inputs - 1) Link named → IsNamedExclusion family called named
+  chain_to long named (i, below, inl same) = (opens i (called_at i), (omega (arith, count), omega (arith, count), at_place i (omega arith)), same)
+  chain_to long named (i, below, inr (inl same)) = (shuts_out i (called_at (suc i)), (omega (arith, count), at_place (suc i) (omega arith)), same)
+  chain_to long named (i, below, inr (inr (more, same))) = let less = ltb-true (suc i) (length inputs - 1) more in (goes_on i, (omega (arith, count), omega (arith, count, less)), same)
+
+  chain_back : 5 ≤ length inputs → (named : List NamedLiteral) → IsNamedExclusion family called named → Each (length inputs - 1) Link named
+  chain_back long named (two i j x y, (few, less, at_i, at_j), same) = absurd (omega (arith, count))
+  chain_back long named (opens i x, (many, below, at), same) = (i, omega (arith, count), inl (ap (λ n. no n ∷ yes (some_of_first family (suc i)) ∷ []) (is_called i x at) ∙ same))
+  chain_back long named (goes_on i, (many, below), same) = (i, omega (arith, count), inr (inr (lt-ltb (suc i) (length inputs - 1) (omega (arith, count)), same)))
+  chain_back long named (shuts_out i x, (many, at), same) =
+      let within = slice_get_within called (suc i) x at in
+      (i, omega (arith, count), inr (inl (ap (λ n. no n ∷ no (some_of_first family (suc i)) ∷ []) (is_called (suc i) x at) ∙ same)))
+
+  pub long_code : 5 ≤ length inputs → IsNamedChain names family first (length inputs - 1) → IsCode names (IsNamedExclusion family called) (chain_clauses inputs first)
+  long_code long chain = code_same names (Each (length inputs - 1) Link) (IsNamedExclusion family called) (chain_clauses inputs first) (chain_to long) (chain_back long)
+      (code_flat names Link (link_clauses inputs first) (length inputs - 1) (link_code chain))
+
+pub exclusion_is_code : ExclusionIsCode
+exclusion_is_code names family called inputs first reads = by (nat_le (length inputs) 4) refl
+  where
+    by : (b : Bool) → nat_le (length inputs) 4 ≡ b → IsNamedChain names family first (cond b 0 (length inputs - 1)) → IsCode names (IsNamedExclusion family called) (cond b (excluded_pairs inputs) (chain_clauses inputs first))
+    by true h chain = short_code names family called inputs first reads (short_from (length inputs) h)
+      where
+        short_from : (n : ℕ) → nat_le n 4 ≡ true → n ≤ 4
+        short_from n e = search (arith, tests)
+    by false h chain = long_code names family called inputs first reads (long_from (length inputs) h) chain
+      where
+        long_from : (n : ℕ) → nat_le n 4 ≡ false → 5 ≤ n
+        long_from n e = search (arith, tests)
