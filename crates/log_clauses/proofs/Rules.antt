@@ -21,7 +21,7 @@ use Rattle.replay.specs.Explanation.{Shows}
 use Rattle.replay.specs.Matching.{has_label}
 use Rattle.replay.specs.QuestionSize.{is_matching}
 use Rattle.run_clauses.specs.StepClauses.{numbers_below}
-use Rattle.run_clauses.proofs.Lists.{neither}
+use Rattle.run_clauses.proofs.Lists.{neither, never}
 
 -- clauses of one, two and three literals
 pub implied : (a b : Bool) → not a || (b || false) ≡ true → a ≡ true → b ≡ true
