@@ -17,12 +17,14 @@ use sat_prop::Trail;
 use std::alloc::Global;
 use std::marker::Model;
 
-/// A clause that derives by its hints, and the level to go back to.
+/// A clause that derives by its hints, and the level to go back to. The last hints lead from the conflict to the clause as it was
+/// before it was shortened: so many.
 #[derive(Drop)]
 pub struct Learnt {
     pub clause: LitList,
     pub hints: IdList,
     pub level: u32,
+    pub from_conflict: usize,
 }
 
 /// Learns from conflicts.
@@ -156,6 +158,7 @@ fn learn(
     let mut hints = Vec::new(alloc);
     let first = begin(seen, trail, db, conflict, start, &mut hints)?;
     let place = resolve_to_one(seen, trail, db, start, first, &mut hints)?;
+    let from_conflict = hints.len();
     removable.find(seen, trail, db, start)?;
     shorten(seen, removable, trail, db, start, &mut hints)?;
     let mut clause = LitList::new(alloc);
@@ -167,6 +170,7 @@ fn learn(
         clause,
         hints: IdList::from_slice(alloc, &hints)?,
         level,
+        from_conflict,
     })
 }
 
@@ -195,6 +199,7 @@ fn close(
         clause,
         hints: IdList::from_slice(alloc, &hints)?,
         level: 0,
+        from_conflict: hints.len(),
     })
 }
 
@@ -226,5 +231,6 @@ fn close_failed(
         clause,
         hints: IdList::from_slice(alloc, &hints)?,
         level: 0,
+        from_conflict: hints.len(),
     })
 }

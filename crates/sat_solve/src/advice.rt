@@ -1,20 +1,25 @@
 // What a search is advised: which variable to decide next, with which sign, and when to begin anew.
 //
-// - The variables of the clauses that a learnt clause derives from have taken part in its conflict; the most active one is suggested.
+// - The variables of the clauses that lead from a conflict to the clause that is learnt have taken part in it; the most active one is
+//   suggested.
 // - A variable is decided as it last stood (Pipatsrisawat and Darwiche, "A lightweight component caching scheme for satisfiability
 //   solvers", 2007), and the first time as false.
 //
 // No contract says that the advice is good: whoever takes it tests it.
 use crate::activity::Activity;
+use crate::levels::Levels;
 use crate::restarts::Restarts;
 use des_base::Memory;
 use prop_core::{ClauseId, Clauses, Lit};
+use sat_learn::Learnt;
+use sat_prop::Trail;
 use std::alloc::Global;
 
 #[derive(Drop)]
 pub struct Advice {
     activity: Activity,
     phases: Vec<bool>,
+    levels: Levels,
     restarts: Restarts,
 }
 
@@ -23,6 +28,7 @@ impl Advice {
         Advice {
             activity: Activity::new(alloc),
             phases: Vec::new(alloc),
+            levels: Levels::new(alloc),
             restarts: Restarts::new(),
         }
     }
@@ -31,6 +37,7 @@ impl Advice {
     pub fn widen(&mut self, vars: u32) -> Result<(), Memory> {
         let count = self.phases.len().max(vars as usize);
         self.phases.resize(count, false)?;
+        self.levels.widen(vars)?;
         self.activity.widen(vars)
     }
 
@@ -65,20 +72,28 @@ impl Advice {
         self.activity.put_back(lit.var);
     }
 
-    // Takes note of a conflict, and of the clauses that what was learnt from it derives from.
-    pub fn note(&mut self, clauses: &Clauses, hints: &[ClauseId]) {
-        for id in hints {
-            if id.0 > 0 && id.0 <= clauses.len() {
-                for lit in clauses.clause(*id) {
-                    self.activity.bump(lit.var);
-                }
-            }
+    // Takes note of a clause that was learnt, where the trail still stands as at the conflict.
+    pub fn note(&mut self, trail: &Trail, clauses: &Clauses, learnt: &Learnt) {
+        let hints = learnt.hints.as_slice();
+        for place in hints.len().saturating_sub(learnt.from_conflict)..hints.len() {
+            self.bump(clauses, hints[place]);
         }
         self.activity.end_conflict();
+        let levels = self.levels.count(trail, learnt.clause.as_slice());
+        self.restarts.note(levels);
     }
 
-    // Counts a conflict, and says whether the search is to begin anew.
+    // The variables of a clause take part in the present conflict.
+    fn bump(&mut self, clauses: &Clauses, id: ClauseId) {
+        if id.0 > 0 && id.0 <= clauses.len() {
+            for lit in clauses.clause(id) {
+                self.activity.bump(lit.var);
+            }
+        }
+    }
+
+    // Says whether the search is to begin anew.
     pub fn begins_anew(&mut self) -> bool {
-        self.restarts.ends_stretch()
+        self.restarts.begins_anew()
     }
 }

@@ -11,6 +11,7 @@ mod activity;
 mod advice;
 mod answer;
 mod ending;
+mod levels;
 mod restarts;
 mod search;
 mod solver;

@@ -133,8 +133,8 @@ fn release<R: Fn(u32) -> u64>(trail: &Trail, order: &mut Order<R>, advice: &mut 
 }
 
 // Takes note of a clause that was learnt.
-fn note(advice: &mut Advice, book: &Ledger, learnt: &Learnt) {
-    advice.note(book.clauses(), learnt.hints.as_slice());
+fn note(trail: &Trail, advice: &mut Advice, book: &Ledger, learnt: &Learnt) {
+    advice.note(trail, book.clauses(), learnt);
 }
 
 // Learns from a further conflict, and goes back.
@@ -174,7 +174,7 @@ fn pay<R: Fn(u32) -> u64>(
     let learnt = learner.analyse(trail, book.clauses(), conflict)?;
     let id = book.put_learnt(learnt.clause.as_slice(), learnt.hints.as_slice())?;
     *left -= 1;
-    note(advice, book, &learnt);
+    note(trail, advice, book, &learnt);
     retreat(trail, order, advice, learnt.level);
     trail.attach(book.clauses(), id);
     Ok(())
