@@ -47,8 +47,34 @@ pub fn next_assumption(trail: &Trail, assumptions: &[Lit], taken: &mut usize) ->
     None
 }
 
-// The place of a decision that is no assumption.
+// The place of a decision that is no assumption. The last one is nearly always one.
 pub fn further_decision(trail: &Trail, assumptions: &[Lit]) -> Option<usize>
+    ensures some { IfSome result (IsFurther trail.now assumptions.now) }
+    ensures none { IfNone result (AreAssumed trail.now assumptions.now (length trail.now.literals)) }
+{
+    if let Some(place) = last_if_further(trail, assumptions) {
+        return Some(place);
+    }
+    first_further(trail, assumptions)
+}
+
+// The place of the last decision, if it is no assumption.
+fn last_if_further(trail: &Trail, assumptions: &[Lit]) -> Option<usize>
+    ensures { IfSome result (IsFurther trail.now assumptions.now) }
+{
+    if trail.level() == 0 {
+        return None;
+    }
+    let place = trail.last_decision() as usize;
+    let literals = trail.literals();
+    if among(assumptions, literals[place]) {
+        return None;
+    }
+    Some(place)
+}
+
+// The place of the first decision that is no assumption.
+fn first_further(trail: &Trail, assumptions: &[Lit]) -> Option<usize>
     ensures some { IfSome result (IsFurther trail.now assumptions.now) }
     ensures none { IfNone result (AreAssumed trail.now assumptions.now (length trail.now.literals)) }
 {
