@@ -1,6 +1,7 @@
 pub mod Fronts
 pub mod Justifying
 pub mod Placing
+pub mod Values
 pub mod Leveling
 pub mod Seeing
 pub mod Passing

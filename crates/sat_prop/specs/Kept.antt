@@ -1,5 +1,5 @@
 -- What is kept beside the literals, so that value, level and reason of a variable are found at once.
-use Rattle.std.specs.Prelude.{◌≡◌, ℕ, ◌<◌, true, List, length, Option, Some, None, slice_index}
+use Rattle.std.specs.Prelude.{◌≡◌, ℕ, ◌<◌, ◌≤◌, Bool, true, List, length, Option, Some, None, slice_index, slice_index_or}
 use Rattle.prop_core.specs.declared.lit.Lit.{Lit}
 use Rattle.prop_core.specs.Clauses.{Clause, is_false, is_open}
 use Rattle.prop_core.specs.Derivation.{falsified, unit, standing}
@@ -7,7 +7,7 @@ use Rattle.prop_core.specs.Trail.{is_quiet, is_forced_by}
 use Rattle.std.specs.List.{list_all}
 use Rattle.sat_prop.specs.declared.standing.Stands.{Stands}
 use Rattle.sat_prop.specs.declared.standing.Stands.TheVariants.{False, Unit as Forced, Quiet}
-use Rattle.sat_prop.specs.TrailState.{TrailState, literal_at, IsJustified, AreKnown}
+use Rattle.sat_prop.specs.TrailState.{TrailState, literal_at, value_by, IsJustified, AreKnown}
 use Rattle.sat_prop.specs.Levels.{level_of, level_at, IsCut}
 use Rattle.sat_prop.specs.Quiet.{IsQuietAtDecisions}
 
@@ -15,6 +15,11 @@ use Rattle.sat_prop.specs.Quiet.{IsQuietAtDecisions}
 pub record ArePlaces (vars : ℕ) (literals : List Lit) (places : List ℕ) : Type 0 where
   pub enough : length places ≡ vars
   pub each : (place : ℕ) → place < length literals → slice_index places (literal_at literals place).var ≡ place
+
+-- The value of each variable, and of some that there may be later, so that it is read at once.
+pub record AreValues (vars : ℕ) (literals : List Lit) (values : List (Option Bool)) : Type 0 where
+  pub enough : vars ≤ length values
+  pub each : (var : ℕ) → var < length values → slice_index_or values var None ≡ value_by literals var
 
 -- the level of each literal
 pub record AreLevels (reasons : List (Option ℕ)) (levels : List ℕ) : Type 0 where

@@ -1,4 +1,5 @@
-ghost use Rattle.std.specs.Prelude.{◌≡◌, ℕ, ◌<◌, ◌≤◌, ◌+◌, ◌-◌, ◌^◌, ◌++◌, ◌∷◌, [], length, max, take, true, false, Some, None, Contains, slice_get, slice_set, slice_index, vec_len, vec_capacity, OnOk, OnErr, IfSome};
+ghost use Rattle.std.specs.Prelude.{◌≡◌, ℕ, ◌<◌, ◌≤◌, ◌+◌, ◌-◌, ◌^◌, ◌++◌, ◌∷◌, [], List, length, max, take, true, false, Some, None, Contains, slice_get, slice_set, slice_index, vec_len, vec_capacity, OnOk, OnErr, IfSome};
+ghost use Rattle.prop_core.specs.declared.lit.Lit.{Lit};
 ghost use Rattle.prop_core.specs.Derivation.{clause_numbered, unit};
 ghost use Rattle.prop_core.specs.Clauses.{is_open, is_true, negation, HasValues};
 ghost use Rattle.prop_core.specs.Trail.{has_var};
@@ -6,7 +7,7 @@ ghost use Rattle.sat_prop.specs.TrailState.{literal_at, value_by, reason_at, Sta
 ghost use Rattle.sat_prop.specs.Levels.{level_of, level_at, IsCut, IsLastDecision};
 ghost use Rattle.sat_prop.specs.Quiet.{AreQuiet, JoinsQuietly, stands};
 ghost use Rattle.sat_prop.specs.Changes.{IsFront, with_literal, with_clause, IsKeptUpTo};
-ghost use Rattle.sat_prop.specs.Kept.{IsTrailState, IsSeen};
+ghost use Rattle.sat_prop.specs.Kept.{IsTrailState, AreValues, IsSeen};
 
 use crate::standing::Stands;
 use des_base::{Memory, VAR_LIMIT};
@@ -26,13 +27,14 @@ pub struct Stack {
     levels: Vec<u32>,
     starts: Vec<u32>,
     places: Vec<u32>,
+    values: Vec<Option<bool>>,
 }
 
 impl Model for Stack {
     ghost use Rattle.std.specs.Prelude.{◌+◌, ◌≤◌, length, vec_len, vec_capacity};
     ghost use Rattle.des_base.specs.declared.TheConstants.{VAR_LIMIT};
     ghost use Rattle.sat_prop.specs.TrailState.{TrailState};
-    ghost use Rattle.sat_prop.specs.Kept.{IsTrailState, ArePlaces, AreLevels, AreStarts};
+    ghost use Rattle.sat_prop.specs.Kept.{IsTrailState, ArePlaces, AreValues, AreLevels, AreStarts};
 
     ghost Value = { TrailState };
 
@@ -41,6 +43,7 @@ impl Model for Stack {
     ghost invariant = { λ a. record {
       state : IsTrailState (record { clauses = a.db.value.clauses; attached = a.attached.items; literals = a.literals.items; reasons = a.reasons.items; vars = length a.places.items; spare = a.spare });
       places : ArePlaces (length a.places.items) a.literals.items a.places.items;
+      values : AreValues (length a.places.items) a.literals.items a.values.items;
       levels : AreLevels a.reasons.items a.levels.items;
       starts : AreStarts a.reasons.items a.starts.items;
       limit : vec_len a.places ≤ VAR_LIMIT;
@@ -66,6 +69,7 @@ impl Stack {
             levels: Vec::new(alloc),
             starts: Vec::new(alloc),
             places: Vec::new(alloc),
+            values: Vec::new(alloc),
         }
     }
 
@@ -80,6 +84,7 @@ impl Stack {
         self.reasons.reserve(count)?;
         self.levels.reserve(count)?;
         self.starts.reserve(count)?;
+        widen(&mut self.values, count)?;
         self.places.resize(count, 0)?;
         Ok(())
     }
@@ -117,6 +122,7 @@ impl Stack {
         ensures { self.new ≡ with_literal self.old lit None }
     {
         self.starts.push(self.literals.len() as u32).unwrap();
+        set(&mut self.values, lit.var, Some(lit.positive));
         put(
             &mut self.literals,
             &mut self.reasons,
@@ -134,6 +140,7 @@ impl Stack {
         ensures { IsKeptUpTo self.old self.new level }
     {
         let kept = self.count_up_to(level);
+        forget(&mut self.values, &self.literals, kept);
         self.literals.truncate(kept);
         self.reasons.truncate(kept);
         self.levels.truncate(kept);
@@ -159,15 +166,10 @@ impl Stack {
     pub fn value(&self, var: u32) -> Option<bool>
         ensures { result ≡ value_by self.now.literals var }
     {
-        if var as usize >= self.places.len() {
+        if var as usize >= self.values.len() {
             return None;
         }
-        let place = self.places[var as usize] as usize;
-        if place < self.literals.len() && self.literals[place].var == var {
-            Some(self.literals[place].positive)
-        } else {
-            None
-        }
+        self.values[var as usize]
     }
 
     /// The clause that forced a variable's literal.
@@ -306,6 +308,7 @@ impl Stack {
         requires forced { stands self.old.literals (clause_numbered db.now.clauses id) ≡ unit lit }
         ensures { self.new ≡ with_literal self.old lit (Some id) }
     {
+        set(&mut self.values, lit.var, Some(lit.positive));
         put(
             &mut self.literals,
             &mut self.reasons,
@@ -315,6 +318,39 @@ impl Stack {
             Some(id),
             self.starts.len() as u32,
         );
+    }
+}
+
+// Sees to it that values of so many variables can be kept.
+fn widen(values: &mut Vec<Option<bool>>, count: usize) -> Result<(), Memory>
+    ensures kept { (vars : ℕ) (literals : List Lit) → HasValues vars literals → AreValues vars literals values.old.items → AreValues vars literals values.new.items }
+    ensures enough { OnOk result (count ≤ length values.new.items) }
+{
+    let room = values.len().max(count);
+    values.resize(room, None)?;
+    Ok(())
+}
+
+// Keeps the value of a variable.
+fn set(values: &mut Vec<Option<bool>>, var: u32, value: Option<bool>)
+    requires { var < length values.old.items }
+    ensures { values.new.items ≡ slice_set values.old.items var value }
+{
+    values[var as usize] = value;
+}
+
+// Takes the values of the literals from a place on back.
+fn forget(values: &mut Vec<Option<bool>>, literals: &[Lit], kept: usize)
+    requires kept { kept ≤ length literals.now }
+    requires known { HasValues (length values.old.items) literals.now }
+    requires open_before { (place : ℕ) → place < length literals.now → is_open (take place literals.now) (literal_at literals.now place) ≡ true }
+    requires values { AreValues (length values.old.items) literals.now values.old.items }
+    ensures { AreValues (length values.old.items) (take kept literals.now) values.new.items }
+{
+    let mut place = literals.len();
+    'down: while place > kept {
+        place -= 1;
+        set(values, literals[place].var, None);
     }
 }
 

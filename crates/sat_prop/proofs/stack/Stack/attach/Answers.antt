@@ -21,6 +21,7 @@ invariant_of-self c =
     record {
       state = rw (c.of.ensures, e) (state_attach _ c.args.db.now.clauses c.args.id c.self.invariant.state front known quiet);
       places = c.self.invariant.places;
+      values = c.self.invariant.values;
       levels = c.self.invariant.levels;
       starts = c.self.invariant.starts;
       limit = c.self.invariant.limit;

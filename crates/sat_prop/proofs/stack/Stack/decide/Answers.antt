@@ -7,6 +7,7 @@ use Rattle.sat_prop.specs.Quiet.{AreQuiet}
 use Rattle.sat_prop.specs.Levels.{level_of}
 use Rattle.sat_prop.proofs.Justifying.{state_decided}
 use Rattle.sat_prop.proofs.Placing.{places_more}
+use Rattle.sat_prop.proofs.Values.{values_more}
 use Rattle.sat_prop.proofs.Leveling.{room_left, levels_more, starts_decided, level_decided}
 use Rattle.sat_prop.proofs.stack.Stack.decide.Goals as goal
 
@@ -45,6 +46,12 @@ overflow_cast-len-2 c =
     let starts = c.self.invariant.room_starts in
     let same = c.self.invariant.levels.same in
     grind (arith, common_steps)
+
+pub set-requires : goal.set-requires
+set-requires c =
+    let known = subst (λ (s : TrailState). c.args.lit.var < s.vars) (sym c.self.view_is) c.requires.known in
+    let enough = c.self.invariant.values.enough in
+    omega arith
 
 pub put-requires-clause-literals : goal.put-requires-clause-literals
 put-requires-clause-literals c =
@@ -118,6 +125,7 @@ invariant_of-self c =
     record {
       state = rw (p.literals, p.reasons, n) (state_decided _ c.args.lit c.self.invariant.state o k q);
       places = rw (n, p.literals, p.places) (places_more _ _ _ c.args.lit c.self.invariant.places o k);
+      values = rw (n, p.literals, c.set.ensures) (values_more _ _ _ c.args.lit c.self.invariant.values o k);
       levels = rw (p.reasons, p.levels) (levels_more _ _ None _ c.self.invariant.levels (let e = level_decided c.self.inside.reasons.items in grind (arith, common_steps)));
       starts = rw (p.reasons, begun) (starts_decided _ _ c.self.invariant.starts);
       limit = let a = c.self.invariant.limit in grind (arith, common_steps);

@@ -7,6 +7,7 @@ use Rattle.sat_prop.specs.Quiet.{stands}
 use Rattle.sat_prop.specs.Changes.{IsFront}
 use Rattle.sat_prop.proofs.Justifying.{forced_from, state_forced}
 use Rattle.sat_prop.proofs.Placing.{places_more}
+use Rattle.sat_prop.proofs.Values.{values_more}
 use Rattle.sat_prop.proofs.Leveling.{room_left, levels_more, starts_forced, level_forced}
 use Rattle.sat_prop.proofs.stack.Stack.force.Goals as goal
 
@@ -21,6 +22,13 @@ overflow_cast-len c =
     let levels = c.self.invariant.room_levels in
     let same = c.self.invariant.levels.same in
     grind (arith, common_steps)
+
+pub set-requires : goal.set-requires
+set-requires c =
+    let f = forced_from _ c.args.db.now.clauses _ _ _ c.args.lit c.args.id (subst (λ (s : TrailState). IsFront s.clauses c.args.db.now.clauses) (sym c.self.view_is) c.requires.grown) c.self.invariant.state.known (subst (λ (s : TrailState). Contains s.attached c.args.id) (sym c.self.view_is) c.requires.attached) (subst (λ (s : TrailState). stands s.literals (clause_numbered c.args.db.now.clauses c.args.id) ≡ unit c.args.lit) (sym c.self.view_is) c.requires.forced) in
+    let known = f.known in
+    let enough = c.self.invariant.values.enough in
+    omega arith
 
 pub put-requires-clause-literals : goal.put-requires-clause-literals
 put-requires-clause-literals c =
@@ -90,6 +98,7 @@ invariant_of-self c =
     record {
       state = rw (p.literals, p.reasons, n) (state_forced _ c.args.lit c.args.id c.self.invariant.state f);
       places = rw (n, p.literals, p.places) (places_more _ _ _ c.args.lit c.self.invariant.places f.open_now f.known);
+      values = rw (n, p.literals, c.set.ensures) (values_more _ _ _ c.args.lit c.self.invariant.values f.open_now f.known);
       levels = rw (p.reasons, p.levels) (levels_more _ _ (Some c.args.id) _ c.self.invariant.levels (let e = level_forced c.self.inside.reasons.items c.args.id in let a = c.self.invariant.starts.count in grind (arith, common_steps)));
       starts = rw p.reasons (starts_forced _ _ c.args.id c.self.invariant.starts);
       limit = let a = c.self.invariant.limit in grind (arith, common_steps);
