@@ -14,10 +14,11 @@ line of stations, each of which sends to the next; what was sent may be lost, an
 meshes of a telecom network (`meshes.py`), and the fifth one device that tells the same alarm again and again, each time by a fault.
 
 On 27 November 2026, on four shared processors of an Intel Xeon under load, in seconds of the processor as ratios: the whole `diagnose` by the rank alone
-and as it is now, to MiniSat run anew for each bound, and as it is now to CaDiCaL's library on the same bounds, on formulas that a model of the
-encoding in C++ printed (one run each, so below 2 not much can be told from noise).
+and by activity with Luby's restarts, to MiniSat run anew for each bound, and the latter to CaDiCaL's library on the same bounds, on formulas that a
+model of the encoding in C++ printed (one run each, so below 2 not much can be told from noise). Since then restarts follow the levels of learnt
+clauses, less is bumped, and values are read at once: what that gains in a model is told in docs/DECISIONS.md; this table wasn't made anew.
 
-| Plant | Steps | by the rank, to MiniSat | now, to MiniSat | now, to CaDiCaL |
+| Plant | Steps | by the rank, to MiniSat | by activity, to MiniSat | by activity, to CaDiCaL |
 |---|---|---|---|---|
 | 40 units | 12 | 0.10 | 0.06 | 0.7 |
 | 64 units | 18 | 0.12 | 0.04 | 0.6 |
