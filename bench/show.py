@@ -10,13 +10,12 @@ import sys
 import tempfile
 
 from measure import timed, written
-from trace import one_component, parts, states, transitions
+from trace import one_component, states, transitions
 
 CASES = [
     ("50,000 transitions, 1,000 components", transitions),
     ("50,000 transitions, one component", one_component),
     ("states under long names", states),
-    ("one line of very many parts", parts),
 ]
 
 
