@@ -29,3 +29,5 @@ pub mod DiagnoseAnswers
 pub mod DiagnoseRows
 pub mod AnswerRows
 pub mod Taking
+pub mod GeneratedRows
+pub mod BenchRows

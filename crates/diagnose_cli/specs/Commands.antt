@@ -1,8 +1,10 @@
 -- The commands, the files that each one needs, and what it may say over them.
-use Rattle.std.specs.Prelude.{◌≡◌, ℕ, ◌+◌, ◌-◌, ◌^◌, ◌≤◌, ⊤, List, [], ◌∷◌, ◌++◌, length, drop, codes, Bool, ◌&&◌, nat_eq, nat_lt, Option, Some, None, if◌then◌else◌, Err, IfSome, IsOkAnd, MatchOption, bytes_eq, option_map, option_and_then}
+use Rattle.std.specs.Prelude.{◌≡◌, ℕ, ◌+◌, ◌-◌, ◌^◌, ◌≤◌, ⊤, List, [], ◌∷◌, ◌++◌, length, drop, take, codes, ◌==◌, Bool, ◌&&◌, nat_eq, nat_lt, nat_le, Option, Some, None, if◌then◌else◌, Err, IfSome, IsOkAnd, MatchOption, bytes_eq, option_map, option_and_then}
+use Rattle.std.specs.List.{position_or_len}
 use Rattle.des_base.specs.CommandWords.{word_at}
 use Rattle.des_base.specs.Numbers.{number_up_to}
 use Rattle.des_net.specs.Network.{Net}
+use Rattle.gen_plant.specs.Plant.{most_units, plant_net, plant_log}
 use Rattle.model_text.specs.ModelFaults.{network_of, first_fault as first_model_fault}
 use Rattle.model_text.specs.PrintedModel.{model_text}
 use Rattle.replay.specs.RunText.{run_of, first_fault as first_run_fault}
@@ -13,6 +15,7 @@ use Rattle.least_faults.specs.declared.answer.Found.TheVariants.{Explained, Abse
 use Rattle.log_order.specs.Adding.{names_of}
 use Rattle.log_order.specs.Log.{Log as AlarmLog}
 use Rattle.log_csv.specs.LogText.{log_of, first_fault as first_log_fault}
+use Rattle.log_csv.specs.PrintedLog.{log_text}
 use Rattle.proof_ledger.specs.Book.{BookEntry}
 use Rattle.proof_ledger.specs.Checking.{check_proof}
 use Rattle.proof_ledger.specs.declared.checker.Checked.{Checked}
@@ -26,9 +29,9 @@ use Rattle.replay.specs.declared.replaying.Replayed.TheVariants.{Accepted, Stuck
 use Rattle.replay.specs.Traced.{IsTraced}
 use Rattle.replay.specs.declared.tracing.Traced.{Traced}
 use Rattle.replay.specs.declared.tracing.Traced.TheVariants.{Ran, Stuck}
-use Rattle.report.specs.Replies.{text_of_traced, text_of_replayed, text_of_checked, text_of_found}
+use Rattle.report.specs.Replies.{text_of_traced, text_of_replayed, text_of_checked, text_of_found, numbered}
 use Rattle.diagnose_cli.specs.declared.command.Command.{Command}
-use Rattle.diagnose_cli.specs.declared.command.Command.TheVariants.{Trace, Show, Replay, Check, Diagnose}
+use Rattle.diagnose_cli.specs.declared.command.Command.TheVariants.{Trace, Show, Replay, Check, Diagnose, GenerateModel, GenerateLog, Bench}
 use Rattle.diagnose_cli.specs.declared.stop.FaultyText.{FaultyText}
 use Rattle.diagnose_cli.specs.declared.stop.FaultyText.TheVariants.{Model, Log, Run, Cnf, Lrat}
 use Rattle.diagnose_cli.specs.declared.stop.Stop.TheVariants.{Usage, Faulty, Large}
@@ -54,6 +57,28 @@ most_budget = 2 ^ 64 - 1
 abbrev pub diagnose_of : List ℕ → List ℕ → Option Command
 diagnose_of steps budget = option_and_then (λ n. option_map (λ b. Diagnose n b) (number_up_to most_budget budget)) (number_up_to most_steps steps)
 
+-- how many units a word asks for, at least one
+abbrev pub units_of : List ℕ → Option ℕ
+units_of text = option_and_then (λ z. if nat_le 1 z then Some z else None) (number_up_to most_units text)
+
+-- a start is any number of 64 bits
+abbrev pub most_start : ℕ
+most_start = 2 ^ 64 - 1
+
+-- what the words ask of `generate`
+abbrev pub generate_of : List ℕ → List ℕ → List ℕ → Option Command
+generate_of what units start =
+    if bytes_eq what (codes "model") then option_and_then (λ z. option_map (λ s. GenerateModel z s) (number_up_to most_start start)) (units_of units)
+    else if bytes_eq what (codes "log") then option_and_then (λ z. option_map (λ s. GenerateLog z s) (number_up_to most_start start)) (units_of units)
+    else None
+
+-- what they ask of `bench`
+abbrev pub bench_of : List ℕ → List ℕ → List ℕ → List ℕ → Option Command
+bench_of units start steps budget =
+    option_and_then (λ z.
+    option_and_then (λ s.
+    option_and_then (λ n. option_map (λ b. Bench z s n b) (number_up_to most_budget budget)) (number_up_to most_steps steps)) (number_up_to most_start start)) (units_of units)
+
 -- the command that the words call, if they call one
 abbrev pub command_of : List (List ℕ) → Option Command
 command_of words =
@@ -62,12 +87,22 @@ command_of words =
     else if calls words (codes "replay") 5 then option_map (λ steps. Replay steps) (number_up_to most_steps (word_at words 4))
     else if calls words (codes "check") 3 then Some Check
     else if calls words (codes "diagnose") 5 then diagnose_of (word_at words 3) (word_at words 4)
+    else if calls words (codes "generate") 4 then generate_of (word_at words 1) (word_at words 2) (word_at words 3)
+    else if calls words (codes "bench") 5 then bench_of (word_at words 1) (word_at words 2) (word_at words 3) (word_at words 4)
     else None
 
--- `diagnose` is asked for no more steps than that
+-- `diagnose` and `bench` are asked for no more steps than that
 abbrev pub HasFewSteps : Command → Type 0
 HasFewSteps (Diagnose steps budget) = steps ≤ most_steps
+HasFewSteps (Bench units start steps budget) = steps ≤ most_steps
 HasFewSteps _ = ⊤
+
+-- a plant is asked for with no more units than it may have
+abbrev pub HasFewUnits : Command → Type 0
+HasFewUnits (GenerateModel units start) = units ≤ most_units
+HasFewUnits (GenerateLog units start) = units ≤ most_units
+HasFewUnits (Bench units start steps budget) = units ≤ most_units
+HasFewUnits _ = ⊤
 
 -- the kinds of files
 pub data FileKind : Type 0 where
@@ -118,6 +153,9 @@ files_of Show = model ∷ []
 files_of (Replay steps) = model ∷ log ∷ run ∷ []
 files_of Check = cnf ∷ lrat ∷ []
 files_of (Diagnose steps budget) = model ∷ log ∷ []
+files_of (GenerateModel units start) = []
+files_of (GenerateLog units start) = []
+files_of (Bench units start steps budget) = []
 
 abbrev pub kind_of_traced : Traced → Kind
 kind_of_traced (Ran faults) = Done
@@ -196,6 +234,27 @@ SaysDiagnosed steps budget text alarms book reply =
     (found : Found) × IsDiagnosed (network_of text) (log_of alarms) steps budget book found
     × RunReplays (network_of text) (log_of alarms) steps found × (reply ≡ reply_of_found (network_of text) steps found)
 
+-- the text of a log
+abbrev pub reply_of_log : AlarmLog → Kind × List ℕ
+reply_of_log alarms = (Done, log_text alarms)
+
+-- up to the end of the first line
+abbrev pub first_line : List ℕ → List ℕ
+first_line text = take (position_or_len (λ byte. byte == 10) text + 1) text
+
+-- how large a plant is and its question, and then the first line of the reply to the question
+abbrev pub summary_of : ℕ → Net → AlarmLog → ℕ → (Kind × List ℕ) → Kind × List ℕ
+summary_of units net alarms n reply = (
+  reply.0,
+  numbered (codes "units ") units ++ numbered (codes "alarms ") (length alarms.alarms) ++ numbered (codes "size ") (question_size net alarms n) ++ first_line reply.1,
+)
+
+-- the reply sums up what is found of a generated plant, of which the book that is left shows it, and the run that isn't printed replays
+abbrev pub SaysBenched : ℕ → ℕ → ℕ → ℕ → List BookEntry → (Kind × List ℕ) → Type 0
+SaysBenched units start steps budget book reply =
+    (found : Found) × IsDiagnosed (plant_net units) (plant_log units start) steps budget book found × RunReplays (plant_net units) (plant_log units start) steps found
+    × (reply ≡ summary_of units (plant_net units) (plant_log units start) steps (reply_of_found (plant_net units) steps found))
+
 -- what a command may say over the bytes of its files, where it leaves this book
 abbrev pub Says : Command → List BookEntry → List (List ℕ) → Transcript → Type 0
 Says Trace book (text ∷ steps ∷ []) told = (reply : Kind × List ℕ) × SaysTraced text steps reply × (told ≡ whole reply)
@@ -203,6 +262,9 @@ Says Show book (text ∷ []) told = told ≡ whole (reply_of_model (network_of t
 Says (Replay steps) book (text ∷ alarms ∷ events ∷ []) told = (reply : Kind × List ℕ) × SaysReplayed steps text alarms events reply × (told ≡ whole reply)
 Says Check book (formula ∷ proof ∷ []) told = (reply : Kind × List ℕ) × SaysChecked formula proof reply × (told ≡ whole reply)
 Says (Diagnose steps budget) book (text ∷ alarms ∷ []) told = (reply : Kind × List ℕ) × SaysDiagnosed steps budget text alarms book reply × (told ≡ whole reply)
+Says (GenerateModel units start) book [] told = told ≡ whole (reply_of_model (plant_net units))
+Says (GenerateLog units start) book [] told = told ≡ whole (reply_of_log (plant_log units start))
+Says (Bench units start steps budget) book [] told = (reply : Kind × List ℕ) × SaysBenched units start steps budget book reply × (told ≡ whole reply)
 Says _ _ _ told = ⊥
 
 -- the size, where it is above the limit
@@ -212,6 +274,7 @@ above_limit size = if nat_lt most_size size then Some size else None
 -- the size of the question that a command asks over the bytes of its files, where it is above the limit
 abbrev pub too_large : Command → List (List ℕ) → Option ℕ
 too_large (Diagnose steps budget) (text ∷ alarms ∷ []) = above_limit (question_size (network_of text) (log_of alarms) steps)
+too_large (Bench units start steps budget) [] = above_limit (question_size (plant_net units) (plant_log units start) steps)
 too_large _ _ = None
 
 -- after its files a command stops by the size of its question, or says what it may

@@ -12,3 +12,5 @@ pub mod Show
 pub mod Replay
 pub mod Check
 pub mod Diagnose
+pub mod Generated
+pub mod Benched

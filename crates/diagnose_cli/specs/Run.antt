@@ -1,5 +1,5 @@
 -- What the whole run does.
-use Rattle.std.specs.Prelude.{◌≡◌, ◌≢◌, ℕ, List, [], ◌∷◌, ◌++◌, ◌≤◌, Option, Some, codes, IsSomeAnd}
+use Rattle.std.specs.Prelude.{◌≡◌, ◌≢◌, ℕ, List, [], ◌∷◌, ◌++◌, ◌≤◌, Option, codes, IfSome, IsSomeAnd, Bool, true, false}
 use Rattle.std.specs.List.{concat}
 use Rattle.des_base.specs.Outside.{Rose, Took}
 use Rattle.des_base.specs.CommandWords.{word_at}
@@ -8,8 +8,9 @@ use Rattle.diagnose_cli.specs.Files.{Loads}
 use Rattle.diagnose_cli.specs.Transcripts.{Ending, UnlessMemory, TookCut}
 use Rattle.report.specs.Replies.{numbered}
 use Rattle.diagnose_cli.specs.Endings.{HasStatus, texts_of}
-use Rattle.diagnose_cli.specs.declared.command.Command.TheVariants.{Diagnose}
-use Rattle.diagnose_cli.specs.Commands.{Due, command_of, file_count}
+use Rattle.diagnose_cli.specs.declared.command.Command.{Command}
+use Rattle.diagnose_cli.specs.declared.command.Command.TheVariants.{Diagnose, Bench}
+use Rattle.diagnose_cli.specs.Commands.{Due, command_of, file_count, files_of}
 
 -- an ending that is due for the words with the book that is left: its texts were put, and its status is answered
 pub record Ends (l : Loads) (words : List (List ℕ)) (book : List BookEntry) (before now : Option (List ℕ)) (status : ℕ) : Type 0 where
@@ -40,9 +41,19 @@ pub record Ran (l : Loads) (words : List (List ℕ)) (book : List BookEntry) (be
   pub cut_off : status ≡ 4 → CutOff l words book before now
   pub put_failed : status ≡ 4 → rose
 
--- the words don't call `diagnose`
+-- the command asks a question
+abbrev pub is_question : Command → Bool
+is_question (Diagnose steps budget) = true
+is_question (Bench units start steps budget) = true
+is_question _ = false
+
+-- the words call no command that asks a question
 abbrev pub AsksNone : List (List ℕ) → Type 0
-AsksNone words = (steps budget : ℕ) → command_of words ≢ Some (Diagnose steps budget)
+AsksNone words = IfSome (command_of words) (λ c. is_question c ≡ false)
+
+-- the words call no command that has files
+abbrev pub LoadsNone : List (List ℕ) → Type 0
+LoadsNone words = IfSome (command_of words) (λ c. files_of c ≡ [])
 
 -- the count of the name of file i rose
 abbrev pub RoseFor : Loads → List (List ℕ) → ℕ → Type 0

@@ -1,5 +1,6 @@
-ghost use Rattle.std.specs.Prelude.{◌≡◌, length, IfSome, ◌<◌};
-ghost use Rattle.diagnose_cli.specs.Commands.{calls, command_of, file_count, HasFewSteps};
+ghost use Rattle.std.specs.Prelude.{◌≡◌, ◌≤◌, length, IfSome, ◌<◌};
+ghost use Rattle.gen_plant.specs.Plant.{most_units};
+ghost use Rattle.diagnose_cli.specs.Commands.{calls, command_of, units_of, generate_of, bench_of, file_count, HasFewSteps, HasFewUnits};
 
 use des_base::{WordList, read_number};
 
@@ -16,10 +17,32 @@ pub enum Command {
     Check,
     /// `diagnose MODEL LOG N BUDGET`: the least number of faults that explains the log within this many parallel steps, found
     /// by a search that may learn as many clauses as the budget says.
-    Diagnose { steps: u32, budget: u64 },
+    Diagnose {
+        steps: u32,
+        budget: u64,
+    },
+    /// `generate model Z START`: the model of the plant of so many units.
+    GenerateModel {
+        units: u32,
+        start: u64,
+    },
+    /// `generate log Z START`: the log of those of its units that trip.
+    GenerateLog {
+        units: u32,
+        start: u64,
+    },
+    /// `bench Z START N BUDGET`: what `diagnose` finds of that plant, summed up.
+    Bench {
+        units: u32,
+        start: u64,
+        steps: u32,
+        budget: u64,
+    },
 }
 
 const STEP_LIMIT: u64 = 1000;
+
+const UNIT_LIMIT: u64 = 900;
 
 // Whether these are this many words and the first is the name.
 fn is_call(words: &WordList, name: &str, count: usize) -> bool
@@ -34,6 +57,7 @@ pub fn command_of(words: &WordList) -> Option<Command>
     ensures command { result ≡ command_of words.now }
     ensures files { IfSome result (λ c. file_count c < length words.now) }
     ensures steps { IfSome result HasFewSteps }
+    ensures units { IfSome result HasFewUnits }
 {
     if is_call(words, "trace", 3) {
         Some(Command::Trace)
@@ -51,7 +75,57 @@ pub fn command_of(words: &WordList) -> Option<Command>
             steps: steps as u32,
             budget,
         })
+    } else if is_call(words, "generate", 4) {
+        generate_of(words.word(1), words.word(2), words.word(3))
+    } else if is_call(words, "bench", 5) {
+        bench_of(words.word(1), words.word(2), words.word(3), words.word(4))
     } else {
         None
     }
+}
+
+// How many units are asked for.
+fn units_of(text: &str) -> Option<u32>
+    ensures units { result ≡ units_of text.now }
+    ensures few { IfSome result (λ units. units ≤ most_units) }
+{
+    let units = read_number(text.as_bytes(), UNIT_LIMIT)?;
+    if 1 <= units { Some(units as u32) } else { None }
+}
+
+fn generate_of(what: &str, units: &str, start: &str) -> Option<Command>
+    ensures command { result ≡ generate_of what.now units.now start.now }
+    ensures files { IfSome result (λ c. file_count c ≡ 0) }
+    ensures steps { IfSome result HasFewSteps }
+    ensures units { IfSome result HasFewUnits }
+{
+    if what == "model" {
+        let units = units_of(units)?;
+        let start = read_number(start.as_bytes(), u64::MAX)?;
+        Some(Command::GenerateModel { units, start })
+    } else if what == "log" {
+        let units = units_of(units)?;
+        let start = read_number(start.as_bytes(), u64::MAX)?;
+        Some(Command::GenerateLog { units, start })
+    } else {
+        None
+    }
+}
+
+fn bench_of(units: &str, start: &str, steps: &str, budget: &str) -> Option<Command>
+    ensures command { result ≡ bench_of units.now start.now steps.now budget.now }
+    ensures files { IfSome result (λ c. file_count c ≡ 0) }
+    ensures steps { IfSome result HasFewSteps }
+    ensures units { IfSome result HasFewUnits }
+{
+    let units = units_of(units)?;
+    let start = read_number(start.as_bytes(), u64::MAX)?;
+    let steps = read_number(steps.as_bytes(), STEP_LIMIT)?;
+    let budget = read_number(budget.as_bytes(), u64::MAX)?;
+    Some(Command::Bench {
+        units,
+        start,
+        steps: steps as u32,
+        budget,
+    })
 }

@@ -47,6 +47,18 @@ impl Reply {
     {
         Reply { kind, text }
     }
+
+    pub fn kind(&self) -> Kind
+        ensures { result ≡ self.now.0 }
+    {
+        self.kind
+    }
+
+    pub fn text(&self) -> &[u8]
+        ensures { result.now ≡ self.now.1 }
+    {
+        self.text.as_slice()
+    }
 }
 
 /// Puts the text of an ending, and answers its status.

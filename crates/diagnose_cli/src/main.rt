@@ -5,12 +5,14 @@
 //! the status that it answers.
 #![tactic(auto)]
 
+mod bench_command;
 mod check_command;
 mod command;
 mod diagnose_command;
 mod disk_shelf;
 mod ending;
 mod files;
+mod generate_command;
 mod out_sink;
 mod replay_command;
 mod run;

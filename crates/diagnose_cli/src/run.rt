@@ -5,17 +5,21 @@ ghost use Rattle.diagnose_cli.specs.Files.{loads};
 ghost use Rattle.diagnose_cli.specs.Transcripts.{UnlessMemory, once};
 ghost use Rattle.diagnose_cli.specs.Commands.{Due, command_of};
 ghost use Rattle.diagnose_cli.specs.Exact.{StopRow};
-ghost use Rattle.diagnose_cli.specs.Run.{Ran, Ends, Broke, CutOff, LoadRow, AsksNone};
+ghost use Rattle.diagnose_cli.specs.Run.{Ran, Ends, Broke, CutOff, LoadRow, AsksNone, LoadsNone};
+ghost use Rattle.diagnose_cli.specs.Generated.{GenerateRow};
+ghost use Rattle.diagnose_cli.specs.Benched.{BenchRow};
 ghost use Rattle.diagnose_cli.specs.Trace.{TraceRow};
 ghost use Rattle.diagnose_cli.specs.Show.{ShowRow};
 ghost use Rattle.diagnose_cli.specs.Replay.{ReplayRow};
 ghost use Rattle.diagnose_cli.specs.Check.{CheckRow, RefutedRow};
 ghost use Rattle.diagnose_cli.specs.Diagnose.{DiagnoseRow, ExplainedRow, AbsentRow, UndecidedRow, ManyRow};
 
+use crate::bench_command::bench_command;
 use crate::check_command::check_command;
 use crate::command::{Command, command_of};
 use crate::diagnose_command::diagnose_command;
 use crate::ending::{Reply, put_once};
+use crate::generate_command::{generate_log_command, generate_model_command};
 use crate::replay_command::replay_command;
 use crate::show_command::show_command;
 use crate::stop::Stop;
@@ -48,6 +52,9 @@ pub fn run<F: Shelf, S: Sink>(
     ensures refuted { RefutedRow (F.held shelf.old) words.now result }
     ensures traced { result ≢ 3 → result ≢ 4 → result ≢ 9 → TraceRow (F.held shelf.old) words.now (S.taken out.old) (S.taken out.new) result }
     ensures shown { result ≢ 3 → result ≢ 4 → result ≢ 9 → ShowRow (F.held shelf.old) words.now (S.taken out.old) (S.taken out.new) result }
+    ensures generated { result ≢ 4 → result ≢ 9 → GenerateRow words.now (S.taken out.old) (S.taken out.new) result }
+    ensures benched { result ≢ 4 → result ≢ 9 → BenchRow words.now (S.taken out.old) (S.taken out.new) result book.new.entries }
+    ensures no_load { LoadsNone words.now → shelf.new ≡ shelf.old }
     ensures no_question { AsksNone words.now → book.new ≡ book.old }
     ensures stops { result ≢ 3 → result ≢ 4 → result ≢ 9 → StopRow (F.held shelf.old) words.now (S.taken out.old) (S.taken out.new) result }
     ensures usage { result ≡ 2 → command_of words.now ≡ None }
@@ -70,6 +77,7 @@ fn run_once<F: Shelf, S: Sink>(
 ) -> u8
     requires { book.old.entries ≡ [] }
     ensures ran { Ran (loads F.held F.faults shelf.old shelf.new) words.now book.new.entries (S.taken out.old) (S.taken out.new) (Rose (S.faults out.old) (S.faults out.new)) result }
+    ensures no_load { LoadsNone words.now → shelf.new ≡ shelf.old }
     ensures no_question { AsksNone words.now → book.new ≡ book.old }
 {
     let ending = answer(alloc, words, shelf, book);
@@ -85,6 +93,7 @@ fn answer<F: Shelf>(
 ) -> Result<Reply, Stop>
     requires { book.old.entries ≡ [] }
     ensures due { UnlessMemory result (Due (loads F.held F.faults shelf.old shelf.new) words.now book.new.entries (once result)) }
+    ensures no_load { LoadsNone words.now → shelf.new ≡ shelf.old }
     ensures no_question { AsksNone words.now → book.new ≡ book.old }
 {
     match command_of(words) {
@@ -96,5 +105,17 @@ fn answer<F: Shelf>(
         Some(Command::Diagnose { steps, budget }) => {
             diagnose_command(alloc, words, shelf, steps, budget, book)
         }
+        Some(Command::GenerateModel { units, start }) => {
+            generate_model_command(alloc, units, start)
+        }
+        Some(Command::GenerateLog { units, start }) => generate_log_command(alloc, units, start),
+        Some(
+            Command::Bench {
+                units,
+                start,
+                steps,
+                budget,
+            },
+        ) => bench_command(alloc, units, start, steps, budget, book),
     }
 }

@@ -22,8 +22,8 @@ pub fn show_command<F: Shelf>(alloc: Global, words: &WordList, shelf: &mut F) ->
     Ok(reply_of_model(alloc, &net)?)
 }
 
-// The reply that has the text of the network.
-fn reply_of_model(alloc: Global, net: &Network) -> Result<Reply, Memory>
+/// The reply that has the text of the network.
+pub fn reply_of_model(alloc: Global, net: &Network) -> Result<Reply, Memory>
     ensures { IfOk result (λ reply. reply ≡ reply_of_model net.now) }
 {
     let mut text = Vec::new(alloc);

@@ -8,6 +8,8 @@ use Rattle.diagnose_cli.proofs.ReplayRows.{replay_row}
 use Rattle.diagnose_cli.proofs.CheckRows.{check_row, refuted_row}
 use Rattle.diagnose_cli.proofs.DiagnoseRows.{diagnose_row}
 use Rattle.diagnose_cli.proofs.AnswerRows.{explained_row, absent_row, undecided_row, many_row}
+use Rattle.diagnose_cli.proofs.GeneratedRows.{generate_row}
+use Rattle.diagnose_cli.proofs.BenchRows.{bench_row}
 use Rattle.diagnose_cli.proofs.UsageRows.{usage_row}
 use Rattle.diagnose_cli.proofs.run.run.Goals as goal
 
@@ -70,3 +72,9 @@ returns-clause-many g c steps budget text alarms asks is =
     let four : c.run_once.result ≡ 4 → ⊥ = λ p. omega arith in
     let nine : c.run_once.result ≡ 9 → ⊥ = λ p. omega arith in
     many_row _ _ _ _ _ _ (c.run_once.ensures.ran.ends four nine) steps budget text alarms asks is
+
+pub returns-clause-generated : goal.returns-clause-generated
+returns-clause-generated g c four nine = generate_row _ _ _ _ _ _ (c.run_once.ensures.ran.ends four nine) nine
+
+pub returns-clause-benched : goal.returns-clause-benched
+returns-clause-benched g c four nine = bench_row _ _ _ _ _ _ (c.run_once.ensures.ran.ends four nine) nine

@@ -1,0 +1,14 @@
+-- By the size of its question, and what is found.
+use Rattle.std.proofs.Common.{◌≤◌, subst, arith}
+use Rattle.diagnose_cli.proofs.BenchRows.{large_plant, summed_up}
+use Rattle.diagnose_cli.proofs.Orders.{memory_free}
+use Rattle.diagnose_cli.proofs.bench_command.bench_over.Goals as goal
+
+pub returns-then-size-gt-SIZE_LIMIT : goal.returns-then-size-gt-SIZE_LIMIT
+returns-then-size-gt-SIZE_LIMIT c start of_net of_log _ =
+    large_plant c.args.units start c.args.steps c.args.budget c.args.book.now.entries c.args.net.now of_net c.args.log.now of_log c.question_size-size.result c.question_size-size.ensures.size (omega (arith, c.if-size-gt-SIZE_LIMIT.true))
+
+pub returns : goal.returns
+returns c start of_net of_log _ =
+    summed_up c.args.units start c.args.steps c.args.budget c.reply_to.new.book.entries c.args.net.now of_net c.args.log.now of_log c.question_size-size.result
+    c.in_ok-reply.reply c.in_ok-sum_up.field-0 c.alarms.result c.question_size-size.ensures.size (omega (arith, c.if-size-gt-SIZE_LIMIT.false)) c.alarms.ensures.count c.in_ok-reply.ensures c.in_ok-sum_up.ensures

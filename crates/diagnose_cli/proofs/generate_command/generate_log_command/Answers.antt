@@ -1,0 +1,10 @@
+-- By the plant that is made.
+use Rattle.diagnose_cli.proofs.GeneratedRows.{log_said}
+use Rattle.diagnose_cli.proofs.Orders.{memory_free}
+use Rattle.diagnose_cli.proofs.generate_command.generate_log_command.Goals as goal
+
+pub returns : goal.returns
+returns c l words book _ = log_said l words book c.args.units c.args.start c.in_ok-plant.plant.log _ c.in_ok-plant.ensures.log c.in_ok-reply_of_log.ensures
+
+pub returns-in_err-reply_of_log : goal.returns-in_err-reply_of_log
+returns-in_err-reply_of_log c l words book = memory_free _ _ c.from_residual-in_err-reply_of_log.ensures.1

@@ -1,0 +1,91 @@
+ghost use Rattle.std.specs.Prelude.{◌≡◌, ◌≤◌, ◌==◌, ◌++◌, ℕ, List, [], IfOk, codes, length, string_bytes};
+ghost use Rattle.std.specs.List.{position_or_len};
+ghost use Rattle.gen_plant.specs.Plant.{most_units, plant_net, plant_log};
+ghost use Rattle.replay.specs.QuestionSize.{question_size};
+ghost use Rattle.report.specs.Replies.{numbered};
+ghost use Rattle.diagnose_cli.specs.Files.{Loads};
+ghost use Rattle.diagnose_cli.specs.Transcripts.{UnlessMemory, once};
+ghost use Rattle.diagnose_cli.specs.Commands.{Answers, Closes, first_line, summary_of};
+
+use crate::command::Command;
+use crate::diagnose_command::reply_to;
+use crate::ending::Reply;
+use crate::stop::Stop;
+use alarm_session::{SIZE_LIMIT, question_size};
+use des_base::Memory;
+use des_net::Network;
+use gen_plant::generate;
+use log_order::AlarmLog;
+use proof_ledger::Ledger;
+use std::alloc::Global;
+
+/// Says what is the least number of faults of a generated plant within so many parallel steps, and how large the question is.
+pub fn bench_command(
+    alloc: Global,
+    units: u32,
+    start: u64,
+    steps: u32,
+    budget: u64,
+    book: &mut Ledger,
+) -> Result<Reply, Stop>
+    requires units { units ≤ most_units }
+    requires steps { steps ≤ 1000 }
+    requires empty { book.old.entries ≡ [] }
+    ensures { (l : Loads) (words : List (List ℕ)) → UnlessMemory result (Answers l words (Command.Bench units start steps budget) book.new.entries (once result)) }
+{
+    let plant = generate(alloc, units, start)?;
+    bench_over(alloc, units, &plant.net, &plant.log, steps, budget, book)
+}
+
+// The same where the plant is made.
+fn bench_over(
+    alloc: Global,
+    units: u32,
+    net: &Network,
+    log: &AlarmLog,
+    steps: u32,
+    budget: u64,
+    book: &mut Ledger,
+) -> Result<Reply, Stop>
+    requires steps { steps ≤ 1000 }
+    requires empty { book.old.entries ≡ [] }
+    ensures { (start : ℕ) → net.now ≡ plant_net units → log.now ≡ plant_log units start → UnlessMemory result (Closes (Command.Bench units start steps budget) book.new.entries [] (once result)) }
+{
+    let size = question_size(net, log, steps);
+    if size > SIZE_LIMIT {
+        return Err(Stop::Large(size));
+    }
+    let reply = reply_to(alloc, net, log, steps, budget, book)?;
+    Ok(sum_up(alloc, units, log.alarms(), size, &reply)?)
+}
+
+// The summary of a reply.
+fn sum_up(alloc: Global, units: u32, alarms: u32, size: u64, reply: &Reply) -> Result<Reply, Memory>
+    ensures { IfOk result (λ summary. summary ≡ (reply.now.0, numbered (codes "units ") units ++ numbered (codes "alarms ") alarms ++ numbered (codes "size ") size ++ first_line reply.now.1)) }
+{
+    let head = format!(in alloc; "units {units}\nalarms {alarms}\nsize {size}\n")?;
+    let mut text = head.into_bytes();
+    text.extend_from_slice(first_line(reply.text()))?;
+    Ok(Reply::new(reply.kind(), text))
+}
+
+// The text up to the end of its first line.
+#[tactic(auto, using(std::proofs::lemmas::List::take_all))]
+fn first_line(text: &[u8]) -> &[u8]
+    ensures { result.now ≡ first_line text.now }
+{
+    let len = line_len(text);
+    if len < text.len() {
+        &text[..len + 1]
+    } else {
+        text
+    }
+}
+
+// How many bytes stand before the first line feed, or all where there is none.
+fn line_len(text: &[u8]) -> usize
+    ensures line { result ≡ position_or_len (λ byte. byte == 10) text.now }
+    ensures within { result ≤ length text.now }
+{
+    text.iter().take_while(|byte| **byte != b'\n').count()
+}
