@@ -4,6 +4,7 @@ use Rattle.std.proofs.lemmas.List.Filters.{length-filter_both}
 use Rattle.std.proofs.lemmas.List.FromFn.{length-range_with_len}
 use Rattle.std.proofs.lemmas.Nat.{mul-le}
 use Rattle.std.specs.Prelude.{is_some, Bool}
+use Rattle.card_counter.specs.AtMostOne.{chain_count}
 use Rattle.des_base.specs.declared.TheConstants.{VAR_LIMIT}
 use Rattle.des_net.specs.Network.{Net, label_of}
 use Rattle.log_clauses.specs.Additions.{alarm_added, with_addition}
@@ -16,6 +17,7 @@ use Rattle.log_encode.specs.declared.taken.Taken.{Taken}
 use Rattle.prop_core.specs.VariableNames.{closed}
 use Rattle.replay.specs.QuestionSize.{is_matching}
 use Rattle.run_clauses.specs.StepClauses.{numbers_below}
+use Rattle.step_encode.proofs.FewChains.{chain_le}
 
 among_numbers : (p : ℕ → Bool) (k : ℕ) → length (filter p (numbers_below k)) ≤ k
 among_numbers p k = omega (arith, length-filter_both p (λ x. not (p x)) (λ x. refl) (numbers_below k), length-range_with_len 0 k)
@@ -36,7 +38,9 @@ alarm_fits code labels maybe first events steps few =
     let count = map_count unlinked taken in
     let links = among_numbers (λ e. is_matching code.net (with_addition code.log (alarm_added (nameless labels maybe))) e (length code.log.alarms)) (length code.net.events) in
     let product = mul-le (length (map unlinked taken)) (1 + code.grid.steps * 2) 8 17 (omega (arith, count, links, events)) (omega (arith, steps)) in
-    omega (arith, width, product, few, steps, false_is_small maybe)
+    let chain = chain_le (length (map unlinked taken)) in
+    let chains = mul-le code.grid.steps (chain_count (length (map unlinked taken))) 8 8 (omega (arith, steps)) (omega (arith, chain, count, links, events)) in
+    omega (arith, width, product, chains, few, steps, false_is_small maybe)
 
 pub first_names_fit : (net : Net) (first : ℕ) → length net.events ≤ 8 → first ≤ 1000 → first + length (first_names net) ≤ VAR_LIMIT
 first_names_fit net first events few =
