@@ -1,10 +1,10 @@
 use Rattle.std.proofs.Common.{arith, length, sym, subst}
 use Rattle.least_faults.proofs.Assuming.{with_bound, without_bound}
-use Rattle.least_faults.proofs.Columns.{adds_none}
+use Rattle.least_faults.proofs.Columns.{adds_none, keeps_none}
 use Rattle.least_faults.proofs.asking.assumptions.Goals as goal
 use Rattle.least_faults.proofs.asking.assumptions.Goals.{in-Some+in_ok-bound+in_ok-push, in_default}
 use Rattle.least_faults.specs.Asking.{AreAssumptions}
-use Rattle.least_faults.specs.Growing.{AddsAxioms}
+use Rattle.least_faults.specs.Growing.{AddsAxioms, KeepsColumns}
 use Rattle.least_faults.specs.Parts.{AreReady}
 use Rattle.least_faults.specs.declared.parts.Parts.{Parts}
 use Rattle.log_clauses.specs.LogClauses.{guard_literals}
@@ -40,4 +40,10 @@ returns-clause-assumed g c = elim c.match-within.branch [
       (subst (λ within. AreAssumptions c.args.parts.now.code.code c.args.parts.now.counter within c.match-within.assumed.items) (sym w.in_default.is)
       (without_bound c.args.parts.now.code.code c.args.parts.now.counter c.guards.result.now c.match-within.assumed.items c.guards.ensures.guards
       (grind (arith, w.assumed-is, c.in_ok-extend_from_slice.ensures.items, c.new-assumed.ensures.items))))
+]
+
+pub returns-clause-columns : goal.returns-clause-columns
+returns-clause-columns g c = elim c.match-within.branch [
+  | in-Some+in_ok-bound+in_ok-push w ↦ subst (λ (p : Parts g.row.R.Denot). KeepsColumns c.args.parts.now.counter p.counter) (sym w.parts-is) w.bound.ensures.kept
+  | in_default w ↦ subst (λ (p : Parts g.row.R.Denot). KeepsColumns c.args.parts.now.counter p.counter) (sym w.parts-is) (keeps_none c.args.parts.now.counter)
 ]
