@@ -2,7 +2,7 @@
 ghost use Rattle.std.specs.Prelude.{◌≤◌};
 
 use crate::run::run;
-use des_base::{MemShelf, MemSink, WordList};
+use des_base::{CountSink, MemShelf, MemSink, WordList};
 use proof_ledger::Ledger;
 use std::alloc::Global;
 use std::process::Abort;
@@ -146,4 +146,32 @@ fn large_questions(rt: HostRuntime) -> Result<(), Fail> {
     assert!(rt; shelf.add_file("log", log.as_bytes()).is_ok());
     assert_eq!(rt; entries_left(&rt, rt.alloc(), &mut shelf), 0);
     Ok(())
+}
+
+// The largest plant, of which no byte is kept.
+#[test]
+fn a_plant_is_counted(rt: HostRuntime) {
+    let words = words_of(&rt, rt.alloc(), "generate model 900 7");
+    let mut shelf = MemShelf::new(rt.alloc());
+    let mut out = CountSink::new();
+    let mut book = Ledger::new(rt.alloc());
+    let status = run(rt.alloc(), &words, &mut shelf, &mut out, &mut book);
+    assert!(rt; status == 0 && out.bytes() == 195_279);
+}
+
+// A sink that has taken its model.
+fn plant_taken(rt: &impl Abort, alloc: Global) -> MemSink {
+    let mut shelf = MemShelf::new(alloc);
+    let mut out = MemSink::new(alloc);
+    assert!(rt; out.reserve(195_279).is_ok());
+    let status = status_of(rt, alloc, "generate model 900 7", &mut shelf, &mut out);
+    assert!(rt; status == 0);
+    out
+}
+
+#[test]
+fn a_plant_is_made_alike_twice(rt: HostRuntime) {
+    let once = plant_taken(&rt, rt.alloc());
+    let twice = plant_taken(&rt, rt.alloc());
+    assert!(rt; once.taken().len() == 195_279 && once.taken() == twice.taken());
 }
