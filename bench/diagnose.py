@@ -1,4 +1,4 @@
-"""Times `diagnose` on plants that are made here, and prints a table: plant, steps, seconds, memory, answer.
+"""Times `diagnose` on plants that the program or these scripts make, and prints a table: plant, steps, seconds, memory, answer.
 
     python3 bench/diagnose.py PROGRAM [FOLDER]
 
@@ -7,11 +7,14 @@ same formula with one fault fewer than are needed, which it refutes. The formula
 `formula.program` beside this script; `rt run` proves and builds it in a scratch repository in FOLDER, or in a temporary folder. In a
 FOLDER that is kept a later run is quick. It's no part of the gate.
 
-The first plant is a bus and Z units. Each unit jams, which is a fault that nobody sees, then trips at the bus, and is fixed. Some units trip,
-one after the other, and the log has an alarm for each. So the least number of faults is the number of units that trip, and one step
-more than that is enough. The second are valves that jam and trip, all under one label, and alarms without an order. The third is a
+The first plant is a bus and Z units, as the program's `generate` makes it. Each unit jams, which is a fault that nobody sees, then trips at the
+bus, and is fixed. Some units trip, one after the other, and the log has an alarm for each. So the least number of faults is the number of
+units that trip, and one step more than that is enough. The second are valves that jam and trip, all under one label, and alarms without an order. The third is a
 line of stations, each of which sends to the next; what was sent may be lost, and the sender tells that it is late. The fourth are
-meshes of a telecom network (`meshes.py`), and the fifth one device that tells the same alarm again and again, each time by a fault.
+meshes of a telecom network (`meshes.py`), and the fifth one device that tells the same alarm again and again, each time by a fault. The last are
+grids of 20 like components that reboot and tell their neighbours to reboot (`grids.py`), with logs of 1 to 10 simulated faults, in their whole order
+and in that of each component alone, within the steps of the simulated run. So many faults are an upper bound of the answer. The table below
+has no grids: they weren't measured.
 
 On 27 November 2026, on four shared processors of an Intel Xeon under load, in seconds of the processor as ratios: the whole `diagnose` by the rank alone
 and by activity with Luby's restarts, to MiniSat run anew for each bound, and the latter to CaDiCaL's library on the same bounds, on formulas that a
@@ -38,6 +41,7 @@ import shutil
 import sys
 import tempfile
 
+from grids import question
 from measure import timed
 from meshes import mesh
 from scratch import built
@@ -51,27 +55,13 @@ BUDGET = 1_000_000
 SECONDS = 200
 
 
-def tripping(units):
-    """The units that trip."""
-    drawn, found = START % 97, []
-    for unit in range(1, units + 1):
-        drawn = (5 * drawn + 3) % 97
-        if drawn % 4 == 0:
-            found.append(unit)
-    return found
-
-
-def plant(units):
-    """A bus and units, and their log."""
-    model = ["des 1", "component bus", "state up init", "trans up note up"]
-    for u in range(1, units + 1):
-        model += [f"component u{u}", "state ok init", "state bad", "state off"]
-        model += ["trans ok jam bad", "trans bad trip off", "trans off fix ok"]
-    for u in range(1, units + 1):
-        model += [f"event jam-{u} fault : u{u}.jam", f"event trip-{u} alarm T-{u} : u{u}.trip bus.note"]
-        model += [f"event fix-{u} alarm F-{u} : u{u}.fix"]
-    trips = tripping(units)
-    return model, [f"alarm,a{u},T-{u}" for u in trips] + [f"before,a{u},a{v}" for u, v in zip(trips, trips[1:])]
+def generated(program, units):
+    """The lines of the model and of the log that the program makes of a bus and units."""
+    for kind in ["model", "log"]:
+        _, _, status, text = timed(program, "generate", kind, str(units), str(START))
+        if status != 0:
+            sys.exit(f"generate {kind} {units} {START} ended with status {status}")
+        yield text.split("\n") if text else []
 
 
 def valves(count, alarms):
@@ -105,12 +95,13 @@ def repeats(alarms):
     return model, [f"alarm,a{a},A" for a in range(alarms)] + ["before,a0,a1", "before,a0,a2"]
 
 
-def questions():
+def questions(program):
     """Each with its name, the steps, model and log."""
     for units in UNITS:
-        for more in [1, 3]:
-            yield f"{units} units", len(tripping(units)) + more, *plant(units)
-    yield "200 units", len(tripping(200)) - 1, *plant(200)
+        model, log = generated(program, units)
+        trips = sum(line.startswith("alarm,") for line in log)
+        for more in [1, 3] + [-1] * (units == 200):
+            yield f"{units} units", trips + more, model, log
     for steps in [4, 5]:
         yield "6 valves, 4 alarms", steps, *valves(6, 4)
     yield "6 valves, 5 alarms", 4, *valves(6, 5)
@@ -120,6 +111,9 @@ def questions():
     yield "mesh of 30 nodes", 12, *mesh(30, 4, 4, 8, 10)
     for alarms in [4, 5, 6, 7]:
         yield f"{alarms} alarms of one device", alarms, *repeats(alarms)
+    for faults in range(1, 11):
+        for is_ordered, order in [(True, "whole order"), (False, "order of each component")]:
+            yield f"grid of 20, {faults} faults, {order}", *question(4, 5, faults, START, is_ordered)
 
 
 def written(folder, model, log):
@@ -144,12 +138,12 @@ def refuted(printer, solver, files, steps, faults):
 
 
 def main(program, folder):
-    first = written(folder, *plant(2))
+    first = written(folder, *generated(program, 2))
     solvers = [solver for solver in ["minisat", "cadical"] if shutil.which(solver)]
     printer = built(folder, "formula", USED, *first, "1", "0") if solvers else None
     print("| Plant | Steps | Seconds | Memory MiB | Answer |" + "".join(f" {solver}, one fault fewer |" for solver in solvers))
     print("|---|---|---|---|---|" + "---|" * len(solvers))
-    for name, steps, model, log in questions():
+    for name, steps, model, log in questions(program):
         files = written(folder, model, log)
         seconds, memory, status, out = timed("timeout", str(SECONDS), program, "diagnose", *files, str(steps), str(BUDGET))
         answer = out.split("\n")[0] if status != 124 else "none"
