@@ -9,12 +9,13 @@ FOLDER that is kept a later run is quick. It's no part of the gate.
 
 The first plant is a bus and Z units, as the program's `generate` makes it. Each unit jams, which is a fault that nobody sees, then trips at the
 bus, and is fixed. Some units trip, one after the other, and the log has an alarm for each. So the least number of faults is the number of
-units that trip, and one step more than that is enough. The second are valves that jam and trip, all under one label, and alarms without an order. The third is a
-line of stations, each of which sends to the next; what was sent may be lost, and the sender tells that it is late. The fourth are
-meshes of a telecom network (`meshes.py`), and the fifth one device that tells the same alarm again and again, each time by a fault. The last are
-grids of 20 like components that reboot and tell their neighbours to reboot (`grids.py`), with logs of 1 to 10 simulated faults, in their whole order
-and in that of each component alone, within the steps of the simulated run. So many faults are an upper bound of the answer. The table below
-has no grids: they weren't measured.
+units that trip, and one step more than that is enough. The second are valves that jam and trip, all under one label, and alarms without
+an order. The third is a line of stations, each of which sends to the next; what was sent may be lost, and the sender tells that it is
+late. The fourth are meshes of a telecom network (`meshes.py`), and the fifth one device that tells the same alarm again and again, each
+time by a fault. The last are grids of 20 like components that reboot and tell their neighbours to reboot (`grids.py`), with logs of 1 to
+10 simulated faults, in their whole order and in that of each component alone, within the steps of the simulated run. So many faults are
+an upper bound of the answer. The table below has no grids: they weren't measured. A question with more faults may have no answer
+within the time that is given.
 
 On 27 November 2026, on four shared processors of an Intel Xeon under load, in seconds of the processor as ratios: the whole `diagnose` by the rank alone
 and by activity with Luby's restarts, to MiniSat run anew for each bound, and the latter to CaDiCaL's library on the same bounds, on formulas that a
