@@ -14,8 +14,14 @@ an order. The third is a line of stations, each of which sends to the next; what
 late. The fourth are meshes of a telecom network (`meshes.py`), and the fifth one device that tells the same alarm again and again, each
 time by a fault. The last are grids of 20 like components that reboot and tell their neighbours to reboot (`grids.py`), with logs of 1 to
 10 simulated faults, in their whole order and in that of each component alone, within the steps of the simulated run. So many faults are
-an upper bound of the answer. The table below has no grids: they weren't measured. A question with more faults may have no answer
-within the time that is given.
+an upper bound of the answer.
+
+On 28 November 2026, on four shared processors of an Intel Xeon under load, seconds of the processor for the whole `diagnose`, one run each: 40, 64,
+100 and 200 units 0.01, 0.06, 0.4 and 3.7; six valves with four alarms in 5 steps 0.18, with five alarms 0.65; six stations in 8 steps
+0.23, ten in 6 steps 0.15; meshes of 20 and 30 nodes 0.08 and 1.3; five and six alarms of one device 0.08 and 1.5, seven no answer within 38.
+Grids: in their whole order 1 to 7 faults at most 0.4, 8, 9 and 10 faults 4.3, 1.2 and 13.8; in the order of each component alone 1 to
+4 faults at most 0.4, 5 faults 4.3, 6 and 7 no answer within 19. Each answer on a grid was the number of simulated faults. Neither the grids
+nor these seconds were compared with other solvers.
 
 On 27 November 2026, on four shared processors of an Intel Xeon under load, in seconds of the processor as ratios: the whole `diagnose` by the rank alone
 and by activity with Luby's restarts, to MiniSat run anew for each bound, and the latter to CaDiCaL's library on the same bounds, on formulas that a
