@@ -1,4 +1,3 @@
-#!/usr/bin/env python3
 """Runs the cases of files against the program, and tells each answer that isn't the one that is written down.
 
     python3 cases/run.py [--tell] PROGRAM [FOLDER..]
@@ -61,9 +60,9 @@ def rows(folder):
 def told(program, words, at):
     """What the program answers on these words, and its status."""
     line = f'program() {{ "$PROGRAM" "$@"; }}; program {words}'
-    env = {"PATH": os.environ.get("PATH", "/usr/bin:/bin"), "PROGRAM": program, "LC_ALL": "C.UTF-8"}
+    variables = {"PATH": os.defpath, "PROGRAM": program, "LC_ALL": "C.UTF-8"}
     try:
-        ran = subprocess.run(["sh", "-c", line], cwd=at, env=env, stdin=subprocess.DEVNULL, stdout=subprocess.PIPE, timeout=SECONDS)
+        ran = subprocess.run(["sh", "-c", line], cwd=at, env=variables, stdin=subprocess.DEVNULL, stdout=subprocess.PIPE, timeout=SECONDS)
     except subprocess.TimeoutExpired:
         return f"no answer within {SECONDS} seconds\n".encode()
     if re.search(rb"^run \d+\n", ran.stdout, re.M):

@@ -1,4 +1,3 @@
-#!/usr/bin/env python3
 """Looks whether each edit of more-edits/ can still be applied: each of its old texts stands once in its file.
 
     python3 check/applies.py
