@@ -16,9 +16,11 @@ time by a fault. The last are grids of 20 like components that reboot and tell t
 10 simulated faults, in their whole order and in that of each component alone, within the steps of the simulated run. So many faults are
 an upper bound of the answer.
 
-On 28 November 2026, on four shared processors of an Intel Xeon under load, seconds of the processor for the whole `diagnose`, one run each: 40, 64,
-100 and 200 units 0.01, 0.06, 0.4 and 3.7; six valves with four alarms in 5 steps 0.18, with five alarms 0.65; six stations in 8 steps
-0.23, ten in 6 steps 0.15; meshes of 20 and 30 nodes 0.08 and 1.3; five and six alarms of one device 0.08 and 1.5, seven no answer within 38.
+On 28 November 2026, on four shared processors of an Intel Xeon under load, seconds of the processor for the whole `diagnose`, one run each, before
+and after both chains and restarts by levels came: 64, 100 and 200 units 0.04 and 0.06, 0.31 and 0.41, 3.3 and 3.7; six valves with four
+alarms in 5 steps 0.24 and 0.18, with five alarms 1.55 and 0.65; six stations in 8 steps 0.45 and 0.23, ten in 6 steps 0.32 and 0.15;
+meshes of 20 and 30 nodes 0.05 and 0.08, 0.83 and 1.25; five and six alarms of one device 0.09 and 0.08, 2.2 and 1.5, seven no answer
+within 12 and within 38.
 Grids: in their whole order 1 to 7 faults at most 0.4, 8, 9 and 10 faults 4.3, 1.2 and 13.8; in the order of each component alone 1 to
 4 faults at most 0.4, 5 faults 4.3, 6 and 7 no answer within 19. Each answer on a grid was the number of simulated faults. Neither the grids
 nor these seconds were compared with other solvers.
