@@ -12,7 +12,7 @@ use Rattle.card_counter.specs.CounterState.{CounterState, IsPlace, IsCounter, Is
 
 -- ---- longer columns
 
-longer_size : (first : ℕ) (columns : List (List ℕ)) → length (longer first columns) ≡ length columns
+pub longer_size : (first : ℕ) (columns : List (List ℕ)) → length (longer first columns) ≡ length columns
 longer_size first [] = refl
 longer_size first (column ∷ columns) = ap suc (longer_size (suc first) columns)
 
@@ -115,17 +115,18 @@ module _ (state : CounterState) (input : Lit) (first : ℕ) (full : IsFull state
 pub inputs_add_clauses : InputsAddClauses
 inputs_add_clauses state input first full clause = (clause_from state input first full clause, clause_to state input first full clause)
 
+-- each column has a variable for the new input too
+pub full_stays : (state : CounterState) (input : Lit) (first : ℕ) → IsFull state → IsFull (with_input state input first)
+full_stays state input first full j h =
+    let inside : j < length state.columns = omega (arith, h, longer_size first state.columns) in
+    let size = full j inside in
+    let more = length-append (column_at state.columns j) ((first + j) ∷ []) in
+    let inputs = length-append state.inputs (input ∷ []) in
+    ap length (longer_at first state.columns j inside) ∙ omega (arith, size, more, inputs)
+
 -- ---- it is a counter
 
 module _ (state : CounterState) (input : Lit) (first : ℕ) (counter : IsCounter state) (made : IsMade first state) (below : input.var < first) (outside : IsOutside state input) where
-  full_still : (j : ℕ) → j < length (longer first state.columns) → length (column_at (longer first state.columns) j) ≡ length (state.inputs ++ input ∷ [])
-  full_still j h =
-      let inside : j < length state.columns = omega (arith, h, longer_size first state.columns) in
-      let size = counter.full j inside in
-      let more = length-append (column_at state.columns j) ((first + j) ∷ []) in
-      let inputs = length-append state.inputs (input ∷ []) in
-      ap length (longer_at first state.columns j inside) ∙ omega (arith, size, more, inputs)
-
   abbrev Place : ℕ → ℕ → Type 0
   Place i j = IsPlace state i j ⊎ ((i ≡ length state.inputs) × (j < length state.columns))
 
@@ -182,7 +183,7 @@ pub inputs_grow : InputsGrow
 inputs_grow state input first counter made below outside = record {
   counter = record {
     filled = λ h. omega (arith, length-append state.inputs (input ∷ []));
-    full = full_still state input first counter made below outside;
+    full = full_stays state input first counter.full;
     apart = λ i j k l here there same. apart state input first counter made below outside i j k l (place_cases state input first counter.full i j here) (place_cases state input first counter.full k l there) same;
     new = λ i j l place in' same. new_apart state input first counter made below outside i j l (place_cases state input first counter.full i j place) (others state input first counter made below outside l in') same;
   };

@@ -5,9 +5,10 @@ pub mod States
 pub mod NameLemmas
 pub mod CodeLemmas
 pub mod Exact
-pub mod RowLemmas
-pub mod Vectors
 pub mod Inputs
+pub mod RowLemmas
+pub mod Adding
+pub mod Vectors
 pub mod Chains
 pub mod Listed
 pub mod Exclusions

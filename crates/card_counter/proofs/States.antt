@@ -10,7 +10,7 @@ use Rattle.prop_core.specs.declared.lit.Lit.{Lit}
 use Rattle.prop_core.specs.Clauses.{Clause, HasValues}
 use Rattle.prop_core.specs.VariableNames.{Name, reaches}
 use Rattle.card_counter.proofs.ListLemmas.{flat_same, flat_next, map_same}
-use Rattle.card_counter.specs.CounterState.{CounterState, IsPlace, IsCounter, IsMade, variable, var_at, column_at, column_before, column_clauses, with_column, next_clauses, ColumnsAddClauses, numbers_below, next_names, ColumnsAddNames}
+use Rattle.card_counter.specs.CounterState.{CounterState, IsPlace, IsCounter, IsMade, variable, var_at, column_at, column_before, column_clauses, without_columns, with_column, next_clauses, ColumnsAddClauses, numbers_below, next_names, ColumnsAddNames}
 
 pub one_more_column : {X : Type 0} (xs : List X) (x : X) → length (xs ++ x ∷ []) ≡ suc (length xs)
 one_more_column xs x = omega (arith, length-append xs (x ∷ []))
@@ -158,7 +158,7 @@ grown_is_made state first made = record {
     by i j (inr (inside, last)) = let here : variable (with_column state first) i j ≡ first + i = ap (variable (with_column state first) i) last ∙ variable_last state first i inside in omega arith
 
 -- a counter without columns
-pub none_is_counter : (inputs : List Lit) → IsCounter (record { inputs = inputs; columns = [] })
+pub none_is_counter : (inputs : List Lit) → IsCounter (without_columns inputs)
 none_is_counter inputs = record {
   filled = λ h. absurd (omega arith);
   full = λ j h. absurd (omega arith);
@@ -166,5 +166,5 @@ none_is_counter inputs = record {
   new = λ i j input here. absurd (let h = here.column in omega arith);
 }
 
-pub none_is_made : (count : ℕ) (inputs : List Lit) → HasValues count inputs → IsMade count (record { inputs = inputs; columns = [] })
+pub none_is_made : (count : ℕ) (inputs : List Lit) → HasValues count inputs → IsMade count (without_columns inputs)
 none_is_made count inputs below = record { inputs = below; columns = λ i j here. absurd (let h = here.column in omega arith) }

@@ -4,9 +4,8 @@ use Rattle.prop_core.specs.declared.lit.Lit.{Lit}
 use Rattle.prop_core.specs.VariableNames.{reaches, happens, yes, no}
 use Rattle.card_counter.specs.AtMostOne.{excluded_pairs}
 use Rattle.card_counter.specs.CounterClauses.{counts_on, counts_up, count_clause}
-use Rattle.card_counter.specs.CounterState.{CounterState, positive, negative, counter_clauses, counter_names, bound_literal, with_column, next_clauses, next_names}
+use Rattle.card_counter.specs.CounterState.{CounterState, positive, negative, counter_clauses, counter_names, bound_literal, without_columns, with_column, next_clauses, next_names}
 use Rattle.card_counter.specs.Counting.{true_count, counted}
-use Rattle.card_counter.specs.Rows.{counter_of}
 
 -- ---- pairs
 
@@ -26,11 +25,7 @@ two_inputs = positive 3 ∷ negative 4 ∷ []
 
 start : CounterState
 unfolding two_inputs
-start = record { inputs = two_inputs; columns = [] }
-
-columns_in_row : with_column (with_column start 5) 7 ≡ counter_of two_inputs (5 ∷ 7 ∷ [])
-unfolding start two_inputs
-columns_in_row = refl
+start = without_columns two_inputs
 
 first_column : next_clauses start 5 ≡ (negative 3 ∷ positive 5 ∷ []) ∷ (negative 5 ∷ positive 6 ∷ []) ∷ (positive 4 ∷ positive 6 ∷ []) ∷ []
 unfolding start two_inputs

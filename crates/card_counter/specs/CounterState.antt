@@ -1,14 +1,19 @@
 -- A counter: its inputs, the variables of its columns, and its clauses.
-use Rattle.std.specs.Prelude.{◌≡◌, ◌≢◌, ◌↔◌, ◌⊎◌, ℕ, zero, suc, ◌+◌, ◌-◌, ◌<◌, true, false, List, [], ◌∷◌, ◌++◌, map, flat_map, length, Option, None, Some, slice_index_or, Contains}
+use Rattle.std.specs.Prelude.{◌≡◌, ◌≢◌, ◌↔◌, ◌⊎◌, ℕ, zero, suc, ◌+◌, ◌-◌, ◌<◌, max, true, false, List, [], ◌∷◌, ◌++◌, map, flat_map, length, Option, None, Some, slice_index_or, Contains}
 use Rattle.std.specs.List.{range_with_len}
 use Rattle.prop_core.specs.declared.lit.Lit.{Lit}
 use Rattle.prop_core.specs.Clauses.{Clause, negation, HasValues}
 use Rattle.prop_core.specs.VariableNames.{Name, reaches}
 
--- the inputs, and for each column its variables, one for each input
+-- the inputs, for each column its variables, one for each input, and for how many more inputs there is room
 pub record CounterState : Type 0 where
   pub inputs : List Lit
   pub columns : List (List ℕ)
+  pub spare_inputs : ℕ
+
+-- with no columns, and no room
+abbrev pub without_columns : List Lit → CounterState
+without_columns inputs = record { inputs = inputs; columns = []; spare_inputs = 0 }
 
 abbrev pub numbers_below : ℕ → List ℕ
 numbers_below n = range_with_len 0 n
@@ -103,7 +108,7 @@ bound_literal state k = negative (variable state (length state.inputs - 1) k)
 -- ---- one more column, with variables in a row
 
 abbrev pub with_column : CounterState → ℕ → CounterState
-with_column state first = record { inputs = state.inputs; columns = state.columns ++ range_with_len first (length state.inputs) ∷ [] }
+with_column state first = record { inputs = state.inputs; columns = state.columns ++ range_with_len first (length state.inputs) ∷ []; spare_inputs = state.spare_inputs }
 
 -- the clauses of that column
 abbrev pub next_clauses : CounterState → ℕ → List Clause
@@ -121,7 +126,7 @@ longer first [] = []
 longer first (column ∷ columns) = (column ++ first ∷ []) ∷ longer (suc first) columns
 
 abbrev pub with_input : CounterState → Lit → ℕ → CounterState
-with_input state input first = record { inputs = state.inputs ++ input ∷ []; columns = longer first state.columns }
+with_input state input first = record { inputs = state.inputs ++ input ∷ []; columns = longer first state.columns; spare_inputs = state.spare_inputs - 1 }
 
 -- what the columns say of the new input
 abbrev pub input_clauses : CounterState → Lit → ℕ → List Clause
@@ -150,6 +155,30 @@ pub record HasInput (state : CounterState) (input : Lit) (first : ℕ) : Type 0 
 
 abbrev pub InputsGrow : Type 0
 InputsGrow = (state : CounterState) (input : Lit) (first : ℕ) → IsCounter state → IsMade first state → input.var < first → IsOutside state input → HasInput state input first
+
+-- ---- more inputs, one after another, each with its variables behind those of the one before
+
+abbrev pub with_inputs : CounterState → List Lit → ℕ → CounterState
+with_inputs state [] first = state
+with_inputs state (input ∷ more) first = with_inputs (with_input state input first) more (first + length state.columns)
+
+-- what the columns say of them
+abbrev pub inputs_clauses : CounterState → List Lit → ℕ → List Clause
+inputs_clauses state [] first = []
+inputs_clauses state (input ∷ more) first = input_clauses state input first ++ inputs_clauses (with_input state input first) more (first + length state.columns)
+
+-- the same counter with room for at least so many more inputs
+abbrev pub with_room : CounterState → ℕ → CounterState
+with_room state more = record { inputs = state.inputs; columns = state.columns; spare_inputs = max state.spare_inputs more }
+
+-- Inputs more: first those that there were, then these; and the clauses are those that there were, which stay, and the new ones.
+pub record HasInputs (state : CounterState) (more : List Lit) (first : ℕ) : Type 0 where
+  pub inputs : (with_inputs state more first).inputs ≡ state.inputs ++ more
+  pub columns : length (with_inputs state more first).columns ≡ length state.columns
+  pub clauses : (clause : Clause) → Contains (counter_clauses (with_inputs state more first)) clause ↔ Contains (counter_clauses state) clause ⊎ Contains (inputs_clauses state more first) clause
+
+abbrev pub ManyInputsAdd : Type 0
+ManyInputsAdd = (state : CounterState) (more : List Lit) (first : ℕ) → IsFull state → HasInputs state more first
 
 -- ---- names
 

@@ -1,5 +1,5 @@
 ghost use Rattle.card_counter.specs.AtMostOne.{ExclusionIsExact, ExclusionIsCode, ExclusionsRead};
-ghost use Rattle.card_counter.specs.CounterState.{ColumnsAddClauses, ColumnsAddNames, InputsAddClauses, InputsGrow};
+ghost use Rattle.card_counter.specs.CounterState.{ColumnsAddClauses, ColumnsAddNames, InputsAddClauses, InputsGrow, ManyInputsAdd};
 ghost use Rattle.card_counter.specs.Counting.{NamesGrow, CounterIsExact, NamedCountIsExact, NamedColumnsGrow, CounterIsCode, ColumnIsCode, CounterNamesStand};
 ghost use Rattle.card_counter.specs.Exclusions.{ExclusionsAreListed, ExclusionIsSound, ExclusionIsComplete};
 
@@ -36,6 +36,11 @@ pub fn exclusion_is_complete()
 /// A law: a column more has its clauses behind those of the others.
 pub fn columns_add_clauses()
     ensures { ColumnsAddClauses }
+{}
+
+/// A law: with inputs more the counter has these behind the others, and its clauses are those that there were and the new ones.
+pub fn many_inputs_add()
+    ensures { ManyInputsAdd }
 {}
 
 /// A law: an assignment extends to a counter's clauses, and with "at most k" exactly where at most k inputs are true.

@@ -21,5 +21,5 @@ pub use laws::{
     column_is_code, columns_add_clauses, columns_add_names, counter_is_code, counter_is_exact,
     counter_names_stand, exclusion_is_code, exclusion_is_complete, exclusion_is_exact,
     exclusion_is_sound, exclusions_are_listed, exclusions_read, inputs_add_clauses, inputs_grow,
-    named_columns_grow, named_count_is_exact, names_grow,
+    many_inputs_add, named_columns_grow, named_count_is_exact, names_grow,
 };

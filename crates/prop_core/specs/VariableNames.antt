@@ -19,7 +19,7 @@ pub data Name : Type 0 where
   asked : Name
   -- the alarm stands for the event in the step
   matches : (alarm event step : ℕ) → Name
-  -- the alarm is matched within the first steps
+  -- the alarm is matched within the first steps, or false
   done : (alarm steps : ℕ) → Name
   -- the event happens in the step, and none of the first alarms of its chain stands for it, of which there is at least one
   unmatched : (event alarms step : ℕ) → Name

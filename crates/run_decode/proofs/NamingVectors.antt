@@ -2,7 +2,7 @@
 use Rattle.std.proofs.Common.{◌≡◌, ◌<◌, true, false, List, [], ◌∷◌, ◌++◌, refl, arith}
 use Rattle.std.proofs.lemmas.List.Elements.{All-from_recursion}
 use Rattle.card_counter.proofs.States.{none_is_made}
-use Rattle.card_counter.specs.CounterState.{CounterState, IsMade, with_column, bound_literal}
+use Rattle.card_counter.specs.CounterState.{CounterState, IsMade, without_columns, with_column, bound_literal}
 use Rattle.des_net.specs.Models.{pump}
 use Rattle.log_encode.proofs.CodeLemmas.{empty_is_coded}
 use Rattle.log_order.specs.Log.{Alarm}
@@ -28,7 +28,7 @@ abbrev inputs : List Lit
 inputs = record { var = 9; positive = true } ∷ record { var = 10; positive = true } ∷ []
 
 abbrev no_columns : CounterState
-no_columns = record { inputs = inputs; columns = [] }
+no_columns = without_columns inputs
 
 abbrev counter : CounterState
 counter = with_column no_columns 21
@@ -64,6 +64,7 @@ perhaps = nameless ((84 ∷ []) ∷ []) true
 pub counted_too : counter_after code counter (alarm_added perhaps) 23 ≡ record {
   inputs = inputs ++ record { var = 31; positive = true } ∷ [];
   columns = (21 ∷ 22 ∷ 32 ∷ []) ∷ [];
+  spare_inputs = 0;
 }
 counted_too = refl
 

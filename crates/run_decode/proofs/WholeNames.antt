@@ -5,7 +5,7 @@ use Rattle.card_counter.proofs.NameLemmas.{counter_names_stand}
 use Rattle.card_counter.proofs.States.{place_cases, variable_before, variable_last, grown_is_counter, none_is_counter, made_later}
 use Rattle.card_counter.proofs.Inputs.{inputs_grow, place_cases as places_with_input}
 use Rattle.card_counter.specs.CounterClauses.{IsNamedCount}
-use Rattle.card_counter.specs.CounterState.{CounterState, IsCounter, IsMade, IsPlace, variable, counter_names, counter_clauses, bound_literal, with_column, with_input, HasInput}
+use Rattle.card_counter.specs.CounterState.{CounterState, IsCounter, IsMade, IsPlace, variable, counter_names, counter_clauses, bound_literal, without_columns, with_column, with_input, HasInput}
 use Rattle.log_clauses.proofs.Lists.{append_cases, append_left, append_right, all_at, pairs_append}
 use Rattle.log_clauses.proofs.Numbered.{laid_out_from}
 use Rattle.log_clauses.specs.Additions.{Addition, alarm_added, pair_added}
@@ -118,7 +118,7 @@ together_one_naming steps code counter together =
 
 -- ---- growth
 
-no_place : (inputs : List Lit) (counter : CounterState) → counter ≡ record { inputs = inputs; columns = [] } → (i j : ℕ) → IsPlace counter i j → ⊥
+no_place : (inputs : List Lit) (counter : CounterState) → counter ≡ without_columns inputs → (i j : ℕ) → IsPlace counter i j → ⊥
 no_place inputs counter is i j place = let none = ap (λ (c : CounterState). length c.columns) is in let below = place.column in omega (arith, none, below)
 
 pub together_begins : TogetherBegins

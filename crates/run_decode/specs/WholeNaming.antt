@@ -1,6 +1,6 @@
 -- One naming for a question whose steps, log and counter are coded on variables of their own: each part names its own, and the events of the log are those of the steps.
 use Rattle.std.specs.Prelude.{◌≡◌, ◌≢◌, ◌↔◌, ◌⊎◌, ℕ, ◌+◌, ◌-◌, ◌<◌, ◌≤◌, true, if◌then◌else◌, List, [], ◌∷◌, ◌++◌, length, Contains, None, Some}
-use Rattle.card_counter.specs.CounterState.{CounterState, IsCounter, IsMade, IsPlace, variable, counter_names, counter_clauses, next_clauses, input_clauses, bound_literal, with_column, with_input, IsFull}
+use Rattle.card_counter.specs.CounterState.{CounterState, IsCounter, IsMade, IsPlace, variable, counter_names, counter_clauses, next_clauses, input_clauses, bound_literal, without_columns, with_column, with_input, IsFull}
 use Rattle.card_counter.specs.Counting.{IsNamedBy}
 use Rattle.des_base.specs.declared.TheConstants.{VAR_LIMIT}
 use Rattle.log_clauses.specs.Additions.{Addition, alarm_added, pair_added}
@@ -62,7 +62,7 @@ TogetherOneNaming = (steps : CodedSteps) (code : CodedLog) (counter : CounterSta
 -- A counter without columns has no variables of its own.
 abbrev pub TogetherBegins : Type 0
 TogetherBegins = (steps : CodedSteps) (code : CodedLog) (counter : CounterState) (false_lits : List Lit) → IsCodedBeside steps code → AreFalseLiterals code false_lits →
-    counter ≡ record { inputs = fault_literals steps.net (code_grid steps) ++ false_lits; columns = [] } → AreCodedTogether steps code counter
+    counter ≡ without_columns (fault_literals steps.net (code_grid steps) ++ false_lits) → AreCodedTogether steps code counter
 
 -- the literal that says that a new alarm is false: its variable is the last of those of the addition
 abbrev pub false_input : CodedLog → Alarm → ℕ → Lit
