@@ -1,3 +1,4 @@
+// A sink that counts what it takes.
 ghost use Rattle.std.specs.Prelude.{◌≡◌, ◌+◌, ◌-◌, ◌^◌, ◌≤◌, min, length, None, IsOk};
 
 use crate::outside::{PutFault, Sink};

@@ -1,3 +1,4 @@
+// The laws of numbers and tokens in texts.
 ghost use Rattle.des_base.specs.Laws.{NumbersAreDecimal, TokensArePieces};
 
 /// A law: a text spells a number just where it is what is printed of that number.

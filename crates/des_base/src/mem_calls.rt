@@ -1,3 +1,4 @@
+// The calls that a shelf and a sink in memory are told to fail.
 ghost use Rattle.std.specs.Prelude.{◌≡◌, nat_eq};
 ghost use Rattle.std.specs.List.{list_any};
 

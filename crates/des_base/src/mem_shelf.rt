@@ -1,3 +1,4 @@
+// A shelf in memory.
 ghost use Rattle.std.specs.Prelude.{◌≡◌, ℕ, ◌+◌, ◌^◌, ◌<◌, ◌≤◌, ◌↔◌, List, [], ◌∷◌, ◌++◌, length, take, None, Some, OnOk, OnErr, IfSome, IsTrue, IsErrOf, MatchOption};
 ghost use Rattle.std.specs.Str.{bytes_eq};
 ghost use Rattle.des_base.specs.Held.{file_of, load_fails, after_load};

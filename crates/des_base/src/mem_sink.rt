@@ -1,3 +1,4 @@
+// A sink in memory.
 ghost use Rattle.std.specs.Prelude.{◌≡◌, ◌+◌, ◌≤◌, ◌↔◌, max, [], ◌∷◌, ◌++◌, Some, OnOk, OnErr, IsTrue, IsErr};
 ghost use Rattle.des_base.specs.Held.{put_fails, after_put};
 

@@ -1,3 +1,4 @@
+// Want of memory.
 use std::alloc::{AllocError, AllocFailed};
 
 /// Want of memory. It may come in place of any other answer of a call that allocates.

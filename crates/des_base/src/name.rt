@@ -1,3 +1,4 @@
+// A name, and why a text is none.
 ghost use Rattle.std.specs.Prelude.{◌≡◌, false, IfOk, OnOk, Some, refl, bytes_eq};
 ghost use Rattle.std.proofs.Common.{rules};
 ghost use Rattle.std.specs.Ordering.{nat_cmp};

@@ -1,3 +1,4 @@
+// A list of names.
 ghost use Rattle.std.specs.Prelude.{◌≡◌, [], ◌∷◌, ◌++◌, OnOk, OnErr};
 
 use crate::memory::Memory;

@@ -1,3 +1,4 @@
+// Names and their numbers.
 ghost use Rattle.std.specs.Prelude.{◌≡◌, ◌+◌, ◌^◌, ◌<◌, ◌∷◌, ◌++◌, [], length, slice_get, IfOk, IfSome, OnErr, None, Some};
 ghost use Rattle.des_base.specs.Names.{place_of, AreNames};
 

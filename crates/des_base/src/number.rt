@@ -1,3 +1,4 @@
+// Reading a number in decimal digits.
 ghost use Rattle.std.specs.Prelude.{◌≡◌, [], ◌∷◌};
 ghost use Rattle.des_base.specs.Numbers.{digits_value, up_to, number_up_to};
 

@@ -1,3 +1,4 @@
+// The tokens of a line.
 ghost use Rattle.std.specs.Prelude.{◌≡◌, ◌+◌, ◌^◌, ◌<◌, ◌≤◌, [], ◌∷◌, length, not, IfNone, IfSome, MatchOption};
 ghost use Rattle.std.specs.List.{prefix_len};
 ghost use Rattle.des_base.specs.CountedLines.{is_blank, placed, placed_tokens};

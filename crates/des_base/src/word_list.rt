@@ -1,3 +1,4 @@
+// The words of a command.
 ghost use Rattle.std.specs.Prelude.{◌≡◌, ◌<◌, List, [], ◌∷◌, ◌++◌, length, OnOk, OnErr};
 ghost use Rattle.des_base.specs.CommandWords.{word_at};
 

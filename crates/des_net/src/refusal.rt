@@ -1,3 +1,4 @@
+// Why a builder refuses a call.
 ghost use Rattle.std.specs.Prelude.{◌≡◌};
 ghost use Rattle.des_net.specs.declared.refusal.BuildRefusal.TheVariants.{Memory as NoMemory};
 

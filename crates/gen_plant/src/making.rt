@@ -1,3 +1,4 @@
+// A generated plant, made from its number.
 ghost use Rattle.std.specs.Prelude.{◌≡◌, ◌≤◌, length, IfOk, OnOk};
 ghost use Rattle.des_net.specs.Network.{no_net};
 ghost use Rattle.gen_plant.specs.Plant.{most_units, plant_net, plant_log, tripping};

@@ -1,3 +1,4 @@
+// The names of generated plants.
 ghost use Rattle.std.specs.Prelude.{◌≡◌, ◌<◌, ◌++◌, decimal, IfOk, IsTrue};
 ghost use Rattle.des_base.specs.Names.{IsName};
 ghost use Rattle.gen_plant.specs.Stages.{is_front};

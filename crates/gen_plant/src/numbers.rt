@@ -1,3 +1,4 @@
+// The numbers that follow one another from a start.
 ghost use Rattle.std.specs.Prelude.{◌≡◌, ◌<◌};
 ghost use Rattle.gen_plant.specs.Plant.{number_of, number_after};
 

@@ -1,3 +1,4 @@
+// The first fault of a log or a script.
 ghost use Rattle.std.specs.Prelude.{◌≡◌};
 ghost use Rattle.log_csv.specs.declared.fault.LogReadRefusal.TheVariants.{Memory as NoMemory};
 

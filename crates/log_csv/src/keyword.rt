@@ -1,3 +1,4 @@
+// The first field of a record.
 ghost use Rattle.std.specs.Prelude.{◌≡◌, bytes_eq};
 ghost use Rattle.log_csv.specs.Records.{keyword_of};
 

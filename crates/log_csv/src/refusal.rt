@@ -1,3 +1,4 @@
+// Why a record became no row.
 ghost use Rattle.std.specs.Prelude.{◌≡◌};
 ghost use Rattle.log_csv.specs.Reading.{refusal_of_name, refusal_at};
 ghost use Rattle.log_csv.specs.declared.refusal.RowRefusal.TheVariants.{Memory as NoMemory};

@@ -1,3 +1,4 @@
+// A row of a script.
 use des_base::{Name, NameList};
 
 /// A row of a script.

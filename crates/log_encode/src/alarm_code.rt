@@ -1,3 +1,4 @@
+// What is kept of an alarm whose clauses are written.
 ghost use Rattle.std.specs.Prelude.{◌≡◌, ◌≤◌, length, IfOk};
 ghost use Rattle.log_encode.specs.Written.{link_of};
 

@@ -1,3 +1,4 @@
+// An addition to the code of a log, before it is made.
 ghost use Rattle.std.specs.Prelude.{◌≡◌, length};
 
 use crate::alarm_code::AlarmCode;

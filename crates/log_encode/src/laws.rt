@@ -1,3 +1,4 @@
+// The laws of what was written for a log.
 ghost use Rattle.log_encode.specs.WrittenLog.{NamesDontMatter, WrittenGrows, WrittenIsExact};
 
 /// A law: with the clauses of a draft that is committed, what was written is the code of the longer log.

@@ -1,3 +1,4 @@
+// The code of an alarm log, which grows by drafts.
 ghost use Rattle.std.specs.Prelude.{◌≡◌, ◌<◌, ◌≤◌, ◌+◌, ◌*◌, ◌++◌, ◌∷◌, [], ℕ, Some, true, false, ◌&&◌, length, vec_len, vec_capacity, IfOk, OnOk, OnErr};
 ghost use Rattle.log_order.specs.Log.{no_log};
 ghost use Rattle.log_clauses.specs.Additions.{alarm_added, pair_added};

@@ -1,3 +1,4 @@
+// The events that an alarm may stand for, with the ends of their chains.
 ghost use Rattle.std.specs.Prelude.{◌≡◌, ◌<◌, ◌≤◌, ◌+◌, ◌*◌, length, All, IfOk, IfSome, bytes_eq};
 ghost use Rattle.std.specs.List.{list_any};
 ghost use Rattle.log_encode.specs.AlarmVariables.{IsWithin};

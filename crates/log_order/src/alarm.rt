@@ -1,3 +1,4 @@
+// An alarm of a log: its id, its labels, and whether it is doubtful.
 ghost use Rattle.std.specs.Prelude.{◌≡◌, ◌<◌, ◌≤◌, [], length, bytes_eq, IfOk, OnOk};
 ghost use Rattle.std.specs.List.{list_any};
 ghost use Rattle.des_base.specs.Names.{AreNames};

@@ -1,3 +1,4 @@
+// The second numbers of the pairs of one number.
 ghost use Rattle.std.specs.Prelude.{◌≡◌, ◌∷◌, ◌++◌, [], OnOk, OnErr};
 
 use des_base::Memory;

@@ -1,3 +1,4 @@
+// The order of the smallest free alarms.
 ghost use Rattle.std.specs.Prelude.{◌≡◌, ◌<◌, ℕ, ◌^◌, All, not, length, IfOk, OnOk};
 ghost use Rattle.log_order.specs.Precedence.{is_in, is_marked};
 ghost use Rattle.log_order.specs.Order.{first_below, waits, with_next, taken_first, least_order};

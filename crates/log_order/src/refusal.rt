@@ -1,3 +1,4 @@
+// Why a log refuses a call.
 ghost use Rattle.std.specs.Prelude.{◌≡◌};
 ghost use Rattle.log_order.specs.declared.refusal.LogRefusal.TheVariants.{Memory as NoMemory};
 

@@ -1,3 +1,4 @@
+// The first fault of a model text.
 ghost use Rattle.std.specs.Prelude.{◌≡◌};
 ghost use Rattle.model_text.specs.Refusals.{faulty};
 

@@ -1,3 +1,4 @@
+// The first line of a model text.
 ghost use Rattle.std.specs.Prelude.{◌≡◌};
 ghost use Rattle.model_text.specs.ModelLines.{is_header};
 ghost use Rattle.des_base.specs.CountedLines.{texts_of};

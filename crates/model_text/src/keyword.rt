@@ -1,3 +1,4 @@
+// The words that begin the lines of a model text.
 ghost use Rattle.std.specs.Prelude.{◌≡◌, bytes_eq};
 ghost use Rattle.model_text.specs.ModelLines.{keyword_of};
 

@@ -1,3 +1,4 @@
+// A name or a label that stands on a line.
 ghost use Rattle.std.specs.Prelude.{option_map};
 ghost use Rattle.model_text.specs.Extends.{IsNamed, IsLabelled};
 

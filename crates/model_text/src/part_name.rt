@@ -1,3 +1,4 @@
+// The parts of an event as they are named on its line.
 ghost use Rattle.std.specs.Prelude.{◌≡◌, ◌≤◌, ◌==◌, drop, length, option_map, IfOk};
 ghost use Rattle.std.specs.List.{position_or_len};
 ghost use Rattle.model_text.specs.ModelLines.{part_of_token};

@@ -1,3 +1,4 @@
+// Reading a model text, line by line.
 ghost use Rattle.std.specs.Prelude.{◌≡◌, ◌^◌, ◌<◌, false, length, None, IfOk, OnOk, IfErr, slice_index};
 ghost use Rattle.std.specs.Option.{option_map_or};
 ghost use Rattle.des_base.specs.CountedLines.{counted_lines, tokens_of};

@@ -1,3 +1,4 @@
+// Why a line is refused, and the code of that.
 ghost use Rattle.std.specs.Prelude.{◌≡◌};
 ghost use Rattle.model_text.specs.Refusals.{refusal_at, refusal_of_build, refusal_of_name};
 ghost use Rattle.model_text.specs.declared.refusal.LineRefusal.TheVariants.{Memory as NoMemory};

@@ -1,3 +1,4 @@
+// The laws of model texts.
 ghost use Rattle.model_text.specs.GrowthLaw.{LinesGrow};
 ghost use Rattle.model_text.specs.ReadBack.{ModelsReadBack};
 

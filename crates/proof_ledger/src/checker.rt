@@ -1,3 +1,4 @@
+// The checker of proofs.
 ghost use Rattle.std.specs.Prelude.{◌≡◌, IfOk};
 ghost use Rattle.proof_ledger.specs.HeldClauses.{held_by};
 ghost use Rattle.proof_ledger.specs.Checking.{check_proof, after_step, Leads, IsUnsatisfiable};

@@ -1,3 +1,4 @@
+// An entry of a book.
 ghost use Rattle.std.specs.Prelude.{◌≡◌};
 
 use des_base::Memory;

@@ -1,3 +1,4 @@
+// Following the hints of a step.
 ghost use Rattle.std.specs.Prelude.{◌≡◌, ℕ, List, Option, length, IfOk};
 ghost use Rattle.std.specs.Option.{option_copied};
 ghost use Rattle.prop_core.specs.declared.lit.Lit.{Lit};

@@ -1,3 +1,4 @@
+// The clauses that a checker holds, by their numbers.
 ghost use Rattle.std.specs.Prelude.{◌≡◌, ℕ, ◌+◌, ◌∷◌, [], length, None, IfOk, OnOk};
 ghost use Rattle.prop_core.specs.Derivation.{clause_numbered};
 ghost use Rattle.proof_ledger.specs.HeldClauses.{held_by};

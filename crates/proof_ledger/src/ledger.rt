@@ -1,3 +1,4 @@
+// The book of derived clauses.
 ghost use Rattle.std.specs.Prelude.{◌≡◌, ◌<◌, ◌≤◌, ◌+◌, ◌-◌, ◌^◌, ◌++◌, ◌∷◌, [], length, max, slice_get, Some, OnOk, OnErr, IfOk, IfErr};
 ghost use Rattle.prop_core.specs.Derivation.{derive, clause_numbered};
 ghost use Rattle.proof_ledger.specs.Book.{axiomatic, learnt, final, mark, clauses_of, hints_of, DerivesFrom, IsDerived, IsValidBook, IsEntryAt, shown};

@@ -1,3 +1,4 @@
+// Marks on literals.
 ghost use Rattle.std.specs.Prelude.{◌≡◌, ℕ, ◌==◌, true, false, [], ◌<◌, ◌^◌, vec_len, OnOk, OnErr, slice_index_or, if◌then◌else◌};
 ghost use Rattle.proof_ledger.specs.Marks.{place_of, AreMarked};
 

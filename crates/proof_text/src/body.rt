@@ -1,3 +1,4 @@
+// The tokens of the lines behind the header of a formula.
 ghost use Rattle.std.specs.Prelude.{◌≡◌, [], ◌∷◌, MatchOption};
 ghost use Rattle.proof_text.specs.CnfText.{lined, tokens_in};
 

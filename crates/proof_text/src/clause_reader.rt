@@ -1,3 +1,4 @@
+// Reading clauses, token by token.
 ghost use Rattle.std.specs.Prelude.{◌≡◌, ℕ, ◌≤◌, ◌++◌, ◌∷◌, [], List, MatchResult, IfOk, OnOk, None, false};
 ghost use Rattle.proof_text.specs.TextFaults.{fault_or, IsDue};
 ghost use Rattle.proof_text.specs.ClauseReading.{ended_by, open_after, entry_code, clauses_of};

@@ -1,3 +1,4 @@
+// A formula with the bound on its variables.
 use prop_core::Clauses;
 
 /// A formula in conjunctive normal form, over the variables 0 up to `vars`, without `vars` itself.

@@ -1,3 +1,4 @@
+// Reading the text of a formula.
 ghost use Rattle.std.specs.Prelude.{◌≡◌, ◌<◌, ◌≤◌, ◌^◌, length, All, IfOk, IfErr, OnOk, None};
 ghost use Rattle.prop_core.specs.Clauses.{HasValues};
 ghost use Rattle.proof_text.specs.TextFaults.{IsDue};

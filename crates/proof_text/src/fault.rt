@@ -1,3 +1,4 @@
+// The first fault of a text, and the codes of faults.
 ghost use Rattle.std.specs.Prelude.{◌≡◌};
 ghost use Rattle.proof_text.specs.declared.fault.TextRefusal.TheVariants.{Fault, Memory as NoMemory};
 

@@ -1,3 +1,4 @@
+// The header of a formula.
 ghost use Rattle.std.specs.Prelude.{◌≡◌, ◌≤◌, None, Some, MatchOption, MatchResult, IfOk};
 ghost use Rattle.des_base.specs.CountedLines.{tokens_of};
 ghost use Rattle.proof_text.specs.CnfText.{header_words, header_of, header_code};

@@ -1,3 +1,4 @@
+// The first fault of a line of a proof.
 ghost use Rattle.std.specs.Prelude.{◌≡◌, ◌&&◌, ◌||◌, nat_lt};
 ghost use Rattle.std.specs.List.{list_all, list_any};
 ghost use Rattle.des_base.specs.CountedLines.{texts_of, tokens_of};

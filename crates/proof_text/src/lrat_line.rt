@@ -1,3 +1,4 @@
+// A line of a proof, and the step that it says.
 ghost use Rattle.std.specs.Prelude.{◌≡◌, ◌≤◌, ℕ, Some, None, MatchOption, option_map, IfOk};
 ghost use Rattle.des_base.specs.CountedLines.{texts_of, tokens_of};
 ghost use Rattle.proof_text.specs.LratText.{is_deletion_mark};

@@ -1,3 +1,4 @@
+// Reading the text of a proof.
 ghost use Rattle.std.specs.Prelude.{◌≡◌, ◌<◌, ◌≤◌, ◌^◌, All, length, IfOk, IfErr, OnOk, Option, None};
 ghost use Rattle.des_base.specs.CountedLines.{tokens_of};
 ghost use Rattle.proof_text.specs.ProofNumbers.{NumbersAscend, HasNoZero};

@@ -1,3 +1,4 @@
+// The numbers of formulas and proofs, with a sign and without.
 ghost use Rattle.std.specs.Prelude.{◌≡◌, ◌≤◌, is_some, nat_lt};
 ghost use Rattle.std.specs.Char.{is_ascii_digit};
 ghost use Rattle.std.specs.List.{list_all};

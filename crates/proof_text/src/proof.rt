@@ -1,3 +1,4 @@
+// A proof as a list of steps.
 ghost use Rattle.std.specs.Prelude.{◌≡◌, [], ◌∷◌, ◌++◌, OnOk, OnErr};
 
 use des_base::Memory;

@@ -1,3 +1,4 @@
+// A list of clauses, kept in two vectors.
 ghost use Rattle.std.specs.Prelude.{◌≡◌, ◌<◌, ◌≤◌, ◌+◌, ◌-◌, ◌^◌, ◌++◌, ◌∷◌, [], length, map, max, All, OnOk, OnErr, IfOk, Some, vec_len, vec_capacity};
 ghost use Rattle.prop_core.specs.ClauseStore.{shifted};
 ghost use Rattle.prop_core.specs.Derivation.{clause_numbered};

@@ -1,3 +1,4 @@
+// The variables of events in steps.
 ghost use Rattle.std.specs.Prelude.{◌≡◌, ◌+◌, ◌*◌, ◌<◌, ◌≤◌};
 ghost use Rattle.prop_core.specs.Grids.{grid_variable};
 

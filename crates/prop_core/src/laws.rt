@@ -1,3 +1,4 @@
+// The laws of derivation and of names.
 ghost use Rattle.prop_core.specs.Grids.{GridsAreInjective};
 ghost use Rattle.prop_core.specs.Laws.{DerivedClausesAreTrue};
 ghost use Rattle.prop_core.specs.NamedClauses.{AssignmentsMatch, ValuesMatch};

@@ -1,3 +1,4 @@
+// Lists of literals and of the numbers of clauses.
 ghost use Rattle.std.specs.Prelude.{◌≡◌, [], ◌∷◌, ◌++◌, IfOk, OnOk, OnErr};
 
 use crate::clauses::ClauseId;

@@ -1,3 +1,4 @@
+// A literal.
 ghost use Rattle.std.specs.Prelude.{◌≡◌, ◌<◌};
 ghost use Rattle.prop_core.specs.Clauses.{negation};
 

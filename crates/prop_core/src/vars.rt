@@ -1,3 +1,4 @@
+// The variables that were made.
 ghost use Rattle.std.specs.Prelude.{◌≡◌, ◌+◌, ◌≤◌};
 
 use des_base::VAR_LIMIT;

@@ -1,3 +1,4 @@
+// The alarms of a log that have a place in the order of a run.
 ghost use Rattle.std.specs.Prelude.{◌≡◌, ◌<◌, [], ◌∷◌, ◌++◌, length, All, IfOk, IfSome, OnOk, OnErr, false};
 ghost use Rattle.log_order.specs.Log.{place_in};
 ghost use Rattle.log_order.specs.Precedence.{is_in};

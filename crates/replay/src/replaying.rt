@@ -1,3 +1,4 @@
+// Replaying a run against a log.
 ghost use Rattle.std.specs.Prelude.{◌≡◌, ◌<◌, ◌≤◌, ◌↔◌, ℕ, not, length, count_by, All, IfOk, IfSome, MatchOption};
 ghost use Rattle.des_net.specs.Run.{IsRun};
 ghost use Rattle.replay.specs.Traced.{word_of};

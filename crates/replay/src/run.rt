@@ -1,3 +1,4 @@
+// A run as it was written down.
 ghost use Rattle.std.specs.Prelude.{◌≡◌, ◌<◌, ◌≤◌, [], ◌∷◌, ◌++◌, not, length, OnOk, OnErr};
 ghost use Rattle.replay.specs.Traced.{event_of};
 ghost use Rattle.replay.specs.Matching.{is_real};

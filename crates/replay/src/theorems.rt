@@ -1,3 +1,4 @@
+// The laws of traces, explanations and answers.
 ghost use Rattle.replay.specs.Deciding.{ExplainsDecides};
 ghost use Rattle.replay.specs.Explanation.{LeastIsOne, AbsentExcludes, ManyIsAbove};
 ghost use Rattle.replay.specs.Replayed.{RepliesAreUnique, AcceptedExplains};

@@ -1,3 +1,4 @@
+// The laws of questions over steps, logs and counters.
 ghost use Rattle.run_decode.specs.Decided.{FaithfulDecides, NoneIsLeast, QuestionIsDecided, RefutedIsDecided};
 ghost use Rattle.run_decode.specs.DecodedRuns.{DecodedExplains, FaultLiteralsStay, FaultsAreInputs};
 ghost use Rattle.run_decode.specs.RunNaming.{BesideOneNaming, CodedAlarmsStand, CodedRunsExplain, TruthsAreRead};
