@@ -9,7 +9,7 @@ use Rattle.std.proofs.lemmas.List.FromFn.{length-range_with_len, length-map-rang
 use Rattle.des_base.proofs.BoolLemmas.{both, either, otherwise, same, is_less}
 use Rattle.des_base.specs.Names.{place_of}
 use Rattle.log_order.specs.Adding.{alarm_refusal, with_alarm, before_refusal, with_pair, names_of, most_alarms, most_pairs}
-use Rattle.log_order.specs.Log.{Log, has_pair, reaches, closes_cycle}
+use Rattle.log_order.specs.Log.{Log, has_pair, reaches, closes_cycle, a_log, an_alarm}
 use Rattle.gen_plant.specs.Plant.{most_units, units, number_of, number_after, trips, tripping, trip_label, alarm_name, alarm_of, in_a_row, plant_log}
 use Rattle.gen_plant.specs.Stages.{with_tripped, AwaitsAlarm}
 use Rattle.gen_plant.proofs.Lists.{units_more, units_below, each, each_filtered, absent_map, not_most}
@@ -76,7 +76,7 @@ row_of k n h = let less : n - 1 ≡ k = omega arith in ap row less
 pub pair_free : (old log : Log) (name label : List ℕ) (first second : ℕ) → second ≡ length old.alarms → first + 1 ≡ second → second < most_units → old.pairs ≡ in_a_row (length old.alarms)
     → log ≡ with_alarm old name (label ∷ []) false → before_refusal (length log.alarms) log.pairs first second ≡ None
 pair_free old log name label first second at next few in_row is =
-    let count = ap (λ (l : Log). length l.alarms) is ∙ length-append old.alarms ((record { name = name; labels = label ∷ []; doubtful = false }) ∷ []) in
+    let count = ap (λ (l : Log). length l.alarms) is ∙ length-append old.alarms ((an_alarm name (label ∷ []) false) ∷ []) in
     let pairs : log.pairs ≡ row first = ap (λ (l : Log). l.pairs) is ∙ in_row ∙ row_of first (length old.alarms) (omega arith) in
     let free = row_free (length log.alarms) first (omega arith) (omega arith) in
     ap (λ ps. before_refusal (length log.alarms) ps first second) pairs ∙ ap (before_refusal (length log.alarms) (row first) first) (sym next) ∙ free
@@ -89,7 +89,7 @@ pub first_added : (old log : Log) (unit : ℕ) (name label : List ℕ) → name 
     → log ≡ with_alarm old name (label ∷ []) false → log ≡ with_tripped old unit
 first_added old log unit name label called labelled none in_row is =
     let pairs : old.pairs ≡ in_a_row (length old.alarms + 1) = in_row ∙ ap in_a_row (sym none) ∙ ap (λ n. in_a_row (n + 1)) none in
-    named_alarm old log unit name label called labelled is ∙ ap (λ ps. record { alarms = old.alarms ++ alarm_of unit ∷ []; pairs = ps }) pairs
+    named_alarm old log unit name label called labelled is ∙ ap (λ ps. (a_log (old.alarms ++ alarm_of unit ∷ []) ps)) pairs
 
 pub next_added : (old log new : Log) (unit first second : ℕ) (name label : List ℕ) → name ≡ alarm_name unit → label ≡ trip_label unit → second ≡ length old.alarms → first + 1 ≡ second
     → old.pairs ≡ in_a_row (length old.alarms) → log ≡ with_alarm old name (label ∷ []) false → new ≡ record log { pairs = with_pair log.pairs first second } → new ≡ with_tripped old unit
@@ -98,7 +98,7 @@ next_added old log new unit first second name label called labelled at next in_r
     let pairs : with_pair log.pairs first second ≡ in_a_row (length old.alarms + 1) =
     ap (λ ps. with_pair ps first second) before ∙ ap (with_pair (row first) first) (sym next) ∙ row_more first ∙ sym (row_of (first + 1) (length old.alarms + 1) (omega arith)) in
     let alarms : log.alarms ≡ old.alarms ++ alarm_of unit ∷ [] = ap (λ (l : Log). l.alarms) (named_alarm old log unit name label called labelled is) in
-    is_new ∙ (λ i. record { alarms = alarms i; pairs = pairs i })
+    is_new ∙ (λ i. (a_log (alarms i) (pairs i)))
 
 -- ---- one more unit
 
@@ -130,12 +130,12 @@ map_push [] x = refl
 map_push (y ∷ xs) x = ap (λ alarms. alarm_of y ∷ alarms) (map_push xs x)
 
 abbrev log_of : List ℕ → Log
-log_of xs = record { alarms = map alarm_of xs; pairs = in_a_row (length xs) }
+log_of xs = a_log (map alarm_of xs) (in_a_row (length xs))
 
 log_more : (b : Bool) (xs : List ℕ) (x : ℕ) → log_of (xs ++ cond b (x ∷ []) []) ≡ cond b (with_tripped (log_of xs) x) (log_of xs)
 log_more true xs x =
     let count : length (xs ++ x ∷ []) ≡ length (map alarm_of xs) + 1 = omega (arith, length-append xs (x ∷ []), length_mapped xs) in
-    λ i. record { alarms = map_push xs x i; pairs = ap in_a_row count i }
+    λ i. (a_log (map_push xs x i) (ap in_a_row count i))
 log_more false xs x = ap log_of (append-nil xs)
 
 tripping_more : (start done : ℕ) → tripping (done + 1) start ≡ tripping done start ++ cond (trips start (done + 1)) ((done + 1) ∷ []) []

@@ -3,7 +3,7 @@ use Rattle.std.proofs.Common.{◌≡◌, ℕ, true, false, List, [], ◌∷◌, 
 use Rattle.std.specs.Prelude.{codes, map}
 use Rattle.std.specs.Fmt.{digits}
 use Rattle.des_net.specs.Models.{moves, takes, seen, fails}
-use Rattle.log_order.specs.Log.{Alarm}
+use Rattle.log_order.specs.Log.{Alarm, a_log, an_alarm}
 use Rattle.gen_plant.specs.Plant.{number_of, tripping, units, plant_net, plant_log}
 
 -- the first numbers of start 7
@@ -35,14 +35,14 @@ unfolding digits
 one_unit = refl
 
 abbrev alarm : List ℕ → List ℕ → Alarm
-alarm name label = record { name = name; labels = label ∷ []; doubtful = false }
+alarm name label = an_alarm name (label ∷ []) false
 
 -- the log of twelve units: two trip
-pub two_of_twelve : plant_log 12 7 ≡ record { alarms = alarm (codes "a2") (codes "T-2") ∷ alarm (codes "a11") (codes "T-11") ∷ []; pairs = (0, 1) ∷ [] }
+pub two_of_twelve : plant_log 12 7 ≡ (a_log (alarm (codes "a2") (codes "T-2") ∷ alarm (codes "a11") (codes "T-11") ∷ []) ((0, 1) ∷ []))
 unfolding digits
 two_of_twelve = refl
 
-pub none_of_one : plant_log 1 7 ≡ record { alarms = []; pairs = [] }
+pub none_of_one : plant_log 1 7 ≡ (a_log [] [])
 none_of_one = refl
 
 -- each is before the next, and no further pair is

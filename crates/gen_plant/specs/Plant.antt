@@ -4,7 +4,7 @@ use Rattle.std.specs.List.{range_with_len}
 use Rattle.des_net.specs.Network.{Component, Event, Net}
 use Rattle.des_net.specs.Models.{moves, takes, seen, fails}
 use Rattle.des_net.specs.QuestionSize.{numbers_below}
-use Rattle.log_order.specs.Log.{Alarm, Log}
+use Rattle.log_order.specs.Log.{Alarm, Log, a_log, an_alarm}
 
 -- how many units a plant may have
 abbrev pub most_units : ℕ
@@ -87,11 +87,11 @@ alarm_name i = codes "a" ++ decimal i
 
 -- each unit that trips has an alarm, which can stand for its trip alone
 abbrev pub alarm_of : ℕ → Alarm
-alarm_of i = record { name = alarm_name i; labels = trip_label i ∷ []; doubtful = false }
+alarm_of i = an_alarm (alarm_name i) (trip_label i ∷ []) false
 
 -- of so many alarms each is before the next
 abbrev pub in_a_row : ℕ → List (ℕ × ℕ)
 in_a_row count = map (λ k. (k, k + 1)) (numbers_below (count - 1))
 
 abbrev pub plant_log : ℕ → ℕ → Log
-plant_log z start = record { alarms = map alarm_of (tripping z start); pairs = in_a_row (length (tripping z start)) }
+plant_log z start = a_log (map alarm_of (tripping z start)) (in_a_row (length (tripping z start)))

@@ -3,7 +3,7 @@ use Rattle.std.proofs.Common.{map, ◌≡◌, ℕ, Bool, true, false, List, [], 
 use Rattle.std.specs.Prelude.{codes}
 use Rattle.std.specs.List.{list_all}
 use Rattle.des_net.specs.Models.{apart, pump}
-use Rattle.log_order.specs.Log.{Alarm, Log, no_log}
+use Rattle.log_order.specs.Log.{Alarm, Log, no_log, a_log, an_alarm}
 use Rattle.log_clauses.specs.Additions.{alarm_added, pair_added, with_addition, log_after}
 use Rattle.log_clauses.specs.Coded.{coded, opened}
 use Rattle.log_clauses.specs.Decoded.{decoded, decoded_order, alarm_at, event_at}
@@ -19,11 +19,11 @@ use Rattle.prop_core.specs.VariableNames.{Name, in_state, happens, asked, matche
 use Rattle.std.specs.Prelude.{Some, None}
 
 abbrev pub alarm : List ℕ → List (List ℕ) → Alarm
-alarm name labels = record { name = name; labels = labels; doubtful = false }
+alarm name labels = an_alarm name labels false
 
 -- one that is perhaps false
 abbrev pub maybe : List ℕ → List (List ℕ) → Alarm
-maybe name labels = record { name = name; labels = labels; doubtful = true }
+maybe name labels = an_alarm name labels true
 
 abbrev entry : ℕ → Bool → Entry
 entry i real = record { alarm = i; real = real }
@@ -35,7 +35,7 @@ all_true alarms = map (λ i. entry i true) alarms
 
 -- the first alarm may be a trip or a beat, and the second is a beat
 abbrev beats : Log
-beats = record { alarms = alarm (codes "a1") (codes "T" ∷ codes "B" ∷ []) ∷ alarm (codes "a2") (codes "B" ∷ []) ∷ []; pairs = [] }
+beats = a_log (alarm (codes "a1") (codes "T" ∷ codes "B" ∷ []) ∷ alarm (codes "a2") (codes "B" ∷ []) ∷ []) []
 
 pub beat_chain : chain pump beats 3 ≡ 0 ∷ 1 ∷ []
 beat_chain = refl

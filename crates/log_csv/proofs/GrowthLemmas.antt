@@ -5,7 +5,7 @@ use Rattle.std.specs.List.{AllByRecursion, cons_option}
 use Rattle.std.specs.Option.{option_to_list}
 use Rattle.std.proofs.lemmas.List.{append-nil}
 use Rattle.des_base.specs.Names.{place_of}
-use Rattle.log_order.specs.Log.{Alarm, Log}
+use Rattle.log_order.specs.Log.{Alarm, Log, a_log, an_alarm}
 use Rattle.log_order.specs.Adding.{names_of, with_alarm, with_pair, with_texts}
 use Rattle.log_csv.specs.Records.{Record, alarm, before, ask, nothing, malformed}
 use Rattle.log_csv.specs.LogText.{alarm_of, alarms_of, ids_of, pair_of, pairs_of, with_pairs, written_pairs}
@@ -92,15 +92,15 @@ log-push : (earlier : List Record) (said : Record) (log : Log) → AllByRecursio
     → log.alarms ≡ alarms_of earlier ++ option_to_list (alarm_of said) → log.pairs ≡ with_pairs (pairs_of earlier) (option_to_list (pair_of (ids_of earlier ++ new_ids said) said))
     → IsLogOf (earlier ++ said ∷ []) log
 log-push earlier said log known is alarms pairs = record {
-  is = ap (λ as'. let l : Log = record { alarms = as'; pairs = log.pairs } in l) (alarms ∙ sym (filter_map-push alarm_of earlier said))
-      ∙ ap (λ ps. let l : Log = record { alarms = alarms_of (earlier ++ said ∷ []); pairs = ps } in l) (pairs ∙ sym (pairs_of-push earlier said known));
+  is = ap (λ as'. let l : Log = (a_log as' log.pairs) in l) (alarms ∙ sym (filter_map-push alarm_of earlier said))
+      ∙ ap (λ ps. let l : Log = (a_log (alarms_of (earlier ++ said ∷ [])) ps) in l) (pairs ∙ sym (pairs_of-push earlier said known));
   known = subst (λ ids. AllByRecursion (IsKnown ids) (earlier ++ said ∷ [])) (sym (ids_of-push earlier said)) (all-known (ids_of earlier) (new_ids said) earlier said known is);
 }
 
 pub log-alarm : (earlier : List Record) (maybe : Bool) (id : List ℕ) (labels : List (List ℕ)) (log new : Log) → IsLogOf earlier log → new ≡ with_alarm log id labels maybe → IsLogOf (earlier ++ alarm maybe id labels ∷ []) new
 log-alarm earlier maybe id labels log new h e =
     log-push earlier (alarm maybe id labels) new h.known tt
-    (ap (λ l. l.alarms) e ∙ ap (λ l. l.alarms ++ record { name = id; labels = with_texts [] labels; doubtful = maybe } ∷ []) h.is)
+    (ap (λ l. l.alarms) e ∙ ap (λ l. l.alarms ++ (an_alarm id (with_texts [] labels) maybe) ∷ []) h.is)
     (ap (λ l. l.pairs) e ∙ ap (λ l. l.pairs) h.is)
 
 pub log-nothing : (earlier : List Record) (log : Log) → IsLogOf earlier log → IsLogOf (earlier ++ nothing ∷ []) log

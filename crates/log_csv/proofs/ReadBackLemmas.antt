@@ -6,7 +6,7 @@ use Rattle.std.proofs.lemmas.List.{append-nil}
 use Rattle.std.proofs.lemmas.Slice.Eq.{bytes_eq-Decides}
 use Rattle.des_base.specs.Names.{AreDistinct, IsName, is_name_text, place_of}
 use Rattle.des_base.proofs.BoolLemmas.{is_less, join, less_is, most_is, neither, otherwise}
-use Rattle.log_order.specs.Log.{Alarm, AreKnown, Keeps, Log, StandOnce, closes_cycle, has_pair, place_in, reaches}
+use Rattle.log_order.specs.Log.{Alarm, AreKnown, Keeps, Log, StandOnce, closes_cycle, has_pair, place_in, reaches, a_log, an_alarm}
 use Rattle.log_order.specs.Adding.{IsAlarm, IsLog, alarm_refusal, before_refusal, most_alarms, most_labels, most_pairs, names_of, with_pair, with_texts}
 use Rattle.log_order.specs.declared.refusal.LogRefusal.{LogRefusal}
 use Rattle.log_order.specs.declared.refusal.LogRefusal.TheVariants as refused
@@ -176,7 +176,7 @@ alarm_free log name labels new some few room =
 -- ---- all records of a printed log
 
 abbrev log_with : List Alarm → List (ℕ × ℕ) → Log
-log_with alarms pairs = record { alarms = alarms; pairs = pairs }
+log_with alarms pairs = a_log alarms pairs
 
 at_middle : {X : Type 0} (P : X → Type 0) (front : List X) (x : X) (rest : List X) → AllByRecursion P (front ++ x ∷ rest) → P x
 at_middle P [] x rest h = h.0
@@ -234,7 +234,7 @@ alarm_next all front rest a earlier h e logged =
     alarm-added earlier a.doubtful a.name a.labels 0 (log_with front []) (log_with (front ++ a ∷ []) []) logged
     (alarm_accepted a.doubtful a.name a.labels whole.printable.name whole.printable.labels)
     (alarm_free (log_with front []) a.name a.labels new whole.printable.some whole.few room)
-    (ap (λ labels. log_with (front ++ record { name = a.name; labels = labels; doubtful = a.doubtful } ∷ []) []) (sym whole.once))
+    (ap (λ labels. log_with (front ++ (an_alarm a.name labels a.doubtful) ∷ []) []) (sym whole.once))
   where
     names_append : (front : List Alarm) (a : Alarm) (rest : List Alarm) → names_of (front ++ a ∷ rest) ≡ names_of front ++ a.name ∷ names_of rest
     names_append [] a rest = refl

@@ -3,7 +3,7 @@ use Rattle.std.proofs.Common.{◌≡◌, ℕ, true, false, [], ◌∷◌, Option
 use Rattle.std.specs.Prelude.{codes}
 use Rattle.csv.proofs.OnLiterals.{csv_on_literals}
 use Rattle.des_base.specs.Names.{is_name_byte, is_name_text}
-use Rattle.log_order.specs.Log.{Log, no_log}
+use Rattle.log_order.specs.Log.{Log, no_log, a_log, an_alarm}
 use Rattle.log_csv.specs.declared.fault.LogFault.{LogFault}
 use Rattle.log_csv.specs.declared.row.Row.TheVariants.{Alarm, Maybe, Before, Ask}
 use Rattle.log_csv.specs.Records.{alarm, before, nothing, malformed, record_of}
@@ -16,7 +16,7 @@ at row code = Some (record { row = row; code = code })
 
 -- one alarm, whose record has a quoted field and fields that are empty
 abbrev pub one_trip : Log
-one_trip = record { alarms = record { name = codes "a1"; labels = codes "T" ∷ []; doubtful = false } ∷ []; pairs = [] }
+one_trip = a_log ((an_alarm (codes "a1") (codes "T" ∷ []) false) ∷ []) []
 
 pub trip-read : log_of (codes "\"alarm\",a1,T,,") ≡ one_trip
 unfolding csv_on_literals record_of
@@ -28,7 +28,7 @@ trip-well = refl
 
 -- the same, but doubtful
 abbrev pub perhaps_trip : Log
-perhaps_trip = record { alarms = record { name = codes "a1"; labels = codes "T" ∷ []; doubtful = true } ∷ []; pairs = [] }
+perhaps_trip = a_log ((an_alarm (codes "a1") (codes "T" ∷ []) true) ∷ []) []
 
 pub perhaps-read : log_of (codes "maybe,a1,T") ≡ perhaps_trip
 unfolding csv_on_literals record_of
@@ -92,7 +92,7 @@ further-field = refl
 
 -- a repeated label, a repeated pair and a pair in the other order of the alarms
 pub pairs-read : log_of_records (alarm false (codes "b") (codes "T" ∷ codes "T" ∷ []) ∷ alarm false (codes "a") (codes "F" ∷ []) ∷ before (codes "a") (codes "b") ∷ nothing ∷ before (codes "a") (codes "b") ∷ [])
-    ≡ record { alarms = record { name = codes "b"; labels = codes "T" ∷ []; doubtful = false } ∷ record { name = codes "a"; labels = codes "F" ∷ []; doubtful = false } ∷ []; pairs = (1, 0) ∷ [] }
+    ≡ (a_log ((an_alarm (codes "b") (codes "T" ∷ []) false) ∷ (an_alarm (codes "a") (codes "F" ∷ []) false) ∷ []) ((1, 0) ∷ []))
 pairs-read = refl
 
 -- ---- scripts

@@ -3,7 +3,7 @@ use Rattle.std.specs.Prelude.{ℕ, ◌+◌, Bool, true, false, not, ◌&&◌, �
 use Rattle.std.specs.List.{list_all}
 use Rattle.std.specs.Option.{option_map_or}
 use Rattle.des_base.specs.Names.{is_name_text, place_of}
-use Rattle.log_order.specs.Log.{Alarm, Log, closes_cycle, has_pair}
+use Rattle.log_order.specs.Log.{Alarm, Log, closes_cycle, has_pair, a_log, an_alarm}
 use Rattle.log_order.specs.Adding.{most_alarms, most_labels, most_pairs, names_of, with_pair, with_texts}
 use Rattle.log_csv.specs.declared.fault.LogFault.{LogFault}
 use Rattle.log_csv.specs.Records.{Record, alarm, before, ask, nothing, malformed, records_of}
@@ -14,7 +14,7 @@ use Rattle.log_csv.specs.Faults.{fault_at, or_later}
 
 -- an alarm, doubtful or not, and its labels, each once and at its first place
 abbrev pub alarm_of : Record → Option Alarm
-alarm_of (alarm maybe id labels) = Some (record { name = id; labels = with_texts [] labels; doubtful = maybe })
+alarm_of (alarm maybe id labels) = Some (an_alarm id (with_texts [] labels) maybe)
 alarm_of (before first second) = None
 alarm_of ask = None
 alarm_of nothing = None
@@ -47,7 +47,7 @@ abbrev pub pairs_of : List Record → List (ℕ × ℕ)
 pairs_of records = with_pairs [] (written_pairs records)
 
 abbrev pub log_of_records : List Record → Log
-log_of_records records = record { alarms = alarms_of records; pairs = pairs_of records }
+log_of_records records = a_log (alarms_of records) (pairs_of records)
 
 -- the log of a text without a fault
 abbrev pub log_of : List ℕ → Log

@@ -1,10 +1,10 @@
 -- The text that is printed of a log.
 use Rattle.std.specs.Prelude.{ℕ, Bool, true, false, List, [], ◌++◌, codes, option_map, unwrap_or, slice_get}
 use Rattle.std.specs.List.{flat_map, join_with_byte}
-use Rattle.log_order.specs.Log.{Alarm, Log}
+use Rattle.log_order.specs.Log.{Alarm, Log, an_alarm}
 
 abbrev pub alarm_with : Bool → List ℕ → List (List ℕ) → Alarm
-alarm_with maybe id labels = record { name = id; labels = labels; doubtful = maybe }
+alarm_with maybe id labels = an_alarm id labels maybe
 
 -- the keyword of an alarm, certain or doubtful
 abbrev pub alarm_word : Bool → List ℕ

@@ -3,7 +3,7 @@ use Rattle.std.proofs.Common.{◌≡◌, ℕ, suc, ◌+◌, ◌*◌, ◌<◌, �
 use Rattle.std.specs.List.{AllByRecursion}
 use Rattle.des_base.specs.declared.TheConstants.{VAR_LIMIT}
 use Rattle.des_net.specs.Network.{Net}
-use Rattle.log_order.specs.Log.{Log, Alarm, no_log, is_doubtful}
+use Rattle.log_order.specs.Log.{Log, Alarm, no_log, is_doubtful, a_log}
 use Rattle.log_clauses.specs.Additions.{Addition, alarm_added, pair_added, with_addition}
 use Rattle.log_clauses.specs.LogNames.{added_names, first_names, link_names, alarm_names, match_chains, false_names, AreLogNames}
 use Rattle.log_clauses.specs.Drafts.{taken_events}
@@ -23,7 +23,7 @@ use Rattle.std.specs.Prelude.{flat_map}
 use Rattle.run_clauses.specs.LaidOut.{laid_out}
 
 abbrev of_alarms : List Alarm → Log
-of_alarms alarms = record { alarms = alarms; pairs = [] }
+of_alarms alarms = a_log alarms []
 
 -- one alarm more
 names_snoc : (net : Net) (n : ℕ) (before alarms : List Alarm) (starts : List ℕ) (new : Alarm) (first : ℕ) → length starts ≡ length alarms →

@@ -2,7 +2,7 @@
 use Rattle.std.proofs.Common.{◌≡◌, ℕ, zero, suc, ◌+◌, ◌*◌, ◌<◌, ◌≤◌, ◌∙◌, Bool, true, false, List, [], ◌∷◌, ◌++◌, length, map, filter, Option, Some, None, refl, sym, ap, subst, arith, slice_get, append-nil}
 use Rattle.std.specs.List.{AllByRecursion}
 use Rattle.des_net.specs.Network.{Net}
-use Rattle.log_order.specs.Log.{Log, Alarm}
+use Rattle.log_order.specs.Log.{Log, Alarm, a_log}
 use Rattle.log_clauses.specs.Additions.{alarm_added, pair_added, with_addition}
 use Rattle.log_clauses.specs.LogClauses.{chain, matching_events}
 use Rattle.log_clauses.specs.LogNames.{added_names}
@@ -116,8 +116,8 @@ coded_with_alarm net grid asked vars first alarms pairs alarm begins =
     let code = coded_of net grid asked vars alarms pairs in
     let labels = map_snoc (λ (a : AlarmState). nameless a.labels a.doubtful) alarms alarm in
     let starts = map_snoc (λ (a : AlarmState). a.start) alarms alarm ∙ ap (λ v. map (λ (a : AlarmState). a.start) alarms ++ v ∷ []) begins in
-    ap (λ xs. let made : CodedLog = record { net = net; grid = grid; log = record { alarms = xs; pairs = pairs }; asked = asked; starts = map (λ (a : AlarmState). a.start) (alarms ++ alarm ∷ []); vars = first + addition_width code (alarm_added (nameless alarm.labels alarm.doubtful)) } in made) labels
-    ∙ ap (λ xs. let made : CodedLog = record { net = net; grid = grid; log = record { alarms = map (λ (a : AlarmState). nameless a.labels a.doubtful) alarms ++ nameless alarm.labels alarm.doubtful ∷ []; pairs = pairs }; asked = asked; starts = xs; vars = first + addition_width code (alarm_added (nameless alarm.labels alarm.doubtful)) } in made) starts
+    ap (λ xs. let made : CodedLog = record { net = net; grid = grid; log = (a_log xs pairs); asked = asked; starts = map (λ (a : AlarmState). a.start) (alarms ++ alarm ∷ []); vars = first + addition_width code (alarm_added (nameless alarm.labels alarm.doubtful)) } in made) labels
+    ∙ ap (λ xs. let made : CodedLog = record { net = net; grid = grid; log = (a_log (map (λ (a : AlarmState). nameless a.labels a.doubtful) alarms ++ nameless alarm.labels alarm.doubtful ∷ []) pairs); asked = asked; starts = xs; vars = first + addition_width code (alarm_added (nameless alarm.labels alarm.doubtful)) } in made) starts
 
 pub kept_with_alarm : (code : CodedLog) (first : ℕ) (ends after : List ChainEnd) (guards then dropped later : List Lit) (alarms : List AlarmState) (alarm : AlarmState) → length code.log.alarms ≡ length alarms →
     IsCodedLog (code_after code (alarm_added (nameless alarm.labels alarm.doubtful)) first) → code.vars ≤ first → AreKept code ends guards dropped alarms →

@@ -3,7 +3,7 @@ use Rattle.std.specs.Prelude.{Bool, ℕ, ◌+◌, ◌*◌, ◌≡◌, ◌≤◌,
 use Rattle.std.specs.List.{AllByRecursion}
 use Rattle.des_base.specs.declared.TheConstants.{VAR_LIMIT}
 use Rattle.des_net.specs.Network.{Net}
-use Rattle.log_order.specs.Log.{Log, Alarm, no_log}
+use Rattle.log_order.specs.Log.{Log, Alarm, no_log, a_log, an_alarm}
 use Rattle.log_clauses.specs.Additions.{Addition, alarm_added, pair_added, with_addition}
 use Rattle.log_clauses.specs.BesideEvents.{with_events}
 use Rattle.log_clauses.specs.LogClauses.{doubtful_alarms}
@@ -23,11 +23,11 @@ pub record CodedLog : Type 0 where
 
 -- an alarm with these labels, certain or doubtful, and without a name
 abbrev pub nameless : List (List ℕ) → Bool → Alarm
-nameless labels doubtful = record { name = []; labels = labels; doubtful = doubtful }
+nameless labels doubtful = an_alarm [] labels doubtful
 
 -- the log, its alarms without their names
 abbrev pub without_names : Log → Log
-without_names log = record { alarms = map (λ (alarm : Alarm). nameless alarm.labels alarm.doubtful) log.alarms; pairs = log.pairs }
+without_names log = a_log (map (λ (alarm : Alarm). nameless alarm.labels alarm.doubtful) log.alarms) log.pairs
 
 -- ---- its variables
 

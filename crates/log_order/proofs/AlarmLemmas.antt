@@ -5,7 +5,7 @@ use Rattle.std.proofs.lemmas.Bool.Decides.{nat_tests}
 use Rattle.std.specs.List.{list_any}
 use Rattle.des_base.specs.Names.{place_of, AreNames, IsName}
 use Rattle.des_base.proofs.TableLemmas.{AreNames-push}
-use Rattle.log_order.specs.Log.{Log, Alarm}
+use Rattle.log_order.specs.Log.{Log, Alarm, an_alarm}
 use Rattle.log_order.specs.Adding.{with_text, with_texts, most_labels, most_alarms, names_of, alarm_refusal, IsAlarm}
 use Rattle.log_order.specs.declared.refusal.LogRefusal.TheVariants.{Double, NoLabels, Limit}
 
@@ -58,7 +58,7 @@ some [] h = absurd (omega arith)
 some (x ∷ xs) h = with_texts-longer (x ∷ []) xs
 
 -- an alarm from the labels that are given
-pub IsAlarm-from : (name : List ℕ) (labels : List (List ℕ)) (doubtful : Bool) → AreNames (with_texts [] labels) → 1 ≤ length labels → length labels ≤ most_labels → IsAlarm (record { name = name; labels = with_texts [] labels; doubtful = doubtful })
+pub IsAlarm-from : (name : List ℕ) (labels : List (List ℕ)) (doubtful : Bool) → AreNames (with_texts [] labels) → 1 ≤ length labels → length labels ≤ most_labels → IsAlarm (an_alarm name (with_texts [] labels) doubtful)
 IsAlarm-from name labels doubtful names h few = record { labels = names; some = some labels h; few = let less = with_texts-few [] labels in omega arith }
 
 -- ---- an alarm that isn't refused

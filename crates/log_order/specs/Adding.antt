@@ -4,7 +4,7 @@ use Rattle.std.specs.List.{list_any, AllByRecursion}
 use Rattle.des_base.specs.Names.{place_of, AreNames}
 use Rattle.log_order.specs.declared.refusal.LogRefusal.{LogRefusal}
 use Rattle.log_order.specs.declared.refusal.LogRefusal.TheVariants.{Double, Unknown, Cycle, NoLabels, Limit, Memory}
-use Rattle.log_order.specs.Log.{Log, Alarm, IsValidLog, has_pair, closes_cycle}
+use Rattle.log_order.specs.Log.{Log, Alarm, IsValidLog, has_pair, closes_cycle, an_alarm}
 
 abbrev pub most_alarms : ℕ
 most_alarms = 2000
@@ -50,7 +50,7 @@ with_texts texts (other ∷ others) = with_texts (with_text texts other) others
 
 -- it is added last, with each of its labels once, at its first place
 abbrev pub with_alarm : Log → List ℕ → List (List ℕ) → Bool → Log
-with_alarm log name labels doubtful = record log { alarms = log.alarms ++ record { name = name; labels = with_texts [] labels; doubtful = doubtful } ∷ [] }
+with_alarm log name labels doubtful = record log { alarms = log.alarms ++ an_alarm name (with_texts [] labels) doubtful ∷ [] }
 
 -- ---- a pair
 

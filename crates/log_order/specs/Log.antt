@@ -14,8 +14,15 @@ pub record Log : Type 0 where
   pub alarms : List Alarm
   pub pairs : List (ℕ × ℕ)
 
+-- values are made by these, so that a further field changes them alone
+abbrev pub an_alarm : List ℕ → List (List ℕ) → Bool → Alarm
+an_alarm name labels doubtful = record { name = name; labels = labels; doubtful = doubtful }
+
+abbrev pub a_log : List Alarm → List (ℕ × ℕ) → Log
+a_log alarms pairs = record { alarms = alarms; pairs = pairs }
+
 abbrev pub no_log : Log
-no_log = record { alarms = []; pairs = [] }
+no_log = a_log [] []
 
 -- the labels that alarm i may stand for
 abbrev pub labels_of : Log → ℕ → List (List ℕ)

@@ -6,7 +6,7 @@ use Rattle.des_net.specs.Run.{fault_count}
 use Rattle.des_net.specs.Width.{Fits}
 use Rattle.des_net.proofs.WidthLemmas.{need_is_least}
 use Rattle.des_net.specs.Models.{pump, nothing, apart, meeting, two_starts, masked}
-use Rattle.log_order.specs.Log.{Log, Alarm, no_log, is_doubtful}
+use Rattle.log_order.specs.Log.{Log, Alarm, no_log, is_doubtful, a_log, an_alarm}
 use Rattle.replay.specs.declared.run.RunStep.{RunStep}
 use Rattle.replay.specs.declared.run.RunStep.TheVariants.{Happens, Dropped}
 use Rattle.replay.specs.Traced.{word_of}
@@ -17,11 +17,11 @@ use Rattle.replay.proofs.AnswerLemmas.{least_is_one, absent_excludes, many_is_ab
 use Rattle.replay.proofs.DecideLemmas.{explains_decides}
 
 abbrev alarm : List ℕ → List ℕ → Alarm
-alarm name label = record { name = name; labels = label ∷ []; doubtful = false }
+alarm name label = an_alarm name (label ∷ []) false
 
 -- one that is perhaps false
 abbrev maybe : List ℕ → List ℕ → Alarm
-maybe name label = record { name = name; labels = label ∷ []; doubtful = true }
+maybe name label = an_alarm name (label ∷ []) true
 
 -- these alarms in this order, all true
 abbrev all_true : List ℕ → List Entry
@@ -31,20 +31,20 @@ abbrev entry : ℕ → Bool → Entry
 entry i real = record { alarm = i; real = real }
 
 abbrev one_trip : Log
-one_trip = record { alarms = alarm (codes "a1") (codes "T") ∷ []; pairs = [] }
+one_trip = a_log (alarm (codes "a1") (codes "T") ∷ []) []
 
 abbrev trip_fix_trip : Log
-trip_fix_trip = record { alarms = alarm (codes "a1") (codes "T") ∷ alarm (codes "a2") (codes "F") ∷ alarm (codes "a3") (codes "T") ∷ []; pairs = (0, 1) ∷ (1, 2) ∷ [] }
+trip_fix_trip = a_log (alarm (codes "a1") (codes "T") ∷ alarm (codes "a2") (codes "F") ∷ alarm (codes "a3") (codes "T") ∷ []) ((0, 1) ∷ (1, 2) ∷ [])
 
 -- an alarm that may be a trip or a beat
 abbrev trip_or_beat : Log
-trip_or_beat = record { alarms = record { name = codes "a1"; labels = codes "T" ∷ codes "B" ∷ []; doubtful = false } ∷ []; pairs = [] }
+trip_or_beat = a_log ((an_alarm (codes "a1") (codes "T" ∷ codes "B" ∷ []) false) ∷ []) []
 
 abbrev y_before_x : Log
-y_before_x = record { alarms = alarm (codes "x") (codes "A") ∷ alarm (codes "y") (codes "B") ∷ []; pairs = (1, 0) ∷ [] }
+y_before_x = a_log (alarm (codes "x") (codes "A") ∷ alarm (codes "y") (codes "B") ∷ []) ((1, 0) ∷ [])
 
 abbrev z_before_y_before_x : Log
-z_before_y_before_x = record { alarms = alarm (codes "x") (codes "A") ∷ alarm (codes "y") (codes "B") ∷ alarm (codes "z") (codes "C") ∷ []; pairs = (1, 0) ∷ (2, 1) ∷ [] }
+z_before_y_before_x = a_log (alarm (codes "x") (codes "A") ∷ alarm (codes "y") (codes "B") ∷ alarm (codes "z") (codes "C") ∷ []) ((1, 0) ∷ (2, 1) ∷ [])
 
 -- ---- what explains
 
@@ -97,13 +97,13 @@ meeting-in_one = refl
 pub meeting-in_two : explains meeting z_before_y_before_x 2 (2 ∷ 1 ∷ 0 ∷ []) (all_true (2 ∷ 1 ∷ 0 ∷ [])) ≡ true
 meeting-in_two = refl
 
-pub two_starts-second : explains two_starts (record { alarms = alarm (codes "x") (codes "A") ∷ []; pairs = [] }) 1 (0 ∷ []) (all_true (0 ∷ [])) ≡ true
+pub two_starts-second : explains two_starts (a_log (alarm (codes "x") (codes "A") ∷ []) []) 1 (0 ∷ []) (all_true (0 ∷ [])) ≡ true
 two_starts-second = refl
 
-pub masked-fault : explains masked (record { alarms = alarm (codes "a") (codes "A") ∷ []; pairs = [] }) 2 (2 ∷ 1 ∷ []) (all_true (0 ∷ [])) ≡ true
+pub masked-fault : explains masked (a_log (alarm (codes "a") (codes "A") ∷ []) []) 2 (2 ∷ 1 ∷ []) (all_true (0 ∷ [])) ≡ true
 masked-fault = refl
 
-pub masked-seen : explains masked (record { alarms = alarm (codes "a") (codes "A") ∷ alarm (codes "b") (codes "B") ∷ []; pairs = (1, 0) ∷ [] }) 2 (0 ∷ 1 ∷ []) (all_true (1 ∷ 0 ∷ [])) ≡ true
+pub masked-seen : explains masked (a_log (alarm (codes "a") (codes "A") ∷ alarm (codes "b") (codes "B") ∷ []) ((1, 0) ∷ [])) 2 (0 ∷ 1 ∷ []) (all_true (1 ∷ 0 ∷ [])) ≡ true
 masked-seen = refl
 
 -- ---- false alarms
@@ -113,7 +113,7 @@ step event alarm = Happens event alarm
 
 -- an alarm that is perhaps false
 abbrev perhaps_trip : Log
-perhaps_trip = record { alarms = maybe (codes "a1") (codes "T") ∷ []; pairs = [] }
+perhaps_trip = a_log (maybe (codes "a1") (codes "T") ∷ []) []
 
 -- it is, and nothing happens: one fault
 pub pump-false : explains pump perhaps_trip 0 [] (entry 0 false ∷ []) ≡ true
@@ -143,7 +143,7 @@ pump-true_and_false = refl
 
 -- y before z before x, where no event shows z: z is false, and keeps its place
 abbrev y_perhaps_z_x : Log
-y_perhaps_z_x = record { alarms = alarm (codes "x") (codes "A") ∷ maybe (codes "z") (codes "C") ∷ alarm (codes "y") (codes "B") ∷ []; pairs = (2, 1) ∷ (1, 0) ∷ [] }
+y_perhaps_z_x = a_log (alarm (codes "x") (codes "A") ∷ maybe (codes "z") (codes "C") ∷ alarm (codes "y") (codes "B") ∷ []) ((2, 1) ∷ (1, 0) ∷ [])
 
 pub apart-false : explains apart y_perhaps_z_x 1 (1 ∷ 0 ∷ []) (entry 2 true ∷ entry 1 false ∷ entry 0 true ∷ []) ≡ true
 apart-false = refl

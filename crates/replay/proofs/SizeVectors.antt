@@ -2,12 +2,12 @@
 use Rattle.std.proofs.Common.{◌≡◌, true, false, [], ◌∷◌, refl}
 use Rattle.std.specs.Prelude.{codes}
 use Rattle.des_net.specs.Models.{pump, nothing, settled}
-use Rattle.log_order.specs.Log.{Log, no_log}
+use Rattle.log_order.specs.Log.{Log, no_log, a_log, an_alarm}
 use Rattle.replay.specs.QuestionSize.{question_size, variable_bound}
 
 -- one alarm, that of a trip
 abbrev tripped : Log
-tripped = record { alarms = record { name = codes "a1"; labels = codes "T" ∷ []; doubtful = false } ∷ []; pairs = [] }
+tripped = a_log ((an_alarm (codes "a1") (codes "T" ∷ []) false) ∷ []) []
 
 pub pump-size : question_size pump tripped 2 ≡ 614
 pump-size = refl
@@ -18,7 +18,7 @@ pump-variables = refl
 
 -- the same where it is doubtful: 256 more for the counter, and one variable beside
 abbrev perhaps_tripped : Log
-perhaps_tripped = record { alarms = record { name = codes "a1"; labels = codes "T" ∷ []; doubtful = true } ∷ []; pairs = [] }
+perhaps_tripped = a_log ((an_alarm (codes "a1") (codes "T" ∷ []) true) ∷ []) []
 
 pub pump-perhaps_size : question_size pump perhaps_tripped 2 ≡ 870
 pump-perhaps_size = refl
@@ -28,7 +28,7 @@ pump-perhaps_variables = refl
 
 -- two alarms, of either event
 abbrev both_seen : Log
-both_seen = record { alarms = record { name = codes "x"; labels = codes "A" ∷ []; doubtful = false } ∷ record { name = codes "y"; labels = codes "B" ∷ []; doubtful = false } ∷ []; pairs = [] }
+both_seen = a_log ((an_alarm (codes "x") (codes "A" ∷ []) false) ∷ (an_alarm (codes "y") (codes "B" ∷ []) false) ∷ []) []
 
 pub settled-variables : variable_bound settled both_seen 2 ≡ 29
 settled-variables = refl

@@ -14,7 +14,7 @@ use Rattle.log_clauses.proofs.Stay.{range_more}
 use Rattle.log_clauses.specs.Additions.{alarm_added}
 use Rattle.log_clauses.specs.LogNames.{first_names, added_names}
 use Rattle.log_encode.specs.CodedLog.{CodedLog, names_from, code_names as log_names, false_literals}
-use Rattle.log_order.specs.Log.{Log, Alarm, no_log, is_doubtful}
+use Rattle.log_order.specs.Log.{Log, Alarm, no_log, is_doubtful, a_log}
 use Rattle.prop_core.specs.declared.grid.Grid.{Grid}
 use Rattle.prop_core.specs.declared.lit.Lit.{Lit}
 use Rattle.prop_core.specs.VariableNames.{Name, reaches, yes, dropped}
@@ -91,7 +91,7 @@ steps_few net n =
 -- ---- the log
 
 of_alarms : List Alarm → Log
-of_alarms alarms = record { alarms = alarms; pairs = [] }
+of_alarms alarms = a_log alarms []
 
 alarms_few : (net : Net) (n : ℕ) (before alarms : List Alarm) (starts : List ℕ) → length starts ≡ length alarms →
     length (names_from net n (of_alarms before) alarms starts) + variable_bound net (of_alarms before) n + 256 * doubtful_count (of_alarms (before ++ alarms)) ≤ variable_bound net (of_alarms (before ++ alarms)) n + 256 * doubtful_count (of_alarms before)

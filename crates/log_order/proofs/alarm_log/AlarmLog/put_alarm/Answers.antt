@@ -3,7 +3,7 @@ use Rattle.std.proofs.Common.{◌≡◌, ◌∙◌, ◌<◌, ◌≤◌, ◌+◌,
 use Rattle.std.specs.List.{AllByRecursion}
 use Rattle.des_base.specs.Names.{place_of, AreNames}
 use Rattle.des_base.proofs.TableLemmas.{AreNames-push}
-use Rattle.log_order.specs.Log.{Log, Alarm}
+use Rattle.log_order.specs.Log.{Log, Alarm, an_alarm}
 use Rattle.log_order.specs.Precedence.{Precedence}
 use Rattle.log_order.specs.Adding.{most_alarms, most_pairs, names_of, with_texts, IsAlarm}
 use Rattle.log_order.proofs.AlarmLemmas.{IsNewAlarm-from, IsAlarm-from, names_of-push, few_ids, length-names_of}
@@ -25,15 +25,15 @@ add_number-requires-clause-few c = few_ids _ _ c.self.invariant.named (room c)
 pub add_number-requires-clause-new : goal.add_number-requires-clause-new
 add_number-requires-clause-new c = ap (place_of c.args.id) (c.self.invariant.named ∙ ap (λ (log : Log). names_of log.alarms) c.self.view_is) ∙ (IsNewAlarm-from _ _ _ c.requires).new
 
-alarms_are : (c : goal.After-push_reserved) → c.push_reserved.new.self.items ≡ c.self.inside.alarms.items ++ record { name = c.args.id; labels = with_texts [] c.args.labels.now; doubtful = c.args.doubtful } ∷ []
+alarms_are : (c : goal.After-push_reserved) → c.push_reserved.new.self.items ≡ c.self.inside.alarms.items ++ (an_alarm c.args.id (with_texts [] c.args.labels.now) c.args.doubtful) ∷ []
 alarms_are c =
-    let made : (name : List ℕ) (labels : List (List ℕ)) → Alarm = λ name labels. record { name = name; labels = labels; doubtful = c.args.doubtful } in
+    let made : (name : List ℕ) (labels : List (List ℕ)) → Alarm = λ name labels. (an_alarm name labels c.args.doubtful) in
     c.push_reserved.ensures.items ∙ ap (λ alarms. alarms ++ made c.in_ok-copy.field-0 c.in_ok-each_once.field-0.items ∷ []) c.in_ok-reserve.ensures.items
     ∙ (λ i. c.self.inside.alarms.items ++ made (c.in_ok-copy.ensures i) (c.in_ok-each_once.ensures.once i) ∷ [])
 
 pub invariant_of-self-2 : goal.invariant_of-self-2
 invariant_of-self-2 c =
-    let alarm : Alarm = record { name = c.args.id; labels = with_texts [] c.args.labels.now; doubtful = c.args.doubtful } in
+    let alarm : Alarm = (an_alarm c.args.id (with_texts [] c.args.labels.now) c.args.doubtful) in
     let alarms = c.self.inside.alarms.items in
     let is : c.push_reserved.new.self.items ≡ c.self.inside.alarms.items ++ alarm ∷ [] = alarms_are c in
     let new = IsNewAlarm-from _ _ _ c.requires in
