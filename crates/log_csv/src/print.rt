@@ -16,8 +16,7 @@ pub fn print_log(log: &AlarmLog, out: &mut Vec<u8>) -> Result<(), Memory>
     ensures read_back { OnOk result (log_of (log_text log.now) ≡ log.now) }
     ensures err { OnErr result (out.new.items ≡ out.old.items) }
 {
-    let _alarms = log.alarms();
-    let _pairs = log.pair_count();
+    log.is_whole();
     let mut text = Vec::new(*out.allocator());
     print_alarms(log, &mut text)?;
     print_pairs(log, &mut text)?;
@@ -71,7 +70,7 @@ fn print_labels(labels: &[Name], text: &mut Vec<u8>) -> Result<(), Memory>
 fn print_pairs(log: &AlarmLog, text: &mut Vec<u8>) -> Result<(), Memory>
     ensures { OnOk result (text.new.items ≡ text.old.items ++ flat_map (pair_line log.now.alarms) log.now.pairs) }
 {
-    let _alarms = log.alarms();
+    log.is_whole();
     for pair in log.pairs() {
         print_pair(log.id(pair.0), log.id(pair.1), text)?;
     }

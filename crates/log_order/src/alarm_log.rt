@@ -102,6 +102,15 @@ impl AlarmLog {
         self.precedence.pair_count() as u32
     }
 
+    /// A law: the log is whole, and each of its pairs stands in it once.
+    pub fn is_whole(&self)
+        ensures whole { IsLog self.now }
+        ensures once { StandOnce self.now.pairs }
+    {
+        let _alarms = self.alarms();
+        let _pairs = self.pair_count();
+    }
+
     /// The alarm with this id.
     pub fn find(&self, text: &[u8]) -> Option<u32>
         ensures { result ≡ place_of text.now (names_of self.now.alarms) }

@@ -20,8 +20,7 @@ pub fn print_model(net: &Network, out: &mut Vec<u8>) -> Result<(), Memory>
     ensures reads_back { OnOk result (IsAsRead net.now → ReadsBack net.now) }
     ensures err { OnErr result (out.new.items ≡ out.old.items) }
 {
-    // Its reader tells that the network is whole.
-    let _components = net.components();
+    net.is_built();
     let mut text = Vec::new(*out.allocator());
     text.extend_from_slice(b"des 1\n")?;
     print_components(net, &mut text)?;
@@ -119,8 +118,7 @@ fn print_transition(from: &Name, action: &Name, to: &Name, text: &mut Vec<u8>) -
 fn print_events(net: &Network, text: &mut Vec<u8>) -> Result<(), Memory>
     ensures { OnOk result (text.new.items ≡ text.old.items ++ flat_map line_text (each_named (line_of_event net.now) net.now.event_names net.now.events)) }
 {
-    // Its reader tells that events name what is there.
-    let _components = net.components();
+    net.is_built();
     for event in 0..net.events() {
         print_event(net, EventId(event), text)?;
     }

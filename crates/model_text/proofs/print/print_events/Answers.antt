@@ -6,7 +6,7 @@ use Rattle.model_text.proofs.print.print_events.Goals as goal
 
 pub loop-event-preserved : goal.loop-event-preserved
 loop-event-preserved c =
-    let called = c.components-components.ensures.whole.called in
+    let called = c.is_built.ensures.whole.called in
     let below = c.loop-event-test.true in
     let count = c.events-event-end.ensures in
     named-on (line_of_event c.args.net.now) _ _ _ _ _ _ _ _
