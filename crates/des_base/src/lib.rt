@@ -40,3 +40,9 @@ pub use word_list::WordList;
 
 /// Variables of propositional formulas are below this number, so that twice a variable fits in a `u32` with a bit to spare.
 pub const VAR_LIMIT: u32 = 1_073_741_824;
+
+/// A question has at most so many steps.
+pub const MOST_STEPS: u32 = 1000;
+
+/// A counter of faults has at most so many columns: more faults aren't told apart.
+pub const MOST_COLUMNS: u64 = 256;

@@ -1,20 +1,21 @@
 -- How large a network may be.
 use Rattle.std.specs.Prelude.{ℕ}
+use Rattle.des_net.specs.declared.TheConstants.{MOST_COMPONENTS, MOST_STATES, MOST_TRANSITIONS, MOST_EVENTS, MOST_PARTS}
 
 abbrev pub most_components : ℕ
-most_components = 1000
+most_components = MOST_COMPONENTS
 
 -- of one component
 abbrev pub most_states : ℕ
-most_states = 256
+most_states = MOST_STATES
 
 -- of all components together
 abbrev pub most_transitions : ℕ
-most_transitions = 50000
+most_transitions = MOST_TRANSITIONS
 
 abbrev pub most_events : ℕ
-most_events = 4000
+most_events = MOST_EVENTS
 
 -- of one event
 abbrev pub most_parts : ℕ
-most_parts = 16
+most_parts = MOST_PARTS

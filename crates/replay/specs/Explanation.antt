@@ -1,6 +1,7 @@
 -- What explains an alarm log, and the least number of faults (Sampath et al., "Diagnosability of discrete-event systems", 1995; Grastien et al., "Diagnosis of discrete-event systems using satisfiability algorithms", 2007).
 use Rattle.std.specs.Prelude.{◌≡◌, ℕ, ◌+◌, ◌<◌, ◌≤◌, Bool, not, ◌||◌, List, length, Contains, map, filter, count_by, is_some, IsSomeAnd, IsTrue}
 use Rattle.std.specs.List.{AllByRecursion, AllZip}
+use Rattle.des_base.specs.declared.TheConstants.{MOST_COLUMNS}
 use Rattle.des_net.specs.Network.{Net, label_of}
 use Rattle.des_net.specs.Run.{IsRun, fault_count}
 use Rattle.des_net.specs.Width.{Fits}
@@ -74,11 +75,11 @@ pub record IsLeast (net : Net) (log : Log) (n k : ℕ) : Type 0 where
 abbrev pub IsAbsent : Net → Log → ℕ → Type 0
 IsAbsent net log n = (word : List ℕ) (order : List Entry) → Explains net log n word order → ⊥
 
--- something explains the log, and all that does has more than 255 faults
+-- something explains the log, and all that does has as many faults as the counter has columns, or more
 pub record IsMany (net : Net) (log : Log) (n : ℕ) : Type 0 where
   pub faults : ℕ
   pub explained : IsExplained net log n faults
-  pub above : NeedsFaults net log n 256
+  pub above : NeedsFaults net log n MOST_COLUMNS
 
 -- ---- how the answers hang together
 

@@ -1,6 +1,7 @@
 -- How large a question is, told before any clause is written, and a bound on its variables.
 use Rattle.std.specs.Prelude.{ℕ, ◌+◌, ◌*◌, ◌^◌, Bool, false, length, sum_by, count_by}
 use Rattle.std.specs.Option.{option_map_or}
+use Rattle.des_base.specs.declared.TheConstants.{MOST_COLUMNS}
 use Rattle.des_net.specs.Network.{Net, label_of}
 use Rattle.des_net.specs.QuestionSize.{numbers_below, component_sizes, counter_size, step_variables, observable_count, at_most_one_count}
 use Rattle.log_order.specs.Log.{Log, is_doubtful}
@@ -23,7 +24,7 @@ abbrev pub doubtful_count : Log → ℕ
 doubtful_count log = count_by (is_doubtful log) (numbers_below (length log.alarms))
 
 abbrev pub question_size : Net → Log → ℕ → ℕ
-question_size net log n = n * (component_sizes net + alarm_sizes net log + length log.pairs) + (counter_size net n + 256 * doubtful_count log)
+question_size net log n = n * (component_sizes net + alarm_sizes net log + length log.pairs) + (counter_size net n + MOST_COLUMNS * doubtful_count log)
 
 -- the variables of one alarm in n steps, which may stand for m events
 abbrev pub alarm_variables : ℕ → ℕ → ℕ
@@ -34,4 +35,4 @@ abbrev pub variable_bound : Net → Log → ℕ → ℕ
 variable_bound net log n =
     step_variables net n + 1 + observable_count net
     + sum_by (λ i. alarm_variables n (matching_count net log i)) (numbers_below (length log.alarms))
-    + (counter_size net n + 257 * doubtful_count log)
+    + (counter_size net n + (MOST_COLUMNS + 1) * doubtful_count log)

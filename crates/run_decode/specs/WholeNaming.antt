@@ -2,7 +2,7 @@
 use Rattle.std.specs.Prelude.{◌≡◌, ◌≢◌, ◌↔◌, ◌⊎◌, ℕ, ◌+◌, ◌-◌, ◌<◌, ◌≤◌, true, if◌then◌else◌, List, [], ◌∷◌, ◌++◌, length, Contains, None, Some}
 use Rattle.card_counter.specs.CounterState.{CounterState, IsCounter, IsMade, IsPlace, variable, counter_names, counter_clauses, next_clauses, input_clauses, bound_literal, without_columns, with_column, with_input, IsFull}
 use Rattle.card_counter.specs.Counting.{IsNamedBy}
-use Rattle.des_base.specs.declared.TheConstants.{VAR_LIMIT}
+use Rattle.des_base.specs.declared.TheConstants.{VAR_LIMIT, MOST_COLUMNS}
 use Rattle.log_clauses.specs.Additions.{Addition, alarm_added, pair_added}
 use Rattle.log_clauses.specs.LogClauses.{guard_literals}
 use Rattle.log_clauses.specs.LogCodes.{AreAmong}
@@ -121,7 +121,7 @@ abbrev pub TogetherAsk : Type 0
 TogetherAsk = (steps : CodedSteps) (code : CodedLog) (counter : CounterState) (clauses : List Clause) (guards : List Lit) → AreCodedTogether steps code counter → AreClausesOf steps code counter clauses →
     ReadsAs (read_names code) guards (guard_literals code.net code.log) → AskTogether steps code counter clauses guards
 
--- Up to 256 columns it has no more variables than the bound on the variables of a question says.
+-- Up to the most columns it has no more variables than the bound on the variables of a question says.
 abbrev pub TogetherAreFew : Type 0
-TogetherAreFew = (steps : CodedSteps) (code : CodedLog) (counter : CounterState) (log : Log) → AreCodedTogether steps code counter → code.log ≡ without_names log → length counter.columns ≤ 256 →
+TogetherAreFew = (steps : CodedSteps) (code : CodedLog) (counter : CounterState) (log : Log) → AreCodedTogether steps code counter → code.log ≡ without_names log → length counter.columns ≤ MOST_COLUMNS →
     length (whole_names steps code counter) ≤ variable_bound steps.net log steps.steps

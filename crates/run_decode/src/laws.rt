@@ -66,7 +66,7 @@ pub fn together_grow()
     ensures { TogetherGrow }
 {}
 
-/// A law: up to 256 columns they have no more variables than the bound on those of a question.
+/// A law: up to the most columns they have no more variables than the bound on those of a question.
 pub fn together_are_few()
     ensures { TogetherAreFew }
 {}
