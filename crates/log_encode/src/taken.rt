@@ -1,12 +1,12 @@
 // The events that an alarm may stand for, with the ends of their chains.
-ghost use Rattle.std.specs.Prelude.{◌≡◌, ◌<◌, ◌≤◌, ◌+◌, ◌*◌, length, All, IfOk, IfSome, bytes_eq};
-ghost use Rattle.std.specs.List.{list_any};
+ghost use Rattle.std.specs.Prelude.{◌≡◌, ◌<◌, ◌≤◌, ◌+◌, ◌*◌, length, All, IfOk, IfSome};
 ghost use Rattle.log_encode.specs.AlarmVariables.{IsWithin};
 ghost use Rattle.log_encode.specs.Written.{rest_variable, has_any_label, taken_from, end_after, ends_after};
 
 use crate::alarm_vars::AlarmVars;
 use des_base::{EventId, Memory, Name, VAR_LIMIT};
 use des_net::Network;
+use log_order::has_label;
 use prop_core::Grid;
 use std::alloc::Global;
 
@@ -40,12 +40,6 @@ impl Taken {
             Some(first) => first + step * 2,
         }
     }
-}
-
-fn has_label(labels: &[Name], label: &Name) -> bool
-    ensures { result ≡ list_any (bytes_eq label.now) labels.now }
-{
-    labels.iter().any(|other| label == other)
 }
 
 // Whether the event has one of the labels.

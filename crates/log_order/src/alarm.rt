@@ -44,8 +44,8 @@ impl Alarm {
     }
 }
 
-// Whether the label is among the labels.
-fn has_label(labels: &[Name], label: &Name) -> bool
+/// Whether the label is among the labels.
+pub fn has_label(labels: &[Name], label: &Name) -> bool
     ensures { result ≡ list_any (bytes_eq label.now) labels.now }
 {
     labels.iter().any(|other| label == other)

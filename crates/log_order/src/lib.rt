@@ -14,5 +14,6 @@ mod order;
 mod precedence;
 mod refusal;
 
+pub use alarm::has_label;
 pub use alarm_log::AlarmLog;
 pub use refusal::LogRefusal;

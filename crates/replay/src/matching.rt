@@ -1,6 +1,5 @@
 // How the steps of a run are matched to the alarms of a log.
-ghost use Rattle.std.specs.Prelude.{◌≡◌, ◌<◌, ◌≤◌, ◌++◌, length, All, IfOk, IfSome, OnErr, true, None, bytes_eq, option_and_then};
-ghost use Rattle.std.specs.List.{list_any};
+ghost use Rattle.std.specs.Prelude.{◌≡◌, ◌<◌, ◌≤◌, ◌++◌, length, All, IfOk, IfSome, OnErr, true, None, option_and_then};
 ghost use Rattle.std.specs.Option.{option_to_list};
 ghost use Rattle.des_base.specs.Names.{place_of};
 ghost use Rattle.log_order.specs.Adding.{names_of};
@@ -12,13 +11,7 @@ use crate::placing::Placing;
 use crate::run::RunStep;
 use des_base::{Memory, Name};
 use des_net::Network;
-use log_order::AlarmLog;
-
-fn has_label(labels: &[Name], label: &Name) -> bool
-    ensures { result ≡ list_any (bytes_eq label.now) labels.now }
-{
-    labels.iter().any(|other| label == other)
-}
+use log_order::{AlarmLog, has_label};
 
 // Gives the alarm of this name its place, where it is there, may stand for the label and has none: then true, and else false.
 fn place_alarm(
