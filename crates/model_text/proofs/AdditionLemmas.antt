@@ -10,7 +10,7 @@ use Rattle.des_net.specs.Building.{state_refusal, with_state, change_component, 
 use Rattle.model_text.specs.ModelLines.{NamedPart, state, event}
 use Rattle.model_text.specs.ModelFaults.{optional_words}
 use Rattle.model_text.specs.Growth.{grown, unless, last_place, parts_by_name, grown_by_event}
-use Rattle.model_text.specs.Extends.{IsNamed, IsLabelled}
+use Rattle.model_text.specs.LineAdditions.{IsNamed, IsLabelled}
 
 none_either : (b : Bool) → ◌≡◌ {A = Option Net} (cond b None None) None
 none_either true = refl

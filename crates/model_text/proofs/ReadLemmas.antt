@@ -9,7 +9,7 @@ use Rattle.model_text.specs.ModelNetwork.{network_of_lines, model_lines}
 use Rattle.model_text.specs.ModelFaults.{shape_code, with_shape, fault_or, first_code}
 use Rattle.model_text.specs.declared.refusal.LineRefusal.{LineRefusal}
 use Rattle.model_text.specs.declared.refusal.LineRefusal.TheVariants.{Shape, Homeless, Name, Double, Unknown, Limit, Memory}
-use Rattle.model_text.specs.Extends.{BuildsLines}
+use Rattle.model_text.specs.LineAdditions.{BuildsLines}
 use Rattle.model_text.specs.Growth.{grown, grown_by_tokens}
 use Rattle.model_text.specs.LineCodes.{code_by, code_by_tokens, IsCoded}
 use Rattle.model_text.specs.Refusals.{refusal_at}

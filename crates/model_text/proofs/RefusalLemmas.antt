@@ -21,7 +21,7 @@ use Rattle.model_text.specs.ModelFaults.{has_repeated, stands_in, optional_words
 use Rattle.model_text.specs.Refusals.{refusal_of_build}
 use Rattle.model_text.specs.Growth.{last_place, last_states, parts_by_name}
 use Rattle.model_text.specs.LineCodes.{first_of, has_placed, has_named, is_empty, code_by, code_by_tokens, IsCoded}
-use Rattle.model_text.specs.Extends.{Extends, IsNamed, IsLabelled}
+use Rattle.model_text.specs.LineAdditions.{AddsLine, IsNamed, IsLabelled}
 use Rattle.model_text.proofs.CodeLemmas.{limited, state_refusal-at, trans_refusal-at}
 use Rattle.model_text.proofs.PartLemmas.{all_found, all_there, all_repeated}
 use Rattle.model_text.proofs.StepLemmas.{event_refusal-known, length_all}
@@ -266,7 +266,7 @@ found-some net parts found slice is same some =
 
 -- ---- a refusal that is handed on
 
-pub handed : (net new : Net) (said : Option ModelLine) (of : ModelLine) (result : Result (Unit {0}) LineRefusal) (e : LineRefusal) → said ≡ Some of → IsErrAnd result (λ x. x ≡ e) → IsCoded (code_by net of) e → Extends net said new result
+pub handed : (net new : Net) (said : Option ModelLine) (of : ModelLine) (result : Result (Unit {0}) LineRefusal) (e : LineRefusal) → said ≡ Some of → IsErrAnd result (λ x. x ≡ e) → IsCoded (code_by net of) e → AddsLine net said new result
 handed net new said of (Ok done) e is told h = absurd told
 handed net new said of (Err x) e is told h = subst (λ y. IsCoded (code_by_tokens net said) y) (sym told) (subst (λ o. IsCoded (code_by_tokens net o) e) (sym is) h)
 

@@ -8,5 +8,5 @@ pub mod PrintedModel
 pub mod ReadBack
 pub mod Samples
 pub mod Refusals
-pub mod Extends
+pub mod LineAdditions
 pub mod Shapes

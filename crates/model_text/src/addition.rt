@@ -3,7 +3,7 @@ ghost use Rattle.std.specs.Prelude.{◌≡◌, ◌<◌, Some, length, map, optio
 ghost use Rattle.des_net.specs.Building.{IsDraft};
 ghost use Rattle.des_base.specs.CountedLines.{texts_of, tokens_of};
 ghost use Rattle.model_text.specs.ModelLines.{event, model_line, component_line, state_line, transition_line, event_line};
-ghost use Rattle.model_text.specs.Extends.{Extends, IsCurrent};
+ghost use Rattle.model_text.specs.LineAdditions.{AddsLine, IsCurrent};
 ghost use Rattle.model_text.specs.Shapes.{part_said};
 
 use crate::keyword::{Keyword, keyword_of};
@@ -18,7 +18,7 @@ use std::alloc::Global;
 
 // Adds what the line says.
 pub(crate) fn add_line(alloc: Global, builder: &mut Builder, line: &Line) -> Result<(), LineRefusal>
-    ensures added { Extends builder.old (model_line (tokens_of line.now.text.now)) builder.new result }
+    ensures added { AddsLine builder.old (model_line (tokens_of line.now.text.now)) builder.new result }
     ensures whole { IsDraft builder.old }
 {
     let current = current_component(builder);
@@ -47,7 +47,7 @@ fn current_component(builder: &Builder) -> Option<CompId>
 }
 
 fn add_component(alloc: Global, builder: &mut Builder, tokens: Tokens) -> Result<(), LineRefusal>
-    ensures { Extends builder.old (component_line (texts_of tokens.entry)) builder.new result }
+    ensures { AddsLine builder.old (component_line (texts_of tokens.entry)) builder.new result }
 {
     let Some(name) = component_line(tokens) else {
         return Err(LineRefusal::Shape);
@@ -65,7 +65,7 @@ fn add_state(
     tokens: Tokens,
 ) -> Result<(), LineRefusal>
     requires { IsCurrent builder.old current }
-    ensures { Extends builder.old (state_line (texts_of tokens.entry)) builder.new result }
+    ensures { AddsLine builder.old (state_line (texts_of tokens.entry)) builder.new result }
 {
     let Some(line) = state_line(tokens) else {
         return Err(LineRefusal::Shape);
@@ -85,7 +85,7 @@ fn add_transition(
     tokens: Tokens,
 ) -> Result<(), LineRefusal>
     requires { IsCurrent builder.old current }
-    ensures { Extends builder.old (transition_line (texts_of tokens.entry)) builder.new result }
+    ensures { AddsLine builder.old (transition_line (texts_of tokens.entry)) builder.new result }
 {
     let Some(line) = transition_line(tokens) else {
         return Err(LineRefusal::Shape);
@@ -109,7 +109,7 @@ fn add_transition(
 
 fn add_event(alloc: Global, builder: &mut Builder, tokens: Tokens) -> Result<(), LineRefusal>
     requires { IsDraft builder.old }
-    ensures { Extends builder.old (event_line (texts_of tokens.entry)) builder.new result }
+    ensures { AddsLine builder.old (event_line (texts_of tokens.entry)) builder.new result }
 {
     let Some(line) = event_line(tokens) else {
         return Err(LineRefusal::Shape);
@@ -136,7 +136,7 @@ fn add_named_event(
 ) -> Result<(), LineRefusal>
     requires whole { IsDraft builder.old }
     requires some { 0 < length parts.now }
-    ensures { Extends builder.old (Some (event name.now (option_map (λ text. text.now) label.entry) fault (map part_said parts.now))) builder.new result }
+    ensures { AddsLine builder.old (Some (event name.now (option_map (λ text. text.now) label.entry) fault (map part_said parts.now))) builder.new result }
 {
     let name = name_of(alloc, name)?;
     let label = label_of(alloc, label)?;

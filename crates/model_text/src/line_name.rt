@@ -1,6 +1,6 @@
 // A name or a label that stands on a line.
 ghost use Rattle.std.specs.Prelude.{option_map};
-ghost use Rattle.model_text.specs.Extends.{IsNamed, IsLabelled};
+ghost use Rattle.model_text.specs.LineAdditions.{IsNamed, IsLabelled};
 
 use crate::refusal::LineRefusal;
 use des_base::Name;

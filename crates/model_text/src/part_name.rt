@@ -3,7 +3,7 @@ ghost use Rattle.std.specs.Prelude.{◌≡◌, ◌≤◌, ◌==◌, drop, length
 ghost use Rattle.std.specs.List.{position_or_len};
 ghost use Rattle.model_text.specs.ModelLines.{part_of_token};
 ghost use Rattle.des_base.specs.CountedLines.{texts_of};
-ghost use Rattle.model_text.specs.Extends.{ReadsParts};
+ghost use Rattle.model_text.specs.LineAdditions.{ReadsParts};
 ghost use Rattle.model_text.specs.Shapes.{part_said};
 
 use crate::refusal::LineRefusal;

@@ -6,7 +6,7 @@ ghost use Rattle.model_text.specs.ModelLines.{model_line};
 ghost use Rattle.model_text.specs.ModelNetwork.{begins_component};
 ghost use Rattle.model_text.specs.ModelFaults.{body, component_numbers, first_fault, network_of, IsDue};
 ghost use Rattle.model_text.specs.ReadBack.{IsAsRead};
-ghost use Rattle.model_text.specs.Extends.{BuildsLines};
+ghost use Rattle.model_text.specs.LineAdditions.{BuildsLines};
 
 use crate::addition::add_line;
 use crate::fault::{ModelRefusal, fault_at};

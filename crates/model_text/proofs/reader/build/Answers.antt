@@ -1,7 +1,7 @@
 use Rattle.std.proofs.Common.{Err, List, subst, sym}
 use Rattle.des_base.specs.CountedLines.{NumberedLine}
 use Rattle.model_text.specs.declared.fault.ModelRefusal.{ModelRefusal}
-use Rattle.model_text.specs.Extends.{BuildsLines}
+use Rattle.model_text.specs.LineAdditions.{BuildsLines}
 use Rattle.model_text.proofs.ReadLemmas.{IsReadTo, IsReadTo-more, stopped}
 use Rattle.model_text.proofs.reader.build.Goals as goal
 

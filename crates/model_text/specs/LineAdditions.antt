@@ -18,9 +18,9 @@ use Rattle.model_text.specs.LineCodes.{code_by_tokens, IsCoded}
 use Rattle.model_text.specs.Shapes.{part_said}
 
 -- the builder has what the line adds, or the line is refused for its code, or memory is wanting
-abbrev pub Extends : Net → Option ModelLine → Net → Result (Unit {0}) LineRefusal → Type 0
-Extends old line new (Ok _) = grown_by_tokens old line ≡ Some new
-Extends old line new (Err refusal) = IsCoded (code_by_tokens old line) refusal
+abbrev pub AddsLine : Net → Option ModelLine → Net → Result (Unit {0}) LineRefusal → Type 0
+AddsLine old line new (Ok _) = grown_by_tokens old line ≡ Some new
+AddsLine old line new (Err refusal) = IsCoded (code_by_tokens old line) refusal
 
 -- the text as a name, where it is one
 abbrev pub IsNamed : List ℕ → Result (List ℕ) LineRefusal → Type 0
