@@ -1,35 +1,25 @@
 -- Where the clauses of a chain are true, at most one input is; and where at most one input is, the chain can be chosen.
-use Rattle.std.proofs.Common.{◌≡◌, ℕ, zero, suc, ◌+◌, ◌-◌, ◌<◌, ◌≤◌, ◌∙◌, ◌⊎◌, inl, inr, ◌↔◌, Bool, true, false, List, [], ◌∷◌, ◌++◌, length, take, Some, refl, sym, ap, subst, arith, tests, All, Contains, IsTrue, slice_get, get_or, not, ◌||◌, nat_le, nat_lt, cond, append_assoc}
+use Rattle.std.proofs.Common.{◌≡◌, ℕ, zero, suc, ◌+◌, ◌-◌, ◌<◌, ◌≤◌, ◌∙◌, ◌⊎◌, inl, inr, ◌↔◌, Bool, true, false, List, [], ◌∷◌, ◌++◌, length, take, Some, refl, sym, ap, subst, arith, tests, IsTrue, slice_get, not, ◌||◌, nat_le, nat_lt, cond, append_assoc}
 use Rattle.std.specs.Bool.{beq}
-use Rattle.std.specs.List.{AllByRecursion, list_any}
-use Rattle.std.proofs.lemmas.Bool.{cases_lt, cases_eq, cases_order, ltb-true, lt-ltb}
+use Rattle.std.specs.List.{list_any}
+use Rattle.std.proofs.lemmas.Bool.{cases_eq, ltb-true, lt-ltb}
 use Rattle.std.proofs.lemmas.Option.{slice_get_within, slice_get-get_or, get_or_from_slice_get}
+use Rattle.des_base.proofs.Elements.{at_place, pair_at, all_from}
 use Rattle.des_base.specs.Lists.{EachPair}
 use Rattle.prop_core.specs.declared.lit.Lit.{Lit}
 use Rattle.prop_core.specs.Clauses.{Clause, negation, literal_true, clause_true, AllClausesTrue, HasValues}
 use Rattle.card_counter.proofs.Exclusions.{any_in_front, any_from_front}
-use Rattle.card_counter.proofs.ListLemmas.{contains_at, all_from, all_at, flat_each, flat_from, flat_next}
+use Rattle.card_counter.proofs.ListLemmas.{flat_each, flat_from, flat_next}
 use Rattle.card_counter.proofs.PairLemmas.{pairs_exclude}
-use Rattle.card_counter.specs.AtMostOne.{AreNotBothTrue, AtMostOneTrue, excluded_pairs, chain_count, link_clauses, chain_up_to, chain_clauses, exclusion_clauses, AgreeBut, ExcludesAllButOne, ExclusionIsExact}
+use Rattle.card_counter.specs.AtMostOne.{AreNotBothTrue, AtMostOneTrue, excluded_pairs, link_clauses, chain_up_to, chain_clauses, AgreeBut, ExclusionIsExact}
 use Rattle.card_counter.specs.CounterState.{positive, negative, input_at}
 
 -- ---- pairs by places
 
-place_in : {X : Type 0} (xs : List X) (x : X) → Contains xs x → (k : ℕ) × (slice_get xs k ≡ Some x)
-place_in [] x (k, below, is) = absurd (omega arith)
-place_in (y ∷ xs) x (zero, below, is) = (0, ap (λ z. Some z) is)
-place_in (y ∷ xs) x (suc k, below, is) = let rest = place_in xs x (k, omega arith, is) in (suc rest.0, rest.1)
-
-pub pair_at : {X : Type 0} (R : X → X → Type 0) (xs : List X) (i j : ℕ) (x y : X) → EachPair R xs → i < j → slice_get xs i ≡ Some x → slice_get xs j ≡ Some y → R x y
-pair_at R [] i j x y pairs less at_i at_j = cc
-pair_at R (z ∷ xs) i zero x y pairs less at_i at_j = absurd (omega arith)
-pair_at R (z ∷ xs) zero (suc j) x y pairs less at_i at_j = let same : z ≡ x = cc in subst (λ w. R w y) same (all_at (R z) xs y pairs.0 (contains_at xs j y at_j))
-pair_at R (z ∷ xs) (suc i) (suc j) x y pairs less at_i at_j = pair_at R xs i j x y pairs.1 (omega arith) at_i at_j
-
 pairs_from : {X : Type 0} (R : X → X → Type 0) (xs : List X) → ((i j : ℕ) (x y : X) → i < j → slice_get xs i ≡ Some x → slice_get xs j ≡ Some y → R x y) → EachPair R xs
 pairs_from R [] each = tt
 pairs_from R (z ∷ xs) each = (
-  all_from (R z) xs (λ y here. let at = place_in xs y here in each 0 (suc at.0) z y (omega arith) refl at.1),
+  all_from (R z) xs (λ y here. let at = at_place xs y here in each 0 (suc at.0) z y (omega arith) refl at.1),
   pairs_from R xs (λ i j x y less at_i at_j. each (suc i) (suc j) x y (omega arith) at_i at_j),
 )
 

@@ -1,7 +1,9 @@
 -- The clauses of a counter, by the names of its variables.
-use Rattle.std.proofs.Common.{Bool, ◌==◌, ◌≢◌, true, false, Contains, ◌≡◌, ℕ, zero, suc, ◌+◌, ◌<◌, ◌≤◌, ◌∙◌, ◌⊎◌, inl, inr, List, [], ◌∷◌, ◌++◌, flat_map, length, Option, None, Some, refl, sym, ap, subst, arith, slice_get, option_map, not}
+use Rattle.std.proofs.Common.{◌≢◌, Contains, ◌≡◌, ℕ, zero, suc, ◌+◌, ◌<◌, ◌≤◌, ◌∙◌, ◌⊎◌, inl, inr, List, [], ◌∷◌, ◌++◌, flat_map, length, Option, None, Some, refl, sym, ap, subst, arith, slice_get, option_map, not}
 use Rattle.std.specs.List.{range_with_len}
 use Rattle.std.proofs.lemmas.Bool.{cases_order}
+use Rattle.des_base.proofs.Elements.{all_at}
+use Rattle.prop_core.proofs.NameLemmas.{found_more, literal_more}
 use Rattle.prop_core.specs.declared.lit.Lit.{Lit}
 use Rattle.prop_core.specs.Clauses.{Clause, negation}
 use Rattle.prop_core.specs.NamedClauses.{IsCode, Each, Both, One, Appends}
@@ -9,7 +11,7 @@ use Rattle.prop_core.specs.VariableNames.{HasEachOnce, Name, NamedLiteral, yes, 
 use Rattle.prop_core.proofs.FamilyLemmas.{code_none, code_one, code_append, code_same, code_each_none, code_each_more, reads_whole}
 use Rattle.std.proofs.lemmas.List.Elements.{Contains-append_right}
 use Rattle.card_counter.proofs.NameLemmas.{named_by_entry}
-use Rattle.card_counter.proofs.ListLemmas.{all_at, map_of, map_contains, pairs_put, pairs_map, flat_next}
+use Rattle.card_counter.proofs.ListLemmas.{map_of, map_contains, pairs_put, pairs_map, flat_next}
 use Rattle.card_counter.proofs.States.{place_cases, variable_before, variable_last, before_front, at_end, one_more_column}
 use Rattle.card_counter.specs.CounterClauses.{counts_on, counts_up, opposite, count_clause, IsNamedColumn, IsNamedCount}
 use Rattle.card_counter.specs.CounterState.{next_names, CounterState, IsPlace, variable, column_at, column_before, positive, negative, reached_in, reached_before, under, place_clauses, input_at, column_clauses, counter_clauses, with_column, next_clauses}
@@ -217,21 +219,6 @@ pub appends_column : (names : List (ℕ × Name)) (inputs : List NamedLiteral) (
 appends_column names inputs state first old new named whole = record { more = next_clauses state first; whole = whole; code = column_is_code names inputs state first named }
 
 -- ---- further names
-
-found_more : (names more : List (ℕ × Name)) (var : ℕ) (name : Name) → name_of names var ≡ Some name → name_of (names ++ more) var ≡ Some name
-found_more [] more var name h = cc
-found_more (entry ∷ names) more var name h = by (entry.0 == var) refl (found_more names more var name)
-  where
-    by : (b : Bool) → (entry.0 == var) ≡ b → (name_of names var ≡ Some name → name_of (names ++ more) var ≡ Some name) → name_of ((entry ∷ names) ++ more) var ≡ Some name
-    by true e later = rw e (rw e at h)
-    by false e later = rw e (later (rw e at h))
-
-literal_more : (names more : List (ℕ × Name)) (l : Lit) (m : NamedLiteral) → named_literal names l ≡ Some m → named_literal (names ++ more) l ≡ Some m
-literal_more names more l m h = by (name_of names l.var) refl h
-  where
-    by : (o : Option Name) → name_of names l.var ≡ o → option_map (λ (name : Name). record { name = name; positive = l.positive }) o ≡ Some m → named_literal (names ++ more) l ≡ Some m
-    by None e is = cc
-    by (Some name) e is = rw (found_more names more l.var name e) is
 
 read_more : (names more : List (ℕ × Name)) (inputs : List Lit) (read : List NamedLiteral) → named_clause names inputs ≡ Some read → named_clause (names ++ more) inputs ≡ Some read
 read_more names more [] read h = h

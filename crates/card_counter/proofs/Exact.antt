@@ -3,12 +3,13 @@ use Rattle.std.proofs.Common.{cond, ◌+◌, ◌≡◌, ◌≢◌, ℕ, zero, su
 use Rattle.std.specs.Bool.{beq}
 use Rattle.std.proofs.lemmas.Bool.{leb-true, cases_lt}
 use Rattle.std.proofs.lemmas.Option.{slice_get-get_or}
+use Rattle.des_base.proofs.Elements.{all_append, all_split, contains_at, all_from}
+use Rattle.prop_core.proofs.Premises.{implied, implies, from_premise, one_premise}
 use Rattle.prop_core.specs.declared.lit.Lit.{Lit}
 use Rattle.prop_core.specs.Clauses.{Clause, negation, literal_true, clause_true, AllClausesTrue}
 use Rattle.prop_core.specs.NamedClauses.{same_sign, named_true, named_clause_true, assignment_by, AllHold}
 use Rattle.prop_core.specs.VariableNames.{Name, in_state, happens, asked, matches, done, unmatched, closed, dropped, reaches, some_of_first, NamedLiteral}
-use Rattle.prop_core.proofs.FamilyLemmas.{all_append}
-use Rattle.card_counter.proofs.ListLemmas.{all_split, all_from, contains_at, flat_each, flat_from}
+use Rattle.card_counter.proofs.ListLemmas.{flat_each, flat_from}
 use Rattle.card_counter.proofs.Counts.{count_cons, Reaches, reached, counting}
 use Rattle.card_counter.proofs.NameLemmas.{no_name, counter_names_stand}
 use Rattle.card_counter.specs.CounterClauses.{CountClause, counts_on, counts_up, opposite, count_clause, IsCountClause, IsOfColumns, IsNamedCount}
@@ -253,16 +254,6 @@ counter_is_exact state counter = record {
 
 -- ---- by name
 
-unless : (a b : Bool) → not a || (b || false) ≡ true → a ≡ true → b ≡ true
-unless true true h e = refl
-unless true false h e = cc
-unless false b h e = cc
-
-unless_back : (a b : Bool) → (a ≡ true → b ≡ true) → not a || (b || false) ≡ true
-unless_back true true h = refl
-unless_back true false h = let e = h refl in cc
-unless_back false b h = refl
-
 input_unless : (a p b : Bool) → same_sign (not p) a || b ≡ true → same_sign p a ≡ true → b ≡ true
 input_unless true true b h e = h
 input_unless true false b h e = cc
@@ -275,14 +266,6 @@ input_unless_back true false b h = refl
 input_unless_back false true b h = refl
 input_unless_back false false b h = h refl
 
-first_unless : (a b : Bool) → not a || b ≡ true → a ≡ true → b ≡ true
-first_unless true b h e = h
-first_unless false b h e = cc
-
-first_unless_back : (a b : Bool) → (a ≡ true → b ≡ true) → not a || b ≡ true
-first_unless_back true b h = h refl
-first_unless_back false b h = refl
-
 or_nothing : (b : Bool) → b || false ≡ true → b ≡ true
 or_nothing true h = refl
 or_nothing false h = cc
@@ -294,7 +277,7 @@ or_nothing_back false h = cc
 module _ (inputs : List NamedLiteral) (value : Name → Bool) where
   named_rules : (columns : ℕ) → AllHold (IsNamedCount inputs columns) value → Reaches (named_true value) inputs columns (λ i j. value (reaches i j))
   named_rules columns all = record {
-    kept = λ i j inside h is. unless (value (reaches (suc i) (suc j))) (value (reaches (suc (suc i)) (suc j)))
+    kept = λ i j inside h is. implied (value (reaches (suc i) (suc j))) (value (reaches (suc (suc i)) (suc j)))
         (all (count_clause (counts_on (suc i) (suc j))) (counts_on (suc i) (suc j), (omega arith, inside, omega arith), omega arith, refl)) is;
     counted = up;
   }
@@ -305,7 +288,7 @@ module _ (inputs : List NamedLiteral) (value : Name → Bool) where
       up i (suc j) x at h is (inl none) = absurd (omega arith)
       up i (suc j) x at h is (inr some) =
           or_nothing (value (reaches (suc i) (suc (suc j)))) (input_unless (value x.name) x.positive (value (reaches (suc i) (suc (suc j))) || false)
-          (first_unless (value (reaches i (suc j))) (named_true value (opposite x) || (value (reaches (suc i) (suc (suc j))) || false)) (all (count_clause (counts_up i (suc j) x)) (counts_up i (suc j) x, (at, inr some.0), h, refl)) some.1) is)
+          (from_premise (value (reaches i (suc j))) (named_true value (opposite x) || (value (reaches (suc i) (suc (suc j))) || false)) (all (count_clause (counts_up i (suc j) x)) (counts_up i (suc j) x, (at, inr some.0), h, refl)) some.1) is)
 
   named_few : (columns k : ℕ) → AllHold (IsNamedCount inputs columns) value → k < columns → value (reaches (length inputs) (suc k)) ≡ false → count_by (named_true value) inputs ≤ k
   named_few columns k all h none = by (cases_lt k (count_by (named_true value) inputs))
@@ -339,12 +322,12 @@ module _ (inputs : List NamedLiteral) (value : Name → Bool) where
     holds_by_name columns (counts_on zero j) is of = absurd (let low = is.0 in omega arith)
     holds_by_name columns (counts_on (suc i) zero) is of = absurd (let one = is.2 in omega arith)
     holds_by_name columns (counts_on (suc i) (suc j)) is of =
-        unless_back (counted inputs value (reaches (suc i) (suc j))) (counted inputs value (reaches (suc (suc i)) (suc j))) (λ h. (counting (named_true value) inputs columns).kept i j is.1 of h)
+        implies (counted inputs value (reaches (suc i) (suc j))) (counted inputs value (reaches (suc (suc i)) (suc j))) (λ h. (counting (named_true value) inputs columns).kept i j is.1 of h)
     holds_by_name columns (counts_up i zero x) is of =
         input_unless_back (counted inputs value x.name) x.positive (counted inputs value (reaches (suc i) 1) || false) (λ h.
         or_nothing_back (counted inputs value (reaches (suc i) 1)) ((counting (named_true value) inputs columns).counted i 0 x is.0 of (sym (same_input x (contains_at inputs i x is.0)) ∙ h) (inl refl)))
     holds_by_name columns (counts_up i (suc j) x) is of =
-        first_unless_back (counted inputs value (reaches i (suc j))) (named_true (counted inputs value) (opposite x) || (counted inputs value (reaches (suc i) (suc (suc j))) || false)) (λ r.
+        one_premise (counted inputs value (reaches i (suc j))) (named_true (counted inputs value) (opposite x) || (counted inputs value (reaches (suc i) (suc (suc j))) || false)) (λ r.
         input_unless_back (counted inputs value x.name) x.positive (counted inputs value (reaches (suc i) (suc (suc j))) || false) (λ h.
         or_nothing_back (counted inputs value (reaches (suc i) (suc (suc j)))) ((counting (named_true value) inputs columns).counted i (suc j) x is.0 of
         (sym (same_input x (contains_at inputs i x is.0)) ∙ h) (inr (low is.1, r)))))

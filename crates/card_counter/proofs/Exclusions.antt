@@ -1,41 +1,22 @@
 -- "At most one" by pairs or by a chain is exact by name, and its clauses are those of the names.
-use Rattle.std.proofs.Common.{◌≡◌, ℕ, zero, suc, ◌+◌, ◌-◌, ◌<◌, ◌≤◌, ◌∙◌, ◌⊎◌, inl, inr, Bool, true, false, List, [], ◌∷◌, ◌++◌, length, take, map, Option, Some, None, refl, sym, ap, subst, arith, Contains, IsTrue, slice_get, get_or, not, ◌||◌, nat_le, nat_lt, option_map, unwrap_or, cond, tests}
+use Rattle.std.proofs.Common.{◌≡◌, ℕ, zero, suc, ◌+◌, ◌-◌, ◌<◌, ◌≤◌, ◌∙◌, ◌⊎◌, inl, inr, Bool, true, false, List, [], ◌∷◌, length, take, map, Option, Some, None, refl, sym, ap, subst, arith, Contains, slice_get, ◌||◌, nat_le, nat_lt, option_map, unwrap_or, cond, tests}
 use Rattle.std.specs.List.{list_any}
-use Rattle.std.proofs.lemmas.Bool.{cases_lt, cases_eq, cases_order}
+use Rattle.std.proofs.lemmas.Bool.{cases_lt, cases_eq}
 use Rattle.std.proofs.lemmas.Bool.{ltb-true, lt-ltb}
 use Rattle.std.proofs.lemmas.List.{length-map}
 use Rattle.std.proofs.lemmas.Option.{slice_get_within, slice_get-get_or, get_or_from_slice_get, slice_get-map}
+use Rattle.des_base.proofs.Elements.{contains_at}
+use Rattle.prop_core.proofs.Premises.{implied, implies, neither, two_negations}
 use Rattle.prop_core.specs.declared.lit.Lit.{Lit}
-use Rattle.prop_core.specs.Clauses.{Clause, negation}
+use Rattle.prop_core.specs.Clauses.{negation}
 use Rattle.prop_core.specs.NamedClauses.{named_clause_true, IsCode, One, Both, Each, When}
 use Rattle.prop_core.specs.VariableNames.{Name, in_state, happens, asked, matches, done, unmatched, closed, dropped, reaches, some_of_first, Exclusion, NamedLiteral, yes, no, name_of, named_literal, named_clause}
 use Rattle.prop_core.proofs.FamilyLemmas.{code_one, code_append, code_same, code_when_true, code_when_false, reads_whole}
-use Rattle.card_counter.proofs.CodeLemmas.{code_flat, IsRead, read_at, read_length, read_negation, read_two}
-use Rattle.card_counter.proofs.ListLemmas.{contains_at}
+use Rattle.card_counter.proofs.CodeLemmas.{code_flat, read_at, read_length, read_negation, read_two}
 use Rattle.card_counter.proofs.PairLemmas.{AreNamed, ExcludedNames, pairs_exclude_names}
-use Rattle.card_counter.specs.AtMostOne.{excluded_pairs, chain_count, link_clauses, chain_clauses, exclusion_clauses, IsNamedChain, ExclusionIsCode}
+use Rattle.card_counter.specs.AtMostOne.{excluded_pairs, link_clauses, chain_clauses, IsNamedChain, ExclusionIsCode}
 use Rattle.card_counter.specs.CounterState.{positive, negative, input_at}
-use Rattle.card_counter.specs.Exclusions.{ExclusionClause, exclusion_clause, IsExclusionClause, input_name, two, opens, goes_on, shuts_out, IsNamedExclusion, AtMostOneOf, ExclusionsHold, is_chain, with_chains, ChainsComplete, ExclusionIsSound, ExclusionIsComplete}
-
--- a premise and a conclusion
-implied : (a b : Bool) → not a || (b || false) ≡ true → a ≡ true → b ≡ true
-implied true true h e = refl
-implied true false h e = cc
-implied false b h e = cc
-
-implies : (a b : Bool) → (a ≡ true → b ≡ true) → not a || (b || false) ≡ true
-implies true b h = let is : b ≡ true = h refl in rw is refl
-implies false b h = refl
-
-neither : (a b : Bool) → not a || (not b || false) ≡ true → a ≡ true → b ≡ true → ⊥
-neither true true h e f = cc
-neither true false h e f = cc
-neither false b h e f = cc
-
-two_negations : (a b : Bool) → (a ≡ true → b ≡ true → ⊥) → not a || (not b || false) ≡ true
-two_negations true true h = absurd (h refl refl)
-two_negations true false h = refl
-two_negations false b h = refl
+use Rattle.card_counter.specs.Exclusions.{ExclusionClause, exclusion_clause, IsExclusionClause, input_name, two, opens, goes_on, shuts_out, IsNamedExclusion, AtMostOneOf, ExclusionsHold, is_chain, with_chains, ExclusionIsSound, ExclusionIsComplete}
 
 -- the chain is open from the first true input on
 chain_open : (value : Name → Bool) (family : Exclusion) (inputs : List Name) → ExclusionsHold value family inputs → 5 ≤ length inputs → (i : ℕ) (x : Name) → slice_get inputs i ≡ Some x → value x ≡ true →

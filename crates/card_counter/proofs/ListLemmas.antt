@@ -1,51 +1,20 @@
 -- Lists: facts of all elements, fronts, and lists that are put together number by number.
-use Rattle.std.proofs.Common.{◌≡◌, ℕ, zero, suc, ◌+◌, ◌<◌, ◌∙◌, List, [], ◌∷◌, ◌++◌, map, flat_map, length, take, Some, refl, sym, ap, subst, arith, slice_get, Contains, append-nil, append_assoc, ◌⊎◌, inl, inr}
+use Rattle.std.proofs.Common.{◌≡◌, ℕ, zero, suc, ◌+◌, ◌<◌, ◌∙◌, List, [], ◌∷◌, ◌++◌, map, flat_map, take, Some, refl, sym, ap, subst, arith, slice_get, Contains, append-nil, append_assoc, ◌⊎◌, inl, inr}
 use Rattle.std.specs.List.{AllByRecursion, range_with_len}
 use Rattle.std.proofs.lemmas.List.Elements.{Contains-append_left, Contains-append_right, Contains-append_cases}
 use Rattle.std.proofs.lemmas.Bool.{cases_order}
+use Rattle.des_base.proofs.Elements.{all_append, all_split, all_from}
 use Rattle.des_base.specs.Lists.{EachPair}
-use Rattle.prop_core.proofs.FamilyLemmas.{all_append}
-
-pub all_split : {X : Type 0} (P : X → Type 0) (xs ys : List X) → AllByRecursion P (xs ++ ys) → AllByRecursion P xs × AllByRecursion P ys
-all_split P [] ys all = (tt, all)
-all_split P (x ∷ xs) ys all = let rest = all_split P xs ys all.1 in ((all.0, rest.0), rest.1)
-
-pub all_change : {X : Type 0} (P Q : X → Type 0) (xs : List X) → ((x : X) → P x → Q x) → AllByRecursion P xs → AllByRecursion Q xs
-all_change P Q [] to all = tt
-all_change P Q (x ∷ xs) to all = (to x all.0, all_change P Q xs to all.1)
 
 pub all_both : {X : Type 0} (P Q : X → Type 0) (xs : List X) → AllByRecursion P xs → AllByRecursion Q xs → AllByRecursion (λ x. P x × Q x) xs
 all_both P Q [] first second = tt
 all_both P Q (x ∷ xs) first second = ((first.0, second.0), all_both P Q xs first.1 second.1)
-
-pub some_at : {X : Type 0} (xs : List X) (k : ℕ) → k < length xs → (x : X) × (slice_get xs k ≡ Some x)
-some_at [] k h = absurd (omega arith)
-some_at (x ∷ xs) zero h = (x, refl)
-some_at (x ∷ xs) (suc k) h = some_at xs k (omega arith)
 
 -- one more element of a front
 pub take_more : {X : Type 0} (xs : List X) (k : ℕ) (x : X) → slice_get xs k ≡ Some x → take (suc k) xs ≡ take k xs ++ x ∷ []
 take_more [] k x h = cc
 take_more (y ∷ xs) zero x h = let same : y ≡ x = cc in ap (λ z. z ∷ []) same
 take_more (y ∷ xs) (suc k) x h = ap (λ rest. y ∷ rest) (take_more xs k x h)
-
-pub map_append : {X Y : Type 0} (f : X → Y) (xs ys : List X) → map f (xs ++ ys) ≡ map f xs ++ map f ys
-map_append f [] ys = refl
-map_append f (x ∷ xs) ys = ap (λ rest. f x ∷ rest) (map_append f xs ys)
-
-pub contains_at : {X : Type 0} (xs : List X) (k : ℕ) (x : X) → slice_get xs k ≡ Some x → Contains xs x
-contains_at [] k x h = cc
-contains_at (y ∷ xs) zero x h = (0, omega arith, cc)
-contains_at (y ∷ xs) (suc k) x h = let rest = contains_at xs k x h in (suc rest.0, omega (arith, rest.1), rest.2)
-
-pub all_from : {X : Type 0} (P : X → Type 0) (xs : List X) → ((x : X) → Contains xs x → P x) → AllByRecursion P xs
-all_from P [] f = tt
-all_from P (x ∷ xs) f = (f x (0, omega arith, refl), all_from P xs (λ y here. f y (suc here.0, omega (arith, here.1), here.2)))
-
-pub all_at : {X : Type 0} (P : X → Type 0) (xs : List X) (x : X) → AllByRecursion P xs → Contains xs x → P x
-all_at P [] x all (k, below, is) = absurd (omega arith)
-all_at P (y ∷ xs) x all (zero, below, is) = subst P is all.0
-all_at P (y ∷ xs) x all (suc k, below, is) = all_at P xs x all.1 (k, omega arith, is)
 
 -- ---- a list for each number
 

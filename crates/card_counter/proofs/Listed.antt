@@ -4,17 +4,19 @@ use Rattle.std.specs.List.{AllZip, range_with_len}
 use Rattle.std.proofs.lemmas.Bool.{ltb-true, lt-ltb}
 use Rattle.std.proofs.lemmas.List.FromFn.{length-map-range_with_len}
 use Rattle.std.proofs.lemmas.Option.{slice_get_within, slice_get-get_or, get_or_from_slice_get}
+use Rattle.des_base.proofs.Elements.{some_at, zip_append, take_whole}
 use Rattle.prop_core.specs.declared.lit.Lit.{Lit}
 use Rattle.prop_core.specs.Clauses.{Clause, negation}
 use Rattle.prop_core.specs.VariableNames.{Name, Exclusion, asked, some_of_first, NamedLiteral, yes, no, named_literal, named_clause, ReadsAs}
 use Rattle.prop_core.proofs.FamilyLemmas.{reads_whole}
 use Rattle.card_counter.proofs.CodeLemmas.{read_negation, read_two}
-use Rattle.card_counter.proofs.Exclusions.{count as called_count, at_place, input_reads, open_reads}
-use Rattle.card_counter.proofs.ListLemmas.{some_at, take_more, map_append, map_as_flat, flat_next, flat_of, flat_contains, map_of, map_contains}
+use Rattle.card_counter.proofs.Exclusions.{count as called_count, input_reads, open_reads}
+use Rattle.card_counter.proofs.ListLemmas.{take_more, map_as_flat, flat_next, flat_of, flat_contains, map_of, map_contains}
 use Rattle.card_counter.proofs.PairLemmas.{pairs_take}
-use Rattle.card_counter.specs.AtMostOne.{not_both, excluded_pairs, chain_count, link_clauses, chain_clauses, exclusion_clauses, IsNamedChain, ExclusionsRead}
+use Rattle.card_counter.specs.AtMostOne.{not_both, excluded_pairs, link_clauses, chain_clauses, exclusion_clauses, IsNamedChain, ExclusionsRead}
 use Rattle.card_counter.specs.CounterState.{positive, negative, input_at}
-use Rattle.card_counter.specs.Exclusions.{ExclusionClause, exclusion_clause, IsExclusionClause, two, opens, goes_on, shuts_out, input_name, pairs_with, link_at, exclusion_list, ExclusionsAreListed}
+use Rattle.card_counter.specs.Exclusions.{ExclusionClause, exclusion_clause, IsExclusionClause, two, opens, goes_on, shuts_out, input_name, pairs_with, link_at, ExclusionsAreListed}
+use Rattle.std.proofs.lemmas.List.{map-append}
 
 -- ---- which they are
 
@@ -136,25 +138,15 @@ exclusions_are_listed inputs = record {
 
 -- ---- how they read
 
-zip_put : {A B : Type 0} (R : A → B → Type 0) (xs : List A) (ys : List B) (us : List A) (vs : List B) → AllZip R xs ys → AllZip R us vs → AllZip R (xs ++ us) (ys ++ vs)
-zip_put R [] [] us vs first second = second
-zip_put R [] (y ∷ ys) us vs first second = absurd first
-zip_put R (x ∷ xs) [] us vs first second = absurd first
-zip_put R (x ∷ xs) (y ∷ ys) us vs first second = (first.0, zip_put R xs ys us vs first.1 second)
-
 zip_flat : {A B : Type 0} (R : A → B → Type 0) (f : ℕ → List A) (g : ℕ → List B) (n : ℕ) → ((i : ℕ) → i < n → AllZip R (f i) (g i)) → AllZip R (flat_map f (range_with_len 0 n)) (flat_map g (range_with_len 0 n))
 zip_flat R f g zero each = tt
 zip_flat R f g (suc n) each =
     subst (λ xs. AllZip R xs (flat_map g (range_with_len 0 (suc n)))) (sym (flat_next f n))
     (subst (λ ys. AllZip R (flat_map f (range_with_len 0 n) ++ f n) ys) (sym (flat_next g n))
-    (zip_put R (flat_map f (range_with_len 0 n)) (flat_map g (range_with_len 0 n)) (f n) (g n) (zip_flat R f g n (λ i h. each i (omega (arith, h)))) (each n (omega arith))))
+    (zip_append R (flat_map f (range_with_len 0 n)) (flat_map g (range_with_len 0 n)) (f n) (g n) (zip_flat R f g n (λ i h. each i (omega (arith, h)))) (each n (omega arith))))
 
 map_next : {X : Type 0} (f : ℕ → X) (n : ℕ) → map f (range_with_len 0 (suc n)) ≡ map f (range_with_len 0 n) ++ f n ∷ []
 map_next f n = map_as_flat f (range_with_len 0 (suc n)) ∙ flat_next (λ i. f i ∷ []) n ∙ ap (λ xs. xs ++ f n ∷ []) (sym (map_as_flat f (range_with_len 0 n)))
-
-take_whole : {X : Type 0} (xs : List X) → take (length xs) xs ≡ xs
-take_whole [] = refl
-take_whole (x ∷ xs) = ap (λ rest. x ∷ rest) (take_whole xs)
 
 module _ (names : List (ℕ × Name)) (family : Exclusion) (called : List Name) (inputs : List Lit) (first : ℕ) (reads : named_clause names inputs ≡ Some (map (λ name. yes name) called)) where
   abbrev Reads : Clause → ExclusionClause → Type 0
@@ -176,11 +168,11 @@ module _ (names : List (ℕ × Name)) (family : Exclusion) (called : List Name) 
   row_reads r x at_r zero inside = tt
   row_reads r x at_r (suc k) inside =
       let at = some_at inputs k (omega (arith, inside)) in
-      let left : map (not_both x) (take (suc k) inputs) ≡ map (not_both x) (take k inputs) ++ not_both x at.0 ∷ [] = ap (map (not_both x)) (take_more inputs k at.0 at.1) ∙ map_append (not_both x) (take k inputs) (at.0 ∷ []) in
+      let left : map (not_both x) (take (suc k) inputs) ≡ map (not_both x) (take k inputs) ++ not_both x at.0 ∷ [] = ap (map (not_both x)) (take_more inputs k at.0 at.1) ∙ map-append (not_both x) (take k inputs) (at.0 ∷ []) in
       let right = map_next (λ i. two i r (input_name called i) (input_name called r)) k in
       subst (λ cs. AllZip Reads cs (map (λ i. two i r (input_name called i) (input_name called r)) (range_with_len 0 (suc k)))) (sym left)
       (subst (λ ws. AllZip Reads (map (not_both x) (take k inputs) ++ not_both x at.0 ∷ []) ws) (sym right)
-      (zip_put Reads (map (not_both x) (take k inputs)) (map (λ i. two i r (input_name called i) (input_name called r)) (range_with_len 0 k)) (not_both x at.0 ∷ []) (two k r (input_name called k) (input_name called r) ∷ [])
+      (zip_append Reads (map (not_both x) (take k inputs)) (map (λ i. two i r (input_name called i) (input_name called r)) (range_with_len 0 k)) (not_both x at.0 ∷ []) (two k r (input_name called k) (input_name called r) ∷ [])
       (row_reads r x at_r k (omega (arith, inside))) (pair_reads k r at.0 x at.1 at_r, tt)))
 
   rows_read : (k : ℕ) → k ≤ length inputs → AllZip Reads (excluded_pairs (take k inputs)) (flat_map (pairs_with called) (range_with_len 0 k))
@@ -189,7 +181,7 @@ module _ (names : List (ℕ × Name)) (family : Exclusion) (called : List Name) 
       let at = some_at inputs k (omega (arith, inside)) in
       subst (λ cs. AllZip Reads cs (flat_map (pairs_with called) (range_with_len 0 (suc k)))) (sym (pairs_take inputs k at.0 at.1))
       (subst (λ ws. AllZip Reads (excluded_pairs (take k inputs) ++ map (not_both at.0) (take k inputs)) ws) (sym (flat_next (pairs_with called) k))
-      (zip_put Reads (excluded_pairs (take k inputs)) (flat_map (pairs_with called) (range_with_len 0 k)) (map (not_both at.0) (take k inputs)) (pairs_with called k)
+      (zip_append Reads (excluded_pairs (take k inputs)) (flat_map (pairs_with called) (range_with_len 0 k)) (map (not_both at.0) (take k inputs)) (pairs_with called k)
       (rows_read k (omega (arith, inside))) (row_reads k at.0 at.1 k (omega (arith, inside)))))
 
   pub pairs_read : AllZip Reads (excluded_pairs inputs) (flat_map (pairs_with called) (range_with_len 0 (length inputs)))

@@ -2,8 +2,9 @@
 use Rattle.std.proofs.Common.{◌≡◌, ◌≢◌, ℕ, zero, suc, List, [], ◌∷◌, map, length, None, Some, refl, sym, ap, subst, arith, Contains}
 use Rattle.std.specs.List.{AllByRecursion}
 use Rattle.std.proofs.lemmas.Bool.{ne_eqb, eq-eqb}
+use Rattle.des_base.proofs.Elements.{all_at}
 use Rattle.prop_core.specs.VariableNames.{Name, reaches, HasEachOnce, name_of}
-use Rattle.card_counter.proofs.ListLemmas.{all_at, flat_contains, flat_of, map_contains, map_of, pairs_flat, pairs_map}
+use Rattle.card_counter.proofs.ListLemmas.{flat_contains, flat_of, map_contains, map_of, pairs_flat, pairs_map}
 use Rattle.card_counter.specs.CounterState.{CounterState, IsPlace, IsCounter, variable, numbers_below, counter_names}
 use Rattle.card_counter.specs.Counting.{CounterNamesStand}
 

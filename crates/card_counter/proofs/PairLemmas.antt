@@ -1,17 +1,19 @@
 -- The clauses of all pairs of a list.
 use Rattle.std.proofs.Common.{◌≡◌, ℕ, zero, suc, ◌+◌, ◌*◌, ◌-◌, ◌<◌, ◌≤◌, ◌∙◌, Bool, true, false, List, [], ◌∷◌, ◌++◌, map, length, take, drop, Some, refl, sym, ap, subst, arith, slice_get, IsTrue, not, ◌||◌, append_assoc, append-nil, length-append, get_or}
 use Rattle.std.proofs.Math.Nat.{suc-mul, mul-suc}
-use Rattle.std.proofs.lemmas.List.{length-map, length-take-le, take-append-drop}
+use Rattle.std.proofs.lemmas.List.{length-map, length-take-le, take-append-drop, map-append}
 use Rattle.std.proofs.lemmas.Option.{slice_get-get_or}
 use Rattle.std.specs.Bool.{beq}
 use Rattle.std.specs.List.{AllByRecursion}
+use Rattle.des_base.proofs.Elements.{all_append, all_split, all_change, some_at}
 use Rattle.des_base.specs.Lists.{EachPair}
+use Rattle.prop_core.proofs.Premises.{opposite}
 use Rattle.prop_core.specs.declared.lit.Lit.{Lit}
 use Rattle.prop_core.specs.Clauses.{Clause, negation, literal_true, clause_true, AllClausesTrue}
-use Rattle.prop_core.specs.NamedClauses.{IsCode, One, Each, Appends}
+use Rattle.prop_core.specs.NamedClauses.{IsCode, One, Each}
 use Rattle.prop_core.specs.VariableNames.{Name, NamedLiteral, no, name_of}
-use Rattle.prop_core.proofs.FamilyLemmas.{all_append, code_each_none, code_each_more, code_one, reads_two}
-use Rattle.card_counter.proofs.ListLemmas.{all_split, all_change, all_both, some_at, take_more, map_append}
+use Rattle.prop_core.proofs.FamilyLemmas.{code_each_none, code_each_more, code_one, reads_two}
+use Rattle.card_counter.proofs.ListLemmas.{all_both, take_more}
 use Rattle.card_counter.specs.AtMostOne.{AreNotBothTrue, not_both, pairs_after, excluded_pairs, PairsExclude}
 
 -- ---- the pairs of a longer list
@@ -36,12 +38,6 @@ pairs_next inputs k d h =
 
 -- ---- what they say
 
-negation_true : (a b : Bool) → beq a (not b) ≡ true → beq a b ≡ true → ⊥
-negation_true true true h k = cc
-negation_true true false h k = cc
-negation_true false true h k = cc
-negation_true false false h k = cc
-
 negation_from : (a b : Bool) → (beq a b ≡ true → ⊥) → beq a (not b) ≡ true
 negation_from true true h = absurd (h refl)
 negation_from true false h = refl
@@ -58,8 +54,8 @@ module _ (value : ℕ → Bool) where
   excludes x y h first second = by (literal_true value (negation y)) refl (literal_true value (negation x)) refl h
     where
       by : (a : Bool) → literal_true value (negation y) ≡ a → (b : Bool) → literal_true value (negation x) ≡ b → a || (b || false) ≡ true → ⊥
-      by true e b f g = negation_true (value y.var) y.positive e first
-      by false e true f g = negation_true (value x.var) x.positive f second
+      by true e b f g = opposite (value y.var) y.positive e first
+      by false e true f g = opposite (value x.var) x.positive f second
       by false e false f g = cc
 
   excluded : (x y : Lit) → AreNotBothTrue value y x → IsTrue (clause_true value (not_both x y))
@@ -148,7 +144,7 @@ module _ (names : List (ℕ × Name)) (name : ℕ → Name) (inputs : List Lit) 
       let at = some_at inputs k (omega arith) in
       let row = one_row r x at_r k (omega arith) in
       let more = code_each_more names (Excluded r) k (map (not_both x) (take k inputs)) (not_both x at.0 ∷ []) row (one_pair k r at.0 x at.1 at_r) in
-      let whole : map (not_both x) (take (suc k) inputs) ≡ map (not_both x) (take k inputs) ++ not_both x at.0 ∷ [] = ap (map (not_both x)) (take_more inputs k at.0 at.1) ∙ map_append (not_both x) (take k inputs) (at.0 ∷ []) in
+      let whole : map (not_both x) (take (suc k) inputs) ≡ map (not_both x) (take k inputs) ++ not_both x at.0 ∷ [] = ap (map (not_both x)) (take_more inputs k at.0 at.1) ∙ map-append (not_both x) (take k inputs) (at.0 ∷ []) in
       let next : k + 1 ≡ suc k = omega arith in
       rw whole (subst (λ n. IsCode names (Each n (Excluded r)) (map (not_both x) (take k inputs) ++ not_both x at.0 ∷ [])) next more)
 

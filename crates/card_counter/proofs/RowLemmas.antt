@@ -1,18 +1,19 @@
 -- How a counter's columns stand in memory: look-ups, a column more, an input more.
-use Rattle.std.proofs.Common.{◌≡◌, ℕ, zero, suc, ◌+◌, ◌-◌, ◌<◌, ◌≤◌, ◌∙◌, List, [], ◌∷◌, ◌++◌, map, flat_map, drop, length, Some, refl, sym, ap, subst, arith, append_assoc, append-nil, length-append, get_or}
+use Rattle.std.proofs.Common.{◌≡◌, ℕ, zero, suc, ◌+◌, ◌-◌, ◌<◌, ◌≤◌, ◌∙◌, List, [], ◌∷◌, ◌++◌, map, flat_map, drop, length, refl, sym, ap, subst, arith, append_assoc, append-nil, length-append, get_or}
 use Rattle.std.specs.List.{range_with_len, AllByRecursion}
 use Rattle.std.proofs.Math.ListN.{get_or-append}
 use Rattle.std.proofs.Math.Seq.{get_or-append_seam}
-use Rattle.std.proofs.lemmas.List.{drop_all, drop-append-le, get_or-append_right, get_or-map, get_or-drop, length-drop, length-map}
+use Rattle.std.proofs.lemmas.List.{drop_all, drop-append-le, get_or-append_right, get_or-map, get_or-drop, length-drop, map-append}
 use Rattle.std.proofs.lemmas.List.FromFn.{get_or-range_with_len, length-range_with_len}
+use Rattle.des_base.proofs.Elements.{all_change}
 use Rattle.des_base.specs.declared.TheConstants.{VAR_LIMIT}
 use Rattle.prop_core.specs.declared.lit.Lit.{Lit}
-use Rattle.prop_core.specs.Clauses.{Clause, negation, HasValues}
+use Rattle.prop_core.specs.Clauses.{Clause, negation}
 use Rattle.card_counter.specs.declared.counter.Column.{Column}
 use Rattle.card_counter.proofs.Inputs.{inputs_grow}
-use Rattle.card_counter.proofs.ListLemmas.{flat_next, map_append, all_change}
+use Rattle.card_counter.proofs.ListLemmas.{flat_next}
 use Rattle.card_counter.proofs.States.{grown_is_counter, grown_is_made, at_end, before_front}
-use Rattle.card_counter.specs.CounterState.{CounterState, IsPlace, IsCounter, IsMade, IsOutside, HasInput, told_by, reached_in, reached_before, under, positive, negative, variable, var_at, column_at, column_before, place_clauses, input_at, no_input, column_clauses, bound_literal, with_column, next_clauses, numbers_below, longer, with_input, input_clauses}
+use Rattle.card_counter.specs.CounterState.{CounterState, IsPlace, IsCounter, IsMade, IsOutside, HasInput, told_by, reached_in, reached_before, under, positive, negative, var_at, column_at, column_before, place_clauses, input_at, no_input, column_clauses, bound_literal, with_column, next_clauses, numbers_below, longer, with_input, input_clauses}
 use Rattle.card_counter.specs.Rows.{column_of, columns_of, counter_of, var_of, IsLaidOut, clauses_at, reached_at, premise_at, kept_clauses, counted_clauses}
 
 -- ---- look-ups
@@ -170,7 +171,7 @@ module _ (old : CounterState) (vars : ℕ) (inputs : List Lit) (rows : List ℕ)
 column_longer : (rows : List ℕ) (j : ℕ) (column : Column) (row : ℕ) → column.count ≤ length rows → column_of (rows ++ row ∷ []) j column ≡ column_of rows j column ++ (row + j) ∷ []
 column_longer rows j column row h =
     ap (λ xs. range_with_len column.first column.count ++ map (λ first. first + j) xs) (drop-append-le column.count rows (row ∷ []) h)
-    ∙ ap (λ xs. range_with_len column.first column.count ++ xs) (map_append (λ first. first + j) (drop column.count rows) (row ∷ []))
+    ∙ ap (λ xs. range_with_len column.first column.count ++ xs) (map-append (λ first. first + j) (drop column.count rows) (row ∷ []))
     ∙ sym (append_assoc (range_with_len column.first column.count) (map (λ first. first + j) (drop column.count rows)) ((row + j) ∷ []))
 
 columns_longer : (rows : List ℕ) (j : ℕ) (columns : List Column) (row first : ℕ) → first ≡ row + j → AllByRecursion (λ (c : Column). c.count ≤ length rows) columns →

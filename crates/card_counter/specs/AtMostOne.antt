@@ -1,6 +1,7 @@
 -- At most one of a list of literals is true, and the clauses that say so: one for each pair of at most four, and a chain over more.
-use Rattle.std.specs.Prelude.{◌≡◌, ◌↔◌, ◌⊎◌, ◌+◌, ◌-◌, ◌<◌, ◌≤◌, ℕ, suc, Bool, true, List, [], ◌∷◌, ◌++◌, map, flat_map, length, Some, slice_get, IsTrue, nat_le, nat_lt, if◌then◌else◌}
+use Rattle.std.specs.Prelude.{◌≡◌, ◌↔◌, ◌⊎◌, ◌+◌, ◌-◌, ◌<◌, ◌≤◌, ℕ, suc, Bool, List, [], ◌∷◌, ◌++◌, map, flat_map, length, Some, IsTrue, nat_le, nat_lt, if◌then◌else◌}
 use Rattle.std.specs.List.{AllZip}
+use Rattle.des_base.specs.ChainCount.{chain_count}
 use Rattle.des_base.specs.Lists.{EachPair}
 use Rattle.prop_core.specs.declared.lit.Lit.{Lit}
 use Rattle.prop_core.specs.Clauses.{Clause, negation, literal_true, AllClausesTrue, HasValues}
@@ -29,10 +30,6 @@ pairs_after earlier (x ∷ later) = map (not_both x) earlier ++ pairs_after (ear
 
 abbrev pub excluded_pairs : List Lit → List Clause
 excluded_pairs inputs = pairs_after [] inputs
-
--- how many variables an "at most one" of so many inputs makes
-abbrev pub chain_count : ℕ → ℕ
-chain_count k = if nat_le k 4 then 0 else k - 1
 
 -- The variable at place i of a chain says that one of the inputs up to place i is true: an input opens the chain at its place, the chain shuts out the next input, and goes on to the next place if there is one.
 abbrev pub link_clauses : List Lit → ℕ → ℕ → List Clause

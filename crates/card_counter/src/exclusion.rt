@@ -1,6 +1,7 @@
 ghost use Rattle.std.specs.Prelude.{◌≡◌, ◌+◌, ◌*◌, ◌-◌, ◌<◌, ◌≤◌, ◌++◌, length, map, OnOk, OnErr};
+ghost use Rattle.des_base.specs.ChainCount.{chain_count};
 ghost use Rattle.des_base.specs.declared.TheConstants.{VAR_LIMIT};
-ghost use Rattle.card_counter.specs.AtMostOne.{not_both, excluded_pairs, chain_count, chain_clauses, link_clauses, exclusion_clauses, ExcludesAllButOne};
+ghost use Rattle.card_counter.specs.AtMostOne.{not_both, excluded_pairs, chain_clauses, link_clauses, exclusion_clauses, ExcludesAllButOne};
 
 use des_base::Memory;
 use prop_core::{Clauses, Lit, Vars};

@@ -1,47 +1,22 @@
 -- What tests that are joined by `&&`, `||` and `not` say of their parts, and tests on numbers.
-use Rattle.std.proofs.Common.{◌≡◌, ◌⊎◌, ℕ, ◌<◌, ◌≤◌, Bool, true, false, not, ◌&&◌, ◌||◌, refl, inl, inr, arith, ap}
+use Rattle.std.proofs.Common.{◌≡◌, ℕ, ◌<◌, ◌≤◌, Bool, true, false, ◌&&◌, ◌||◌, refl, arith, ap, sym}
 use Rattle.std.specs.Prelude.{◌==◌, nat_lt, nat_le}
 use Rattle.std.proofs.lemmas.Bool.Decides.{nat_tests, Decides-eqb}
+pub use Rattle.std.proofs.lemmas.Bool.{and_parts as both, and_from as join, or_cases as either, or_left, or_right, or_parts as neither, not_from_false as not_false, not-true as not_true, not-false as not_is_false, false_from_ne_true as otherwise}
 
-pub both : (a b : Bool) → (a && b) ≡ true → (a ≡ true) × (b ≡ true)
-both true b h = (refl, h)
-both false b h = cc
+pub or_assoc : (a b c : Bool) → (a || (b || c)) ≡ ((a || b) || c)
+or_assoc true b c = refl
+or_assoc false b c = refl
 
-pub join : (a b : Bool) → a ≡ true → b ≡ true → (a && b) ≡ true
-join true b h k = k
-join false b h k = cc
+pub and_assoc : (a b c : Bool) → ((a && b) && c) ≡ (a && (b && c))
+and_assoc true b c = refl
+and_assoc false b c = refl
 
-pub either : (a b : Bool) → (a || b) ≡ true → (a ≡ true) ⊎ (b ≡ true)
-either true b h = inl refl
-either false b h = inr h
-
-pub or_left : (a b : Bool) → a ≡ true → (a || b) ≡ true
-or_left true b h = refl
-or_left false b h = cc
-
-pub or_right : (a b : Bool) → b ≡ true → (a || b) ≡ true
-or_right true b h = refl
-or_right false b h = h
-
-pub neither : (a b : Bool) → (a || b) ≡ false → (a ≡ false) × (b ≡ false)
-neither true b h = cc
-neither false b h = (refl, h)
-
-pub not_false : (b : Bool) → b ≡ false → not b ≡ true
-not_false true h = cc
-not_false false h = refl
-
-pub not_true : (b : Bool) → not b ≡ true → b ≡ false
-not_true true h = cc
-not_true false h = refl
-
-pub not_is_false : (b : Bool) → not b ≡ false → b ≡ true
-not_is_false true h = refl
-not_is_false false h = cc
-
-pub otherwise : (b : Bool) → (b ≡ true → ⊥) → b ≡ false
-otherwise true h = absurd (h refl)
-otherwise false h = refl
+-- two tests that pass alike are one
+pub alike : (a b : Bool) → (a ≡ true → b ≡ true) → (b ≡ true → a ≡ true) → a ≡ b
+alike true b f g = sym (f refl)
+alike false true f g = g refl
+alike false false f g = refl
 
 pub same : (x y : ℕ) → (x == y) ≡ true → x ≡ y
 same x y h = (Decides-eqb x y).0 h
@@ -60,6 +35,21 @@ is_most x y h = grind (arith, nat_tests)
 
 pub most_is : (x y : ℕ) → nat_le x y ≡ true → x ≤ y
 most_is x y h = grind (arith, nat_tests)
+
+pub not_less : (x y : ℕ) → y ≤ x → nat_lt x y ≡ false
+not_less x y h = grind (arith, nat_tests)
+
+pub less_not : (x y : ℕ) → nat_lt x y ≡ false → y ≤ x
+less_not x y h = grind (arith, nat_tests)
+
+pub not_most : (x y : ℕ) → y < x → nat_le x y ≡ false
+not_most x y h = grind (arith, nat_tests)
+
+pub most_not : (x y : ℕ) → nat_le x y ≡ false → y < x
+most_not x y h = grind (arith, nat_tests)
+
+pub differ : (x y : ℕ) → (x ≡ y → ⊥) → (x == y) ≡ false
+differ x y h = otherwise (x == y) (λ e. h (same x y e))
 
 -- a test tells two numbers apart
 pub apart : (p : ℕ → Bool) (x y : ℕ) → p x ≡ false → p y ≡ true → (x == y) ≡ false

@@ -6,3 +6,8 @@ pub mod LineLemmas
 pub mod LawLemmas
 pub mod PieceLemmas
 pub mod BoolLemmas
+pub mod Elements
+pub mod NumbersBelow
+pub mod PrintedLines
+pub mod Appended
+pub mod PlaceLemmas

@@ -15,7 +15,7 @@ abbrev line_len : List ℕ → ℕ
 line_len xs = position_or_len is_feed xs
 
 -- only the last piece is left out
-without_empty_last-cons : (piece : List ℕ) (pieces : List (List ℕ)) → 0 < length pieces → without_empty_last (piece ∷ pieces) ≡ piece ∷ without_empty_last pieces
+pub without_empty_last-cons : (piece : List ℕ) (pieces : List (List ℕ)) → 0 < length pieces → without_empty_last (piece ∷ pieces) ≡ piece ∷ without_empty_last pieces
 without_empty_last-cons piece [] h = absurd (omega arith)
 without_empty_last-cons piece (next ∷ pieces) h = refl
 

@@ -5,6 +5,7 @@ use Rattle.std.specs.List.{position_from, AllByRecursion}
 use Rattle.std.specs.Map.{keys_of, values_of, lookup}
 use Rattle.std.proofs.lemmas.Iterator.Adapters.{position_from-zero}
 use Rattle.std.specs.Cmp.Lexicographic.{nat_list_eq_equiv}
+use Rattle.des_base.proofs.PlaceLemmas.{none_parts, place-within}
 use Rattle.indexmap.specs.IndexMap.{insert_entry}
 use Rattle.indexmap.specs.Layout.{hash_map}
 use Rattle.indexmap.proofs.CallerLemmas.{insert_entry-new}
@@ -66,19 +67,13 @@ pub place-push : (text : List ℕ) (ns : List (List ℕ)) (n : List ℕ) → pla
 place-push text [] n h e = ap (λ b. cond b (Some 0) None) e
 place-push text (x ∷ xs) n h e = none_step (bytes_eq text x) (bytes_eq text n) (place_of text xs) (place_of text (xs ++ n ∷ [])) h (λ q c. place-push text xs n q c) e
 
--- not there: not the first, nor among the others
-none_parts : (b : Bool) (q : Option ℕ) → cond b (Some 0) (option_map suc q) ≡ None → (b ≡ false) × (q ≡ None)
-none_parts true q h = cc
-none_parts false None h = (refl, refl)
-none_parts false (Some k) h = cc
-
 pub AreDistinct-push : (ns : List (List ℕ)) (n : List ℕ) → AreDistinct ns → place_of n ns ≡ None → AreDistinct (ns ++ n ∷ [])
 AreDistinct-push [] n h none = (refl, tt)
 AreDistinct-push (x ∷ xs) n h none =
     let parts = none_parts (bytes_eq n x) (place_of n xs) none in
     (place-push x xs n h.0 (nat_list_eq_equiv.symm x n ∙ parts.0), AreDistinct-push xs n h.1 parts.1)
 
-each_push : (ns : List (List ℕ)) (n : List ℕ) → AllByRecursion IsName ns → IsName n → AllByRecursion IsName (ns ++ n ∷ [])
+pub each_push : (ns : List (List ℕ)) (n : List ℕ) → AllByRecursion IsName ns → IsName n → AllByRecursion IsName (ns ++ n ∷ [])
 each_push [] n h e = (e, tt)
 each_push (x ∷ xs) n h e = (h.0, each_push xs n h.1 e)
 
@@ -107,16 +102,6 @@ added es new k n old inv is e same name none few =
 pub found : {Z : Type 0} (text : List ℕ) (es : List (Vec ℕ Z × List ℕ)) (names : List (List ℕ)) (r : Option ℕ)
     → KeysAreNames es × AreNames (values_of es) → r ≡ position (λ k. bytes_eq text k.items) (keys_of es) → values_of es ≡ names → r ≡ place_of text names
 found text es names r inv e same = e ∙ position-place (λ k. bytes_eq text k.items) (keys_of es) ∙ place-keys text es inv.0 ∙ ap (place_of text) same
-
--- a place is one of the list's
-place_step : (b : Bool) (q : Option ℕ) (n k : ℕ) → cond b (Some 0) (option_map suc q) ≡ Some k → ((j : ℕ) → q ≡ Some j → j < n) → k < suc n
-place_step true q n k h rest = let e : 0 ≡ k = cc in omega arith
-place_step false None n k h rest = cc
-place_step false (Some j) n k h rest = let e : suc j ≡ k = cc in let l = rest j refl in omega arith
-
-pub place-within : {X : Type 0} (p : X → Bool) (xs : List X) (k : ℕ) → place_by p xs ≡ Some k → k < length xs
-place-within p [] k h = cc
-place-within p (x ∷ xs) k h = place_step (p x) (place_by p xs) (length xs) k h (place-within p xs)
 
 pub place_of-within : (text : List ℕ) (names : List (List ℕ)) (k : ℕ) → Some k ≡ place_of text names → k < length names
 place_of-within text names k h = place-within (bytes_eq text) names k (sym h)

@@ -7,3 +7,4 @@ pub mod Held
 pub mod CommandWords
 pub mod Laws
 pub mod Lists
+pub mod ChainCount

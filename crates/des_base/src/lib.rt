@@ -8,6 +8,7 @@
 #![tactic(auto)]
 
 mod count_sink;
+mod decimal;
 mod ids;
 mod laws;
 mod lines;
@@ -24,6 +25,7 @@ mod tokens;
 mod word_list;
 
 pub use count_sink::CountSink;
+pub use decimal::push_decimal;
 pub use ids::{ActionId, CompId, EventId, StateId};
 pub use laws::{numbers_are_decimal, tokens_are_pieces};
 pub use lines::{Line, Lines, last_line};

@@ -1,26 +1,17 @@
 -- A component stays one under each addition.
-use Rattle.std.proofs.Common.{◌≡◌, ◌<◌, ◌≤◌, ◌+◌, ℕ, suc, Bool, true, false, cond, List, [], ◌∷◌, ◌++◌, length, Option, None, Some, refl, arith, length-append}
-use Rattle.std.specs.Prelude.{option_map, unwrap_or, is_some, All}
+use Rattle.std.proofs.Common.{◌≡◌, ◌<◌, ◌≤◌, ◌+◌, ℕ, Bool, true, false, cond, List, [], ◌∷◌, ◌++◌, length, Option, None, Some, refl, arith, length-append}
+use Rattle.std.specs.Prelude.{unwrap_or, is_some, All}
 use Rattle.std.specs.List.{list_any}
 use Rattle.std.specs.Option.{option_map_or}
 use Rattle.std.proofs.lemmas.List.Elements.{All-push, All-weaker, All-nil, All-head, All-tail}
 use Rattle.std.proofs.lemmas.Bool.Decides.{nat_tests}
-use Rattle.des_base.specs.Names.{place_by, place_of, AreNames, IsName}
+use Rattle.des_base.proofs.PlaceLemmas.{place-within}
+use Rattle.des_base.specs.Names.{place_of, AreNames, IsName}
 use Rattle.des_base.proofs.TableLemmas.{AreNames-push}
 use Rattle.des_net.specs.declared.parts.Trans.{Trans}
 use Rattle.des_net.specs.Limits.{most_states, most_transitions}
 use Rattle.des_net.specs.Network.{Component, IsTransOf, no_component}
 use Rattle.des_net.specs.Building.{IsDraftComponent, is_trans, has_trans, with_state, with_trans, with_action, action_place}
-
--- a place is one of the list's
-place_step : (b : Bool) (q : Option ℕ) (n k : ℕ) → cond b (Some 0) (option_map suc q) ≡ Some k → ((j : ℕ) → q ≡ Some j → j < n) → k < suc n
-place_step true q n k h rest = let e : 0 ≡ k = cc in omega arith
-place_step false None n k h rest = cc
-place_step false (Some j) n k h rest = let e : suc j ≡ k = cc in let l = rest j refl in omega arith
-
-pub place-within : {X : Type 0} (p : X → Bool) (xs : List X) (k : ℕ) → place_by p xs ≡ Some k → k < length xs
-place-within p [] k h = cc
-place-within p (x ∷ xs) k h = place_step (p x) (place_by p xs) (length xs) k h (place-within p xs)
 
 -- no names are names
 pub AreNames-none : AreNames []

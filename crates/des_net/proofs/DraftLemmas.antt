@@ -7,6 +7,7 @@ use Rattle.std.proofs.lemmas.List.Elements.{All-push, All-weaker, All-nil, All-s
 use Rattle.std.proofs.lemmas.List.Sums.{sum_by-cons, sum_by_push}
 use Rattle.std.proofs.lemmas.Bool.Decides.{nat_tests}
 use Rattle.std.proofs.lemmas.Grind.{common_steps}
+use Rattle.des_base.proofs.BoolLemmas.{is_less}
 use Rattle.des_base.specs.Names.{place_of, IsName}
 use Rattle.des_base.proofs.TableLemmas.{AreNames-push}
 use Rattle.des_net.specs.declared.parts.Part.{Part}
@@ -200,9 +201,6 @@ pub change_at-at : (i : ℕ) (change : Component → Component) (components : Li
 unfolding change_at
 change_at-at i change components c at = ap (λ o. option_map_or (λ d. slice_set components i (change d)) o components) at
 
-below : (m n : ℕ) → m < n → nat_lt m n ≡ true
-below m n h = grind (arith, nat_tests)
-
 not_above : (m : ℕ) → m < most_transitions → nat_le most_transitions m ≡ false
 not_above m h = grind (arith, nat_tests)
 
@@ -213,4 +211,4 @@ pub trans_refusal-none : (components : List Component) (i from : ℕ) (action : 
 unfolding trans_refusal
 trans_refusal-none components i from action to c at absent f t few =
     ap (λ o. option_map_or (λ d. cond (has_trans d from action to) (Some Double) (cond (nat_lt from (length d.state_names) && nat_lt to (length d.state_names)) (cond (nat_le most_transitions (trans_count components)) (Some Limit) None) (Some Unknown))) o (Some Unknown)) at
-    ∙ none_of (has_trans c from action to) (nat_lt from (length c.state_names)) (nat_lt to (length c.state_names)) (nat_le most_transitions (trans_count components)) absent (below _ _ f) (below _ _ t) (not_above _ few)
+    ∙ none_of (has_trans c from action to) (nat_lt from (length c.state_names)) (nat_lt to (length c.state_names)) (nat_le most_transitions (trans_count components)) absent (is_less _ _ f) (is_less _ _ t) (not_above _ few)

@@ -1,22 +1,17 @@
 -- What is built is a network, where no component lacks an initial state.
-use Rattle.std.proofs.Common.{◌≡◌, ◌<◌, ℕ, zero, suc, Bool, true, false, cond, List, [], ◌∷◌, length, Option, None, Some, refl, arith}
-use Rattle.std.specs.Prelude.{◌≢◌, ◌==◌, All, nat_lt, option_map, slice_get, slice_index_or}
+use Rattle.std.proofs.Common.{◌≡◌, ◌<◌, ℕ, zero, suc, Bool, true, false, List, [], ◌∷◌, length, None, arith}
+use Rattle.std.specs.Prelude.{◌≢◌, ◌==◌, All, nat_lt, slice_get, slice_index_or}
 use Rattle.std.specs.List.{AllByRecursion, list_all, list_any}
 use Rattle.std.specs.Option.{option_map_or}
 use Rattle.std.proofs.lemmas.Bool.Decides.{nat_tests}
 use Rattle.std.proofs.lemmas.List.Elements.{All-head, All-tail, All-weaker, recursion_from_All}
+use Rattle.des_base.proofs.PlaceLemmas.{none_parts}
 use Rattle.des_base.specs.Names.{place_by}
 use Rattle.des_net.specs.declared.parts.Part.{Part}
 use Rattle.des_net.specs.Network.{Component, Event, Net, no_component, IsTransOf, IsComponent, IsPart, IsEvent, IsNetwork}
 use Rattle.des_base.specs.Lists.{EachPair}
-use Rattle.des_base.proofs.BoolLemmas.{both, neither, not_is_false}
+use Rattle.des_base.proofs.BoolLemmas.{both, neither, not_is_false, less_is}
 use Rattle.des_net.specs.Building.{IsDraft, IsDraftComponent, IsDraftEvent, is_known, lacks_init, repeats}
-
--- the test fails at the first, and at the others
-none_parts : (b : Bool) (q : Option ℕ) → cond b (Some 0) (option_map suc q) ≡ None → (b ≡ false) × (q ≡ None)
-none_parts true q h = cc
-none_parts false None h = (refl, refl)
-none_parts false (Some k) h = cc
 
 are_components : (components : List Component) → All IsDraftComponent components → place_by lacks_init components ≡ None → AllByRecursion IsComponent components
 are_components [] drafts started = tt
@@ -28,16 +23,13 @@ are_components (c ∷ components) drafts started =
       are_components components (All-tail IsDraftComponent c components drafts) parts.1,
     )
 
-below : (m n : ℕ) → nat_lt m n ≡ true → m < n
-below m n h = grind (arith, nat_tests)
-
 -- a part is known where its component is there and has its action
 abbrev found : List Component → ℕ → ℕ → Bool
 found components c a = option_map_or (λ component. nat_lt a (length component.action_names)) (slice_get components c) false
 
 is_found : (components : List Component) (c a : ℕ) → found components c a ≡ true → (c < length components) × (a < length (slice_index_or components c no_component).action_names)
 is_found [] c a h = cc
-is_found (x ∷ xs) zero a h = (omega arith, below a _ h)
+is_found (x ∷ xs) zero a h = (omega arith, less_is a _ h)
 is_found (x ∷ xs) (suc c) a h = let rest = is_found xs c a h in (let l = rest.0 in omega arith, rest.1)
 
 is_part : (components : List Component) (part : Part) → is_known components part ≡ true → IsPart components part

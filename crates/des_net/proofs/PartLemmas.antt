@@ -16,7 +16,7 @@ pub marks-none : (f : ℕ → Bool) → ((q : ℕ) → f q ≡ false) → (ps : 
 marks-none f none [] = refl
 marks-none f none (p ∷ ps) = rw (none p.comp) (marks-none f none ps)
 
-regroup : (a b x y : Bool) → ((a || b) || (x || y)) ≡ ((a || x) || (b || y))
+pub regroup : (a b x y : Bool) → ((a || b) || (x || y)) ≡ ((a || x) || (b || y))
 regroup true b x y = refl
 regroup false true true y = refl
 regroup false true false y = refl
@@ -33,7 +33,7 @@ marks-more f g k more (p ∷ ps) =
     rw (here, marks-more f g k more ps) (regroup (p.comp == k) (f p.comp) (list_any (λ q. q.comp == k) ps) (marks f ps))
 
 -- a part that isn't marked is passed over
-pass : (b m x r : Bool) → b ≡ false → ((b || m) || (x || r)) ≡ ((x || m) || r)
+pub pass : (b m x r : Bool) → b ≡ false → ((b || m) || (x || r)) ≡ ((x || m) || r)
 pass true m x r h = cc
 pass false true true r h = refl
 pass false true false r h = refl

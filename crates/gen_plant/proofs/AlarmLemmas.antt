@@ -6,13 +6,14 @@ use Rattle.std.specs.List.{range_with_len, AllByRecursion}
 use Rattle.std.proofs.lemmas.List.Elements.{filter-append}
 use Rattle.std.proofs.lemmas.List.Filters.{length-filter_both}
 use Rattle.std.proofs.lemmas.List.FromFn.{length-range_with_len, length-map-range_with_len, map-range_with_len_more}
-use Rattle.des_base.proofs.BoolLemmas.{both, either, otherwise, same, is_less}
+use Rattle.des_base.proofs.BoolLemmas.{both, either, otherwise, same, is_less, not_most}
+use Rattle.des_base.proofs.Elements.{all_change}
 use Rattle.des_base.specs.Names.{place_of}
 use Rattle.log_order.specs.Adding.{alarm_refusal, with_alarm, before_refusal, with_pair, names_of, most_alarms, most_pairs}
 use Rattle.log_order.specs.Log.{Log, has_pair, reaches, closes_cycle, a_log, an_alarm}
 use Rattle.gen_plant.specs.Plant.{most_units, units, number_of, number_after, trips, tripping, trip_label, alarm_name, alarm_of, in_a_row, plant_log}
 use Rattle.gen_plant.specs.Stages.{with_tripped, AwaitsAlarm}
-use Rattle.gen_plant.proofs.Lists.{units_more, units_below, each, each_filtered, absent_map, not_most}
+use Rattle.gen_plant.proofs.Lists.{units_more, units_below, each_filtered, absent_map}
 use Rattle.gen_plant.proofs.NameLemmas.{other_numeral}
 
 -- ---- an alarm
@@ -117,7 +118,7 @@ pub awaits_alarm : (start done : ℕ) → done < most_units → AwaitsAlarm (pla
 awaits_alarm start done few =
     let n = done + 1 in
     let below = each_filtered (λ j. j < n) (trips start) (units done) (units_below done) in
-    let others = each (λ j. j < n) (λ j. bytes_eq (alarm_name n) (alarm_name j) ≡ false) (tripping done start) (λ j less. other_numeral j n less (omega arith)) below in
+    let others = all_change (λ j. j < n) (λ j. bytes_eq (alarm_name n) (alarm_name j) ≡ false) (tripping done start) (λ j less. other_numeral j n less (omega arith)) below in
     record {
       small = omega arith;
       few = omega (arith, length_mapped (tripping done start), filter_count (trips start) (units done), length-range_with_len 1 done);

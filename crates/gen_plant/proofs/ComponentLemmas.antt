@@ -4,6 +4,8 @@ use Rattle.std.specs.Prelude.{codes, bytes_eq, slice_get, slice_set, nat_le, opt
 use Rattle.std.specs.List.{range_with_len, AllByRecursion}
 use Rattle.std.proofs.lemmas.List.Sums.{sum_by_push, sum_by-cons}
 use Rattle.std.proofs.lemmas.List.FromFn.{length-map-range_with_len, map-range_with_len_more}
+use Rattle.des_base.proofs.BoolLemmas.{not_most}
+use Rattle.des_base.proofs.Elements.{all_change}
 use Rattle.des_base.specs.Names.{place_of, place_by}
 use Rattle.des_net.specs.Building.{component_refusal, with_component, state_refusal, with_state, change_at, change_component, trans_count, trans_refusal, with_trans, lacks_init}
 use Rattle.des_net.specs.declared.refusal.BuildRefusal.TheVariants.{Double, Unknown, Limit}
@@ -11,7 +13,7 @@ use Rattle.des_net.specs.Limits.{most_components, most_transitions}
 use Rattle.des_net.specs.Network.{Component, Net, no_component, no_net}
 use Rattle.gen_plant.specs.Plant.{most_units, units, bus_component, unit_component, unit_name, plant_net}
 use Rattle.gen_plant.specs.Stages.{with_component_at, unit_without_moves, first_components}
-use Rattle.gen_plant.proofs.Lists.{units_below, each, absent_map, last_there, last_set, not_most}
+use Rattle.gen_plant.proofs.Lists.{units_below, absent_map, last_there, last_set}
 use Rattle.gen_plant.proofs.NameLemmas.{other_numeral}
 
 -- ---- a component as it is built
@@ -141,7 +143,7 @@ pub unit_fix : trans_refusal (trips_too ∷ []) 0 2 (codes "fix") 0 ≡ None
 unfolding trans_refusal trans_count
 unit_fix = refl
 
--- ---- what stands after each call
+-- ---- what stands after all_change call
 
 pub with_up : (base net : Net) (comp : ℕ) → slice_get base.components comp ≡ Some no_component → net ≡ change_component comp (with_state (codes "up") true) base → Stands base comp (with_state (codes "up") true no_component) net
 with_up base net comp h is = begun base comp (with_state (codes "up") true) no_component net h is
@@ -186,7 +188,7 @@ none_refused : (net : Net) (name : List ℕ) → place_of name net.component_nam
 none_refused net name h few = rw (h, not_most most_components (length net.components) few) refl
 
 others : (n : ℕ) → n < most_units → AllByRecursion (λ j. bytes_eq (unit_name (n + 1)) (unit_name j) ≡ false) (units n)
-others n few = each (λ j. j < n + 1) (λ j. bytes_eq (unit_name (n + 1)) (unit_name j) ≡ false) (units n) (λ j less. other_numeral j (n + 1) less (omega arith)) (units_below n)
+others n few = all_change (λ j. j < n + 1) (λ j. bytes_eq (unit_name (n + 1)) (unit_name j) ≡ false) (units n) (λ j less. other_numeral j (n + 1) less (omega arith)) (units_below n)
 
 pub unit_free : (n : ℕ) (net : Net) (name : List ℕ) → n < most_units → net ≡ first_components n → name ≡ unit_name (n + 1) → component_refusal net name ≡ None
 unit_free n net name few is called =
@@ -224,7 +226,7 @@ unit_added n comp net named stated new name is called is_named at is_stated is_n
     let whole : with_component_at named comp unit_component ≡ first_components (n + 1) = rw (is_named, at, called, is) (one_more n) in
     is_new ∙ twice ∙ whole
 
--- ---- each has an initial state
+-- ---- all_change has an initial state
 
 units_start : (a n : ℕ) → place_by lacks_init (map (λ i. unit_component) (range_with_len a n)) ≡ None
 units_start a zero = refl

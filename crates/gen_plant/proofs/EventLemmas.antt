@@ -4,7 +4,9 @@ use Rattle.std.proofs.Math.Numerals.{add-one}
 use Rattle.std.specs.Prelude.{bytes_eq, flat_map, slice_get, option_map}
 use Rattle.std.specs.List.{range_with_len, list_all}
 use Rattle.std.proofs.lemmas.Grind.{flat_map-append}
-use Rattle.des_base.proofs.BoolLemmas.{join, is_less}
+use Rattle.des_base.proofs.BoolLemmas.{join, is_less, not_most, not_less}
+use Rattle.des_base.proofs.Elements.{all_change}
+use Rattle.des_base.proofs.PlaceLemmas.{none_join}
 use Rattle.des_base.specs.Names.{place_of}
 use Rattle.des_net.specs.declared.parts.Part.{Part}
 use Rattle.des_net.specs.Building.{with_event, event_refusal, repeats, is_known}
@@ -13,7 +15,7 @@ use Rattle.des_net.specs.Models.{takes}
 use Rattle.des_net.specs.Network.{Component, Event, Net}
 use Rattle.gen_plant.specs.Plant.{most_units, units, bus_component, unit_component, jam_name, trip_name, fix_name, event_names_of, events_of, trip_label, fix_label}
 use Rattle.gen_plant.specs.Stages.{first_components, first_events, with_unit_events, after_jam, after_trip, AwaitsUnit}
-use Rattle.gen_plant.proofs.Lists.{units_more, units_below, each, absent, absent_append, absent_flat, not_most, not_less, unlike}
+use Rattle.gen_plant.proofs.Lists.{units_more, units_below, absent_append, absent_flat, unlike}
 use Rattle.gen_plant.proofs.NameLemmas.{other_numeral}
 
 -- ---- nothing is refused
@@ -58,16 +60,16 @@ bus_known z = known_at (first_components z).components 0 0 bus_component refl (o
 -- ---- the names
 
 jam_other : (n j : ℕ) → j < n → n < 1000 → place_of (jam_name n) (event_names_of j) ≡ None
-jam_other n j less few = absent (bytes_eq (jam_name n) (jam_name j)) None (other_numeral j n less few) refl
+jam_other n j less few = none_join (bytes_eq (jam_name n) (jam_name j)) None (other_numeral j n less few) refl
 
 trip_other : (n j : ℕ) → j < n → n < 1000 → place_of (trip_name n) (event_names_of j) ≡ None
-trip_other n j less few = ap (option_map suc) (absent (bytes_eq (trip_name n) (trip_name j)) None (other_numeral j n less few) refl)
+trip_other n j less few = ap (option_map suc) (none_join (bytes_eq (trip_name n) (trip_name j)) None (other_numeral j n less few) refl)
 
 fix_other : (n j : ℕ) → j < n → n < 1000 → place_of (fix_name n) (event_names_of j) ≡ None
-fix_other n j less few = ap (λ o. option_map suc (option_map suc o)) (absent (bytes_eq (fix_name n) (fix_name j)) None (other_numeral j n less few) refl)
+fix_other n j less few = ap (λ o. option_map suc (option_map suc o)) (none_join (bytes_eq (fix_name n) (fix_name j)) None (other_numeral j n less few) refl)
 
 names_other : (text : List ℕ) (done : ℕ) → ((j : ℕ) → j < done + 1 → place_of text (event_names_of j) ≡ None) → place_of text (flat_map event_names_of (units done)) ≡ None
-names_other text done other = absent_flat text event_names_of (units done) (each (λ j. j < done + 1) (λ j. place_of text (event_names_of j) ≡ None) (units done) other (units_below done))
+names_other text done other = absent_flat text event_names_of (units done) (all_change (λ j. j < done + 1) (λ j. place_of text (event_names_of j) ≡ None) (units done) other (units_below done))
 
 -- ---- the events
 

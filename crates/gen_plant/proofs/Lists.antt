@@ -1,20 +1,15 @@
 -- Lists of the units, one unit further, and names that aren't in a list.
-use Rattle.std.proofs.Common.{◌≡◌, ◌<◌, ◌≤◌, ◌+◌, ℕ, zero, suc, Bool, true, false, cond, Option, None, Some, List, [], ◌∷◌, ◌++◌, length, map, refl, arith, ap, ◌∙◌}
+use Rattle.std.proofs.Common.{◌≡◌, ◌<◌, ◌≤◌, ◌+◌, ℕ, zero, suc, Bool, true, false, cond, None, Some, List, [], ◌∷◌, ◌++◌, length, map, refl, arith, ap, ◌∙◌}
 use Rattle.std.proofs.Math.Numerals.{add-one}
-use Rattle.std.specs.Prelude.{filter, flat_map, option_map, bytes_eq, slice_get, slice_set, nat_le, nat_lt, ◌==◌}
+use Rattle.std.specs.Prelude.{filter, flat_map, bytes_eq, slice_get, slice_set, ◌==◌}
 use Rattle.std.specs.List.{range_with_len, AllByRecursion}
 use Rattle.std.proofs.lemmas.Bool.Decides.{nat_tests}
+use Rattle.des_base.proofs.NumbersBelow.{range_more}
+use Rattle.des_base.proofs.PlaceLemmas.{none_parts, none_join}
 use Rattle.des_base.specs.Names.{place_of}
 use Rattle.gen_plant.specs.Plant.{units}
 
 -- ---- the units
-
-range_more : (a n b : ℕ) → a + n ≡ b → range_with_len a (suc n) ≡ range_with_len a n ++ b ∷ []
-range_more a zero b h = let same : a ≡ b = omega (arith, h) in ap (λ x. x ∷ []) same
-range_more a (suc n) b h = ap (λ xs. a ∷ xs) (range_more (a + 1) n b (omega (arith, h)))
-
-pub numbers_more : (n : ℕ) → range_with_len 0 (n + 1) ≡ range_with_len 0 n ++ n ∷ []
-numbers_more n = ap (range_with_len 0) (add-one n) ∙ range_more 0 n n (omega arith)
 
 pub units_more : (n : ℕ) → units (n + 1) ≡ units n ++ (n + 1) ∷ []
 units_more n = ap units (add-one n) ∙ range_more 1 n (n + 1) (omega arith)
@@ -26,11 +21,7 @@ range_below a (suc n) most h = (omega arith, range_below (a + 1) n most (omega a
 pub units_below : (n : ℕ) → AllByRecursion (λ j. j < n + 1) (units n)
 units_below n = range_below 1 n (n + 1) (omega arith)
 
--- ---- what is true of each
-
-pub each : {X : Type 0} (P Q : X → Type 0) (xs : List X) → ((x : X) → P x → Q x) → AllByRecursion P xs → AllByRecursion Q xs
-each P Q [] f h = tt
-each P Q (x ∷ xs) f h = (f x h.0, each P Q xs f h.1)
+-- ---- what is true of all_change
 
 filter_step : {X : Type 0} (P : X → Type 0) (b : Bool) (x : X) (xs : List X) → P x → AllByRecursion P xs → AllByRecursion P (cond b (x ∷ xs) xs)
 filter_step P true x xs h rest = (h, rest)
@@ -42,28 +33,20 @@ each_filtered P p (x ∷ xs) h = filter_step P (p x) x (filter p xs) h.0 (each_f
 
 -- ---- names that aren't there
 
-pub absent : (b : Bool) (o : Option ℕ) → b ≡ false → o ≡ None → cond b (Some 0) (option_map suc o) ≡ None
-absent b o h e = rw (h, e) refl
-
-parts : (b : Bool) (o : Option ℕ) → cond b (Some 0) (option_map suc o) ≡ None → (b ≡ false) × (o ≡ None)
-parts true o h = cc
-parts false None h = (refl, refl)
-parts false (Some k) h = cc
-
 pub absent_append : (text : List ℕ) (xs ys : List (List ℕ)) → place_of text xs ≡ None → place_of text ys ≡ None → place_of text (xs ++ ys) ≡ None
 absent_append text [] ys h k = k
-absent_append text (x ∷ xs) ys h k = let p = parts (bytes_eq text x) (place_of text xs) h in absent (bytes_eq text x) (place_of text (xs ++ ys)) p.0 (absent_append text xs ys p.1 k)
+absent_append text (x ∷ xs) ys h k = let p = none_parts (bytes_eq text x) (place_of text xs) h in none_join (bytes_eq text x) (place_of text (xs ++ ys)) p.0 (absent_append text xs ys p.1 k)
 
 pub absent_map : (text : List ℕ) (f : ℕ → List ℕ) (xs : List ℕ) → AllByRecursion (λ j. bytes_eq text (f j) ≡ false) xs → place_of text (map f xs) ≡ None
 absent_map text f [] h = refl
-absent_map text f (x ∷ xs) h = absent (bytes_eq text (f x)) (place_of text (map f xs)) h.0 (absent_map text f xs h.1)
+absent_map text f (x ∷ xs) h = none_join (bytes_eq text (f x)) (place_of text (map f xs)) h.0 (absent_map text f xs h.1)
 
 pub absent_flat : (text : List ℕ) (f : ℕ → List (List ℕ)) (xs : List ℕ) → AllByRecursion (λ j. place_of text (f j) ≡ None) xs → place_of text (flat_map f xs) ≡ None
 absent_flat text f [] h = refl
 absent_flat text f (x ∷ xs) h = absent_append text (f x) (flat_map f xs) h.0 (absent_flat text f xs h.1)
 
 pub absent_one : (text x : List ℕ) → bytes_eq text x ≡ false → place_of text (x ∷ []) ≡ None
-absent_one text x h = absent (bytes_eq text x) None h refl
+absent_one text x h = none_join (bytes_eq text x) None h refl
 
 -- ---- the last of a list
 
@@ -74,12 +57,6 @@ last_there (y ∷ xs) x = last_there xs x
 pub last_set : {X : Type 0} (xs : List X) (x y : X) → slice_set (xs ++ x ∷ []) (length xs) y ≡ xs ++ y ∷ []
 last_set [] x y = refl
 last_set (z ∷ xs) x y = ap (λ zs. z ∷ zs) (last_set xs x y)
-
-pub not_most : (x y : ℕ) → y < x → nat_le x y ≡ false
-not_most x y h = grind (arith, nat_tests)
-
-pub not_less : (x y : ℕ) → y ≤ x → nat_lt x y ≡ false
-not_less x y h = grind (arith, nat_tests)
 
 pub unlike : (x y : ℕ) → x < y → (x == y) ≡ false
 unlike x y h = grind (arith, nat_tests)

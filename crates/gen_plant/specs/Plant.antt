@@ -1,9 +1,9 @@
 -- Generated plants: a bus, and units that trip over it, one after another. A plant is told by how many units it has, and by a number from which it follows which of them trip.
 use Rattle.std.specs.Prelude.{ℕ, zero, suc, ◌+◌, ◌-◌, ◌*◌, ◌%◌, Bool, true, false, ◌==◌, List, [], ◌∷◌, ◌++◌, length, map, filter, flat_map, codes, decimal}
 use Rattle.std.specs.List.{range_with_len}
+use Rattle.des_base.specs.Lists.{numbers_below}
 use Rattle.des_net.specs.Network.{Component, Event, Net}
 use Rattle.des_net.specs.Models.{moves, takes, seen, fails}
-use Rattle.des_net.specs.QuestionSize.{numbers_below}
 use Rattle.log_order.specs.Log.{Alarm, Log, a_log, an_alarm}
 
 -- how many units a plant may have

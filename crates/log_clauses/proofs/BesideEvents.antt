@@ -4,50 +4,27 @@ use Rattle.std.specs.List.{AllByRecursion}
 use Rattle.std.proofs.lemmas.List.{length-map}
 use Rattle.std.proofs.lemmas.List.FromFn.{length-range_with_len}
 use Rattle.std.proofs.lemmas.Option.{slice_get-map}
-use Rattle.des_base.specs.Lists.{EachPair}
+use Rattle.des_base.proofs.Elements.{all_from, flat_from, map_from}
+use Rattle.des_base.specs.Lists.{numbers_below}
 use Rattle.des_net.specs.Network.{Net}
 use Rattle.log_clauses.proofs.Codes.{has_name, named_entry, code_begins, code_grows}
-use Rattle.log_clauses.proofs.Drafts.{flat_length, drafts_are_code}
-use Rattle.log_clauses.proofs.Fronts.{range_once}
-use Rattle.log_clauses.proofs.Lists.{all_of, all_at, append_cases, append_left, append_right, pairs_append, flat_from, map_from}
-use Rattle.log_clauses.proofs.NewNames.{pairs_flat, pairs_map}
-use Rattle.log_clauses.proofs.Numbered.{laid_out_from, laid_out_has, laid_out_once, flat_get, number_get, names_begin, names_grow}
+use Rattle.log_clauses.proofs.Drafts.{drafts_are_code}
+use Rattle.log_clauses.proofs.Lists.{all_at, pairs_append}
+use Rattle.log_clauses.proofs.Numbered.{laid_out_from, laid_out_has, flat_get, number_get, names_begin, names_grow}
 use Rattle.log_clauses.specs.Additions.{with_addition}
 use Rattle.log_clauses.specs.BesideEvents.{with_events, IsAfterEvents, NamesJoinEvents, LogCodeBegins, LogCodeGrows, LogCodesAre}
 use Rattle.log_clauses.specs.LogCodes.{AreAmong}
 use Rattle.log_clauses.specs.LogNames.{IsLogName, AreLogNames, with_added, added_names, first_names}
 use Rattle.prop_core.specs.VariableNames.{Name, happens, asked, HasEachOnce}
+use Rattle.run_clauses.proofs.LaidOut.{events_size, events_once, laid_once}
 use Rattle.run_clauses.specs.LaidOut.{laid_out, event_block}
-use Rattle.run_clauses.specs.StepClauses.{numbers_below}
-
-block_length : (n k : ℕ) → length (event_block n k) ≡ k * n
-block_length n k =
-    let all = flat_length (λ e. map (λ t. happens e (suc t)) (numbers_below n)) (numbers_below k) n (λ e.
-    let size = length-map (numbers_below n) (λ t. happens e (suc t)) in let range = length-range_with_len 0 n in omega (arith, size, range)) in
-    all ∙ ap (λ m. m * n) (length-range_with_len 0 k)
+use Rattle.std.proofs.lemmas.List.Elements.{Contains-append_cases, Contains-append_left, Contains-append_right}
 
 block_from : (n k : ℕ) (name : Name) → Contains (event_block n k) name → (e : ℕ) × (t : ℕ) × (happens e (suc t) ≡ name)
 block_from n k name in' =
     let event = flat_from (λ e. map (λ t. happens e (suc t)) (numbers_below n)) (numbers_below k) name in' in
     let step = map_from (λ t. happens event.0 (suc t)) (numbers_below n) name event.2 in
     (event.0, step.0, step.2)
-
-block_once : (n k : ℕ) → EachPair (λ a b. a ≢ b) (event_block n k)
-block_once n k =
-    pairs_flat (λ e. map (λ t. happens e (suc t)) (numbers_below n)) (numbers_below k) (range_once 0 k)
-    (λ e. pairs_map (λ t. happens e (suc t)) (numbers_below n) (range_once 0 n) (same_step e)) same_event
-  where
-    same_step : (e s t : ℕ) → happens e (suc s) ≡ happens e (suc t) → s ≡ t
-    same_step e s t h = cc
-
-    one_event : (e f s t : ℕ) → happens e (suc s) ≡ happens f (suc t) → e ≡ f
-    one_event e f s t h = cc
-
-    same_event : (e f : ℕ) (a : Name) → Contains (map (λ t. happens e (suc t)) (numbers_below n)) a → Contains (map (λ t. happens f (suc t)) (numbers_below n)) a → e ≡ f
-    same_event e f a in' in2 =
-        let first = map_from (λ t. happens e (suc t)) (numbers_below n) a in' in
-        let second = map_from (λ t. happens f (suc t)) (numbers_below n) a in2 in
-        one_event e f first.0 second.0 (first.2 ∙ sym second.2)
 
 block_get : (n k e t : ℕ) → e < k → t < n → slice_get (event_block n k) (e * n + t) ≡ Some (happens e (suc t))
 block_get n k e t known step =
@@ -59,17 +36,17 @@ pub names_join_events : NamesJoinEvents
 names_join_events net log n first vars names are after = record {
   once = once;
   event = λ e t known step. has_name (with_events net n first names) (first + (e * n + t), happens e (suc t)) once
-      (append_left (laid_out first (event_block n (length net.events))) names (first + (e * n + t), happens e (suc t))
+      (Contains-append_left (laid_out first (event_block n (length net.events))) names (first + (e * n + t), happens e (suc t))
       (laid_out_has first (event_block n (length net.events)) (e * n + t) (happens e (suc t)) (block_get n (length net.events) e t known step)));
   other = λ var name h. has_name (with_events net n first names) (var, name) once
-      (append_right (laid_out first (event_block n (length net.events))) names (var, name) (named_entry names var name h));
+      (Contains-append_right (laid_out first (event_block n (length net.events))) names (var, name) (named_entry names var name h));
 }
   where
     apart : (a b : ℕ × Name) → Contains (laid_out first (event_block n (length net.events))) a → Contains names b → (a.0 ≢ b.0) × (a.1 ≢ b.1)
     apart a b in' in2 =
         let here = laid_out_from first (event_block n (length net.events)) a in' in
         let there = all_at (λ (entry : ℕ × Name). first + length net.events * n ≤ entry.0) names after b in2 in
-        let size = block_length n (length net.events) in
+        let size = events_size n (length net.events) in
         let high = here.2 in
         let event = block_from n (length net.events) a.1 here.0 in (
           λ same. omega (arith, there, size, high, same),
@@ -78,11 +55,11 @@ names_join_events net log n first vars names are after = record {
 
     once : HasEachOnce (with_events net n first names)
     once = pairs_append (λ a b. (a.0 ≢ b.0) × (a.1 ≢ b.1)) (laid_out first (event_block n (length net.events))) names
-        (laid_out_once first (event_block n (length net.events)) (block_once n (length net.events))) are.once apart
+        (laid_once first (event_block n (length net.events)) (events_once n (length net.events))) are.once apart
 
 -- the names in a row from a variable on are from there on
 row_after : (net : Net) (n first next : ℕ) (xs : List Name) → IsAfterEvents net n first next → AllByRecursion (λ entry. IsAfterEvents net n first entry.0) (laid_out next xs)
-row_after net n first next xs after = all_of (λ (entry : ℕ × Name). IsAfterEvents net n first entry.0) (laid_out next xs) (λ entry in'.
+row_after net n first next xs after = all_from (λ (entry : ℕ × Name). IsAfterEvents net n first entry.0) (laid_out next xs) (λ entry in'.
     let low = (laid_out_from next xs entry in').1 in omega (arith, low))
 
 pub log_code_begins : LogCodeBegins
@@ -112,7 +89,7 @@ log_code_grows net log n first vars next addition names written drafted before l
     raised : AreLogNames net log n next names
     raised = record {
       once = before.named.once;
-      below = all_of (λ (entry : ℕ × Name). entry.0 < next) names (λ entry in'. let low = all_at (λ (e : ℕ × Name). e.0 < vars) names before.named.below entry in' in omega (arith, low));
+      below = all_from (λ (entry : ℕ × Name). entry.0 < next) names (λ entry in'. let low = all_at (λ (e : ℕ × Name). e.0 < vars) names before.named.below entry in' in omega (arith, low));
       exact = before.named.exact;
     }
 
@@ -120,19 +97,19 @@ log_code_grows net log n first vars next addition names written drafted before l
     grown = names_grow net log n next addition names raised
 
     behind : AllByRecursion (λ entry. IsAfterEvents net n first entry.0) (with_added net log n addition names next)
-    behind = all_of (λ (entry : ℕ × Name). IsAfterEvents net n first entry.0) (with_added net log n addition names next) (λ entry in'.
-        by entry (append_cases names (laid_out next (added_names net log n addition)) entry in'))
+    behind = all_from (λ (entry : ℕ × Name). IsAfterEvents net n first entry.0) (with_added net log n addition names next) (λ entry in'.
+        by entry (Contains-append_cases names (laid_out next (added_names net log n addition)) entry in'))
       where
         by : (entry : ℕ × Name) → Contains names entry ⊎ Contains (laid_out next (added_names net log n addition)) entry → IsAfterEvents net n first entry.0
         by entry (inl old) = all_at (λ (e : ℕ × Name). IsAfterEvents net n first e.0) names before.after entry old
         by entry (inr new) = all_at (λ (e : ℕ × Name). IsAfterEvents net n first e.0) (laid_out next (added_names net log n addition)) (row_after net n first next (added_names net log n addition) after) entry new
 
     among : AreAmong (with_events net n first names) (with_events net n first (with_added net log n addition names next))
-    among entry in' = by (append_cases (laid_out first (event_block n (length net.events))) names entry in')
+    among entry in' = by (Contains-append_cases (laid_out first (event_block n (length net.events))) names entry in')
       where
         by : Contains (laid_out first (event_block n (length net.events))) entry ⊎ Contains names entry → Contains (with_events net n first (with_added net log n addition names next)) entry
-        by (inl event) = append_left (laid_out first (event_block n (length net.events))) (with_added net log n addition names next) entry event
-        by (inr old) = append_right (laid_out first (event_block n (length net.events))) (with_added net log n addition names next) entry (append_left names (laid_out next (added_names net log n addition)) entry old)
+        by (inl event) = Contains-append_left (laid_out first (event_block n (length net.events))) (with_added net log n addition names next) entry event
+        by (inr old) = Contains-append_right (laid_out first (event_block n (length net.events))) (with_added net log n addition names next) entry (Contains-append_left names (laid_out next (added_names net log n addition)) entry old)
 
 pub log_codes_are : LogCodesAre
 log_codes_are net log n first vars names written assumed has guards = record {

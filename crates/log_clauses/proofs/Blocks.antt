@@ -3,12 +3,14 @@ use Rattle.std.proofs.Common.{◌≡◌, ◌≢◌, ℕ, zero, suc, ◌<◌, Boo
 use Rattle.std.specs.Prelude.{⊤}
 use Rattle.std.specs.List.{AllZip}
 use Rattle.std.proofs.lemmas.Bool.{eqb-true, eq-eqb}
-use Rattle.std.proofs.lemmas.List.Elements.{filter-append}
+use Rattle.std.proofs.lemmas.List.Elements.{filter-append, Contains-append_left, Contains-append_right}
+use Rattle.des_base.proofs.BoolLemmas.{either, or_left, both, join}
+use Rattle.des_base.proofs.Elements.{cons_cases, here_first, here_later, none_in_nil}
 use Rattle.des_base.specs.Lists.{EachPair}
 use Rattle.des_net.specs.Network.{Net, label_of}
 use Rattle.des_net.specs.Width.{joined}
 use Rattle.log_clauses.proofs.Entries.{real_true, real_false, alarms_append}
-use Rattle.log_clauses.proofs.Lists.{append_left, append_right, or_cases, or_left, both, and_true, cons_cases, here_first, here_later, none_in_nil, all_at}
+use Rattle.log_clauses.proofs.Lists.{all_at}
 use Rattle.log_clauses.specs.Coded.{is_paired}
 use Rattle.log_order.specs.Log.{Log}
 use Rattle.replay.specs.Explanation.{Entry, alarms_of, real_alarms, observables, Shows}
@@ -100,14 +102,14 @@ joined_alarms (block ∷ blocks) = alarms_append block (flat_map (λ b. b) block
 
 pub block_has : (blocks : List (List Entry)) (t : ℕ) (entry : Entry) → Contains (get_or blocks t []) entry → Contains (flat_map (λ block. block) blocks) entry
 block_has [] t entry in' = absurd (none_in_nil entry in')
-block_has (block ∷ blocks) zero entry in' = append_left block (flat_map (λ b. b) blocks) entry in'
-block_has (block ∷ blocks) (suc t) entry in' = append_right block (flat_map (λ b. b) blocks) entry (block_has blocks t entry in')
+block_has (block ∷ blocks) zero entry in' = Contains-append_left block (flat_map (λ b. b) blocks) entry in'
+block_has (block ∷ blocks) (suc t) entry in' = Contains-append_right block (flat_map (λ b. b) blocks) entry (block_has blocks t entry in')
 
 -- What is paired.
 pub paired : (R : ℕ → ℕ → Type 0) (e i : ℕ) (xs js : List ℕ) → AllZip R xs js → is_paired e i xs js ≡ true → R e i × Contains xs e × Contains js i
 paired R e i [] js zip h = cc
 paired R e i (x ∷ xs) [] zip h = cc
-paired R e i (x ∷ xs) (j ∷ js) zip h = by (or_cases ((x == e) && (j == i)) (is_paired e i xs js) h) (paired R e i xs js zip.1)
+paired R e i (x ∷ xs) (j ∷ js) zip h = by (either ((x == e) && (j == i)) (is_paired e i xs js) h) (paired R e i xs js zip.1)
   where
     by : ((x == e) && (j == i) ≡ true) ⊎ (is_paired e i xs js ≡ true) → (is_paired e i xs js ≡ true → R e i × Contains xs e × Contains js i) → R e i × Contains (x ∷ xs) e × Contains (j ∷ js) i
     by (inl here) later =
@@ -118,7 +120,7 @@ paired R e i (x ∷ xs) (j ∷ js) zip h = by (or_cases ((x == e) && (j == i)) (
     by (inr rest) later = let found' = later rest in (found'.0, here_later x xs e found'.1, here_later j js i found'.2)
 
 pub pair_here : (e i : ℕ) (xs js : List ℕ) → is_paired e i (e ∷ xs) (i ∷ js) ≡ true
-pair_here e i xs js = or_left ((e == e) && (i == i)) (is_paired e i xs js) (and_true (e == e) (i == i) (eq-eqb e e refl) (eq-eqb i i refl))
+pair_here e i xs js = or_left ((e == e) && (i == i)) (is_paired e i xs js) (join (e == e) (i == i) (eq-eqb e e refl) (eq-eqb i i refl))
 
 pub partner : (R : ℕ → ℕ → Type 0) (e : ℕ) (xs js : List ℕ) → AllZip R xs js → Contains xs e → (i : ℕ) × (is_paired e i xs js ≡ true)
 partner R e [] js zip in' = absurd (none_in_nil e in')
@@ -142,7 +144,7 @@ partner_back R i (x ∷ xs) (j ∷ js) zip in' = by (cons_cases j js i in') (par
 pub paired_in : (e i : ℕ) (xs js : List ℕ) → is_paired e i xs js ≡ true → Contains xs e × Contains js i
 paired_in e i [] js h = cc
 paired_in e i (x ∷ xs) [] h = cc
-paired_in e i (x ∷ xs) (j ∷ js) h = by (or_cases ((x == e) && (j == i)) (is_paired e i xs js) h) (paired_in e i xs js)
+paired_in e i (x ∷ xs) (j ∷ js) h = by (either ((x == e) && (j == i)) (is_paired e i xs js) h) (paired_in e i xs js)
   where
     by : ((x == e) && (j == i) ≡ true) ⊎ (is_paired e i xs js ≡ true) → (is_paired e i xs js ≡ true → Contains xs e × Contains js i) → Contains (x ∷ xs) e × Contains (j ∷ js) i
     by (inl here) later =
@@ -154,7 +156,7 @@ pub same_alarm : (e i k : ℕ) (xs js : List ℕ) → EachPair (λ a b. a ≢ b)
 same_alarm e i k [] js once h l = cc
 same_alarm e i k (x ∷ xs) [] once h l = cc
 same_alarm e i k (x ∷ xs) (j ∷ js) once h l =
-    by (or_cases ((x == e) && (j == i)) (is_paired e i xs js) h) (or_cases ((x == e) && (j == k)) (is_paired e k xs js) l) (same_alarm e i k xs js once.1)
+    by (either ((x == e) && (j == i)) (is_paired e i xs js) h) (either ((x == e) && (j == k)) (is_paired e k xs js) l) (same_alarm e i k xs js once.1)
   where
     by : ((x == e) && (j == i) ≡ true) ⊎ (is_paired e i xs js ≡ true) → ((x == e) && (j == k) ≡ true) ⊎ (is_paired e k xs js ≡ true) → (is_paired e i xs js ≡ true → is_paired e k xs js ≡ true → i ≡ k) → i ≡ k
     by (inl a) (inl b) later = sym (eqb-true j i (both (x == e) (j == i) a).1) ∙ eqb-true j k (both (x == e) (j == k) b).1
@@ -166,7 +168,7 @@ pub same_event : (e f i : ℕ) (xs js : List ℕ) → EachPair (λ a b. a ≢ b)
 same_event e f i [] js once h l = cc
 same_event e f i (x ∷ xs) [] once h l = cc
 same_event e f i (x ∷ xs) (j ∷ js) once h l =
-    by (or_cases ((x == e) && (j == i)) (is_paired e i xs js) h) (or_cases ((x == f) && (j == i)) (is_paired f i xs js) l) (same_event e f i xs js once.1)
+    by (either ((x == e) && (j == i)) (is_paired e i xs js) h) (either ((x == f) && (j == i)) (is_paired f i xs js) l) (same_event e f i xs js once.1)
   where
     by : ((x == e) && (j == i) ≡ true) ⊎ (is_paired e i xs js ≡ true) → ((x == f) && (j == i) ≡ true) ⊎ (is_paired f i xs js ≡ true) → (is_paired e i xs js ≡ true → is_paired f i xs js ≡ true → e ≡ f) → e ≡ f
     by (inl a) (inl b) later = sym (eqb-true x e (both (x == e) (j == i) a).0) ∙ eqb-true x f (both (x == f) (j == i) b).0

@@ -1,8 +1,10 @@
 -- Clauses read the same by more names, and codes grow with their logs.
 use Rattle.std.proofs.Common.{◌≡◌, ◌≢◌, ℕ, List, [], ◌∷◌, ◌++◌, ◌∙◌, Option, Some, None, refl, sym, ap, subst, Contains, find, inl, inr, ◌⊎◌, ◌==◌, option_map}
 use Rattle.std.proofs.lemmas.Bool.{eqb-true, eq-eqb}
+use Rattle.des_base.proofs.BoolLemmas.{otherwise}
+use Rattle.des_base.proofs.Elements.{cons_cases, none_in_nil, all_from}
 use Rattle.log_clauses.proofs.Growth.{additions_are_exact, empty_log_is_exact}
-use Rattle.log_clauses.proofs.Lists.{as_false, cons_cases, none_in_nil, all_of, all_at, found_is}
+use Rattle.log_clauses.proofs.Lists.{all_at, found_is}
 use Rattle.log_clauses.specs.Additions.{with_addition, IsAddedClause}
 use Rattle.log_clauses.specs.LogClauses.{IsLogClause}
 use Rattle.log_clauses.specs.LogCodes.{IsNamedLog, IsNamedFirst, IsNamedAdded, AreAmong, ReadingsStay, CodesStay, CodeBegins, CodeGrows}
@@ -26,7 +28,7 @@ has_name (x ∷ names) entry once in' = by (cons_cases x names entry in') (has_n
         here = rw (eq-eqb x.0 x.0 refl) refl
     by (inr rest) later =
         let differ = all_at (λ (y : ℕ × Name). (x.0 ≢ y.0) × (x.1 ≢ y.1)) names once.0 entry rest in
-        let other = as_false (x.0 == entry.0) (λ h. differ.0 (eqb-true x.0 entry.0 h)) in
+        let other = otherwise (x.0 == entry.0) (λ h. differ.0 (eqb-true x.0 entry.0 h)) in
         rw other (later rest)
 
 -- what a clause reads as, literal by literal
@@ -89,7 +91,7 @@ readings_stay names more clause named once inside reads = reading_stays names mo
 pub code_stays : (names more : List (ℕ × Name)) (family : List NamedLiteral → Type 0) (clauses : List Clause) → HasEachOnce more → AreAmong names more → IsCode names family clauses → IsCode more family clauses
 code_stays names more family clauses once inside code = record {
   all = λ named is. let there = code.all named is in (there.0, there.1, reading_stays names more once inside there.0 named there.2);
-  only = all_of (λ clause. (named : List NamedLiteral) × family named × ReadsAs more clause named) clauses (λ clause in'.
+  only = all_from (λ clause. (named : List NamedLiteral) × family named × ReadsAs more clause named) clauses (λ clause in'.
       let found = all_at (λ c. (named : List NamedLiteral) × family named × ReadsAs names c named) clauses code.only clause in' in
       (found.0, found.1, reading_stays names more once inside clause found.0 found.2));
 }

@@ -3,13 +3,15 @@ use Rattle.std.proofs.Common.{◌≡◌, ◌≢◌, ℕ, zero, suc, ◌+◌, ◌
 use Rattle.std.specs.List.{AllByRecursion, AllZip, list_any}
 use Rattle.std.proofs.lemmas.Bool.{eqb-true, eq-eqb}
 use Rattle.std.proofs.lemmas.List.{length-map}
-use Rattle.card_counter.proofs.Chains.{pair_at}
 use Rattle.card_counter.proofs.Exclusions.{chains_hold}
 use Rattle.card_counter.specs.Exclusions.{AtMostOneOf}
-use Rattle.des_base.specs.Lists.{EachPair}
+use Rattle.des_base.proofs.BoolLemmas.{otherwise, or_left, both, join}
+use Rattle.des_base.proofs.Elements.{pair_at, none_in_nil, all_from}
+use Rattle.des_base.proofs.NumbersBelow.{range_once}
+use Rattle.des_base.specs.Lists.{EachPair, numbers_below}
 use Rattle.des_net.specs.Network.{Net, label_of}
 use Rattle.des_net.specs.Width.{joined}
-use Rattle.log_clauses.proofs.Lists.{clash, as_false, or_left, both, and_true, none_in_nil, filter_has, filter_from, all_of, all_at, pairs_filter, append_cases, append_left, append_right}
+use Rattle.log_clauses.proofs.Lists.{clash, filter_has, filter_from, all_at, pairs_filter}
 use Rattle.log_clauses.proofs.Pieces.{IsStepSet, AreFrom, piece_is, pieces_are_steps}
 use Rattle.log_clauses.proofs.Rules.{or_false_is, shown_matches, shown_event, in_chain, has_event}
 use Rattle.log_clauses.proofs.Entries.{real_in, real_once, entry_in, real_has, real_from, one_entry, dropped_has, dropped_from, has_false}
@@ -19,19 +21,14 @@ use Rattle.log_clauses.specs.Decoded.{is_false}
 use Rattle.log_clauses.specs.LogLaws.{HasFalse, LogIsComplete}
 use Rattle.log_clauses.specs.LogTruth.{LogClausesHold, GuardsHold, DifferInLog}
 use Rattle.log_order.specs.Log.{Log, is_doubtful, place_in}
+use Rattle.prop_core.proofs.Premises.{implies, two_negations}
 use Rattle.prop_core.specs.NamedClauses.{named_true, named_clause_true}
 use Rattle.prop_core.specs.VariableNames.{Name, yes, in_state, happens, asked, matches, done, unmatched, closed, dropped, reaches, some_of_first, of_states, of_events, of_matches, remaining}
-use Rattle.replay.specs.Explanation.{Entry, alarms_of, real_alarms, may_stand, observables, Shows, Linearises}
-use Rattle.replay.specs.QuestionSize.{is_matching}
-use Rattle.run_clauses.proofs.StepLemmas.{found, among, mapped, or_right, two_negations}
-use Rattle.run_clauses.specs.StepClauses.{numbers_below}
-use Rattle.log_clauses.proofs.Fronts.{any_has, has_any, take_has, take_grows, take_last, take_not, range_once, apart_append, once_left, block_once, next_front, front_and_rest, place_inside, inside_place}
+use Rattle.replay.specs.Explanation.{Entry, alarms_of, real_alarms, may_stand, observables, Shows, Linearises, is_matching}
+use Rattle.run_clauses.proofs.StepLemmas.{found, among, mapped, or_right}
+use Rattle.log_clauses.proofs.Fronts.{any_has, has_any, take_has, take_grows, take_last, take_not, apart_append, once_left, block_once, next_front, front_and_rest, place_inside, inside_place}
 use Rattle.log_clauses.proofs.Blocks.{cut_order, blocks_length, block_at, block_alarms, joined_alarms, block_has, paired, partner, partner_back, paired_in, same_alarm, same_event}
-
--- clauses of one, two and three literals
-pub c_implied : (a b : Bool) → (a ≡ true → b ≡ true) → not a || (b || false) ≡ true
-c_implied true b h = or_left b false (h refl)
-c_implied false b h = refl
+use Rattle.std.proofs.lemmas.List.Elements.{Contains-append_cases, Contains-append_left, Contains-append_right}
 
 -- what stands in a list that was changed element by element
 mapped_at : {X Y : Type 0} (f : X → Y) (xs : List X) (k : ℕ) (y : Y) → slice_get (map f xs) k ≡ Some y → (x : X) × (slice_get xs k ≡ Some x) × (f x ≡ y)
@@ -122,8 +119,8 @@ module _ (net : Net) (log : Log) (value : Name → Bool) (pieces : List (List �
 
   rest_to : (e k t : ℕ) → value (happens e t) ≡ true → ((i : ℕ) → Contains (take k (chain net log e)) i → stands net pieces (before ∷ blocks) i e t ≡ true → ⊥) → coded net log pieces (before ∷ blocks) value (remaining e k t) ≡ true
   rest_to e k t is none =
-      rest_value e k t ∙ and_true (value (happens e t)) (not (list_any (λ i. stands net pieces (before ∷ blocks) i e t) (take k (chain net log e)))) is
-      (ap not (as_false (list_any (λ i. stands net pieces (before ∷ blocks) i e t) (take k (chain net log e)))
+      rest_value e k t ∙ join (value (happens e t)) (not (list_any (λ i. stands net pieces (before ∷ blocks) i e t) (take k (chain net log e)))) is
+      (ap not (otherwise (list_any (λ i. stands net pieces (before ∷ blocks) i e t) (take k (chain net log e)))
       (λ h. let found' = any_has (λ i. stands net pieces (before ∷ blocks) i e t) (take k (chain net log e)) h in none found'.0 found'.1 found'.2)))
 
   done_to : (i t : ℕ) → Contains (joined (take (suc t) steps)) i → truth (done i t) ≡ true
@@ -152,7 +149,7 @@ module _ (net : Net) (log : Log) (value : Name → Bool) (pieces : List (List �
   told entry in' = by entry.real refl (doubted entry in') (is_doubtful log entry.alarm) refl
     where
       by : (b : Bool) → entry.real ≡ b → entry.real || is_doubtful log entry.alarm ≡ true → (d : Bool) → is_doubtful log entry.alarm ≡ d → entry.real ≡ not (is_doubtful log entry.alarm && truth (dropped entry.alarm))
-      by true e may true f = rw (e, f) (sym (ap not (as_false (truth (dropped entry.alarm)) other)))
+      by true e may true f = rw (e, f) (sym (ap not (otherwise (truth (dropped entry.alarm)) other)))
         where
           other : truth (dropped entry.alarm) ≡ true → ⊥
           other h =
@@ -170,15 +167,15 @@ module _ (net : Net) (log : Log) (value : Name → Bool) (pieces : List (List �
       flip false k = cc
 
   first_false : (i : ℕ) → Contains (joined (take 1 steps)) i → is_false log truth i ≡ true
-  first_false i in' = by (append_cases (alarms_of before) [] i in')
+  first_false i in' = by (Contains-append_cases (alarms_of before) [] i in')
     where
       by : Contains (alarms_of before) i ⊎ Contains [] i → is_false log truth i ≡ true
       by (inr rest) = absurd (none_in_nil i rest)
       by (inl here) =
           let found' = entry_in before i here in
           subst (λ j. is_false log truth j ≡ true) found'.2
-          (false_by found'.0 (append_left before (flat_map (λ block. block) blocks) found'.0 found'.1)
-          (as_false found'.0.real (λ h. none_in_nil found'.0.alarm (subst (λ xs. Contains xs found'.0.alarm) none (real_has before found'.0 found'.1 h)))))
+          (false_by found'.0 (Contains-append_left before (flat_map (λ block. block) blocks) found'.0 found'.1)
+          (otherwise found'.0.real (λ h. none_in_nil found'.0.alarm (subst (λ xs. Contains xs found'.0.alarm) none (real_has before found'.0 found'.1 h)))))
 
   -- an alarm that stands for an event isn't false
   stands_real : (i e t : ℕ) → stands net pieces (before ∷ blocks) i e (suc t) ≡ true → truth (dropped i) ≡ true → ⊥
@@ -186,7 +183,7 @@ module _ (net : Net) (log : Log) (value : Name → Bool) (pieces : List (List �
       let here = real_from (get_or blocks t []) i (paired_in e i (seen t) (reals t) is).1 in
       let twin = dropped_from (flat_map (λ block. block) (before ∷ blocks)) i h in
       clash here.0.real here.2
-      (one_entry (flat_map (λ block. block) (before ∷ blocks)) here.0 twin.0 all_once (append_right before (flat_map (λ block. block) blocks) here.0 (block_has blocks t here.0 here.1)) twin.1 (here.3 ∙ sym twin.3) ∙ twin.2)
+      (one_entry (flat_map (λ block. block) (before ∷ blocks)) here.0 twin.0 all_once (Contains-append_right before (flat_map (λ block. block) blocks) here.0 (block_has blocks t here.0 here.1)) twin.1 (here.3 ∙ sym twin.3) ∙ twin.2)
 
   -- an alarm of a block is false, or stands for an event
   block_split : (i t : ℕ) → t < length pieces → Contains (alarms_of (get_or blocks t [])) i →
@@ -198,7 +195,7 @@ module _ (net : Net) (log : Log) (value : Name → Bool) (pieces : List (List �
       by entry here is true e =
           let event = partner_back (Shows net log) i (seen t) (reals t) (zipped t h) (subst (λ j. Contains (reals t) j) is (real_has (get_or blocks t []) entry here e)) in
           inr (event.0, stands_match i event.0 t h event.1, event.1)
-      by entry here is false e = inl (subst (λ j. is_false log truth j ≡ true) is (false_by entry (append_right before (flat_map (λ block. block) blocks) entry (block_has blocks t entry here)) e))
+      by entry here is false e = inl (subst (λ j. is_false log truth j ≡ true) is (false_by entry (Contains-append_right before (flat_map (λ block. block) blocks) entry (block_has blocks t entry here)) e))
 
   -- a front of the chain over its matches
   any_of_matches : (i t : ℕ) (es : List ℕ) (k : ℕ) → list_any truth (take k (map (λ e. matches i e (suc t)) es)) ≡ list_any (λ e. stands net pieces (before ∷ blocks) i e (suc t)) (take k es)
@@ -225,7 +222,7 @@ module _ (net : Net) (log : Log) (value : Name → Bool) (pieces : List (List �
       let all : take k (chain net log e) ≡ chain net log e = (let same = eqb-true k (length (chain net log e)) shut in take_all k (chain net log e) (omega (arith, same))) in
       open'.1 found'.0 (subst (λ xs. Contains xs found'.0) (sym all) (in_chain net log e found'.0 (stands_match found'.0 e t step found'.1))) found'.1)
   clause_true (takes_rest i e k t) h =
-      c_implied (stands net pieces (before ∷ blocks) i e (suc t)) (coded net log pieces (before ∷ blocks) value (remaining e k (suc t))) (λ is.
+      implies (stands net pieces (before ∷ blocks) i e (suc t)) (coded net log pieces (before ∷ blocks) value (remaining e k (suc t))) (λ is.
       let step : t < length pieces = h.1 in
       rest_to e k (suc t) (stands_happens i e t step is) (λ j in' other.
       let same = same_alarm e j i (seen t) (reals t) (shown_once t step) other is in
@@ -234,7 +231,7 @@ module _ (net : Net) (log : Log) (value : Name → Bool) (pieces : List (List �
       two_negations (stands net pieces (before ∷ blocks) i e (suc t)) (coded net log pieces (before ∷ blocks) value (remaining e (suc k) (suc t))) (λ is rest.
       (rest_from e (suc k) (suc t) rest).1 i (take_has (chain net log e) k (suc k) i h.0 (omega arith)) is)
   clause_true (passes_on e k t) h =
-      c_implied (coded net log pieces (before ∷ blocks) value (remaining e (suc k) (suc t))) (coded net log pieces (before ∷ blocks) value (remaining e k (suc t))) (λ rest.
+      implies (coded net log pieces (before ∷ blocks) value (remaining e (suc k) (suc t))) (coded net log pieces (before ∷ blocks) value (remaining e k (suc t))) (λ rest.
       let open' = rest_from e (suc k) (suc t) rest in
       rest_to e k (suc t) open'.0 (λ i in' is. open'.1 i (take_grows (chain net log e) k i in') is))
   clause_true (taken_or_passed i e k t) h =
@@ -251,13 +248,13 @@ module _ (net : Net) (log : Log) (value : Name → Bool) (pieces : List (List �
           at j other (inr same) = clash (stands net pieces (before ∷ blocks) j e (suc t)) other (subst (λ x. stands net pieces (before ∷ blocks) x e (suc t) ≡ false) same is)
   clause_true (not_done_first i) h =
       subst (λ b. not (truth (done i 0)) || b ≡ true) (sym (or_false_is log truth i []))
-      (c_implied (truth (done i 0)) (is_false log truth i) (λ is. first_false i (done_from i 0 is)))
+      (implies (truth (done i 0)) (is_false log truth i) (λ is. first_false i (done_from i 0 is)))
   clause_true (stays_done i t) h =
-      c_implied (truth (done i t)) (truth (done i (suc t))) (λ is.
-      done_to i (suc t) (subst (λ xs. Contains xs i) (sym (next t h.1)) (append_left (joined (take (suc t) steps)) (alarms_of (get_or blocks t [])) i (done_from i t is))))
+      implies (truth (done i t)) (truth (done i (suc t))) (λ is.
+      done_to i (suc t) (subst (λ xs. Contains xs i) (sym (next t h.1)) (Contains-append_left (joined (take (suc t) steps)) (alarms_of (get_or blocks t [])) i (done_from i t is))))
   clause_true (match_is_done i e t) h =
-      c_implied (stands net pieces (before ∷ blocks) i e (suc t)) (truth (done i (suc t))) (λ is.
-      done_to i (suc t) (subst (λ xs. Contains xs i) (sym (next t h.1)) (append_right (joined (take (suc t) steps)) (alarms_of (get_or blocks t [])) i
+      implies (stands net pieces (before ∷ blocks) i e (suc t)) (truth (done i (suc t))) (λ is.
+      done_to i (suc t) (subst (λ xs. Contains xs i) (sym (next t h.1)) (Contains-append_right (joined (take (suc t) steps)) (alarms_of (get_or blocks t [])) i
       (real_in (get_or blocks t []) i (paired_in e i (seen t) (reals t) is).1))))
   clause_true (matched_once i e t) h =
       two_negations (stands net pieces (before ∷ blocks) i e (suc t)) (truth (done i t)) (λ is earlier.
@@ -268,7 +265,7 @@ module _ (net : Net) (log : Log) (value : Name → Bool) (pieces : List (List �
   clause_true (done_by_match i t) h =
       subst (λ b. not (truth (done i (suc t))) || (truth (done i t) || b) ≡ true) (sym (or_false_is log truth i (map (λ e. yes (matches i e (suc t))) (matching_events net log i))))
       (c_either (truth (done i (suc t))) (truth (done i t)) (is_false log truth i || list_any (named_true truth) (map (λ e. yes (matches i e (suc t))) (matching_events net log i))) (λ is.
-      by (append_cases (joined (take (suc t) steps)) (alarms_of (get_or blocks t [])) i (subst (λ xs. Contains xs i) (next t h.1) (done_from i (suc t) is)))))
+      by (Contains-append_cases (joined (take (suc t) steps)) (alarms_of (get_or blocks t [])) i (subst (λ xs. Contains xs i) (next t h.1) (done_from i (suc t) is)))))
     where
       by : Contains (joined (take (suc t) steps)) i ⊎ Contains (alarms_of (get_or blocks t [])) i →
           (truth (done i t) ≡ true) ⊎ (is_false log truth i || list_any (named_true truth) (map (λ e. yes (matches i e (suc t))) (matching_events net log i)) ≡ true)
@@ -287,7 +284,7 @@ module _ (net : Net) (log : Log) (value : Name → Bool) (pieces : List (List �
       or_left (truth (done i (length pieces))) false
       (done_to i (length pieces) (subst (λ xs. Contains (joined xs) i) (sym (take_all (suc (length pieces)) steps (omega (arith, step_count)))) (each i h)))
   clause_true (before_if_asked i j t) h =
-      c_implied (truth (done j t)) (truth (done i t)) (λ is.
+      implies (truth (done j t)) (truth (done i t)) (λ is.
       let whole = front_and_rest steps (suc t) in
       let less = subst (λ xs. place_in xs i < place_in xs j) whole (kept i j h.0) in
       let inside = place_inside (joined (take (suc t) steps)) (joined (drop (suc t) steps)) j (done_from j t is) in
@@ -330,7 +327,7 @@ complete_from net log given pieces order are linear =
       clause_true net log given pieces are cut.before cut.blocks cut.none cut.matched doubted once each kept,
       guards_true net log given pieces are cut.before cut.blocks cut.none cut.matched doubted once each kept,
       has_false log (coded net log pieces (cut.before ∷ cut.blocks) given) order linear.complete
-          (all_of (λ entry. entry.real ≡ not (is_false log (coded net log pieces (cut.before ∷ cut.blocks) given) entry.alarm)) order
+          (all_from (λ entry. entry.real ≡ not (is_false log (coded net log pieces (cut.before ∷ cut.blocks) given) entry.alarm)) order
           (λ entry in'. told net log given pieces are cut.before cut.blocks cut.none cut.matched doubted once each kept entry (subst (λ xs. Contains xs entry) cut.whole in'))),
     )
 

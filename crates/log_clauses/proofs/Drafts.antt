@@ -1,15 +1,17 @@
 -- The listed clauses of an addition are those that it brings.
 use Rattle.std.proofs.Common.{◌≡◌, ℕ, zero, suc, ◌+◌, ◌*◌, ◌^◌, ◌<◌, ◌≤◌, Bool, true, false, cond, List, [], ◌∷◌, ◌++◌, ◌∙◌, length, refl, sym, ap, subst, arith, Contains, map, flat_map, inl, inr, ◌⊎◌, ◌↔◌, is_some, count_by, length-append, sum_by}
-use Rattle.std.specs.List.{AllByRecursion, AllZip, range_with_len}
+use Rattle.std.specs.List.{AllByRecursion, AllZip}
 use Rattle.std.proofs.lemmas.List.{length-map}
 use Rattle.std.proofs.lemmas.List.Sums.{length-filter, sum_by-append, sum_by-cons}
 use Rattle.std.proofs.lemmas.List.FromFn.{length-range_with_len}
 use Rattle.std.proofs.Math.Nat.{mul-le-mul_left, pow-succ', pow-zero}
 use Rattle.card_counter.proofs.Listed.{exclusions_are_listed}
 use Rattle.card_counter.specs.Exclusions.{IsExclusionClause, exclusion_list}
+use Rattle.des_base.proofs.Elements.{cons_cases, here_first, here_later, none_in_nil, flat_has, flat_from, map_has, map_from}
+use Rattle.des_base.specs.Lists.{numbers_below}
 use Rattle.des_net.specs.Network.{Net, label_of}
-use Rattle.des_net.specs.QuestionSize.{touching_count, fault_event_count}
-use Rattle.log_clauses.proofs.Lists.{flat_has, flat_from, map_has, map_from, cons_cases, here_first, here_later, none_in_nil, all_of, all_at, append_cases, append_left, append_right, filter_has, filter_from, range_from, pairs_filter}
+use Rattle.des_net.specs.QuestionSize.{touching_count, fault_event_count, state_number}
+use Rattle.log_clauses.proofs.Lists.{all_at, filter_has, filter_from}
 use Rattle.log_clauses.proofs.Rules.{has_event, event_matches, shown_event}
 use Rattle.log_clauses.proofs.Stay.{with_alarm, with_pair, range_more, matching_same, doubtful_same, doubtful_new}
 use Rattle.log_clauses.specs.Additions.{Addition, alarm_added, pair_added, with_addition, IsTaken, IsAlarmClause, IsAddedClause, IsFirstClause}
@@ -19,9 +21,10 @@ use Rattle.log_order.specs.Log.{Log, Alarm, no_log, is_doubtful}
 use Rattle.prop_core.specs.Clauses.{Clause}
 use Rattle.prop_core.specs.NamedClauses.{IsCode}
 use Rattle.prop_core.specs.VariableNames.{Name, matches, NamedLiteral, ReadsAs}
-use Rattle.replay.specs.QuestionSize.{is_matching, question_size, matching_count, doubtful_count}
-use Rattle.run_clauses.specs.StepClauses.{numbers_below, state_count}
+use Rattle.replay.specs.Explanation.{is_matching}
+use Rattle.replay.specs.QuestionSize.{question_size, matching_count, doubtful_count}
 use Rattle.run_clauses.proofs.Lists.{from_numbers, in_numbers}
+use Rattle.std.proofs.lemmas.List.Elements.{Contains-append_cases, Contains-append_left, Contains-append_right}
 
 -- Clauses that read as a list of what is wanted are the code of it.
 listed : {W : Type 0} (names : List (ℕ × Name)) (wanted : W → Type 0) (literals : W → List NamedLiteral) (clauses : List Clause) (list : List W) →
@@ -76,7 +79,7 @@ module _ (net : Net) (log : Log) (n : ℕ) (new : Alarm) where
 
   listed_wanted : (which : LogClause) → Contains (alarm_clauses net log n new) which → IsAlarmClause net log n new which
   listed_wanted which in' =
-      by (append_cases (flat_map (λ e. flat_map (link_clauses (length log.alarms) e (length (chain net log e))) (numbers_below n)) (taken_events net log new))
+      by (Contains-append_cases (flat_map (λ e. flat_map (link_clauses (length log.alarms) e (length (chain net log e))) (numbers_below n)) (taken_events net log new))
       (not_done_first (length log.alarms) ∷ done_if_asked (length log.alarms) ∷ flat_map (done_clauses (length log.alarms) (taken_events net log new)) (numbers_below n)) which in')
     where
       in_step : (t : ℕ) → t < n → Contains (done_clauses (length log.alarms) (taken_events net log new) t) which → IsAlarmClause net log n new which
@@ -112,7 +115,7 @@ module _ (net : Net) (log : Log) (n : ℕ) (new : Alarm) where
       by (inr there) = after (cons_cases (not_done_first (length log.alarms)) (done_if_asked (length log.alarms) ∷ flat_map (done_clauses (length log.alarms) (taken_events net log new)) (numbers_below n)) which there)
 
   in_alarm : (which : LogClause) → Contains (alarm_clauses net log n new) which → Contains (added_clauses net log n (alarm_added new)) which
-  in_alarm which there = append_left (alarm_clauses net log n new) (real_clauses new.doubtful (length log.alarms) (taken_events net log new) n) which there
+  in_alarm which there = Contains-append_left (alarm_clauses net log n new) (real_clauses new.doubtful (length log.alarms) (taken_events net log new) n) which there
 
   real_from : (b : Bool) (which : LogClause) → new.doubtful ≡ b → Contains (real_clauses b (length log.alarms) (taken_events net log new) n) which → IsAlarmClause net log n new which
   real_from false which e in' = absurd (none_in_nil which in')
@@ -128,7 +131,7 @@ module _ (net : Net) (log : Log) (n : ℕ) (new : Alarm) where
       (map_has (λ s. match_is_real (length log.alarms) e s) (numbers_below n) t (in_numbers n t step))
 
   added_wanted : (which : LogClause) → Contains (added_clauses net log n (alarm_added new)) which → IsAlarmClause net log n new which
-  added_wanted which in' = by (append_cases (alarm_clauses net log n new) (real_clauses new.doubtful (length log.alarms) (taken_events net log new) n) which in')
+  added_wanted which in' = by (Contains-append_cases (alarm_clauses net log n new) (real_clauses new.doubtful (length log.alarms) (taken_events net log new) n) which in')
     where
       by : Contains (alarm_clauses net log n new) which ⊎ Contains (real_clauses new.doubtful (length log.alarms) (taken_events net log new) n) which → IsAlarmClause net log n new which
       by (inl a) = listed_wanted which a
@@ -137,7 +140,7 @@ module _ (net : Net) (log : Log) (n : ℕ) (new : Alarm) where
   -- where a link's clause stands
   in_links : (e t : ℕ) (which : LogClause) → IsTaken net log new e → t < n → Contains (link_clauses (length log.alarms) e (length (chain net log e)) t) which → Contains (added_clauses net log n (alarm_added new)) which
   in_links e t which taken step there =
-      in_alarm which (append_left (flat_map (λ f. flat_map (link_clauses (length log.alarms) f (length (chain net log f))) (numbers_below n)) (taken_events net log new))
+      in_alarm which (Contains-append_left (flat_map (λ f. flat_map (link_clauses (length log.alarms) f (length (chain net log f))) (numbers_below n)) (taken_events net log new))
       (not_done_first (length log.alarms) ∷ done_if_asked (length log.alarms) ∷ flat_map (done_clauses (length log.alarms) (taken_events net log new)) (numbers_below n)) which
       (flat_has (λ f. flat_map (link_clauses (length log.alarms) f (length (chain net log f))) (numbers_below n)) (taken_events net log new) e which (is_taken e taken)
       (flat_has (link_clauses (length log.alarms) e (length (chain net log e))) (numbers_below n) t which (in_numbers n t step) there)))
@@ -145,7 +148,7 @@ module _ (net : Net) (log : Log) (n : ℕ) (new : Alarm) where
   in_rest : (which : LogClause) → Contains (not_done_first (length log.alarms) ∷ done_if_asked (length log.alarms) ∷ flat_map (done_clauses (length log.alarms) (taken_events net log new)) (numbers_below n)) which →
       Contains (added_clauses net log n (alarm_added new)) which
   in_rest which there =
-      in_alarm which (append_right (flat_map (λ f. flat_map (link_clauses (length log.alarms) f (length (chain net log f))) (numbers_below n)) (taken_events net log new))
+      in_alarm which (Contains-append_right (flat_map (λ f. flat_map (link_clauses (length log.alarms) f (length (chain net log f))) (numbers_below n)) (taken_events net log new))
       (not_done_first (length log.alarms) ∷ done_if_asked (length log.alarms) ∷ flat_map (done_clauses (length log.alarms) (taken_events net log new)) (numbers_below n)) which there)
 
   in_steps : (t : ℕ) (which : LogClause) → t < n → Contains (done_clauses (length log.alarms) (taken_events net log new) t) which → Contains (added_clauses net log n (alarm_added new)) which
@@ -181,7 +184,7 @@ module _ (net : Net) (log : Log) (n : ℕ) (new : Alarm) where
       subst (λ x. Contains (added_clauses net log n (alarm_added new)) (matched_once x e t)) (sym h.0) (in_links e t (matched_once (length log.alarms) e t) h.1 h.2 (6, omega arith, refl))
   wanted_listed (match_is_real i e t) h =
       subst (λ x. Contains (added_clauses net log n (alarm_added new)) (match_is_real x e t)) (sym h.0)
-      (append_right (alarm_clauses net log n new) (real_clauses new.doubtful (length log.alarms) (taken_events net log new) n) (match_is_real (length log.alarms) e t) (real_has new.doubtful e t h.2 h.1 h.3))
+      (Contains-append_right (alarm_clauses net log n new) (real_clauses new.doubtful (length log.alarms) (taken_events net log new) n) (match_is_real (length log.alarms) e t) (real_has new.doubtful e t h.2 h.1 h.3))
   wanted_listed (done_by_match i t) h = subst (λ x. Contains (added_clauses net log n (alarm_added new)) (done_by_match x t)) (sym h.0) (in_steps t (done_by_match (length log.alarms) t) h.1 (1, omega arith, refl))
   wanted_listed (one_match i t which) h =
       let here = ((exclusions_are_listed (inputs t)).same which).1 (subst (λ x. IsExclusionClause (match_inputs net (with_alarm log new) x (suc t)) which) h.0 h.2) in
@@ -335,7 +338,7 @@ module _ (net : Net) (log : Log) (n : ℕ) (new : Alarm) where
       sum_by (λ i. matching_count net log i ^ 2 + 1) (numbers_below (length log.alarms)) + (matching_count net (with_alarm log new) (length log.alarms) ^ 2 + 1) =
       ap (λ k. sum_by (λ i. matching_count net (with_alarm log new) i ^ 2 + 1) (numbers_below k)) longer
       ∙ sum_more (λ i. matching_count net (with_alarm log new) i ^ 2 + 1) (λ i. matching_count net log i ^ 2 + 1) (length log.alarms) (λ i h. ap (λ k. k ^ 2 + 1) (same_count i h)) in
-      rw (sum, doubtful_more) (grows n (sum_by (λ c. (state_count net c + touching_count net c) ^ 2) (numbers_below (length net.components)))
+      rw (sum, doubtful_more) (grows n (sum_by (λ c. (state_number net c + touching_count net c) ^ 2) (numbers_below (length net.components)))
       (sum_by (λ i. matching_count net log i ^ 2 + 1) (numbers_below (length log.alarms))) (length log.pairs)
       (matching_count net (with_alarm log new) (length log.alarms) ^ 2 + 1) (256 * n * fault_event_count net) (doubtful_count log) (cond new.doubtful 1 0) (length (added_clauses net log n (alarm_added new))) few)
 
@@ -347,7 +350,7 @@ pair_small net log n i j =
     let size = length-map (numbers_below (suc n)) (λ t. before_if_asked i j t) in
     let range = length-range_with_len 0 (suc n) in
     let longer : length (log.pairs ++ (i, j) ∷ []) ≡ length log.pairs + 1 = omega (arith, length-append log.pairs ((i, j) ∷ [])) in
-    rw longer (pair_grows n (sum_by (λ c. (state_count net c + touching_count net c) ^ 2) (numbers_below (length net.components)))
+    rw longer (pair_grows n (sum_by (λ c. (state_number net c + touching_count net c) ^ 2) (numbers_below (length net.components)))
     (sum_by (λ k. matching_count net log k ^ 2 + 1) (numbers_below (length log.alarms))) (length log.pairs) (256 * n * fault_event_count net + 256 * doubtful_count log)
     (length (map (λ t. before_if_asked i j t) (numbers_below (suc n)))) (omega (arith, size, range)))
 

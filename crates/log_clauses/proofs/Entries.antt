@@ -3,18 +3,21 @@ use Rattle.std.proofs.Common.{◌≡◌, ◌≢◌, ◌↔◌, ℕ, suc, ◌+◌
 use Rattle.std.specs.List.{AllByRecursion}
 use Rattle.std.proofs.lemmas.List.{map-append}
 use Rattle.std.proofs.lemmas.List.Elements.{filter-append}
-use Rattle.std.proofs.lemmas.List.Sums.{length-filter, sum_by-cons}
+use Rattle.std.proofs.lemmas.List.Sums.{length-filter}
 use Rattle.std.proofs.lemmas.Bool.{eqb-true, eq-eqb}
-use Rattle.des_base.specs.Lists.{EachPair}
-use Rattle.log_clauses.proofs.Fronts.{range_once, any_has, has_any}
-use Rattle.log_clauses.proofs.Lists.{both, and_true, cons_cases, here_first, here_later, none_in_nil, filter_has, filter_from, range_has, range_from, all_of, all_at, pairs_filter, map_has, map_from}
+use Rattle.card_counter.proofs.Counts.{count_cons}
+use Rattle.des_base.proofs.BoolLemmas.{both, join}
+use Rattle.des_base.proofs.Elements.{cons_cases, here_first, here_later, none_in_nil, all_from, map_has, map_from}
+use Rattle.des_base.proofs.NumbersBelow.{range_once}
+use Rattle.des_base.specs.Lists.{EachPair, numbers_below}
+use Rattle.log_clauses.proofs.Fronts.{any_has, has_any}
+use Rattle.log_clauses.proofs.Lists.{filter_has, filter_from, range_has, range_from, all_at, pairs_filter}
 use Rattle.log_clauses.specs.Coded.{is_dropped}
 use Rattle.log_clauses.specs.Decoded.{is_false, entry_of}
 use Rattle.log_clauses.specs.LogLaws.{HasFalse}
 use Rattle.log_order.specs.Log.{Log, ListsOnce, is_doubtful}
 use Rattle.prop_core.specs.VariableNames.{Name, dropped}
 use Rattle.replay.specs.Explanation.{Entry, alarms_of, real_alarms, false_count, may_stand}
-use Rattle.run_clauses.specs.StepClauses.{numbers_below}
 
 -- ---- orders one after another
 
@@ -23,10 +26,6 @@ alarms_append xs ys = map-append (λ (entry : Entry). entry.alarm) xs ys
 
 pub real_append : (xs ys : List Entry) → real_alarms (xs ++ ys) ≡ real_alarms xs ++ real_alarms ys
 real_append xs ys = ap alarms_of (filter-append (λ (entry : Entry). entry.real) xs ys) ∙ alarms_append (filter (λ entry. entry.real) xs) (filter (λ entry. entry.real) ys)
-
-pub all_append : {X : Type 0} (P : X → Type 0) (xs ys : List X) → AllByRecursion P xs → AllByRecursion P ys → AllByRecursion P (xs ++ ys)
-all_append P [] ys h k = k
-all_append P (x ∷ xs) ys h k = (h.0, all_append P xs ys h.1 k)
 
 -- a true alarm is among the alarms
 pub real_in : (order : List Entry) (i : ℕ) → Contains (real_alarms order) i → Contains (alarms_of order) i
@@ -55,7 +54,7 @@ real_once (entry ∷ order) once = by entry.real refl (real_once order once.1)
     by : (b : Bool) → entry.real ≡ b → EachPair (λ x y. x ≢ y) (real_alarms order) → EachPair (λ x y. x ≢ y) (real_alarms (entry ∷ order))
     by true e rest =
         subst (λ xs. EachPair (λ x y. x ≢ y) xs) (sym (real_true entry order e))
-        (all_of (λ b. entry.alarm ≢ b) (real_alarms order) (λ x in'. all_at (λ b. entry.alarm ≢ b) (alarms_of order) once.0 x (real_in order x in')), rest)
+        (all_from (λ b. entry.alarm ≢ b) (real_alarms order) (λ x in'. all_at (λ b. entry.alarm ≢ b) (alarms_of order) once.0 x (real_in order x in')), rest)
     by false e rest = subst (λ xs. EachPair (λ x y. x ≢ y) xs) (sym (real_false entry order e)) rest
 
 -- the entry of an alarm
@@ -87,7 +86,7 @@ one_entry (x ∷ order) a b once in' in2 same = by (cons_cases x order a in') (c
 
 -- one of the entries says that the alarm is false
 pub dropped_has : (order : List Entry) (entry : Entry) → Contains order entry → entry.real ≡ false → is_dropped order entry.alarm ≡ true
-dropped_has order entry in' h = has_any (λ (e : Entry). (e.alarm == entry.alarm) && not e.real) order entry in' (and_true (entry.alarm == entry.alarm) (not entry.real) (eq-eqb entry.alarm entry.alarm refl) (ap not h))
+dropped_has order entry in' h = has_any (λ (e : Entry). (e.alarm == entry.alarm) && not e.real) order entry in' (join (entry.alarm == entry.alarm) (not entry.real) (eq-eqb entry.alarm entry.alarm refl) (ap not h))
 
 pub dropped_from : (order : List Entry) (i : ℕ) → is_dropped order i ≡ true → (entry : Entry) × Contains order entry × (entry.real ≡ false) × (entry.alarm ≡ i)
 dropped_from order i h =
@@ -141,9 +140,6 @@ module _ (log : Log) (value : Name → Bool) where
   entries_told (x ∷ xs) = (refl, entries_told xs)
 
 -- ---- how many
-
-pub count_cons : {X : Type 0} (p : X → Bool) (x : X) (xs : List X) → count_by p (x ∷ xs) ≡ cond (p x) 1 0 + count_by p xs
-count_cons p x xs = sum_by-cons (λ y. cond (p y) 1 0) x xs
 
 -- a list without one of its elements
 record Without {X : Type 0} (xs : List X) (x : X) : Type 0 where

@@ -4,12 +4,14 @@ use Rattle.std.specs.List.{list_any}
 use Rattle.std.proofs.lemmas.Bool.{cases_lt}
 use Rattle.std.proofs.lemmas.Option.{slice_get_past}
 use Rattle.std.proofs.lemmas.List.Elements.{Contains-get_or}
+use Rattle.des_base.proofs.Elements.{here_first, here_later}
+use Rattle.des_base.specs.Lists.{numbers_below}
 use Rattle.des_net.specs.Network.{Net, IsNetwork, IsComponent, IsEvent, no_component, no_event, event_at, component_at, parts_of}
 use Rattle.des_net.specs.declared.parts.Part.{Part}
 use Rattle.log_order.specs.Log.{Log, Alarm, is_doubtful}
 use Rattle.log_clauses.proofs.Complete.{log_is_complete}
 use Rattle.log_clauses.proofs.Guards.{literals_by_name, read_named}
-use Rattle.log_clauses.proofs.Lists.{all_at, here_first, here_later}
+use Rattle.log_clauses.proofs.Lists.{all_at}
 use Rattle.log_clauses.proofs.Matches.{matches_are_exact}
 use Rattle.log_clauses.proofs.Open.{log_is_open}
 use Rattle.replay.specs.Explanation.{Linearises, Entry}
@@ -29,7 +31,7 @@ use Rattle.prop_core.specs.declared.lit.Lit.{Lit}
 use Rattle.run_clauses.proofs.Exact.{runs_have_steps, only_steps_matter, sets_in_order, same_sets}
 use Rattle.run_clauses.proofs.Sound.{steps_are_sound}
 use Rattle.run_clauses.proofs.StepCode.{steps_from_all, all_from_steps}
-use Rattle.run_clauses.specs.StepClauses.{numbers_below, StepClause, step_clause, moves}
+use Rattle.run_clauses.specs.StepClauses.{StepClause, step_clause, moves}
 use Rattle.run_clauses.specs.StepCodes.{IsNamedStep}
 use Rattle.run_clauses.specs.Steps.{StepClausesHold, AreSteps, AgreeOnSteps, AgreeOnEvents, step_sets}
 

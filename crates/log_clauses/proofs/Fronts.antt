@@ -1,17 +1,20 @@
 -- Tests over lists, fronts of a list, and lists in a row.
 use Rattle.std.proofs.Common.{◌≡◌, ◌≢◌, ℕ, zero, suc, ◌+◌, ◌<◌, Bool, true, false, List, [], ◌∷◌, ◌++◌, ◌∙◌, length, Some, refl, sym, ap, arith, Contains, slice_get, inl, inr, ◌⊎◌, ◌||◌, ◌==◌, take, drop, get_or}
-use Rattle.std.specs.List.{list_any, range_with_len}
+use Rattle.std.specs.List.{list_any}
 use Rattle.std.proofs.lemmas.Bool.{eqb-true, eqb-false}
+use Rattle.des_base.proofs.BoolLemmas.{either, or_left}
+use Rattle.des_base.proofs.Elements.{cons_cases, here_first, here_later, none_in_nil, contains_at, all_from}
 use Rattle.des_base.specs.Lists.{EachPair}
 use Rattle.des_net.specs.Width.{joined}
-use Rattle.log_clauses.proofs.Lists.{or_cases, or_left, cons_cases, here_first, here_later, none_in_nil, got_contains, range_from, all_of, all_at, append_left, append_right}
+use Rattle.log_clauses.proofs.Lists.{all_at}
 use Rattle.log_order.specs.Log.{place_in}
 use Rattle.run_clauses.proofs.StepLemmas.{or_right}
+use Rattle.std.proofs.lemmas.List.Elements.{Contains-append_left, Contains-append_right}
 
 -- tests over lists
 pub any_has : {X : Type 0} (p : X → Bool) (xs : List X) → list_any p xs ≡ true → (x : X) × Contains xs x × (p x ≡ true)
 any_has p [] h = cc
-any_has p (y ∷ xs) h = by (or_cases (p y) (list_any p xs) h) (any_has p xs)
+any_has p (y ∷ xs) h = by (either (p y) (list_any p xs) h) (any_has p xs)
   where
     by : (p y ≡ true) ⊎ (list_any p xs ≡ true) → (list_any p xs ≡ true → (x : _) × Contains xs x × (p x ≡ true)) → (x : _) × Contains (y ∷ xs) x × (p x ≡ true)
     by (inl e) later = (y, here_first y xs y refl, e)
@@ -65,12 +68,8 @@ take_not (z ∷ xs) zero y once h in' = none_in_nil y in'
 take_not (z ∷ xs) (suc k) y once h in' = by (cons_cases z (take k xs) y in') (take_not xs k y once.1 h)
   where
     by : (z ≡ y) ⊎ Contains (take k xs) y → (Contains (take k xs) y → ⊥) → ⊥
-    by (inl is) later = all_at (λ b. z ≢ b) xs once.0 y (got_contains xs k y h) is
+    by (inl is) later = all_at (λ b. z ≢ b) xs once.0 y (contains_at xs k y h) is
     by (inr rest) later = later rest
-
-pub range_once : (a m : ℕ) → EachPair (λ x y. x ≢ y) (range_with_len a m)
-range_once a zero = tt
-range_once a (suc m) = (all_of (λ y. a ≢ y) (range_with_len (a + 1) m) (λ y in' same. let low = (range_from (a + 1) m y in').0 in omega (arith, same, low)), range_once (a + 1) m)
 
 -- lists in a row
 pub apart_append : (xs ys : List ℕ) (a : ℕ) → EachPair (λ x y. x ≢ y) (xs ++ ys) → Contains xs a → Contains ys a → ⊥
@@ -78,12 +77,12 @@ apart_append [] ys a once in' in2 = none_in_nil a in'
 apart_append (x ∷ xs) ys a once in' in2 = by (cons_cases x xs a in') (λ rest. apart_append xs ys a once.1 rest in2)
   where
     by : (x ≡ a) ⊎ Contains xs a → (Contains xs a → ⊥) → ⊥
-    by (inl is) later = all_at (λ b. x ≢ b) (xs ++ ys) once.0 a (append_right xs ys a in2) is
+    by (inl is) later = all_at (λ b. x ≢ b) (xs ++ ys) once.0 a (Contains-append_right xs ys a in2) is
     by (inr rest) later = later rest
 
 pub once_left : (xs ys : List ℕ) → EachPair (λ x y. x ≢ y) (xs ++ ys) → EachPair (λ x y. x ≢ y) xs
 once_left [] ys once = tt
-once_left (x ∷ xs) ys once = (all_of (λ b. x ≢ b) xs (λ y in'. all_at (λ b. x ≢ b) (xs ++ ys) once.0 y (append_left xs ys y in')), once_left xs ys once.1)
+once_left (x ∷ xs) ys once = (all_from (λ b. x ≢ b) xs (λ y in'. all_at (λ b. x ≢ b) (xs ++ ys) once.0 y (Contains-append_left xs ys y in')), once_left xs ys once.1)
 
 pub once_right : (xs ys : List ℕ) → EachPair (λ x y. x ≢ y) (xs ++ ys) → EachPair (λ x y. x ≢ y) ys
 once_right [] ys once = once

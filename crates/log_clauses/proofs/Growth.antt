@@ -1,10 +1,10 @@
 -- What an addition to a log brings.
 use Rattle.std.proofs.Common.{◌≡◌, ℕ, zero, suc, ◌+◌, ◌<◌, ◌≤◌, Bool, true, false, List, [], ◌∷◌, ◌++◌, ◌∙◌, length, Some, refl, sym, ap, subst, arith, Contains, slice_get, filter, cond, inl, inr, ◌⊎◌, take, length-append}
 use Rattle.std.proofs.lemmas.Bool.{cases_lt}
-use Rattle.std.proofs.lemmas.List.Elements.{Contains-push_cases}
+use Rattle.std.proofs.lemmas.List.Elements.{Contains-push_cases, Contains-append_left, Contains-append_right}
 use Rattle.card_counter.specs.Exclusions.{IsExclusionClause}
+use Rattle.des_base.proofs.Elements.{here_first, none_in_nil}
 use Rattle.des_net.specs.Network.{Net}
-use Rattle.log_clauses.proofs.Lists.{append_left, append_right, here_first, none_in_nil}
 use Rattle.log_clauses.proofs.Open.{log_is_open}
 use Rattle.log_clauses.proofs.Rules.{matching_alarm, is_shown}
 use Rattle.log_clauses.proofs.Stay.{with_alarm, with_pair, chain_is, inputs_same, known_stays, clause_same, matching_same, doubtful_same, doubtful_new}
@@ -15,7 +15,7 @@ use Rattle.log_clauses.specs.LogTruth.{LogClausesHold}
 use Rattle.log_order.specs.Log.{Log, Alarm, no_log, is_doubtful}
 use Rattle.prop_core.specs.NamedClauses.{named_clause_true}
 use Rattle.prop_core.specs.VariableNames.{Name}
-use Rattle.replay.specs.QuestionSize.{is_matching}
+use Rattle.replay.specs.Explanation.{is_matching}
 
 -- a list with one more element where a test passes
 got_split : (xs : List ℕ) (p : ℕ → Bool) (y k x : ℕ) → slice_get (xs ++ filter p (y ∷ [])) k ≡ Some x → (slice_get xs k ≡ Some x) ⊎ ((k ≡ length xs) × (x ≡ y) × (p y ≡ true))
@@ -223,10 +223,10 @@ module _ (net : Net) (log : Log) (n i j : ℕ) where
   pair_new (done_by_match a t) h = h
   pair_new (one_match a t which) h = h
   pair_new (done_if_asked a) h = h
-  pair_new (before_if_asked a b t) h = (append_left log.pairs ((i, j) ∷ []) (a, b) h.0, h.1)
+  pair_new (before_if_asked a b t) h = (Contains-append_left log.pairs ((i, j) ∷ []) (a, b) h.0, h.1)
 
   pair_added_known : (t : ℕ) → t ≤ n → IsLogClause net (with_pair log i j) n (before_if_asked i j t)
-  pair_added_known t h = (append_right log.pairs ((i, j) ∷ []) (i, j) (here_first (i, j) [] (i, j) refl), h)
+  pair_added_known t h = (Contains-append_right log.pairs ((i, j) ∷ []) (i, j) (here_first (i, j) [] (i, j) refl), h)
 
   pair_same : (which : LogClause) → log_clause net log n which ≡ log_clause net (with_pair log i j) n which
   pair_same (chain_closed e k t) = refl

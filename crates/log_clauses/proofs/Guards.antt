@@ -1,32 +1,14 @@
 -- Literals over variables that are these by name, and the names that clauses have.
-use Rattle.std.proofs.Common.{◌≡◌, ◌∙◌, ℕ, Bool, true, false, List, [], ◌∷◌, Option, Some, None, refl, sym, ap, subst, Contains, IsTrue, inl, inr, ◌⊎◌, option_map}
-use Rattle.std.specs.Bool.{beq}
+use Rattle.std.proofs.Common.{◌≡◌, ◌∙◌, ℕ, Bool, List, [], ◌∷◌, Option, Some, None, refl, sym, ap, subst, Contains, IsTrue, inl, inr, ◌⊎◌, option_map}
 use Rattle.std.specs.List.{AllByRecursion}
+use Rattle.des_base.proofs.Elements.{cons_cases, none_in_nil, all_from}
 use Rattle.log_clauses.proofs.Codes.{IsReadOf, read_of}
-use Rattle.log_clauses.proofs.Lists.{cons_cases, none_in_nil, all_of, all_at}
-use Rattle.prop_core.specs.Clauses.{Clause, literal_true, AllLiteralsTrue}
-use Rattle.prop_core.specs.NamedClauses.{same_sign, named_true, Match}
+use Rattle.log_clauses.proofs.Lists.{all_at}
+use Rattle.prop_core.proofs.NameLemmas.{some_literal, literal_is}
+use Rattle.prop_core.specs.Clauses.{Clause, AllLiteralsTrue}
+use Rattle.prop_core.specs.NamedClauses.{named_true, Match}
 use Rattle.prop_core.specs.VariableNames.{Name, NamedLiteral, name_of, named_literal, named_clause, ReadsAs}
 use Rattle.prop_core.specs.declared.lit.Lit.{Lit}
-
-sign_is : (a b : Bool) → beq a b ≡ same_sign b a
-sign_is true true = refl
-sign_is true false = refl
-sign_is false true = refl
-sign_is false false = refl
-
-some_literal : (a b : NamedLiteral) → Some a ≡ Some b → a ≡ b
-some_literal a b h = cc
-
--- a literal that reads as another has its truth
-literal_is : (names : List (ℕ × Name)) (assignment : ℕ → Bool) (value : Name → Bool) (l : Lit) (m : NamedLiteral) → Match names assignment value → named_literal names l ≡ Some m → literal_true assignment l ≡ named_true value m
-literal_is names assignment value l m match h = by (name_of names l.var) refl h
-  where
-    by : (o : Option Name) → name_of names l.var ≡ o → option_map (λ (name : Name). record { name = name; positive = l.positive }) o ≡ Some m → literal_true assignment l ≡ named_true value m
-    by None e is = cc
-    by (Some name) e is =
-        subst (λ x. literal_true assignment l ≡ named_true value x) (some_literal (record { name = name; positive = l.positive }) m is)
-        (sign_is (assignment l.var) l.positive ∙ ap (same_sign l.positive) (match l.var name e))
 
 literals_read : (names : List (ℕ × Name)) (assignment : ℕ → Bool) (value : Name → Bool) → Match names assignment value → (clause : Clause) (read : List NamedLiteral) → named_clause names clause ≡ Some read →
     (AllLiteralsTrue assignment clause → AllByRecursion (λ m. IsTrue (named_true value m)) read) × (AllByRecursion (λ m. IsTrue (named_true value m)) read → AllLiteralsTrue assignment clause)
@@ -49,8 +31,8 @@ pub literals_by_name : (names : List (ℕ × Name)) (assignment : ℕ → Bool) 
     (AllLiteralsTrue assignment literals → AllByRecursion (λ m. IsTrue (named_true value m)) named) × (AllByRecursion (λ m. IsTrue (named_true value m)) named → AllLiteralsTrue assignment literals)
 literals_by_name names assignment value match literals named reads =
     let read = literals_read names assignment value match literals reads.read reads.by_name in (
-      λ all. all_of (λ m. IsTrue (named_true value m)) named (λ x in'. all_at (λ m. IsTrue (named_true value m)) reads.read (read.0 all) x ((reads.same x).1 in')),
-      λ all. read.1 (all_of (λ m. IsTrue (named_true value m)) reads.read (λ x in'. all_at (λ m. IsTrue (named_true value m)) named all x ((reads.same x).0 in'))),
+      λ all. all_from (λ m. IsTrue (named_true value m)) named (λ x in'. all_at (λ m. IsTrue (named_true value m)) reads.read (read.0 all) x ((reads.same x).1 in')),
+      λ all. read.1 (all_from (λ m. IsTrue (named_true value m)) reads.read (λ x in'. all_at (λ m. IsTrue (named_true value m)) named all x ((reads.same x).0 in'))),
     )
 
 literal_named : (names : List (ℕ × Name)) (l : Lit) (m : NamedLiteral) → named_literal names l ≡ Some m → name_of names l.var ≡ Some m.name

@@ -1,6 +1,7 @@
 -- Alarms and events go together one by one.
 use Rattle.std.proofs.Common.{◌≡◌, ℕ, suc, ◌<◌, ◌≤◌, Bool, true, false, length, Some, sym, ap, subst, arith, Contains, is_some, inl, inr, ◌⊎◌, ◌∙◌}
 use Rattle.std.proofs.lemmas.Bool.{cases_lt}
+use Rattle.des_base.specs.Lists.{numbers_below}
 use Rattle.des_net.specs.Network.{Net, label_of}
 use Rattle.log_clauses.proofs.Lists.{found_is, finds, filter_from}
 use Rattle.log_clauses.proofs.Rules.{has_event, event_matches, is_shown, in_chain, alarm_happens, one_alarm, one_event, one_step, one_step_less, match_comes, match_real, each_comes, each_done, has_alarm, no_step_back}
@@ -10,8 +11,7 @@ use Rattle.log_clauses.specs.LogLaws.{EventsAndAlarms, MatchesAreExact, HasOneSt
 use Rattle.log_clauses.specs.LogTruth.{LogClausesHold, GuardsHold}
 use Rattle.log_order.specs.Log.{Log}
 use Rattle.prop_core.specs.VariableNames.{Name, happens, matches}
-use Rattle.replay.specs.QuestionSize.{is_matching}
-use Rattle.run_clauses.specs.StepClauses.{numbers_below}
+use Rattle.replay.specs.Explanation.{is_matching}
 
 module _ (net : Net) (log : Log) (n : ℕ) (value : Name → Bool) (held : LogClausesHold net log n value) (guards : GuardsHold net log value) where
   one_step_of : (i : ℕ) → i < length log.alarms → HasOneStep n value i

@@ -3,14 +3,14 @@ use Rattle.std.proofs.Common.{◌≡◌, ◌≢◌, ℕ, zero, suc, ◌+◌, ◌
 use Rattle.std.proofs.lemmas.List.{length-map}
 use Rattle.std.proofs.lemmas.List.Sums.{length-filter}
 use Rattle.std.proofs.lemmas.List.FromFn.{length-range_with_len}
-use Rattle.card_counter.specs.AtMostOne.{chain_count}
-use Rattle.des_base.specs.Lists.{EachPair}
+use Rattle.des_base.proofs.Elements.{cons_cases, here_first, here_later, none_in_nil, all_from, flat_has, flat_from, map_has, map_from}
+use Rattle.des_base.proofs.NumbersBelow.{range_once}
+use Rattle.des_base.specs.ChainCount.{chain_count}
+use Rattle.des_base.specs.Lists.{EachPair, numbers_below}
 use Rattle.des_net.specs.Network.{Net, label_of}
-use Rattle.des_net.specs.QuestionSize.{at_most_one_count}
-use Rattle.log_clauses.proofs.Fronts.{range_once}
 use Rattle.log_clauses.proofs.Drafts.{flat_length, sum_more, same_count, taken_count, longer, doubtful_more, taken_is, is_taken}
 use Rattle.log_clauses.proofs.Growth.{length_split, length_end, grown, number_split, match_split, taken}
-use Rattle.log_clauses.proofs.Lists.{flat_has, flat_from, map_has, map_from, cons_cases, here_first, here_later, none_in_nil, all_of, all_at, append_cases, append_left, append_right, filter_has, filter_from, pairs_filter, pairs_append}
+use Rattle.log_clauses.proofs.Lists.{all_at, filter_has, filter_from, pairs_filter, pairs_append}
 use Rattle.log_clauses.proofs.Rules.{matching_alarm, is_shown, shown_event}
 use Rattle.log_clauses.proofs.Stay.{with_alarm, with_pair, all_range, matching_same, doubtful_same, doubtful_new}
 use Rattle.log_clauses.proofs.Explained.{doubtful_below}
@@ -20,10 +20,11 @@ use Rattle.log_clauses.specs.LogClauses.{chain, matching_events, observable_even
 use Rattle.log_clauses.specs.LogNames.{IsLogName, link_names, alarm_names, match_chains, false_names, added_names, first_names, NamesAreNew, NamesAreFew, FirstNamesAreAll}
 use Rattle.log_order.specs.Log.{Log, Alarm, no_log, is_doubtful}
 use Rattle.prop_core.specs.VariableNames.{Name, in_state, happens, asked, matches, done, unmatched, closed, dropped, reaches, some_of_first, of_states, of_events, of_matches}
-use Rattle.replay.specs.QuestionSize.{is_matching, alarm_variables, variable_bound, matching_count, doubtful_count}
+use Rattle.replay.specs.Explanation.{is_matching}
+use Rattle.replay.specs.QuestionSize.{alarm_variables, variable_bound, matching_count, doubtful_count}
 use Rattle.run_clauses.specs.LaidOut.{chain_names}
-use Rattle.run_clauses.specs.StepClauses.{numbers_below}
 use Rattle.run_clauses.proofs.Lists.{from_numbers, in_numbers}
+use Rattle.std.proofs.lemmas.List.Elements.{Contains-append_cases, Contains-append_left, Contains-append_right}
 
 -- lists in a row, each without a repeated element, that have no element in common
 pub pairs_flat : {Y : Type 0} (f : ℕ → List Y) (xs : List ℕ) → EachPair (λ a b. a ≢ b) xs → ((x : ℕ) → EachPair (λ a b. a ≢ b) (f x)) →
@@ -37,7 +38,7 @@ pairs_flat f (x ∷ xs) once each apart =
 pub pairs_map : {Y : Type 0} (f : ℕ → Y) (xs : List ℕ) → EachPair (λ a b. a ≢ b) xs → ((x y : ℕ) → f x ≡ f y → x ≡ y) → EachPair (λ a b. a ≢ b) (map f xs)
 pairs_map f [] once apart = tt
 pairs_map f (x ∷ xs) once apart =
-    (all_of (λ b. f x ≢ b) (map f xs) (λ b in' same. let found = map_from f xs b in' in all_at (λ y. x ≢ y) xs once.0 found.0 found.1 (apart x found.0 (same ∙ sym found.2))), pairs_map f xs once.1 apart)
+    (all_from (λ b. f x ≢ b) (map f xs) (λ b in' same. let found = map_from f xs b in' in all_at (λ y. x ≢ y) xs once.0 found.0 found.1 (apart x found.0 (same ∙ sym found.2))), pairs_map f xs once.1 apart)
 
 event_of : Name → ℕ
 event_of (matches i e t) = e
@@ -107,7 +108,7 @@ two_step i e k t name in' = by (cons_cases (matches i e (suc t)) (unmatched e (s
 link_once : (n i e k : ℕ) → EachPair (λ a b. a ≢ b) (link_names n i e k)
 unfolding step_of
 link_once n i e k = (
-  all_of (λ b. closed e (suc k) ≢ b) (flat_map (λ t. matches i e (suc t) ∷ unmatched e (suc k) (suc t) ∷ []) (numbers_below n)) (λ b in' same.
+  all_from (λ b. closed e (suc k) ≢ b) (flat_map (λ t. matches i e (suc t) ∷ unmatched e (suc k) (suc t) ∷ []) (numbers_below n)) (λ b in' same.
       let found = flat_from (λ t. matches i e (suc t) ∷ unmatched e (suc k) (suc t) ∷ []) (numbers_below n) b in' in
       let step = two_step i e k found.0 b found.2 in
       let none = ap step_of same in
@@ -150,7 +151,7 @@ module _ (net : Net) (log : Log) (n : ℕ) (new : Alarm) where
       ⊎ ((e : ℕ) × (t : ℕ) × IsTaken net log new e × (t < n) × (name ≡ matches (length log.alarms) e (suc t)))
       ⊎ ((e : ℕ) × (t : ℕ) × IsTaken net log new e × (t < n) × (name ≡ unmatched e (suc (length (chain net log e))) (suc t)))
       ⊎ ((t : ℕ) × (t ≤ n) × (name ≡ done (length log.alarms) t))
-  new_from name in' = by (append_cases (flat_map (λ e. link_names n (length log.alarms) e (length (chain net log e))) (taken_events net log new)) (map (λ t. done (length log.alarms) t) (numbers_below (suc n))) name in')
+  new_from name in' = by (Contains-append_cases (flat_map (λ e. link_names n (length log.alarms) e (length (chain net log e))) (taken_events net log new)) (map (λ t. done (length log.alarms) t) (numbers_below (suc n))) name in')
     where
       by : Contains (flat_map (λ e. link_names n (length log.alarms) e (length (chain net log e))) (taken_events net log new)) name ⊎ Contains (map (λ t. done (length log.alarms) t) (numbers_below (suc n))) name →
           ((e : ℕ) × IsTaken net log new e × (name ≡ closed e (suc (length (chain net log e)))))
@@ -226,7 +227,7 @@ module _ (net : Net) (log : Log) (n : ℕ) (new : Alarm) where
   IsLinkName name = (t : ℕ) × (k : ℕ) × (t < n) × (k < links) × (name ≡ some_of_first (of_matches (length log.alarms) (suc t)) (suc k))
 
   added_split : (name : Name) → Contains (added_names net log n (alarm_added new)) name → Contains (alarm_names net log n new) name ⊎ (IsLinkName name ⊎ ((new.doubtful ≡ true) × (name ≡ dropped (length log.alarms))))
-  added_split name in' = by (append_cases (alarm_names net log n new) (chains ++ falses) name in')
+  added_split name in' = by (Contains-append_cases (alarm_names net log n new) (chains ++ falses) name in')
     where
       behind : Contains chains name ⊎ Contains falses name → IsLinkName name ⊎ ((new.doubtful ≡ true) × (name ≡ dropped (length log.alarms)))
       behind (inl a) = inl (chain_from name a)
@@ -234,7 +235,7 @@ module _ (net : Net) (log : Log) (n : ℕ) (new : Alarm) where
 
       by : Contains (alarm_names net log n new) name ⊎ Contains (chains ++ falses) name → Contains (alarm_names net log n new) name ⊎ (IsLinkName name ⊎ ((new.doubtful ≡ true) × (name ≡ dropped (length log.alarms))))
       by (inl a) = inl a
-      by (inr b) = inr (behind (append_cases chains falses name b))
+      by (inr b) = inr (behind (Contains-append_cases chains falses name b))
 
   not_dropped : (i : ℕ) → Contains (alarm_names net log n new) (dropped i) → ⊥
   not_dropped i in' = by (new_from (dropped i) in')
@@ -267,7 +268,7 @@ module _ (net : Net) (log : Log) (n : ℕ) (new : Alarm) where
       let link = chain_from a in' in
       let found = false_from new.doubtful b refl in2 in
       no_both link.0 link.1 (sym link.4 ∙ same ∙ found.1)))
-      (λ a b in' in2 same. apart a b in' same (append_cases chains falses b in2))
+      (λ a b in' in2 same. apart a b in' same (Contains-append_cases chains falses b in2))
     where
       one : (b : Bool) → EachPair (λ x y. x ≢ y) (false_names b (length log.alarms))
       one true = (tt, tt)
@@ -301,11 +302,11 @@ module _ (net : Net) (log : Log) (n : ℕ) (new : Alarm) where
       by (inr (inr b)) = let below = doubtful_below log (length log.alarms) (subst (IsLogName net log n) b.1 old) in omega (arith, below)
 
   in_alarm : (name : Name) → Contains (alarm_names net log n new) name → Contains (added_names net log n (alarm_added new)) name
-  in_alarm name there = append_left (alarm_names net log n new) (chains ++ falses) name there
+  in_alarm name there = Contains-append_left (alarm_names net log n new) (chains ++ falses) name there
 
   in_links : (e : ℕ) (name : Name) → IsTaken net log new e → Contains (link_names n (length log.alarms) e (length (chain net log e))) name → Contains (added_names net log n (alarm_added new)) name
   in_links e name h there =
-      in_alarm name (append_left (flat_map (λ f. link_names n (length log.alarms) f (length (chain net log f))) (taken_events net log new)) (map (λ t. done (length log.alarms) t) (numbers_below (suc n))) name
+      in_alarm name (Contains-append_left (flat_map (λ f. link_names n (length log.alarms) f (length (chain net log f))) (taken_events net log new)) (map (λ t. done (length log.alarms) t) (numbers_below (suc n))) name
       (flat_has (λ f. link_names n (length log.alarms) f (length (chain net log f))) (taken_events net log new) e name (is_taken net log n new e h) there))
 
   in_two : (e t : ℕ) (name : Name) → IsTaken net log new e → t < n → Contains (matches (length log.alarms) e (suc t) ∷ unmatched e (suc (length (chain net log e))) (suc t) ∷ []) name → Contains (added_names net log n (alarm_added new)) name
@@ -354,7 +355,7 @@ module _ (net : Net) (log : Log) (n : ℕ) (new : Alarm) where
       by : (i < length log.alarms) ⊎ (i ≡ length log.alarms) → IsLogName net log n (done i t) ⊎ Contains (added_names net log n (alarm_added new)) (done i t)
       by (inl a) = inl (a, h.1)
       by (inr b) = inr (subst (λ x. Contains (added_names net log n (alarm_added new)) (done x t)) (sym b)
-          (in_alarm (done (length log.alarms) t) (append_right (flat_map (λ f. link_names n (length log.alarms) f (length (chain net log f))) (taken_events net log new)) (map (λ s. done (length log.alarms) s) (numbers_below (suc n))) (done (length log.alarms) t)
+          (in_alarm (done (length log.alarms) t) (Contains-append_right (flat_map (λ f. link_names n (length log.alarms) f (length (chain net log f))) (taken_events net log new)) (map (λ s. done (length log.alarms) s) (numbers_below (suc n))) (done (length log.alarms) t)
           (map_has (λ s. done (length log.alarms) s) (numbers_below (suc n)) t (in_numbers (suc n) t (omega (arith, h.1)))))))
   name_split (unmatched e k zero) h = absurd (omega (arith, h.2.0))
   name_split (unmatched e k (suc t)) h = by (chain_split e k h.1)
@@ -378,8 +379,8 @@ module _ (net : Net) (log : Log) (n : ℕ) (new : Alarm) where
       by : (i < length log.alarms) ⊎ (i ≡ length log.alarms) → IsLogName net log n (dropped i) ⊎ Contains (added_names net log n (alarm_added new)) (dropped i)
       by (inl a) = inl (sym (doubtful_same log new i a) ∙ h)
       by (inr b) = inr (subst (λ x. Contains (added_names net log n (alarm_added new)) (dropped x)) (sym b)
-          (append_right (alarm_names net log n new) (chains ++ falses) (dropped (length log.alarms))
-          (append_right chains falses (dropped (length log.alarms)) (own new.doubtful (sym (doubtful_new log new) ∙ subst (λ x. is_doubtful (with_alarm log new) x ≡ true) b h)))))
+          (Contains-append_right (alarm_names net log n new) (chains ++ falses) (dropped (length log.alarms))
+          (Contains-append_right chains falses (dropped (length log.alarms)) (own new.doubtful (sym (doubtful_new log new) ∙ subst (λ x. is_doubtful (with_alarm log new) x ≡ true) b h)))))
   name_split (reaches i j) h = absurd h
   name_split (some_of_first (of_states c t) k) h = absurd h
   name_split (some_of_first (of_events t g) k) h = absurd h
@@ -393,8 +394,8 @@ module _ (net : Net) (log : Log) (n : ℕ) (new : Alarm) where
       by (inr b) =
           let below : suc k ≤ links = subst (λ x. suc k ≤ chain_count (length (matching_events net (with_alarm log new) x))) b h.3 in
           inr (subst (λ x. Contains (added_names net log n (alarm_added new)) (some_of_first (of_matches x (suc t)) (suc k))) (sym b)
-          (append_right (alarm_names net log n new) (chains ++ falses) (some_of_first (of_matches (length log.alarms) (suc t)) (suc k))
-          (append_left chains falses (some_of_first (of_matches (length log.alarms) (suc t)) (suc k)) (chain_has t k (omega (arith, h.1.1)) (omega (arith, below))))))
+          (Contains-append_right (alarm_names net log n new) (chains ++ falses) (some_of_first (of_matches (length log.alarms) (suc t)) (suc k))
+          (Contains-append_left chains falses (some_of_first (of_matches (length log.alarms) (suc t)) (suc k)) (chain_has t k (omega (arith, h.1.1)) (omega (arith, below))))))
 
   name_keeps : (name : Name) → IsLogName net log n name → IsLogName net (with_alarm log new) n name
   name_keeps (in_state c q t) h = absurd h
@@ -461,10 +462,10 @@ names_leave_room net log n new =
     let more = ap (λ k. sum_by (λ i. alarm_variables n (matching_count net (with_alarm log new) i)) (numbers_below k)) (longer net log n new) in
     let size = names_size net log n new in
     let moved : length (taken_events net log new) * (1 + n * 2) + suc n + n * chain_count (length (taken_events net log new))
-    ≡ matching_count net (with_alarm log new) (length log.alarms) * (1 + n * 2) + suc n + n * at_most_one_count (matching_count net (with_alarm log new) (length log.alarms)) =
+    ≡ matching_count net (with_alarm log new) (length log.alarms) * (1 + n * 2) + suc n + n * chain_count (matching_count net (with_alarm log new) (length log.alarms)) =
     ap (λ k. k * (1 + n * 2) + suc n + n * chain_count k) (taken_count net log n new) in
     let doubt = doubtful_more net log n new in
-    let few = names_few n (matching_count net (with_alarm log new) (length log.alarms)) (at_most_one_count (matching_count net (with_alarm log new) (length log.alarms))) in
+    let few = names_few n (matching_count net (with_alarm log new) (length log.alarms)) (chain_count (matching_count net (with_alarm log new) (length log.alarms))) in
     omega (arith, sum, more, size, moved, doubt, few)
   where
     names_few : (k m o : ℕ) → m * (1 + k * 2) + suc k + k * o ≤ k * (2 * m + o + 1) + 1 + m
@@ -549,7 +550,7 @@ first_back net n name in' = by (cons_cases asked (map (λ e. closed e 0) (observ
 pub first_names_are_all : FirstNamesAreAll
 first_names_are_all net n = record {
   once = (
-    all_of (λ b. asked ≢ b) (map (λ e. closed e 0) (observable_events net)) (λ b in' same. let found = map_from (λ e. closed e 0) (observable_events net) b in' in differ found.0 (same ∙ sym found.2)),
+    all_from (λ b. asked ≢ b) (map (λ e. closed e 0) (observable_events net)) (λ b in' same. let found = map_from (λ e. closed e 0) (observable_events net) b in' in differ found.0 (same ∙ sym found.2)),
     pairs_map (λ e. closed e 0) (observable_events net) (pairs_filter (λ a b. a ≢ b) (λ e. is_some (label_of net e)) (numbers_below (length net.events)) (range_once 0 (length net.events))) same_event,
   );
   all = λ name. (first_of net n name, first_back net n name);

@@ -4,11 +4,12 @@ use Rattle.std.specs.List.{AllByRecursion, range_with_len}
 use Rattle.std.proofs.lemmas.Option.{slice_get-map, slice_get_within}
 use Rattle.std.proofs.lemmas.List.{length-map}
 use Rattle.std.proofs.lemmas.List.FromFn.{length-range_with_len}
-use Rattle.card_counter.specs.AtMostOne.{chain_count}
-use Rattle.des_base.specs.Lists.{EachPair}
+use Rattle.des_base.proofs.Elements.{cons_cases, here_first, here_later, none_in_nil, all_from}
+use Rattle.des_base.specs.ChainCount.{chain_count}
+use Rattle.des_base.specs.Lists.{numbers_below}
 use Rattle.des_net.specs.Network.{Net}
 use Rattle.log_clauses.proofs.Drafts.{flat_length}
-use Rattle.log_clauses.proofs.Lists.{cons_cases, here_first, here_later, none_in_nil, all_of, all_at, append_cases, append_left, append_right, pairs_append}
+use Rattle.log_clauses.proofs.Lists.{all_at, pairs_append}
 use Rattle.log_clauses.proofs.NewNames.{names_are_new, first_names_are_all}
 use Rattle.log_clauses.proofs.Stay.{get_same}
 use Rattle.log_clauses.proofs.Codes.{has_name}
@@ -20,8 +21,9 @@ use Rattle.log_order.specs.Log.{Log, Alarm}
 use Rattle.prop_core.specs.Clauses.{Clause}
 use Rattle.prop_core.specs.VariableNames.{Name, NamedLiteral, name_of, named_literal, named_clause, matches, unmatched, closed, done, dropped, some_of_first, of_matches, HasEachOnce}
 use Rattle.prop_core.specs.declared.lit.Lit.{Lit}
+use Rattle.run_clauses.proofs.LaidOut.{laid_once}
 use Rattle.run_clauses.specs.LaidOut.{laid_out, chain_names}
-use Rattle.run_clauses.specs.StepClauses.{numbers_below}
+use Rattle.std.proofs.lemmas.List.Elements.{Contains-append_cases, Contains-append_left, Contains-append_right}
 
 pub laid_out_from : (first : ℕ) (xs : List Name) (entry : ℕ × Name) → Contains (laid_out first xs) entry → Contains xs entry.1 × (first ≤ entry.0) × (entry.0 < first + length xs)
 laid_out_from first [] entry in' = absurd (none_in_nil entry in')
@@ -51,20 +53,10 @@ laid_out_in first (y ∷ xs) x in' = by (cons_cases y xs x in') (laid_out_in (fi
     by (inl is) later = (first, here_first (first, y) (laid_out (first + 1) xs) (first, x) (λ i. (first, is i)))
     by (inr rest) later = let found = later rest in (found.0, here_later (first, y) (laid_out (first + 1) xs) (found.0, x) found.1)
 
-pub laid_out_once : (first : ℕ) (xs : List Name) → EachPair (λ a b. a ≢ b) xs → HasEachOnce (laid_out first xs)
-laid_out_once first [] once = tt
-laid_out_once first (x ∷ xs) once = (
-  all_of (λ (entry : ℕ × Name). (first ≢ entry.0) × (x ≢ entry.1)) (laid_out (first + 1) xs) (λ entry in'.
-      let found = laid_out_from (first + 1) xs entry in' in
-      let above = found.1 in
-      (λ same. omega (arith, above, same), all_at (λ y. x ≢ y) xs once.0 entry.1 found.0)),
-  laid_out_once (first + 1) xs once.1,
-)
-
 pub names_begin : NamesBegin
 names_begin net n first = record {
-  once = laid_out_once first (first_names net) (first_names_are_all net n).once;
-  below = all_of (λ (entry : ℕ × Name). entry.0 < first + length (first_names net)) (laid_out first (first_names net)) (λ entry in'. (laid_out_from first (first_names net) entry in').2);
+  once = laid_once first (first_names net) (first_names_are_all net n).once;
+  below = all_from (λ (entry : ℕ × Name). entry.0 < first + length (first_names net)) (laid_out first (first_names net)) (λ entry in'. (laid_out_from first (first_names net) entry in').2);
   exact = λ name. (
     λ h. laid_out_in first (first_names net) name (((first_names_are_all net n).all name).0 h),
     λ h. ((first_names_are_all net n).all name).1 (laid_out_from first (first_names net) (h.0, name) h.1).0,
@@ -78,7 +70,7 @@ names_grow net log n first addition names are = record { once = once; below = be
     laws = names_are_new net log n addition
 
     once : HasEachOnce (names ++ laid_out first (added_names net log n addition))
-    once = pairs_append (λ a b. (a.0 ≢ b.0) × (a.1 ≢ b.1)) names (laid_out first (added_names net log n addition)) are.once (laid_out_once first (added_names net log n addition) laws.once) (λ a b in' in2.
+    once = pairs_append (λ a b. (a.0 ≢ b.0) × (a.1 ≢ b.1)) names (laid_out first (added_names net log n addition)) are.once (laid_once first (added_names net log n addition) laws.once) (λ a b in' in2.
         let below' = all_at (λ (entry : ℕ × Name). entry.0 < first) names are.below a in' in
         let found = laid_out_from first (added_names net log n addition) b in2 in
         let above = found.1 in (
@@ -87,7 +79,7 @@ names_grow net log n first addition names are = record { once = once; below = be
         ))
 
     below : AllByRecursion (λ (entry : ℕ × Name). entry.0 < first + length (added_names net log n addition)) (names ++ laid_out first (added_names net log n addition))
-    below = all_of (λ (entry : ℕ × Name). entry.0 < first + length (added_names net log n addition)) (names ++ laid_out first (added_names net log n addition)) (λ entry in'. by entry (append_cases names (laid_out first (added_names net log n addition)) entry in'))
+    below = all_from (λ (entry : ℕ × Name). entry.0 < first + length (added_names net log n addition)) (names ++ laid_out first (added_names net log n addition)) (λ entry in'. by entry (Contains-append_cases names (laid_out first (added_names net log n addition)) entry in'))
       where
         by : (entry : ℕ × Name) → Contains names entry ⊎ Contains (laid_out first (added_names net log n addition)) entry → entry.0 < first + length (added_names net log n addition)
         by entry (inl old) = let low = all_at (λ (x : ℕ × Name). x.0 < first) names are.below entry old in omega (arith, low)
@@ -97,11 +89,11 @@ names_grow net log n first addition names are = record { once = once; below = be
     to name h = by ((laws.all name).0 h)
       where
         by : IsLogName net log n name ⊎ Contains (added_names net log n addition) name → (var : ℕ) × Contains (names ++ laid_out first (added_names net log n addition)) (var, name)
-        by (inl old) = let found = (are.exact name).0 old in (found.0, append_left names (laid_out first (added_names net log n addition)) (found.0, name) found.1)
-        by (inr fresh) = let found = laid_out_in first (added_names net log n addition) name fresh in (found.0, append_right names (laid_out first (added_names net log n addition)) (found.0, name) found.1)
+        by (inl old) = let found = (are.exact name).0 old in (found.0, Contains-append_left names (laid_out first (added_names net log n addition)) (found.0, name) found.1)
+        by (inr fresh) = let found = laid_out_in first (added_names net log n addition) name fresh in (found.0, Contains-append_right names (laid_out first (added_names net log n addition)) (found.0, name) found.1)
 
     from : (name : Name) (var : ℕ) → Contains (names ++ laid_out first (added_names net log n addition)) (var, name) → IsLogName net (with_addition log addition) n name
-    from name var in' = by (append_cases names (laid_out first (added_names net log n addition)) (var, name) in')
+    from name var in' = by (Contains-append_cases names (laid_out first (added_names net log n addition)) (var, name) in')
       where
         by : Contains names (var, name) ⊎ Contains (laid_out first (added_names net log n addition)) (var, name) → IsLogName net (with_addition log addition) n name
         by (inl old) = (laws.all name).1 (inl ((are.exact name).1 (var, old)))
@@ -132,7 +124,7 @@ range_get a (suc m) (suc t) h = let same : (a + 1) + t ≡ a + suc t = omega ari
 pub number_get : (m t : ℕ) → t < m → slice_get (numbers_below m) t ≡ Some t
 number_get m t h = let same : 0 + t ≡ t = omega arith in range_get 0 m t h ∙ ap Some same
 
-link_size : (n i e k : ℕ) → length (link_names n i e k) ≡ 1 + n * 2
+pub link_size : (n i e k : ℕ) → length (link_names n i e k) ≡ 1 + n * 2
 link_size n i e k =
     let flat = flat_length (λ t. matches i e (suc t) ∷ unmatched e (suc k) (suc t) ∷ []) (numbers_below n) 2 (λ t. refl) in
     let range = length-range_with_len 0 n in
@@ -155,7 +147,7 @@ module _ (net : Net) (log : Log) (n first : ℕ) (new : Alarm) (names : List (�
   at : (k : ℕ) (name : Name) → slice_get (added_names net log n (alarm_added new)) k ≡ Some name → name_of (names ++ laid_out first (added_names net log n (alarm_added new))) (first + k) ≡ Some name
   at k name is =
       has_name (names ++ laid_out first (added_names net log n (alarm_added new))) (first + k, name) (names_grow net log n first (alarm_added new) names are).once
-      (append_right names (laid_out first (added_names net log n (alarm_added new))) (first + k, name) (laid_out_has first (added_names net log n (alarm_added new)) k name is))
+      (Contains-append_right names (laid_out first (added_names net log n (alarm_added new))) (first + k, name) (laid_out_has first (added_names net log n (alarm_added new)) k name is))
 
   old_link_at : (p e j : ℕ) → slice_get (taken_events net log new) p ≡ Some e → j < 1 + n * 2 →
       slice_get (alarm_names net log n new) (p * (1 + n * 2) + j) ≡ slice_get (link_names n (length log.alarms) e (length (chain net log e))) j
@@ -271,7 +263,7 @@ places_of_names net log n first new names are = record {
         at net log n first new names are (p * (1 + n * 2) + suc (t * 2 + 1)) (unmatched e (suc (length (chain net log e))) (suc t))
         (link_at net log n first new names are p e (suc (t * 2 + 1)) (unmatched e (suc (length (chain net log e))) (suc t)) is (omega arith) (step_get n (length log.alarms) e (length (chain net log e)) t 1 h (omega arith)))
 
-ordered_literal : (names : List (ℕ × Name)) (l : Lit) (m : NamedLiteral) → name_of names l.var ≡ Some m.name → l.positive ≡ m.positive → named_literal names l ≡ Some m
+pub ordered_literal : (names : List (ℕ × Name)) (l : Lit) (m : NamedLiteral) → name_of names l.var ≡ Some m.name → l.positive ≡ m.positive → named_literal names l ≡ Some m
 ordered_literal names l m h sign = rw h (λ i. Some (record { name = m.name; positive = sign i }))
 
 pub ordered_names : (names : List (ℕ × Name)) (clause : Clause) (named : List NamedLiteral) → ReadsInOrder names clause named → named_clause names clause ≡ Some named

@@ -1,11 +1,10 @@
 -- The sets of the steps one after another, by recursion.
 use Rattle.std.proofs.Common.{◌≡◌, ◌≢◌, ◌↔◌, ℕ, zero, suc, ◌+◌, ◌<◌, Bool, true, List, [], ◌∷◌, length, sym, subst, arith, Contains, get_or}
 use Rattle.std.specs.Prelude.{⊤}
-use Rattle.des_base.specs.Lists.{EachPair}
+use Rattle.des_base.specs.Lists.{EachPair, numbers_below}
 use Rattle.des_net.specs.Network.{Net}
 use Rattle.log_clauses.proofs.Lists.{filter_has, filter_from}
 use Rattle.prop_core.specs.VariableNames.{Name, happens}
-use Rattle.run_clauses.specs.StepClauses.{numbers_below}
 use Rattle.run_clauses.specs.Steps.{events_at, IsOrderOf, AreSteps}
 use Rattle.run_clauses.proofs.Lists.{from_numbers, in_numbers}
 

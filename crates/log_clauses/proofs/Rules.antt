@@ -5,29 +5,23 @@ use Rattle.std.specs.Option.{option_map_or}
 use Rattle.std.specs.List.{AllByRecursion, list_any}
 use Rattle.std.proofs.lemmas.Bool.{cases_lt, cases_order}
 use Rattle.std.proofs.lemmas.Option.{slice_get_within, slice_get_past, slice_get-map}
-use Rattle.std.proofs.lemmas.Slice.Eq.{bytes_eq-Decides}
 use Rattle.std.proofs.lemmas.List.{get_or_past}
 use Rattle.card_counter.proofs.Exclusions.{exclusion_is_sound}
 use Rattle.card_counter.specs.Exclusions.{AtMostOneOf}
+use Rattle.des_base.proofs.BoolLemmas.{otherwise, either, both, join}
+use Rattle.des_base.proofs.Elements.{cons_cases, here_first, here_later, none_in_nil, contains_at, at_place, some_at}
+use Rattle.des_base.specs.Lists.{numbers_below}
 use Rattle.des_net.specs.Network.{Net, Event, label_of, no_event}
-use Rattle.log_clauses.proofs.Lists.{clash, as_false, both, and_true, or_cases, cons_cases, here_first, here_later, none_in_nil, got_contains, contains_got, got_at, filter_has, filter_from, range_has}
+use Rattle.log_clauses.proofs.Lists.{clash, filter_has, filter_from, range_has}
 use Rattle.log_clauses.specs.LogClauses.{chain, IsLink, chain_closed, takes_rest, uses_up, passes_on, taken_or_passed, not_done_first, stays_done, match_is_done, matched_once, done_by_match, one_match, done_if_asked, before_if_asked, matching_events, match_inputs, match_is_real, or_false}
 use Rattle.log_clauses.specs.Decoded.{is_false, comes}
 use Rattle.log_clauses.specs.LogTruth.{LogClausesHold, GuardsHold}
 use Rattle.log_order.specs.Log.{Log, Alarm, labels_of, is_doubtful}
+use Rattle.prop_core.proofs.Premises.{implied, neither}
 use Rattle.prop_core.specs.NamedClauses.{named_true}
 use Rattle.prop_core.specs.VariableNames.{Name, NamedLiteral, yes, happens, asked, matches, done, closed, dropped, remaining, of_matches}
-use Rattle.replay.specs.Explanation.{Shows}
-use Rattle.replay.specs.Matching.{has_label}
-use Rattle.replay.specs.QuestionSize.{is_matching}
-use Rattle.run_clauses.specs.StepClauses.{numbers_below}
-use Rattle.run_clauses.proofs.Lists.{neither, never}
-
--- clauses of one, two and three literals
-pub implied : (a b : Bool) → not a || (b || false) ≡ true → a ≡ true → b ≡ true
-implied true true h k = refl
-implied true false h k = cc
-implied false b h k = cc
+use Rattle.replay.proofs.ListTests.{text_in, in_text}
+use Rattle.replay.specs.Explanation.{Shows, has_label, is_matching}
 
 one_of : (a b c : Bool) → not a || (b || (c || false)) ≡ true → a ≡ true → (b ≡ true) ⊎ (c ≡ true)
 one_of true true c h k = inl refl
@@ -57,47 +51,26 @@ or_false_is log value i literals = by (is_doubtful log i)
 -- one of these names is true
 some_true : (value : Name → Bool) (name : ℕ → Name) (xs : List ℕ) → list_any (named_true value) (map (λ x. yes (name x)) xs) ≡ true → (x : ℕ) × Contains xs x × (value (name x) ≡ true)
 some_true value name [] h = cc
-some_true value name (y ∷ xs) h = by (or_cases (value (name y)) (list_any (named_true value) (map (λ x. yes (name x)) xs)) h) (some_true value name xs)
+some_true value name (y ∷ xs) h = by (either (value (name y)) (list_any (named_true value) (map (λ x. yes (name x)) xs)) h) (some_true value name xs)
   where
     by : (value (name y) ≡ true) ⊎ (list_any (named_true value) (map (λ x. yes (name x)) xs) ≡ true) →
         (list_any (named_true value) (map (λ x. yes (name x)) xs) ≡ true → (x : ℕ) × Contains xs x × (value (name x) ≡ true)) → (x : ℕ) × Contains (y ∷ xs) x × (value (name x) ≡ true)
     by (inl e) later = (y, here_first y xs y refl, e)
     by (inr rest) later = let found = later rest in (found.0, here_later y xs found.0 found.1, found.2)
 
--- Alarms and the events that show them.
-any_is : (label : List ℕ) (labels : List (List ℕ)) → list_any (bytes_eq label) labels ≡ true → Contains labels label
-any_is label [] h = cc
-any_is label (l ∷ labels) h = by (or_cases (bytes_eq label l) (list_any (bytes_eq label) labels) h) (any_is label labels)
-  where
-    by : (bytes_eq label l ≡ true) ⊎ (list_any (bytes_eq label) labels ≡ true) → (list_any (bytes_eq label) labels ≡ true → Contains labels label) → Contains (l ∷ labels) label
-    by (inl e) later = here_first l labels label (sym ((bytes_eq-Decides label l).0 e))
-    by (inr rest) later = here_later l labels label (later rest)
-
-is_any : (label : List ℕ) (labels : List (List ℕ)) → Contains labels label → list_any (bytes_eq label) labels ≡ true
-is_any label [] in' = absurd (none_in_nil label in')
-is_any label (l ∷ labels) in' = by (cons_cases l labels label in') (is_any label labels)
-  where
-    right : (b : Bool) → b || true ≡ true
-    right true = refl
-    right false = refl
-
-    by : (l ≡ label) ⊎ Contains labels label → (Contains labels label → list_any (bytes_eq label) labels ≡ true) → bytes_eq label l || list_any (bytes_eq label) labels ≡ true
-    by (inl is) later = rw ((bytes_eq-Decides label l).1 (sym is)) refl
-    by (inr rest) later = rw (later rest) (right (bytes_eq label l))
-
 pub shows : (net : Net) (log : Log) (e i : ℕ) → is_matching net log e i ≡ true → Shows net log e i
 shows net log e i h = by (label_of net e) h
   where
     by : (o : Option (List ℕ)) → option_map_or (has_label log i) o false ≡ true → IsSomeAnd o (Contains (labels_of log i))
     by None k = cc
-    by (Some label) k = any_is label (labels_of log i) k
+    by (Some label) k = text_in label (labels_of log i) k
 
 pub shown_matches : (net : Net) (log : Log) (e i : ℕ) → Shows net log e i → is_matching net log e i ≡ true
 shown_matches net log e i h = by (label_of net e) h
   where
     by : (o : Option (List ℕ)) → IsSomeAnd o (Contains (labels_of log i)) → option_map_or (has_label log i) o false ≡ true
     by None k = absurd k
-    by (Some label) k = is_any label (labels_of log i) k
+    by (Some label) k = in_text label (labels_of log i) k
 
 pub is_shown : (net : Net) (log : Log) (e i : ℕ) → is_matching net log e i ≡ true → is_some (label_of net e) ≡ true
 is_shown net log e i h = by (label_of net e) h
@@ -133,7 +106,7 @@ in_chain net log e i h =
     filter_has (is_matching net log e) (numbers_below (length log.alarms)) i h (range_has 0 (length log.alarms) i (omega arith) (omega (arith, below)))
 
 pub link_matches : (net : Net) (log : Log) (i e k : ℕ) → IsLink net log i e k → is_matching net log e i ≡ true
-link_matches net log i e k link = (filter_from (is_matching net log e) (numbers_below (length log.alarms)) i (got_contains (chain net log e) k i link)).0
+link_matches net log i e k link = (filter_from (is_matching net log e) (numbers_below (length log.alarms)) i (contains_at (chain net log e) k i link)).0
 
 pub has_event : (net : Net) (log : Log) (e i : ℕ) → is_matching net log e i ≡ true → Contains (matching_events net log i) e
 has_event net log e i h =
@@ -145,7 +118,7 @@ event_matches net log e i in' = (filter_from (λ f. is_matching net log f i) (nu
 
 -- where an element stands, and what becomes of it
 pub place_of : {X Y : Type 0} (f : X → Y) (xs : List X) (x : X) → Contains xs x → (k : ℕ) × (slice_get xs k ≡ Some x) × (slice_get (map f xs) k ≡ Some (f x))
-place_of f xs x in' = let got = contains_got xs x in' in (got.0, got.1, slice_get-map f xs got.0 ∙ ap (option_map f) got.1)
+place_of f xs x in' = let got = at_place xs x in' in (got.0, got.1, slice_get-map f xs got.0 ∙ ap (option_map f) got.1)
 
 one_there : (xs : List ℕ) (j k x y : ℕ) → j ≡ k → slice_get xs j ≡ Some x → slice_get xs k ≡ Some y → x ≡ y
 one_there xs j k x y same at_j at_k = let both : Some x ≡ Some y = sym at_j ∙ ap (slice_get xs) same ∙ at_k in cc
@@ -168,7 +141,7 @@ module _ (net : Net) (log : Log) (n : ℕ) (value : Name → Bool) (held : LogCl
 
   pub alarm_happens : (i e t : ℕ) → is_matching net log e i ≡ true → t < n → value (matches i e (suc t)) ≡ true → value (happens e (suc t)) ≡ true
   alarm_happens i e t matching step is =
-      let at = contains_got (chain net log e) i (in_chain net log e i matching) in
+      let at = at_place (chain net log e) i (in_chain net log e i matching) in
       match_happens i e at.0 t at.1 step is
 
   one_alarm_less : (i j e k l t : ℕ) → IsLink net log i e k → IsLink net log j e l → k < l → t < n → value (matches i e (suc t)) ≡ true → value (matches j e (suc t)) ≡ true → ⊥
@@ -183,10 +156,10 @@ module _ (net : Net) (log : Log) (n : ℕ) (value : Name → Bool) (held : LogCl
   one_alarm i j e t first second step here there = by (cases_lt a.0 b.0) (cases_lt b.0 a.0)
     where
       a : (k : ℕ) × IsLink net log i e k
-      a = contains_got (chain net log e) i (in_chain net log e i first)
+      a = at_place (chain net log e) i (in_chain net log e i first)
 
       b : (k : ℕ) × IsLink net log j e k
-      b = contains_got (chain net log e) j (in_chain net log e j second)
+      b = at_place (chain net log e) j (in_chain net log e j second)
 
       by : (a.0 < b.0) ⊎ (b.0 ≤ a.0) → (b.0 < a.0) ⊎ (a.0 ≤ b.0) → i ≡ j
       by (inl less) other = absurd (one_alarm_less i j e a.0 b.0 t a.1 b.1 less step here there)
@@ -204,7 +177,7 @@ module _ (net : Net) (log : Log) (n : ℕ) (value : Name → Bool) (held : LogCl
       absurd (neither (value (closed e (length (chain net log e)))) (value (remaining e (length (chain net log e)) (suc t)))
       (held (chain_closed e (length (chain net log e)) t) (shown, omega arith, omega arith)) shut (subst (λ x. value (remaining e x (suc t)) ≡ true) same is))
   taken_from (suc m) e k t count shown shut step is =
-      let at = got_at (chain net log e) k (omega arith) in
+      let at = some_at (chain net log e) k (omega arith) in
       by at.0 at.1 (one_of (value (remaining e k (suc t))) (value (matches at.0 e (suc t))) (value (remaining e (suc k) (suc t)))
       (held (taken_or_passed at.0 e k t) (at.1, omega arith)) is) (taken_from m e (suc k) t (omega arith) shown shut step)
     where
@@ -246,7 +219,7 @@ module _ (net : Net) (log : Log) (n : ℕ) (value : Name → Bool) (held : LogCl
     where
       by : (b : Bool) → value (done i m) ≡ b → (value (done i m) ≡ true → (t : ℕ) × (t ≤ m) × (comes value i t ≡ true)) → (t : ℕ) × (t ≤ suc m) × (comes value i t ≡ true)
       by true e later = let found = later e in let low = found.1 in (found.0, omega (arith, low), found.2)
-      by false e later = (suc m, omega arith, and_true (value (done i (suc m))) (not (value (done i m))) is (ap not e))
+      by false e later = (suc m, omega arith, join (value (done i (suc m))) (not (value (done i m))) is (ap not e))
 
   pub comes_done : (i t : ℕ) → comes value i t ≡ true → value (done i t) ≡ true
   comes_done i zero is = is
@@ -281,7 +254,7 @@ module _ (net : Net) (log : Log) (n : ℕ) (value : Name → Bool) (held : LogCl
   match_real i e t matching step is = by (is_doubtful log i) refl
     where
       by : (b : Bool) → is_doubtful log i ≡ b → is_false log value i ≡ false
-      by true e' = rw e' (as_false (value (dropped i)) (neither (value (matches i e (suc t))) (value (dropped i)) (held (match_is_real i e t) (matching, e', step)) is))
+      by true e' = rw e' (otherwise (value (dropped i)) (neither (value (matches i e (suc t))) (value (dropped i)) (held (match_is_real i e t) (matching, e', step)) is))
       by false e' = rw e' refl
 
   pub match_done : (i e t : ℕ) → is_matching net log e i ≡ true → t < n → value (matches i e (suc t)) ≡ true → value (done i (suc t)) ≡ true
@@ -300,8 +273,8 @@ module _ (net : Net) (log : Log) (n : ℕ) (value : Name → Bool) (held : LogCl
   -- it gets done in the step of its match
   pub match_comes : (i e t : ℕ) → is_matching net log e i ≡ true → t < n → value (matches i e (suc t)) ≡ true → comes value i (suc t) ≡ true
   match_comes i e t matching step is =
-      and_true (value (done i (suc t))) (not (value (done i t))) (match_done i e t matching step is)
-      (ap not (as_false (value (done i t)) (neither (value (matches i e (suc t))) (value (done i t)) (held (matched_once i e t) (matching, step)) is)))
+      join (value (done i (suc t))) (not (value (done i t))) (match_done i e t matching step is)
+      (ap not (otherwise (value (done i t)) (neither (value (matches i e (suc t))) (value (done i t)) (held (matched_once i e t) (matching, step)) is)))
 
   -- an alarm has one step at most
   pub one_step_less : (i e f s t : ℕ) → is_matching net log e i ≡ true → is_matching net log f i ≡ true → s < t → t < n → value (matches i e (suc s)) ≡ true → value (matches i f (suc t)) ≡ true → ⊥

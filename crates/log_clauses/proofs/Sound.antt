@@ -2,23 +2,23 @@
 use Rattle.std.proofs.Common.{◌≡◌, ◌≢◌, ℕ, zero, suc, ◌+◌, ◌<◌, ◌≤◌, Bool, true, false, List, [], ◌∷◌, ◌++◌, ◌∙◌, length, Option, Some, None, refl, sym, ap, subst, arith, Contains, filter, filter_map, is_some, not, inl, inr, ◌⊎◌, ◌&&◌}
 use Rattle.std.specs.List.{AllByRecursion, AllZip}
 use Rattle.std.proofs.lemmas.Bool.{cases_lt}
-use Rattle.std.proofs.lemmas.List.Elements.{filter-append, All-from_recursion, All-contains}
+use Rattle.std.proofs.lemmas.List.Elements.{filter-append, All-from_recursion, All-contains, Contains-append_cases, Contains-append_left, Contains-append_right}
+use Rattle.des_base.proofs.Elements.{cons_cases, here_first, here_later, none_in_nil, all_from, zip_append, all_append}
 use Rattle.des_base.specs.Lists.{EachPair}
 use Rattle.des_net.specs.Network.{Net, label_of}
 use Rattle.des_net.specs.Width.{joined}
-use Rattle.log_clauses.proofs.Entries.{alarms_append, real_append, all_append, entries_alarms, entries_real, entries_doubted, AreTold, entries_told, has_false}
-use Rattle.log_clauses.proofs.Lists.{clash, cons_cases, here_first, here_later, none_in_nil, filter_has, filter_from, all_of, all_at, pairs_filter, pairs_append, append_cases, append_left, append_right, zip_append, found_is, finds, is_before, from_places}
+use Rattle.log_clauses.proofs.Entries.{alarms_append, real_append, entries_alarms, entries_real, entries_doubted, AreTold, entries_told, has_false}
+use Rattle.log_clauses.proofs.Lists.{clash, filter_has, filter_from, all_at, pairs_filter, pairs_append, found_is, finds, is_before, from_places}
 use Rattle.log_clauses.proofs.Pieces.{IsStepSet, AreFrom, pieces_are_steps}
 use Rattle.log_clauses.proofs.Rules as rules
-use Rattle.log_clauses.proofs.Rules.{shows, is_shown, shown_event, matching_alarm, has_event, event_matches, match_happens, in_chain, one_alarm, one_event, one_step, false_first, comes_by_match, match_comes, match_real, each_comes, has_alarm, no_step_back}
+use Rattle.log_clauses.proofs.Rules.{shows, is_shown, shown_event, matching_alarm, has_event, event_matches, one_alarm, one_event, one_step, false_first, comes_by_match, match_comes, match_real, each_comes, has_alarm, no_step_back}
 use Rattle.log_clauses.specs.Decoded.{event_at, alarms_at, shown_at, unobservables, is_false, comes, entries_at, arranged, arranged_order, whole_order}
 use Rattle.log_clauses.specs.LogClauses.{matching_events}
 use Rattle.log_clauses.specs.LogLaws.{IsArranged, LogIsSound}
 use Rattle.log_clauses.specs.LogTruth.{LogClausesHold, GuardsHold}
 use Rattle.log_order.specs.Log.{Log, ListsOnce, Keeps, IsValidLog, place_in}
 use Rattle.prop_core.specs.VariableNames.{Name, happens, matches, done}
-use Rattle.replay.specs.Explanation.{Entry, alarms_of, real_alarms, may_stand, observables, Shows, Linearises}
-use Rattle.replay.specs.QuestionSize.{is_matching}
+use Rattle.replay.specs.Explanation.{Entry, alarms_of, real_alarms, may_stand, observables, Shows, Linearises, is_matching}
 
 some_is : {X : Type 0} (a b : X) → Some a ≡ Some b → a ≡ b
 some_is a b h = cc
@@ -62,7 +62,7 @@ mapped_once f (x ∷ xs) once h = by (f x) refl (mapped_once f xs once.1 h)
     by : (o : Option _) → f x ≡ o → EachPair (λ a b. a ≢ b) (filter_map f xs) → EachPair (λ a b. a ≢ b) (filter_map f (x ∷ xs))
     by None e rest = rw e rest
     by (Some y) e rest = rw e (
-      all_of (λ b. y ≢ b) (filter_map f xs) (λ b in' same.
+      all_from (λ b. y ≢ b) (filter_map f xs) (λ b in' same.
           let found = mapped_from f xs b in' in
           all_at (λ c. x ≢ c) xs once.0 found.0 found.1 (h x found.0 b (e ∙ ap Some same) found.2)),
       rest,
@@ -125,7 +125,7 @@ module _ (net : Net) (log : Log) (n : ℕ) (value : Name → Bool) (held : LogCl
   unfolding by_steps
   from_order t [] i count in' = absurd (none_in_nil i in')
   from_order t (piece ∷ pieces) i count in' =
-      by (append_cases (filter (λ j. comes value j (suc t)) alarms) (by_steps (suc t) pieces) i in') (from_order (suc t) pieces i (omega arith))
+      by (Contains-append_cases (filter (λ j. comes value j (suc t)) alarms) (by_steps (suc t) pieces) i in') (from_order (suc t) pieces i (omega arith))
     where
       by : Contains (filter (λ j. comes value j (suc t)) alarms) i ⊎ Contains (by_steps (suc t) pieces) i →
           (Contains (by_steps (suc t) pieces) i → (s : ℕ) × (suc t < s) × (s ≤ n) × (comes value i s ≡ true) × Contains alarms i) →
@@ -139,10 +139,10 @@ module _ (net : Net) (log : Log) (n : ℕ) (value : Name → Bool) (held : LogCl
   in_order t (piece ∷ pieces) i s count here is low high = by (cases_lt (suc t) s) (λ above. in_order (suc t) pieces i s (omega arith) here is above high)
     where
       by : (suc t < s) ⊎ (s ≤ suc t) → (suc t < s → Contains (by_steps (suc t) pieces) i) → Contains (by_steps t (piece ∷ pieces)) i
-      by (inl above) later = append_right (filter (λ j. comes value j (suc t)) alarms) (by_steps (suc t) pieces) i (later above)
+      by (inl above) later = Contains-append_right (filter (λ j. comes value j (suc t)) alarms) (by_steps (suc t) pieces) i (later above)
       by (inr below) later =
           let same : s ≡ suc t = omega arith in
-          append_left (filter (λ j. comes value j (suc t)) alarms) (by_steps (suc t) pieces) i
+          Contains-append_left (filter (λ j. comes value j (suc t)) alarms) (by_steps (suc t) pieces) i
           (filter_has (λ j. comes value j (suc t)) alarms i (subst (λ x. comes value i x ≡ true) same is) (complete.each i here))
 
   -- alarms of an earlier and a later step
@@ -181,11 +181,11 @@ module _ (net : Net) (log : Log) (n : ℕ) (value : Name → Bool) (held : LogCl
   whole_each pieces count i here = let found = each_comes net log n value held guards i here in subst (λ xs. Contains xs i) (sym (whole_is pieces)) (by found.0 found.1 found.2)
     where
       by : (s : ℕ) → s ≤ n → comes value i s ≡ true → Contains (filter (λ j. comes value j 0) alarms ++ by_steps 0 pieces) i
-      by zero high is = append_left (filter (λ j. comes value j 0) alarms) (by_steps 0 pieces) i (filter_has (λ j. comes value j 0) alarms i is (complete.each i here))
-      by (suc s) high is = append_right (filter (λ j. comes value j 0) alarms) (by_steps 0 pieces) i (in_order 0 pieces i (suc s) (omega arith) here is (omega arith) high)
+      by zero high is = Contains-append_left (filter (λ j. comes value j 0) alarms) (by_steps 0 pieces) i (filter_has (λ j. comes value j 0) alarms i is (complete.each i here))
+      by (suc s) high is = Contains-append_right (filter (λ j. comes value j 0) alarms) (by_steps 0 pieces) i (in_order 0 pieces i (suc s) (omega arith) here is (omega arith) high)
 
   whole_below : (pieces : List (List ℕ)) → length pieces ≡ n → (i : ℕ) → Contains (alarms_of (whole_order log value alarms pieces)) i → i < length log.alarms
-  whole_below pieces count i in' = by (append_cases (filter (λ j. comes value j 0) alarms) (by_steps 0 pieces) i (subst (λ xs. Contains xs i) (whole_is pieces) in'))
+  whole_below pieces count i in' = by (Contains-append_cases (filter (λ j. comes value j 0) alarms) (by_steps 0 pieces) i (subst (λ xs. Contains xs i) (whole_is pieces) in'))
     where
       by : Contains (filter (λ j. comes value j 0) alarms) i ⊎ Contains (by_steps 0 pieces) i → i < length log.alarms
       by (inl here) = known i (filter_from (λ j. comes value j 0) alarms i here).1
@@ -276,7 +276,7 @@ module _ (net : Net) (log : Log) (n : ℕ) (value : Name → Bool) (held : LogCl
           match_at i f matching there = rules.alarm_happens net log n value held i f t matching step there
 
       to : (e : ℕ) → Contains (unobservables net piece ++ shown_at net log value alarms t) e → (e < length net.events) × (value (happens e (suc t)) ≡ true)
-      to e in' = by (append_cases (unobservables net piece) (shown_at net log value alarms t) e in')
+      to e in' = by (Contains-append_cases (unobservables net piece) (shown_at net log value alarms t) e in')
         where
           by : Contains (unobservables net piece) e ⊎ Contains (shown_at net log value alarms t) e → (e < length net.events) × (value (happens e (suc t)) ≡ true)
           by (inl a) = (is.exact e).0 (filter_from (λ f. not (is_some (label_of net f))) piece e a).1
@@ -288,9 +288,9 @@ module _ (net : Net) (log : Log) (n : ℕ) (value : Name → Bool) (held : LogCl
           by : (b : Bool) → is_some (label_of net e) ≡ b → Contains (unobservables net piece ++ shown_at net log value alarms t) e
           by true seen =
               let found = has_alarm net log n value held guards e t seen step h.1 in
-              append_right (unobservables net piece) (shown_at net log value alarms t) e
+              Contains-append_right (unobservables net piece) (shown_at net log value alarms t) e
               (mapped_has (event_at net log value t) alarms found.0 e (complete.each found.0 (matching_alarm net log e found.0 found.1)) (has_one t found.0 e step found.1 found.2))
-          by false seen = append_left (unobservables net piece) (shown_at net log value alarms t) e (filter_has (λ f. not (is_some (label_of net f))) piece e (ap not seen) ((is.exact e).1 h))
+          by false seen = Contains-append_left (unobservables net piece) (shown_at net log value alarms t) e (filter_has (λ f. not (is_some (label_of net f))) piece e (ap not seen) ((is.exact e).1 h))
 
       once : EachPair (λ e f. e ≢ f) (unobservables net piece ++ shown_at net log value alarms t)
       once = pairs_append (λ e f. e ≢ f) (unobservables net piece) (shown_at net log value alarms t) (pairs_filter (λ e f. e ≢ f) (λ f. not (is_some (label_of net f))) piece is.once)
@@ -313,7 +313,7 @@ arranged_length net log value alarms t (piece ∷ pieces) = ap suc (arranged_len
 
 weaken : {X : Type 0} (R S : X → X → Type 0) (xs : List X) → ((a b : X) → R a b → S a b) → EachPair R xs → EachPair S xs
 weaken R S [] h each = tt
-weaken R S (x ∷ xs) h each = (all_of (S x) xs (λ y in'. h x y (all_at (R x) xs each.0 y in')), weaken R S xs h each.1)
+weaken R S (x ∷ xs) h each = (all_from (S x) xs (λ y in'. h x y (all_at (R x) xs each.0 y in')), weaken R S xs h each.1)
 
 -- A false alarm is doubtful, and each entry tells what the names say.
 arranged_doubted : (log : Log) (value : Name → Bool) (alarms : List ℕ) (t : ℕ) (pieces : List (List ℕ)) → AllByRecursion (λ entry. may_stand log entry ≡ true) (arranged_order log value alarms t pieces)
@@ -353,7 +353,7 @@ sound_from net log value pieces alarms valid complete kept are held guards = rec
 
     lists : ListsOnce (length log.alarms) (alarms_of (whole_order log value alarms pieces))
     lists = record {
-      below = all_of (λ i. i < length log.alarms) (alarms_of (whole_order log value alarms pieces)) (whole_below net log (length pieces) value held guards alarms complete kept pieces refl);
+      below = all_from (λ i. i < length log.alarms) (alarms_of (whole_order log value alarms pieces)) (whole_below net log (length pieces) value held guards alarms complete kept pieces refl);
       each = whole_each net log (length pieces) value held guards alarms complete kept pieces refl;
       once = weaken (λ a b. (a ≢ b) × (Contains log.pairs (b, a) → ⊥)) (λ a b. a ≢ b) (alarms_of (whole_order log value alarms pieces)) (λ a b h. h.0) goes;
     }
@@ -370,7 +370,7 @@ sound_from net log value pieces alarms valid complete kept are held guards = rec
       complete = lists;
       doubted = whole_doubted log value alarms pieces;
       shown = whole_matched net log (length pieces) value held guards alarms complete kept pieces refl;
-      kept = all_of (λ (pair : ℕ × ℕ). place_in (alarms_of (whole_order log value alarms pieces)) pair.0 < place_in (alarms_of (whole_order log value alarms pieces)) pair.1) log.pairs kept_pair;
+      kept = all_from (λ (pair : ℕ × ℕ). place_in (alarms_of (whole_order log value alarms pieces)) pair.0 < place_in (alarms_of (whole_order log value alarms pieces)) pair.1) log.pairs kept_pair;
     }
 
 pub log_is_sound : LogIsSound

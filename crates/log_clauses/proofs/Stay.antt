@@ -4,14 +4,14 @@ use Rattle.std.specs.Prelude.{bytes_eq}
 use Rattle.std.specs.Option.{option_map_or}
 use Rattle.std.specs.List.{AllByRecursion, list_any, range_with_len}
 use Rattle.std.proofs.lemmas.List.Elements.{filter-append}
+use Rattle.des_base.specs.Lists.{numbers_below}
 use Rattle.des_net.specs.Network.{Net, label_of}
 use Rattle.log_clauses.proofs.Rules.{matching_alarm}
 use Rattle.log_clauses.specs.LogClauses.{chain, doubtful_alarms, match_inputs, matching_events, LogClause, IsLogClause, IsLink, log_clause, chain_closed, takes_rest, uses_up, passes_on, taken_or_passed, not_done_first, stays_done, match_is_done, matched_once, match_is_real, done_by_match, one_match, done_if_asked, before_if_asked, or_false}
 use Rattle.log_order.specs.Log.{Log, Alarm, is_doubtful}
 use Rattle.card_counter.specs.Exclusions.{IsExclusionClause}
 use Rattle.prop_core.specs.VariableNames.{NamedLiteral, yes, no, matches, done, dropped}
-use Rattle.replay.specs.QuestionSize.{is_matching}
-use Rattle.run_clauses.specs.StepClauses.{numbers_below}
+use Rattle.replay.specs.Explanation.{is_matching}
 use Rattle.run_clauses.proofs.Lists.{get_more}
 
 abbrev pub with_alarm : Log → Alarm → Log

@@ -7,7 +7,7 @@ use Rattle.log_clauses.specs.Coded.{opened}
 use Rattle.log_clauses.specs.LogClauses.{chain, LogClause, log_clause, IsLogClause}
 use Rattle.log_clauses.specs.LogTruth.{LogClausesHold}
 use Rattle.prop_core.specs.VariableNames.{Name}
-use Rattle.replay.specs.QuestionSize.{is_matching}
+use Rattle.replay.specs.Explanation.{is_matching}
 
 -- The chain of an event has the new alarm at its end where it may stand for the event, and a pair changes no chain.
 pub record ChainGrows (net : Net) (log : Log) (e : ℕ) : Type 0 where

@@ -4,7 +4,7 @@ use Rattle.des_net.specs.Network.{Net, label_of}
 use Rattle.log_order.specs.Log.{Log, Alarm}
 use Rattle.log_clauses.specs.LogClauses.{chain, match_inputs, LogClause, chain_closed, takes_rest, uses_up, passes_on, taken_or_passed, not_done_first, stays_done, match_is_done, matched_once, match_is_real, done_by_match, one_match, done_if_asked, before_if_asked}
 use Rattle.card_counter.specs.Exclusions.{IsExclusionClause}
-use Rattle.replay.specs.QuestionSize.{is_matching}
+use Rattle.replay.specs.Explanation.{is_matching}
 
 -- one alarm at the end, or one pair
 pub data Addition : Type 0 where

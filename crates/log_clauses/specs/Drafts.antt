@@ -1,6 +1,7 @@
 -- The clauses of an addition to a log as a list, in the order in which loops write them.
 use Rattle.std.specs.Prelude.{◌≡◌, ℕ, suc, Bool, true, false, ◌+◌, ◌*◌, ◌≤◌, List, [], ◌∷◌, ◌++◌, map, flat_map, length}
 use Rattle.std.specs.List.{AllZip}
+use Rattle.des_base.specs.Lists.{numbers_below}
 use Rattle.des_net.specs.Network.{Net}
 use Rattle.des_net.specs.QuestionSize.{observable_count}
 use Rattle.log_order.specs.Log.{Log, Alarm, no_log}
@@ -12,7 +13,6 @@ use Rattle.prop_core.specs.NamedClauses.{IsCode}
 use Rattle.card_counter.specs.Exclusions.{exclusion_list}
 use Rattle.prop_core.specs.VariableNames.{Name, matches, ReadsAs}
 use Rattle.replay.specs.QuestionSize.{question_size}
-use Rattle.run_clauses.specs.StepClauses.{numbers_below}
 
 -- the events that a new alarm may stand for
 abbrev pub taken_events : Net → Log → Alarm → List ℕ

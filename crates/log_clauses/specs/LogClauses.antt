@@ -1,12 +1,12 @@
 -- The clauses of an alarm log in n steps of a network, by name: each alarm stands for one event that can be seen, each such event has one alarm, and pairs don't step back.
 -- Observations beside the clauses of runs are as in Grastien, Anbulagan, Rintanen and Kelareva, "Diagnosis of discrete-event systems using satisfiability algorithms", 2007; the chains, by which a log grows, are our own.
 use Rattle.std.specs.Prelude.{◌≡◌, ℕ, suc, ◌<◌, ◌≤◌, List, [], ◌∷◌, map, filter, length, if◌then◌else◌, Some, slice_get, is_some, Contains, IsTrue}
+use Rattle.des_base.specs.Lists.{numbers_below}
 use Rattle.des_net.specs.Network.{Net, label_of}
 use Rattle.log_order.specs.Log.{Log, is_doubtful}
 use Rattle.card_counter.specs.Exclusions.{ExclusionClause, exclusion_clause, IsExclusionClause}
 use Rattle.prop_core.specs.VariableNames.{Name, NamedLiteral, yes, no, asked, matches, done, closed, dropped, remaining, of_matches}
-use Rattle.replay.specs.QuestionSize.{is_matching}
-use Rattle.run_clauses.specs.StepClauses.{numbers_below}
+use Rattle.replay.specs.Explanation.{is_matching}
 
 -- The chain of an event: the alarms that may stand for it, in the order of the log. An event that happens is passed along its chain until one of these alarms takes it.
 abbrev pub chain : Net → Log → ℕ → List ℕ

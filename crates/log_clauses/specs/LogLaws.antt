@@ -1,17 +1,14 @@
 -- The clauses of a log say what explanations are.
 use Rattle.std.specs.Prelude.{◌≡◌, ◌↔◌, ℕ, suc, ◌<◌, ◌≤◌, Bool, true, false, List, length, count_by, IsTrue, Some, is_some, Contains}
+use Rattle.des_base.specs.Lists.{numbers_below}
 use Rattle.des_net.specs.Network.{Net, label_of}
 use Rattle.des_net.specs.Width.{joined}
 use Rattle.log_order.specs.Log.{Log, ListsOnce, Keeps, IsValidLog}
 use Rattle.log_clauses.specs.Coded.{opened}
 use Rattle.log_clauses.specs.Decoded.{arranged, whole_order, is_false, comes, alarm_at, event_at}
-use Rattle.log_clauses.specs.LogClauses.{LogClause, log_clause}
 use Rattle.log_clauses.specs.LogTruth.{LogClausesHold, GuardsHold, DifferInLog, AgreeOnLog}
-use Rattle.prop_core.specs.NamedClauses.{named_clause_true}
 use Rattle.prop_core.specs.VariableNames.{Name, happens, matches}
-use Rattle.replay.specs.Explanation.{Linearises, Entry, false_count}
-use Rattle.replay.specs.QuestionSize.{is_matching}
-use Rattle.run_clauses.specs.StepClauses.{numbers_below}
+use Rattle.replay.specs.Explanation.{Linearises, Entry, false_count, is_matching}
 use Rattle.run_clauses.specs.Steps.{AreSteps}
 
 -- Without the guards every truth of the events goes with the clauses of each log, all at once.

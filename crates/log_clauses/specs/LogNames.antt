@@ -1,7 +1,8 @@
 -- The names of a log, and their variables, in the order in which additions bring them.
 use Rattle.std.specs.Prelude.{◌≡◌, ◌≢◌, ◌↔◌, ◌⊎◌, ⊤, ℕ, suc, ◌+◌, ◌*◌, ◌<◌, ◌≤◌, Bool, true, if◌then◌else◌, List, [], ◌∷◌, ◌++◌, map, flat_map, length, Some, slice_get, is_some, Contains, IsTrue}
 use Rattle.std.specs.List.{AllByRecursion, AllZip}
-use Rattle.des_base.specs.Lists.{EachPair}
+use Rattle.des_base.specs.ChainCount.{chain_count}
+use Rattle.des_base.specs.Lists.{EachPair, numbers_below}
 use Rattle.des_net.specs.Network.{Net, label_of}
 use Rattle.des_net.specs.QuestionSize.{observable_count}
 use Rattle.log_order.specs.Log.{Log, Alarm, no_log, is_doubtful}
@@ -11,10 +12,10 @@ use Rattle.log_clauses.specs.LogClauses.{chain, matching_events, observable_even
 use Rattle.prop_core.specs.Clauses.{Clause}
 use Rattle.prop_core.specs.VariableNames.{Name, in_state, happens, asked, matches, done, unmatched, closed, dropped, reaches, some_of_first, of_states, of_events, of_matches, NamedLiteral, HasEachOnce, name_of, ReadsAs}
 use Rattle.prop_core.specs.declared.lit.Lit.{Lit}
-use Rattle.replay.specs.QuestionSize.{is_matching, variable_bound}
-use Rattle.card_counter.specs.AtMostOne.{chain_count, IsNamedChain}
+use Rattle.replay.specs.Explanation.{is_matching}
+use Rattle.replay.specs.QuestionSize.{variable_bound}
+use Rattle.card_counter.specs.AtMostOne.{IsNamedChain}
 use Rattle.run_clauses.specs.LaidOut.{laid_out, chain_names}
-use Rattle.run_clauses.specs.StepClauses.{numbers_below}
 
 -- t is the number of one of n steps, counted from 1
 abbrev pub IsStepNumber : ℕ → ℕ → Type 0

@@ -1,11 +1,11 @@
 -- A printed log reads back as an equal log.
 use Rattle.std.proofs.Common.{◌≡◌, ◌+◌, ◌<◌, ◌≤◌, ℕ, zero, suc, Bool, true, false, cond, not, ◌&&◌, List, [], ◌∷◌, ◌++◌, length, Option, Some, None, Ok, refl, arith, ap, sym, ◌∙◌, subst, append_assoc, length-append, map}
-use Rattle.std.specs.Prelude.{IsTrue, bytes_eq, nat_le, nat_lt, option_map, ◌==◌}
+use Rattle.std.specs.Prelude.{IsTrue, bytes_eq, nat_le, option_map, ◌==◌}
 use Rattle.std.specs.List.{AllByRecursion, list_all, list_any}
 use Rattle.std.proofs.lemmas.List.{append-nil}
-use Rattle.std.proofs.lemmas.Slice.Eq.{bytes_eq-Decides}
+use Rattle.des_base.proofs.PlaceLemmas.{none_parts, place_next, text_turned, text_itself}
 use Rattle.des_base.specs.Names.{AreDistinct, IsName, is_name_text, place_of}
-use Rattle.des_base.proofs.BoolLemmas.{is_less, join, less_is, most_is, neither, otherwise}
+use Rattle.des_base.proofs.BoolLemmas.{is_less, join, neither, otherwise, not_most, not_less}
 use Rattle.log_order.specs.Log.{Alarm, AreKnown, Keeps, Log, StandOnce, closes_cycle, has_pair, place_in, reaches, a_log, an_alarm}
 use Rattle.log_order.specs.Adding.{IsAlarm, IsLog, alarm_refusal, before_refusal, most_alarms, most_labels, most_pairs, names_of, with_pair, with_texts}
 use Rattle.log_order.specs.declared.refusal.LogRefusal.{LogRefusal}
@@ -24,21 +24,10 @@ use Rattle.log_csv.proofs.TextLemmas.{HasNames, IsPrintable, alarm_record_of, pa
 
 -- ---- texts that stand once
 
-text_turned : (x y : List ℕ) → bytes_eq x y ≡ false → bytes_eq y x ≡ false
-text_turned x y h = otherwise (bytes_eq y x) (λ e. let alike : bytes_eq x y ≡ true = (bytes_eq-Decides x y).1 (sym ((bytes_eq-Decides y x).0 e)) in cc)
-
-text_itself : (x : List ℕ) → bytes_eq x x ≡ true
-text_itself x = (bytes_eq-Decides x x).1 refl
-
-apart_step : (b : Bool) (o : Option ℕ) → cond b (Some 0) (option_map suc o) ≡ None → (b ≡ false) × (o ≡ None)
-apart_step true o h = cc
-apart_step false None h = (refl, refl)
-apart_step false (Some i) h = cc
-
 -- a text that has no place is none of those that follow
 apart_from : (x : List ℕ) (xs : List (List ℕ)) (y : List ℕ) (ys : List (List ℕ)) → place_of x (xs ++ y ∷ ys) ≡ None → bytes_eq x y ≡ false
-apart_from x [] y ys h = (apart_step (bytes_eq x y) (place_of x ys) h).0
-apart_from x (z ∷ zs) y ys h = apart_from x zs y ys (apart_step (bytes_eq x z) (place_of x (zs ++ y ∷ ys)) h).1
+apart_from x [] y ys h = (none_parts (bytes_eq x y) (place_of x ys) h).0
+apart_from x (z ∷ zs) y ys h = apart_from x zs y ys (none_parts (bytes_eq x z) (place_of x (zs ++ y ∷ ys)) h).1
 
 new_text : (xs : List (List ℕ)) (y : List ℕ) (ys : List (List ℕ)) → AreDistinct (xs ++ y ∷ ys) → list_any (bytes_eq y) xs ≡ false
 new_text [] y ys h = refl
@@ -57,24 +46,21 @@ all_once labels h = once_more [] labels h
 
 -- ---- ids and their places
 
-own_step : (b : Bool) (o : Option ℕ) (k : ℕ) → b ≡ false → o ≡ Some k → cond b (Some 0) (option_map suc o) ≡ Some (suc k)
-own_step b o k h e = rw (h, e) refl
-
 -- the id at a place, by recursion
 id_at : (alarms : List Alarm) (k : ℕ) → k < length alarms → place_of (id_of alarms k) (names_of alarms) ≡ None → ⊥
 id_at [] k l h = omega arith
-id_at (a ∷ as') zero l h = let b = (apart_step (bytes_eq a.name a.name) (place_of a.name (names_of as')) h).0 in let c = text_itself a.name in cc
-id_at (a ∷ as') (suc k) l h = id_at as' k (omega arith) (apart_step (bytes_eq (id_of as' k) a.name) (place_of (id_of as' k) (names_of as')) h).1
+id_at (a ∷ as') zero l h = let b = (none_parts (bytes_eq a.name a.name) (place_of a.name (names_of as')) h).0 in let c = text_itself a.name in cc
+id_at (a ∷ as') (suc k) l h = id_at as' k (omega arith) (none_parts (bytes_eq (id_of as' k) a.name) (place_of (id_of as' k) (names_of as')) h).1
 
 other_id : (x : List ℕ) (alarms : List Alarm) (k : ℕ) → k < length alarms → place_of x (names_of alarms) ≡ None → bytes_eq (id_of alarms k) x ≡ false
 other_id x [] k l h = absurd (omega arith)
-other_id x (a ∷ as') zero l h = text_turned x a.name (apart_step (bytes_eq x a.name) (place_of x (names_of as')) h).0
-other_id x (a ∷ as') (suc k) l h = other_id x as' k (omega arith) (apart_step (bytes_eq x a.name) (place_of x (names_of as')) h).1
+other_id x (a ∷ as') zero l h = text_turned x a.name (none_parts (bytes_eq x a.name) (place_of x (names_of as')) h).0
+other_id x (a ∷ as') (suc k) l h = other_id x as' k (omega arith) (none_parts (bytes_eq x a.name) (place_of x (names_of as')) h).1
 
 own_place : (alarms : List Alarm) (k : ℕ) → AreDistinct (names_of alarms) → k < length alarms → place_of (id_of alarms k) (names_of alarms) ≡ Some k
 own_place [] k d l = absurd (omega arith)
 own_place (a ∷ as') zero d l = ap (λ b. cond b (Some 0) (option_map suc (place_of a.name (names_of as')))) (text_itself a.name)
-own_place (a ∷ as') (suc k) d l = own_step (bytes_eq (id_of as' k) a.name) (place_of (id_of as' k) (names_of as')) k (other_id a.name as' k (omega arith) d.0) (own_place as' k d.1 (omega arith))
+own_place (a ∷ as') (suc k) d l = place_next (bytes_eq (id_of as' k) a.name) (place_of (id_of as' k) (names_of as')) k (other_id a.name as' k (omega arith) d.0) (own_place as' k d.1 (omega arith))
 
 -- ---- what is true of a log's names
 
@@ -156,12 +142,6 @@ new_pair (p ∷ ps) rest i j h =
 limit_free : (d n : Bool) → n ≡ false → ◌≡◌ {A = Option LogRefusal} (cond (not d && n) (Some refused.Limit) None) None
 limit_free true n h = refl
 limit_free false n h = ap (λ b. cond b (Some refused.Limit) None) h
-
-not_most : (a b : ℕ) → b < a → nat_le a b ≡ false
-not_most a b h = otherwise (nat_le a b) (λ e. let k = most_is a b e in omega arith)
-
-not_less : (a b : ℕ) → b ≤ a → nat_lt a b ≡ false
-not_less a b h = otherwise (nat_lt a b) (λ e. let k = less_is a b e in omega arith)
 
 pair_free : (m : ℕ) (pairs : List (ℕ × ℕ)) (i j : ℕ) → i < m → j < m → closes_cycle pairs i j ≡ false → length pairs < most_pairs → before_refusal m pairs i j ≡ None
 unfolding before_refusal

@@ -8,6 +8,7 @@ use Rattle.csv.specs.Reading.{strip_bom}
 use Rattle.csv.specs.Writing.{default_writer, fields_text, is_blank, needs_byte, row_text}
 use Rattle.csv.specs.declared.parser.State.TheVariants as st
 use Rattle.csv.proofs.RoundTrip.{read-write}
+use Rattle.des_base.proofs.Elements.{list_all-put}
 use Rattle.des_base.specs.Names.{is_name_byte, is_name_text}
 use Rattle.des_base.proofs.BoolLemmas.{both, join, most_is, or_left, otherwise, same}
 use Rattle.log_order.specs.Log.{Alarm, Log}
@@ -33,10 +34,6 @@ plain_byte b h = rw (differ is_plain b 44 h refl, differ is_plain b 34 h refl, d
 none_needs : (xs : List ℕ) → list_all is_plain xs ≡ true → list_any (needs_byte default_writer) xs ≡ false
 none_needs [] h = refl
 none_needs (x ∷ xs) h = let parts = both (is_plain x) (list_all is_plain xs) h in rw (plain_byte x parts.0) (none_needs xs parts.1)
-
-all_append : (p : ℕ → Bool) (xs ys : List ℕ) → list_all p xs ≡ true → list_all p ys ≡ true → list_all p (xs ++ ys) ≡ true
-all_append p [] ys h k = k
-all_append p (x ∷ xs) ys h k = let parts = both (p x) (list_all p xs) h in join (p x) (list_all p (xs ++ ys)) parts.0 (all_append p xs ys parts.1 k)
 
 -- ---- names
 
@@ -65,7 +62,7 @@ joined_plain [] h = refl
 joined_plain (x ∷ []) h = name_plain x (both (is_name_text x) true h).0
 joined_plain (x ∷ y ∷ ys) h =
     let parts = both (is_name_text x) (list_all is_name_text (y ∷ ys)) h in
-    all_append is_plain x (124 ∷ join_with_byte 124 (y ∷ ys)) (name_plain x parts.0) (join (is_plain 124) _ bar_plain (joined_plain (y ∷ ys) parts.1))
+    list_all-put is_plain x (124 ∷ join_with_byte 124 (y ∷ ys)) (name_plain x parts.0) (join (is_plain 124) _ bar_plain (joined_plain (y ∷ ys) parts.1))
 
 -- ---- labels
 

@@ -2,6 +2,9 @@
 use Rattle.std.proofs.Common.{◌≡◌, ◌⊎◌, inl, inr, ℕ, zero, suc, ◌+◌, ◌*◌, ◌-◌, ◌<◌, ◌≤◌, ◌∙◌, Bool, true, false, List, [], ◌∷◌, ◌++◌, length, map, filter, find, Option, Some, None, refl, sym, ap, subst, arith, slice_get, slice_index_or, Contains, All, IfSome, ◌==◌, ◌&&◌}
 use Rattle.std.specs.List.{AllByRecursion, range_with_len}
 use Rattle.std.proofs.lemmas.List.Elements.{All-from_recursion}
+use Rattle.des_base.proofs.BoolLemmas.{otherwise}
+use Rattle.des_base.proofs.Elements.{cons_cases, none_in_nil, contains_at, at_place, all_from}
+use Rattle.des_base.specs.Lists.{numbers_below}
 use Rattle.des_base.specs.declared.TheConstants.{VAR_LIMIT}
 use Rattle.des_net.specs.Network.{Net}
 use Rattle.log_order.specs.Log.{no_log, is_doubtful}
@@ -10,9 +13,10 @@ use Rattle.log_clauses.specs.LogClauses.{chain, observable_events, guard_literal
 use Rattle.log_clauses.specs.Decoded.{alarm_at, is_false}
 use Rattle.log_clauses.specs.LogCodes.{IsNamedLog, IsNamedAdded}
 use Rattle.log_clauses.specs.LogNames.{first_names, ReadsInOrder}
-use Rattle.log_clauses.proofs.Lists.{all_of, contains_got, none_in_nil, cons_cases, clash, as_false, filter_has, filter_from, got_contains}
+use Rattle.log_clauses.proofs.Lists.{clash, filter_has, filter_from}
+use Rattle.replay.specs.Explanation.{is_matching}
 use Rattle.run_clauses.proofs.Lists.{in_numbers}
-use Rattle.log_clauses.proofs.Numbered.{ordered_reads}
+use Rattle.log_clauses.proofs.Numbered.{ordered_reads, ordered_literal}
 use Rattle.log_encode.proofs.CodeLemmas.{empty_is_coded, grown_is_coded}
 use Rattle.log_encode.proofs.DraftLemmas.{lifted, asked_named, first_written, alarm_brings}
 use Rattle.log_encode.proofs.EndLemmas.{empty_ends, observables_known, ends_events, ends_count}
@@ -33,12 +37,11 @@ use Rattle.prop_core.specs.declared.lit.Lit.{Lit}
 use Rattle.prop_core.specs.Clauses.{Clause}
 use Rattle.prop_core.specs.NamedClauses.{Appends, IsCode, value_by}
 use Rattle.prop_core.proofs.NameLemmas.{values_match}
-use Rattle.replay.specs.QuestionSize.{question_size, is_matching}
-use Rattle.run_clauses.specs.StepClauses.{numbers_below}
+use Rattle.replay.specs.QuestionSize.{question_size}
 use Rattle.std.specs.Option.{option_map_or}
 use Rattle.std.proofs.lemmas.Bool.{eqb-true, eq-eqb}
 use Rattle.log_encode.specs.declared.alarm_vars.AlarmVars.{AlarmVars}
-use Rattle.prop_core.specs.VariableNames.{Name, NamedLiteral, ReadsAs, name_of, named_literal, named_clause, yes, closed, matches, done, dropped}
+use Rattle.prop_core.specs.VariableNames.{Name, NamedLiteral, ReadsAs, name_of, named_clause, yes, closed, matches, done, dropped}
 
 -- ---- the empty log
 
@@ -50,8 +53,8 @@ pub record IsBeginning (net : Net) (grid : Grid) (asked : ℕ) (chain_ends : Lis
   pub begun : chain_ends ≡ first_ends (suc asked) (observable_events net)
 
 all_known : (net : Net) (grid : Grid) (chain_ends : List ChainEnd) → grid.events ≡ length net.events → map (λ (end : ChainEnd). end.event) chain_ends ≡ observable_events net → AllByRecursion (λ (end : ChainEnd). end.event < grid.events) chain_ends
-all_known net grid chain_ends size are = all_of (λ (end : ChainEnd). end.event < grid.events) chain_ends (λ end here.
-    let got = contains_got chain_ends end here in
+all_known net grid chain_ends size are = all_from (λ (end : ChainEnd). end.event < grid.events) chain_ends (λ end here.
+    let got = at_place chain_ends end here in
     let known = observables_known net chain_ends are got.0 end got.1 in
     omega (arith, known, size))
 
@@ -211,7 +214,7 @@ pub matched_is : (code : CodedLog) (i : ℕ) (alarm : AlarmState) (value : ℕ �
 matched_is code i alarm value e step coded is known from_one within = by (link_of alarm.takes e) refl
   where
     by : (o : Option ℕ) → link_of alarm.takes e ≡ o → option_map_or (λ link. value (match_variable (variables_of code.grid.steps alarm) link (step - 1))) o false ≡ stands_for code value e step i
-    by None at = sym (and_false (is_matching code.net code.log e i) (value_by (code_names code) value (matches i e step)) (as_false (is_matching code.net code.log e i) (λ passes.
+    by None at = sym (and_false (is_matching code.net code.log e i) (value_by (code_names code) value (matches i e step)) (otherwise (is_matching code.net code.log e i) (λ passes.
         link_none 0 alarm.takes e at (subst (λ es. Contains es e) (sym is.events) (filter_has (λ x. is_matching code.net code.log x i) (numbers_below (length code.net.events)) e passes (in_numbers (length code.net.events) e known))))))
       where
         and_false : (a b : Bool) → a ≡ false → a && b ≡ false
@@ -221,7 +224,7 @@ matched_is code i alarm value e step coded is known from_one within = by (link_o
         let found = link_event 0 alarm.takes e link at in
         let place : link ≡ found.0 = omega (arith, found.1) in
         let there : slice_get (matching_events code.net code.log i) found.0 ≡ Some e = subst (λ es. slice_get es found.0 ≡ Some e) is.events found.2 in
-        let passes : is_matching code.net code.log e i ≡ true = (filter_from (λ x. is_matching code.net code.log x i) (numbers_below (length code.net.events)) e (got_contains (matching_events code.net code.log i) found.0 e there)).0 in
+        let passes : is_matching code.net code.log e i ≡ true = (filter_from (λ x. is_matching code.net code.log x i) (numbers_below (length code.net.events)) e (contains_at (matching_events code.net code.log i) found.0 e there)).0 in
         let step_is : suc (step - 1) ≡ step = omega arith in
         let named : name_of (code_names code) (match_variable (variables_of code.grid.steps alarm) link (step - 1)) ≡ Some (matches i e step) =
         subst (λ p. name_of (code_names code) (match_variable (variables_of code.grid.steps alarm) p (step - 1)) ≡ Some (matches i e step)) (sym place)
@@ -372,15 +375,12 @@ draft_of code value labels maybe first width clauses draft same brings wide of a
 
 -- ---- false alarms, and steps
 
-literal_named : (names : List (ℕ × Name)) (l : Lit) (m : NamedLiteral) → name_of names l.var ≡ Some m.name → l.positive ≡ m.positive → named_literal names l ≡ Some m
-literal_named names l m h sign = rw h (λ i. Some (record { name = m.name; positive = sign i }))
-
 clause_named : (names : List (ℕ × Name)) (ls : List Lit) (ms : List NamedLiteral) → ReadsInOrder names ls ms → named_clause names ls ≡ Some ms
 clause_named names [] [] z = refl
 clause_named names [] (m ∷ ms) z = absurd z
 clause_named names (l ∷ ls) [] z = absurd z
 clause_named names (l ∷ ls) (m ∷ ms) z =
-    let here = literal_named names l m z.0.0 z.0.1 in
+    let here = ordered_literal names l m z.0.0 z.0.1 in
     let rest = clause_named names ls ms z.1 in
     rw (here, rest) refl
 

@@ -1,6 +1,8 @@
 -- The names of a log's code as it grows.
 use Rattle.std.proofs.Common.{◌≡◌, ℕ, suc, ◌+◌, ◌*◌, ◌<◌, ◌≤◌, ◌∙◌, Bool, true, false, filter, if◌then◌else◌, List, [], ◌∷◌, ◌++◌, length, map, refl, sym, ap, subst, arith, append_assoc, append-nil, length-append}
 use Rattle.std.specs.List.{AllByRecursion}
+use Rattle.des_base.proofs.Elements.{all_append}
+use Rattle.des_base.specs.Lists.{numbers_below}
 use Rattle.des_base.specs.declared.TheConstants.{VAR_LIMIT}
 use Rattle.des_net.specs.Network.{Net}
 use Rattle.log_order.specs.Log.{Log, Alarm, no_log, is_doubtful, a_log}
@@ -15,10 +17,8 @@ use Rattle.log_clauses.proofs.BesideEvents.{names_join_events}
 use Rattle.log_clauses.proofs.Numbered.{names_begin, names_grow}
 use Rattle.log_encode.proofs.Naming.{row_above}
 use Rattle.log_encode.specs.CodedLog.{CodedLog, names_from, code_names, empty_code, code_after, addition_width, false_literals, IsCodedLog}
-use Rattle.prop_core.proofs.FamilyLemmas.{all_append}
 use Rattle.prop_core.specs.declared.grid.Grid.{Grid}
 use Rattle.prop_core.specs.VariableNames.{Name, done, dropped, yes}
-use Rattle.run_clauses.specs.StepClauses.{numbers_below}
 use Rattle.std.specs.Prelude.{flat_map}
 use Rattle.run_clauses.specs.LaidOut.{laid_out}
 

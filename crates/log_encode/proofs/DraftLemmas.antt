@@ -1,7 +1,9 @@
 -- What is drafted is the code of the addition, and what is written at first that of the empty log.
-use Rattle.std.proofs.Common.{◌≡◌, ◌↔◌, ◌⊎◌, inl, inr, ℕ, zero, suc, ◌+◌, ◌*◌, ◌<◌, ◌≤◌, ◌∙◌, Bool, true, false, List, [], ◌∷◌, ◌++◌, length, map, flat_map, filter, Option, Some, None, refl, sym, ap, subst, arith, slice_get, Contains, length-append, append_assoc}
+use Rattle.std.proofs.Common.{◌≡◌, ℕ, zero, suc, ◌+◌, ◌*◌, ◌<◌, ◌≤◌, ◌∙◌, Bool, true, false, List, [], ◌∷◌, ◌++◌, length, map, flat_map, filter, Option, Some, None, refl, sym, ap, subst, arith, slice_get, length-append, append_assoc}
 use Rattle.std.specs.List.{AllByRecursion, AllZip, range_with_len}
-use Rattle.card_counter.specs.AtMostOne.{chain_count}
+use Rattle.des_base.proofs.Elements.{zip_append}
+use Rattle.des_base.specs.ChainCount.{chain_count}
+use Rattle.des_base.specs.Lists.{numbers_below}
 use Rattle.des_net.specs.Network.{Net}
 use Rattle.log_order.specs.Log.{Log, Alarm, no_log}
 use Rattle.log_clauses.specs.Additions.{alarm_added, pair_added, with_addition}
@@ -10,30 +12,26 @@ use Rattle.log_clauses.specs.LogClauses.{chain, observable_events, chain_closed,
 use Rattle.log_clauses.specs.LogCodes.{IsNamedAdded, IsNamedLog}
 use Rattle.log_clauses.specs.LogNames.{first_names}
 use Rattle.log_clauses.proofs.Drafts.{drafts_are_code, drafts_are_small}
-use Rattle.log_clauses.proofs.Lists.{zip_append, append_cases, append_left, append_right}
 use Rattle.log_clauses.proofs.Codes.{code_begins}
 use Rattle.log_clauses.proofs.Stay.{doubtful_new}
 use Rattle.log_encode.proofs.GrowLemmas.{places, taken_count, get_at, new_vars}
 use Rattle.log_encode.proofs.CodeLemmas.{beside}
-use Rattle.log_encode.proofs.Naming.{named_more, named_at}
 use Rattle.log_encode.proofs.Reading.{zip_flat, zip_count, AreLinkNames, link_reads, AreAlarmNames, done_reads, real_reads, reads_two, reads_three, Reads}
 use Rattle.log_encode.proofs.StayLemmas.{named_still}
 use Rattle.log_encode.proofs.TakenLemmas.{taken_are_events, taken_is_filter}
 use Rattle.log_encode.specs.AlarmVariables.{done_variable}
 use Rattle.log_encode.specs.CodedLog.{CodedLog, code_names, names_from, read_names, code_after, empty_code, nameless, IsCodedLog}
-use Rattle.log_encode.specs.declared.alarm_vars.AlarmVars.{AlarmVars}
 use Rattle.log_encode.specs.declared.taken.ChainEnd.{ChainEnd}
-use Rattle.log_encode.specs.declared.taken.Taken.{Taken}
 use Rattle.log_encode.specs.View.{IsChainEnd, IsRest}
-use Rattle.log_encode.specs.Written.{has_any_label, taken_from, rest_variable, holds, fails, link_written, link_variables, steps_of_link, links_written, matches_at, step_written, ends_written, done_written, dropped_written, real_written, alarm_written, pair_written, closed_written, all_closed_written}
+use Rattle.log_encode.specs.Written.{has_any_label, taken_from, rest_variable, holds, fails, link_written, link_variables, steps_of_link, links_written, done_written, real_written, alarm_written, pair_written, closed_written, all_closed_written}
+use Rattle.prop_core.proofs.NameLemmas.{found_more}
 use Rattle.prop_core.specs.declared.grid.Grid.{Grid}
-use Rattle.prop_core.specs.Clauses.{Clause}
 use Rattle.prop_core.specs.Grids.{grid_variable}
 use Rattle.prop_core.specs.NamedClauses.{IsCode}
 use Rattle.prop_core.specs.VariableNames.{Name, name_of, asked, happens, done, dropped, closed, remaining, some_of_first, of_matches}
 use Rattle.replay.specs.QuestionSize.{question_size}
+use Rattle.run_clauses.proofs.LaidOut.{named_at}
 use Rattle.run_clauses.specs.LaidOut.{laid_out}
-use Rattle.run_clauses.specs.StepClauses.{numbers_below}
 
 -- ---- names behind those of the code
 
@@ -126,7 +124,7 @@ links_read code labels maybe first links before (end ∷ ends) coded grown above
 pub asked_named : (code : CodedLog) → name_of (code_names code) code.asked ≡ Some asked
 asked_named code =
     let here : name_of (laid_out code.asked (first_names code.net)) code.asked ≡ Some asked = subst (λ v. name_of (laid_out code.asked (first_names code.net)) v ≡ Some asked) (omega arith) (named_at code.asked (first_names code.net) 0 asked refl) in
-    named_more (laid_out code.asked (first_names code.net)) (names_from code.net code.grid.steps no_log code.log.alarms code.starts) code.asked asked here
+    found_more (laid_out code.asked (first_names code.net)) (names_from code.net code.grid.steps no_log code.log.alarms code.starts) code.asked asked here
 
 alarm_named : (code : CodedLog) (labels : List (List ℕ)) (maybe : Bool) (first links : ℕ) → IsCodedLog code → IsCodedLog (code_after code (alarm_added (nameless labels maybe)) first) → code.vars ≤ first → length (taken_events code.net code.log (nameless labels maybe)) ≡ links →
     AreAlarmNames (read_names (code_after code (alarm_added (nameless labels maybe)) first)) code.grid.steps (length code.log.alarms) (taken_events code.net code.log (nameless labels maybe)) (new_vars code first links maybe)

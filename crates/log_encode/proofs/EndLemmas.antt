@@ -3,14 +3,17 @@ use Rattle.std.proofs.Common.{◌≡◌, ℕ, zero, suc, ◌+◌, ◌<◌, ◌�
 use Rattle.std.specs.Prelude.{is_some}
 use Rattle.std.specs.List.{AllByRecursion}
 use Rattle.std.proofs.lemmas.List.Elements.{filter-append}
+use Rattle.des_base.proofs.NumbersBelow.{filter_numbers_yes, numbers_more}
+use Rattle.des_base.specs.Lists.{numbers_below}
 use Rattle.des_base.specs.declared.TheConstants.{VAR_LIMIT}
 use Rattle.des_net.specs.Network.{Net, label_of}
 use Rattle.log_clauses.specs.LogClauses.{observable_events}
 use Rattle.log_clauses.specs.LogNames.{first_names}
 use Rattle.log_clauses.proofs.Lists.{filter_from}
+use Rattle.log_encode.proofs.TakenLemmas.{map_count}
+use Rattle.prop_core.proofs.NameLemmas.{found_more}
+use Rattle.run_clauses.proofs.LaidOut.{named_at}
 use Rattle.run_clauses.proofs.Lists.{from_numbers}
-use Rattle.log_encode.proofs.LoopLemmas.{numbers_more}
-use Rattle.log_encode.proofs.Naming.{named_at, named_more}
 use Rattle.log_encode.specs.CodedLog.{empty_code}
 use Rattle.log_encode.specs.declared.taken.ChainEnd.{ChainEnd}
 use Rattle.log_encode.specs.View.{IsChainEnd, AreEnds}
@@ -18,13 +21,9 @@ use Rattle.log_encode.specs.Written.{first_ends, guards_of}
 use Rattle.prop_core.specs.declared.grid.Grid.{Grid}
 use Rattle.prop_core.specs.VariableNames.{closed, name_of}
 use Rattle.run_clauses.specs.LaidOut.{laid_out}
-use Rattle.run_clauses.specs.StepClauses.{numbers_below}
 
 pub filter_more : (p : ℕ → Bool) (k : ℕ) → filter p (numbers_below (k + 1)) ≡ filter p (numbers_below k) ++ filter p (k ∷ [])
 filter_more p k = ap (filter p) (numbers_more k) ∙ filter-append p (numbers_below k) (k ∷ [])
-
-pub filter_true : (p : ℕ → Bool) (k : ℕ) → p k ≡ true → filter p (numbers_below (k + 1)) ≡ filter p (numbers_below k) ++ k ∷ []
-filter_true p k h = let kept : filter p (k ∷ []) ≡ k ∷ [] = rw h refl in filter_more p k ∙ ap (λ xs. filter p (numbers_below k) ++ xs) kept
 
 pub filter_false : (p : ℕ → Bool) (k : ℕ) → p k ≡ false → filter p (numbers_below (k + 1)) ≡ filter p (numbers_below k) ++ []
 filter_false p k h = let left : filter p (k ∷ []) ≡ [] = rw h refl in filter_more p k ∙ ap (λ xs. filter p (numbers_below k) ++ xs) left
@@ -39,7 +38,7 @@ filter_grows p k (suc d) =
 pub filter_below : (p : ℕ → Bool) (k m : ℕ) → k < m → p k ≡ true → length (filter p (numbers_below k)) + 1 ≤ length (filter p (numbers_below m))
 filter_below p k m h passes =
     let more : k + 1 + (m - (k + 1)) ≡ m = omega arith in
-    let one : length (filter p (numbers_below (k + 1))) ≡ length (filter p (numbers_below k)) + 1 = ap length (filter_true p k passes) ∙ length-append (filter p (numbers_below k)) (k ∷ []) in
+    let one : length (filter p (numbers_below (k + 1))) ≡ length (filter p (numbers_below k)) + 1 = ap length (filter_numbers_yes p k passes) ∙ length-append (filter p (numbers_below k)) (k ∷ []) in
     let grows = subst (λ j. length (filter p (numbers_below (k + 1))) ≤ length (filter p (numbers_below j))) more (filter_grows p (k + 1) (m - (k + 1))) in
     omega (arith, one, grows)
 
@@ -63,7 +62,7 @@ ends_named : (net : Net) (grid : Grid) (asked : ℕ) (before events : List ℕ) 
 ends_named net grid asked before [] is = tt
 ends_named net grid asked before (e ∷ events) is = (
   record {
-    closing = named_more (laid_out asked (first_names net)) [] (suc asked + length before) (closed e 0)
+    closing = found_more (laid_out asked (first_names net)) [] (suc asked + length before) (closed e 0)
         (subst (λ v. name_of (laid_out asked (first_names net)) v ≡ Some (closed e 0)) (omega arith) (named_at asked (first_names net) (suc (length before)) (closed e 0) (at before (observable_events net) is)));
     rest = refl;
   },
@@ -101,10 +100,6 @@ observables_known net ends is k end at =
 
 -- ---- the loop that makes them
 
-map_count : {X Y : Type 0} (f : X → Y) (xs : List X) → length (map f xs) ≡ length xs
-map_count f [] = refl
-map_count f (x ∷ xs) = ap suc (map_count f xs)
-
 abbrev seen_below : Net → ℕ → List ℕ
 seen_below net k = filter (λ e. is_some (label_of net e)) (numbers_below k)
 
@@ -122,7 +117,7 @@ pub record AreEndsBelow (net : Net) (asked k next : ℕ) (ends : List ChainEnd) 
 pub one_end_more : (net : Net) (asked k next later : ℕ) (ends new : List ChainEnd) → is_some (label_of net k) ≡ true → AreEndsBelow net asked k next ends → later ≡ next + 1 →
     new ≡ ends ++ record { event = k; closed = next + 1; last = None } ∷ [] → AreEndsBelow net asked (k + 1) later new
 one_end_more net asked k next later ends new seen so_far one is =
-    let more = filter_true (λ e. is_some (label_of net e)) k seen in
+    let more = filter_numbers_yes (λ e. is_some (label_of net e)) k seen in
     let counted : length (seen_below net (k + 1)) ≡ length (seen_below net k) + 1 = ap length more ∙ length-append (seen_below net k) (k ∷ []) in
     let var : next + 1 ≡ suc asked + length (seen_below net k) = omega (arith, so_far.last) in record {
       made = is ∙ ap (λ xs. xs ++ record { event = k; closed = next + 1; last = None } ∷ []) so_far.made

@@ -1,22 +1,24 @@
 -- The ends of chains with a new alarm, and its own variables.
-use Rattle.std.proofs.Common.{◌≡◌, ◌≢◌, ℕ, zero, suc, ◌+◌, ◌*◌, ◌<◌, ◌≤◌, ◌∙◌, Bool, true, false, List, [], ◌∷◌, ◌++◌, length, map, filter, Some, refl, sym, ap, subst, arith, slice_get, length-append, ◌==◌, if◌then◌else◌, append_assoc}
-use Rattle.std.specs.List.{AllByRecursion, range_with_len}
+use Rattle.std.proofs.Common.{◌≡◌, ◌≢◌, ℕ, suc, ◌+◌, ◌*◌, ◌<◌, ◌≤◌, ◌∙◌, Bool, true, false, List, [], ◌∷◌, ◌++◌, length, map, filter, Some, refl, sym, ap, subst, arith, slice_get, length-append, ◌==◌, if◌then◌else◌, append_assoc}
+use Rattle.std.specs.List.{AllByRecursion}
 use Rattle.std.proofs.lemmas.Bool.{eq-eqb, false_from_ne_true, eqb-true}
-use Rattle.des_base.specs.Lists.{EachPair}
+use Rattle.des_base.proofs.Elements.{zip_append}
+use Rattle.des_base.proofs.NumbersBelow.{range_once}
+use Rattle.des_base.specs.ChainCount.{chain_count}
+use Rattle.des_base.specs.Lists.{EachPair, numbers_below}
 use Rattle.des_net.specs.Network.{Net, label_of}
 use Rattle.log_order.specs.Log.{Log, Alarm}
 use Rattle.log_clauses.specs.Additions.{alarm_added, with_addition}
 use Rattle.log_clauses.specs.Drafts.{taken_events}
 use Rattle.log_clauses.specs.LogClauses.{chain, observable_events}
 use Rattle.log_clauses.specs.LogNames.{HasPlaces, ReadsInOrder}
-use Rattle.log_clauses.proofs.Lists.{pairs_filter, zip_append}
+use Rattle.log_clauses.proofs.Lists.{pairs_filter}
 use Rattle.log_clauses.proofs.Numbered.{places_of_names}
 use Rattle.log_clauses.proofs.Stay.{doubtful_new}
 use Rattle.log_encode.proofs.CodeLemmas.{names_with_alarm, raised, false_more}
 use Rattle.log_encode.proofs.StayLemmas.{end_stays, chain_joined, named_still}
 use Rattle.log_encode.proofs.TakenLemmas.{taken_are_events, taken_is_filter, width_is, map_count}
 use Rattle.log_encode.proofs.VariableLemmas.{link_is_small}
-use Rattle.card_counter.specs.AtMostOne.{chain_count}
 use Rattle.log_encode.specs.AlarmVariables.{variable_count, false_width, dropped_variable}
 use Rattle.log_encode.specs.CodedLog.{CodedLog, code_names, code_after, addition_width, nameless, false_literals, IsCodedLog}
 use Rattle.log_encode.specs.declared.alarm_vars.AlarmVars.{AlarmVars}
@@ -27,7 +29,6 @@ use Rattle.log_encode.specs.Written.{has_any_label, taken_from, end_after, ends_
 use Rattle.prop_core.specs.declared.lit.Lit.{Lit}
 use Rattle.prop_core.specs.VariableNames.{Name, NamedLiteral, name_of, yes, closed, remaining, done, dropped}
 use Rattle.std.specs.Prelude.{is_some}
-use Rattle.run_clauses.specs.StepClauses.{numbers_below}
 
 -- each chain whose event has one of the labels gets a link
 abbrev lengthened : Net → List (List ℕ) → AlarmVars → ℕ → List ChainEnd → List ChainEnd
@@ -62,14 +63,6 @@ after_is net labels vars link (end ∷ ends) once = by (has_any_label net labels
         let same : (end.event == end.event) ≡ true = eq-eqb end.event end.event refl in
         rw (is, same) (ap (λ xs. end_after vars link end.event ∷ xs) (later (suc link)))
     by false is later = rw is (untaken vars link end ends (taken_from net labels ends) (taken_others net labels end.event ends once.0) ∙ ap (λ xs. end ∷ xs) (later link))
-
-range_once : (a m : ℕ) → EachPair (λ e f. e ≢ f) (range_with_len a m)
-range_once a zero = tt
-range_once a (suc m) = (others (a + 1) m (omega arith), range_once (a + 1) m)
-  where
-    others : (b k : ℕ) → a < b → AllByRecursion (λ f. a ≢ f) (range_with_len b k)
-    others b zero h = tt
-    others b (suc k) h = (λ same. omega (arith, same, h), others (b + 1) k (omega arith))
 
 pub observables_once : (net : Net) → EachPair (λ e f. e ≢ f) (observable_events net)
 observables_once net = pairs_filter (λ e f. e ≢ f) (λ e. is_some (label_of net e)) (numbers_below (length net.events)) (range_once 0 (length net.events))

@@ -4,22 +4,23 @@ use Rattle.std.specs.List.{AllZip, range_with_len}
 use Rattle.std.proofs.lemmas.List.{length-map}
 use Rattle.std.proofs.lemmas.List.FromFn.{length-range_with_len}
 use Rattle.card_counter.proofs.Listed.{exclusions_read}
-use Rattle.card_counter.specs.AtMostOne.{chain_count, exclusion_clauses, IsNamedChain}
+use Rattle.card_counter.specs.AtMostOne.{exclusion_clauses, IsNamedChain}
 use Rattle.card_counter.specs.Exclusions.{exclusion_list}
+use Rattle.des_base.proofs.Elements.{zip_append}
+use Rattle.des_base.specs.ChainCount.{chain_count}
+use Rattle.des_base.specs.Lists.{numbers_below}
 use Rattle.des_net.specs.Network.{Net}
 use Rattle.log_order.specs.Log.{Log, is_doubtful}
 use Rattle.log_clauses.specs.Drafts.{link_clauses, match_clauses, done_clauses, real_clauses}
 use Rattle.log_clauses.specs.LogClauses.{LogClause, log_clause, matching_events, one_match, match_is_real, not_done_first, done_if_asked, or_false}
-use Rattle.log_clauses.proofs.Lists.{zip_append}
 use Rattle.log_clauses.proofs.Numbered.{ordered_reads, ordered_names}
 use Rattle.log_encode.specs.AlarmVariables.{match_variable, done_variable, chain_variable, dropped_variable}
 use Rattle.log_encode.specs.declared.alarm_vars.AlarmVars.{AlarmVars}
 use Rattle.log_encode.specs.declared.writing.LinkVars.{LinkVars}
-use Rattle.log_encode.specs.Written.{holds, fails, link_written, matches_at, step_written, ends_written, done_written, dropped_written, real_of_link, reals_written, real_written}
+use Rattle.log_encode.specs.Written.{holds, fails, link_written, matches_at, step_written, done_written, dropped_written, real_of_link, reals_written, real_written}
 use Rattle.prop_core.specs.declared.lit.Lit.{Lit}
 use Rattle.prop_core.specs.Clauses.{Clause}
 use Rattle.prop_core.specs.VariableNames.{Name, NamedLiteral, ReadsAs, name_of, yes, no, asked, matches, done, dropped, closed, remaining, of_matches}
-use Rattle.run_clauses.specs.StepClauses.{numbers_below}
 
 -- ---- lists side by side
 

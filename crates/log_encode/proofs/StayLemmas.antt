@@ -1,6 +1,8 @@
 -- What an addition leaves as it was: the alarms, and the ends of chains that it doesn't lengthen.
-use Rattle.std.proofs.Common.{◌≡◌, ℕ, zero, suc, ◌+◌, ◌*◌, ◌<◌, ◌≤◌, ◌∙◌, Bool, true, false, List, [], ◌∷◌, ◌++◌, length, map, filter, Option, Some, None, refl, sym, ap, subst, arith, slice_get, append-nil}
+use Rattle.std.proofs.Common.{◌≡◌, ℕ, zero, suc, ◌+◌, ◌*◌, ◌<◌, ◌≤◌, ◌∙◌, true, false, List, [], ◌∷◌, ◌++◌, length, map, filter, Option, Some, None, refl, sym, ap, subst, arith, slice_get, append-nil}
 use Rattle.std.specs.List.{AllByRecursion}
+use Rattle.des_base.proofs.Elements.{filter_alike}
+use Rattle.des_base.specs.Lists.{numbers_below}
 use Rattle.des_net.specs.Network.{Net}
 use Rattle.log_order.specs.Log.{Log, Alarm, a_log}
 use Rattle.log_clauses.specs.Additions.{alarm_added, pair_added, with_addition}
@@ -8,29 +10,24 @@ use Rattle.log_clauses.specs.LogClauses.{chain, matching_events}
 use Rattle.log_clauses.specs.LogNames.{added_names}
 use Rattle.log_clauses.proofs.Stay.{matching_same, chain_is, doubtful_same}
 use Rattle.log_encode.proofs.CodeLemmas.{names_with_alarm}
-use Rattle.log_encode.proofs.Naming.{named_more}
 use Rattle.log_encode.proofs.TakenLemmas.{suits_new}
 use Rattle.log_encode.specs.AlarmState.{AlarmState}
 use Rattle.log_encode.specs.CodedLog.{CodedLog, code_names, code_after, addition_width, nameless, IsCodedLog}
 use Rattle.log_encode.specs.declared.taken.ChainEnd.{ChainEnd}
 use Rattle.log_encode.specs.View.{IsChainEnd, IsRest, AreEnds, AreFalse, IsAlarm, AreKept, coded_of}
 use Rattle.log_encode.specs.Written.{has_any_label}
+use Rattle.prop_core.proofs.NameLemmas.{found_more}
 use Rattle.prop_core.specs.declared.grid.Grid.{Grid}
 use Rattle.prop_core.specs.declared.lit.Lit.{Lit}
 use Rattle.prop_core.specs.VariableNames.{Name, name_of, closed, remaining}
+use Rattle.replay.specs.Explanation.{is_matching}
 use Rattle.run_clauses.specs.LaidOut.{laid_out}
-use Rattle.run_clauses.specs.StepClauses.{numbers_below}
-use Rattle.replay.specs.QuestionSize.{is_matching}
 
 -- what has a name keeps it
 pub named_still : (code : CodedLog) (new : Alarm) (first var : ℕ) (name : Name) → length code.starts ≡ length code.log.alarms → name_of (code_names code) var ≡ Some name →
     name_of (code_names (code_after code (alarm_added new) first)) var ≡ Some name
 named_still code new first var name same h =
-    subst (λ names. name_of names var ≡ Some name) (sym (names_with_alarm code new first same)) (named_more (code_names code) (laid_out first (added_names code.net code.log code.grid.steps (alarm_added new))) var name h)
-
-filter_alike : (p q : ℕ → Bool) (xs : List ℕ) → ((x : ℕ) → p x ≡ q x) → filter p xs ≡ filter q xs
-filter_alike p q [] same = refl
-filter_alike p q (x ∷ xs) same = rw (same x, filter_alike p q xs same) refl
+    subst (λ names. name_of names var ≡ Some name) (sym (names_with_alarm code new first same)) (found_more (code_names code) (laid_out first (added_names code.net code.log code.grid.steps (alarm_added new))) var name h)
 
 pub matching_still : (net : Net) (log : Log) (new : Alarm) (i : ℕ) → i < length log.alarms → matching_events net (with_addition log (alarm_added new)) i ≡ matching_events net log i
 matching_still net log new i h =

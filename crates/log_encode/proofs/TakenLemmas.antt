@@ -1,10 +1,13 @@
 -- The events that a new alarm may stand for, found among the ends of chains.
-use Rattle.std.proofs.Common.{◌≡◌, ℕ, suc, ◌+◌, ◌*◌, ◌≤◌, ◌∙◌, Bool, true, false, List, [], ◌∷◌, ◌++◌, length, map, filter, Option, Some, None, refl, sym, ap, subst, arith, slice_get, option_map, unwrap_or, length-append}
+use Rattle.std.proofs.Common.{◌≡◌, ℕ, suc, ◌+◌, ◌*◌, ◌≤◌, ◌∙◌, Bool, true, false, List, [], ◌∷◌, ◌++◌, length, map, filter, Option, Some, None, refl, sym, ap, arith, slice_get, option_map, unwrap_or, length-append}
 use Rattle.std.specs.Prelude.{is_some, bytes_eq}
 use Rattle.std.specs.List.{list_any}
 use Rattle.std.specs.Option.{option_map_or}
-use Rattle.card_counter.specs.AtMostOne.{chain_count}
+use Rattle.des_base.proofs.Elements.{filter_alike}
+use Rattle.des_base.specs.ChainCount.{chain_count}
+use Rattle.des_base.specs.Lists.{numbers_below}
 use Rattle.des_net.specs.Network.{Net, label_of}
+use Rattle.log_clauses.proofs.Numbered.{link_size}
 use Rattle.log_order.specs.Log.{Log, Alarm}
 use Rattle.log_clauses.specs.Additions.{alarm_added, with_addition}
 use Rattle.log_clauses.specs.Drafts.{taken_events}
@@ -16,12 +19,11 @@ use Rattle.log_encode.specs.CodedLog.{nameless}
 use Rattle.log_encode.specs.declared.taken.ChainEnd.{ChainEnd}
 use Rattle.log_encode.specs.declared.taken.Taken.{Taken}
 use Rattle.log_encode.specs.Written.{has_any_label, taken_from}
-use Rattle.replay.specs.QuestionSize.{is_matching}
+use Rattle.replay.specs.Explanation.{is_matching}
 use Rattle.run_clauses.specs.LaidOut.{chain_names}
-use Rattle.run_clauses.specs.StepClauses.{numbers_below}
 use Rattle.std.specs.Prelude.{flat_map}
 use Rattle.std.proofs.lemmas.List.FromFn.{length-range_with_len}
-use Rattle.prop_core.specs.VariableNames.{matches, unmatched, done, some_of_first, of_matches}
+use Rattle.prop_core.specs.VariableNames.{done, some_of_first, of_matches}
 
 get_last : (xs : List Alarm) (new : Alarm) → slice_get (xs ++ new ∷ []) (length xs) ≡ Some new
 get_last [] new = refl
@@ -30,10 +32,6 @@ get_last (x ∷ xs) new = get_last xs new
 -- an event suits the new alarm where it has one of its labels
 pub suits_new : (net : Net) (log : Log) (new : Alarm) (e : ℕ) → is_matching net (with_addition log (alarm_added new)) e (length log.alarms) ≡ has_any_label net new.labels e
 suits_new net log new e = ap (λ o. option_map_or (λ label. list_any (bytes_eq label) (unwrap_or (option_map (λ (alarm : Alarm). alarm.labels) o) [])) (label_of net e) false) (get_last log.alarms new)
-
-filter_alike : (p q : ℕ → Bool) (xs : List ℕ) → ((x : ℕ) → p x ≡ q x) → filter p xs ≡ filter q xs
-filter_alike p q [] same = refl
-filter_alike p q (x ∷ xs) same = rw (same x, filter_alike p q xs same) refl
 
 -- what passes the narrower test is sought among what passes the wider
 filter_within : (p q : ℕ → Bool) (xs : List ℕ) → ((x : ℕ) → p x ≡ true → q x ≡ true) → filter p (filter q xs) ≡ filter p xs
@@ -76,11 +74,6 @@ map_count f (x ∷ xs) = ap suc (map_count f xs)
 numbers_count : (k : ℕ) → length (numbers_below k) ≡ k
 numbers_count k = length-range_with_len 0 k
 
-two_each : (n i e k : ℕ) → length (link_names n i e k) ≡ 1 + n * 2
-two_each n i e k =
-    let pairs = flat_length (λ t. matches i e (suc t) ∷ unmatched e (suc k) (suc t) ∷ []) (numbers_below n) 2 (λ t. refl) in
-    omega (arith, pairs, subst (λ m. m * 2 ≡ n * 2) (sym (numbers_count n)) refl)
-
 false_count : (b : Bool) (i : ℕ) → length (false_names b i) ≡ false_width b
 false_count true i = refl
 false_count false i = refl
@@ -94,7 +87,7 @@ pub width_is : (net : Net) (log : Log) (n : ℕ) (labels : List (List ℕ)) (may
     length (added_names net log n (alarm_added (nameless labels maybe))) ≡ variable_count (length takes) n + false_width maybe
 width_is net log n labels maybe takes is =
     let new = nameless labels maybe in
-    let links = flat_length (λ e. link_names n (length log.alarms) e (length (chain net log e))) (taken_events net log new) (1 + n * 2) (λ e. two_each n (length log.alarms) e (length (chain net log e))) in
+    let links = flat_length (λ e. link_names n (length log.alarms) e (length (chain net log e))) (taken_events net log new) (1 + n * 2) (λ e. link_size n (length log.alarms) e (length (chain net log e))) in
     let count : length (taken_events net log new) ≡ length takes = ap length (sym is) ∙ map_count (λ (taken : Taken). taken.event) takes in
     let dones : length (map (λ t. done (length log.alarms) t) (numbers_below (suc n))) ≡ suc n = map_count (λ t. done (length log.alarms) t) (numbers_below (suc n)) ∙ numbers_count (suc n) in
     let whole = length-append (alarm_names net log n new) (match_chains n (length log.alarms) (length (taken_events net log new)) ++ false_names maybe (length log.alarms)) in

@@ -9,7 +9,6 @@ use Rattle.log_clauses.specs.LogCodes.{AreAmong}
 use Rattle.log_clauses.specs.LogNames.{added_names}
 use Rattle.log_clauses.proofs.Codes.{code_grows}
 use Rattle.log_clauses.proofs.Explained.{log_code_is_exact}
-use Rattle.log_clauses.proofs.Lists.{append_cases, append_left, append_right}
 use Rattle.log_encode.proofs.CodeLemmas.{beside, grown_is_coded, names_with_alarm}
 use Rattle.log_encode.proofs.TakenLemmas.{map_count}
 use Rattle.log_encode.specs.CodedLog.{CodedLog, code_names, read_names, code_after, without_names, nameless, IsCodedLog}
@@ -17,22 +16,23 @@ use Rattle.log_encode.specs.WrittenLog.{WrittenGrows, WrittenIsExact, NamesDontM
 use Rattle.prop_core.specs.VariableNames.{Name}
 use Rattle.replay.specs.Explanation.{Entry, alarms_of, real_alarms, Shows, Linearises, observables}
 use Rattle.run_clauses.specs.LaidOut.{laid_out, event_block}
+use Rattle.std.proofs.lemmas.List.Elements.{Contains-append_cases, Contains-append_left, Contains-append_right}
 
 -- the names of a code are among those of a longer one
 names_stay : (code : CodedLog) (addition : Addition) (first : ℕ) → IsCodedLog code → (entry : ℕ × Name) → Contains (code_names code) entry → Contains (code_names (code_after code addition first)) entry
 names_stay code (alarm_added new) first coded entry here =
-    subst (λ names. Contains names entry) (sym (names_with_alarm code new first coded.each)) (append_left (code_names code) (laid_out first (added_names code.net code.log code.grid.steps (alarm_added new))) entry here)
+    subst (λ names. Contains names entry) (sym (names_with_alarm code new first coded.each)) (Contains-append_left (code_names code) (laid_out first (added_names code.net code.log code.grid.steps (alarm_added new))) entry here)
 names_stay code (pair_added i j) first coded entry here = here
 
 among : (code : CodedLog) (addition : Addition) (first : ℕ) → IsCodedLog code → AreAmong (read_names code) (read_names (code_after code addition first))
-among code addition first coded entry here = by (append_cases events (code_names code) entry here)
+among code addition first coded entry here = by (Contains-append_cases events (code_names code) entry here)
   where
     events : List (ℕ × Name)
     events = laid_out code.grid.first (event_block code.grid.steps (length code.net.events))
 
     by : Contains events entry ⊎ Contains (code_names code) entry → Contains (events ++ code_names (code_after code addition first)) entry
-    by (inl event) = append_left events (code_names (code_after code addition first)) entry event
-    by (inr own) = append_right events (code_names (code_after code addition first)) entry (names_stay code addition first coded entry own)
+    by (inl event) = Contains-append_left events (code_names (code_after code addition first)) entry event
+    by (inr own) = Contains-append_right events (code_names (code_after code addition first)) entry (names_stay code addition first coded entry own)
 
 pub written_grows : WrittenGrows
 written_grows code addition draft written is made follows =
@@ -75,7 +75,7 @@ zip_same net log (e ∷ es) (i ∷ is) =
     let rest = zip_same net log es is in
     (λ h. (subst (λ P. P) (shows_same net log e i) h.0, rest.0 h.1), λ h. (subst (λ P. P) (sym (shows_same net log e i)) h.0, rest.1 h.1))
 
-count_same : (log : Log) → length (without_names log).alarms ≡ length log.alarms
+pub count_same : (log : Log) → length (without_names log).alarms ≡ length log.alarms
 count_same log = map_count (λ (a : Alarm). nameless a.labels a.doubtful) log.alarms
 
 stand_same : {p q : Entry → Bool} (order : List Entry) → ((entry : Entry) → IsTrue (p entry) → IsTrue (q entry)) → AllByRecursion (λ entry. IsTrue (p entry)) order → AllByRecursion (λ entry. IsTrue (q entry)) order

@@ -1,6 +1,6 @@
 -- The variables of one alarm, in a row.
 use Rattle.std.specs.Prelude.{ℕ, suc, ◌+◌, ◌*◌, ◌≤◌, Bool, true, false}
-use Rattle.card_counter.specs.AtMostOne.{chain_count}
+use Rattle.des_base.specs.ChainCount.{chain_count}
 use Rattle.des_base.specs.declared.TheConstants.{VAR_LIMIT}
 use Rattle.log_encode.specs.declared.alarm_vars.AlarmVars.{AlarmVars}
 

@@ -1,6 +1,6 @@
 // Where the variables of an alarm stand.
 ghost use Rattle.std.specs.Prelude.{◌≡◌, ◌+◌, ◌<◌, ◌≤◌, true};
-ghost use Rattle.card_counter.specs.AtMostOne.{chain_count};
+ghost use Rattle.des_base.specs.ChainCount.{chain_count};
 ghost use Rattle.des_base.specs.declared.TheConstants.{VAR_LIMIT};
 ghost use Rattle.log_encode.specs.AlarmVariables.{closed_variable, match_variable, passed_variable, done_variable, chain_variable, dropped_variable, alarm_width, false_width, IsWithin};
 

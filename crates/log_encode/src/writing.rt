@@ -1,7 +1,8 @@
 // The clauses of an alarm and of a pair.
 ghost use Rattle.std.specs.Prelude.{◌≡◌, ◌<◌, ◌≤◌, ◌+◌, ◌*◌, ◌++◌, ◌∷◌, [], true, false, length, All, IfOk, OnOk};
+ghost use Rattle.des_base.specs.ChainCount.{chain_count};
 ghost use Rattle.des_base.specs.declared.TheConstants.{VAR_LIMIT};
-ghost use Rattle.card_counter.specs.AtMostOne.{chain_count, exclusion_clauses};
+ghost use Rattle.card_counter.specs.AtMostOne.{exclusion_clauses};
 ghost use Rattle.log_encode.specs.AlarmVariables.{IsWithin, done_variable};
 ghost use Rattle.log_encode.specs.Written.{alarm_written, all_closed_written, closed_written, done_written, dropped_written, ends_written, fails, link_variables, link_written, links_written, matches_at, pair_written, real_of_link, real_written, reals_written, step_written, steps_of_link, HasRest};
 

@@ -1,8 +1,8 @@
 -- Labels that are each there once.
 use Rattle.std.proofs.Common.{◌≡◌, ℕ, suc, ◌+◌, ◌<◌, ◌≤◌, Bool, true, false, cond, ◌||◌, List, [], ◌∷◌, ◌++◌, length, Option, None, Some, refl, arith, ap, length-append}
 use Rattle.std.specs.Prelude.{bytes_eq, option_map, nat_le, nat_lt, is_some}
-use Rattle.std.proofs.lemmas.Bool.Decides.{nat_tests}
 use Rattle.std.specs.List.{list_any}
+use Rattle.des_base.proofs.BoolLemmas.{neither, most_not, less_not}
 use Rattle.des_base.specs.Names.{place_of, AreNames, IsName}
 use Rattle.des_base.proofs.TableLemmas.{AreNames-push}
 use Rattle.log_order.specs.Log.{Log, Alarm, an_alarm}
@@ -79,22 +79,12 @@ new_step None l m h = new_rest (nat_le l 0) (nat_le most_alarms m || nat_lt most
     new_rest false true h = cc
     new_rest false false h = (refl, refl, refl)
 
-neither : (a b : Bool) → (a || b) ≡ false → (a ≡ false) × (b ≡ false)
-neither true b h = cc
-neither false b h = (refl, h)
-
-above : (a b : ℕ) → nat_le a b ≡ false → b < a
-above a b h = grind (arith, nat_tests)
-
-most : (a b : ℕ) → nat_lt a b ≡ false → b ≤ a
-most a b h = grind (arith, nat_tests)
-
 pub IsNewAlarm-from : (log : Log) (name : List ℕ) (labels : List (List ℕ)) → alarm_refusal log name labels ≡ None → IsNewAlarm log name labels
 unfolding alarm_refusal
 IsNewAlarm-from log name labels h =
     let parts = new_step (place_of name (names_of log.alarms)) (length labels) (length log.alarms) h in
     let limits = neither _ _ parts.2 in
-    record { new = parts.0; some = (let k = above _ _ parts.1 in omega arith); few = most _ _ limits.1; room = above _ _ limits.0 }
+    record { new = parts.0; some = (let k = most_not _ _ parts.1 in omega arith); few = less_not _ _ limits.1; room = most_not _ _ limits.0 }
 
 pub names_of-push : (alarms : List Alarm) (alarm : Alarm) → names_of (alarms ++ alarm ∷ []) ≡ names_of alarms ++ alarm.name ∷ []
 names_of-push [] alarm = refl

@@ -3,15 +3,16 @@ use Rattle.std.proofs.Common.{◌≡◌, ℕ, zero, suc, ◌+◌, ◌<◌, Bool,
 use Rattle.std.specs.Prelude.{◌==◌, slice_set}
 use Rattle.std.specs.List.{filter}
 use Rattle.std.proofs.lemmas.List.Filters.{length-filter_both}
-use Rattle.std.specs.List.{AllByRecursion}
+use Rattle.des_base.proofs.Elements.{all_split}
 use Rattle.log_order.specs.Log.{AreKnown, AreOrdered, ListsOnce, StandOnce, place_in, has_pair, reaches}
 use Rattle.log_order.specs.Adding.{with_pair}
 use Rattle.log_order.proofs.Places.{places-from}
 use Rattle.log_order.specs.Precedence.{is_in, is_marked, moved, with_follower, IsKept}
 use Rattle.log_order.proofs.Reaching.{IsClosed, reaches-closed, reaches-itself}
 use Rattle.log_order.proofs.OrderLemmas.{all_append, ListsOnce-push, Keeps-push, AreKnown-more, ListsOnce-moved, Keeps-moved_new, Keeps-cycle, stands-kept}
-use Rattle.des_base.proofs.BoolLemmas.{itself, neither, otherwise, same}
-use Rattle.log_order.proofs.MarkLemmas.{in-push, or_false, or_assoc, differ, eq_suc}
+use Rattle.des_base.proofs.BoolLemmas.{itself, neither, otherwise, same, differ, or_assoc}
+use Rattle.log_order.proofs.MarkLemmas.{in-push, or_false, eq_suc}
+use Rattle.std.proofs.lemmas.Bool.{and_left}
 
 -- ---- a further number
 
@@ -34,10 +35,6 @@ IsKept-push pairs order lists h =
 
 -- ---- a further pair
 
-and_false : (b c : Bool) → b ≡ false → (b && c) ≡ false
-and_false true c e = cc
-and_false false c e = refl
-
 pub has_pair-push : (pairs : List (ℕ × ℕ)) (a b i j : ℕ) → has_pair (pairs ++ (a, b) ∷ []) i j ≡ (has_pair pairs i j || (a == i && b == j))
 has_pair-push [] a b i j = sym (or_false (a == i && b == j) false refl)
 has_pair-push (pair ∷ pairs) a b i j = ap (λ t. (pair.0 == i && pair.1 == j) || t) (has_pair-push pairs a b i j) ∙ or_assoc (pair.0 == i && pair.1 == j) (has_pair pairs i j) (a == i && b == j)
@@ -45,8 +42,8 @@ has_pair-push (pair ∷ pairs) a b i j = ap (λ t. (pair.0 == i && pair.1 == j) 
 follower-set : (lists : List (List ℕ)) (a b i j : ℕ) → a < length lists → is_in (get_or (with_follower lists a b) i []) j ≡ (is_in (get_or lists i []) j || (a == i && b == j))
 follower-set [] a b i j l = absurd (omega arith)
 follower-set (x ∷ xs) zero b zero j l = in-push x b j
-follower-set (x ∷ xs) zero b (suc i) j l = or_false (is_in (get_or xs i []) j) _ (and_false (0 == suc i) (b == j) (differ 0 (suc i) (λ e. omega arith)))
-follower-set (x ∷ xs) (suc a) b zero j l = or_false (is_in x j) _ (and_false (suc a == 0) (b == j) (differ (suc a) 0 (λ e. omega arith)))
+follower-set (x ∷ xs) zero b (suc i) j l = or_false (is_in (get_or xs i []) j) _ (and_left (0 == suc i) (b == j) (differ 0 (suc i) (λ e. omega arith)))
+follower-set (x ∷ xs) (suc a) b zero j l = or_false (is_in x j) _ (and_left (suc a == 0) (b == j) (differ (suc a) 0 (λ e. omega arith)))
 follower-set (x ∷ xs) (suc a) b (suc i) j l = follower-set xs a b i j (omega arith) ∙ ap (λ t. is_in (get_or xs i []) j || (t && b == j)) (eq_suc a i)
 
 length-set : (lists : List (List ℕ)) (a : ℕ) (l : List ℕ) → length (slice_set lists a l) ≡ length lists
@@ -77,10 +74,6 @@ IsKept-as pairs new_pairs order new_order lists new_lists e f g h =
 
 -- ---- orders and cycles
 
-all_parts : {X : Type 0} (P : X → Type 0) (xs ys : List X) → AllByRecursion P (xs ++ ys) → AllByRecursion P xs × AllByRecursion P ys
-all_parts P [] ys h = (tt, h)
-all_parts P (x ∷ xs) ys h = let rest = all_parts P xs ys h.1 in ((h.0, rest.0), rest.1)
-
 pub AreOrdered-from : (pairs : List (ℕ × ℕ)) (order : List ℕ) (lists : List (List ℕ)) → IsKept pairs order lists → AreOrdered (length order) pairs
 AreOrdered-from pairs order lists h = record { known = h.known; order = order; complete = h.listed; kept = h.kept }
 
@@ -100,7 +93,7 @@ AreOrdered-with m pairs i j h l k apart = with_case m pairs i j (has_pair pairs 
 cycle_case : (m : ℕ) (pairs : List (ℕ × ℕ)) (i j : ℕ) (b : Bool) → has_pair pairs i j ≡ b → reaches pairs j i ≡ true → AreOrdered m (cond b pairs (pairs ++ (i, j) ∷ [])) → ⊥
 cycle_case m pairs i j true e r h = Keeps-cycle h.order pairs i j h.kept (places-from h.order i j (stands-kept h.order pairs i j h.kept e)) r
 cycle_case m pairs i j false e r h =
-    let parts = all_parts (λ (pair : ℕ × ℕ). place_in h.order pair.0 < place_in h.order pair.1) pairs ((i, j) ∷ []) h.kept in
+    let parts = all_split (λ (pair : ℕ × ℕ). place_in h.order pair.0 < place_in h.order pair.1) pairs ((i, j) ∷ []) h.kept in
     Keeps-cycle h.order pairs i j parts.0 parts.1.0 r
 
 -- and one that closes a cycle leaves none

@@ -7,15 +7,11 @@ use Rattle.log_order.specs.Log.{ListsOnce, Keeps, AreKnown, AreOrdered, has_pair
 use Rattle.des_base.specs.Lists.{EachPair}
 use Rattle.log_order.specs.Precedence.{is_in, is_marked}
 use Rattle.log_order.specs.Order.{first_below, waits, with_next, taken_first, least_order}
-use Rattle.des_base.proofs.BoolLemmas.{both, join, either, or_left, or_right, not_false, not_true, otherwise, same, itself}
+use Rattle.des_base.proofs.BoolLemmas.{both, join, either, or_left, or_right, not_false, not_true, otherwise, same, itself, neither}
 use Rattle.log_order.proofs.Places.{stands, places-from, stands-append, in_from, in_is}
 use Rattle.log_order.proofs.OrderLemmas.{all_append, each_append, stands-kept}
 use Rattle.log_order.proofs.Reaching.{has_pair-first, has_pair-later}
 use Rattle.log_order.proofs.MarkLemmas.{in-push, marked-set}
-
-neither : (a b : Bool) → (a || b) ≡ false → (a ≡ false) × (b ≡ false)
-neither true b h = cc
-neither false b h = (refl, h)
 
 -- ---- the smallest number
 

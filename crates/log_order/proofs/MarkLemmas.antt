@@ -4,7 +4,7 @@ use Rattle.std.specs.Prelude.{◌==◌, slice_set}
 use Rattle.std.proofs.lemmas.Bool.Decides.{nat_tests}
 use Rattle.std.proofs.lemmas.List.{take_more}
 use Rattle.log_order.specs.Precedence.{is_in, is_marked}
-use Rattle.des_base.proofs.BoolLemmas.{otherwise, same}
+use Rattle.des_base.proofs.BoolLemmas.{differ, or_assoc}
 
 or_true : (b : Bool) → true ≡ (b || true)
 or_true true = refl
@@ -13,13 +13,6 @@ or_true false = refl
 pub or_false : (b k : Bool) → k ≡ false → b ≡ (b || k)
 or_false true k e = refl
 or_false false k e = sym e
-
-pub or_assoc : (a b c : Bool) → (a || (b || c)) ≡ ((a || b) || c)
-or_assoc true b c = refl
-or_assoc false b c = refl
-
-pub differ : (a b : ℕ) → (a ≡ b → ⊥) → (a == b) ≡ false
-differ a b h = otherwise (a == b) (λ e. h (same a b e))
 
 pub eq_suc : (a b : ℕ) → (a == b) ≡ (suc a == suc b)
 eq_suc a b = grind (arith, nat_tests)

@@ -7,7 +7,7 @@ use Rattle.std.proofs.lemmas.List.Elements.{All-from_recursion}
 use Rattle.log_order.specs.Log.{ListsOnce, AreKnown, place_in, has_pair, reaches}
 use Rattle.des_base.specs.Lists.{EachPair}
 use Rattle.log_order.specs.Precedence.{is_in, is_marked, IsKept, IsPassed}
-use Rattle.des_base.proofs.BoolLemmas.{both, either, or_left, or_right, otherwise, same, itself}
+use Rattle.des_base.proofs.BoolLemmas.{both, either, or_left, or_right, otherwise, same, itself, alike}
 use Rattle.log_order.proofs.Places.{places-from}
 use Rattle.log_order.proofs.Reaching.{IsClosed, reaches-least, reaches-closed, reaches-itself}
 use Rattle.log_order.proofs.OrderLemmas.{stands-kept}
@@ -147,11 +147,6 @@ IsPassed-unmarked pairs order lists from marks k x kept h l at none = record {
   sound = h.sound;
   closed = λ i j pair b m. unmarked_case pairs order lists from marks k x kept h l at none i j pair b m (i == x) refl;
 }
-
-alike : (a b : Bool) → (a ≡ true → b ≡ true) → (b ≡ true → a ≡ true) → a ≡ b
-alike true b f g = sym (f refl)
-alike false true f g = g refl
-alike false false f g = refl
 
 pub IsPassed-end : (pairs : List (ℕ × ℕ)) (order : List ℕ) (lists : List (List ℕ)) (from : ℕ) (marks : List Bool) (k : ℕ) → IsKept pairs order lists → IsPassed pairs order from marks k → length order ≤ k → (i : ℕ) → is_marked marks i ≡ reaches pairs from i
 IsPassed-end pairs order lists from marks k kept h l i =

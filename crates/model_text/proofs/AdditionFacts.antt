@@ -1,11 +1,10 @@
 -- What is known where a line adds to a network.
-use Rattle.std.proofs.Common.{◌≡◌, ◌<◌, ◌≤◌, ℕ, Bool, true, false, cond, List, length, Option, None, Some, refl, arith}
+use Rattle.std.proofs.Common.{◌≡◌, ◌<◌, ◌≤◌, ℕ, Bool, true, false, cond, List, length, Option, None, Some, refl}
 use Rattle.std.specs.Prelude.{◌&&◌, ◌||◌, nat_le, nat_lt, slice_get, is_some}
 use Rattle.std.specs.List.{list_all}
 use Rattle.std.specs.Option.{option_map_or}
-use Rattle.std.proofs.lemmas.Bool.Decides.{nat_tests}
 use Rattle.des_base.specs.Names.{place_of}
-use Rattle.des_base.proofs.BoolLemmas.{both, neither}
+use Rattle.des_base.proofs.BoolLemmas.{both, neither, less_is, most_not, less_not}
 use Rattle.des_net.specs.declared.parts.Part.{Part}
 use Rattle.des_net.specs.declared.refusal.BuildRefusal.{BuildRefusal}
 use Rattle.des_net.specs.declared.refusal.BuildRefusal.TheVariants.{Double, Unknown, Limit}
@@ -38,15 +37,6 @@ absent : (o : Option ℕ) → is_some o ≡ false → o ≡ None
 absent None h = refl
 absent (Some k) h = cc
 
-below : (limit n : ℕ) → nat_le limit n ≡ false → n < limit
-below limit n h = grind (arith, nat_tests)
-
-within : (limit n : ℕ) → nat_lt limit n ≡ false → n ≤ limit
-within limit n h = grind (arith, nat_tests)
-
-less : (m n : ℕ) → nat_lt m n ≡ true → m < n
-less m n h = grind (arith, nat_tests)
-
 unlimited : (double past : Bool) → limited double past ≡ None → (double ≡ false) × (past ≡ false)
 unlimited true past h = cc
 unlimited false true h = cc
@@ -59,7 +49,7 @@ pub record FitsComponent (net : Net) (name : List ℕ) : Type 0 where
 pub fits_component : (net : Net) (name : List ℕ) → component_refusal net name ≡ None → FitsComponent net name
 fits_component net name h =
     let parts = unlimited (is_some (place_of name net.component_names)) (nat_le 1000 (length net.components)) h in
-    record { absent = absent (place_of name net.component_names) parts.0; few = below 1000 (length net.components) parts.1 }
+    record { absent = absent (place_of name net.component_names) parts.0; few = most_not 1000 (length net.components) parts.1 }
 
 pub record FitsState (components : List Automaton) (i : ℕ) (name : List ℕ) : Type 0 where
   pub component : Automaton
@@ -72,7 +62,7 @@ state_step : (components : List Automaton) (i : ℕ) (name : List ℕ) (o : Opti
 state_step components i name None at h = cc
 state_step components i name (Some c) at h =
     let parts = unlimited (is_some (place_of name c.state_names)) (nat_le 256 (length c.state_names)) h in
-    record { component = c; at = at; absent = absent (place_of name c.state_names) parts.0; few = below 256 (length c.state_names) parts.1 }
+    record { component = c; at = at; absent = absent (place_of name c.state_names) parts.0; few = most_not 256 (length c.state_names) parts.1 }
 
 pub fits_state : (components : List Automaton) (i : ℕ) (name : List ℕ) → state_refusal components i name ≡ None → FitsState components i name
 unfolding state_refusal
@@ -99,7 +89,7 @@ transition_step components i from action to None at h = cc
 transition_step components i from action to (Some c) at h =
     let parts = known_none (has_trans c from action to) (nat_lt from (length c.state_names) && nat_lt to (length c.state_names)) (nat_le 50000 (trans_count components)) h in
     let ends = both (nat_lt from (length c.state_names)) (nat_lt to (length c.state_names)) parts.1 in
-    record { component = c; at = at; absent = parts.0; source = less from (length c.state_names) ends.0; target = less to (length c.state_names) ends.1; few = below 50000 (trans_count components) parts.2 }
+    record { component = c; at = at; absent = parts.0; source = less_is from (length c.state_names) ends.0; target = less_is to (length c.state_names) ends.1; few = most_not 50000 (trans_count components) parts.2 }
 
 pub fits_transition : (components : List Automaton) (i from : ℕ) (action : List ℕ) (to : ℕ) → trans_refusal components i from action to ≡ None → FitsTransition components i from action to
 unfolding trans_refusal
@@ -122,8 +112,8 @@ fits_event net name parts h =
       absent = absent (place_of name net.event_names) double.0;
       once = double.1;
       known = a.1;
-      few = below 4000 (length net.events) past.0;
-      few_parts = within 16 (length parts) past.1;
+      few = most_not 4000 (length net.events) past.0;
+      few_parts = less_not 16 (length parts) past.1;
     }
 
 -- as many parts by number as by name

@@ -1,7 +1,7 @@
 -- What lines of states and events add.
 use Rattle.std.proofs.Common.{◌≡◌, ℕ, Bool, true, false, List, [], ◌∷◌, length, cond, Option, None, Some, Ok, refl, arith, ap, sym, ◌∙◌, subst}
-use Rattle.std.specs.Prelude.{◌&&◌}
 use Rattle.std.specs.List.{list_all}
+use Rattle.des_base.proofs.BoolLemmas.{join}
 use Rattle.des_base.specs.Names.{is_name_text}
 use Rattle.des_net.specs.declared.parts.Part.{Part}
 use Rattle.des_net.specs.declared.refusal.BuildRefusal.TheVariants.{Unknown}
@@ -27,9 +27,6 @@ grown-homeless_state net name initial h =
     ap (λ refusal. cond (is_name_text name) (unless refusal (change_component (last_place net) (with_state name initial) net)) None) (no_state net.components (last_place net) name h)
     ∙ none_either (is_name_text name)
 
-both : (a b : Bool) → a ≡ true → b ≡ true → (a && b) ≡ true
-both a b h k = cc
-
 named : (net : Net) (name : List ℕ) (label : Option (List ℕ)) (fault : Bool) (parts : List NamedPart) (found : List Part)
     → list_all is_name_text (name ∷ optional_words label) ≡ true → parts_by_name net parts ≡ Some found → event_refusal net name found ≡ None
     → grown net (event name label fault parts) ≡ Some (with_event net name found label fault)
@@ -46,6 +43,6 @@ event_added net new text label fault parts found slice name labelled is named' l
     let well' : event_refusal net text found ≡ None = subst (λ (n : List ℕ). event_refusal net n found ≡ None) named'.0 (subst (λ (ps : List Part). event_refusal net name ps ≡ None) same well) in
     let added' : new ≡ with_event net text found label fault =
     added ∙ ap (λ (n : List ℕ). with_event net n slice labelled fault) named'.0 ∙ ap (λ (ps : List Part). with_event net text ps labelled fault) same ∙ ap (λ (l : Option (List ℕ)). with_event net text found l fault) labels.0 in
-    named net text label fault parts found (both _ _ named'.1 labels.1) is well' ∙ ap Some (sym added')
+    named net text label fault parts found (join _ _ named'.1 labels.1) is well' ∙ ap Some (sym added')
 
 pub ruleset state_lines = (grown-homeless_state)

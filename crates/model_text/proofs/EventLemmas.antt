@@ -1,11 +1,12 @@
 -- The parts of the events that are there keep their numbers when the components grow.
-use Rattle.std.proofs.Common.{◌≡◌, ◌<◌, ℕ, suc, zero, Bool, true, false, List, [], ◌∷◌, ◌++◌, length, Option, None, Some, refl, sym, ◌∙◌, subst, arith}
-use Rattle.std.specs.Prelude.{map, ◌&&◌, nat_lt, slice_get, slice_index_or}
+use Rattle.std.proofs.Common.{◌≡◌, ◌<◌, ℕ, suc, zero, true, false, List, [], ◌∷◌, ◌++◌, length, Option, None, Some, refl, sym, ◌∙◌, subst, arith}
+use Rattle.std.specs.Prelude.{map, nat_lt, slice_get, slice_index_or}
 use Rattle.std.specs.List.{AllByRecursion, list_all}
 use Rattle.std.specs.Option.{option_map_or}
 use Rattle.std.proofs.lemmas.Bool.Decides.{Decides-ltb}
 use Rattle.std.proofs.lemmas.Option.{slice_get_within, get_or_from_slice_get}
 use Rattle.std.proofs.lemmas.List.Elements.{recursion_from_All}
+use Rattle.des_base.proofs.NameLemmas.{and_left, and_right}
 use Rattle.des_net.specs.declared.parts.Part.{Part}
 use Rattle.des_net.specs.Network.{Component as Automaton, no_component}
 use Rattle.des_net.specs.Building.{is_known, IsDraftEvent, AreDraftEvents}
@@ -60,14 +61,6 @@ part_kept names more old new g p k =
     let action : number (slice_index_or new c no_component).action_names p.action ≡ number (slice_index_or old c no_component).action_names p.action =
     number-kept (slice_index_or old c no_component).action_names (slice_index_or new c no_component).action_names (g.actions c k.place) p.action k.action in
     (λ i. record { comp = place i; action = number (slice_index_or new (place i) no_component).action_names p.action }) ∙ (λ i. record { comp = c; action = action i })
-
-and_left : (a b : Bool) → (a && b) ≡ true → a ≡ true
-and_left true b h = refl
-and_left false b h = cc
-
-and_right : (a b : Bool) → (a && b) ≡ true → b ≡ true
-and_right true b h = h
-and_right false b h = cc
 
 parts_kept : (names more : List (List ℕ)) (old new : List Automaton) → ListsGrow names more old new → (ps : List NamedPart) → list_all (is_known old) (map (numbered_part names old) ps) ≡ true
     → map (numbered_part more new) ps ≡ map (numbered_part names old) ps

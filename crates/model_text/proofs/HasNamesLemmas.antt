@@ -4,6 +4,7 @@ use Rattle.std.specs.Prelude.{All, slice_get, slice_set, is_some}
 use Rattle.std.specs.List.{AllByRecursion, list_all}
 use Rattle.std.specs.Option.{option_map_or}
 use Rattle.std.proofs.lemmas.List.Elements.{All-push, All-set, All-nil}
+use Rattle.des_base.proofs.TableLemmas.{each_push}
 use Rattle.des_base.specs.Names.{IsName, is_name_text, place_of}
 use Rattle.des_net.specs.declared.parts.Part.{Part}
 use Rattle.des_net.specs.declared.refusal.BuildRefusal.{BuildRefusal}
@@ -15,13 +16,9 @@ use Rattle.model_text.specs.Growth.{grown, unless, last_place, last_states, grow
 use Rattle.model_text.specs.GrowthLaw.{HasNames, HasNamedParts}
 use Rattle.model_text.proofs.CodeLemmas.{All-slice_get}
 
-names-push : (names : List (List ℕ)) (name : List ℕ) → AllByRecursion IsName names → IsName name → AllByRecursion IsName (names ++ name ∷ [])
-names-push [] name h n = (n, tt)
-names-push (x ∷ xs) name h n = (h.0, names-push xs name h.1 n)
-
 action_step : (action : List ℕ) (actions : List (List ℕ)) (b : Bool) → AllByRecursion IsName actions → IsName action → AllByRecursion IsName (cond b actions (actions ++ action ∷ []))
 action_step action actions true h n = h
-action_step action actions false h n = names-push actions action h n
+action_step action actions false h n = each_push actions action h n
 
 -- a line that is accepted has a name for its new word, and adds this
 accepted : (named : Bool) (refusal : Option BuildRefusal) (m net : Net) → cond named (unless refusal m) None ≡ Some net → (named ≡ true) × (m ≡ net)
@@ -61,13 +58,13 @@ pub HasNames-grown : (net : Net) (line : ModelLine) (now : Net) → HasNames net
 HasNames-grown net (component name) now h e =
     let a = accepted (is_name_text name) (component_refusal net name) (with_component net name) now e in
     subst HasNames a.1 (record {
-      called = names-push net.component_names name h.called a.0;
+      called = each_push net.component_names name h.called a.0;
       components = All-push HasNamedParts net.components no_component h.components (record { states = tt; actions = tt });
     })
 HasNames-grown net (state name initial) now h e =
     let m = change_component (last_place net) (with_state name initial) net in
     let a = accepted (is_name_text name) (state_refusal net.components (last_place net) name) m now e in
-    subst HasNames a.1 (HasNames-change net (last_place net) (with_state name initial) (λ c k. record { states = names-push c.state_names name k.states a.0; actions = k.actions }) h)
+    subst HasNames a.1 (HasNames-change net (last_place net) (with_state name initial) (λ c k. record { states = each_push c.state_names name k.states a.0; actions = k.actions }) h)
 HasNames-grown net (transition from action to) now h e = by_transition net now action (place_of from (last_states net)) (place_of to (last_states net)) h e
 HasNames-grown net (event name label fault parts) now h e = by_event net now name label fault (list_all is_name_text (name ∷ optional_words label)) (parts_by_name net parts) h e
 

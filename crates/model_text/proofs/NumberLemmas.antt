@@ -4,14 +4,10 @@ use Rattle.std.specs.Prelude.{option_map, unwrap_or, bytes_eq, ◌==◌, is_some
 use Rattle.std.specs.List.{AllByRecursion}
 use Rattle.std.proofs.lemmas.Slice.Eq.{bytes_eq-Decides}
 use Rattle.std.proofs.lemmas.Bool.Decides.{Decides-eqb}
+use Rattle.des_base.proofs.BoolLemmas.{alike}
 use Rattle.des_base.specs.Names.{place_of, IsName}
 use Rattle.des_net.specs.Building.{with_action, action_place}
 use Rattle.model_text.specs.ModelNetwork.{number, each_once}
-
-pub same_bool : (a b : Bool) → (a ≡ true → b ≡ true) → (b ≡ true → a ≡ true) → a ≡ b
-same_bool true b f g = sym (f refl)
-same_bool false true f g = g refl
-same_bool false false f g = refl
 
 -- what has a place in one list has the same in the other
 pub record KeepsPlaces (old new : List (List ℕ)) : Type 0 where
@@ -69,7 +65,7 @@ some_equal i j o p a b e = cc
 -- two texts are the same where their places are
 pub bytes_eq-place : (xs : List (List ℕ)) (x y : List ℕ) (i j : ℕ) → place_of x xs ≡ Some i → place_of y xs ≡ Some j → bytes_eq x y ≡ (j == i)
 bytes_eq-place xs x y i j a b =
-    same_bool (bytes_eq x y) (j == i)
+    alike (bytes_eq x y) (j == i)
     (λ e. (Decides-eqb j i).1 (some_equal i j (place_of x xs) (place_of y xs) a b (ap (λ t. place_of t xs) ((bytes_eq-Decides x y).0 e))))
     (λ e. (bytes_eq-Decides x y).1 (text_at x xs i a ∙ ap (λ n. get_or xs n []) (sym ((Decides-eqb j i).0 e)) ∙ sym (text_at y xs j b)))
 

@@ -7,17 +7,18 @@ use Rattle.std.proofs.Math.Bool.{and-true}
 use Rattle.std.proofs.lemmas.Bool.Decides.{Decides-ltb}
 use Rattle.std.proofs.lemmas.Option.{same_Some, slice_get-get_or}
 use Rattle.std.proofs.lemmas.List.Folds.{list_all-append}
+use Rattle.des_base.proofs.PlaceLemmas.{place-within}
 use Rattle.des_base.specs.Names.{place_of, is_name_text}
 use Rattle.des_net.specs.declared.parts.Part.{Part}
 use Rattle.des_net.specs.Network.{Component as Automaton, Net, component_at, no_component}
 use Rattle.des_net.specs.Building.{is_known, repeats}
-use Rattle.des_net.proofs.ComponentLemmas.{place-within}
 use Rattle.model_text.specs.ModelLines.{NamedPart}
 use Rattle.model_text.specs.ModelNetwork.{number, numbered_part}
 use Rattle.model_text.specs.ModelFaults.{stands_in, has_repeated}
 use Rattle.model_text.specs.Growth.{part_of, parts_by_name}
 use Rattle.model_text.specs.GrowthLaw.{HasNames}
 use Rattle.model_text.proofs.NumberLemmas.{bytes_eq-place, number-place, IsName-place}
+use Rattle.std.proofs.lemmas.Bool.{and_right}
 
 -- a part's component is there and has the action
 pub record Found (net : Net) (p : NamedPart) (q : Part) : Type 0 where
@@ -70,14 +71,10 @@ pub all_found : (net : Net) (ps : List NamedPart) (qs : List Part) → parts_by_
 all_found net [] qs e = subst (AllZip (Found net) []) (same_Some [] qs e) tt
 all_found net (p ∷ ps) qs e = all_step net p ps qs (part_of net p) (parts_by_name net ps) refl (λ rest f. all_found net ps rest f) e
 
-and_false : (a b : Bool) → b ≡ false → (a && b) ≡ false
-and_false true b e = e
-and_false false b e = refl
-
 none_step : (a b : Bool) (o : Option Part) (r : Option (List Part)) → (o ≡ None → a ≡ false) → (r ≡ None → b ≡ false)
     → option_and_then (λ y. option_map (λ ys. y ∷ ys) r) o ≡ None → (a && b) ≡ false
 none_step a b None r f g e = ap (λ x. x && b) (f refl)
-none_step a b (Some q) None f g e = and_false a b (g refl)
+none_step a b (Some q) None f g e = and_right a b (g refl)
 none_step a b (Some q) (Some more) f g e = cc
 
 -- where a part isn't found, one isn't known

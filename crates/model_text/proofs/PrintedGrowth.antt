@@ -3,14 +3,14 @@ use Rattle.std.proofs.Common.{◌≡◌, ◌<◌, ◌≤◌, ◌+◌, ◌-◌, �
 use Rattle.std.specs.Prelude.{◌||◌, bytes_eq, nat_le, nat_lt, is_some, option_and_then, option_map}
 use Rattle.std.specs.List.{AllByRecursion, list_all, list_any}
 use Rattle.std.specs.Option.{option_map_or}
-use Rattle.std.proofs.lemmas.Bool.Decides.{nat_tests}
 use Rattle.std.proofs.lemmas.List.{length-map}
 use Rattle.std.proofs.lemmas.List.Elements.{All-get_or, recursion_from_All}
 use Rattle.std.proofs.lemmas.List.Sums.{sum_by-cons, sum_by_push}
 use Rattle.std.proofs.lemmas.Option.{same_Some}
 use Rattle.std.proofs.lemmas.Slice.Eq.{bytes_eq-Decides}
+use Rattle.des_base.proofs.PlaceLemmas.{none_parts, none_join, text_turned, place_next}
 use Rattle.des_base.specs.Names.{AreDistinct, IsName, is_name_text, place_of}
-use Rattle.des_base.proofs.BoolLemmas.{join, otherwise}
+use Rattle.des_base.proofs.BoolLemmas.{join, not_most, not_less}
 use Rattle.des_net.specs.declared.parts.Part.{Part}
 use Rattle.des_net.specs.declared.parts.Trans.{Trans}
 use Rattle.des_net.specs.declared.refusal.BuildRefusal.{BuildRefusal}
@@ -53,48 +53,28 @@ unlimited double past d p = rw (d, p) refl
 none : (o : Option ℕ) → o ≡ None → is_some o ≡ false
 none o h = ap (λ x. is_some x) h
 
-below : (limit n : ℕ) → n < limit → nat_le limit n ≡ false
-below limit n h = grind (arith, nat_tests)
-
-within : (limit n : ℕ) → n ≤ limit → nat_lt limit n ≡ false
-within limit n h = grind (arith, nat_tests)
-
 -- ---- distinct names
 
-absent_parts : (b : Bool) (o : Option ℕ) → cond b (Some 0) (option_map suc o) ≡ None → (b ≡ false) × (o ≡ None)
-absent_parts true o h = cc
-absent_parts false None h = (refl, refl)
-absent_parts false (Some k) h = cc
-
-absent_join : (b : Bool) (o : Option ℕ) → b ≡ false → o ≡ None → cond b (Some 0) (option_map suc o) ≡ None
-absent_join b o h e = rw (h, e) refl
-
-turned : (x y : List ℕ) → bytes_eq x y ≡ false → bytes_eq y x ≡ false
-turned x y h = otherwise (bytes_eq y x) (λ e. let alike : bytes_eq x y ≡ true = (bytes_eq-Decides x y).1 (sym ((bytes_eq-Decides y x).0 e)) in cc)
-
 other_than : (text name : List ℕ) (xs rest : List (List ℕ)) → place_of text (xs ++ name ∷ rest) ≡ None → bytes_eq text name ≡ false
-other_than text name [] rest h = (absent_parts (bytes_eq text name) (place_of text rest) h).0
-other_than text name (x ∷ xs) rest h = other_than text name xs rest (absent_parts (bytes_eq text x) (place_of text (xs ++ name ∷ rest)) h).1
+other_than text name [] rest h = (none_parts (bytes_eq text name) (place_of text rest) h).0
+other_than text name (x ∷ xs) rest h = other_than text name xs rest (none_parts (bytes_eq text x) (place_of text (xs ++ name ∷ rest)) h).1
 
 -- a name isn't among those before it
 new_name : (known : List (List ℕ)) (name : List ℕ) (rest : List (List ℕ)) → AreDistinct (known ++ name ∷ rest) → place_of name known ≡ None
 new_name [] name rest h = refl
-new_name (x ∷ xs) name rest h = absent_join (bytes_eq name x) (place_of name xs) (turned x name (other_than x name xs rest h.0)) (new_name xs name rest h.1)
+new_name (x ∷ xs) name rest h = none_join (bytes_eq name x) (place_of name xs) (text_turned x name (other_than x name xs rest h.0)) (new_name xs name rest h.1)
 
 other_text : (text : List ℕ) (names : List (List ℕ)) (k : ℕ) → k < length names → place_of text names ≡ None → bytes_eq (get_or names k []) text ≡ false
 other_text text [] k l h = absurd (omega arith)
-other_text text (name ∷ names) zero l h = turned text name (absent_parts (bytes_eq text name) (place_of text names) h).0
-other_text text (name ∷ names) (suc k) l h = other_text text names k (omega arith) (absent_parts (bytes_eq text name) (place_of text names) h).1
-
-place_step : (b : Bool) (o : Option ℕ) (k : ℕ) → b ≡ false → o ≡ Some k → cond b (Some 0) (option_map suc o) ≡ Some (suc k)
-place_step b o k h e = rw (h, e) refl
+other_text text (name ∷ names) zero l h = text_turned text name (none_parts (bytes_eq text name) (place_of text names) h).0
+other_text text (name ∷ names) (suc k) l h = other_text text names k (omega arith) (none_parts (bytes_eq text name) (place_of text names) h).1
 
 -- each of distinct names has its own place
 own_place : (names : List (List ℕ)) (k : ℕ) → AreDistinct names → k < length names → place_of (get_or names k []) names ≡ Some k
 own_place [] k distinct l = absurd (omega arith)
 own_place (name ∷ names) zero distinct l = ap (λ b. cond b (Some 0) (option_map suc (place_of name names))) ((bytes_eq-Decides name name).1 refl)
 own_place (name ∷ names) (suc k) distinct l =
-    place_step (bytes_eq (get_or names k []) name) (place_of (get_or names k []) names) k
+    place_next (bytes_eq (get_or names k []) name) (place_of (get_or names k []) names) k
     (other_text name names k (omega arith) distinct.0) (own_place names k distinct.1 (omega arith))
 
 named_at : (names : List (List ℕ)) (k : ℕ) → AllByRecursion IsName names → k < length names → is_name_text (get_or names k []) ≡ true
@@ -116,7 +96,7 @@ with_last net name c = record net { component_names = net.component_names ++ nam
 component_added : (net : Net) (name : List ℕ) → IsName name → place_of name net.component_names ≡ None → length net.components < 1000 → grown net (component name) ≡ Some (with_last net name no_component)
 component_added net name n absent few =
     adds (is_name_text name) (component_refusal net name) (with_component net name) n
-    (unlimited (is_some (place_of name net.component_names)) (nat_le 1000 (length net.components)) (none (place_of name net.component_names) absent) (below 1000 (length net.components) few))
+    (unlimited (is_some (place_of name net.component_names)) (nat_le 1000 (length net.components)) (none (place_of name net.component_names) absent) (not_most 1000 (length net.components) few))
 
 state_added : (net : Net) (name : List ℕ) (c : Automaton) (text : List ℕ) (mark : Bool) → IsName text → place_of text c.state_names ≡ None → length c.state_names < 256
     → grown (with_last net name c) (state text mark) ≡ Some (with_last net name (with_state text mark c))
@@ -125,7 +105,7 @@ state_added net name c text mark n absent few =
     let at = length all - 1 in
     adds (is_name_text text) (state_refusal all at text) (change_component at (with_state text mark) (with_last net name c)) n
     (state_refusal-at all at text c (slice_get-last net.components c)
-    ∙ unlimited (is_some (place_of text c.state_names)) (nat_le 256 (length c.state_names)) (none (place_of text c.state_names) absent) (below 256 (length c.state_names) few))
+    ∙ unlimited (is_some (place_of text c.state_names)) (nat_le 256 (length c.state_names)) (none (place_of text c.state_names) absent) (not_most 256 (length c.state_names) few))
     ∙ ap (λ cs. Some (record (with_last net name c) { components = cs })) (change_at-last net.components c (with_state text mark))
 
 -- a component with states alone
@@ -184,7 +164,7 @@ transition_added net name c earlier known t f few =
     (λ i. cond (is_name_text action) (grown_by_transition whole action (source i) (target i)) None)
     ∙ adds (is_name_text action) (trans_refusal all at t.from action t.to) (change_component at (with_trans t.from action t.to) whole) f.named
     (trans_refusal-at all at t.from action t.to p (slice_get-last net.components p) f.inside.from f.inside.to
-    ∙ unlimited (has_trans p t.from action t.to) (nat_le 50000 (trans_count all)) f.absent (below 50000 (trans_count all) (omega (arith, count_last net.components p))))
+    ∙ unlimited (has_trans p t.from action t.to) (nat_le 50000 (trans_count all)) f.absent (not_most 50000 (trans_count all) (omega (arith, count_last net.components p))))
     ∙ ap (λ cs. Some (record whole { components = cs })) (change_at-last net.components p (with_trans t.from action t.to))
     ∙ (λ i. Some (with_last net name (partial c (earlier ++ record { from = t.from; action = f.place i; to = t.to } ∷ []) (with_action action known))))
 
@@ -296,7 +276,7 @@ module _ (net : Net) (d : IsDraft net) where
       (event_refusal-known now name e.parts draft.known
       ∙ unlimited (is_some (place_of name names) || repeats e.parts) (nat_le 4000 (length events) || nat_lt 16 (length e.parts))
       (either (is_some (place_of name names)) (repeats e.parts) (none (place_of name names) absent) draft.once)
-      (either (nat_le 4000 (length events)) (nat_lt 16 (length e.parts)) (below 4000 (length events) few) (within 16 (length e.parts) draft.few)))
+      (either (nat_le 4000 (length events)) (nat_lt 16 (length e.parts)) (not_most 4000 (length events) few) (not_less 16 (length e.parts) draft.few)))
 
   events_grow : (before : List (List ℕ)) (earlier : List Happening) (names : List (List ℕ)) (events : List Happening) → length names ≡ length events → AllByRecursion IsName names → AreDistinct (before ++ names)
       → length earlier + length events ≤ 4000 → AllByRecursion (IsEvent net.components) events → AllByRecursion (IsDraftEvent net.components) events → AllByRecursion HasNamedLabel events

@@ -1,15 +1,14 @@
 -- A printed line is cut into its tokens again, and says what it was printed for.
-use Rattle.std.proofs.Common.{◌≡◌, ◌<◌, ◌+◌, ◌-◌, ℕ, zero, suc, Bool, true, false, List, [], ◌∷◌, ◌++◌, length, map, get_or, take, cond, Option, None, Some, refl, arith, ap, sym, ◌∙◌, subst, append_assoc}
+use Rattle.std.proofs.Common.{◌≡◌, ◌<◌, ◌+◌, ◌-◌, ℕ, Bool, true, false, List, [], ◌∷◌, ◌++◌, length, map, Option, None, Some, refl, arith, ap, sym, ◌∙◌, subst, append_assoc}
 use Rattle.std.proofs.lemmas.Bool.Decides.{nat_tests}
 use Rattle.std.proofs.lemmas.List.Elements.{All-nil, All-cons}
-use Rattle.std.proofs.lemmas.List.Splits.{slice_split_at, slice_split_none, length-slice_split}
+use Rattle.std.proofs.lemmas.List.Splits.{slice_split_at, slice_split_none}
 use Rattle.std.proofs.lemmas.List.Folds.{list_all-append}
-use Rattle.std.specs.Prelude.{◌&&◌, ◌==◌, nat_lt, nat_le, All, codes, filter, option_and_then, option_map, ⊤}
-use Rattle.std.specs.List.{join_with_byte, list_all, slice_split}
-use Rattle.std.specs.Str.Lines.{strip_carriage_return}
-use Rattle.des_base.proofs.BoolLemmas.{both, join, most_is}
-use Rattle.des_base.proofs.LawLemmas.{tokens_are_pieces}
-use Rattle.des_base.specs.CountedLines.{is_blank, text_lines, without_empty_last, NumberedLine, numbered, numbered_from, counted_from, is_counted, tokens_of}
+use Rattle.std.specs.Prelude.{◌&&◌, ◌==◌, nat_lt, All, codes, option_and_then, option_map}
+use Rattle.std.specs.List.{join_with_byte, list_all}
+use Rattle.des_base.proofs.BoolLemmas.{both, join}
+use Rattle.des_base.proofs.PrintedLines.{word_byte, line_byte, IsWord, AreWords, AreWords-append, tokens_of-word, tokens_of-last, word_in_line, counted_from-line, name_text, name_word}
+use Rattle.des_base.specs.CountedLines.{NumberedLine, numbered, counted_from, is_counted, tokens_of}
 use Rattle.des_base.specs.Names.{is_name_byte, is_name_text}
 use Rattle.model_text.specs.ModelLines.{ModelLine, component, state, transition, event, NamedPart, after_flags, event_line, model_line, part_of_pieces, part_of_token, parts_of_tokens}
 use Rattle.model_text.specs.ModelFaults.{optional_words, words_of}
@@ -17,48 +16,6 @@ use Rattle.model_text.specs.PrintedModel.{fault_tokens, label_tokens, line_text,
 use Rattle.model_text.proofs.DraftSteps.{HasParts}
 
 -- ---- words
-
--- a byte of a word, and one of a line of words
-abbrev word_byte : ℕ → Bool
-word_byte byte = nat_lt 32 byte
-
-abbrev line_byte : ℕ → Bool
-line_byte byte = nat_le 32 byte
-
-record IsWord (word : List ℕ) : Type 0 where
-  some : 0 < length word
-  bytes : list_all word_byte word ≡ true
-
-abbrev AreWords : List (List ℕ) → Type 0
-AreWords [] = ⊤
-AreWords (word ∷ words) = IsWord word × AreWords words
-
-AreWords-append : (xs ys : List (List ℕ)) → AreWords xs → AreWords ys → AreWords (xs ++ ys)
-AreWords-append [] ys h k = k
-AreWords-append (x ∷ xs) ys h k = (h.0, AreWords-append xs ys h.1 k)
-
-not_blank : (byte : ℕ) → word_byte byte ≡ true → is_blank byte ≡ false
-not_blank byte h = grind (arith, nat_tests)
-
-none_blank : (word : List ℕ) → list_all word_byte word ≡ true → All (λ byte. is_blank byte ≡ false) word
-none_blank [] h = All-nil (λ byte. is_blank byte ≡ false)
-none_blank (c ∷ cs) h = let parts = both (word_byte c) (list_all word_byte cs) h in All-cons (λ byte. is_blank byte ≡ false) c cs (not_blank c parts.0) (none_blank cs parts.1)
-
-kept_step : (n : ℕ) (word : List ℕ) (words : List (List ℕ)) → 0 < n → cond (nat_lt 0 n) (word ∷ words) words ≡ word ∷ words
-kept_step n word words h = grind (arith, nat_tests)
-
-tokens_of-word : (word rest : List ℕ) → IsWord word → tokens_of (word ++ 32 ∷ rest) ≡ word ∷ tokens_of rest
-tokens_of-word word rest h =
-    tokens_are_pieces (word ++ 32 ∷ rest)
-    ∙ ap (filter (λ piece. nat_lt 0 (length piece))) (slice_split_at is_blank word 32 rest (none_blank word h.bytes) refl)
-    ∙ kept_step (length word) word (filter (λ piece. nat_lt 0 (length piece)) (slice_split is_blank rest)) h.some
-    ∙ ap (λ words. word ∷ words) (sym (tokens_are_pieces rest))
-
-tokens_of-last : (word : List ℕ) → IsWord word → tokens_of word ≡ word ∷ []
-tokens_of-last word h =
-    tokens_are_pieces word
-    ∙ ap (filter (λ piece. nat_lt 0 (length piece))) (slice_split_none is_blank word (none_blank word h.bytes))
-    ∙ kept_step (length word) word [] h.some
 
 -- words with single spaces between them are cut into the words
 tokens_of-joined : (words : List (List ℕ)) → AreWords words → tokens_of (join_with_byte 32 words) ≡ words
@@ -68,13 +25,6 @@ tokens_of-joined (word ∷ next ∷ words) h = tokens_of-word word (join_with_by
 
 -- ---- lines
 
-of_a_line : (byte : ℕ) → word_byte byte ≡ true → line_byte byte ≡ true
-of_a_line byte h = grind (arith, nat_tests)
-
-word_in_line : (word : List ℕ) → list_all word_byte word ≡ true → list_all line_byte word ≡ true
-word_in_line [] h = refl
-word_in_line (c ∷ cs) h = let parts = both (word_byte c) (list_all word_byte cs) h in join (line_byte c) (list_all line_byte cs) (of_a_line c parts.0) (word_in_line cs parts.1)
-
 joined_bytes : (words : List (List ℕ)) → AreWords words → list_all line_byte (join_with_byte 32 words) ≡ true
 joined_bytes [] h = refl
 joined_bytes (word ∷ []) h = word_in_line word h.0.bytes
@@ -82,75 +32,14 @@ joined_bytes (word ∷ next ∷ words) h =
     list_all-append line_byte word (32 ∷ join_with_byte 32 (next ∷ words))
     ∙ join (list_all line_byte word) (list_all line_byte (32 ∷ join_with_byte 32 (next ∷ words))) (word_in_line word h.0.bytes) (joined_bytes (next ∷ words) h.1)
 
-not_feed : (byte : ℕ) → line_byte byte ≡ true → (byte == 10) ≡ false
-not_feed byte h = grind (arith, nat_tests)
-
-no_feed : (line : List ℕ) → list_all line_byte line ≡ true → All (λ byte. (byte == 10) ≡ false) line
-no_feed [] h = All-nil (λ byte. (byte == 10) ≡ false)
-no_feed (c ∷ cs) h = let parts = both (line_byte c) (list_all line_byte cs) h in All-cons (λ byte. (byte == 10) ≡ false) c cs (not_feed c parts.0) (no_feed cs parts.1)
-
-not_return : (byte : ℕ) → line_byte byte ≡ true → (byte == 13) ≡ false
-not_return byte h = grind (arith, nat_tests)
-
-no_return_at : (line : List ℕ) (k : ℕ) → list_all line_byte line ≡ true → (get_or line k 0 == 13) ≡ false
-no_return_at [] k h = refl
-no_return_at (c ∷ cs) zero h = not_return c (both (line_byte c) (list_all line_byte cs) h).0
-no_return_at (c ∷ cs) (suc k) h = no_return_at cs k (both (line_byte c) (list_all line_byte cs) h).1
-
-strip_step : (b : Bool) (shorter line : List ℕ) → b ≡ false → cond b shorter line ≡ line
-strip_step true shorter line h = cc
-strip_step false shorter line h = refl
-
-strip_none : (line : List ℕ) → list_all line_byte line ≡ true → strip_carriage_return line ≡ line
-strip_none line h = strip_step (get_or line (length line - 1) 0 == 13) (take (length line - 1) line) line (no_return_at line (length line - 1) h)
-
-more_pieces : (piece : List ℕ) (pieces : List (List ℕ)) → 0 < length pieces → without_empty_last (piece ∷ pieces) ≡ piece ∷ without_empty_last pieces
-more_pieces piece [] h = absurd (omega arith)
-more_pieces piece (next ∷ pieces) h = refl
-
-text_lines-line : (line rest : List ℕ) → list_all line_byte line ≡ true → text_lines (line ++ 10 ∷ rest) ≡ line ∷ text_lines rest
-text_lines-line line rest h =
-    ap (λ pieces. map strip_carriage_return (without_empty_last pieces)) (slice_split_at (λ byte. byte == 10) line 10 rest (no_feed line h) refl)
-    ∙ ap (map strip_carriage_return) (more_pieces line (slice_split (λ byte. byte == 10) rest) (omega (arith, length-slice_split (λ byte. byte == 10) rest)))
-    ∙ ap (λ first. first ∷ text_lines rest) (strip_none line h)
-
-counted_step : (b : Bool) (n : ℕ) (line : List ℕ) (lines : List NumberedLine) → b ≡ true → cond b (numbered n line ∷ lines) lines ≡ numbered n line ∷ lines
-counted_step true n line lines h = refl
-counted_step false n line lines h = cc
-
--- a line of printed bytes that counts is the first line
-pub counted_from-line : (n : ℕ) (line rest : List ℕ) → list_all line_byte line ≡ true → is_counted 35 line ≡ true → counted_from 35 n (line ++ 10 ∷ rest) ≡ numbered n line ∷ counted_from 35 (n + 1) rest
-counted_from-line n line rest h counts =
-    ap (λ lines. filter (λ line. is_counted 35 line.text) (numbered_from n lines)) (text_lines-line line rest h)
-    ∙ counted_step (is_counted 35 line) n line (counted_from 35 (n + 1) rest) counts
-
 -- ---- names
 
-record IsNameText (text : List ℕ) : Type 0 where
-  some : 0 < length text
-  bytes : list_all is_name_byte text ≡ true
-
-name_text : (text : List ℕ) → is_name_text text ≡ true → IsNameText text
-unfolding is_name_text
-name_text text h =
-    let outer = both (nat_le 1 (length text) && nat_le (length text) 64) (list_all is_name_byte text) h in
-    let inner = both (nat_le 1 (length text)) (nat_le (length text) 64) outer.0 in
-    record { some = let some = most_is 1 (length text) inner.0 in omega arith; bytes = outer.1 }
-
-word_of_name : (c : ℕ) → is_name_byte c ≡ true → word_byte c ≡ true
-unfolding is_name_byte
-word_of_name c h = grind (arith, nat_tests)
+named_word : (text : List ℕ) → is_name_text text ≡ true → IsWord text
+named_word text h = name_word text (name_text text h)
 
 no_dot_byte : (c : ℕ) → is_name_byte c ≡ true → (c == 46) ≡ false
 unfolding is_name_byte
 no_dot_byte c h = grind (arith, nat_tests)
-
-words_of_name : (text : List ℕ) → list_all is_name_byte text ≡ true → list_all word_byte text ≡ true
-words_of_name [] h = refl
-words_of_name (c ∷ cs) h = let parts = both (is_name_byte c) (list_all is_name_byte cs) h in join (word_byte c) (list_all word_byte cs) (word_of_name c parts.0) (words_of_name cs parts.1)
-
-name_word : (text : List ℕ) → is_name_text text ≡ true → IsWord text
-name_word text h = let n = name_text text h in record { some = n.some; bytes = words_of_name text n.bytes }
 
 no_dot : (text : List ℕ) → list_all is_name_byte text ≡ true → All (λ byte. (byte == 46) ≡ false) text
 no_dot [] h = All-nil (λ byte. (byte == 46) ≡ false)
@@ -166,8 +55,8 @@ part_said p h k =
 
 part_word : (p : NamedPart) → is_name_text p.component ≡ true → is_name_text p.action ≡ true → IsWord (part_token p)
 part_word p h k =
-    let c = name_word p.component h in
-    let a = name_word p.action k in
+    let c = named_word p.component h in
+    let a = named_word p.action k in
     let bytes : list_all word_byte (p.component ++ (46 ∷ p.action)) ≡ true = list_all-append word_byte p.component (46 ∷ p.action) ∙ join (list_all word_byte p.component) (list_all word_byte (46 ∷ p.action)) c.bytes a.bytes in
     subst IsWord (sym (append_assoc p.component (46 ∷ []) p.action)) (record { some = longer p.component (46 ∷ p.action) c.some; bytes = bytes })
   where
@@ -226,24 +115,24 @@ mark_words true = (keyword_word (codes "init") refl refl, tt)
 
 label_words : (label : Option (List ℕ)) → list_all is_name_text (optional_words label) ≡ true → AreWords (label_tokens label)
 label_words None h = tt
-label_words (Some label) h = (keyword_word (codes "alarm") refl refl, (name_word label (one_name label h), tt))
+label_words (Some label) h = (keyword_word (codes "alarm") refl refl, (named_word label (one_name label h), tt))
 
 fault_words : (fault : Bool) → AreWords (fault_tokens fault)
 fault_words false = tt
 fault_words true = (keyword_word (codes "fault") refl refl, tt)
 
 line_words : (line : ModelLine) → list_all is_name_text (words_of line) ≡ true → AreWords (tokens_of_line line)
-line_words (component name) h = (keyword_word (codes "component") refl refl, (name_word name (one_name name h), tt))
-line_words (state name initial) h = (keyword_word (codes "state") refl refl, (name_word name (one_name name h), mark_words initial))
+line_words (component name) h = (keyword_word (codes "component") refl refl, (named_word name (one_name name h), tt))
+line_words (state name initial) h = (keyword_word (codes "state") refl refl, (named_word name (one_name name h), mark_words initial))
 line_words (transition from action to) h =
     let a = both (is_name_text from) (is_name_text action && (is_name_text to && true)) h in
     let b = both (is_name_text action) (is_name_text to && true) a.1 in
-    (keyword_word (codes "trans") refl refl, (name_word from a.0, (name_word action b.0, (name_word to (one_name to b.1), tt))))
+    (keyword_word (codes "trans") refl refl, (named_word from a.0, (named_word action b.0, (named_word to (one_name to b.1), tt))))
 line_words (event name label fault parts) h =
     let n = event_names name label fault parts h in (
       keyword_word (codes "event") refl refl,
       (
-        name_word name n.name,
+        named_word name n.name,
         AreWords-append (label_tokens label) (fault_tokens fault ++ codes ":" ∷ map part_token parts) (label_words label n.label)
             (AreWords-append (fault_tokens fault) (codes ":" ∷ map part_token parts) (fault_words fault) (keyword_word (codes ":") refl refl, part_words parts n.components n.actions)),
       ),
@@ -291,6 +180,6 @@ unfolding line_text
 printed_line n line rest some h =
     let words = line_words line h in (
       ap (counted_from 35 n) (append_assoc (join_with_byte 32 (tokens_of_line line)) (10 ∷ []) rest)
-          ∙ counted_from-line n (join_with_byte 32 (tokens_of_line line)) rest (joined_bytes (tokens_of_line line) words) (line_counts line),
+          ∙ counted_from-line 35 n (join_with_byte 32 (tokens_of_line line)) rest (joined_bytes (tokens_of_line line) words) (line_counts line),
       ap model_line (tokens_of-joined (tokens_of_line line) words) ∙ line_said line some h,
     )

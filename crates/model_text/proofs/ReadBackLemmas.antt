@@ -3,6 +3,7 @@ use Rattle.std.proofs.Common.{◌≡◌, ◌<◌, ◌+◌, ℕ, Bool, true, fals
 use Rattle.std.specs.Prelude.{⊤, codes, IsSome, bytes_eq, option_and_then, option_map, slice_index}
 use Rattle.std.specs.List.{AllZip, cons_option, flat_map, list_all}
 use Rattle.std.proofs.lemmas.Option.{same_Some}
+use Rattle.des_base.proofs.PrintedLines.{counted_from-line}
 use Rattle.des_base.specs.CountedLines.{NumberedLine, counted_from, counted_lines, numbered, tokens_of}
 use Rattle.des_base.specs.Names.{is_name_text, place_by}
 use Rattle.des_net.specs.Network.{Net, IsNetwork}
@@ -24,7 +25,7 @@ use Rattle.model_text.proofs.DraftSteps.{HasParts, IsDraft-grown}
 use Rattle.model_text.proofs.HasNamesLemmas.{HasNames-grown, HasNames-none}
 use Rattle.model_text.proofs.LawLemmas.{lines_grow}
 use Rattle.model_text.proofs.PrintedGrowth.{AllGrow, network_grows}
-use Rattle.model_text.proofs.PrintedWords.{Says, counted_from-line, printed_line}
+use Rattle.model_text.proofs.PrintedWords.{Says, printed_line}
 use Rattle.model_text.proofs.ReadOrder.{IsAsRead-grown, IsAsRead-none}
 
 -- ---- the printed lines have no code
@@ -80,7 +81,7 @@ said_lines (line ∷ lines) [] s = absurd s
 said_lines (line ∷ lines) (l ∷ ls) s = ap (λ o. cons_option o (model_lines lines)) s.0 ∙ ap (λ rest. l ∷ rest) (said_lines lines ls s.1)
 
 printed_counted : (lines : List ℕ) → counted_lines 35 (codes "des 1\n" ++ lines) ≡ numbered 1 (codes "des 1") ∷ counted_from 35 2 lines
-printed_counted lines = counted_from-line 1 (codes "des 1") lines refl refl
+printed_counted lines = counted_from-line 35 1 (codes "des 1") lines refl refl
 
 no_start : (net : Net) (lines : List NumberedLine) → components_of (model_lines lines) ≡ net.components → place_by lacks_init net.components ≡ None → start_fault lines ≡ None
 no_start net lines same h = ap (λ cs. option_map (λ place. record { line = slice_index (component_numbers lines) place; code = 6 }) (place_by lacks_init cs)) same ∙ ap (option_map (λ place. record { line = slice_index (component_numbers lines) place; code = 6 })) h

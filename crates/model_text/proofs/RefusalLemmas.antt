@@ -6,6 +6,7 @@ use Rattle.std.proofs.lemmas.List.{length-map}
 use Rattle.std.proofs.lemmas.List.Folds.{list_all-append}
 use Rattle.std.proofs.lemmas.Option.{slice_get-get_or}
 use Rattle.std.proofs.lemmas.Bool.Decides.{nat_tests}
+use Rattle.des_base.proofs.BoolLemmas.{and_assoc}
 use Rattle.des_base.specs.Names.{place_of, is_name_text}
 use Rattle.des_net.specs.declared.parts.Part.{Part}
 use Rattle.des_net.specs.declared.refusal.BuildRefusal.{BuildRefusal}
@@ -25,6 +26,7 @@ use Rattle.model_text.specs.LineAdditions.{AddsLine, IsNamed, IsLabelled}
 use Rattle.model_text.proofs.CodeLemmas.{limited, state_refusal-at, trans_refusal-at}
 use Rattle.model_text.proofs.PartLemmas.{all_found, all_there, all_repeated}
 use Rattle.model_text.proofs.StepLemmas.{event_refusal-known, length_all}
+use Rattle.std.proofs.lemmas.Bool.{and_left, and_right}
 
 -- a double, or a limit
 limited-coded : (double past : Bool) (r : BuildRefusal) → Answers {X = Unit {0}} (Err r) (limited double past) → IsCoded (first_of false true double false past) (refusal_of_build r)
@@ -156,17 +158,6 @@ module _ (net : Net) (comp : ℕ) (current : comp + 1 ≡ length net.components)
 
 -- ---- an event
 
-and_assoc : (a b c : Bool) → ((a && b) && c) ≡ (a && (b && c))
-and_assoc true b c = refl
-and_assoc false b c = refl
-
-no_left : (a b : Bool) → a ≡ false → (a && b) ≡ false
-no_left a b h = rw h refl
-
-no_right : (a b : Bool) → b ≡ false → (a && b) ≡ false
-no_right true b h = h
-no_right false b h = refl
-
 all_three : (a b c : Bool) → a ≡ true → b ≡ true → c ≡ true → ((a && b) && c) ≡ true
 all_three a b c e f g = rw (e, f, g) refl
 
@@ -212,13 +203,13 @@ module _ (net : Net) (name : List ℕ) (label : Option (List ℕ)) (fault : Bool
   unnamed_event h = unnamed false (list_all is_name_text (words_of (event name label fault parts))) double (not (is_some (parts_by_name net parts))) past refl (words ∙ h)
 
   pub event-name_unnamed : is_name_text name ≡ false → code_by net (event name label fault parts) ≡ Some 3
-  event-name_unnamed h = unnamed_event (no_left front (part_words parts) (no_left (is_name_text name) (list_all is_name_text (optional_words label)) h))
+  event-name_unnamed h = unnamed_event (and_left front (part_words parts) (and_left (is_name_text name) (list_all is_name_text (optional_words label)) h))
 
   pub event-label_unnamed : list_all is_name_text (optional_words label) ≡ false → code_by net (event name label fault parts) ≡ Some 3
-  event-label_unnamed h = unnamed_event (no_left front (part_words parts) (no_right (is_name_text name) (list_all is_name_text (optional_words label)) h))
+  event-label_unnamed h = unnamed_event (and_left front (part_words parts) (and_right (is_name_text name) (list_all is_name_text (optional_words label)) h))
 
   pub event-part_unnamed : part_words parts ≡ false → code_by net (event name label fault parts) ≡ Some 3
-  event-part_unnamed h = unnamed_event (no_right front (part_words parts) h)
+  event-part_unnamed h = unnamed_event (and_right front (part_words parts) h)
 
   module _ (called : is_name_text name ≡ true) (labelled : list_all is_name_text (optional_words label) ≡ true) (named : part_words parts ≡ true) where
     well : list_all is_name_text (words_of (event name label fault parts)) ≡ true

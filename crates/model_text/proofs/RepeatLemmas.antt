@@ -5,6 +5,7 @@ use Rattle.std.specs.List.{list_any}
 use Rattle.std.proofs.Math.Seq.{drop-cons}
 use Rattle.std.proofs.lemmas.List.{drop_all}
 use Rattle.des_base.specs.Names.{place_of}
+use Rattle.des_net.proofs.PartLemmas.{regroup, pass}
 use Rattle.model_text.specs.declared.part_name.PartName.{PartName}
 use Rattle.model_text.specs.ModelFaults.{has_repeated}
 use Rattle.model_text.specs.Shapes.{part_said}
@@ -22,12 +23,6 @@ marked : (k b : Bool) → cond k true b ≡ (k || b)
 marked true b = refl
 marked false b = refl
 
-regroup : (a b x y : Bool) → ((a || b) || (x || y)) ≡ ((a || x) || (b || y))
-regroup true b x y = refl
-regroup false true true y = refl
-regroup false true false y = refl
-regroup false false x y = refl
-
 -- one name more is marked
 pub marks-more : (f g : PartName → Bool) (k : List ℕ) → ((q : PartName) → g q ≡ cond (bytes_eq k q.component.now) true (f q)) → (ps : List PartName) → list_any g ps ≡ (is_some (place_of k (names_of ps)) || list_any f ps)
 marks-more f g k more [] = refl
@@ -36,14 +31,6 @@ marks-more f g k more (p ∷ ps) =
     (λ i. here i || marks-more f g k more ps i)
     ∙ regroup (bytes_eq k p.component.now) (f p) (is_some (place_of k (names_of ps))) (list_any f ps)
     ∙ ap (λ b. b || (f p || list_any f ps)) (sym (is_some_step (bytes_eq k p.component.now) (place_of k (names_of ps))))
-
--- a part that isn't marked is passed over
-pass : (b m x r : Bool) → b ≡ false → ((b || m) || (x || r)) ≡ ((x || m) || r)
-pass true m x r h = cc
-pass false true true r h = refl
-pass false true false r h = refl
-pass false false true r h = refl
-pass false false false r h = refl
 
 pub marks-step : (ps : List PartName) (i : ℕ) (other : PartName) (f g : PartName → Bool) → i < length ps → f (get_or ps i other) ≡ false
     → ((q : PartName) → g q ≡ cond (bytes_eq (get_or ps i other).component.now q.component.now) true (f q))

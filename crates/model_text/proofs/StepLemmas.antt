@@ -7,12 +7,12 @@ use Rattle.std.proofs.lemmas.List.{map-append, length-map}
 use Rattle.std.proofs.lemmas.List.Elements.{recursion_from_All}
 use Rattle.std.proofs.lemmas.List.Sums.{sum_by-cons}
 use Rattle.std.proofs.lemmas.Option.{get_or_from_slice_get}
+use Rattle.des_base.proofs.PlaceLemmas.{place-within}
 use Rattle.des_base.specs.Names.{place_of, is_name_text}
 use Rattle.des_net.specs.declared.parts.Part.{Part}
 use Rattle.des_net.specs.declared.refusal.BuildRefusal.TheVariants.{Double, Unknown, Limit}
 use Rattle.des_net.specs.Network.{Component as Automaton, Net, IsTransOf, no_component}
 use Rattle.des_net.specs.Building.{IsDraft, IsDraftComponent, change_component, with_component, with_state, with_trans, with_event, state_refusal, event_refusal, has_trans, trans_count, is_known, repeats}
-use Rattle.des_net.proofs.ComponentLemmas.{place-within}
 use Rattle.model_text.specs.ModelLines.{ModelLine, component, state, transition, event, NamedPart}
 use Rattle.model_text.specs.ModelNetwork.{Section, NamedEvent, NamedTransition, last_lines, state_names_in, transitions_in, actions_in, component_of, event_of, numbered_transition}
 use Rattle.model_text.specs.ModelFaults.{is_same_transition, has_repeated, optional_words}

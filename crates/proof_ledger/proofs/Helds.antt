@@ -2,6 +2,7 @@
 use Rattle.std.proofs.Common.{◌≡◌, ◌∙◌, ℕ, zero, suc, ◌+◌, ◌<◌, ◌==◌, Bool, true, false, ◌||◌, ◌∷◌, [], List, refl, ap, sym, length, arith, subst, take, Some, None, Option, slice_get, get_or, cond, nat_eq, add-one, sub-one}
 use Rattle.std.specs.List.{list_any}
 use Rattle.std.proofs.lemmas.Bool.{eqb-true, eq-eqb}
+use Rattle.des_base.proofs.BoolLemmas.{differ}
 use Rattle.prop_core.specs.Clauses.{Clause}
 use Rattle.prop_core.specs.Derivation.{clause_numbered}
 use Rattle.proof_ledger.specs.Checking.{with_clause, without}
@@ -20,14 +21,6 @@ get-take-other (c ∷ []) zero (suc j) ne = refl
 get-take-other (c ∷ d ∷ cs) zero (suc j) ne = refl
 get-take-other (c ∷ cs) (suc k) zero ne = refl
 get-take-other (c ∷ cs) (suc k) (suc j) ne = get-take-other cs k j (λ e. ne (ap suc e))
-
--- different numbers fail the test
-pub differ : (a b : ℕ) → (a ≡ b → ⊥) → (a == b) ≡ false
-differ a b ne = by (a == b) refl
-  where
-    by : (t : Bool) → (a == b) ≡ t → (a == b) ≡ false
-    by true e = absurd (ne (eqb-true a b e))
-    by false e = e
 
 numbered-suc : (cs : List Clause) (j : ℕ) → clause_numbered cs (suc j) ≡ slice_get cs j
 numbered-suc cs j = rw (differ (suc j) 0 (λ e. omega arith), sub-one) refl

@@ -2,15 +2,10 @@
 use Rattle.std.proofs.Common.{◌≡◌, ◌∙◌, ℕ, ◌+◌, ◌<◌, ◌≤◌, List, [], ◌∷◌, refl, ap, drop, length, get_or, arith, add-one, Option}
 use Rattle.std.proofs.Math.Seq.{drop-cons}
 use Rattle.std.proofs.lemmas.Grind.{common_steps}
+use Rattle.prop_core.proofs.Following.{follow_ended, follow_goes_on}
 use Rattle.prop_core.specs.declared.lit.Lit.{Lit}
 use Rattle.prop_core.specs.Clauses.{Clause}
 use Rattle.prop_core.specs.Derivation.{follow, after_hint, Derivation, fails, hints_end, ended, goes_on}
-
-follow_ended : (held : ℕ → Option Clause) (taken : List Lit) (at hint : ℕ) (hints : List ℕ) (result : Derivation) → after_hint taken at (held hint) ≡ ended result → follow held taken at (hint ∷ hints) ≡ result
-follow_ended held taken at hint hints result e = rw (e, follow) refl
-
-follow_goes_on : (held : ℕ → Option Clause) (taken : List Lit) (at hint : ℕ) (hints : List ℕ) (more : List Lit) → after_hint taken at (held hint) ≡ goes_on more → follow held taken at (hint ∷ hints) ≡ follow held more (at + 1) hints
-follow_goes_on held taken at hint hints more e = rw (e, follow) refl
 
 rest_more : (hints : List ℕ) (i : ℕ) → i < length hints → drop i hints ≡ get_or hints i 0 ∷ drop (i + 1) hints
 rest_more hints i h = rw (add-one, drop-cons hints i 0 h) refl

@@ -1,12 +1,11 @@
 -- Marks for the literals that are taken as true.
 use Rattle.std.proofs.Common.{◌≡◌, ◌∙◌, ℕ, suc, ◌+◌, ◌*◌, ◌<◌, ◌≤◌, ◌==◌, Bool, true, false, ◌||◌, ◌++◌, ◌∷◌, [], List, refl, ap, sym, length, arith, subst, drop, get_or, cond, add-one}
 use Rattle.std.proofs.Math.Seq.{drop-cons}
-use Rattle.std.specs.Bool.{beq}
 use Rattle.std.proofs.lemmas.Grind.{common_steps}
 use Rattle.std.proofs.lemmas.Bool.{eqb-true, eq-eqb}
 use Rattle.prop_core.specs.declared.lit.Lit.{Lit}
 use Rattle.prop_core.specs.Clauses.{is_true, same_literal}
-use Rattle.prop_core.proofs.Entailed.{both, beq_is}
+use Rattle.prop_core.proofs.Entailed.{both, beq_is, beq_itself}
 use Rattle.proof_ledger.specs.Marks.{place_of, AreMarked}
 
 -- different literals have different places
@@ -16,10 +15,6 @@ place_apart x y true false e = absurd (omega arith)
 place_apart x y false true e = absurd (omega arith)
 place_apart x y false false e = (omega arith, refl)
 
-beq_same : (a : Bool) → beq a a ≡ true
-beq_same true = refl
-beq_same false = refl
-
 -- the test of places is that of literals
 pub same_place : (a b : Lit) → (place_of a == place_of b) ≡ same_literal a b
 same_place a b = by (place_of a == place_of b) refl
@@ -27,7 +22,7 @@ same_place a b = by (place_of a == place_of b) refl
     by : (t : Bool) → (place_of a == place_of b) ≡ t → t ≡ same_literal a b
     by true e =
         let parts = place_apart a.var b.var a.positive b.positive (eqb-true (place_of a) (place_of b) e) in
-        sym (rw (eq-eqb a.var b.var parts.0, parts.1, beq_same b.positive) refl)
+        sym (rw (eq-eqb a.var b.var parts.0, parts.1, beq_itself b.positive) refl)
     by false e = no (same_literal a b) refl
       where
         no : (s : Bool) → same_literal a b ≡ s → false ≡ s

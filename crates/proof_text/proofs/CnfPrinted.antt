@@ -5,6 +5,7 @@ use Rattle.std.proofs.lemmas.List.Elements.{All-head, All-tail}
 use Rattle.std.specs.Prelude.{◌&&◌, ◌==◌, not, nat_lt, All, flat_map, codes}
 use Rattle.std.specs.Fmt.{decimal}
 use Rattle.std.specs.List.{list_all}
+use Rattle.des_base.proofs.PrintedLines.{line_byte, IsWord, tokens_of-word, tokens_of-last, word_in_line, word_before, counted_from-line}
 use Rattle.des_base.specs.CountedLines.{NumberedLine, numbered, counted_from, counted_lines, tokens_of, last_line}
 use Rattle.prop_core.specs.declared.lit.Lit.{Lit}
 use Rattle.prop_core.specs.Clauses.{Clause, HasValues}
@@ -15,10 +16,10 @@ use Rattle.proof_text.specs.CnfText.{most, stated, header_of, LinedToken, lined,
 use Rattle.proof_text.specs.PrintedText.{literal_word, literals_text, clause_text, header_text, formula_text, IsFormulaText}
 use Rattle.proof_text.proofs.CnfLemmas.{within_limits}
 use Rattle.proof_text.proofs.PieceLemmas.{clauses_of-pieces}
-use Rattle.proof_text.proofs.WordLemmas.{IsWord, AreNumerals, numeral_word, numeral_words, spaced, line_of, tokens_of-word, tokens_of-last, tokens_of-line, line_byte, word_in_line, word_before, line_of-bytes, line_of-counts, counted_from-line}
-use Rattle.proof_text.proofs.NumeralLemmas.{number_of-decimal, decimal_numeral, literal_word_numeral, signed, signed_of-literal, ReadsAs, reads_as, literal-signed}
+use Rattle.proof_text.proofs.WordLemmas.{AreNumerals, numeral_word, numeral_words, spaced, line_of, tokens_of-line, line_of-bytes, line_of-counts}
+use Rattle.proof_text.proofs.NumeralLemmas.{number_of-decimal, decimal_numeral, literal_word_numeral, signed, signed_of-literal, ReadsAs, reads_as, literal-signed, above_zero}
 
-abbrev zero_word : List ℕ
+abbrev pub zero_word : List ℕ
 zero_word = 48 ∷ []
 
 abbrev words_of : Clause → List (List ℕ)
@@ -63,7 +64,7 @@ fault_of_tokens-well vars end left is_open line word later number known begins =
 none_below_zero : (vars : ℕ) → nat_lt vars 0 ≡ false
 none_below_zero vars = grind (arith, nat_tests)
 
-known_size : (vars var size : ℕ) → var < vars → size ≡ var + 1 → nat_lt vars size ≡ false
+pub known_size : (vars var size : ℕ) → var < vars → size ≡ var + 1 → nat_lt vars size ≡ false
 known_size vars var size h e = grind (arith, nat_tests)
 
 -- the line's tokens
@@ -73,9 +74,6 @@ clause_tokens line clause later = map (lined line) (words_of clause ++ zero_word
 pub literal_reads : (vars : ℕ) (l : Lit) → vars ≤ 2 ^ 32 → l.var < vars → ReadsAs (literal_word l) (signed l)
 literal_reads vars l few known = reads_as (literal_word l) (signed l) (signed_of-literal l (small_var vars l.var few known))
 
-not_zero_size : (n : ℕ) → (n + 1 == 0) ≡ false
-not_zero_size n = grind (arith, nat_tests)
-
 inside_clause : (vars end left line : ℕ) (clause : Clause) (later : List LinedToken) → vars ≤ 2 ^ 32 → HasValues vars clause
     → fault_of_tokens vars end left true (clause_tokens line clause later) ≡ fault_of_tokens vars end left false later
 inside_clause vars end left line [] later few h = fault_of_tokens-well vars end left true line zero_word later refl (none_below_zero vars) refl
@@ -83,7 +81,7 @@ inside_clause vars end left line (l ∷ ls) later few h =
     let here : l.var < vars = All-head (λ (m : Lit). m.var < vars) l ls h in
     let reads = literal_reads vars l few here in
     fault_of_tokens-well vars end left true line (literal_word l) (clause_tokens line ls later) reads.number (known_size vars l.var (size_of (literal_word l)) here reads.size) refl
-    ∙ ap (λ b. fault_of_tokens vars end left (not b) (clause_tokens line ls later)) (reads.zero ∙ not_zero_size l.var)
+    ∙ ap (λ b. fault_of_tokens vars end left (not b) (clause_tokens line ls later)) (reads.zero ∙ above_zero l.var)
     ∙ inside_clause vars end left line ls later few (All-tail (λ (m : Lit). m.var < vars) l ls h)
 
 one_less : (n : ℕ) → n + 1 - 1 ≡ n
@@ -92,13 +90,13 @@ one_less n = omega arith
 whole_clause : (vars end left line : ℕ) (clause : Clause) (later : List LinedToken) → vars ≤ 2 ^ 32 → HasValues vars clause
     → fault_of_tokens vars end (left + 1) false (clause_tokens line clause later) ≡ fault_of_tokens vars end left false later
 whole_clause vars end left line [] later few h =
-    fault_of_tokens-well vars end (left + 1) false line zero_word later refl (none_below_zero vars) (not_zero_size left)
+    fault_of_tokens-well vars end (left + 1) false line zero_word later refl (none_below_zero vars) (above_zero left)
     ∙ ap (λ n. fault_of_tokens vars end n false later) (one_less left)
 whole_clause vars end left line (l ∷ ls) later few h =
     let here : l.var < vars = All-head (λ (m : Lit). m.var < vars) l ls h in
     let reads = literal_reads vars l few here in
-    fault_of_tokens-well vars end (left + 1) false line (literal_word l) (clause_tokens line ls later) reads.number (known_size vars l.var (size_of (literal_word l)) here reads.size) (not_zero_size left)
-    ∙ ap (λ b. fault_of_tokens vars end (left + 1 - 1) (not b) (clause_tokens line ls later)) (reads.zero ∙ not_zero_size l.var)
+    fault_of_tokens-well vars end (left + 1) false line (literal_word l) (clause_tokens line ls later) reads.number (known_size vars l.var (size_of (literal_word l)) here reads.size) (above_zero left)
+    ∙ ap (λ b. fault_of_tokens vars end (left + 1 - 1) (not b) (clause_tokens line ls later)) (reads.zero ∙ above_zero l.var)
     ∙ ap (λ n. fault_of_tokens vars end n true (clause_tokens line ls later)) (one_less left)
     ∙ inside_clause vars end left line ls later few (All-tail (λ (m : Lit). m.var < vars) l ls h)
 
@@ -111,7 +109,7 @@ clauses_of-clause vars line front [] later few h = ap (λ (c : Clause). c ∷ cl
 clauses_of-clause vars line front (l ∷ ls) later few h =
     let here : l.var < vars = All-head (λ (m : Lit). m.var < vars) l ls h in
     let reads = literal_reads vars l few here in
-    taken_step (is_zero (literal_word l)) front (literal_of (literal_word l)) (clause_tokens line ls later) (reads.zero ∙ not_zero_size l.var)
+    taken_step (is_zero (literal_word l)) front (literal_of (literal_word l)) (clause_tokens line ls later) (reads.zero ∙ above_zero l.var)
     ∙ ap (λ (m : Lit). clauses_of (front ++ m ∷ []) (clause_tokens line ls later)) (reads.literal ∙ literal-signed l)
     ∙ clauses_of-clause vars line (front ++ l ∷ []) ls later few (All-tail (λ (m : Lit). m.var < vars) l ls h)
     ∙ ap (λ (c : Clause). c ∷ clauses_of [] later) (append_assoc front (l ∷ []) ls)
@@ -131,7 +129,7 @@ counted_from-clauses vars n [] few h = refl
 counted_from-clauses vars n (clause ∷ clauses) few h =
     let numerals = known_numerals vars clause few (All-head (HasValues vars) clause clauses h) in
     ap (counted_from 99 n) (clause_text-line clause (flat_map clause_text clauses))
-    ∙ counted_from-line n (clause_line clause) (flat_map clause_text clauses) (line_of-bytes (words_of clause) (numeral_words (words_of clause) numerals)) (line_of-counts (words_of clause) numerals)
+    ∙ counted_from-line 99 n (clause_line clause) (flat_map clause_text clauses) (line_of-bytes (words_of clause) (numeral_words (words_of clause) numerals)) (line_of-counts (words_of clause) numerals)
     ∙ ap (λ lines. numbered n (clause_line clause) ∷ lines) (counted_from-clauses vars (n + 1) clauses few (All-tail (HasValues vars) clause clauses h))
 
 clause_line-tokens : (vars : ℕ) (clause : Clause) → vars ≤ 2 ^ 32 → HasValues vars clause → tokens_of (clause_line clause) ≡ words_of clause ++ zero_word ∷ []
@@ -197,7 +195,7 @@ counted f vars clauses known =
     let c : length f.clauses < 2 ^ 64 = omega arith in
     let few : f.vars ≤ 2 ^ 32 = omega arith in
     ap (counted_from 99 1) (header_text-line f.vars (length f.clauses) rest)
-    ∙ counted_from-line 1 (header_line f.vars (length f.clauses)) rest (header_bytes f.vars (length f.clauses) v c) refl
+    ∙ counted_from-line 99 1 (header_line f.vars (length f.clauses)) rest (header_bytes f.vars (length f.clauses) v c) refl
     ∙ ap (λ lines. numbered 1 (header_line f.vars (length f.clauses)) ∷ lines) (counted_from-clauses f.vars 2 f.clauses few known)
 
 pub printed_formula : (f : Formula) → f.vars ≤ most → length f.clauses ≤ most → AllKnown f.vars f.clauses → IsFormulaText f (formula_text f)

@@ -1,13 +1,14 @@
 -- A line of a proof has no code just where its step is read.
 use Rattle.std.proofs.Common.{◌≡◌, ℕ, Bool, true, false, List, [], ◌∷◌, Option, None, Some, cond, refl, arith, ap, ◌∙◌}
 use Rattle.std.proofs.lemmas.Bool.Decides.{nat_tests}
-use Rattle.std.specs.Prelude.{◌&&◌, ◌||◌, ◌==◌, not, nat_lt, nat_le, is_some, option_map, option_and_then, unwrap_or}
+use Rattle.std.specs.Prelude.{◌&&◌, ◌==◌, not, nat_lt, nat_le, is_some, option_map, option_and_then, unwrap_or}
 use Rattle.std.specs.List.{list_all, list_any}
 use Rattle.des_base.proofs.BoolLemmas.{both, join, neither, not_false, not_true}
 use Rattle.des_base.specs.Numbers.{number_of, number_up_to, up_to}
 use Rattle.proof_text.specs.SignedNumbers.{Signed, plain, behind_minus, is_number, size_of, is_negative, is_zero}
 use Rattle.proof_text.specs.LratText.{cut, with_token, cut_at_zero, greatest, is_too_large, is_unsigned, some_rest, first_code}
 use Rattle.proof_text.specs.LineReading.{is_id, is_known}
+use Rattle.std.proofs.lemmas.Bool.{or_from}
 
 -- ---- the number of a line
 
@@ -46,14 +47,6 @@ id_is_read (c ∷ cs) = sign_step (c == 45) c cs refl
 
 -- ---- tests of all tokens
 
-pub either_false : (a b : Bool) → a ≡ false → b ≡ false → (a || b) ≡ false
-either_false true b h k = cc
-either_false false b h k = k
-
-pub not_of_true : (b : Bool) → b ≡ true → not b ≡ false
-not_of_true true h = refl
-not_of_true false h = cc
-
 -- a number, not negative and not too large
 pub id_passes : (token : List ℕ) → is_number token ≡ true → is_negative token ≡ false → is_too_large token ≡ false → is_id token ≡ true
 id_passes token number negative large = join (is_unsigned token) (not (is_too_large token)) (join (is_number token) (not (is_negative token)) number (not_false (is_negative token) negative)) (not_false (is_too_large token) large)
@@ -89,9 +82,9 @@ are_ids (token ∷ tokens) h =
     let here = id_token token parts.0 in
     let rest = are_ids tokens parts.1 in
     record {
-      large = either_false (is_too_large token) (list_any is_too_large tokens) here.large rest.large;
+      large = or_from (is_too_large token) (list_any is_too_large tokens) here.large rest.large;
       number = join (is_number token) (list_all is_number tokens) here.number rest.number;
-      negative = either_false (is_negative token) (list_any is_negative tokens) here.negative rest.negative;
+      negative = or_from (is_negative token) (list_any is_negative tokens) here.negative rest.negative;
     }
 
 pub known_pass : (vars : ℕ) (tokens : List (List ℕ)) → list_all is_number tokens ≡ true → list_any (λ token. nat_lt vars (size_of token)) tokens ≡ false → list_all (is_known vars) tokens ≡ true
@@ -113,7 +106,7 @@ are_known vars (token ∷ tokens) h =
     let rest = are_known vars tokens parts.1 in
     record {
       number = join (is_number token) (list_all is_number tokens) here.0 rest.number;
-      unknown = either_false (nat_lt vars (size_of token)) (list_any (λ token. nat_lt vars (size_of token)) tokens) (not_true (nat_lt vars (size_of token)) here.1) rest.unknown;
+      unknown = or_from (nat_lt vars (size_of token)) (list_any (λ token. nat_lt vars (size_of token)) tokens) (not_true (nat_lt vars (size_of token)) here.1) rest.unknown;
     }
 
 pub nothing_numbers : (rest : List (List ℕ)) → some_rest rest ≡ false → list_all is_number rest ≡ true

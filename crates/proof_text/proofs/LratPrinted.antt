@@ -7,7 +7,9 @@ use Rattle.std.specs.Prelude.{◌&&◌, ◌==◌, not, nat_lt, All, codes, ⊤}
 use Rattle.std.specs.Fmt.{decimal}
 use Rattle.std.specs.List.{list_all}
 use Rattle.des_base.proofs.BoolLemmas.{join, not_false, is_less}
+use Rattle.des_base.proofs.PrintedLines.{IsWord, AreWords, counted_from-line, AreWords-append}
 use Rattle.des_base.specs.CountedLines.{NumberedLine, numbered, counted_from, is_counted}
+use Rattle.proof_text.proofs.SurveyLemmas.{cut_step}
 use Rattle.prop_core.specs.declared.lit.Lit.{Lit}
 use Rattle.prop_core.specs.Clauses.{Clause, HasValues}
 use Rattle.proof_ledger.specs.declared.checker.ProofStep.{ProofStep}
@@ -20,12 +22,9 @@ use Rattle.proof_text.specs.LineReading.{is_id, is_known}
 use Rattle.proof_text.specs.PrintedText.{literal_word, numbers_text, step_text, steps_text, NumbersFit, without_line, HasVariablesBelow, HasNumberAbove, ReadsBack}
 use Rattle.proof_text.proofs.CodeLemmas.{id_passes}
 use Rattle.proof_text.proofs.WellLines.{hints_well, literals_well, addition_well, addition_has_no_code, deletion_has_no_code}
-use Rattle.proof_text.proofs.WordLemmas.{IsWord, AreWords, IsNumeral, numeral_word, numeral_words, spaced, line_of, line_of-cons, tokens_of-line, line_of-bytes, numeral_counts, counted_from-line}
-use Rattle.proof_text.proofs.NumeralLemmas.{decimal_numeral, signed_of-decimal, ReadsAs, reads_as, literal-signed, no_deletion_mark}
-use Rattle.proof_text.proofs.CnfPrinted.{literals_text-words, known_numerals, literal_reads}
-
-abbrev zero_word : List ℕ
-zero_word = 48 ∷ []
+use Rattle.proof_text.proofs.WordLemmas.{IsNumeral, numeral_word, numeral_words, spaced, line_of, line_of-cons, tokens_of-line, line_of-bytes, numeral_counts}
+use Rattle.proof_text.proofs.NumeralLemmas.{decimal_numeral, signed_of-decimal, ReadsAs, reads_as, literal-signed, no_deletion_mark, above_zero}
+use Rattle.proof_text.proofs.CnfPrinted.{literals_text-words, known_numerals, literal_reads, zero_word, known_size}
 
 abbrev AllFit : List ℕ → Type 0
 AllFit numbers = All (λ n. n < 2 ^ 64) numbers
@@ -66,10 +65,6 @@ step_text-line (Delete ids) rest =
 
 -- ---- they are words
 
-words_append : (xs ys : List (List ℕ)) → AreWords xs → AreWords ys → AreWords (xs ++ ys)
-words_append [] ys h k = k
-words_append (x ∷ xs) ys h k = (h.0, words_append xs ys h.1 k)
-
 decimal_words : (numbers : List ℕ) → AllFit numbers → AreWords (map decimal numbers)
 decimal_words [] h = tt
 decimal_words (n ∷ ns) h = (numeral_word (decimal n) (decimal_numeral n (All-head (λ (m : ℕ). m < 2 ^ 64) n ns h)), decimal_words ns (All-tail (λ (m : ℕ). m < 2 ^ 64) n ns h))
@@ -95,7 +90,7 @@ pub record IsPrintable (vars : ℕ) (step : ProofStep) : Type 0 where
 are_step_words : (vars : ℕ) (step : ProofStep) → vars ≤ 2 ^ 32 → IsPrintable vars step → AreWords (step_words step)
 are_step_words vars (Add line id clause hints) small h = (
   numeral_word (decimal id) (decimal_numeral id h.fit.0),
-  words_append (map literal_word clause) (zero_word ∷ map decimal hints) (numeral_words (map literal_word clause) (known_numerals vars clause small h.below)) (zero_is_word, decimal_words hints h.fit.1),
+  AreWords-append (map literal_word clause) (zero_word ∷ map decimal hints) (numeral_words (map literal_word clause) (known_numerals vars clause small h.below)) (zero_is_word, decimal_words hints h.fit.1),
 )
 are_step_words vars (Delete ids) small h = (numeral_word (codes "1") one_is_numeral, (d_is_word, decimal_words ids h.fit))
 
@@ -110,10 +105,6 @@ step_counts vars (Delete ids) h = refl
 abbrev NoZeros : List (List ℕ) → Type 0
 NoZeros [] = ⊤
 NoZeros (word ∷ words) = (is_zero word ≡ false) × NoZeros words
-
-cut_step : (b : Bool) (token : List ℕ) (rest : List (List ℕ)) → b ≡ false → cond b (cut [] true rest) (with_token token (cut_at_zero rest)) ≡ with_token token (cut_at_zero rest)
-cut_step true token rest h = cc
-cut_step false token rest h = refl
 
 cut_words : (words rest : List (List ℕ)) → NoZeros words → cut_at_zero (words ++ zero_word ∷ rest) ≡ cut words true rest
 cut_words [] rest h = refl
@@ -132,13 +123,10 @@ numbers_no_zeros (n ∷ ns) h k = (
   numbers_no_zeros ns (All-tail (λ (m : ℕ). m < 2 ^ 64) n ns h) (All-tail (λ (m : ℕ). 0 < m) n ns k),
 )
 
-next_is_not_zero : (n : ℕ) → (n + 1 == 0) ≡ false
-next_is_not_zero n = grind (arith, nat_tests)
-
 literals_no_zeros : (vars : ℕ) (clause : Clause) → vars ≤ 2 ^ 32 → HasValues vars clause → NoZeros (map literal_word clause)
 literals_no_zeros vars [] small h = tt
 literals_no_zeros vars (l ∷ ls) small h =
-    ((literal_reads vars l small (All-head (λ (m : Lit). m.var < vars) l ls h)).zero ∙ next_is_not_zero l.var, literals_no_zeros vars ls small (All-tail (λ (m : Lit). m.var < vars) l ls h))
+    ((literal_reads vars l small (All-head (λ (m : Lit). m.var < vars) l ls h)).zero ∙ above_zero l.var, literals_no_zeros vars ls small (All-tail (λ (m : Lit). m.var < vars) l ls h))
 
 -- ---- what is read
 
@@ -155,9 +143,6 @@ numbers_are_ids (n ∷ ns) h = join (is_id (decimal n)) (list_all is_id (map dec
 sizes : (numbers : List ℕ) → AllFit numbers → map size_of (map decimal numbers) ≡ numbers
 sizes [] h = refl
 sizes (n ∷ ns) h = (λ i. (decimal_reads n (All-head (λ (m : ℕ). m < 2 ^ 64) n ns h)).size i ∷ sizes ns (All-tail (λ (m : ℕ). m < 2 ^ 64) n ns h) i)
-
-known_size : (vars var size : ℕ) → var < vars → size ≡ var + 1 → nat_lt vars size ≡ false
-known_size vars var size h e = grind (arith, nat_tests)
 
 literals_are_known : (vars : ℕ) (clause : Clause) → vars ≤ 2 ^ 32 → HasValues vars clause → list_all (is_known vars) (map literal_word clause) ≡ true
 literals_are_known vars [] small h = refl
@@ -253,7 +238,7 @@ unfolding step_lines
 counted_from-steps vars n [] small h = refl
 counted_from-steps vars n (step ∷ steps) small h =
     ap (counted_from 99 n) (step_text-line step (steps_text steps))
-    ∙ counted_from-line n (line_of (step_words step)) (steps_text steps) (line_of-bytes (step_words step) (are_step_words vars step small h.0)) (step_counts vars step h.0)
+    ∙ counted_from-line 99 n (line_of (step_words step)) (steps_text steps) (line_of-bytes (step_words step) (are_step_words vars step small h.0)) (step_counts vars step h.0)
     ∙ ap (λ lines. numbered n (line_of (step_words step)) ∷ lines) (counted_from-steps vars (n + 1) steps small h.1)
 
 ascends_here : (last : ℕ) (step : ProofStep) (steps : List ProofStep) → NumbersAscend last (step ∷ steps) → NumbersAscend (last_after last step) steps

@@ -8,6 +8,7 @@ use Rattle.std.specs.List.{list_all}
 use Rattle.des_base.proofs.BoolLemmas.{both, join}
 use Rattle.des_base.proofs.LawLemmas.{numbers_are_decimal}
 use Rattle.des_base.specs.Numbers.{digits_value, number_of}
+use Rattle.prop_core.proofs.Literals.{not_not}
 use Rattle.prop_core.specs.declared.lit.Lit.{Lit}
 use Rattle.proof_text.specs.SignedNumbers.{Signed, signed_of, plain, behind_minus, is_number, number_in, size_of, is_negative, is_zero, literal, literal_of}
 use Rattle.proof_text.specs.LratText.{is_deletion_mark}
@@ -65,7 +66,7 @@ signed l = record { negative = not l.positive; size = l.var + 1 }
 minus_numeral : (n : ℕ) → n < 2 ^ 64 → IsNumeral (45 ∷ decimal n)
 minus_numeral n small = record { some = omega arith; bytes = (decimal_numeral n small).bytes }
 
-above_zero : (n : ℕ) → (n + 1 == 0) ≡ false
+pub above_zero : (n : ℕ) → (n + 1 == 0) ≡ false
 above_zero n = grind (arith, nat_tests)
 
 minus_step : (b : Bool) (s : Signed) → b ≡ false → cond b None (Some s) ≡ Some s
@@ -105,15 +106,11 @@ reads_as word n h =
       literal = ap literal is;
     }
 
-twice : (b : Bool) → not (not b) ≡ b
-twice true = refl
-twice false = refl
-
 same_lit : (a b : ℕ) (p q : Bool) → a ≡ b → p ≡ q → ◌≡◌ {A = Lit} (record { var = a; positive = p }) (record { var = b; positive = q })
 same_lit a b p q h k = (λ i. record { var = h i; positive = k i })
 
 pub literal-signed : (l : Lit) → literal (signed l) ≡ l
-literal-signed l = same_lit (l.var + 1 - 1) l.var (not (not l.positive)) l.positive (omega arith) (twice l.positive)
+literal-signed l = same_lit (l.var + 1 - 1) l.var (not (not l.positive)) l.positive (omega arith) (not_not l.positive)
 
 -- no number is the mark of a deletion
 other_first : (c : ℕ) (cs : List ℕ) → numeral_byte c ≡ true → is_deletion_mark (c ∷ cs) ≡ false

@@ -1,30 +1,17 @@
 -- Text that is appended.
-use Rattle.std.proofs.Common.{◌≡◌, ◌<◌, ◌≤◌, ◌+◌, ◌-◌, ◌/◌, ◌%◌, ◌^◌, ℕ, zero, suc, Result, Ok, Err, drop, Bool, true, false, cond, Option, None, List, [], ◌∷◌, ◌++◌, length, get_or, take, Some, refl, arith, ap, sym, ◌∙◌, append_assoc}
-use Rattle.std.proofs.lemmas.Fmt.{decimal_step}
-use Rattle.std.proofs.lemmas.List.{flat_map_more, take_more}
+use Rattle.std.proofs.Common.{◌≡◌, ◌+◌, ◌-◌, ℕ, zero, suc, Result, Ok, Err, drop, Bool, true, false, cond, Option, None, List, [], ◌∷◌, ◌++◌, length, get_or, take, Some, refl, arith, ap, sym, ◌∙◌, append_assoc}
 use Rattle.std.proofs.lemmas.Option.{slice_get_within}
 use Rattle.std.proofs.lemmas.Bool.Decides.{nat_tests}
+use Rattle.des_base.proofs.Appended.{one_more}
 use Rattle.prop_core.specs.Clauses.{Clause}
 use Rattle.prop_core.specs.Derivation.{clause_numbered}
 use Rattle.std.specs.Prelude.{flat_map, slice_get, ◌==◌, OnOk}
-use Rattle.std.specs.Fmt.{decimal}
-
--- the last digit stands behind the digits of the tenth
-pub digit_behind : (old out new : List ℕ) (n : ℕ) → 10 ≤ n → n < 2 ^ 64 → out ≡ old ++ decimal (n / 10) → new ≡ out ++ (48 + n % 10) ∷ [] → new ≡ old ++ decimal n
-digit_behind old out new n large small o h =
-    h ∙ ap (λ l. l ++ (48 + n % 10) ∷ []) o ∙ append_assoc old (decimal (n / 10)) ((48 + n % 10) ∷ []) ∙ ap (λ l. old ++ l) (sym (decimal_step n large small))
 
 pub pieces_4 : (old o1 o2 o3 new a b c d : List ℕ) → o1 ≡ old ++ a → o2 ≡ o1 ++ b → o3 ≡ o2 ++ c → new ≡ o3 ++ d → new ≡ old ++ (((a ++ b) ++ c) ++ d)
 pieces_4 old o1 o2 o3 new a b c d h1 h2 h3 h4 =
     h4
     ∙ ap (λ l. l ++ d) (h3 ∙ ap (λ l. l ++ c) (h2 ∙ ap (λ l. l ++ b) h1))
     ∙ simp append_assoc
-
--- one more element is printed
-pub one_more : {X : Type 0} (f : X → List ℕ) (xs : List X) (k : ℕ) (x : X) (old out new : List ℕ) → k < length xs → x ≡ get_or xs k x → out ≡ old ++ flat_map f (take k xs) → new ≡ out ++ f x
-    → new ≡ old ++ flat_map f (take (k + 1) xs)
-one_more f xs k x old out new within is o h =
-    h ∙ ap (λ l. l ++ f x) o ∙ flat_map_more f old (take k xs) x ∙ ap (λ l. old ++ flat_map f l) (ap (λ y. take k xs ++ y ∷ []) is ∙ sym (take_more xs k x within))
 
 slice_item : {X : Type 0} (xs : List X) (k : ℕ) (x : X) → slice_get xs k ≡ Some x → x ≡ get_or xs k x
 slice_item [] k x h = cc

@@ -2,10 +2,11 @@
 use Rattle.std.proofs.Common.{◌≡◌, ℕ, Bool, true, false, List, ◌∷◌, [], cond, refl, ap, sym, ◌∙◌}
 use Rattle.std.specs.Prelude.{◌&&◌, ◌||◌}
 use Rattle.std.specs.List.{list_all, list_any}
+use Rattle.des_base.proofs.BoolLemmas.{and_assoc}
 use Rattle.proof_text.specs.SignedNumbers.{is_zero}
 use Rattle.proof_text.specs.LratText.{Cut, cut, with_token, cut_at_zero}
 
-cut_step : (b : Bool) (token : List ℕ) (rest : List (List ℕ)) → b ≡ false → cond b (cut [] true rest) (with_token token (cut_at_zero rest)) ≡ with_token token (cut_at_zero rest)
+pub cut_step : (b : Bool) (token : List ℕ) (rest : List (List ℕ)) → b ≡ false → cond b (cut [] true rest) (with_token token (cut_at_zero rest)) ≡ with_token token (cut_at_zero rest)
 cut_step true token rest h = cc
 cut_step false token rest h = refl
 
@@ -16,10 +17,6 @@ cut_at_zero-more token rest now h zero = ap cut_at_zero h ∙ cut_step (is_zero 
 or_regroup : (a b c : Bool) → ((a || b) || c) ≡ (a || (b || c))
 or_regroup true b c = refl
 or_regroup false b c = refl
-
-and_regroup : (a b c : Bool) → ((a && b) && c) ≡ (a && (b && c))
-and_regroup true b c = refl
-and_regroup false b c = refl
 
 pub any_more : (test : List ℕ → Bool) (seen with_it : Bool) (token : List ℕ) (here rest : Cut) (all : Bool) → here ≡ with_token token rest → with_it ≡ (seen || test token)
     → (seen || list_any test here.front) ≡ all → (with_it || list_any test rest.front) ≡ all
@@ -33,6 +30,6 @@ pub all_more : (test : List ℕ → Bool) (seen with_it : Bool) (token : List �
     → (seen && list_all test here.front) ≡ all → (with_it && list_all test rest.front) ≡ all
 all_more test seen with_it token here rest all h w a =
     ap (λ b. b && list_all test rest.front) w
-    ∙ and_regroup seen (test token) (list_all test rest.front)
+    ∙ and_assoc seen (test token) (list_all test rest.front)
     ∙ sym (ap (λ (c : Cut). seen && list_all test c.front) h)
     ∙ a

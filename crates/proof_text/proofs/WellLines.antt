@@ -14,7 +14,8 @@ use Rattle.proof_text.specs.LratText.{cut_at_zero, is_too_large, is_unsigned, is
 use Rattle.proof_text.specs.LineReading.{is_id, is_known, only, ids_only, with_hints, literals_and_hints, add_step, addition_read, deletion_read, step_read, line_read}
 use Rattle.proof_text.specs.ProofNumbers.{HasNoZero, NumbersAscend}
 use Rattle.proof_text.proofs.CnfLemmas.{fault_or-none}
-use Rattle.proof_text.proofs.CodeLemmas.{id_is_read, either_false, not_of_true, IsIdToken, id_token, id_passes, ids_pass, AreIds, are_ids, known_pass, are_known, nothing_numbers, first_ended, none_of, no_code}
+use Rattle.proof_text.proofs.CodeLemmas.{id_is_read, IsIdToken, id_token, id_passes, ids_pass, AreIds, are_ids, known_pass, are_known, nothing_numbers, first_ended, none_of, no_code}
+use Rattle.std.proofs.lemmas.Bool.{or_from, not_from_true}
 
 -- ---- what is read, by tests
 
@@ -149,14 +150,14 @@ addition_has_no_code vars last id tokens h =
     let hints = hints_are_well c.behind sections.1 in
     let number = id_token id parts.0 in
     no_code _ _ _ _ _ _ (record {
-      not_large = either_false (is_too_large id) (list_any is_too_large d.front) number.large hints.ids.large;
-      not_strange = either_false _ (not (list_all is_number d.behind))
-          (either_false _ (not (list_all is_number d.front))
-          (either_false (not (is_positive id)) (not (list_all is_number c.front)) (not_of_true (is_positive id) (positive_id last id number above.0)) (not_of_true (list_all is_number c.front) literals.number))
-          (not_of_true (list_all is_number d.front) hints.ids.number))
-          (not_of_true (list_all is_number d.behind) (nothing_numbers d.behind hints.rest));
-      not_unended = either_false (not d.ended) (some_rest d.behind) (not_of_true d.ended hints.ended) hints.rest;
-      not_low = not_of_true (nat_lt last (size_of id)) above.0;
+      not_large = or_from (is_too_large id) (list_any is_too_large d.front) number.large hints.ids.large;
+      not_strange = or_from _ (not (list_all is_number d.behind))
+          (or_from _ (not (list_all is_number d.front))
+          (or_from (not (is_positive id)) (not (list_all is_number c.front)) (not_from_true (is_positive id) (positive_id last id number above.0)) (not_from_true (list_all is_number c.front) literals.number))
+          (not_from_true (list_all is_number d.front) hints.ids.number))
+          (not_from_true (list_all is_number d.behind) (nothing_numbers d.behind hints.rest));
+      not_unended = or_from (not d.ended) (some_rest d.behind) (not_from_true d.ended hints.ended) hints.rest;
+      not_low = not_from_true (nat_lt last (size_of id)) above.0;
       not_unknown = literals.unknown;
       not_negative = hints.ids.negative;
     })
@@ -182,15 +183,15 @@ deletion_has_no_code vars last id tokens h =
     let hints = hints_are_well tokens parts.1 in
     let number = id_token id parts.0 in
     no_code _ _ _ _ _ _ (record {
-      not_large = either_false (is_too_large id) (list_any is_too_large c.front) number.large hints.ids.large;
-      not_strange = either_false _ (not (list_all is_number c.behind))
-          (either_false _ (list_any is_negative c.front)
-          (either_false (not (is_unsigned id)) (not (list_all is_number c.front))
-          (not_of_true (is_unsigned id) (join (is_number id) (not (is_negative id)) number.number (not_false (is_negative id) number.negative)))
-          (not_of_true (list_all is_number c.front) hints.ids.number))
+      not_large = or_from (is_too_large id) (list_any is_too_large c.front) number.large hints.ids.large;
+      not_strange = or_from _ (not (list_all is_number c.behind))
+          (or_from _ (list_any is_negative c.front)
+          (or_from (not (is_unsigned id)) (not (list_all is_number c.front))
+          (not_from_true (is_unsigned id) (join (is_number id) (not (is_negative id)) number.number (not_false (is_negative id) number.negative)))
+          (not_from_true (list_all is_number c.front) hints.ids.number))
           hints.ids.negative)
-          (not_of_true (list_all is_number c.behind) (nothing_numbers c.behind hints.rest));
-      not_unended = either_false (not c.ended) (some_rest c.behind) (not_of_true c.ended hints.ended) hints.rest;
+          (not_from_true (list_all is_number c.behind) (nothing_numbers c.behind hints.rest));
+      not_unended = or_from (not c.ended) (some_rest c.behind) (not_from_true c.ended hints.ended) hints.rest;
       not_low = refl;
       not_unknown = refl;
       not_negative = refl;

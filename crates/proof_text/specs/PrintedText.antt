@@ -39,11 +39,6 @@ step_text step = step_words_text step ++ codes "0\n"
 abbrev pub steps_text : List ProofStep → List ℕ
 steps_text steps = flat_map step_text steps
 
--- some was appended
-pub record Extends (old new : List ℕ) : Type 0 where
-  pub more : List ℕ
-  pub is : new ≡ old ++ more
-
 -- The numbers of a step are below 2 ^ 64.
 abbrev pub NumbersFit : ProofStep → Type 0
 NumbersFit (Add line id clause hints) = (id < 2 ^ 64) × All (λ n. n < 2 ^ 64) hints

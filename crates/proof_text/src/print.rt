@@ -1,30 +1,16 @@
 // Printing formulas and proofs.
 ghost use Rattle.std.specs.Prelude.{◌≡◌, ◌+◌, ◌<◌, ◌≤◌, ◌^◌, ◌++◌, ◌∷◌, [], All, drop, length, map, codes, flat_map, decimal, vec_len, OnOk, OnErr, IfOk};
+ghost use Rattle.des_base.specs.Lists.{Extends};
 ghost use Rattle.prop_core.specs.Clauses.{HasValues};
 ghost use Rattle.proof_text.specs.ProofNumbers.{NumbersAscend, HasNoZero};
 ghost use Rattle.proof_text.specs.CnfText.{formula};
-ghost use Rattle.proof_text.specs.PrintedText.{Extends, KeepsLimits, IsFormulaText, ReadsBack, NumbersFit, literal_word, literals_text, numbers_text, header_text, clause_text, formula_text, step_words_text, step_text, steps_text};
+ghost use Rattle.proof_text.specs.PrintedText.{KeepsLimits, IsFormulaText, ReadsBack, NumbersFit, literal_word, literals_text, numbers_text, header_text, clause_text, formula_text, step_words_text, step_text, steps_text};
 
 use crate::cnf::Cnf;
 use crate::proof::Proof;
-use des_base::Memory;
+use des_base::{Memory, push_decimal};
 use proof_ledger::ProofStep;
 use prop_core::{ClauseId, Lit};
-
-// Appends the decimal digits of the number.
-#[tactic(auto, using(std::proofs::lemmas::Fmt::decimal_step, std::proofs::lemmas::Fmt::decimal_digit))]
-fn push_decimal(out: &mut Vec<u8>, n: u64) -> Result<(), Memory>
-    ensures ok { OnOk result (out.new.items ≡ out.old.items ++ decimal n) }
-    ensures kept { Extends out.old.items out.new.items }
-{
-    if n < 10 {
-        out.push(b'0' + n as u8)?;
-        return Ok(());
-    }
-    push_decimal(out, n / 10)?;
-    out.push(b'0' + (n % 10) as u8)?;
-    Ok(())
-}
 
 // Appends the bytes.
 fn push_bytes(out: &mut Vec<u8>, bytes: &[u8]) -> Result<(), Memory>

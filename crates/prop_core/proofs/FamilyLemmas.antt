@@ -1,20 +1,12 @@
 -- How clauses of a family grow by the loops that write them.
 use Rattle.std.proofs.Common.{◌≡◌, ℕ, suc, ◌+◌, ◌<◌, ◌∙◌, ◌⊎◌, inl, inr, Bool, true, false, List, [], ◌∷◌, ◌++◌, Option, Some, None, refl, sym, ap, subst, arith, Contains, append-nil, append_assoc, map}
-use Rattle.std.specs.List.{AllByRecursion}
 use Rattle.std.proofs.lemmas.List.Elements.{Contains-append_left, Contains-append_right}
 use Rattle.std.proofs.lemmas.Bool.{cases_order}
+use Rattle.des_base.proofs.Elements.{all_append, all_change}
 use Rattle.prop_core.specs.Clauses.{Clause}
 use Rattle.prop_core.specs.VariableNames.{Name, NamedLiteral, named_clause, named_literal, with_literal, yes, no, name_of, ReadsAs, SameElements}
 use Rattle.prop_core.specs.NamedClauses.{IsCode, IsThere, One, Both, Each, When, Appends}
 use Rattle.prop_core.proofs.NameLemmas.{reads_more}
-
-pub all_append : {X : Type 0} (P : X → Type 0) (xs ys : List X) → AllByRecursion P xs → AllByRecursion P ys → AllByRecursion P (xs ++ ys)
-all_append P [] ys all more = more
-all_append P (x ∷ xs) ys all more = (all.0, all_append P xs ys all.1 more)
-
-all_weaker : {X : Type 0} (P Q : X → Type 0) (xs : List X) → ((x : X) → P x → Q x) → AllByRecursion P xs → AllByRecursion Q xs
-all_weaker P Q [] to all = tt
-all_weaker P Q (x ∷ xs) to all = (to x all.0, all_weaker P Q xs to all.1)
 
 module _ (names : List (ℕ × Name)) where
   -- an empty family
@@ -28,8 +20,8 @@ module _ (names : List (ℕ × Name)) where
   code_append F G xs ys first second = record {
     all = all;
     only = all_append (λ clause. (named : List NamedLiteral) × Both F G named × ReadsAs names clause named) xs ys
-        (all_weaker (λ clause. (named : List NamedLiteral) × F named × ReadsAs names clause named) (λ clause. (named : List NamedLiteral) × Both F G named × ReadsAs names clause named) xs (λ clause h. (h.0, inl h.1, h.2)) first.only)
-        (all_weaker (λ clause. (named : List NamedLiteral) × G named × ReadsAs names clause named) (λ clause. (named : List NamedLiteral) × Both F G named × ReadsAs names clause named) ys (λ clause h. (h.0, inr h.1, h.2)) second.only);
+        (all_change (λ clause. (named : List NamedLiteral) × F named × ReadsAs names clause named) (λ clause. (named : List NamedLiteral) × Both F G named × ReadsAs names clause named) xs (λ clause h. (h.0, inl h.1, h.2)) first.only)
+        (all_change (λ clause. (named : List NamedLiteral) × G named × ReadsAs names clause named) (λ clause. (named : List NamedLiteral) × Both F G named × ReadsAs names clause named) ys (λ clause h. (h.0, inr h.1, h.2)) second.only);
   }
     where
       all : (named : List NamedLiteral) → Both F G named → IsThere names (xs ++ ys) named
@@ -42,7 +34,7 @@ module _ (names : List (ℕ × Name)) where
   code_alike F G xs to back code = record {
     all = λ named is. let alike = back named is in let there = code.all alike.0 alike.1 in
         (there.0, there.1, record { read = there.2.read; by_name = there.2.by_name; same = λ l. ((λ h. (alike.2 l).0 ((there.2.same l).0 h)), (λ h. (there.2.same l).1 ((alike.2 l).1 h))) });
-    only = all_weaker (λ clause. (named : List NamedLiteral) × F named × ReadsAs names clause named) (λ clause. (named : List NamedLiteral) × G named × ReadsAs names clause named) xs (λ clause h. (h.0, to h.0 h.1, h.2)) code.only;
+    only = all_change (λ clause. (named : List NamedLiteral) × F named × ReadsAs names clause named) (λ clause. (named : List NamedLiteral) × G named × ReadsAs names clause named) xs (λ clause h. (h.0, to h.0 h.1, h.2)) code.only;
   }
 
   pub code_same : (F G : List NamedLiteral → Type 0) (xs : List Clause) → ((named : List NamedLiteral) → F named → G named) → ((named : List NamedLiteral) → G named → F named) → IsCode names F xs → IsCode names G xs
@@ -78,7 +70,7 @@ module _ (names : List (ℕ × Name)) where
 pub code_more_names : (names more : List (ℕ × Name)) (F : List NamedLiteral → Type 0) (xs : List Clause) → IsCode names F xs → IsCode (names ++ more) F xs
 code_more_names names more F xs code = record {
   all = λ named is. let there = code.all named is in (there.0, there.1, reads_more names more there.0 named named refl there.2);
-  only = all_weaker (λ clause. (named : List NamedLiteral) × F named × ReadsAs names clause named) (λ clause. (named : List NamedLiteral) × F named × ReadsAs (names ++ more) clause named) xs
+  only = all_change (λ clause. (named : List NamedLiteral) × F named × ReadsAs names clause named) (λ clause. (named : List NamedLiteral) × F named × ReadsAs (names ++ more) clause named) xs
       (λ clause h. (h.0, h.1, reads_more names more clause h.0 h.0 refl h.2)) code.only;
 }
 

@@ -4,10 +4,10 @@ use Rattle.prop_core.specs.declared.lit.Lit.{Lit}
 use Rattle.prop_core.specs.Clauses.{Clause}
 use Rattle.prop_core.specs.Derivation.{Standing, falsified, satisfied, unit, standing, after_standing, after_hint, follow, Derivation, derives, ended, goes_on}
 
-follow_ended : (held : ℕ → Option Clause) (taken : List Lit) (at hint : ℕ) (hints : List ℕ) (result : Derivation) → after_hint taken at (held hint) ≡ ended result → follow held taken at (hint ∷ hints) ≡ result
+pub follow_ended : (held : ℕ → Option Clause) (taken : List Lit) (at hint : ℕ) (hints : List ℕ) (result : Derivation) → after_hint taken at (held hint) ≡ ended result → follow held taken at (hint ∷ hints) ≡ result
 follow_ended held taken at hint hints result e = rw (e, follow) refl
 
-follow_goes_on : (held : ℕ → Option Clause) (taken : List Lit) (at hint : ℕ) (hints : List ℕ) (more : List Lit) → after_hint taken at (held hint) ≡ goes_on more → follow held taken at (hint ∷ hints) ≡ follow held more (at + 1) hints
+pub follow_goes_on : (held : ℕ → Option Clause) (taken : List Lit) (at hint : ℕ) (hints : List ℕ) (more : List Lit) → after_hint taken at (held hint) ≡ goes_on more → follow held taken at (hint ∷ hints) ≡ follow held more (at + 1) hints
 follow_goes_on held taken at hint hints more e = rw (e, follow) refl
 
 hinted : (held : ℕ → Option Clause) (taken : List Lit) (at hint : ℕ) (clause : Clause) (s : Standing) → held hint ≡ Some clause → standing taken clause ≡ s → after_hint taken at (held hint) ≡ after_standing taken at s

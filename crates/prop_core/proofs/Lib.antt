@@ -8,3 +8,4 @@ pub mod Vectors
 pub mod NameLemmas
 pub mod FamilyLemmas
 pub mod GridLemmas
+pub mod Premises

@@ -42,7 +42,7 @@ same_back a b = by (same_literal a b) refl (same_literal b a) refl
     by false e true f = let g = same_is b a f in let h : same_literal a b ≡ true = subst (λ (x : Lit). same_literal x b ≡ true) g (same_itself b) in cc
     by false e false f = refl
 
-not_not : (a : Bool) → not (not a) ≡ a
+pub not_not : (a : Bool) → not (not a) ≡ a
 not_not true = refl
 not_not false = refl
 

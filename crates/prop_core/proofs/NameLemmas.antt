@@ -3,18 +3,15 @@ use Rattle.std.proofs.Common.{◌≡◌, ◌≢◌, ℕ, zero, suc, ◌∙◌, B
 use Rattle.std.specs.Bool.{beq}
 use Rattle.std.specs.List.{AllByRecursion, list_any}
 use Rattle.std.proofs.lemmas.Bool.{and_parts, eqb-true, eq-eqb, false_from_ne_true}
+use Rattle.des_base.proofs.BoolLemmas.{itself}
+use Rattle.des_base.proofs.Elements.{all_at}
 use Rattle.prop_core.specs.declared.lit.Lit.{Lit}
-use Rattle.prop_core.specs.Clauses.{Clause, clause_true, AllClausesTrue}
+use Rattle.prop_core.specs.Clauses.{Clause, literal_true, clause_true, AllClausesTrue}
 use Rattle.prop_core.specs.VariableNames.{Name, in_state, happens, asked, matches, done, unmatched, closed, dropped, reaches, some_of_first, Exclusion, of_states, of_events, of_matches, NamedLiteral, HasEachOnce, name_of, named_literal, with_literal, named_clause, ReadsAs}
 use Rattle.prop_core.specs.NamedClauses.{same_sign, named_true, named_clause_true, same_exclusion, same_name, variable_of, Match, ValuesMatch, AssignmentsMatch, AllHold, CodeHolds}
 
-pub at_each : {X : Type 0} (P : X → Type 0) (xs : List X) (x : X) → AllByRecursion P xs → Contains xs x → P x
-at_each P [] x all (k, below, is) = absurd (omega arith)
-at_each P (y ∷ xs) x all (zero, below, is) = subst P is all.0
-at_each P (y ∷ xs) x all (suc k, below, is) = at_each P xs x all.1 (k, omega arith, is)
-
 -- further names change nothing
-found_more : (names more : List (ℕ × Name)) (var : ℕ) (name : Name) → name_of names var ≡ Some name → name_of (names ++ more) var ≡ Some name
+pub found_more : (names more : List (ℕ × Name)) (var : ℕ) (name : Name) → name_of names var ≡ Some name → name_of (names ++ more) var ≡ Some name
 found_more [] more var name h = cc
 found_more (entry ∷ names) more var name h = by (entry.0 == var) refl (found_more names more var name)
   where
@@ -22,7 +19,7 @@ found_more (entry ∷ names) more var name h = by (entry.0 == var) refl (found_m
     by true e later = rw e (rw e at h)
     by false e later = rw e (later (rw e at h))
 
-literal_more : (names more : List (ℕ × Name)) (l : Lit) (m : NamedLiteral) → named_literal names l ≡ Some m → named_literal (names ++ more) l ≡ Some m
+pub literal_more : (names more : List (ℕ × Name)) (l : Lit) (m : NamedLiteral) → named_literal names l ≡ Some m → named_literal (names ++ more) l ≡ Some m
 literal_more names more l m h = by (name_of names l.var) refl h
   where
     by : (o : Option Name) → name_of names l.var ≡ o → option_map (λ (name : Name). record { name = name; positive = l.positive }) o ≡ Some m → named_literal (names ++ more) l ≡ Some m
@@ -46,11 +43,24 @@ reads_more names more clause named other same reads =
 
 -- ---- truth
 
-sign_is : (a b : Bool) → beq a b ≡ same_sign b a
+pub sign_is : (a b : Bool) → beq a b ≡ same_sign b a
 sign_is true true = refl
 sign_is true false = refl
 sign_is false true = refl
 sign_is false false = refl
+
+pub some_literal : (a b : NamedLiteral) → Some a ≡ Some b → a ≡ b
+some_literal a b h = cc
+
+-- a literal that reads as another has its truth
+pub literal_is : (names : List (ℕ × Name)) (assignment : ℕ → Bool) (value : Name → Bool) (l : Lit) (m : NamedLiteral) → Match names assignment value → named_literal names l ≡ Some m → literal_true assignment l ≡ named_true value m
+literal_is names assignment value l m match h = by (name_of names l.var) refl h
+  where
+    by : (o : Option Name) → name_of names l.var ≡ o → option_map (λ (name : Name). record { name = name; positive = l.positive }) o ≡ Some m → literal_true assignment l ≡ named_true value m
+    by None e is = cc
+    by (Some name) e is =
+        subst (λ x. literal_true assignment l ≡ named_true value x) (some_literal (record { name = name; positive = l.positive }) m is)
+        (sign_is (assignment l.var) l.positive ∙ ap (same_sign l.positive) (match l.var name e))
 
 equal2 : (a b c d : ℕ) → (a == b) && (c == d) ≡ true → (a ≡ b) × (c ≡ d)
 equal2 a b c d h = let p = and_parts (a == b) (c == d) h in (eqb-true a b p.0, eqb-true c d p.1)
@@ -77,25 +87,22 @@ same_name_true (reaches i j) (reaches k l) h = let p = equal2 i k j l h in cc
 same_name_true (some_of_first a i) (some_of_first b j) h = let p = and_parts (same_exclusion a b) (i == j) h in let x = same_exclusion_true a b p.0 in let y = eqb-true i j p.1 in cc
 same_name_true a b h = cc
 
-itself_eqb : (a : ℕ) → (a == a) ≡ true
-itself_eqb a = eq-eqb a a refl
-
 same_exclusion_itself : (a : Exclusion) → same_exclusion a a ≡ true
-same_exclusion_itself (of_states c t) = rw (itself_eqb c, itself_eqb t) refl
-same_exclusion_itself (of_events t g) = rw (itself_eqb t, itself_eqb g) refl
-same_exclusion_itself (of_matches i t) = rw (itself_eqb i, itself_eqb t) refl
+same_exclusion_itself (of_states c t) = rw (itself c, itself t) refl
+same_exclusion_itself (of_events t g) = rw (itself t, itself g) refl
+same_exclusion_itself (of_matches i t) = rw (itself i, itself t) refl
 
 same_name_itself : (a : Name) → same_name a a ≡ true
-same_name_itself (in_state c q t) = simp itself_eqb
-same_name_itself (happens e t) = simp itself_eqb
+same_name_itself (in_state c q t) = simp itself
+same_name_itself (happens e t) = simp itself
 same_name_itself asked = refl
-same_name_itself (matches i e t) = simp itself_eqb
-same_name_itself (done i t) = simp itself_eqb
-same_name_itself (unmatched e k t) = simp itself_eqb
-same_name_itself (closed e k) = simp itself_eqb
-same_name_itself (dropped i) = simp itself_eqb
-same_name_itself (reaches i j) = simp itself_eqb
-same_name_itself (some_of_first a i) = simp (itself_eqb, same_exclusion_itself)
+same_name_itself (matches i e t) = simp itself
+same_name_itself (done i t) = simp itself
+same_name_itself (unmatched e k t) = simp itself
+same_name_itself (closed e k) = simp itself
+same_name_itself (dropped i) = simp itself
+same_name_itself (reaches i j) = simp itself
+same_name_itself (some_of_first a i) = simp (itself, same_exclusion_itself)
 
 -- what a variable is called stands among the names
 named_in : (names : List (ℕ × Name)) (var : ℕ) (name : Name) → name_of names var ≡ Some name → (entry : ℕ × Name) × Contains names entry × (entry.1 ≡ name)
@@ -119,7 +126,7 @@ variable_is (entry ∷ names) once var name h = by (entry.0 == var) refl (variab
     by false e later =
         let rest : name_of names var ≡ Some name = rw e at h in
         let found = named_in names var name rest in
-        let test : same_name entry.1 name ≡ false = false_from_ne_true (same_name entry.1 name) (λ t. (at_each (λ b. (entry.0 ≢ b.0) × (entry.1 ≢ b.1)) names found.0 once.0 found.1).1 (same_name_true entry.1 name t ∙ sym found.2)) in
+        let test : same_name entry.1 name ≡ false = false_from_ne_true (same_name entry.1 name) (λ t. (all_at (λ b. (entry.0 ≢ b.0) × (entry.1 ≢ b.1)) names found.0 once.0 found.1).1 (same_name_true entry.1 name t ∙ sym found.2)) in
         rw test (later rest)
 
 pub values_match : ValuesMatch
@@ -182,7 +189,7 @@ code_holds family names clauses assignment value code match = (to, λ all. back 
   where
     to : AllClausesTrue assignment clauses → AllHold family value
     to all named is = let there = code.all named is in
-        (clause_by_name names assignment value match there.0 named there.2).0 (at_each (λ clause. IsTrue (clause_true assignment clause)) clauses there.0 all there.1)
+        (clause_by_name names assignment value match there.0 named there.2).0 (all_at (λ clause. IsTrue (clause_true assignment clause)) clauses there.0 all there.1)
 
     back : (rest : List Clause) → AllByRecursion (λ clause. (named : List NamedLiteral) × family named × ReadsAs names clause named) rest → AllHold family value → AllClausesTrue assignment rest
     back [] only all = tt
@@ -212,5 +219,5 @@ called_by (entry ∷ names) once var name h = by (same_name entry.1 name) refl (
     by false e later =
         let rest : variable_of names name ≡ Some var = rw e at h in
         let found = has_variable names var name rest in
-        let test : (entry.0 == var) ≡ false = false_from_ne_true (entry.0 == var) (λ t. (at_each (λ b. (entry.0 ≢ b.0) × (entry.1 ≢ b.1)) names found.0 once.0 found.1).0 (eqb-true entry.0 var t ∙ sym found.2)) in
+        let test : (entry.0 == var) ≡ false = false_from_ne_true (entry.0 == var) (λ t. (all_at (λ b. (entry.0 ≢ b.0) × (entry.1 ≢ b.1)) names found.0 once.0 found.1).0 (eqb-true entry.0 var t ∙ sym found.2)) in
         rw test (later rest)

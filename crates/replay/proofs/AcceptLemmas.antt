@@ -1,14 +1,13 @@
 -- A run is accepted exactly where it is well matched and explains, and has one answer at most.
-use Rattle.std.proofs.Common.{◌≡◌, ◌≢◌, ℕ, ◌+◌, ◌<◌, ◌≤◌, Bool, true, false, cond, not, ◌&&◌, List, [], ◌∷◌, ◌++◌, length, Option, None, Some, refl, arith, ap, sym, ◌∙◌, subst, Contains, ◌⊎◌, inl, inr}
+use Rattle.std.proofs.Common.{◌≡◌, ◌≢◌, ℕ, ◌+◌, ◌<◌, Bool, true, false, cond, not, ◌&&◌, List, [], ◌∷◌, ◌++◌, length, Option, None, Some, refl, arith, ap, sym, ◌∙◌, subst, Contains, ◌⊎◌, inl, inr}
 use Rattle.std.specs.Prelude.{is_some, IsSome, IsSomeAnd, nat_le, option_map, count_by}
 use Rattle.std.specs.List.{AllByRecursion, AllZip, cons_option}
 use Rattle.std.specs.Option.{option_map_or, option_to_list}
 use Rattle.std.proofs.lemmas.List.{append-nil}
 use Rattle.std.proofs.lemmas.List.Sums.{sum_by-cons}
-use Rattle.std.proofs.lemmas.Bool.Decides.{nat_tests}
 use Rattle.des_base.specs.Lists.{EachPair}
 use Rattle.des_base.specs.Names.{place_of}
-use Rattle.des_base.proofs.BoolLemmas.{both, join, not_false, not_true}
+use Rattle.des_base.proofs.BoolLemmas.{both, join, not_false, not_true, is_most, not_most}
 use Rattle.des_base.proofs.TableLemmas.{place_of-within}
 use Rattle.des_net.specs.Network.{Net, label_of}
 use Rattle.des_net.specs.Run.{IsRun, fault_count}
@@ -24,8 +23,8 @@ use Rattle.replay.specs.declared.replaying.Replayed.{Replayed}
 use Rattle.replay.specs.declared.replaying.Replayed.TheVariants.{Accepted, Stuck, BadAlarm, Missing, Order, TooWide}
 use Rattle.replay.specs.declared.tracing.Traced.TheVariants.{Ran, Stuck as Halted}
 use Rattle.replay.specs.Traced.{word_of, IsStuckAt}
-use Rattle.replay.specs.Explanation.{Entry, alarms_of, real_alarms, false_count, may_stand, faults_of, observables, Shows}
-use Rattle.replay.specs.Matching.{alarm_of, alarms_on, is_real, entry_of, order_of, IsWellMatched, has_label, suits, suits_label, with_step, bad_alarm, bad_alarm_from, missing_alarm, wrong_pair}
+use Rattle.replay.specs.Explanation.{Entry, alarms_of, real_alarms, false_count, may_stand, faults_of, observables, Shows, has_label}
+use Rattle.replay.specs.Matching.{alarm_of, alarms_on, is_real, entry_of, order_of, IsWellMatched, suits, suits_label, with_step, bad_alarm, bad_alarm_from, missing_alarm, wrong_pair}
 use Rattle.replay.specs.Replayed.{IsReplayed, IsAccepted, RepliesAreUnique, AcceptedExplains}
 use Rattle.replay.proofs.ListTests.{text_in, in_text, each_from, none_missing, kept_from, none_wrong, fresh_split, fresh_both, fresh_none}
 use Rattle.replay.proofs.TraceLemmas.{traces_are_unique}
@@ -284,12 +283,6 @@ the_answer net log run n =
 answer_is : (a b : Option ℕ) (m : Option ℕ) (w : Option (ℕ × ℕ)) (m' : Option ℕ) (w' : Option (ℕ × ℕ)) (pieces n faults : ℕ) → b ≡ a → m ≡ m' → w ≡ w' → answer a m' w' pieces n faults ≡ answer b m w pieces n faults
 answer_is a b m w m' w' pieces n faults e f g = λ i. answer (sym e i) (sym f i) (sym g i) pieces n faults
 
-within : (pieces n : ℕ) → pieces ≤ n → nat_le pieces n ≡ true
-within pieces n h = grind (arith, nat_tests)
-
-over : (pieces n : ℕ) → n < pieces → nat_le pieces n ≡ false
-over pieces n h = grind (arith, nat_tests)
-
 abbrev Told : Net → Log → List RunStep → ℕ → Replayed → Type 0
 Told net log run n a = ((at : ℕ) × (a ≡ Stuck at) × IsStuckAt net run at) ⊎ (IsRun net (word_of run) × (a ≡ the_answer net log run n))
 
@@ -300,12 +293,12 @@ told net log run n (Missing alarm) h = inr (h.0, answer_is None _ _ _ (Some alar
 told net log run n (Order first second) h = inr (h.0, answer_is None _ _ _ None (Some (first, second)) (need net (word_of run)) n (faults_of net (word_of run) (order_of log run)) h.1 h.2 h.3)
 told net log run n (TooWide pieces) h = inr (
   h.0,
-  ap TooWide h.2 ∙ ap (λ b. cond b (Accepted (faults_of net (word_of run) (order_of log run))) (TooWide (need net (word_of run)))) (sym (over (need net (word_of run)) n (subst (λ k. n < k) h.2 h.3)))
+  ap TooWide h.2 ∙ ap (λ b. cond b (Accepted (faults_of net (word_of run) (order_of log run))) (TooWide (need net (word_of run)))) (sym (not_most (need net (word_of run)) n (subst (λ k. n < k) h.2 h.3)))
       ∙ answer_is None _ _ _ None None (need net (word_of run)) n (faults_of net (word_of run) (order_of log run)) h.1.suit h.1.complete h.1.kept,
 )
 told net log run n (Accepted faults) h = inr (
   h.0,
-  ap Accepted h.3 ∙ ap (λ b. cond b (Accepted (faults_of net (word_of run) (order_of log run))) (TooWide (need net (word_of run)))) (sym (within (need net (word_of run)) n h.2))
+  ap Accepted h.3 ∙ ap (λ b. cond b (Accepted (faults_of net (word_of run) (order_of log run))) (TooWide (need net (word_of run)))) (sym (is_most (need net (word_of run)) n h.2))
       ∙ answer_is None _ _ _ None None (need net (word_of run)) n (faults_of net (word_of run) (order_of log run)) h.1.suit h.1.complete h.1.kept,
 )
 

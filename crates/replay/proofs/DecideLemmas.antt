@@ -10,8 +10,8 @@ use Rattle.des_net.specs.Width.{need}
 use Rattle.des_net.proofs.Local.{runs_are_local}
 use Rattle.des_net.proofs.WidthLemmas.{need_is_least}
 use Rattle.log_order.specs.Log.{Log, labels_of}
-use Rattle.replay.specs.Explanation.{Entry, alarms_of, real_alarms, may_stand, observables, Shows, Linearises}
-use Rattle.replay.specs.Matching.{has_label, wrong_pair}
+use Rattle.replay.specs.Explanation.{Entry, alarms_of, real_alarms, may_stand, observables, Shows, Linearises, has_label}
+use Rattle.replay.specs.Matching.{wrong_pair}
 use Rattle.replay.specs.Deciding.{all_show, lists_once, linearises, ExplainsDecides}
 use Rattle.replay.proofs.ListTests.{text_in, in_text, none_is, listed_from, listed_test, kept_from, none_wrong}
 

@@ -6,6 +6,7 @@ use Rattle.std.specs.Option.{option_map_or}
 use Rattle.std.proofs.lemmas.Slice.Eq.{bytes_eq-Decides}
 use Rattle.des_base.specs.Lists.{EachPair}
 use Rattle.des_base.proofs.BoolLemmas.{both, join, either, neither, or_left, or_right, not_false, not_true, not_is_false, otherwise, same, itself, is_less, less_is}
+use Rattle.log_order.proofs.MarkLemmas.{in-push}
 use Rattle.log_order.specs.Log.{ListsOnce, Keeps, place_in}
 use Rattle.log_order.specs.Order.{first_below}
 use Rattle.log_order.specs.Precedence.{is_in}
@@ -13,7 +14,6 @@ use Rattle.log_order.proofs.LeastOrder.{first_below-none}
 use Rattle.log_order.proofs.Places.{in_from, in_is}
 use Rattle.replay.specs.Matching.{missing_alarm, wrong_pair}
 use Rattle.replay.specs.Deciding.{is_distinct, lists_once}
-use Rattle.replay.proofs.PlacingLemmas.{in-push}
 
 pub none_is : {X : Type 0} (o : Option X) → is_none o ≡ true → o ≡ None
 none_is None h = refl

@@ -2,23 +2,16 @@
 use Rattle.std.proofs.Common.{◌≡◌, ◌≢◌, ℕ, suc, ◌+◌, ◌<◌, Bool, true, false, cond, not, ◌||◌, List, [], ◌∷◌, ◌++◌, length, Option, None, Some, refl, arith, ap, sym, ◌∙◌, subst, get_or, get_or-set_same, get_or-set_other}
 use Rattle.std.specs.Prelude.{◌==◌, slice_set}
 use Rattle.des_base.proofs.BoolLemmas.{same, itself}
+use Rattle.log_order.proofs.MarkLemmas.{in-push}
 use Rattle.log_order.specs.Log.{place_in}
 use Rattle.log_order.specs.Precedence.{is_in}
 use Rattle.replay.specs.Placed.{place_of_alarm}
 
 -- ---- being there
 
-in_step : (a b c : Bool) → (a || (b || c)) ≡ ((a || b) || c)
-in_step true b c = refl
-in_step false b c = refl
-
 last_step : (a : Bool) → (a || false) ≡ a
 last_step true = refl
 last_step false = refl
-
-pub in-push : (xs : List ℕ) (y i : ℕ) → is_in (xs ++ y ∷ []) i ≡ (is_in xs i || (y == i))
-in-push [] y i = last_step (y == i)
-in-push (x ∷ xs) y i = ap (λ b. (x == i) || b) (in-push xs y i) ∙ in_step (x == i) (is_in xs i) (y == i)
 
 -- ---- the place
 

@@ -1,14 +1,13 @@
 -- Whether a word and an order explain a log, as a test that computes.
 use Rattle.std.specs.Prelude.{ℕ, ◌↔◌, Bool, true, false, ◌&&◌, not, List, [], ◌∷◌, length, nat_le, nat_lt, is_none, IsTrue}
 use Rattle.std.specs.List.{list_all}
-use Rattle.std.specs.Option.{option_map_or}
-use Rattle.des_net.specs.Network.{Net, label_of}
+use Rattle.des_net.specs.Network.{Net}
 use Rattle.des_net.specs.LocalRuns.{can_run}
 use Rattle.des_net.specs.Width.{need}
 use Rattle.log_order.specs.Log.{Log}
 use Rattle.log_order.specs.Precedence.{is_in}
-use Rattle.replay.specs.Explanation.{Entry, alarms_of, real_alarms, may_stand, Explains, observables}
-use Rattle.replay.specs.Matching.{has_label, missing_alarm, wrong_pair}
+use Rattle.replay.specs.Explanation.{Entry, alarms_of, real_alarms, may_stand, Explains, observables, is_matching}
+use Rattle.replay.specs.Matching.{missing_alarm, wrong_pair}
 
 -- no number stands twice
 abbrev pub is_distinct : List ℕ → Bool
@@ -24,7 +23,7 @@ abbrev pub all_show : Net → Log → List ℕ → List ℕ → Bool
 all_show net log [] [] = true
 all_show net log [] (alarm ∷ order) = false
 all_show net log (e ∷ events) [] = false
-all_show net log (e ∷ events) (alarm ∷ order) = option_map_or (has_label log alarm) (label_of net e) false && all_show net log events order
+all_show net log (e ∷ events) (alarm ∷ order) = is_matching net log e alarm && all_show net log events order
 
 abbrev pub linearises : Net → Log → List ℕ → List Entry → Bool
 linearises net log word order =

@@ -1,6 +1,7 @@
 -- What explains an alarm log, and the least number of faults (Sampath et al., "Diagnosability of discrete-event systems", 1995; Grastien et al., "Diagnosis of discrete-event systems using satisfiability algorithms", 2007).
-use Rattle.std.specs.Prelude.{◌≡◌, ℕ, ◌+◌, ◌<◌, ◌≤◌, Bool, not, ◌||◌, List, length, Contains, map, filter, count_by, is_some, IsSomeAnd, IsTrue}
-use Rattle.std.specs.List.{AllByRecursion, AllZip}
+use Rattle.std.specs.Prelude.{◌≡◌, ℕ, ◌+◌, ◌<◌, ◌≤◌, Bool, false, not, ◌||◌, List, length, Contains, map, filter, count_by, is_some, IsSomeAnd, IsTrue, bytes_eq}
+use Rattle.std.specs.List.{AllByRecursion, AllZip, list_any}
+use Rattle.std.specs.Option.{option_map_or}
 use Rattle.des_base.specs.declared.TheConstants.{MOST_COLUMNS}
 use Rattle.des_net.specs.Network.{Net, label_of}
 use Rattle.des_net.specs.Run.{IsRun, fault_count}
@@ -14,6 +15,13 @@ observables net word = filter (λ e. is_some (label_of net e)) word
 -- the event can be seen, and its label is among those of the alarm
 abbrev pub Shows : Net → Log → ℕ → ℕ → Type 0
 Shows net log e alarm = IsSomeAnd (label_of net e) (Contains (labels_of log alarm))
+
+-- the same as a test
+abbrev pub has_label : Log → ℕ → List ℕ → Bool
+has_label log alarm label = list_any (bytes_eq label) (labels_of log alarm)
+
+abbrev pub is_matching : Net → Log → ℕ → ℕ → Bool
+is_matching net log e alarm = option_map_or (has_label log alarm) (label_of net e) false
 
 -- an alarm in its place, and whether it is true: a false one stands for no event
 pub record Entry : Type 0 where

@@ -1,16 +1,16 @@
 -- How the steps of a run are matched to the alarms of a log, by name.
-use Rattle.std.specs.Prelude.{◌≡◌, ⊤, ℕ, ◌+◌, Bool, true, false, ◌&&◌, not, List, [], ◌∷◌, ◌++◌, filter_map, find, option_map, Option, None, Some, is_some, if◌then◌else◌, nat_lt, bytes_eq, option_and_then, IfSome, IsSome}
-use Rattle.std.specs.List.{AllByRecursion, list_any}
+use Rattle.std.specs.Prelude.{◌≡◌, ⊤, ℕ, ◌+◌, Bool, true, false, ◌&&◌, not, List, [], ◌∷◌, ◌++◌, filter_map, find, option_map, Option, None, Some, is_some, if◌then◌else◌, nat_lt, option_and_then, IfSome, IsSome}
+use Rattle.std.specs.List.{AllByRecursion}
 use Rattle.std.specs.Option.{option_map_or, option_to_list}
 use Rattle.des_base.specs.Names.{place_of}
 use Rattle.des_net.specs.Network.{Net, label_of}
-use Rattle.log_order.specs.Log.{Log, labels_of, is_doubtful, place_in}
+use Rattle.log_order.specs.Log.{Log, is_doubtful, place_in}
 use Rattle.log_order.specs.Adding.{names_of}
 use Rattle.log_order.specs.Order.{first_below}
 use Rattle.log_order.specs.Precedence.{is_in}
 use Rattle.replay.specs.declared.run.RunStep.{RunStep}
 use Rattle.replay.specs.declared.run.RunStep.TheVariants.{Happens, Dropped}
-use Rattle.replay.specs.Explanation.{Entry}
+use Rattle.replay.specs.Explanation.{Entry, has_label}
 use Rattle.replay.specs.Traced.{word_of}
 
 -- the name of an alarm on a step
@@ -57,9 +57,6 @@ abbrev pub IsWellMatched : Net → Log → List RunStep → Type 0
 IsWellMatched net log run = AllByRecursion (IsMatched net log) run
 
 -- ---- the first step whose alarm is wrong
-
-abbrev pub has_label : Log → ℕ → List ℕ → Bool
-has_label log alarm label = list_any (bytes_eq label) (labels_of log alarm)
 
 -- an alarm of this name is there, may stand for the label, and isn't among the earlier ones
 abbrev pub suits_name : Log → List ℕ → List ℕ → List ℕ → Bool

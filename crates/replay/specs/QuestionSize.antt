@@ -1,15 +1,12 @@
 -- How large a question is, told before any clause is written, and a bound on its variables.
-use Rattle.std.specs.Prelude.{ℕ, ◌+◌, ◌*◌, ◌^◌, Bool, false, length, sum_by, count_by}
-use Rattle.std.specs.Option.{option_map_or}
+use Rattle.std.specs.Prelude.{ℕ, ◌+◌, ◌*◌, ◌^◌, length, sum_by, count_by}
+use Rattle.des_base.specs.ChainCount.{chain_count}
+use Rattle.des_base.specs.Lists.{numbers_below}
 use Rattle.des_base.specs.declared.TheConstants.{MOST_COLUMNS}
-use Rattle.des_net.specs.Network.{Net, label_of}
-use Rattle.des_net.specs.QuestionSize.{numbers_below, component_sizes, counter_size, step_variables, observable_count, at_most_one_count}
+use Rattle.des_net.specs.Network.{Net}
+use Rattle.des_net.specs.QuestionSize.{component_sizes, counter_size, step_variables, observable_count}
 use Rattle.log_order.specs.Log.{Log, is_doubtful}
-use Rattle.replay.specs.Matching.{has_label}
-
--- event e has one of the labels that alarm i may stand for
-abbrev pub is_matching : Net → Log → ℕ → ℕ → Bool
-is_matching net log e i = option_map_or (has_label log i) (label_of net e) false
+use Rattle.replay.specs.Explanation.{is_matching}
 
 -- how many events alarm i may stand for
 abbrev pub matching_count : Net → Log → ℕ → ℕ
@@ -28,7 +25,7 @@ question_size net log n = n * (component_sizes net + alarm_sizes net log + lengt
 
 -- the variables of one alarm in n steps, which may stand for m events
 abbrev pub alarm_variables : ℕ → ℕ → ℕ
-alarm_variables n m = n * (2 * m + at_most_one_count m + 1) + 1 + m
+alarm_variables n m = n * (2 * m + chain_count m + 1) + 1 + m
 
 -- at most so many variables stand for a question: a doubtful alarm has one, and one in each column of the counter
 abbrev pub variable_bound : Net → Log → ℕ → ℕ

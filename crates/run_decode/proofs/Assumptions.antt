@@ -1,13 +1,14 @@
 -- Assumptions don't contradict each other: guards alone are assumed to be true, and the bound to be false.
 use Rattle.std.proofs.Common.{◌≡◌, ◌≢◌, ◌∙◌, ℕ, suc, zero, Bool, true, false, not, List, [], ◌∷◌, length, Option, Some, None, refl, sym, ap, subst, map, option_map}
 use Rattle.std.specs.List.{AllByRecursion}
+use Rattle.des_base.proofs.Elements.{all_append, all_from}
 use Rattle.des_base.specs.Lists.{EachPair}
 use Rattle.des_net.specs.Network.{Net}
 use Rattle.log_clauses.proofs.Codes.{read_of}
-use Rattle.log_clauses.proofs.Lists.{all_of, all_at}
+use Rattle.log_clauses.proofs.Lists.{all_at}
 use Rattle.log_clauses.specs.LogClauses.{chain, observable_events, guard_literals}
 use Rattle.log_order.specs.Log.{Log}
-use Rattle.prop_core.proofs.FamilyLemmas.{all_append}
+use Rattle.prop_core.proofs.NameLemmas.{some_literal}
 use Rattle.prop_core.specs.Clauses.{negation}
 use Rattle.prop_core.specs.VariableNames.{Name, in_state, happens, asked, matches, done, unmatched, closed, dropped, reaches, some_of_first, NamedLiteral, yes, name_of, named_literal, named_clause, ReadsAs}
 use Rattle.prop_core.specs.declared.lit.Lit.{Lit}
@@ -50,9 +51,6 @@ assumptions_signed net log n bound = all_append HasSign (guard_literals net log)
 abbrev HasNamedSign : List (ℕ × Name) → Lit → Type 0
 HasNamedSign names l = (name : Name) × (name_of names l.var ≡ Some name) × (l.positive ≡ is_guard name)
 
-some_literal : (a b : NamedLiteral) → Some a ≡ Some b → a ≡ b
-some_literal a b h = cc
-
 some_name : (a b : Name) → Some a ≡ Some b → a ≡ b
 some_name a b h = cc
 
@@ -77,7 +75,7 @@ other_sign false e = cc
 no_opposites : (names : List (ℕ × Name)) (literals : List Lit) → AllByRecursion (HasNamedSign names) literals → EachPair (λ a b. a ≢ negation b) literals
 no_opposites names [] signs = tt
 no_opposites names (a ∷ literals) signs = (
-  all_of (λ b. a ≢ negation b) literals (λ b in' opposite.
+  all_from (λ b. a ≢ negation b) literals (λ b in' opposite.
       let other = all_at (HasNamedSign names) literals signs.1 b in' in
       let var : a.var ≡ b.var = ap (λ (l : Lit). l.var) opposite in
       let sign : a.positive ≡ not b.positive = ap (λ (l : Lit). l.positive) opposite in
@@ -89,4 +87,4 @@ no_opposites names (a ∷ literals) signs = (
 pub assumptions_are_consistent : (net : Net) (log : Log) (n : ℕ) (bound : Option ℕ) (names : List (ℕ × Name)) (assumed : List Lit) → ReadsAs names assumed (assumption_literals net log n bound) → EachPair (λ a b. a ≢ negation b) assumed
 assumptions_are_consistent net log n bound names assumed reads =
     no_opposites names assumed (literals_signed names assumed reads.read reads.by_name
-    (all_of HasSign reads.read (λ l in'. all_at HasSign (assumption_literals net log n bound) (assumptions_signed net log n bound) l ((reads.same l).0 in'))))
+    (all_from HasSign reads.read (λ l in'. all_at HasSign (assumption_literals net log n bound) (assumptions_signed net log n bound) l ((reads.same l).0 in'))))

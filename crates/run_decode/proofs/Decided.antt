@@ -1,10 +1,11 @@
 -- What the refutation of a question decides.
-use Rattle.std.proofs.Common.{◌≡◌, ℕ, suc, ◌<◌, ◌≤◌, ◌⊎◌, inl, inr, Bool, true, false, not, List, [], ◌∷◌, None, Some, subst, arith, IsTrue}
+use Rattle.std.proofs.Common.{◌≡◌, ℕ, suc, ◌<◌, ◌≤◌, ◌⊎◌, inl, inr, Bool, true, List, [], ◌∷◌, None, Some, subst, arith, IsTrue}
 use Rattle.std.proofs.lemmas.Bool.{cases_lt}
-use Rattle.std.specs.Bool.{beq}
+use Rattle.des_base.proofs.BoolLemmas.{either}
 use Rattle.des_net.specs.Network.{Net}
-use Rattle.log_clauses.proofs.Lists.{all_at, or_cases}
+use Rattle.log_clauses.proofs.Lists.{all_at}
 use Rattle.log_order.specs.Log.{Log}
+use Rattle.prop_core.proofs.Premises.{opposite}
 use Rattle.prop_core.specs.Clauses.{Clause, literal_true, clause_true, negation, AllLiteralsTrue}
 use Rattle.prop_core.specs.declared.lit.Lit.{Lit}
 use Rattle.replay.specs.Explanation.{NeedsFaults, faults_of}
@@ -33,16 +34,10 @@ none_is_least net log n explained = record { reached = explained; least = λ wor
 
 -- ---- by a clause of negated assumptions
 
-opposite : (a b : Bool) → beq a (not b) ≡ true → beq a b ≡ true → ⊥
-opposite true true h k = cc
-opposite true false h k = cc
-opposite false true h k = cc
-opposite false false h k = cc
-
 -- where the assumptions are true, a clause of their negations is not
 not_true : (assignment : ℕ → Bool) (assumed : List Lit) → AllLiteralsTrue assignment assumed → (clause : Clause) → NegatesOnly assumed clause → clause_true assignment clause ≡ true → ⊥
 not_true assignment assumed all [] negates h = cc
-not_true assignment assumed all (l ∷ clause) negates h = by (or_cases (literal_true assignment l) (clause_true assignment clause) h) (not_true assignment assumed all clause negates.1)
+not_true assignment assumed all (l ∷ clause) negates h = by (either (literal_true assignment l) (clause_true assignment clause) h) (not_true assignment assumed all clause negates.1)
   where
     by : (literal_true assignment l ≡ true) ⊎ (clause_true assignment clause ≡ true) → (clause_true assignment clause ≡ true → ⊥) → ⊥
     by (inl here) later = opposite (assignment l.var) l.positive (all_at (λ m. IsTrue (literal_true assignment m)) assumed all (negation l) negates.0) here

@@ -2,13 +2,15 @@
 use Rattle.std.proofs.Common.{◌≡◌, ℕ, zero, suc, ◌+◌, ◌<◌, ◌≤◌, ◌∙◌, Bool, true, false, List, [], ◌∷◌, ◌++◌, length, map, flat_map, filter, filter_map, Option, Some, None, refl, sym, ap, subst, arith, slice_index_or, not, ◌&&◌, length-append}
 use Rattle.std.specs.Prelude.{is_some}
 use Rattle.std.specs.List.{AllByRecursion, range_with_len}
+use Rattle.des_base.proofs.Elements.{all_from, map_has}
+use Rattle.des_base.specs.Lists.{numbers_below}
 use Rattle.des_net.specs.Network.{Net, IsNetwork, label_of}
 use Rattle.des_net.specs.Width.{joined, IsPiece}
 use Rattle.log_order.specs.Log.{Log, ListsOnce, Keeps, IsValidLog}
 use Rattle.log_clauses.specs.Decoded.{event_at, comes, is_false, shown_at, unobservables, arranged, decoded}
 use Rattle.log_clauses.specs.LogLaws.{IsArranged}
 use Rattle.log_clauses.specs.LogTruth.{LogClausesHold, GuardsHold}
-use Rattle.log_clauses.proofs.Lists.{filter_from, all_of, all_at, map_has}
+use Rattle.log_clauses.proofs.Lists.{filter_from, all_at}
 use Rattle.log_clauses.proofs.Sound.{log_is_sound, real_at}
 use Rattle.log_encode.proofs.TakenLemmas.{map_count}
 use Rattle.log_encode.specs.CodedLog.{without_names}
@@ -17,7 +19,6 @@ use Rattle.replay.specs.declared.run.RunStep.{RunStep}
 use Rattle.replay.specs.Traced.{word_of, event_of}
 use Rattle.run_clauses.proofs.Exact.{steps_are_exact}
 use Rattle.run_clauses.proofs.Lists.{from_numbers, in_numbers}
-use Rattle.run_clauses.specs.StepClauses.{numbers_below}
 use Rattle.run_clauses.specs.Steps.{IsOrderOf, events_at, step_sets}
 use Rattle.run_decode.specs.Decoding.{plain_step, alarm_step, shown_steps, is_plain, plain_events, falls, no_event, first_steps, decoded_step, decoded_run}
 use Rattle.run_decode.proofs.ShownSteps.{shown_word}
@@ -113,7 +114,7 @@ run_word_from net log n value order (t ∷ xs) settled known times =
     ∙ ap (λ ys. ys ++ word_of (flat_map (decoded_step net log value order) xs)) (step_word net log n value order t settled known times.0) ∙ ap (λ ys. piece net (without_names log) value order t ++ ys) (run_word_from net log n value order xs settled known times.1)
 
 pub below_all : (n : ℕ) → AllByRecursion (λ t. t < n) (numbers_below n)
-below_all n = all_of (λ t. t < n) (numbers_below n) (λ t in'. from_numbers n t in')
+below_all n = all_from (λ t. t < n) (numbers_below n) (λ t in'. from_numbers n t in')
 
 -- the word of the run is that of the arranged pieces
 pub run_word : (net : Net) (log : Log) (value : Name → Bool) (order : List ℕ) (n : ℕ) → AreSettled net (without_names log) n value → AllByRecursion (λ i. i < length (without_names log).alarms) order →
@@ -155,7 +156,7 @@ step_small net log n t value order network valid stepped logged guarded listed k
     ap (λ xs. slice_index_or xs t []) pieces ∙ map_at (piece net bare value order) 0 n t time ∙ ap (piece net bare value order) (omega arith) in
     let order_of_step : IsOrderOf (events_at net value (suc t)) (piece net bare value order t) = subst (IsOrderOf (events_at net value (suc t))) at (arranged_so.steps.each t time) in
     let apart = all_at (IsPiece net) (map (piece net bare value order) (numbers_below n)) (subst (AllByRecursion (IsPiece net)) pieces run.1.apart) (piece net bare value order t) (map_has (piece net bare value order) (numbers_below n) t (in_numbers n t time)) in
-    let few = piece_small net network (piece net bare value order t) (all_of (λ e. e < length net.events) (piece net bare value order t) (λ q h.
+    let few = piece_small net network (piece net bare value order t) (all_from (λ e. e < length net.events) (piece net bare value order t) (λ q h.
     from_numbers (length net.events) q (filter_from (λ e. value (happens e (suc t))) (numbers_below (length net.events)) q ((order_of_step.same q).0 h)).1)) apart in
     let parts = length-append (unobservables net (events_at net value (suc t))) (shown_at net bare value order t) in
     let plain = ap length (plain_is net value t) in

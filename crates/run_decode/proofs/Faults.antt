@@ -3,9 +3,10 @@ use Rattle.std.proofs.Common.{◌≡◌, ◌≢◌, ◌∙◌, ℕ, suc, ◌+◌
 use Rattle.std.specs.List.{range_with_len}
 use Rattle.std.proofs.lemmas.List.Sums.{sum_by-append, length-filter}
 use Rattle.card_counter.proofs.Counts.{count_cons}
+use Rattle.des_base.proofs.NumbersBelow.{range_once}
+use Rattle.des_base.specs.Lists.{numbers_below}
 use Rattle.des_net.specs.Network.{Net, is_fault}
 use Rattle.des_net.specs.Width.{joined}
-use Rattle.log_clauses.proofs.Fronts.{range_once}
 use Rattle.log_clauses.proofs.Entries.{same_size}
 use Rattle.log_clauses.proofs.Lists.{filter_has, filter_from, pairs_filter}
 use Rattle.log_clauses.specs.Decoded.{is_false}
@@ -14,7 +15,6 @@ use Rattle.log_clauses.proofs.Pieces.{IsStepSet, AreFrom, pieces_are_steps}
 use Rattle.prop_core.specs.NamedClauses.{named_true}
 use Rattle.prop_core.specs.VariableNames.{Name, happens, dropped, yes}
 use Rattle.run_clauses.proofs.Lists.{in_numbers, from_numbers}
-use Rattle.run_clauses.specs.StepClauses.{numbers_below}
 use Rattle.run_decode.specs.DecodedRuns.{FaultsAreInputs}
 use Rattle.run_decode.specs.Drawn.{dropped_names}
 use Rattle.step_encode.specs.FaultInputs.{fault_events, fault_names}

@@ -1,16 +1,17 @@
 -- How many variables a question takes.
-use Rattle.std.proofs.Common.{◌≡◌, ◌∙◌, ℕ, zero, suc, ◌+◌, ◌*◌, ◌≤◌, List, [], ◌∷◌, ◌++◌, length, refl, sym, ap, subst, arith, map, flat_map, sum_by, length-append, append-nil, append_assoc}
+use Rattle.std.proofs.Common.{◌≡◌, ◌∙◌, ℕ, suc, ◌+◌, ◌*◌, ◌≤◌, List, [], ◌∷◌, ◌++◌, length, refl, sym, ap, subst, arith, map, flat_map, length-append, append-nil, append_assoc}
 use Rattle.std.proofs.lemmas.List.FromFn.{length-range_with_len, length-map-range_with_len}
-use Rattle.std.proofs.lemmas.List.Sums.{sum_by-append, length-filter}
+use Rattle.std.proofs.lemmas.List.Sums.{length-filter}
 use Rattle.std.proofs.lemmas.List.{length-map}
 use Rattle.std.proofs.Math.Nat.{mul-le-mul_right}
 use Rattle.card_counter.proofs.CodeLemmas.{read_length}
+use Rattle.des_base.specs.ChainCount.{chain_count}
+use Rattle.des_base.specs.Lists.{numbers_below}
 use Rattle.log_clauses.specs.LogClauses.{doubtful_alarms}
 use Rattle.card_counter.specs.CounterState.{CounterState, counter_names, variable}
 use Rattle.des_net.specs.Network.{Net, is_fault}
-use Rattle.des_net.specs.QuestionSize.{state_number, at_most_one_count, step_variables, counter_size, fault_event_count}
+use Rattle.des_net.specs.QuestionSize.{step_variables, counter_size, fault_event_count}
 use Rattle.log_clauses.proofs.NewNames.{names_leave_room, first_names_are_all}
-use Rattle.log_clauses.proofs.Stay.{range_more}
 use Rattle.log_clauses.specs.Additions.{alarm_added}
 use Rattle.log_clauses.specs.LogNames.{first_names, added_names}
 use Rattle.log_encode.specs.CodedLog.{CodedLog, names_from, code_names as log_names, false_literals}
@@ -19,12 +20,11 @@ use Rattle.prop_core.specs.declared.grid.Grid.{Grid}
 use Rattle.prop_core.specs.declared.lit.Lit.{Lit}
 use Rattle.prop_core.specs.VariableNames.{Name, reaches, yes, dropped}
 use Rattle.replay.specs.QuestionSize.{doubtful_count, variable_bound}
-use Rattle.run_clauses.proofs.LaidOut.{steps_are_laid_out}
-use Rattle.run_clauses.specs.LaidOut.{laid_out, row_width, state_block, step_names as names_of_steps}
-use Rattle.run_clauses.specs.StepClauses.{numbers_below, event_groups}
+use Rattle.run_clauses.specs.LaidOut.{laid_out, step_names as names_of_steps}
+use Rattle.run_clauses.specs.StepClauses.{event_groups}
 use Rattle.run_decode.proofs.Nameless.{nameless_bound}
 use Rattle.run_decode.specs.WholeNaming.{AreInputs, TogetherAreFew}
-use Rattle.step_encode.proofs.Codes.{chains_wide, names_end, variables_are_counted}
+use Rattle.step_encode.proofs.Codes.{chains_wide, names_end, variables_are_counted, blocks_wide}
 use Rattle.step_encode.proofs.FewChains.{chains_few}
 use Rattle.step_encode.specs.Coded.{all_chains, CodedSteps, code_names as step_names, code_grid}
 use Rattle.step_encode.specs.FaultInputs.{fault_events, event_literals, fault_literals}
@@ -51,38 +51,12 @@ flat_length f m each (x ∷ xs) =
 
 -- ---- the steps
 
--- the states of a component, and what an "at most one" of them may take
-abbrev component_variables : Net → ℕ → ℕ
-component_variables net c = state_number net c + at_most_one_count (state_number net c)
-
-states_few : (net : Net) (n k : ℕ) → length (state_block net n k) ≡ (n + 1) * sum_by (component_variables net) (numbers_below k)
-states_few net n zero = omega arith
-states_few net n (suc k) =
-    let before = states_few net n k in
-    let next : k + 1 ≡ suc k = omega arith in
-    let width : length (state_block net n (suc k)) ≡ length (state_block net n k) + suc n * component_variables net k =
-    subst (λ m. length (state_block net n m) ≡ length (state_block net n k) + suc n * row_width net k) next ((steps_are_laid_out net n 0).width k) in
-    let sum = ap (sum_by (component_variables net)) (range_more 0 k) ∙ sum_by-append (component_variables net) (numbers_below k) ((0 + k) ∷ []) in
-    let last : sum_by (component_variables net) ((0 + k) ∷ []) ≡ component_variables net k = one k in
-    let spread = times_more n (sum_by (component_variables net) (numbers_below k)) (component_variables net k) in
-    let total : sum_by (component_variables net) (numbers_below (suc k)) ≡ sum_by (component_variables net) (numbers_below k) + component_variables net k = omega (arith, sum, last) in
-    subst (λ m. length (state_block net n (suc k)) ≡ (n + 1) * m) (sym total) (omega (arith, before, width, spread))
-  where
-    one : (k' : ℕ) → sum_by (component_variables net) ((0 + k') ∷ []) ≡ component_variables net k'
-    one k' = let same : 0 + k' ≡ k' = omega arith in ap (λ c. 0 + component_variables net c) same ∙ add_nothing (component_variables net k')
-      where
-        add_nothing : (a : ℕ) → 0 + a ≡ a
-        add_nothing a = omega arith
-
-    times_more : (m a w : ℕ) → (m + 1) * a + suc m * w ≡ (m + 1) * (a + w)
-    times_more m a w = grind arith
-
 steps_few : (net : Net) (n : ℕ) → length (names_of_steps net n) ≤ step_variables net n
 steps_few net n =
-    let states = states_few net n (length net.components) in
+    let states = blocks_wide net n (length net.components) in
     let ends = names_end net n in
-    let few : all_chains net ≤ at_most_one_count (length net.events) = chains_few net in
-    let events = times_more (length net.events) n (all_chains net) (at_most_one_count (length net.events)) few in
+    let few : all_chains net ≤ chain_count (length net.events) = chains_few net in
+    let events = times_more (length net.events) n (all_chains net) (chain_count (length net.events)) few in
     omega (arith, states, ends, chains_wide net n (length (event_groups net)), events, variables_are_counted net n)
   where
     times_more : (e n' c x : ℕ) → c ≤ x → n' * c + e * n' ≤ n' * (e + x)

@@ -5,6 +5,8 @@ use Rattle.std.specs.List.{list_any}
 use Rattle.std.specs.Option.{option_map_or}
 use Rattle.std.proofs.lemmas.List.{length-map}
 use Rattle.card_counter.specs.Exclusions.{IsExclusionClause}
+use Rattle.des_base.proofs.Elements.{filter_alike}
+use Rattle.des_base.specs.Lists.{numbers_below}
 use Rattle.des_net.specs.Network.{Net, label_of}
 use Rattle.log_clauses.specs.Decoded.{alarm_at, event_at, is_false, comes, entry_of, arranged, arranged_order, whole_order}
 use Rattle.log_clauses.specs.LogClauses.{guard_literals, chain, matching_events, observable_events, LogClause, log_clause, IsLogClause, chain_closed, takes_rest, uses_up, passes_on, taken_or_passed, not_done_first, stays_done, match_is_done, matched_once, match_is_real, done_by_match, one_match, done_if_asked, before_if_asked, or_false}
@@ -17,8 +19,8 @@ use Rattle.prop_core.specs.NamedClauses.{IsCode}
 use Rattle.prop_core.specs.VariableNames.{Name, matches, done, asked, closed, dropped, NamedLiteral, yes, no, ReadsAs}
 use Rattle.prop_core.specs.declared.lit.Lit.{Lit}
 use Rattle.des_net.specs.QuestionSize.{step_variables, observable_count, counter_size}
-use Rattle.replay.specs.QuestionSize.{is_matching, alarm_variables, doubtful_count, variable_bound}
-use Rattle.run_clauses.specs.StepClauses.{numbers_below}
+use Rattle.replay.specs.Explanation.{is_matching}
+use Rattle.replay.specs.QuestionSize.{alarm_variables, doubtful_count, variable_bound}
 use Rattle.run_clauses.specs.Steps.{step_sets}
 use Rattle.run_decode.specs.Drawn.{IsNamedClause, IsNamedCounting, IsInstance, fault_inputs, at_most, bound_literals, assumption_literals}
 use Rattle.card_counter.specs.CounterClauses.{IsNamedCount}
@@ -48,10 +50,6 @@ without_alike log = record { labels = λ i. by log.alarms i; marks = λ i. mark 
 
 alike_back : (log other : Log) → AreAlike log other → AreAlike other log
 alike_back log other alike = record { labels = λ i. sym (alike.labels i); marks = λ i. sym (alike.marks i); count = sym alike.count; pairs = sym alike.pairs }
-
-filter_alike : (p q : ℕ → Bool) (xs : List ℕ) → ((x : ℕ) → p x ≡ q x) → filter p xs ≡ filter q xs
-filter_alike p q [] same = refl
-filter_alike p q (x ∷ xs) same = rw (same x, filter_alike p q xs same) refl
 
 mapped_alike : (f g : ℕ → Option ℕ) (xs : List ℕ) → ((x : ℕ) → f x ≡ g x) → filter_map f xs ≡ filter_map g xs
 mapped_alike f g [] same = refl

@@ -1,8 +1,9 @@
 -- A question from its parts.
 use Rattle.std.proofs.Common.{ℕ, ◌⊎◌, inl, inr, List, ◌++◌, Contains}
 use Rattle.card_counter.specs.CounterClauses.{IsNamedCount}
+use Rattle.des_base.proofs.Elements.{all_from}
 use Rattle.log_clauses.proofs.Codes.{readings_stay, code_stays}
-use Rattle.log_clauses.proofs.Lists.{all_of, all_at, append_cases, append_left, append_right}
+use Rattle.log_clauses.proofs.Lists.{all_at}
 use Rattle.log_clauses.specs.LogClauses.{guard_literals}
 use Rattle.log_clauses.specs.LogCodes.{IsNamedLog}
 use Rattle.prop_core.proofs.FamilyLemmas.{read_append}
@@ -13,6 +14,7 @@ use Rattle.run_clauses.specs.StepCodes.{IsNamedStep}
 use Rattle.run_decode.specs.Drawn.{fault_inputs, bound_literals}
 use Rattle.run_decode.specs.Question.{IsNamedQuestion, IsPart}
 use Rattle.run_decode.specs.QuestionLaws.{PartsMakeQuestion, PartsAreAssumed}
+use Rattle.std.proofs.lemmas.List.Elements.{Contains-append_cases, Contains-append_left, Contains-append_right}
 
 part_code : (names : List (ℕ × Name)) (family : List NamedLiteral → Type 0) (written : List Clause) → HasEachOnce names → IsPart names family written → IsCode names family written
 part_code names family written once part = code_stays part.own names family written once part.among part.code
@@ -22,7 +24,7 @@ parts_make_question net log n columns names clauses stepped logged counted once 
   once = once;
   code = record {
     all = all;
-    only = all_of (λ clause. (named : List NamedLiteral) × IsNamedQuestion net log n columns named × ReadsAs names clause named) clauses (λ clause in'. only clause ((same clause).0 in'));
+    only = all_from (λ clause. (named : List NamedLiteral) × IsNamedQuestion net log n columns named × ReadsAs names clause named) clauses (λ clause in'. only clause ((same clause).0 in'));
   };
 }
   where
@@ -49,11 +51,11 @@ parts_make_question net log n columns names clauses stepped logged counted once 
 
 -- lists with the same elements, one after another
 both_ways : (xs as' ys bs : List NamedLiteral) → ((y : NamedLiteral) → Contains xs y → Contains as' y) → ((y : NamedLiteral) → Contains ys y → Contains bs y) → (x : NamedLiteral) → Contains (xs ++ ys) x → Contains (as' ++ bs) x
-both_ways xs as' ys bs f g x in' = by (append_cases xs ys x in')
+both_ways xs as' ys bs f g x in' = by (Contains-append_cases xs ys x in')
   where
     by : Contains xs x ⊎ Contains ys x → Contains (as' ++ bs) x
-    by (inl a) = append_left as' bs x (f x a)
-    by (inr b) = append_right as' bs x (g x b)
+    by (inl a) = Contains-append_left as' bs x (f x a)
+    by (inr b) = Contains-append_right as' bs x (g x b)
 
 pub parts_are_assumed : PartsAreAssumed
 parts_are_assumed net log n bound names guards bounds once guarded bounded =

@@ -1,16 +1,15 @@
 -- Clauses and assumptions that ask a question say what it asks, and are drawn from its families.
 use Rattle.std.proofs.Common.{ℕ, Bool, false, inl, inr, List, Option, refl, sym, subst, IsTrue}
-use Rattle.card_counter.proofs.ListLemmas.{all_split}
 use Rattle.card_counter.specs.CounterClauses.{IsNamedCount}
+use Rattle.des_base.proofs.Elements.{all_append, all_split, all_from}
 use Rattle.des_net.specs.Network.{Net}
 use Rattle.des_net.specs.Width.{joined}
 use Rattle.log_clauses.proofs.Guards.{literals_by_name}
-use Rattle.log_clauses.proofs.Lists.{all_of, all_at}
+use Rattle.log_clauses.proofs.Lists.{all_at}
 use Rattle.log_clauses.specs.Decoded.{decoded, decoded_order}
 use Rattle.log_clauses.specs.LogClauses.{log_clause, guard_literals}
 use Rattle.log_clauses.specs.LogTruth.{LogClausesHold, GuardsHold}
 use Rattle.log_order.specs.Log.{Log}
-use Rattle.prop_core.proofs.FamilyLemmas.{all_append}
 use Rattle.prop_core.proofs.NameLemmas.{values_match, assignments_match, code_holds}
 use Rattle.prop_core.specs.Clauses.{Clause, AllClausesTrue}
 use Rattle.prop_core.specs.NamedClauses.{named_true, named_clause_true, Match, value_by, assignment_by, AllHold}
@@ -113,7 +112,7 @@ pub question_is_drawn : QuestionIsDrawn
 question_is_drawn net log n bound names clauses assumed asks = record {
   names = names;
   once = asks.question.once;
-  instances = all_of (IsInstance net log n names) clauses (λ clause in'.
+  instances = all_from (IsInstance net log n names) clauses (λ clause in'.
       let found = all_at (λ c. (named : List NamedLiteral) × IsNamedQuestion net log n asks.columns named × ReadsAs names c named) clauses asks.question.code.only clause in' in
       (found.0, instances_of net log n asks.columns found.0 found.1, found.2));
   assumes = asks.assumes;

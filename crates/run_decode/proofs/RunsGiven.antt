@@ -1,6 +1,5 @@
 -- The runs that assignments give, and how many faults they have.
-use Rattle.std.proofs.Common.{◌≡◌, ◌∙◌, ℕ, Bool, true, false, List, [], ◌∷◌, length, Option, Some, None, refl, sym, ap, subst, arith, cond, count_by, option_map}
-use Rattle.std.specs.Bool.{beq}
+use Rattle.std.proofs.Common.{◌≡◌, ◌∙◌, ℕ, Bool, List, [], ◌∷◌, length, Some, sym, ap, arith, cond, count_by}
 use Rattle.card_counter.proofs.Counts.{count_cons}
 use Rattle.des_net.specs.Network.{Net, IsNetwork}
 use Rattle.log_clauses.proofs.Codes.{read_of}
@@ -10,10 +9,10 @@ use Rattle.log_clauses.specs.Decoded.{decoded, decoded_order}
 use Rattle.log_clauses.specs.LogCodeLaws.{IsDecoded}
 use Rattle.log_clauses.specs.LogTruth.{LogClausesHold, GuardsHold}
 use Rattle.log_order.specs.Log.{Log, ListsOnce, Keeps, IsValidLog}
-use Rattle.prop_core.proofs.NameLemmas.{values_match}
+use Rattle.prop_core.proofs.NameLemmas.{values_match, literal_is}
 use Rattle.prop_core.specs.Clauses.{literal_true}
-use Rattle.prop_core.specs.NamedClauses.{same_sign, named_true, Match, value_by}
-use Rattle.prop_core.specs.VariableNames.{Name, NamedLiteral, HasEachOnce, name_of, named_literal, named_clause}
+use Rattle.prop_core.specs.NamedClauses.{named_true, Match, value_by}
+use Rattle.prop_core.specs.VariableNames.{Name, NamedLiteral, HasEachOnce, named_clause}
 use Rattle.prop_core.specs.declared.lit.Lit.{Lit}
 use Rattle.run_clauses.proofs.Exact.{sets_in_order}
 use Rattle.run_clauses.proofs.Sound.{steps_are_sound}
@@ -36,25 +35,6 @@ decoded_by_name net log n value alarms network valid complete kept steps logged 
     }
 
 -- ---- by variable
-
-sign_is : (a b : Bool) → beq a b ≡ same_sign b a
-sign_is true true = refl
-sign_is true false = refl
-sign_is false true = refl
-sign_is false false = refl
-
-some_literal : (a b : NamedLiteral) → Some a ≡ Some b → a ≡ b
-some_literal a b h = cc
-
--- a literal that reads as another has its truth
-literal_is : (names : List (ℕ × Name)) (assignment : ℕ → Bool) (value : Name → Bool) (l : Lit) (m : NamedLiteral) → Match names assignment value → named_literal names l ≡ Some m → literal_true assignment l ≡ named_true value m
-literal_is names assignment value l m match h = by (name_of names l.var) refl h
-  where
-    by : (o : Option Name) → name_of names l.var ≡ o → option_map (λ (name : Name). record { name = name; positive = l.positive }) o ≡ Some m → literal_true assignment l ≡ named_true value m
-    by None e is = cc
-    by (Some name) e is =
-        subst (λ x. literal_true assignment l ≡ named_true value x) (some_literal (record { name = name; positive = l.positive }) m is)
-        (sign_is (assignment l.var) l.positive ∙ ap (same_sign l.positive) (match l.var name e))
 
 -- as many literals are true as names that they read as
 count_read : (names : List (ℕ × Name)) (assignment : ℕ → Bool) (value : Name → Bool) → Match names assignment value → (literals : List Lit) (read : List NamedLiteral) → named_clause names literals ≡ Some read →

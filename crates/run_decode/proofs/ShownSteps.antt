@@ -1,9 +1,9 @@
 -- The steps of a run that show the alarms of one step: each true one with its event, and the false ones alone.
 use Rattle.std.proofs.Common.{◌≡◌, ℕ, Bool, true, false, not, ◌&&◌, ◌||◌, ◌∙◌, List, [], ◌∷◌, map, filter, filter_map, Option, Some, None, refl, sym, ap, Contains, is_some}
+use Rattle.des_base.proofs.Elements.{here_first, here_later}
 use Rattle.des_base.specs.Names.{place_of}
 use Rattle.log_order.specs.Adding.{names_of}
 use Rattle.log_order.specs.Log.{Log}
-use Rattle.log_clauses.proofs.Lists.{here_first, here_later}
 use Rattle.log_clauses.specs.Decoded.{is_false, comes, entries_at}
 use Rattle.prop_core.specs.VariableNames.{Name}
 use Rattle.replay.specs.Explanation.{Entry}

@@ -5,14 +5,15 @@ use Rattle.std.proofs.lemmas.Bool.{eq-eqb}
 use Rattle.std.proofs.lemmas.List.{length-map}
 use Rattle.std.proofs.lemmas.List.FromFn.{length-range_with_len}
 use Rattle.std.proofs.lemmas.List.Elements.{Contains-get_or}
-use Rattle.des_base.specs.Lists.{EachPair}
+use Rattle.des_base.proofs.BoolLemmas.{or_left}
+use Rattle.des_base.proofs.Elements.{all_from, map_from}
+use Rattle.des_base.specs.Lists.{EachPair, numbers_below}
 use Rattle.des_net.specs.declared.parts.Part.{Part}
 use Rattle.des_net.specs.Network.{Net, IsNetwork, IsEvent, IsPart, has_part, parts_of, touches, event_at, no_event}
 use Rattle.des_net.specs.Width.{IsPiece, AreApart}
 use Rattle.log_clauses.proofs.Entries.{no_longer}
-use Rattle.log_clauses.proofs.Lists.{or_left, map_from, all_of, all_at}
+use Rattle.log_clauses.proofs.Lists.{all_at}
 use Rattle.run_clauses.proofs.Lists.{in_numbers}
-use Rattle.run_clauses.specs.StepClauses.{numbers_below}
 
 -- the component of the first part
 first_of : List Part → ℕ
@@ -43,12 +44,12 @@ module _ (net : Net) (network : IsNetwork net) where
   touched_known : (e : ℕ) → e < length net.events → touched e < length net.components
   unfolding touched
   touched_known e h = first_known (length net.components) (parts_of net e) (event_is e h).moving
-      (all_of (λ (part : Part). part.comp < length net.components) (parts_of net e) (λ part in'. (all_at (IsPart net.components) (parts_of net e) (event_is e h).known part in').component))
+      (all_from (λ (part : Part). part.comp < length net.components) (parts_of net e) (λ part in'. (all_at (IsPart net.components) (parts_of net e) (event_is e h).known part in').component))
 
   touched_once : (piece : List ℕ) → AllByRecursion (λ e. e < length net.events) piece → IsPiece net piece → EachPair (λ c d. c ≢ d) (map touched piece)
   touched_once [] known apart = tt
   touched_once (e ∷ piece) known apart = (
-    all_of (λ d. touched e ≢ d) (map touched piece) (λ d in' same.
+    all_from (λ d. touched e ≢ d) (map touched piece) (λ d in' same.
         let found = map_from touched piece d in' in
         let other = all_at (λ f. f < length net.events) piece known.1 found.0 found.1 in
         all_at (AreApart net e) piece apart.0 found.0 found.1 (touched e) (touches_first e known.0)

@@ -4,11 +4,13 @@ use Rattle.std.specs.List.{AllByRecursion, AllZip, list_any}
 use Rattle.card_counter.proofs.Exact.{named_count_is_exact}
 use Rattle.card_counter.specs.Counting.{is_count, counted}
 use Rattle.card_counter.specs.CounterClauses.{IsNamedCount}
+use Rattle.des_base.proofs.BoolLemmas.{either, not_true}
+use Rattle.des_base.proofs.Elements.{flat_from, map_from}
+use Rattle.des_base.specs.Lists.{numbers_below}
 use Rattle.des_net.specs.Network.{Net, Component, IsNetwork, IsComponent}
 use Rattle.des_net.specs.Run.{IsRun}
 use Rattle.des_net.specs.Width.{IsPiece, joined}
 use Rattle.log_clauses.proofs.Complete.{log_is_complete}
-use Rattle.log_clauses.proofs.Lists.{or_cases, flat_from, map_from, append_cases}
 use Rattle.log_clauses.proofs.Open.{log_is_open}
 use Rattle.log_clauses.proofs.ReadNames.{only_log_matters}
 use Rattle.log_clauses.specs.Coded.{opened}
@@ -19,13 +21,13 @@ use Rattle.prop_core.specs.NamedClauses.{named_true, AllHold}
 use Rattle.prop_core.specs.VariableNames.{Name, in_state, happens, asked, matches, done, unmatched, closed, dropped, reaches, some_of_first, Exclusion, of_states, of_events, of_matches, NamedLiteral, yes}
 use Rattle.replay.specs.Explanation.{Entry, faults_of, Explains, Linearises}
 use Rattle.run_clauses.proofs.Exact.{runs_have_steps, only_steps_matter, same_sets}
-use Rattle.run_clauses.specs.StepClauses.{numbers_below}
 use Rattle.run_clauses.specs.Steps.{StepClausesHold, AreSteps, AgreeOnSteps, is_event, is_of_steps}
 use Rattle.run_decode.proofs.Faults.{faults_are_inputs}
 use Rattle.run_decode.specs.DecodedRuns.{true_faults}
 use Rattle.run_decode.specs.Drawn.{fault_inputs, dropped_names, at_most, bound_literals}
 use Rattle.run_decode.specs.Faithful.{IsWithin}
 use Rattle.run_decode.specs.Question.{HasColumn}
+use Rattle.std.proofs.lemmas.List.Elements.{Contains-append_cases}
 use Rattle.step_encode.specs.FaultInputs.{fault_events, fault_names}
 
 -- all clauses of the question are true, with however many columns
@@ -54,7 +56,7 @@ not_count (some_of_first family i) h = refl
 inputs_are_named : (net : Net) (log : Log) (n : ℕ) (x : NamedLiteral) → Contains (fault_inputs net log n) x → is_count x.name ≡ false
 inputs_are_named net log n x in' =
     let named = map_from yes (fault_names net n ++ dropped_names log) x in' in
-    subst (λ (y : NamedLiteral). is_count y.name ≡ false) named.2 (by named.0 (append_cases (fault_names net n) (dropped_names log) named.0 named.1))
+    subst (λ (y : NamedLiteral). is_count y.name ≡ false) named.2 (by named.0 (Contains-append_cases (fault_names net n) (dropped_names log) named.0 named.1))
   where
     by : (name : Name) → Contains (fault_names net n) name ⊎ Contains (dropped_names log) name → is_count name ≡ false
     by name (inl of_event) =
@@ -91,10 +93,6 @@ bound_holds net log n (Some b) value within =
 none_counted : (p : NamedLiteral → Bool) (xs : List NamedLiteral) → length xs ≡ 0 → count_by p xs ≡ 0
 none_counted p [] h = refl
 none_counted p (x ∷ xs) h = absurd (omega (arith, h))
-
-not_true : (b : Bool) → not b ≡ true → b ≡ false
-not_true true h = cc
-not_true false h = refl
 
 pub bound_says : (net : Net) (log : Log) (n columns : ℕ) (bound : Option ℕ) (value : Name → Bool) → HasColumn net log n columns bound → AllHold (IsNamedCount (fault_inputs net log n) columns) value →
     BoundHolds net log n bound value → IsWithin bound (true_faults net log n value)
@@ -137,7 +135,7 @@ explained_has_truth net log n bound word order network explains within =
 
 first_initial : (marks : List Bool) → list_any (λ mark. mark) marks ≡ true → (q : ℕ) × (slice_get marks q ≡ Some true)
 first_initial [] h = cc
-first_initial (mark ∷ marks) h = by (or_cases mark (list_any (λ m. m) marks) h) (first_initial marks)
+first_initial (mark ∷ marks) h = by (either mark (list_any (λ m. m) marks) h) (first_initial marks)
   where
     by : (mark ≡ true) ⊎ (list_any (λ m. m) marks ≡ true) → (list_any (λ m. m) marks ≡ true → (q : ℕ) × (slice_get marks q ≡ Some true)) → (q : ℕ) × (slice_get (mark ∷ marks) q ≡ Some true)
     by (inl e) later = (0, ap Some e)

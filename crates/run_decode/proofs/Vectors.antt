@@ -2,15 +2,18 @@
 use Rattle.std.proofs.Common.{◌≡◌, ℕ, zero, suc, ◌<◌, length, slice_get, ◌⊎◌, inl, inr, true, false, List, [], ◌∷◌, Some, None, refl, ap, sym, subst, ◌∙◌, arith, Contains, map}
 use Rattle.card_counter.specs.Exclusions.{ExclusionClause, exclusion_clause, IsExclusionClause, two, opens, goes_on, shuts_out}
 use Rattle.card_counter.specs.CounterClauses.{CountClause, counts_on, counts_up, count_clause, unless_reached, opposite}
+use Rattle.des_base.proofs.Elements.{cons_cases, here_first, here_later, none_in_nil}
+use Rattle.des_base.specs.Lists.{numbers_below}
 use Rattle.des_net.specs.Models.{apart, pump}
-use Rattle.log_clauses.proofs.Lists.{cons_cases, none_in_nil, here_first, here_later, append_right}
+use Rattle.des_net.specs.QuestionSize.{state_number}
 use Rattle.log_clauses.specs.LogClauses.{LogClause, log_clause, IsLogClause, chain_closed, takes_rest, uses_up, passes_on, taken_or_passed, not_done_first, stays_done, match_is_done, matched_once, match_is_real, done_by_match, one_match, done_if_asked, before_if_asked}
 use Rattle.log_order.specs.Log.{no_log}
 use Rattle.prop_core.proofs.FamilyLemmas.{reads_whole}
 use Rattle.prop_core.specs.VariableNames.{Name, in_state, happens, asked, matches, done, unmatched, closed, reaches, some_of_first, of_states, of_events, NamedLiteral, yes, no, named_clause}
 use Rattle.prop_core.specs.declared.lit.Lit.{Lit}
-use Rattle.run_clauses.specs.StepClauses.{StepClause, step_clause, IsStepClause, some_state, one_state, not_at_start, moves, stays, one_of_group, not_both, numbers_below, state_count, event_groups, state_inputs, group_inputs}
+use Rattle.run_clauses.specs.StepClauses.{StepClause, step_clause, IsStepClause, some_state, one_state, not_at_start, moves, stays, one_of_group, not_both, event_groups, state_inputs, group_inputs}
 use Rattle.run_decode.specs.Drawn.{fault_inputs, bound_literals, assumption_literals, IsNamedClause, IsInstance}
+use Rattle.std.proofs.lemmas.List.Elements.{Contains-append_right}
 
 -- ---- inputs, bounds and assumptions
 
@@ -97,7 +100,7 @@ not_a_state c t (q ∷ qs) zero x at same = cc
 not_a_state c t (q ∷ qs) (suc i) x at same = not_a_state c t qs i x at same
 
 not_over_states : (c t : ℕ) (which : ExclusionClause) → IsExclusionClause (state_inputs pump c t) which → HaveName (exclusion_clause (of_states c t) which) → ⊥
-not_over_states c t (two i j x y) (few, order, first, second) each = not_a_state c t (numbers_below (state_count pump c)) i x first (each (no x) (0, omega arith, refl))
+not_over_states c t (two i j x y) (few, order, first, second) each = not_a_state c t (numbers_below (state_number pump c)) i x first (each (no x) (0, omega arith, refl))
 not_over_states c t (opens i x) is each = let same = each (yes (some_of_first (of_states c t) (suc i))) (1, omega arith, refl) in cc
 not_over_states c t (goes_on i) is each = let same = each (no (some_of_first (of_states c t) (suc i))) (0, omega arith, refl) in cc
 not_over_states c t (shuts_out i x) is each = let same = each (no (some_of_first (of_states c t) (suc i))) (1, omega arith, refl) in cc
@@ -118,7 +121,7 @@ not_over_events g t (goes_on i) known is each = let same = each (no (some_of_fir
 not_over_events g t (shuts_out i x) known is each = let same = each (no (some_of_first (of_events (suc t) g) (suc i))) (1, omega arith, refl) in cc
 
 not_of_steps : (which : StepClause) → IsStepClause pump 2 which → HaveName (step_clause pump which) → Contains (step_clause pump which) (no (happens 0 1)) → ⊥
-not_of_steps (some_state c t) known each in' = states_no c t (numbers_below (state_count pump c)) each in'
+not_of_steps (some_state c t) known each in' = states_no c t (numbers_below (state_number pump c)) each in'
 not_of_steps (one_state c t which) (known, time, is) each in' = not_over_states c t which is each
 not_of_steps (not_at_start c q) known each in' = let same = each (no (in_state c q 0)) (0, omega arith, refl) in cc
 not_of_steps (moves e c a q t) known each in' = let same = each (no (in_state c q t)) (1, omega arith, refl) in cc
@@ -150,7 +153,7 @@ not_of_counter : (which : CountClause) → HaveName (count_clause which) → ⊥
 not_of_counter (counts_on i j) each = let same = each (no (reaches i j)) (0, omega arith, refl) in cc
 not_of_counter (counts_up i j x) each =
     let same = each (yes (reaches (suc i) (suc j)))
-    (append_right (unless_reached i j) (opposite x ∷ yes (reaches (suc i) (suc j)) ∷ []) (yes (reaches (suc i) (suc j))) (1, omega arith, refl)) in
+    (Contains-append_right (unless_reached i j) (opposite x ∷ yes (reaches (suc i) (suc j)) ∷ []) (yes (reaches (suc i) (suc j))) (1, omega arith, refl)) in
     cc
 
 -- a clause that states by itself that the pump doesn't jam in the first step is none

@@ -6,7 +6,7 @@ use Rattle.card_counter.proofs.States.{place_cases, variable_before, variable_la
 use Rattle.card_counter.proofs.Inputs.{inputs_grow, place_cases as places_with_input}
 use Rattle.card_counter.specs.CounterClauses.{IsNamedCount}
 use Rattle.card_counter.specs.CounterState.{CounterState, IsCounter, IsMade, IsPlace, variable, counter_names, counter_clauses, bound_literal, without_columns, with_column, with_input, HasInput}
-use Rattle.log_clauses.proofs.Lists.{append_cases, append_left, append_right, all_at, pairs_append}
+use Rattle.log_clauses.proofs.Lists.{all_at, pairs_append}
 use Rattle.log_clauses.proofs.Numbered.{laid_out_from}
 use Rattle.log_clauses.specs.Additions.{Addition, alarm_added, pair_added}
 use Rattle.log_clauses.specs.Drafts.{taken_events}
@@ -14,7 +14,6 @@ use Rattle.log_clauses.specs.LogClauses.{guard_literals}
 use Rattle.log_clauses.specs.LogCodes.{IsNamedLog, AreAmong}
 use Rattle.log_clauses.specs.LogNames.{IsLogName, added_names, alarm_names, match_chains, false_names}
 use Rattle.log_encode.proofs.CodeLemmas.{names_with_alarm, asked_below, grown_is_coded, false_more}
-use Rattle.log_encode.proofs.Naming.{named_at}
 use Rattle.log_encode.specs.CodedLog.{CodedLog, code_names as log_names, read_names, false_literals, addition_width, code_after, IsCodedLog}
 use Rattle.des_base.specs.declared.TheConstants.{VAR_LIMIT}
 use Rattle.log_clauses.proofs.Codes.{has_name, named_entry}
@@ -27,7 +26,7 @@ use Rattle.prop_core.specs.NamedClauses.{IsCode}
 use Rattle.prop_core.specs.VariableNames.{Name, dropped, yes, reaches, HasEachOnce, ReadsAs, named_clause, with_literal}
 use Rattle.prop_core.specs.declared.grid.Grid.{Grid}
 use Rattle.prop_core.specs.declared.lit.Lit.{Lit}
-use Rattle.run_clauses.proofs.LaidOut.{steps_are_laid_out}
+use Rattle.run_clauses.proofs.LaidOut.{steps_are_laid_out, named_at}
 use Rattle.run_clauses.specs.LaidOut.{laid_out, event_block}
 use Rattle.run_decode.proofs.Parts.{parts_make_question, parts_are_assumed}
 use Rattle.run_decode.proofs.RunNames.{is_step, Differ, step_entry, log_entry, steps_and_log, events_among, inputs_read}
@@ -35,6 +34,7 @@ use Rattle.run_decode.proofs.Reading.{clause_stays, bound_is_read}
 use Rattle.run_decode.specs.Drawn.{fault_inputs, assumption_literals}
 use Rattle.run_decode.specs.Question.{IsReadAmong, IsQuestion}
 use Rattle.run_decode.specs.WholeNaming.{whole_names, false_input, counter_after, AreApart, AreCodedTogether, HaveOneNaming, TogetherOneNaming, TogetherBegins, TogetherGrow, AreClausesOf, TogetherAsk}
+use Rattle.std.proofs.lemmas.List.Elements.{Contains-append_cases, Contains-append_left, Contains-append_right}
 use Rattle.step_encode.proofs.Codes.{grid_ends}
 use Rattle.step_encode.specs.Coded.{CodedSteps, code_names as step_names, code_grid, variable_count}
 use Rattle.step_encode.specs.FaultInputs.{fault_literals}
@@ -77,23 +77,23 @@ module _ (steps : CodedSteps) (code : CodedLog) (counter : CounterState) (togeth
   names_once =
       pairs_append Differ (step_names steps) (log_names code ++ counter_names counter) (steps_are_laid_out steps.net steps.steps steps.first).once
       (pairs_append Differ (log_names code) (counter_names counter) together.beside.logged.names.once (counter_names_stand counter together.counted).once log_and_counter)
-      (λ x y of_steps rest. by x y of_steps (append_cases (log_names code) (counter_names counter) y rest))
+      (λ x y of_steps rest. by x y of_steps (Contains-append_cases (log_names code) (counter_names counter) y rest))
     where
       by : (x y : ℕ × Name) → Contains (step_names steps) x → Contains (log_names code) y ⊎ Contains (counter_names counter) y → Differ x y
       by x y of_steps (inl of_log) = steps_and_log steps code together.beside x y of_steps of_log
       by x y of_steps (inr of_counter) = steps_and_counter x y of_steps of_counter
 
   steps_among : AreAmong (step_names steps) (whole_names steps code counter)
-  steps_among entry in' = append_left (step_names steps) (log_names code ++ counter_names counter) entry in'
+  steps_among entry in' = Contains-append_left (step_names steps) (log_names code ++ counter_names counter) entry in'
 
   log_among : AreAmong (log_names code) (whole_names steps code counter)
-  log_among entry in' = append_right (step_names steps) (log_names code ++ counter_names counter) entry (append_left (log_names code) (counter_names counter) entry in')
+  log_among entry in' = Contains-append_right (step_names steps) (log_names code ++ counter_names counter) entry (Contains-append_left (log_names code) (counter_names counter) entry in')
 
   counter_among : AreAmong (counter_names counter) (whole_names steps code counter)
-  counter_among entry in' = append_right (step_names steps) (log_names code ++ counter_names counter) entry (append_right (log_names code) (counter_names counter) entry in')
+  counter_among entry in' = Contains-append_right (step_names steps) (log_names code ++ counter_names counter) entry (Contains-append_right (log_names code) (counter_names counter) entry in')
 
   read_among : AreAmong (read_names code) (whole_names steps code counter)
-  read_among entry in' = by (append_cases (laid_out code.grid.first (event_block code.grid.steps (length code.net.events))) (log_names code) entry in')
+  read_among entry in' = by (Contains-append_cases (laid_out code.grid.first (event_block code.grid.steps (length code.net.events))) (log_names code) entry in')
     where
       by : Contains (laid_out code.grid.first (event_block code.grid.steps (length code.net.events))) entry ⊎ Contains (log_names code) entry → Contains (whole_names steps code counter) entry
       by (inl event) = steps_among entry (events_among steps code together.beside entry event)
@@ -135,7 +135,7 @@ module _ (steps : CodedSteps) (code : CodedLog) (counter : CounterState) (first 
   -- the variables of an addition come after those of the counter
   apart_by_addition : (addition : Addition) → AreApart (code_after code addition first) counter
   apart_by_addition (alarm_added new) entry i j in' place =
-      by (append_cases (log_names code) (laid_out first (added_names code.net code.log code.grid.steps (alarm_added new))) entry (subst (λ names. Contains names entry) (names_with_alarm code new first together.beside.logged.each) in'))
+      by (Contains-append_cases (log_names code) (laid_out first (added_names code.net code.log code.grid.steps (alarm_added new))) entry (subst (λ names. Contains names entry) (names_with_alarm code new first together.beside.logged.each) in'))
     where
       by : Contains (log_names code) entry ⊎ Contains (laid_out first (added_names code.net code.log code.grid.steps (alarm_added new))) entry → entry.0 ≢ variable counter i j
       by (inl old) = together.apart entry i j old place
@@ -197,7 +197,7 @@ module _ (steps : CodedSteps) (code : CodedLog) (counter : CounterState) (first 
     false_stay : named_clause (log_names longer_code) together.inputs.false_lits ≡ Some (false_literals code.log)
     unfolding longer_code
     false_stay = clause_stays (log_names code) (log_names longer_code) (grown (alarm_added new) few).names.once
-        (λ entry in'. subst (λ names. Contains names entry) (sym (names_with_alarm code new first together.beside.logged.each)) (append_left (log_names code) (laid_out first (added_names code.net code.log code.grid.steps (alarm_added new))) entry in'))
+        (λ entry in'. subst (λ names. Contains names entry) (sym (names_with_alarm code new first together.beside.logged.each)) (Contains-append_left (log_names code) (laid_out first (added_names code.net code.log code.grid.steps (alarm_added new))) entry in'))
         together.inputs.false_lits (false_literals code.log) together.inputs.read
 
     -- its names but that it is false
@@ -223,7 +223,7 @@ module _ (steps : CodedSteps) (code : CodedLog) (counter : CounterState) (first 
         let row = laid_out first (added_names code.net code.log code.grid.steps (alarm_added new)) in
         let there = named_entry row (first + length names) (dropped (length code.log.alarms)) at in
         subst (λ names'. Contains names' ((false_input code new first).var, dropped (length code.log.alarms))) (sym (names_with_alarm code new first together.beside.logged.each))
-        (append_right (log_names code) row ((false_input code new first).var, dropped (length code.log.alarms)) (subst (λ k. Contains row (first + k, dropped (length code.log.alarms))) (sym last) there))
+        (Contains-append_right (log_names code) row ((false_input code new first).var, dropped (length code.log.alarms)) (subst (λ k. Contains row (first + k, dropped (length code.log.alarms))) (sym last) there))
       where
         at_seam : (xs : List Name) (x : Name) → slice_get (xs ++ x ∷ []) (length xs) ≡ Some x
         at_seam [] x = refl

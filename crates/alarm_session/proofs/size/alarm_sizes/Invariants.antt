@@ -1,8 +1,8 @@
 -- the size is that of the alarms so far, none of which is too large
 use Rattle.std.proofs.Common.{◌≡◌, ◌≤◌, ◌+◌, ◌*◌, ◌^◌}
 use Rattle.std.specs.Prelude.{sum_by}
+use Rattle.des_base.specs.Lists.{numbers_below}
 use Rattle.des_net.specs.Limits.{most_events}
-use Rattle.des_net.specs.QuestionSize.{numbers_below}
 use Rattle.replay.specs.QuestionSize.{matching_count}
 use Rattle.alarm_session.proofs.size.alarm_sizes.Given as goal
 

@@ -1,5 +1,5 @@
 use Rattle.std.proofs.Common.{◌≡◌, map}
-use Rattle.des_net.specs.QuestionSize.{numbers_below}
+use Rattle.des_base.specs.Lists.{numbers_below}
 use Rattle.log_encode.specs.AlarmVariables.{match_variable}
 use Rattle.log_encode.specs.Written.{holds}
 use Rattle.log_encode.proofs.writing.matches_at.Given as goal

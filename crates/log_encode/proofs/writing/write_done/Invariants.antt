@@ -1,6 +1,6 @@
 use Rattle.std.proofs.Common.{◌≡◌, ◌++◌}
 use Rattle.std.specs.Prelude.{flat_map}
-use Rattle.des_net.specs.QuestionSize.{numbers_below}
+use Rattle.des_base.specs.Lists.{numbers_below}
 use Rattle.log_encode.specs.Written.{ends_written, step_written}
 use Rattle.log_encode.proofs.writing.write_done.Given as goal
 

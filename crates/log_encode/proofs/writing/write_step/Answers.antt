@@ -1,6 +1,6 @@
 use Rattle.std.proofs.Common.{◌≡◌, ◌∙◌, arith, ap, length}
 use Rattle.std.proofs.lemmas.List.FromFn.{length-map-range_with_len}
-use Rattle.card_counter.specs.AtMostOne.{chain_count}
+use Rattle.des_base.specs.ChainCount.{chain_count}
 use Rattle.log_encode.specs.AlarmVariables.{match_variable}
 use Rattle.log_encode.specs.Written.{holds}
 use Rattle.log_encode.proofs.writing.write_step.Goals as goal

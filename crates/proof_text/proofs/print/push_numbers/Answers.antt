@@ -1,7 +1,7 @@
 use Rattle.std.proofs.Common.{◌<◌, ◌^◌, ◌++◌, ◌∷◌, [], ℕ, arith, ap, ◌∙◌, subst}
 use Rattle.std.proofs.lemmas.List.Elements.{All-more}
 use Rattle.std.specs.Fmt.{decimal}
-use Rattle.proof_text.proofs.PrintLemmas.{one_more}
+use Rattle.des_base.proofs.Appended.{one_more}
 use Rattle.proof_text.proofs.print.push_numbers.Goals as goal
 
 pub loop-id-preserved : goal.loop-id-preserved

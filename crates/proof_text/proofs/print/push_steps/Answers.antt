@@ -1,7 +1,7 @@
 use Rattle.std.proofs.Common.{subst}
 use Rattle.std.proofs.lemmas.List.Elements.{All-more}
+use Rattle.des_base.proofs.Appended.{one_more}
 use Rattle.proof_text.specs.PrintedText.{step_text, NumbersFit}
-use Rattle.proof_text.proofs.PrintLemmas.{one_more}
 use Rattle.proof_text.proofs.print.push_steps.Goals as goal
 
 pub loop-step-preserved : goal.loop-step-preserved

@@ -1,4 +1,4 @@
-use Rattle.proof_text.proofs.print.+push_decimal.Given as goal
+use Rattle.des_base.proofs.decimal.+push_decimal.Given as goal
 
 abbrev pub decreases-push_decimal : goal.decreases-push_decimal
 decreases-push_decimal l = l.n

@@ -1,6 +1,6 @@
 use Rattle.std.proofs.Common.{◌<◌, ◌^◌, arith}
-use Rattle.proof_text.proofs.PrintLemmas.{digit_behind}
-use Rattle.proof_text.proofs.print.+push_decimal.Goals as goal
+use Rattle.des_base.proofs.Appended.{digit_behind}
+use Rattle.des_base.proofs.decimal.+push_decimal.Goals as goal
 
 pub returns-clause-ok : goal.returns-clause-ok
 returns-clause-ok t c =
