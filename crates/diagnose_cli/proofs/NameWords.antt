@@ -5,10 +5,10 @@ use Rattle.std.proofs.lemmas.Slice.Eq.{bytes_eq-Decides}
 use Rattle.std.specs.Prelude.{◌&&◌, ◌==◌, nat_le, bytes_eq, codes, option_map, slice_index_or}
 use Rattle.std.specs.List.{list_all, AllByRecursion}
 use Rattle.des_base.proofs.BoolLemmas.{both, join, most_is, otherwise}
+use Rattle.des_base.proofs.PrintedLines.{word_byte, IsWord}
 use Rattle.des_base.specs.CountedLines.{is_blank, is_counted}
 use Rattle.des_base.specs.Names.{AreDistinct, IsName, is_name_byte, is_name_text, place_of}
 use Rattle.replay.specs.RunText.{is_mark}
-use Rattle.proof_text.proofs.WordLemmas.{IsWord, word_byte}
 
 -- ---- words
 

@@ -9,8 +9,8 @@ use Rattle.std.specs.Fmt.{decimal, digits, digits_onto, digit_glyph}
 use Rattle.std.specs.List.{list_all, slice_split}
 use Rattle.std.specs.Str.Lines.{strip_carriage_return}
 use Rattle.des_base.proofs.BoolLemmas.{both, join}
+use Rattle.des_base.proofs.PrintedLines.{word_byte, line_byte, IsWord}
 use Rattle.des_base.specs.CountedLines.{text_lines, without_empty_last, NumberedLine, numbered, numbered_from, counted_from, is_counted}
-use Rattle.proof_text.proofs.WordLemmas.{IsWord, word_byte, line_byte}
 
 -- ---- bytes
 

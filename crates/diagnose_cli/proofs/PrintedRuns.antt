@@ -8,6 +8,7 @@ use Rattle.std.specs.List.{list_all, cons_option}
 use Rattle.std.specs.Option.{option_or}
 use Rattle.des_base.proofs.BoolLemmas.{join, is_most}
 use Rattle.des_base.proofs.LawLemmas.{numbers_are_decimal}
+use Rattle.des_base.proofs.PrintedLines.{line_byte, IsWord, tokens_of-word, tokens_of-last, word_in_line, word_before}
 use Rattle.des_base.specs.CountedLines.{NumberedLine, numbered, counted_from, is_counted, tokens_of}
 use Rattle.des_base.specs.Names.{AreNames, IsName, is_name_text, place_of}
 use Rattle.des_base.specs.Numbers.{up_to}
@@ -20,7 +21,6 @@ use Rattle.replay.specs.declared.run.RunStep.TheVariants.{Happens, Dropped}
 use Rattle.replay.specs.declared.run_text.RunFault.{RunFault}
 use Rattle.report.specs.Replies.{text_of_alarm, text_of_step, text_of_run}
 use Rattle.diagnose_cli.proofs.ReadBack.{HasNames}
-use Rattle.proof_text.proofs.WordLemmas.{IsWord, line_byte, tokens_of-word, tokens_of-last, word_in_line, word_before}
 use Rattle.diagnose_cli.proofs.PrintedLines.{decimal_bytes, decimal_word, counted_from-line}
 use Rattle.diagnose_cli.proofs.NameWords.{IsNameText, no_mark, name_text, name_word, name_counts, name_at, own_place}
 

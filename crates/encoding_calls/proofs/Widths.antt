@@ -4,7 +4,8 @@ use Rattle.std.proofs.lemmas.List.Filters.{length-filter_both}
 use Rattle.std.proofs.lemmas.List.FromFn.{length-range_with_len}
 use Rattle.std.proofs.lemmas.Nat.{mul-le}
 use Rattle.std.specs.Prelude.{is_some, Bool}
-use Rattle.card_counter.specs.AtMostOne.{chain_count}
+use Rattle.des_base.specs.ChainCount.{chain_count}
+use Rattle.des_base.specs.Lists.{numbers_below}
 use Rattle.des_base.specs.declared.TheConstants.{VAR_LIMIT}
 use Rattle.des_net.specs.Network.{Net, label_of}
 use Rattle.log_clauses.specs.Additions.{alarm_added, with_addition}
@@ -15,8 +16,7 @@ use Rattle.log_encode.proofs.TakenLemmas.{width_is, map_count, false_is_small}
 use Rattle.log_encode.specs.CodedLog.{CodedLog, addition_width, nameless}
 use Rattle.log_encode.specs.declared.taken.Taken.{Taken}
 use Rattle.prop_core.specs.VariableNames.{closed}
-use Rattle.replay.specs.QuestionSize.{is_matching}
-use Rattle.run_clauses.specs.StepClauses.{numbers_below}
+use Rattle.replay.specs.Explanation.{is_matching}
 use Rattle.step_encode.proofs.FewChains.{chain_le}
 
 among_numbers : (p : ℕ → Bool) (k : ℕ) → length (filter p (numbers_below k)) ≤ k

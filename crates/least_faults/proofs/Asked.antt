@@ -6,6 +6,7 @@ use Rattle.std.specs.List.{list_any, list_all}
 use Rattle.card_counter.proofs.Exact.{counter_is_exact}
 use Rattle.card_counter.specs.Counting.{true_count}
 use Rattle.card_counter.specs.CounterState.{CounterState, counter_clauses, bound_literal}
+use Rattle.des_base.proofs.Elements.{here_first, all_from as all_of}
 use Rattle.des_net.specs.Network.{Net, IsNetwork}
 use Rattle.least_faults.proofs.Assuming.{negates_only}
 use Rattle.least_faults.proofs.Entailing.{final_entailed}
@@ -19,7 +20,7 @@ use Rattle.least_faults.specs.Asking.{AreAssumptions, bound_part, IsSearching, A
 use Rattle.least_faults.specs.Evidence.{is_final}
 use Rattle.least_faults.specs.Growing.{AddsAxioms}
 use Rattle.least_faults.specs.Parts.{AreParts, AreReady}
-use Rattle.log_clauses.proofs.Lists.{all_at, all_of, append_cases, append_left, append_right, here_first}
+use Rattle.log_clauses.proofs.Lists.{all_at}
 use Rattle.log_encode.specs.CodedLog.{CodedLog, without_names}
 use Rattle.log_order.specs.Log.{Log, IsValidLog}
 use Rattle.proof_ledger.specs.Book.{BookEntry, axiomatic, learnt, final, mark, axioms_of, clauses_of, is_mark, IsValidBook}
@@ -32,6 +33,7 @@ use Rattle.run_decode.specs.Faithful.{IsWithin, IsFaithful}
 use Rattle.run_decode.specs.Decoding.{IsTrueRun}
 use Rattle.sat_solve.specs.Searching.{IsSearched, HasPut, IsRefuted}
 use Rattle.sat_solve.specs.declared.answer.Answer.TheVariants as solver
+use Rattle.std.proofs.lemmas.List.Elements.{Contains-append_cases as append_cases, Contains-append_left as append_left, Contains-append_right as append_right}
 use Rattle.step_encode.specs.Coded.{CodedSteps}
 
 -- ---- what is put

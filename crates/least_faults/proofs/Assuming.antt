@@ -2,6 +2,8 @@
 use Rattle.std.proofs.Common.{◌≡◌, ◌≢◌, ◌∙◌, ℕ, ◌+◌, ◌<◌, ◌≤◌, true, false, ◌⊎◌, inl, inr, List, [], ◌∷◌, ◌++◌, length, max, Option, None, Some, slice_index_or, refl, sym, ap, arith, Contains, zero, suc, ◌-◌, append-nil, length-append}
 use Rattle.std.specs.List.{list_all}
 use Rattle.card_counter.specs.CounterState.{CounterState, column_at, var_at, bound_literal, negative}
+use Rattle.des_base.proofs.BoolLemmas.{otherwise as as_false, either as or_cases, both}
+use Rattle.des_base.proofs.Elements.{here_first, here_later}
 use Rattle.des_base.specs.Lists.{EachPair}
 use Rattle.least_faults.proofs.Below.{read_below, names_below}
 use Rattle.least_faults.specs.Asking.{AreAssumptions}
@@ -9,7 +11,7 @@ use Rattle.least_faults.specs.Evidence.{IsPosed}
 use Rattle.least_faults.specs.Growing.{KeepsColumns}
 use Rattle.least_faults.specs.Parts.{AreParts}
 use Rattle.des_net.specs.Network.{Net}
-use Rattle.log_clauses.proofs.Lists.{or_cases, both, all_at, as_false, here_first, here_later}
+use Rattle.log_clauses.proofs.Lists.{all_at}
 use Rattle.log_clauses.specs.LogClauses.{guard_literals}
 use Rattle.log_encode.specs.CodedLog.{CodedLog, read_names}
 use Rattle.log_order.specs.Log.{Log}

@@ -1,13 +1,14 @@
 -- The clauses of the parts of a question have no variables but those that were made.
 use Rattle.std.proofs.Common.{◌≡◌, ℕ, ◌+◌, ◌*◌, ◌<◌, ◌≤◌, ◌⊎◌, inl, inr, List, [], ◌∷◌, ◌++◌, Option, None, Some, option_map, refl, ap, subst, arith, Contains}
 use Rattle.std.specs.List.{AllByRecursion}
-use Rattle.std.proofs.lemmas.List.Elements.{All-nil, All-cons}
+use Rattle.std.proofs.lemmas.List.Elements.{All-nil, All-cons, Contains-append_cases as append_cases}
 use Rattle.card_counter.proofs.CodeLemmas.{counter_is_code}
 use Rattle.card_counter.proofs.NameLemmas.{counter_names_stand}
 use Rattle.card_counter.specs.CounterState.{CounterState, counter_names, counter_clauses}
+use Rattle.des_base.proofs.Elements.{all_from as all_of}
 use Rattle.least_faults.specs.Parts.{AreParts}
 use Rattle.log_clauses.proofs.Codes.{read_of, named_entry}
-use Rattle.log_clauses.proofs.Lists.{all_of, all_at, append_cases}
+use Rattle.log_clauses.proofs.Lists.{all_at}
 use Rattle.log_encode.proofs.CodeLemmas.{asked_below}
 use Rattle.log_encode.specs.CodedLog.{CodedLog, code_names as log_names, read_names}
 use Rattle.prop_core.specs.Clauses.{Clause, HasValues}

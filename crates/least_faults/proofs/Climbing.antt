@@ -2,6 +2,7 @@
 use Rattle.std.proofs.Common.{◌≡◌, ◌≢◌, ◌∙◌, ℕ, suc, ◌<◌, ◌≤◌, true, false, ◌⊎◌, inl, inr, List, [], ◌++◌, Option, None, Some, refl, sym, ap, subst, arith, Contains, count_by, append-nil, append_assoc}
 use Rattle.std.specs.List.{list_any, list_all}
 use Rattle.card_counter.specs.CounterState.{CounterState}
+use Rattle.des_base.proofs.Elements.{none_in_nil}
 use Rattle.des_net.specs.Network.{Net, IsNetwork}
 use Rattle.least_faults.proofs.Assuming.{assumptions_stay}
 use Rattle.least_faults.proofs.Entailing.{final_entailed}
@@ -20,7 +21,6 @@ use Rattle.least_faults.specs.Asking.{AreAssumptions, IsSearching, HasAsked, IsR
 use Rattle.least_faults.specs.Evidence.{is_final, HasLastFinal, IsEvidence}
 use Rattle.least_faults.specs.Growing.{KeepsColumns}
 use Rattle.least_faults.specs.Parts.{AreParts}
-use Rattle.log_clauses.proofs.Lists.{append_cases, append_right, none_in_nil}
 use Rattle.log_encode.specs.CodedLog.{CodedLog, without_names}
 use Rattle.log_encode.specs.Drafted.{LogCodeState}
 use Rattle.log_order.specs.Log.{Log, IsValidLog}
@@ -31,6 +31,7 @@ use Rattle.prop_core.specs.declared.lit.Lit.{Lit}
 use Rattle.replay.specs.Explanation.{IsExplained, NeedsFaults}
 use Rattle.run_decode.specs.Decided.{NegatesOnly}
 use Rattle.run_decode.specs.WholeNaming.{whole_names}
+use Rattle.std.proofs.lemmas.List.Elements.{Contains-append_cases as append_cases, Contains-append_right as append_right}
 use Rattle.step_encode.specs.Coded.{CodedSteps}
 
 pub as_explained : (net : Net) (log : Log) (n : ℕ) (best : Best) → IsExplanation net log n best → IsExplained net log n best.faults

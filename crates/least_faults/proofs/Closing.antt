@@ -1,6 +1,6 @@
 -- From the entries of a search to those of a whole answer: what came before, and the marks.
 use Rattle.std.proofs.Common.{◌≡◌, ◌∙◌, ℕ, ◌+◌, true, ◌&&◌, ◌⊎◌, inl, inr, List, [], ◌∷◌, ◌++◌, Option, None, Some, IfNone, sym, ap, subst, arith, Contains, count_by, append-nil, append_assoc, Result, Ok, Err, IfOk}
-use Rattle.std.proofs.lemmas.List.Elements.{filter_map-append}
+use Rattle.std.proofs.lemmas.List.Elements.{filter_map-append, Contains-append_cases as append_cases}
 use Rattle.std.proofs.lemmas.List.Folds.{list_all-append}
 use Rattle.std.specs.List.{list_all}
 use Rattle.card_counter.specs.CounterState.{CounterState}
@@ -13,7 +13,6 @@ use Rattle.least_faults.specs.Answers.{IsFound, IsAnswered}
 use Rattle.least_faults.specs.Ascending.{HasFound}
 use Rattle.least_faults.specs.Evidence.{HasFinal, IsEvidence}
 use Rattle.least_faults.specs.Parts.{AreParts, AreReady}
-use Rattle.log_clauses.proofs.Lists.{append_cases}
 use Rattle.log_encode.specs.CodedLog.{CodedLog}
 use Rattle.log_order.specs.Log.{Log}
 use Rattle.proof_ledger.specs.Book.{BookEntry, final, mark, clause_of, clauses_of, axiom_of, axioms_of, is_mark}

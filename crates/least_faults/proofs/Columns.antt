@@ -4,9 +4,9 @@ use Rattle.std.proofs.Math.Nat.{suc-mul}
 use Rattle.std.proofs.Math.Seq.{take-append_seam, drop-append_seam}
 use Rattle.std.proofs.lemmas.List.Elements.{All-weaker}
 use Rattle.std.specs.List.{AllByRecursion, range_with_len}
-use Rattle.card_counter.proofs.ListLemmas.{all_split, all_change, map_append}
 use Rattle.card_counter.proofs.States.{one_more_column, grown_is_made}
 use Rattle.card_counter.specs.CounterState.{CounterState, with_column, next_clauses}
+use Rattle.des_base.proofs.Elements.{all_split, all_change}
 use Rattle.des_base.specs.declared.TheConstants.{VAR_LIMIT}
 use Rattle.least_faults.proofs.AxiomLists.{axioms_added, clauses_added}
 use Rattle.least_faults.proofs.Below.{axioms_below}
@@ -20,6 +20,7 @@ use Rattle.prop_core.specs.declared.lit.Lit.{Lit}
 use Rattle.run_decode.proofs.WholeClauses.{clauses_grow}
 use Rattle.run_decode.proofs.WholeNames.{together_grow}
 use Rattle.sat_prop.specs.Changes.{IsFront}
+use Rattle.std.proofs.lemmas.List.{map-append as map_append}
 use Rattle.step_encode.specs.Coded.{CodedSteps}
 
 -- ---- axioms that are added to a book

@@ -1,10 +1,8 @@
 -- What a valid book entails.
 use Rattle.std.proofs.Common.{◌≡◌, ℕ, zero, suc, ◌-◌, ◌==◌, Bool, true, false, cond, List, [], ◌∷◌, ◌++◌, Option, None, Some, sym, ap, subst, append-nil, append_assoc, Contains, slice_get, IsTrue, ◌⊎◌, inl, inr}
 use Rattle.std.proofs.lemmas.List.Elements.{filter_map-append}
-use Rattle.log_clauses.proofs.Lists.{cons_cases, here_first, here_later, none_in_nil}
+use Rattle.des_base.proofs.Elements.{all_at as at_each, all_append, cons_cases, here_first, here_later, none_in_nil}
 use Rattle.prop_core.proofs.Entailed.{derived_clauses_are_true}
-use Rattle.prop_core.proofs.FamilyLemmas.{all_append}
-use Rattle.prop_core.proofs.NameLemmas.{at_each}
 use Rattle.prop_core.specs.Clauses.{Clause, clause_true, AllClausesTrue}
 use Rattle.prop_core.specs.Derivation.{clause_numbered}
 use Rattle.proof_ledger.specs.Book.{BookEntry, axiomatic, learnt, final, mark, clause_of, clauses_of, axioms_of, EachAfter, IsDerived, IsValidBook}

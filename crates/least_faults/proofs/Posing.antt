@@ -1,11 +1,12 @@
 -- What the parts of a question ask, with what is assumed: it is faithful and drawn from its families, whatever the names of the log's alarms.
 use Rattle.std.proofs.Common.{ℕ, ◌<◌, List, ◌++◌, length, Option, Some, None, IfSome, sym, subst, append-nil}
 use Rattle.card_counter.specs.CounterState.{CounterState}
+use Rattle.des_base.proofs.Elements.{all_from as all_of}
 use Rattle.least_faults.specs.Asking.{AreAssumptions, Pose, bound_part}
 use Rattle.least_faults.specs.Evidence.{IsPosed}
 use Rattle.least_faults.specs.Parts.{AreParts}
 use Rattle.des_net.specs.Network.{Net, IsNetwork}
-use Rattle.log_clauses.proofs.Lists.{all_of, all_at}
+use Rattle.log_clauses.proofs.Lists.{all_at}
 use Rattle.log_encode.specs.CodedLog.{CodedLog}
 use Rattle.log_order.specs.Log.{Log, IsValidLog}
 use Rattle.prop_core.specs.Clauses.{Clause}

@@ -4,17 +4,20 @@ use Rattle.std.specs.Prelude.{nat_le, is_some}
 use Rattle.std.proofs.Math.Nat.{mul-le-mul_left, one-mul, pow-suc, pow-zero}
 use Rattle.std.proofs.lemmas.List.FromFn.{length-range_with_len}
 use Rattle.std.proofs.lemmas.List.Sums.{count_by-le-length, sum_by-cons}
+use Rattle.des_base.proofs.NumbersBelow.{sum_numbers_more}
+use Rattle.des_base.specs.ChainCount.{chain_count as at_most_one_count}
+use Rattle.des_base.specs.Lists.{numbers_below}
 use Rattle.des_base.specs.declared.TheConstants.{VAR_LIMIT}
 use Rattle.des_net.specs.Building.{IsDraft}
 use Rattle.des_net.specs.Network.{Net, label_of}
-use Rattle.des_net.specs.QuestionSize.{numbers_below, component_sizes, counter_size, observable_count, at_most_one_count}
+use Rattle.des_net.specs.QuestionSize.{component_sizes, counter_size, observable_count}
 use Rattle.least_faults.specs.LogVariables.{own_variables, variables_of_first, variables_of_alarms, log_variables}
 use Rattle.least_faults.specs.Parts.{most_size}
 use Rattle.log_encode.proofs.TakenLemmas.{false_is_small}
 use Rattle.log_order.specs.Log.{Log, is_doubtful}
-use Rattle.replay.specs.QuestionSize.{alarm_variables, alarm_sizes, is_matching, matching_count, doubtful_count, question_size}
+use Rattle.replay.specs.Explanation.{is_matching}
+use Rattle.replay.specs.QuestionSize.{alarm_variables, alarm_sizes, matching_count, doubtful_count, question_size}
 use Rattle.step_encode.proofs.Codes.{variables_are_few}
-use Rattle.step_encode.proofs.Lists.{sum_numbers_more}
 use Rattle.step_encode.specs.Coded.{variable_count}
 
 -- ---- one alarm

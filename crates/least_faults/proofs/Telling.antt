@@ -2,12 +2,13 @@
 use Rattle.std.proofs.Common.{◌≡◌, ◌∙◌, ℕ, zero, suc, ◌-◌, ◌<◌, true, false, ◌⊎◌, inl, inr, List, [], ◌∷◌, ◌++◌, length, None, Some, option_map, map, refl, sym, ap, subst, arith, Contains, append-nil}
 use Rattle.std.specs.List.{AllByRecursion}
 use Rattle.card_counter.specs.CounterState.{CounterState, bound_literal}
+use Rattle.des_base.proofs.Elements.{cons_cases, here_first, here_later, none_in_nil}
 use Rattle.des_net.specs.Network.{Net, IsNetwork}
 use Rattle.least_faults.proofs.Posing.{poses}
 use Rattle.least_faults.specs.Asking.{AreAssumptions}
 use Rattle.least_faults.specs.Parts.{AreParts}
 use Rattle.log_clauses.proofs.Codes.{IsReadOf, read_of}
-use Rattle.log_clauses.proofs.Lists.{all_at, append_cases, cons_cases, here_first, here_later, none_in_nil}
+use Rattle.log_clauses.proofs.Lists.{all_at}
 use Rattle.log_clauses.specs.LogClauses.{guard_literals, chain, observable_events}
 use Rattle.log_encode.specs.CodedLog.{CodedLog, without_names}
 use Rattle.log_order.specs.Log.{Log, IsValidLog}
@@ -20,6 +21,7 @@ use Rattle.run_decode.proofs.WholeNames.{together_one_naming}
 use Rattle.run_decode.specs.Decided.{NegatesOnly, Entails}
 use Rattle.run_decode.specs.Drawn.{at_most, bound_literals, assumption_literals, fault_inputs}
 use Rattle.run_decode.specs.WholeNaming.{whole_names}
+use Rattle.std.proofs.lemmas.List.Elements.{Contains-append_cases as append_cases}
 use Rattle.step_encode.specs.Coded.{CodedSteps}
 
 -- ---- a clause that negates a longer list

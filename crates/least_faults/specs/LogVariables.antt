@@ -1,7 +1,8 @@
 -- At most so many variables has the code of a log, apart from those of the steps.
 use Rattle.std.specs.Prelude.{ℕ, ◌+◌, length, sum_by}
+use Rattle.des_base.specs.Lists.{numbers_below}
 use Rattle.des_net.specs.Network.{Net}
-use Rattle.des_net.specs.QuestionSize.{numbers_below, observable_count}
+use Rattle.des_net.specs.QuestionSize.{observable_count}
 use Rattle.log_encode.specs.AlarmVariables.{false_width}
 use Rattle.log_order.specs.Log.{Log, is_doubtful}
 use Rattle.replay.specs.QuestionSize.{alarm_variables, matching_count}
