@@ -1,22 +1,14 @@
 -- Inputs that are added one after another.
-use Rattle.std.proofs.Common.{◌≡◌, ◌↔◌, ◌⊎◌, inl, inr, ℕ, zero, suc, ◌+◌, ◌-◌, ◌*◌, ◌<◌, ◌≤◌, ◌∙◌, List, [], ◌∷◌, ◌++◌, drop, length, max, refl, sym, ap, subst, arith, append_assoc, append-nil, length-append, get_or, All, Contains}
+use Rattle.std.proofs.Common.{◌≡◌, ◌⊎◌, inl, inr, ℕ, suc, ◌+◌, ◌-◌, ◌*◌, ◌<◌, ◌≤◌, ◌∙◌, List, [], ◌∷◌, ◌++◌, drop, length, refl, sym, ap, subst, arith, append_assoc, append-nil, get_or, All, Contains}
 use Rattle.std.proofs.Math.Nat.{suc-mul}
 use Rattle.std.proofs.lemmas.List.{at_drop_more, at_drop_all}
-use Rattle.std.proofs.lemmas.List.Elements.{All-weaker, Contains-append_cases, Contains-append_left, Contains-append_right}
+use Rattle.std.proofs.lemmas.List.Elements.{Contains-append_cases, Contains-append_left, Contains-append_right}
 use Rattle.prop_core.specs.declared.lit.Lit.{Lit}
-use Rattle.prop_core.specs.Clauses.{Clause, HasValues}
+use Rattle.prop_core.specs.ClauseStore.{ClauseStore}
+use Rattle.prop_core.specs.Clauses.{Clause}
 use Rattle.card_counter.proofs.Inputs.{inputs_add_clauses, place_cases, variable_before, variable_new, longer_size, full_stays}
-use Rattle.card_counter.specs.CounterState.{CounterState, IsPlace, IsCounter, IsMade, IsOutside, HasInput, HasInputs, ManyInputsAdd, IsFull, variable, counter_clauses, with_input, with_inputs, with_room, input_clauses, inputs_clauses, longer}
-
--- ---- room alone
-
-pub room_is_counter : (state : CounterState) (more : ℕ) → IsCounter state → IsCounter (with_room state more)
-room_is_counter state more counter = record {
-  filled = counter.filled;
-  full = counter.full;
-  apart = λ i j k l here there same. counter.apart i j k l (record { input = here.input; column = here.column }) (record { input = there.input; column = there.column }) same;
-  new = λ i j input place in' same. counter.new i j input (record { input = place.input; column = place.column }) in' same;
-}
+use Rattle.card_counter.specs.Growing.{HasRoom, MayCount, AddsInput, AddsInputs}
+use Rattle.card_counter.specs.CounterState.{CounterState, IsPlace, IsCounter, IsMade, IsOutside, HasInputs, ManyInputsAdd, IsFull, variable, counter_clauses, with_input, with_inputs, input_clauses, inputs_clauses}
 
 -- ---- one input more keeps the others outside
 
@@ -32,24 +24,20 @@ outside_still state input other first full low outside i j place same = by (plac
 -- ---- the loop
 
 -- Of the inputs the first so many are added: the others lead from this state to the whole, and there is room for them.
-pub record AreAdded (old : CounterState) (inputs : List Lit) (first : ℕ) (written : List Clause) (done : ℕ) (state : CounterState) (vars : ℕ) (clauses : List Clause) (spare_clauses spare_literals : ℕ) : Type 0 where
+pub record AreAdded (old : CounterState) (inputs : List Lit) (first : ℕ) (written : List Clause) (done : ℕ) (state : CounterState) (vars : ℕ) (store : ClauseStore) : Type 0 where
   pub leads : with_inputs state (drop done inputs) vars ≡ with_inputs old inputs first
-  pub writes : clauses ++ inputs_clauses state (drop done inputs) vars ≡ written ++ inputs_clauses old inputs first
+  pub writes : store.clauses ++ inputs_clauses state (drop done inputs) vars ≡ written ++ inputs_clauses old inputs first
   pub columns : length state.columns ≡ length old.columns
   pub count : vars + (length inputs - done) * length old.columns ≡ first + length inputs * length old.columns
   pub reserved : length inputs ≤ state.spare_inputs + done
   pub counter : IsCounter state
   pub made : IsMade vars state
-  pub known : HasValues vars inputs
-  pub outside : All (IsOutside state) inputs
-  pub room : 2 * ((length inputs - done) * length old.columns) ≤ spare_clauses
-  pub literals : 5 * ((length inputs - done) * length old.columns) ≤ spare_literals
+  pub others : All (MayCount vars state) inputs
+  pub room : HasRoom store (2 * ((length inputs - done) * length old.columns)) (5 * ((length inputs - done) * length old.columns))
 
-pub none_added : (old : CounterState) (inputs : List Lit) (first : ℕ) (written : List Clause) (spare_clauses spare_literals : ℕ) →
-    IsCounter old → IsMade first old → HasValues first inputs → All (IsOutside old) inputs → length inputs ≤ old.spare_inputs →
-    2 * (length inputs * length old.columns) ≤ spare_clauses → 5 * (length inputs * length old.columns) ≤ spare_literals →
-    AreAdded old inputs first written 0 old first written spare_clauses spare_literals
-none_added old inputs first written spare_clauses spare_literals counter made known outside reserved room literals = record {
+pub none_added : (old : CounterState) (inputs : List Lit) (first : ℕ) (store : ClauseStore) → IsCounter old → IsMade first old → All (MayCount first old) inputs → length inputs ≤ old.spare_inputs →
+    HasRoom store (2 * (length inputs * length old.columns)) (5 * (length inputs * length old.columns)) → AreAdded old inputs first store.clauses 0 old first store
+none_added old inputs first store counter made others reserved room = record {
   leads = refl;
   writes = refl;
   columns = refl;
@@ -57,17 +45,14 @@ none_added old inputs first written spare_clauses spare_literals counter made kn
   reserved = omega (arith, reserved);
   counter = counter;
   made = made;
-  known = known;
-  outside = outside;
-  room = subst (λ n. 2 * (n * length old.columns) ≤ spare_clauses) (sym whole) room;
-  literals = subst (λ n. 5 * (n * length old.columns) ≤ spare_literals) (sym whole) literals;
+  others = others;
+  room = subst (λ n. HasRoom store (2 * (n * length old.columns)) (5 * (n * length old.columns))) (sym whole) room;
 }
   where
     whole : length inputs - 0 ≡ length inputs
     whole = omega arith
 
-module _ (old : CounterState) (inputs : List Lit) (first : ℕ) (written : List Clause) (done : ℕ) (state : CounterState) (vars : ℕ) (clauses : List Clause) (spare_clauses spare_literals : ℕ)
-    (are : AreAdded old inputs first written done state vars clauses spare_clauses spare_literals) (less : done < length inputs) where
+module _ (old : CounterState) (inputs : List Lit) (first : ℕ) (written : List Clause) (done : ℕ) (state : CounterState) (vars : ℕ) (store : ClauseStore) (are : AreAdded old inputs first written done state vars store) (less : done < length inputs) where
   one_less : (length inputs - done) * length old.columns ≡ length old.columns + (length inputs - (done + 1)) * length old.columns
   one_less =
       let rest : length inputs - done ≡ suc (length inputs - (done + 1)) = omega (arith, less) in
@@ -80,61 +65,59 @@ module _ (old : CounterState) (inputs : List Lit) (first : ℕ) (written : List 
   pub one_within : (limit : ℕ) → first + length inputs * length old.columns ≤ limit → vars + length state.columns ≤ limit
   one_within limit fits = let columns = are.columns in let is = are.count in omega (arith, fits, columns, is, one_less)
 
-  pub one_room : 2 * length state.columns ≤ spare_clauses
-  one_room = let columns = are.columns in let room = are.room in omega (arith, columns, room, one_less)
+  pub one_room : HasRoom store (2 * length state.columns) (5 * length state.columns)
+  one_room = record {
+    clauses = let columns = are.columns in let room = are.room.clauses in omega (arith, columns, room, one_less);
+    literals = let columns = are.columns in let room = are.room.literals in omega (arith, columns, room, one_less);
+  }
 
-  pub one_literals : 5 * length state.columns ≤ spare_literals
-  one_literals = let columns = are.columns in let room = are.literals in omega (arith, columns, room, one_less)
-
-  pub next_added : (d : Lit) (after : CounterState) (more : ℕ) (new : List Clause) (new_spare new_literals : ℕ) → HasInput state (get_or inputs done d) vars →
-      after ≡ with_input state (get_or inputs done d) vars → new ≡ clauses ++ input_clauses state (get_or inputs done d) vars → more ≡ vars + length state.columns →
-      spare_clauses ≤ new_spare + 2 * length state.columns → spare_literals ≤ new_literals + 5 * length state.columns →
-      AreAdded old inputs first written (done + 1) after more new new_spare new_literals
-  next_added d after more new new_spare new_literals grown is adds made room literals = record {
+  pub next_added : (d : Lit) (after : CounterState) (next : ℕ) (new : ClauseStore) → AddsInput (get_or inputs done d) state vars store after next new → IsCounter after →
+      AreAdded old inputs first written (done + 1) after next new
+  next_added d after next new adds counter = record {
     leads =
-        ap (λ (s : CounterState). with_inputs s (drop (done + 1) inputs) more) is
-        ∙ ap (with_inputs (with_input state input vars) (drop (done + 1) inputs)) made
+        ap (λ (s : CounterState). with_inputs s (drop (done + 1) inputs) next) adds.counter
+        ∙ ap (with_inputs (with_input state input vars) (drop (done + 1) inputs)) adds.vars
         ∙ sym (at_drop_more (λ xs. with_inputs state xs vars) inputs done d less)
         ∙ are.leads;
     writes =
-        ap (λ (s : CounterState). new ++ inputs_clauses s (drop (done + 1) inputs) more) is
-        ∙ ap (λ n. new ++ inputs_clauses (with_input state input vars) (drop (done + 1) inputs) n) made
-        ∙ ap (λ xs. xs ++ inputs_clauses (with_input state input vars) (drop (done + 1) inputs) (vars + length state.columns)) adds
-        ∙ append_assoc clauses (input_clauses state input vars) (inputs_clauses (with_input state input vars) (drop (done + 1) inputs) (vars + length state.columns))
-        ∙ ap (λ xs. clauses ++ xs) (sym (at_drop_more (λ xs. inputs_clauses state xs vars) inputs done d less))
+        ap (λ (s : CounterState). new.clauses ++ inputs_clauses s (drop (done + 1) inputs) next) adds.counter
+        ∙ ap (λ n. new.clauses ++ inputs_clauses (with_input state input vars) (drop (done + 1) inputs) n) adds.vars
+        ∙ ap (λ xs. xs ++ inputs_clauses (with_input state input vars) (drop (done + 1) inputs) (vars + length state.columns)) adds.written.added
+        ∙ append_assoc store.clauses (input_clauses state input vars) (inputs_clauses (with_input state input vars) (drop (done + 1) inputs) (vars + length state.columns))
+        ∙ ap (λ xs. store.clauses ++ xs) (sym (at_drop_more (λ xs. inputs_clauses state xs vars) inputs done d less))
         ∙ are.writes;
-    columns = ap (λ (s : CounterState). length s.columns) is ∙ longer_size vars state.columns ∙ are.columns;
-    count = let columns = are.columns in let is = are.count in omega (arith, columns, is, made, one_less);
-    reserved = let reserved = are.reserved in let spare = ap (λ (s : CounterState). s.spare_inputs) is in omega (arith, reserved, spare, less);
-    counter = subst IsCounter (sym is) grown.counter;
-    made = subst (IsMade more) (sym is) (subst (λ n. IsMade n (with_input state input vars)) (sym made) grown.made);
-    known = All-weaker (λ (l : Lit). l.var < vars) (λ (l : Lit). l.var < more) (λ l low. omega (arith, low, made)) inputs are.known;
-    outside = λ k e inside. subst (λ (s : CounterState). IsOutside s (get_or inputs k e)) (sym is)
-        (outside_still state input (get_or inputs k e) vars are.counter.full (are.known k e inside) (are.outside k e inside));
-    room = let columns = are.columns in let before = are.room in omega (arith, columns, before, room, one_less);
-    literals = let columns = are.columns in let before = are.literals in omega (arith, columns, before, literals, one_less);
+    columns = ap (λ (s : CounterState). length s.columns) adds.counter ∙ longer_size vars state.columns ∙ are.columns;
+    count = let columns = are.columns in let is = are.count in let made = adds.vars in omega (arith, columns, is, made, one_less);
+    reserved = let reserved = are.reserved in let spare = ap (λ (s : CounterState). s.spare_inputs) adds.counter in omega (arith, reserved, spare, less);
+    counter = counter;
+    made = adds.made;
+    others = λ k e inside. record {
+      known = let low = (are.others k e inside).known in let made = adds.vars in omega (arith, low, made);
+      outside = subst (λ (s : CounterState). IsOutside s (get_or inputs k e)) (sym adds.counter)
+          (outside_still state input (get_or inputs k e) vars are.counter.full (are.others k e inside).known (are.others k e inside).outside);
+    };
+    room = record {
+      clauses = let columns = are.columns in let before = are.room.clauses in let room = adds.written.clauses in omega (arith, columns, before, room, one_less);
+      literals = let columns = are.columns in let before = are.room.literals in let room = adds.written.literals in omega (arith, columns, before, room, one_less);
+    };
   }
     where
       input : Lit
       input = get_or inputs done d
 
-pub all_state : (old : CounterState) (inputs : List Lit) (first : ℕ) (written : List Clause) (done : ℕ) (state : CounterState) (vars : ℕ) (clauses : List Clause) (spare_clauses spare_literals : ℕ) →
-    AreAdded old inputs first written done state vars clauses spare_clauses spare_literals → length inputs ≤ done → state ≡ with_inputs old inputs first
-all_state old inputs first written done state vars clauses spare_clauses spare_literals are all =
-    sym (at_drop_all (λ xs. with_inputs state xs vars) inputs done all) ∙ are.leads
-
-pub all_written : (old : CounterState) (inputs : List Lit) (first : ℕ) (written : List Clause) (done : ℕ) (state : CounterState) (vars : ℕ) (clauses : List Clause) (spare_clauses spare_literals : ℕ) →
-    AreAdded old inputs first written done state vars clauses spare_clauses spare_literals → length inputs ≤ done → clauses ≡ written ++ inputs_clauses old inputs first
-all_written old inputs first written done state vars clauses spare_clauses spare_literals are all =
-    sym (append-nil clauses) ∙ ap (λ xs. clauses ++ xs) (sym (at_drop_all (λ xs. inputs_clauses state xs vars) inputs done all)) ∙ are.writes
-
-pub all_vars : (old : CounterState) (inputs : List Lit) (first : ℕ) (written : List Clause) (done : ℕ) (state : CounterState) (vars : ℕ) (clauses : List Clause) (spare_clauses spare_literals : ℕ) →
-    AreAdded old inputs first written done state vars clauses spare_clauses spare_literals → length inputs ≤ done → vars ≡ first + length inputs * length old.columns
-all_vars old inputs first written done state vars clauses spare_clauses spare_literals are all =
-    let none : length inputs - done ≡ 0 = omega (arith, all) in
-    let nothing : 0 * length old.columns ≡ 0 = omega arith in
-    let rest : (length inputs - done) * length old.columns ≡ 0 = ap (λ n. n * length old.columns) none ∙ nothing in
-    let is = are.count in omega (arith, rest, is)
+-- the whole, where all are added
+pub all_added : (old : CounterState) (inputs : List Lit) (first : ℕ) (written : List Clause) (done : ℕ) (state : CounterState) (vars : ℕ) (store : ClauseStore) →
+    AreAdded old inputs first written done state vars store → length inputs ≤ done → AddsInputs inputs old first written state vars store.clauses
+all_added old inputs first written done state vars store are all = record {
+  counter = sym (at_drop_all (λ xs. with_inputs state xs vars) inputs done all) ∙ are.leads;
+  clauses = sym (append-nil store.clauses) ∙ ap (λ xs. store.clauses ++ xs) (sym (at_drop_all (λ xs. inputs_clauses state xs vars) inputs done all)) ∙ are.writes;
+  vars =
+      let none : length inputs - done ≡ 0 = omega (arith, all) in
+      let nothing : 0 * length old.columns ≡ 0 = omega arith in
+      let rest : (length inputs - done) * length old.columns ≡ 0 = ap (λ n. n * length old.columns) none ∙ nothing in
+      let is = are.count in omega (arith, rest, is);
+  made = are.made;
+}
 
 -- ---- the law
 
@@ -182,3 +165,7 @@ many_inputs_add state [] first full = record {
 }
 many_inputs_add state (input ∷ more) first full =
     one_then_others state input more first full (many_inputs_add (with_input state input first) more (first + length state.columns) (full_stays state input first full))
+
+-- inputs more leave as many columns
+pub columns_stay : (inputs : List Lit) (old : CounterState) (first : ℕ) (written : List Clause) (new : CounterState) (next : ℕ) (all : List Clause) → AddsInputs inputs old first written new next all → IsFull old → length new.columns ≡ length old.columns
+columns_stay inputs old first written new next all adds full = ap (λ (state : CounterState). length state.columns) adds.counter ∙ (many_inputs_add old inputs first full).columns

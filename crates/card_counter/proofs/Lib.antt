@@ -6,6 +6,7 @@ pub mod NameLemmas
 pub mod CodeLemmas
 pub mod Exact
 pub mod Inputs
+pub mod PlaceLemmas
 pub mod RowLemmas
 pub mod Adding
 pub mod Vectors

@@ -1,20 +1,21 @@
 -- How a counter's columns stand in memory: look-ups, a column more, an input more.
-use Rattle.std.proofs.Common.{◌≡◌, ℕ, zero, suc, ◌+◌, ◌-◌, ◌<◌, ◌≤◌, ◌∙◌, List, [], ◌∷◌, ◌++◌, map, flat_map, drop, length, refl, sym, ap, subst, arith, append_assoc, append-nil, length-append, get_or}
+use Rattle.std.proofs.Common.{◌≡◌, ℕ, zero, suc, ◌+◌, ◌-◌, ◌<◌, ◌≤◌, ◌∙◌, List, [], ◌∷◌, ◌++◌, map, drop, length, refl, sym, ap, subst, arith, append_assoc, append-nil, length-append, get_or, ◌*◌}
 use Rattle.std.specs.List.{range_with_len, AllByRecursion}
 use Rattle.std.proofs.Math.ListN.{get_or-append}
-use Rattle.std.proofs.Math.Seq.{get_or-append_seam}
 use Rattle.std.proofs.lemmas.List.{drop_all, drop-append-le, get_or-append_right, get_or-map, get_or-drop, length-drop, map-append}
 use Rattle.std.proofs.lemmas.List.FromFn.{get_or-range_with_len, length-range_with_len}
 use Rattle.des_base.proofs.Elements.{all_change}
 use Rattle.des_base.specs.declared.TheConstants.{VAR_LIMIT}
 use Rattle.prop_core.specs.declared.lit.Lit.{Lit}
-use Rattle.prop_core.specs.Clauses.{Clause, negation}
+use Rattle.prop_core.specs.Clauses.{Clause}
 use Rattle.card_counter.specs.declared.counter.Column.{Column}
-use Rattle.card_counter.proofs.Inputs.{inputs_grow}
-use Rattle.card_counter.proofs.ListLemmas.{flat_next}
-use Rattle.card_counter.proofs.States.{grown_is_counter, grown_is_made, at_end, before_front}
-use Rattle.card_counter.specs.CounterState.{CounterState, IsPlace, IsCounter, IsMade, IsOutside, HasInput, told_by, reached_in, reached_before, under, positive, negative, var_at, column_at, column_before, place_clauses, input_at, no_input, column_clauses, bound_literal, with_column, next_clauses, numbers_below, longer, with_input, input_clauses}
-use Rattle.card_counter.specs.Rows.{column_of, columns_of, counter_of, var_of, IsLaidOut, clauses_at, reached_at, premise_at, kept_clauses, counted_clauses}
+use Rattle.card_counter.proofs.Inputs.{inputs_grow, longer_size}
+use Rattle.card_counter.proofs.States.{grown_is_counter, grown_is_made}
+use Rattle.card_counter.specs.CounterState.{CounterState, IsPlace, IsCounter, IsMade, HasInput, var_at, column_at, with_column, next_clauses, longer, with_input, clauses_of_column, clauses_of_input}
+use Rattle.card_counter.specs.Rows.{column_of, columns_of, counter_of, var_of, IsLaidOut}
+use Rattle.prop_core.specs.ClauseStore.{ClauseStore}
+use Rattle.card_counter.proofs.PlaceLemmas.{last_column, last_input}
+use Rattle.card_counter.specs.Growing.{HasRoom, AddsWithin, AddsColumn, AddsInput, MayCount}
 
 -- ---- look-ups
 
@@ -51,34 +52,34 @@ columns_size : (rows : List ℕ) (j : ℕ) (columns : List Column) → length (c
 columns_size rows j [] = refl
 columns_size rows j (column ∷ columns) = ap suc (columns_size rows (suc j) columns)
 
--- ---- what a column says of an input, by its variables
+-- ---- the variable of a place
 
-reached_same : (column : List ℕ) (i below : ℕ) → below ≡ var_at column (i - 1) → reached_in column i ≡ reached_at i below
-reached_same column zero below is = refl
-reached_same column (suc i) below is = let same : i ≡ suc i - 1 = omega arith in ap told_by (ap (var_at column) same ∙ sym is)
+-- what memory has at this place of the counter
+module _ (state : CounterState) (inputs : List Lit) (rows : List ℕ) (columns : List Column) (spare i j : ℕ) (view : counter_of inputs rows columns spare ≡ state) (laid : IsLaidOut inputs rows columns) (place : IsPlace state i j) where
+  pub input_there : i < length inputs
+  input_there = let inside = place.input in let size = ap (λ (s : CounterState). length s.inputs) view in omega (arith, inside, size)
 
-premise_same : (columns : List (List ℕ)) (j i before : ℕ) → before ≡ var_at (column_at columns (j - 1)) (i - 1) → reached_before (column_before columns j) i ≡ premise_at j i before
-premise_same columns zero i before is = refl
-premise_same columns (suc j) i before is = let same : suc j - 1 ≡ j = omega arith in reached_same (column_at columns j) i before (is ∙ ap (λ k. var_at (column_at columns k) (i - 1)) same)
+  pub row_there : i < length rows
+  row_there = let each = laid.each in let inside = input_there in omega (arith, each, inside)
 
-pub place_here : (inputs : List Lit) (columns : List (List ℕ)) (i j below before var : ℕ) (old kept new : List Clause) →
-    var ≡ var_at (column_at columns j) i → below ≡ var_at (column_at columns j) (i - 1) → before ≡ var_at (column_at columns (j - 1)) (i - 1) →
-    kept ≡ old ++ kept_clauses i below var → new ≡ kept ++ counted_clauses (input_at inputs i) j i before var → new ≡ old ++ clauses_at inputs columns j i
-place_here inputs columns i j below before var old kept new is is_below is_before keeps counts =
-    counts
-    ∙ ap (λ xs. xs ++ counted_clauses (input_at inputs i) j i before var) keeps
-    ∙ append_assoc old (kept_clauses i below var) (counted_clauses (input_at inputs i) j i before var)
-    ∙ ap (λ r. old ++ (under r (positive var ∷ []) ++ counted_clauses (input_at inputs i) j i before var)) (sym (reached_same (column_at columns j) i below is_below))
-    ∙ ap (λ r. old ++ (under (reached_in (column_at columns j) i) (positive var ∷ []) ++ under r (negation (input_at inputs i) ∷ positive var ∷ []))) (sym (premise_same columns j i before is_before))
-    ∙ ap (λ v. old ++ (under (reached_in (column_at columns j) i) (positive v ∷ []) ++ under (reached_before (column_before columns j) i) (negation (input_at inputs i) ∷ positive v ∷ []))) is
+  pub column_there : j < length columns
+  column_there = let inside = place.column in let size = columns_size rows 0 columns in let same = ap (λ (s : CounterState). length s.columns) view in omega (arith, inside, size, same)
 
--- one place more of a loop
-pub flat_step : (f : ℕ → List Clause) (place : ℕ) (old now new : List Clause) → now ≡ old ++ flat_map f (numbers_below place) → new ≡ now ++ f place → new ≡ old ++ flat_map f (numbers_below (place + 1))
-flat_step f place old now new so_far adds =
-    adds ∙ ap (λ xs. xs ++ f place) so_far ∙ append_assoc old (flat_map f (numbers_below place)) (f place) ∙ ap (λ xs. old ++ xs) (sym (flat_next f place)) ∙ ap (λ n. old ++ flat_map f (numbers_below n)) next
-  where
-    next : suc place ≡ place + 1
-    next = omega arith
+  is_variable : var_of rows columns i j ≡ variable state i j
+  is_variable = ap (λ (s : CounterState). variable s i j) view
+
+  pub is_own : (own : Column) → own ≡ get_or columns j own → i < own.count → own.first + i ≡ variable state i j
+  is_own own is less =
+      let count = ap (λ (c : Column). c.count) is in
+      ap (λ (c : Column). c.first + i) is ∙ sym (var_own rows columns i j own column_there (omega (arith, less, count))) ∙ is_variable
+
+  pub is_later : (own : Column) (row : ℕ) → own ≡ get_or columns j own → row ≡ get_or rows i row → own.count ≤ i → row + j ≡ variable state i j
+  is_later own row is there later =
+      let count = ap (λ (c : Column). c.count) is in
+      ap (λ r. r + j) there ∙ sym (var_later rows columns i j row own column_there (omega (arith, later, count)) row_there) ∙ is_variable
+
+  pub is_small : variable state i j < VAR_LIMIT
+  is_small = let low = laid.small i j input_there column_there in let same = is_variable in omega (arith, low, same)
 
 -- ---- a column more
 
@@ -152,19 +153,18 @@ module _ (old : CounterState) (vars : ℕ) (inputs : List Lit) (rows : List ℕ)
           let within = added.within in
           omega (arith, low, within)
 
-  pub added_clauses : (clauses new : List Clause) → new ≡ clauses ++ flat_map (clauses_at inputs (columns_of rows 0 later) (length later - 1)) (numbers_below (length inputs)) → new ≡ clauses ++ next_clauses old vars
-  added_clauses clauses new whole =
-      let last : length later - 1 ≡ length (columns_of rows 0 columns) = omega (arith, later_size, columns_size rows 0 columns) in
-      whole
-      ∙ ap (λ (cs : List (List ℕ)). clauses ++ column_clauses inputs (column_before cs (length later - 1)) (column_at cs (length later - 1))) row_here
-      ∙ ap (λ k. clauses ++ column_clauses inputs (column_before next k) (column_at next k)) last
-      ∙ ap (λ o. clauses ++ column_clauses inputs o (column_at next (length (columns_of rows 0 columns)))) (before_front (columns_of rows 0 columns) (range_with_len column.first (length inputs)) (length (columns_of rows 0 columns)) (omega arith))
-      ∙ ap (λ c. clauses ++ column_clauses inputs (column_before (columns_of rows 0 columns) (length (columns_of rows 0 columns))) c) (at_end (columns_of rows 0 columns) (range_with_len column.first (length inputs)))
-      ∙ ap (λ (state : CounterState). clauses ++ next_clauses state column.first) added.view
-      ∙ ap (λ n. clauses ++ next_clauses old n) added.start
-    where
-      next : List (List ℕ)
-      next = columns_of rows 0 columns ++ range_with_len column.first (length inputs) ∷ []
+  pub added_some : 1 ≤ length (counter_of inputs rows later spare).columns
+  added_some = omega (arith, later_size, columns_size rows 0 later)
+
+  pub added_whole : (before after : ClauseStore) (written : List Clause) (next : ℕ) → before.clauses ≡ written → next ≡ vars + length old.inputs →
+      AddsWithin before (clauses_of_column (counter_of inputs rows later spare) (length (counter_of inputs rows later spare).columns - 1)) (2 * length inputs) (5 * length inputs) after →
+      AddsColumn old vars written (counter_of inputs rows later spare) next after.clauses
+  added_whole before after written next same is adds = record {
+    counter = added_state;
+    clauses = (subst (λ (s : CounterState). AddsWithin before (clauses_of_column s (length s.columns - 1)) (2 * length inputs) (5 * length inputs) after) added_state adds).added ∙ ap (λ xs. before.clauses ++ xs) (last_column old vars) ∙ ap (λ xs. xs ++ next_clauses old vars) same;
+    vars = is;
+    made = added_made next is;
+  }
 
 -- ---- an input more
 
@@ -190,8 +190,7 @@ pub record IsPut (old : CounterState) (vars : ℕ) (input : Lit) (inputs all : L
   pub row_put : every ≡ rows ++ vars ∷ []
   pub fewer : less ≡ spare - 1
   pub made : IsMade vars old
-  pub known : input.var < vars
-  pub outside : IsOutside old input
+  pub may : MayCount vars old input
   pub within : vars + length old.columns ≤ VAR_LIMIT
 
 module _ (old : CounterState) (vars : ℕ) (input : Lit) (inputs all : List Lit) (rows every : List ℕ) (columns : List Column) (spare less : ℕ) (put : IsPut old vars input inputs all rows every columns spare less) where
@@ -205,8 +204,8 @@ module _ (old : CounterState) (vars : ℕ) (input : Lit) (inputs all : List Lit)
       ∙ ap (λ (n : ℕ). let state : CounterState = record { inputs = inputs ++ input ∷ []; columns = longer vars (columns_of rows 0 columns); spare_inputs = n } in state) put.fewer
       ∙ ap (λ (state : CounterState). with_input state input vars) put.view
 
-  grown : HasInput old input vars
-  grown = inputs_grow old input vars (subst IsCounter put.view put.counter) put.made put.known put.outside
+  pub grown : HasInput old input vars
+  grown = inputs_grow old input vars (subst IsCounter put.view put.counter) put.made put.may.known put.may.outside
 
   pub put_counter : IsCounter (counter_of all every columns less)
   put_counter = subst IsCounter (sym put_state) grown.counter
@@ -226,49 +225,27 @@ module _ (old : CounterState) (vars : ℕ) (input : Lit) (inputs all : List Lit)
           let within = put.within in
           omega (arith, low, within)
 
-  pub put_clauses : (clauses new : List Clause) → new ≡ clauses ++ flat_map (λ j. clauses_at all (columns_of every 0 columns) j (length all - 1)) (numbers_below (length columns)) → new ≡ clauses ++ input_clauses old input vars
-  put_clauses clauses new whole =
-      let last : length all - 1 ≡ length inputs = omega (arith, ap length put.input_put, length-append inputs (input ∷ [])) in
-      let here : input_at all (length inputs) ≡ input = ap (λ xs. input_at xs (length inputs)) put.input_put ∙ get_or-append_seam inputs input [] no_input in
-      whole
-      ∙ ap (λ k. clauses ++ flat_map (λ j. clauses_at all (columns_of every 0 columns) j k) (numbers_below (length columns))) last
-      ∙ ap (λ (cs : List (List ℕ)). clauses ++ flat_map (λ j. clauses_at all cs j (length inputs)) (numbers_below (length columns))) put_columns
-      ∙ ap (λ l. clauses ++ flat_map (λ j. place_clauses l (column_before (longer vars (columns_of rows 0 columns)) j) (column_at (longer vars (columns_of rows 0 columns)) j) (length inputs)) (numbers_below (length columns))) here
-      ∙ ap (λ n. clauses ++ flat_map (λ j. place_clauses input (column_before (longer vars (columns_of rows 0 columns)) j) (column_at (longer vars (columns_of rows 0 columns)) j) (length inputs)) (numbers_below n)) (sym (columns_size rows 0 columns))
-      ∙ ap (λ (state : CounterState). clauses ++ input_clauses state input vars) put.view
+  pub put_room : (store : ClauseStore) → HasRoom store (2 * length old.columns) (5 * length old.columns) → HasRoom store (2 * length (counter_of all every columns less).columns) (5 * length (counter_of all every columns less).columns)
+  put_room store room = subst (λ n. HasRoom store (2 * n) (5 * n)) (sym (longer_size vars old.columns) ∙ ap (λ (s : CounterState). length s.columns) (sym put_state)) room
 
--- ---- the bound
-
-pub bound_at : (state : CounterState) (inputs : List Lit) (rows : List ℕ) (columns : List Column) (spare k var : ℕ) → counter_of inputs rows columns spare ≡ state → var ≡ var_of rows columns (length inputs - 1) k → negative var ≡ bound_literal state k
-bound_at state inputs rows columns spare k var view is = ap negative is ∙ ap (λ (s : CounterState). bound_literal s k) view
-
--- ---- variables are small
-
-pub own_small : (inputs : List Lit) (rows : List ℕ) (columns : List Column) (i j : ℕ) (d : Column) → IsLaidOut inputs rows columns → i < length inputs → j < length columns → i < (get_or columns j d).count →
-    (get_or columns j d).first + i < VAR_LIMIT
-own_small inputs rows columns i j d laid inside column own = let low = laid.small i j inside column in let is = var_own rows columns i j d column own in omega (arith, low, is)
-
-pub later_small : (inputs : List Lit) (rows : List ℕ) (columns : List Column) (i j d : ℕ) (e : Column) → IsLaidOut inputs rows columns → i < length inputs → j < length columns → (get_or columns j e).count ≤ i →
-    get_or rows i d + j < VAR_LIMIT
-later_small inputs rows columns i j d e laid inside column later =
-    let low = laid.small i j inside column in let each = laid.each in let is = var_later rows columns i j d e column later (omega (arith, each, inside)) in omega (arith, low, is)
+  pub put_adds : (before after : ClauseStore) (next : ℕ) → next ≡ vars + length old.columns →
+      AddsWithin before (clauses_of_input (counter_of all every columns less) (length all - 1)) (2 * length (counter_of all every columns less).columns) (5 * length (counter_of all every columns less).columns) after →
+      AddsInput input old vars before (counter_of all every columns less) next after
+  put_adds before after next is adds =
+      let here = subst (λ (s : CounterState). AddsWithin before (clauses_of_input s (length s.inputs - 1)) (2 * length s.columns) (5 * length s.columns) after) put_state adds in
+      let size = longer_size vars old.columns in
+      record {
+        counter = put_state;
+        written = record {
+          added = here.added ∙ ap (λ xs. before.clauses ++ xs) (last_input old input vars);
+          clauses = let room = here.clauses in omega (arith, room, size);
+          literals = let room = here.literals in omega (arith, room, size);
+        };
+        vars = is;
+        made = subst (IsMade next) (sym put_state) (subst (λ n. IsMade n (with_input old input vars)) (sym is) grown.made);
+      }
 
 -- ---- how many columns there are
 
 pub size_here : (old : CounterState) (inputs : List Lit) (rows : List ℕ) (columns : List Column) (spare : ℕ) → counter_of inputs rows columns spare ≡ old → length columns ≡ length old.columns
 size_here old inputs rows columns spare view = sym (columns_size rows 0 columns) ∙ ap (λ (state : CounterState). length state.columns) view
-
--- ---- the room alone
-
-pub spare_is_free : (inputs : List Lit) (rows : List ℕ) (columns : List Column) (spare other : ℕ) → IsCounter (counter_of inputs rows columns spare) → IsCounter (counter_of inputs rows columns other)
-spare_is_free inputs rows columns spare other counter = record {
-  filled = counter.filled;
-  full = counter.full;
-  apart = λ i j k l here there same. counter.apart i j k l (record { input = here.input; column = here.column }) (record { input = there.input; column = there.column }) same;
-  new = λ i j input place in' same. counter.new i j input (record { input = place.input; column = place.column }) in' same;
-}
-
--- the same look-up, by equal tables
-pub same_place : (rows_here rows : List ℕ) (columns_here columns : List Column) (place last k var : ℕ) → rows_here ≡ rows → columns_here ≡ columns → place ≡ last → var ≡ var_of rows_here columns_here place k → var ≡ var_of rows columns last k
-same_place rows_here rows columns_here columns place last k var same_rows same_columns same_last is =
-    is ∙ ap (λ r. var_of r columns_here place k) same_rows ∙ ap (λ (cs : List Column). var_of rows cs place k) same_columns ∙ ap (λ i. var_of rows columns i k) same_last

@@ -1,5 +1,5 @@
 -- A counter with one column more.
-use Rattle.std.proofs.Common.{◌≡◌, ℕ, zero, suc, ◌+◌, ◌<◌, ◌≤◌, ◌∙◌, ◌⊎◌, inl, inr, List, [], ◌∷◌, ◌++◌, map, flat_map, length, Some, refl, sym, ap, arith, Contains, length-append}
+use Rattle.std.proofs.Common.{◌≡◌, ℕ, zero, suc, ◌+◌, ◌<◌, ◌≤◌, ◌∙◌, ◌⊎◌, inl, inr, List, [], ◌∷◌, ◌++◌, map, flat_map, length, max, Some, refl, sym, ap, arith, Contains, length-append}
 use Rattle.std.specs.List.{range_with_len}
 use Rattle.std.proofs.Math.ListN.{get_or-append}
 use Rattle.std.proofs.Math.Seq.{get_or-append_seam}
@@ -10,7 +10,8 @@ use Rattle.prop_core.specs.declared.lit.Lit.{Lit}
 use Rattle.prop_core.specs.Clauses.{Clause, HasValues}
 use Rattle.prop_core.specs.VariableNames.{Name, reaches}
 use Rattle.card_counter.proofs.ListLemmas.{flat_same, flat_next, map_same}
-use Rattle.card_counter.specs.CounterState.{CounterState, IsPlace, IsCounter, IsMade, variable, var_at, column_at, column_before, column_clauses, without_columns, with_column, next_clauses, ColumnsAddClauses, numbers_below, next_names, ColumnsAddNames}
+use Rattle.card_counter.specs.CounterState.{CounterState, IsPlace, IsCounter, IsMade, variable, var_at, column_at, column_before, column_clauses, without_columns, with_column, next_clauses, ColumnsAddClauses, numbers_below, next_names, ColumnsAddNames, with_room}
+use Rattle.card_counter.specs.Growing.{MayCount}
 
 pub one_more_column : {X : Type 0} (xs : List X) (x : X) → length (xs ++ x ∷ []) ≡ suc (length xs)
 one_more_column xs x = omega (arith, length-append xs (x ∷ []))
@@ -168,3 +169,25 @@ none_is_counter inputs = record {
 
 pub none_is_made : (count : ℕ) (inputs : List Lit) → HasValues count inputs → IsMade count (without_columns inputs)
 none_is_made count inputs below = record { inputs = below; columns = λ i j here. absurd (let h = here.column in omega arith) }
+
+-- ---- the room alone
+
+pub spare_is_free : (inputs : List Lit) (columns : List (List ℕ)) (spare other : ℕ) → IsCounter (record { inputs = inputs; columns = columns; spare_inputs = spare }) → IsCounter (record { inputs = inputs; columns = columns; spare_inputs = other })
+spare_is_free inputs columns spare other counter = record {
+  filled = counter.filled;
+  full = counter.full;
+  apart = λ i j k l here there same. counter.apart i j k l (record { input = here.input; column = here.column }) (record { input = there.input; column = there.column }) same;
+  new = λ i j input place in' same. counter.new i j input (record { input = place.input; column = place.column }) in' same;
+}
+
+pub room_is_counter : (state : CounterState) (more : ℕ) → IsCounter state → IsCounter (with_room state more)
+room_is_counter state more counter = spare_is_free state.inputs state.columns state.spare_inputs (max state.spare_inputs more) counter
+
+pub room_is_made : (count : ℕ) (state : CounterState) (more : ℕ) → IsMade count state → IsMade count (with_room state more)
+room_is_made count state more made = record { inputs = made.inputs; columns = λ i j place. made.columns i j (record { input = place.input; column = place.column }) }
+
+-- ---- literals that may become inputs
+
+-- a literal of a later variable may
+pub later_may_count : (made count : ℕ) (state : CounterState) (input : Lit) → IsMade made state → made ≤ input.var → input.var < count → MayCount count state input
+later_may_count made count state input is later below = record { known = below; outside = λ i j place same. let low = is.columns i j place in omega (arith, low, later, same) }

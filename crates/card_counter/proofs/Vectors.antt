@@ -4,8 +4,9 @@ use Rattle.prop_core.specs.declared.lit.Lit.{Lit}
 use Rattle.prop_core.specs.VariableNames.{reaches, happens, yes, no}
 use Rattle.card_counter.specs.AtMostOne.{excluded_pairs}
 use Rattle.card_counter.specs.CounterClauses.{counts_on, counts_up, count_clause}
-use Rattle.card_counter.specs.CounterState.{CounterState, positive, negative, counter_clauses, counter_names, bound_literal, without_columns, with_column, next_clauses, next_names}
+use Rattle.card_counter.specs.CounterState.{CounterState, positive, negative, counter_clauses, counter_names, bound_literal, without_columns, with_column, next_clauses, next_names, with_input, with_inputs, inputs_clauses}
 use Rattle.card_counter.specs.Counting.{true_count, counted}
+use Rattle.card_counter.specs.Rows.{counter_of}
 
 -- ---- pairs
 
@@ -51,6 +52,29 @@ names = refl
 more_names : next_names (with_column start 5) 7 ≡ (7, reaches 1 2) ∷ (8, reaches 2 2) ∷ []
 unfolding start two_inputs
 more_names = refl
+
+-- ---- the same with a third input, variable 9, that comes later: it has the variables 10 and 11
+
+two_columns : CounterState
+unfolding start two_inputs
+two_columns = with_column (with_column start 5) 7
+
+later_input : with_input two_columns (positive 9) 10 ≡ record { inputs = positive 3 ∷ negative 4 ∷ positive 9 ∷ []; columns = (5 ∷ 6 ∷ 10 ∷ []) ∷ (7 ∷ 8 ∷ 11 ∷ []) ∷ []; spare_inputs = 0 }
+unfolding two_columns start two_inputs
+later_input = refl
+
+later_clauses : inputs_clauses two_columns (positive 9 ∷ []) 10 ≡ (negative 6 ∷ positive 10 ∷ []) ∷ (negative 9 ∷ positive 10 ∷ []) ∷ (negative 8 ∷ positive 11 ∷ []) ∷ (negative 6 ∷ negative 9 ∷ positive 11 ∷ []) ∷ []
+unfolding two_columns start two_inputs
+later_clauses = refl
+
+later_bounds : map (bound_literal (with_inputs two_columns (positive 9 ∷ []) 10)) (0 ∷ 1 ∷ []) ≡ negative 10 ∷ negative 11 ∷ []
+unfolding two_columns start two_inputs
+later_bounds = refl
+
+-- the same in memory: two columns of two inputs each, and a row of the third
+in_memory : counter_of (positive 3 ∷ negative 4 ∷ positive 9 ∷ []) (0 ∷ 0 ∷ 10 ∷ []) (record { first = 5; count = 2 } ∷ record { first = 7; count = 2 } ∷ []) 0 ≡ with_input two_columns (positive 9) 10
+unfolding two_columns start two_inputs
+in_memory = refl
 
 -- ---- counts
 

@@ -75,11 +75,16 @@ under always clause = clause ∷ []
 under never clause = []
 under (told_by var) clause = (negative var ∷ clause) ∷ []
 
--- what a column says of input i: it keeps what was reached, and a true input reaches one more
+-- a column keeps at input i what was reached, and a true input reaches one more
+abbrev pub kept_clauses : List ℕ → ℕ → List Clause
+kept_clauses column i = under (reached_in column i) (positive (var_at column i) ∷ [])
+
+abbrev pub counted_clauses : Lit → Option (List ℕ) → List ℕ → ℕ → List Clause
+counted_clauses input before column i = under (reached_before before i) (negation input ∷ positive (var_at column i) ∷ [])
+
+-- both: what a column says of input i
 abbrev pub place_clauses : Lit → Option (List ℕ) → List ℕ → ℕ → List Clause
-place_clauses input before column i =
-    under (reached_in column i) (positive (var_at column i) ∷ [])
-    ++ under (reached_before before i) (negation input ∷ positive (var_at column i) ∷ [])
+place_clauses input before column i = kept_clauses column i ++ counted_clauses input before column i
 
 abbrev pub no_input : Lit
 no_input = record { var = 0; positive = false }
@@ -100,6 +105,23 @@ column_before columns (suc j) = Some (column_at columns j)
 abbrev pub counter_clauses : CounterState → List Clause
 counter_clauses state =
     flat_map (λ j. column_clauses state.inputs (column_before state.columns j) (column_at state.columns j)) (numbers_below (length state.columns))
+
+-- the same place by place: what column j keeps at input i, what it counts there, and both
+abbrev pub kept_at : CounterState → ℕ → ℕ → List Clause
+kept_at state j i = kept_clauses (column_at state.columns j) i
+
+abbrev pub counted_at : CounterState → ℕ → ℕ → List Clause
+counted_at state j i = counted_clauses (input_at state.inputs i) (column_before state.columns j) (column_at state.columns j) i
+
+abbrev pub clauses_at : CounterState → ℕ → ℕ → List Clause
+clauses_at state j i = kept_at state j i ++ counted_at state j i
+
+-- what column j says of all inputs, and what all columns say of input i
+abbrev pub clauses_of_column : CounterState → ℕ → List Clause
+clauses_of_column state j = flat_map (clauses_at state j) (numbers_below (length state.inputs))
+
+abbrev pub clauses_of_input : CounterState → ℕ → List Clause
+clauses_of_input state i = flat_map (λ j. clauses_at state j i) (numbers_below (length state.columns))
 
 -- the literal that at most k inputs are true, where there is a column k
 abbrev pub bound_literal : CounterState → ℕ → Lit
@@ -170,6 +192,11 @@ inputs_clauses state (input ∷ more) first = input_clauses state input first ++
 -- the same counter with room for at least so many more inputs
 abbrev pub with_room : CounterState → ℕ → CounterState
 with_room state more = record { inputs = state.inputs; columns = state.columns; spare_inputs = max state.spare_inputs more }
+
+-- the same inputs and columns, with whatever room
+pub record AreAlike (state other : CounterState) : Type 0 where
+  pub inputs : other.inputs ≡ state.inputs
+  pub columns : other.columns ≡ state.columns
 
 -- Inputs more: first those that there were, then these; and the clauses are those that there were, which stay, and the new ones.
 pub record HasInputs (state : CounterState) (more : List Lit) (first : ℕ) : Type 0 where

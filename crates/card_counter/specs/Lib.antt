@@ -3,4 +3,5 @@ pub mod AtMostOne
 pub mod CounterClauses
 pub mod CounterState
 pub mod Counting
+pub mod Growing
 pub mod Rows

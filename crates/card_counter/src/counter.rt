@@ -1,9 +1,8 @@
-ghost use Rattle.std.specs.Prelude.{◌≡◌, ◌+◌, ◌*◌, ◌-◌, ◌<◌, ◌≤◌, ◌++◌, [], length, flat_map, OnOk, OnErr, IfOk, All};
+ghost use Rattle.std.specs.Prelude.{◌≡◌, ◌+◌, ◌*◌, ◌-◌, ◌<◌, ◌≤◌, length, OnOk, OnErr, IfOk, All};
 ghost use Rattle.des_base.specs.declared.TheConstants.{VAR_LIMIT};
-ghost use Rattle.prop_core.specs.Clauses.{HasValues};
-ghost use Rattle.card_counter.specs.CounterState.{IsCounter, IsMade, IsOutside, without_columns, numbers_below, with_column, with_input, with_inputs, with_room, next_clauses, input_clauses, inputs_clauses, bound_literal};
+ghost use Rattle.card_counter.specs.CounterState.{IsCounter, IsMade, IsPlace, variable, without_columns, with_room, clauses_at, clauses_of_column, clauses_of_input, kept_at, counted_at, bound_literal};
 ghost use Rattle.card_counter.specs.Counting.{Counts, Bounds};
-ghost use Rattle.card_counter.specs.Rows.{IsLaidOut, var_of, columns_of, clauses_at, kept_clauses, counted_clauses};
+ghost use Rattle.card_counter.specs.Growing.{AddsColumn, AddsInput, AddsInputs, AddsWithin, HasRoom, MayCount};
 
 use des_base::{Memory, VAR_LIMIT};
 use prop_core::{Clauses, Lit, Vars};
@@ -86,15 +85,10 @@ impl Counter {
         requires few { length self.old.columns < 256 }
         requires within { vars.old + length self.old.inputs ≤ VAR_LIMIT }
         requires made { IsMade vars.old self.old }
-        ensures column { OnOk result (self.new ≡ with_column self.old vars.old) }
-        ensures clauses { OnOk result (out.new.clauses ≡ out.old.clauses ++ next_clauses self.old vars.old) }
-        ensures vars { OnOk result (vars.new ≡ vars.old + length self.old.inputs) }
-        ensures made_still { OnOk result (IsMade vars.new self.new) }
+        ensures column { OnOk result (AddsColumn self.old vars.old out.old.clauses self.new vars.new out.new.clauses) }
         ensures counter { IsCounter self.new }
         ensures exact { OnOk result (Counts self.new) }
-        ensures err_counter { OnErr result (self.new ≡ self.old) }
-        ensures err_clauses { OnErr result (out.new ≡ out.old) }
-        ensures err_vars { OnErr result (vars.new ≡ vars.old) }
+        ensures err { OnErr result ((self.new ≡ self.old) × (vars.new ≡ vars.old) × (out.new ≡ out.old)) }
     {
         let count = self.inputs.len();
         self.columns.reserve(1)?;
@@ -105,12 +99,7 @@ impl Counter {
             count: count as u32,
         };
         self.columns.push(column).unwrap();
-        push_column(
-            self.inputs.as_slice(),
-            self.rows.as_slice(),
-            self.columns.as_slice(),
-            out,
-        );
+        self.push_column(out);
         Ok(())
     }
 
@@ -132,17 +121,13 @@ impl Counter {
         requires reserved { length inputs.now ≤ self.old.spare_inputs }
         requires within { vars.old + length inputs.now * length self.old.columns ≤ VAR_LIMIT }
         requires made { IsMade vars.old self.old }
-        requires known { HasValues vars.old inputs.now }
-        requires outside { All (IsOutside self.old) inputs.now }
-        requires clauses { 2 * (length inputs.now * length self.old.columns) ≤ out.old.spare_clauses }
-        requires literals { 5 * (length inputs.now * length self.old.columns) ≤ out.old.spare_literals }
-        ensures inputs { self.new ≡ with_inputs self.old inputs.now vars.old }
-        ensures clauses { out.new.clauses ≡ out.old.clauses ++ inputs_clauses self.old inputs.now vars.old }
-        ensures vars { vars.new ≡ vars.old + length inputs.now * length self.old.columns }
-        ensures made_still { IsMade vars.new self.new }
+        requires inputs { All (MayCount vars.old self.old) inputs.now }
+        requires room { HasRoom out.old (2 * (length inputs.now * length self.old.columns)) (5 * (length inputs.now * length self.old.columns)) }
+        ensures inputs { AddsInputs inputs.now self.old vars.old out.old.clauses self.new vars.new out.new.clauses }
         ensures counter { IsCounter self.new }
         ensures exact { Counts self.new }
     {
+        // Also where there are none to add, that it is a counter is known from its fields.
         let _ = &self.inputs;
         for input in inputs {
             self.add_input(*input, vars, out);
@@ -154,27 +139,16 @@ impl Counter {
         requires reserved { 1 ≤ self.old.spare_inputs }
         requires within { vars.old + length self.old.columns ≤ VAR_LIMIT }
         requires made { IsMade vars.old self.old }
-        requires known { input.var < vars.old }
-        requires outside { IsOutside self.old input }
-        requires clauses { 2 * length self.old.columns ≤ out.old.spare_clauses }
-        requires literals { 5 * length self.old.columns ≤ out.old.spare_literals }
-        ensures input { self.new ≡ with_input self.old input vars.old }
-        ensures clauses { out.new.clauses ≡ out.old.clauses ++ input_clauses self.old input vars.old }
-        ensures vars { vars.new ≡ vars.old + length self.old.columns }
+        requires input { MayCount vars.old self.old input }
+        requires room { HasRoom out.old (2 * length self.old.columns) (5 * length self.old.columns) }
+        ensures input { AddsInput input self.old vars.old out.old self.new vars.new out.new }
         ensures counter { IsCounter self.new }
-        ensures spare_clauses { out.old.spare_clauses ≤ out.new.spare_clauses + 2 * length self.old.columns }
-        ensures spare_literals { out.old.spare_literals ≤ out.new.spare_literals + 5 * length self.old.columns }
     {
         let first = vars.fresh(self.columns.len() as u32);
         self.inputs.push(input).unwrap();
         self.rows.push(first).unwrap();
         self.spare_inputs -= 1;
-        push_row(
-            self.inputs.as_slice(),
-            self.rows.as_slice(),
-            self.columns.as_slice(),
-            out,
-        );
+        self.push_row(out);
     }
 
     /// The literal that says that at most k inputs are true.
@@ -185,14 +159,84 @@ impl Counter {
         ensures counter { IsCounter self.now }
     {
         let last = self.inputs.len() - 1;
-        let var = variable_at(
-            self.inputs.as_slice(),
-            self.rows.as_slice(),
-            self.columns.as_slice(),
-            last,
-            k as usize,
-        );
-        Lit::new(var, false)
+        Lit::new(self.variable_at(last, k), false)
+    }
+
+    // The variable of a column at an input.
+    fn variable_at(&self, place: usize, column: u32) -> u32
+        requires { IsPlace self.now place column }
+        ensures is { result ≡ variable self.now place column }
+        ensures small { result < VAR_LIMIT }
+    {
+        let own = self.columns[column as usize];
+        if place < own.count as usize {
+            own.first + place as u32
+        } else {
+            self.rows[place] + column
+        }
+    }
+
+    // Adds the clauses of the last column, in room that is there.
+    fn push_column(&self, out: &mut Clauses)
+        requires some { 1 ≤ length self.now.columns }
+        requires room { HasRoom out.old (2 * length self.now.inputs) (5 * length self.now.inputs) }
+        ensures { AddsWithin out.old (clauses_of_column self.now (length self.now.columns - 1)) (2 * length self.now.inputs) (5 * length self.now.inputs) out.new }
+    {
+        let column = self.columns() - 1;
+        for place in 0..self.inputs() {
+            self.push_place(place, column, out);
+        }
+    }
+
+    // Adds what each column says of the last input, in room that is there.
+    fn push_row(&self, out: &mut Clauses)
+        requires some { 1 ≤ length self.now.inputs }
+        requires room { HasRoom out.old (2 * length self.now.columns) (5 * length self.now.columns) }
+        ensures { AddsWithin out.old (clauses_of_input self.now (length self.now.inputs - 1)) (2 * length self.now.columns) (5 * length self.now.columns) out.new }
+    {
+        let place = self.inputs() - 1;
+        for column in 0..self.columns() {
+            self.push_place(place, column, out);
+        }
+    }
+
+    // Adds what a column says of an input.
+    fn push_place(&self, place: usize, column: u32, out: &mut Clauses)
+        requires place { IsPlace self.now place column }
+        requires room { HasRoom out.old 2 5 }
+        ensures { AddsWithin out.old (clauses_at self.now column place) 2 5 out.new }
+    {
+        self.push_kept(place, column, out);
+        self.push_counted(place, column, out);
+    }
+
+    // Adds that the inputs up to this place reach what those before it do. Before the first there are none.
+    fn push_kept(&self, place: usize, column: u32, out: &mut Clauses)
+        requires place { IsPlace self.now place column }
+        requires room { HasRoom out.old 1 2 }
+        ensures { AddsWithin out.old (kept_at self.now column place) 1 2 out.new }
+    {
+        if place > 0 {
+            let reached = self.variable_at(place, column);
+            let before = self.variable_at(place - 1, column);
+            out.push_reserved(&[Lit::new(before, false), Lit::new(reached, true)]);
+        }
+    }
+
+    // Adds that a true input reaches one more than those before it reach. In the first column that is 1, with no premise.
+    fn push_counted(&self, place: usize, column: u32, out: &mut Clauses)
+        requires place { IsPlace self.now place column }
+        requires room { HasRoom out.old 1 3 }
+        ensures { AddsWithin out.old (counted_at self.now column place) 1 3 out.new }
+    {
+        let input = self.inputs[place];
+        let reached = Lit::new(self.variable_at(place, column), true);
+        if column == 0 {
+            out.push_reserved(&[input.negated(), reached]);
+        } else if place > 0 {
+            let before = self.variable_at(place - 1, column - 1);
+            out.push_reserved(&[Lit::new(before, false), input.negated(), reached]);
+        }
     }
 }
 
@@ -203,110 +247,4 @@ fn no_rows(alloc: Global, count: usize) -> Result<Vec<u32>, Memory>
     let mut rows = Vec::new(alloc);
     rows.resize(count, 0)?;
     Ok(rows)
-}
-
-// The variable of a column at an input.
-fn variable_at(inputs: &[Lit], rows: &[u32], columns: &[Column], place: usize, column: usize) -> u32
-    requires laid { IsLaidOut inputs.now rows.now columns.now }
-    requires place { place < length inputs.now }
-    requires column { column < length columns.now }
-    ensures is { result ≡ var_of rows.now columns.now place column }
-    ensures small { result < VAR_LIMIT }
-{
-    let own = columns[column];
-    if place < own.count as usize {
-        own.first + place as u32
-    } else {
-        rows[place] + column as u32
-    }
-}
-
-// Adds the clauses of the last column, in room that is there.
-fn push_column(inputs: &[Lit], rows: &[u32], columns: &[Column], out: &mut Clauses)
-    requires laid { IsLaidOut inputs.now rows.now columns.now }
-    requires some { 1 ≤ length columns.now }
-    requires clauses { 2 * length inputs.now ≤ out.old.spare_clauses }
-    requires literals { 5 * length inputs.now ≤ out.old.spare_literals }
-    ensures { out.new.clauses ≡ out.old.clauses ++ flat_map (clauses_at inputs.now (columns_of rows.now 0 columns.now) (length columns.now - 1)) (numbers_below (length inputs.now)) }
-{
-    let column = columns.len() - 1;
-    for place in 0..inputs.len() {
-        push_place(inputs, rows, columns, place, column, out);
-    }
-}
-
-// Adds what each column says of the last input, in room that is there.
-fn push_row(inputs: &[Lit], rows: &[u32], columns: &[Column], out: &mut Clauses)
-    requires laid { IsLaidOut inputs.now rows.now columns.now }
-    requires some { 1 ≤ length inputs.now }
-    requires clauses { 2 * length columns.now ≤ out.old.spare_clauses }
-    requires literals { 5 * length columns.now ≤ out.old.spare_literals }
-    ensures added { out.new.clauses ≡ out.old.clauses ++ flat_map (λ j. clauses_at inputs.now (columns_of rows.now 0 columns.now) j (length inputs.now - 1)) (numbers_below (length columns.now)) }
-    ensures spare_clauses { out.old.spare_clauses ≤ out.new.spare_clauses + 2 * length columns.now }
-    ensures spare_literals { out.old.spare_literals ≤ out.new.spare_literals + 5 * length columns.now }
-{
-    let place = inputs.len() - 1;
-    for column in 0..columns.len() {
-        push_place(inputs, rows, columns, place, column, out);
-    }
-}
-
-// Adds what a column says of an input.
-fn push_place(
-    inputs: &[Lit],
-    rows: &[u32],
-    columns: &[Column],
-    place: usize,
-    column: usize,
-    out: &mut Clauses,
-)
-    requires laid { IsLaidOut inputs.now rows.now columns.now }
-    requires place { place < length inputs.now }
-    requires column { column < length columns.now }
-    requires clauses { 2 ≤ out.old.spare_clauses }
-    requires literals { 5 ≤ out.old.spare_literals }
-    ensures added { out.new.clauses ≡ out.old.clauses ++ clauses_at inputs.now (columns_of rows.now 0 columns.now) column place }
-    ensures spare_clauses { out.old.spare_clauses ≤ out.new.spare_clauses + 2 }
-    ensures spare_literals { out.old.spare_literals ≤ out.new.spare_literals + 5 }
-{
-    let place_before = place.saturating_sub(1);
-    let column_before = column.saturating_sub(1);
-    let var = variable_at(inputs, rows, columns, place, column);
-    let below = variable_at(inputs, rows, columns, place_before, column);
-    let before = variable_at(inputs, rows, columns, place_before, column_before);
-    push_kept(place, below, var, out);
-    push_counted(inputs[place], column, place, before, var, out);
-}
-
-// Adds that the inputs up to this place reach what those before it do. Before the first there are none.
-fn push_kept(place: usize, below: u32, var: u32, out: &mut Clauses)
-    requires below { below < VAR_LIMIT }
-    requires var { var < VAR_LIMIT }
-    requires clauses { 1 ≤ out.old.spare_clauses }
-    requires literals { 2 ≤ out.old.spare_literals }
-    ensures added { out.new.clauses ≡ out.old.clauses ++ kept_clauses place below var }
-    ensures spare_clauses { out.old.spare_clauses ≤ out.new.spare_clauses + 1 }
-    ensures spare_literals { out.old.spare_literals ≤ out.new.spare_literals + 2 }
-{
-    if place > 0 {
-        out.push_reserved(&[Lit::new(below, false), Lit::new(var, true)]);
-    }
-}
-
-// Adds that a true input reaches one more than those before it reach. In the first column that is 1, with no premise.
-fn push_counted(input: Lit, column: usize, place: usize, before: u32, var: u32, out: &mut Clauses)
-    requires before { before < VAR_LIMIT }
-    requires var { var < VAR_LIMIT }
-    requires clauses { 1 ≤ out.old.spare_clauses }
-    requires literals { 3 ≤ out.old.spare_literals }
-    ensures added { out.new.clauses ≡ out.old.clauses ++ counted_clauses input column place before var }
-    ensures spare_clauses { out.old.spare_clauses ≤ out.new.spare_clauses + 1 }
-    ensures spare_literals { out.old.spare_literals ≤ out.new.spare_literals + 3 }
-{
-    let reached = Lit::new(var, true);
-    if column == 0 {
-        out.push_reserved(&[input.negated(), reached]);
-    } else if place > 0 {
-        out.push_reserved(&[Lit::new(before, false), input.negated(), reached]);
-    }
 }

@@ -21,5 +21,6 @@ pub mod DecodeOrder
 pub mod DecodeBounds
 pub mod DecodeFalls
 pub mod WholeClauses
+pub mod WholeRoom
 pub mod FewNames
 pub mod NamingVectors

@@ -1,6 +1,6 @@
 -- One naming for a question whose steps, log and counter are coded on variables of their own: each part names its own, and the events of the log are those of the steps.
 use Rattle.std.specs.Prelude.{◌≡◌, ◌≢◌, ◌↔◌, ◌⊎◌, ℕ, ◌+◌, ◌-◌, ◌<◌, ◌≤◌, true, if◌then◌else◌, List, [], ◌∷◌, ◌++◌, length, Contains, None, Some}
-use Rattle.card_counter.specs.CounterState.{CounterState, IsCounter, IsMade, IsPlace, variable, counter_names, counter_clauses, next_clauses, input_clauses, bound_literal, without_columns, with_column, with_input, IsFull}
+use Rattle.card_counter.specs.CounterState.{CounterState, IsCounter, IsMade, IsPlace, variable, counter_names, counter_clauses, next_clauses, input_clauses, bound_literal, without_columns, with_column, with_input, with_room, AreAlike, IsFull}
 use Rattle.card_counter.specs.Counting.{IsNamedBy}
 use Rattle.des_base.specs.declared.TheConstants.{VAR_LIMIT, MOST_COLUMNS}
 use Rattle.log_clauses.specs.Additions.{Addition, alarm_added, pair_added}
@@ -111,6 +111,20 @@ pub record AreJoinedBy (steps : CodedSteps) (code : CodedLog) (counter : Counter
 
 abbrev pub ClausesGrow : Type 0
 ClausesGrow = (steps : CodedSteps) (code : CodedLog) (counter : CounterState) (clauses : List Clause) → IsFull counter → AreClausesOf steps code counter clauses → AreJoinedBy steps code counter clauses
+
+-- ---- room for further inputs
+
+-- Room for further inputs changes nothing else: what is coded together stays so, with the same clauses, and with an addition the counter is alike and gets the same clauses.
+pub record StaysWithRoom (steps : CodedSteps) (code : CodedLog) (counter : CounterState) (more : ℕ) : Type 0 where
+  pub together : AreCodedTogether steps code (with_room counter more)
+  pub clauses : (clauses : List Clause) → AreClausesOf steps code counter clauses → AreClausesOf steps code (with_room counter more) clauses
+  pub after : (addition : Addition) (first : ℕ) → AreAlike (counter_after code counter addition first) (counter_after code (with_room counter more) addition first)
+  pub counted : (addition : Addition) (first : ℕ) → counted_after code (with_room counter more) addition first ≡ counted_after code counter addition first
+
+abbrev pub RoomIsFree : Type 0
+RoomIsFree = (steps : CodedSteps) (code : CodedLog) (counter : CounterState) (more : ℕ) → AreCodedTogether steps code counter → StaysWithRoom steps code counter more
+
+-- ---- what they ask
 
 -- With the guards they ask without a bound, and with the counter's literal for at most k besides, they ask within k.
 pub record AskTogether (steps : CodedSteps) (code : CodedLog) (counter : CounterState) (clauses : List Clause) (guards : List Lit) : Type 0 where

@@ -2,7 +2,7 @@
 ghost use Rattle.run_decode.specs.Decided.{FaithfulDecides, NoneIsLeast, QuestionIsDecided, RefutedIsDecided};
 ghost use Rattle.run_decode.specs.DecodedRuns.{DecodedExplains, FaultLiteralsStay, FaultsAreInputs};
 ghost use Rattle.run_decode.specs.RunNaming.{BesideOneNaming, CodedAlarmsStand, CodedRunsExplain, TruthsAreRead};
-ghost use Rattle.run_decode.specs.WholeNaming.{ClausesBegin, ClausesGrow, TogetherAreFew, TogetherAsk, TogetherBegins, TogetherGrow, TogetherOneNaming};
+ghost use Rattle.run_decode.specs.WholeNaming.{ClausesBegin, ClausesGrow, TogetherAreFew, TogetherAsk, TogetherBegins, TogetherGrow, TogetherOneNaming, RoomIsFree};
 ghost use Rattle.run_decode.specs.QuestionLaws.{AlarmNamesDontMatter, BoundIsRead, InstancesStay, PartsAreAssumed, PartsMakeQuestion, QuestionGivesExplanations, QuestionIsDrawn, QuestionIsFaithful};
 
 // ---- what a question says
@@ -64,6 +64,11 @@ pub fn together_begins()
 /// A law: so they are after an addition to the log, and after a column more.
 pub fn together_grow()
     ensures { TogetherGrow }
+{}
+
+/// A law: so they are, with the same clauses, where the counter has room for further inputs.
+pub fn room_is_free()
+    ensures { RoomIsFree }
 {}
 
 /// A law: up to the most columns they have no more variables than the bound on those of a question.

@@ -266,3 +266,81 @@ fn writes_columns(rt: HostRuntime) {
     assert!(rt; counter.bound_lit(0) == no(6) && counter.bound_lit(1) == no(8));
     assert!(rt; are_these(&out, &COLUMNS));
 }
+
+// What the two columns say of a third input, variable 9, that comes later. Its variables are 10 and 11.
+const LATER: [&[Lit]; 4] = [
+    &[
+        Lit {
+            var: 6,
+            positive: false,
+        },
+        Lit {
+            var: 10,
+            positive: true,
+        },
+    ],
+    &[
+        Lit {
+            var: 9,
+            positive: false,
+        },
+        Lit {
+            var: 10,
+            positive: true,
+        },
+    ],
+    &[
+        Lit {
+            var: 8,
+            positive: false,
+        },
+        Lit {
+            var: 11,
+            positive: true,
+        },
+    ],
+    &[
+        Lit {
+            var: 6,
+            positive: false,
+        },
+        Lit {
+            var: 9,
+            positive: false,
+        },
+        Lit {
+            var: 11,
+            positive: true,
+        },
+    ],
+];
+
+// Adds a new variable as a further input, in room that it makes, and says whether it could.
+fn add_later(counter: &mut Counter, vars: &mut Vars, out: &mut Clauses) -> bool
+    requires made { IsMade vars.old counter.old }
+    requires vars { vars.old < 16 }
+    ensures same { length counter.new.columns ≡ length counter.old.columns }
+{
+    let columns = counter.columns() as usize;
+    if counter.reserve_inputs(1).is_err() || out.reserve(2 * columns, 5 * columns).is_err() {
+        return false;
+    }
+    let input = vars.fresh(1);
+    counter.add_inputs(&[yes(input)], vars, out);
+    true
+}
+
+#[test]
+fn writes_a_later_input(rt: HostRuntime) {
+    let mut vars = Vars::new();
+    vars.fresh(5);
+    let mut out = Clauses::new(rt.alloc());
+    let mut counter = got(&rt, Counter::new(rt.alloc(), &[yes(3), no(4)]));
+    got(&rt, counter.add_column(&mut vars, &mut out));
+    got(&rt, counter.add_column(&mut vars, &mut out));
+    let mut more = Clauses::new(rt.alloc());
+    assert!(rt; add_later(&mut counter, &mut vars, &mut more));
+    assert!(rt; counter.inputs() == 3 && vars.count() == 12);
+    assert!(rt; counter.bound_lit(0) == no(10) && counter.bound_lit(1) == no(11));
+    assert!(rt; are_these(&more, &LATER));
+}

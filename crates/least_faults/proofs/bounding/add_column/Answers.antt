@@ -7,14 +7,14 @@ use Rattle.least_faults.proofs.bounding.add_column.Goals as goal
 
 pub push_axioms-requires-clause-clauses : goal.push_axioms-requires-clause-clauses
 push_axioms-requires-clause-clauses g c =
-    let few = (few_written c.args.parts.now.counter c.args.parts.now.vars c.new-clauses.result.clauses c.add_column.new.out.clauses (ap (λ (store : ClauseStore). store.clauses) c.new-clauses.ensures) c.in_ok-add_column.ensures.clauses).few in
+    let few = (few_written c.args.parts.now.counter c.args.parts.now.vars c.new-clauses.result.clauses c.add_column.new.out.clauses (ap (λ (store : ClauseStore). store.clauses) c.new-clauses.ensures) c.in_ok-add_column.ensures.column.clauses).few in
     let room = c.in_ok-reserve.ensures.ok_clauses in
     let inputs = c.inputs-inputs.ensures in
     omega (arith, few, room, inputs)
 
 pub push_axioms-requires-clause-literals : goal.push_axioms-requires-clause-literals
 push_axioms-requires-clause-literals g c =
-    let short = (few_written c.args.parts.now.counter c.args.parts.now.vars c.new-clauses.result.clauses c.add_column.new.out.clauses (ap (λ (store : ClauseStore). store.clauses) c.new-clauses.ensures) c.in_ok-add_column.ensures.clauses).short in
+    let short = (few_written c.args.parts.now.counter c.args.parts.now.vars c.new-clauses.result.clauses c.add_column.new.out.clauses (ap (λ (store : ClauseStore). store.clauses) c.new-clauses.ensures) c.in_ok-add_column.ensures.column.clauses).short in
     let room = c.in_ok-reserve.ensures.ok_literals in
     let inputs = c.inputs-inputs.ensures in
     omega (arith, short, room, inputs)
@@ -24,7 +24,7 @@ adopt-requires g c =
     let column = column_added c.args.parts.now.step c.args.parts.now.code.code c.args.parts.now.counter c.add_column.new.self c.args.parts.now.vars c.add_column.new.vars c.args.parts.now.solver.adopted c.reserve-2.new.self.adopted
     c.reserve-2.new.self.vars c.args.parts.now.solver.vars c.args.book.now.entries c.reserve.new.self.entries c.push_axioms.new.book.entries c.add_column.new.out.clauses c.requires.ready c.requires.some c.requires.few
     (more_values c.args.parts.now.solver.vars c.reserve-2.new.self.vars c.count.result c.args.parts.now.vars c.inputs-inputs.result (length c.args.parts.now.counter.inputs) c.in_ok-reserve-2.ensures.vars c.count.ensures.count c.inputs-inputs.ensures)
-    c.in_ok-add_column.ensures.column c.in_ok-add_column.ensures.vars c.reserve-2.ensures.adopted c.reserve.ensures.same (written_alone c.new-clauses.result.clauses c.add_column.new.out.clauses _ (ap (λ (store : ClauseStore). store.clauses) c.new-clauses.ensures) c.in_ok-add_column.ensures.clauses) c.push_axioms.ensures in
+    c.in_ok-add_column.ensures.column.counter c.in_ok-add_column.ensures.column.vars c.reserve-2.ensures.adopted c.reserve.ensures.same (written_alone c.new-clauses.result.clauses c.add_column.new.out.clauses _ (ap (λ (store : ClauseStore). store.clauses) c.new-clauses.ensures) c.in_ok-add_column.ensures.column.clauses) c.push_axioms.ensures in
     let long = column.long in
     let spare = c.in_ok-reserve-2.ensures.spare in
     let inputs = c.inputs-inputs.ensures in
@@ -40,7 +40,7 @@ returns-clause-ready g c =
     let ready = (column_added c.args.parts.now.step c.args.parts.now.code.code c.args.parts.now.counter c.add_column.new.self c.args.parts.now.vars c.add_column.new.vars c.args.parts.now.solver.adopted c.reserve-2.new.self.adopted
     c.reserve-2.new.self.vars c.args.parts.now.solver.vars c.args.book.now.entries c.reserve.new.self.entries c.push_axioms.new.book.entries c.add_column.new.out.clauses c.requires.ready c.requires.some c.requires.few
     (more_values c.args.parts.now.solver.vars c.reserve-2.new.self.vars c.count.result c.args.parts.now.vars c.inputs-inputs.result (length c.args.parts.now.counter.inputs) c.in_ok-reserve-2.ensures.vars c.count.ensures.count c.inputs-inputs.ensures)
-    c.in_ok-add_column.ensures.column c.in_ok-add_column.ensures.vars c.reserve-2.ensures.adopted c.reserve.ensures.same (written_alone c.new-clauses.result.clauses c.add_column.new.out.clauses _ (ap (λ (store : ClauseStore). store.clauses) c.new-clauses.ensures) c.in_ok-add_column.ensures.clauses) c.push_axioms.ensures).ready in
+    c.in_ok-add_column.ensures.column.counter c.in_ok-add_column.ensures.column.vars c.reserve-2.ensures.adopted c.reserve.ensures.same (written_alone c.new-clauses.result.clauses c.add_column.new.out.clauses _ (ap (λ (store : ClauseStore). store.clauses) c.new-clauses.ensures) c.in_ok-add_column.ensures.column.clauses) c.push_axioms.ensures).ready in
     let kept = ap (λ (s : SolverState _). s.adopted) c.adopt.ensures.value in
     let values = ap (λ (s : SolverState _). s.vars) c.adopt.ensures.value in
     still_ready c.args.parts.now.step c.args.parts.now.code.code c.add_column.new.self c.add_column.new.vars (clauses_of c.push_axioms.new.book.entries) c.adopt.new.self.adopted c.reserve-2.new.self.vars c.adopt.new.self.vars

@@ -1,9 +1,6 @@
-use Rattle.std.proofs.Common.{rules, refl, length, subst, sym, List, ℕ}
-use Rattle.prop_core.specs.declared.lit.Lit.{Lit}
-use Rattle.card_counter.specs.declared.counter.Column.{Column}
-use Rattle.card_counter.specs.Rows.{IsLaidOut}
+use Rattle.std.proofs.Common.{rules, refl, length}
 use Rattle.card_counter.proofs.Exact.{counter_is_exact}
-use Rattle.card_counter.proofs.RowLemmas.{IsAdded, added_counter, added_made, added_laid, added_state, added_clauses}
+use Rattle.card_counter.proofs.RowLemmas.{IsAdded, added_counter, added_laid, added_some, added_whole}
 use Rattle.card_counter.proofs.counter.Counter.add_column.Goals as goal
 
 pub invariant_of-self-2 : goal.invariant_of-self-2
@@ -17,31 +14,17 @@ invariant_of-self-2 c =
       row_room = search rules;
     }
 
-pub push_column-requires-clause-laid : goal.push_column-requires-clause-laid
-push_column-requires-clause-laid c =
+pub push_column-requires-clause-some : goal.push_column-requires-clause-some
+push_column-requires-clause-some c =
     let added : IsAdded c.args.self.now c.args.vars.now c.self.inside.inputs.items c.self.inside.rows.items c.self.inside.columns.items c.push.new.self.items c.self.inside.spare_inputs (record { first = c.fresh-first.result; count = length c.self.inside.inputs.items }) =
     record { view = c.self.view_is; laid = c.self.invariant.laid; pushed = search rules; start = c.fresh-first.ensures.first; size = refl; some = c.requires.some; made = c.requires.made; few = c.requires.few; within = c.requires.within } in
-    subst (λ (xs : List Lit). IsLaidOut xs c.as_slice-2.result.now c.as_slice-3.result.now) (sym c.as_slice.ensures.value)
-    (subst (λ (r : List ℕ). IsLaidOut c.self.inside.inputs.items r c.as_slice-3.result.now) (sym c.as_slice-2.ensures.value)
-        (subst (λ (cs : List Column). IsLaidOut c.self.inside.inputs.items c.self.inside.rows.items cs) (sym c.as_slice-3.ensures.value) (added_laid _ _ _ _ _ _ _ _ added)))
+    added_some _ _ _ _ _ _ _ _ added
 
 pub returns-clause-column : goal.returns-clause-column
 returns-clause-column c =
     let added : IsAdded c.args.self.now c.args.vars.now c.self.inside.inputs.items c.self.inside.rows.items c.self.inside.columns.items c.push.new.self.items c.self.inside.spare_inputs (record { first = c.fresh-first.result; count = length c.self.inside.inputs.items }) =
     record { view = c.self.view_is; laid = c.self.invariant.laid; pushed = search rules; start = c.fresh-first.ensures.first; size = refl; some = c.requires.some; made = c.requires.made; few = c.requires.few; within = c.requires.within } in
-    added_state _ _ _ _ _ _ _ _ added
-
-pub returns-clause-clauses : goal.returns-clause-clauses
-returns-clause-clauses c =
-    let added : IsAdded c.args.self.now c.args.vars.now c.self.inside.inputs.items c.self.inside.rows.items c.self.inside.columns.items c.push.new.self.items c.self.inside.spare_inputs (record { first = c.fresh-first.result; count = length c.self.inside.inputs.items }) =
-    record { view = c.self.view_is; laid = c.self.invariant.laid; pushed = search rules; start = c.fresh-first.ensures.first; size = refl; some = c.requires.some; made = c.requires.made; few = c.requires.few; within = c.requires.within } in
-    added_clauses _ _ _ _ _ _ _ _ added _ _ (search rules)
-
-pub returns-clause-made_still : goal.returns-clause-made_still
-returns-clause-made_still c =
-    let added : IsAdded c.args.self.now c.args.vars.now c.self.inside.inputs.items c.self.inside.rows.items c.self.inside.columns.items c.push.new.self.items c.self.inside.spare_inputs (record { first = c.fresh-first.result; count = length c.self.inside.inputs.items }) =
-    record { view = c.self.view_is; laid = c.self.invariant.laid; pushed = search rules; start = c.fresh-first.ensures.first; size = refl; some = c.requires.some; made = c.requires.made; few = c.requires.few; within = c.requires.within } in
-    added_made _ _ _ _ _ _ _ _ added _ (search rules)
+    added_whole _ _ _ _ _ _ _ _ added c.reserve-2.new.self c.push_column.new.out _ _ c.reserve-2.ensures.same (search rules) c.push_column.ensures
 
 pub returns-clause-counter : goal.returns-clause-counter
 returns-clause-counter c =
