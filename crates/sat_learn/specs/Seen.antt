@@ -1,11 +1,12 @@
 -- The places of a trail that an analysis has seen, and what they come to.
-use Rattle.std.specs.Prelude.{◌≡◌, ℕ, ◌<◌, ◌≤◌, zero, suc, Bool, true, false, List, [], ◌∷◌, drop, length, reverse, Option, count_by, is_none, slice_index_or, if◌then◌else◌}
+use Rattle.std.specs.Prelude.{◌≡◌, ℕ, ◌<◌, ◌≤◌, zero, suc, Bool, true, false, List, [], ◌∷◌, drop, length, reverse, Option, Some, count_by, is_none, slice_index_or, if◌then◌else◌}
 use Rattle.std.specs.List.{list_any}
 use Rattle.prop_core.specs.declared.lit.Lit.{Lit}
 use Rattle.prop_core.specs.Clauses.{Clause, negation, is_true, is_false}
 use Rattle.prop_core.specs.Derivation.{follow, derives, clause_numbered}
 use Rattle.prop_core.specs.Trail.{has_var}
-use Rattle.sat_prop.specs.TrailState.{literal_at, reason_at}
+use Rattle.sat_prop.specs.TrailState.{TrailState, literal_at, reason_at}
+use Rattle.sat_prop.specs.Changes.{IsFront}
 use Rattle.sat_prop.specs.Levels.{level_at}
 
 abbrev pub is_seen : List Bool → ℕ → Bool
@@ -47,6 +48,26 @@ negated_seen literals seen (suc place) = if is_seen seen place then negation (li
 abbrev pub level_seen : List (Option ℕ) → List Bool → ℕ → ℕ
 level_seen reasons seen zero = 0
 level_seen reasons seen (suc place) = if is_seen seen place then level_at reasons place else level_seen reasons seen place
+
+-- an analysis goes on over a trail and clauses that have those of the trail in front, and looks at each of its places
+pub record IsAnalysed (t : TrailState) (clauses : List Clause) (seen : List Bool) : Type 0 where
+  pub grown : IsFront t.clauses clauses
+  pub size : length seen ≡ length t.literals
+
+-- a place that is seen, and whose literal this clause forced
+pub record IsResolvable (t : TrailState) (seen : List Bool) (place number : ℕ) : Type 0 where
+  pub within : place < length t.literals
+  pub is_seen_now : is_seen seen place ≡ true
+  pub reason : reason_at t.reasons place ≡ Some number
+
+-- from one place down others may be seen, and that one no longer is
+pub record IsResolved (place : ℕ) (old new : List Bool) : Type 0 where
+  pub above : (later : ℕ) → place < later → later < length old → is_seen new later ≡ is_seen old later
+  pub cleared : is_seen new place ≡ false
+
+-- where what was seen refutes by the hints so far, so does what is seen now by all hints, whatever is taken besides
+abbrev pub StillRefutes : List Clause → List Lit → List Bool → List Bool → List ℕ → List ℕ → Type 0
+StillRefutes clauses literals old new hints more = (also : List Lit) → IsRefuted clauses literals also old hints → IsRefuted clauses literals also new more
 
 -- from a place on, this one alone is seen
 pub record IsFound (start : ℕ) (seen : List Bool) (place : ℕ) : Type 0 where

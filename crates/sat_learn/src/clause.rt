@@ -1,3 +1,4 @@
+// The literals of a clause that is learnt, and the level to go back to, from the places that are seen.
 ghost use Rattle.std.specs.Prelude.{◌≡◌, ◌≤◌, ◌++◌, length, OnOk};
 ghost use Rattle.sat_learn.specs.Seen.{negated_seen, level_seen};
 

@@ -1,12 +1,15 @@
+// Conflict analysis (Marques-Silva and Sakallah, "GRASP: a new search algorithm for satisfiability", 1996): the clause of the first implication
+// point, and the clauses that close a search under assumptions (Eén and Sörensson, "Temporal induction by incremental SAT solving", 2003).
 ghost use Rattle.std.specs.Prelude.{◌≡◌, ℕ, ◌<◌, ◌≤◌, ◌∷◌, [], length, replicate, true, false, is_none, vec_capacity, IfOk, OnOk};
 ghost use Rattle.prop_core.specs.Clauses.{is_false};
 ghost use Rattle.sat_prop.specs.TrailState.{StandsAt, reason_at};
-ghost use Rattle.sat_prop.specs.Levels.{level_of};
+ghost use Rattle.sat_prop.specs.Levels.{level_of, IsLastDecision};
 ghost use Rattle.sat_prop.specs.Quiet.{IsConflict};
 ghost use Rattle.sat_prop.specs.Changes.{IsFront};
-ghost use Rattle.sat_learn.specs.Seen.{is_seen};
+ghost use Rattle.sat_learn.specs.Seen.{is_seen, IsAnalysed};
 ghost use Rattle.sat_learn.specs.Learnt.{IsLearnt, IsClosing};
 
+use crate::analysed::Analysed;
 use crate::clause::{add_negated, last_level};
 use crate::removable::Removable;
 use crate::resolving::{begin, resolve_to_decisions, resolve_to_one};
@@ -82,12 +85,16 @@ impl Learner {
         ensures learnt { IfOk result (λ l. IsLearnt trail.now db.now.clauses l.clause l.hints l.level) }
     {
         unsee(&mut self.seen, trail.len() as usize)?;
+        let on = Analysed {
+            trail,
+            clauses: db,
+            start: trail.last_decision() as usize,
+        };
         learn(
             &mut self.seen,
             &mut self.removable,
             self.alloc,
-            trail,
-            db,
+            &on,
             conflict,
         )
     }
@@ -142,29 +149,26 @@ fn learn(
     seen: &mut [bool],
     removable: &mut Removable,
     alloc: Global,
-    trail: &Trail,
-    db: &Clauses,
+    on: &Analysed<'_>,
     conflict: ClauseId,
 ) -> Result<Learnt, Memory>
-    requires grown { IsFront trail.now.clauses db.now.clauses }
-    requires size { length seen.old ≡ length trail.now.literals }
+    requires analysed { IsAnalysed on.now.trail.now on.now.clauses.now.clauses seen.old }
     requires cleared { (place : ℕ) → is_seen seen.old place ≡ false }
-    requires conflict { IsConflict trail.now conflict }
-    requires decided { 0 < level_of trail.now.reasons }
-    ensures learnt { IfOk result (λ l. IsLearnt trail.now db.now.clauses l.clause l.hints l.level) }
+    requires conflict { IsConflict on.now.trail.now conflict }
+    requires last { IsLastDecision on.now.trail.now.reasons on.now.start }
+    ensures learnt { IfOk result (λ l. IsLearnt on.now.trail.now on.now.clauses.now.clauses l.clause l.hints l.level) }
 {
-    let literals = trail.literals();
-    let start = trail.last_decision() as usize;
+    let literals = on.trail.literals();
     let mut hints = Vec::new(alloc);
-    let first = begin(seen, trail, db, conflict, start, &mut hints)?;
-    let place = resolve_to_one(seen, trail, db, start, first, &mut hints)?;
+    let first = begin(seen, on, conflict, &mut hints)?;
+    let place = resolve_to_one(seen, on, first, &mut hints)?;
     let from_conflict = hints.len();
-    removable.find(seen, trail, db, start)?;
-    shorten(seen, removable, trail, db, start, &mut hints)?;
+    removable.find(seen, on.trail, on.clauses, on.start)?;
+    shorten(seen, removable, on, &mut hints)?;
     let mut clause = LitList::new(alloc);
     clause.push(literals[place].negated())?;
-    add_negated(seen, literals, start, &mut clause)?;
-    let level = last_level(seen, trail, start);
+    add_negated(seen, literals, on.start, &mut clause)?;
+    let level = last_level(seen, on.trail, on.start);
     hints.reverse();
     Ok(Learnt {
         clause,
@@ -189,9 +193,14 @@ fn close(
     ensures level { IfOk result (λ l. l.level ≡ 0) }
 {
     let literals = trail.literals();
+    let on = Analysed {
+        trail,
+        clauses: db,
+        start: 0,
+    };
     let mut hints = Vec::new(alloc);
-    begin(seen, trail, db, conflict, 0, &mut hints)?;
-    resolve_to_decisions(seen, trail, db, &mut hints)?;
+    begin(seen, &on, conflict, &mut hints)?;
+    resolve_to_decisions(seen, &on, &mut hints)?;
     let mut clause = LitList::new(alloc);
     add_negated(seen, literals, literals.len(), &mut clause)?;
     hints.reverse();
@@ -221,8 +230,13 @@ fn close_failed(
     let literals = trail.literals();
     let place = trail.place_of(lit.var) as usize;
     seen[place] = true;
+    let on = Analysed {
+        trail,
+        clauses: db,
+        start: 0,
+    };
     let mut hints = Vec::new(alloc);
-    resolve_to_decisions(seen, trail, db, &mut hints)?;
+    resolve_to_decisions(seen, &on, &mut hints)?;
     let mut clause = LitList::new(alloc);
     clause.push(lit.negated())?;
     add_negated(seen, literals, literals.len(), &mut clause)?;

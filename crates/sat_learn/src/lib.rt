@@ -8,6 +8,7 @@
 //! - A *closing* clause goes down to decisions: it holds negations of decisions alone.
 #![tactic(auto)]
 
+mod analysed;
 mod clause;
 mod learner;
 mod removable;

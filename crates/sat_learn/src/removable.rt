@@ -1,3 +1,4 @@
+// Which literals of a clause follow from its others (Sörensson and Biere, "Minimizing learned clauses", 2009).
 ghost use Rattle.std.specs.Prelude.{◌≡◌};
 
 use des_base::Memory;
@@ -26,8 +27,7 @@ struct Visit {
     next: usize,
 }
 
-// Which literals of a clause that is being learnt follow from its others, by reasons of the trail (Sörensson and Biere, "Minimizing
-// learned clauses", 2009). A literal follows where each other literal of its reason stands in the clause or follows itself; that is
+// Which literals of a clause that is being learnt follow from its others, by reasons of the trail. A literal follows where each other literal of its reason stands in the clause or follows itself; that is
 // looked through with a stack of visits, and what was found of a variable is marked, so each is looked through once.
 //
 // No contract says that they follow: whoever drops one resolves with its reason (`shorten`).

@@ -1,16 +1,17 @@
+// Resolution back along a trail, from a conflict (Marques-Silva and Sakallah, "GRASP: a new search algorithm for satisfiability", 1996).
 ghost use Rattle.std.specs.Prelude.{◌≡◌, ℕ, ◌<◌, ◌≤◌, ◌+◌, List, [], length, true, false, ◌||◌, Some, OnOk, IfOk};
 ghost use Rattle.std.specs.List.{list_all};
 ghost use Rattle.prop_core.specs.declared.lit.Lit.{Lit};
 ghost use Rattle.prop_core.specs.Derivation.{clause_numbered};
 ghost use Rattle.prop_core.specs.Trail.{has_var};
-ghost use Rattle.sat_prop.specs.TrailState.{literal_at, reason_at};
+ghost use Rattle.sat_prop.specs.TrailState.{literal_at};
 ghost use Rattle.sat_prop.specs.Levels.{IsLastDecision};
 ghost use Rattle.sat_prop.specs.Quiet.{IsConflict};
-ghost use Rattle.sat_prop.specs.Changes.{IsFront};
-ghost use Rattle.sat_learn.specs.Seen.{is_seen, count_seen, IsRefuted, IsFound, IsDecidedFrom};
+ghost use Rattle.sat_learn.specs.Seen.{is_seen, count_seen, IsRefuted, IsAnalysed, IsResolvable, IsResolved, StillRefutes, IsFound, IsDecidedFrom};
 
+use crate::analysed::{Analysed, trail_state};
 use des_base::Memory;
-use prop_core::{ClauseId, Clauses, Lit};
+use prop_core::{ClauseId, Lit};
 use sat_prop::Trail;
 
 // Sees the places of a clause's variables, and counts those from a place on that were not seen before.
@@ -22,7 +23,7 @@ pub fn see(seen: &mut [bool], trail: &Trail, clause: &[Lit], start: usize) -> us
     ensures counted { count_seen start seen.new ≡ count_seen start seen.old + result }
 {
     let mut more = 0usize;
-    let _literals = trail.literals();
+    trail_state(trail);
     for lit in clause {
         let place = trail.place_of(lit.var) as usize;
         if !seen[place] {
@@ -38,27 +39,21 @@ pub fn see(seen: &mut [bool], trail: &Trail, clause: &[Lit], start: usize) -> us
 // Sees the reason of a place in its stead, and counts as `see` does.
 pub fn resolve(
     seen: &mut [bool],
-    trail: &Trail,
-    db: &Clauses,
+    on: &Analysed<'_>,
     place: usize,
     id: ClauseId,
-    start: usize,
     hints: &mut Vec<ClauseId>,
 ) -> Result<usize, Memory>
-    requires grown { IsFront trail.now.clauses db.now.clauses }
-    requires size { length seen.old ≡ length trail.now.literals }
-    requires within { place < length trail.now.literals }
-    requires is_seen { is_seen seen.old place ≡ true }
-    requires reason { reason_at trail.now.reasons place ≡ Some id }
-    ensures refuted { OnOk result ((also : List Lit) → IsRefuted db.now.clauses trail.now.literals also seen.old hints.old.items → IsRefuted db.now.clauses trail.now.literals also seen.new hints.new.items) }
-    ensures above { OnOk result ((later : ℕ) → place < later → later < length trail.now.literals → is_seen seen.new later ≡ is_seen seen.old later) }
-    ensures cleared { OnOk result (is_seen seen.new place ≡ false) }
-    ensures counted { start ≤ place → IfOk result (λ more. count_seen start seen.new + 1 ≡ count_seen start seen.old + more) }
+    requires analysed { IsAnalysed on.now.trail.now on.now.clauses.now.clauses seen.old }
+    requires resolvable { IsResolvable on.now.trail.now seen.old place id }
+    ensures refuted { OnOk result (StillRefutes on.now.clauses.now.clauses on.now.trail.now.literals seen.old seen.new hints.old.items hints.new.items) }
+    ensures resolved { OnOk result (IsResolved place seen.old seen.new) }
+    ensures counted { on.now.start ≤ place → IfOk result (λ more. count_seen on.now.start seen.new + 1 ≡ count_seen on.now.start seen.old + more) }
     ensures size { length seen.new ≡ length seen.old }
 {
-    let _literals = trail.literals();
+    trail_state(on.trail);
     hints.push(id)?;
-    let more = see(seen, trail, db.clause(id), start);
+    let more = see(seen, on.trail, on.clauses.clause(id), on.start);
     seen[place] = false;
     Ok(more)
 }
@@ -66,48 +61,43 @@ pub fn resolve(
 // Sees the places of a clause that is false, and counts as `see` does.
 pub fn begin(
     seen: &mut [bool],
-    trail: &Trail,
-    db: &Clauses,
+    on: &Analysed<'_>,
     conflict: ClauseId,
-    start: usize,
     hints: &mut Vec<ClauseId>,
 ) -> Result<usize, Memory>
-    requires grown { IsFront trail.now.clauses db.now.clauses }
-    requires size { length seen.old ≡ length trail.now.literals }
-    requires conflict { IsConflict trail.now conflict }
+    requires analysed { IsAnalysed on.now.trail.now on.now.clauses.now.clauses seen.old }
+    requires conflict { IsConflict on.now.trail.now conflict }
     requires cleared { (place : ℕ) → is_seen seen.old place ≡ false }
     requires empty { hints.old.items ≡ [] }
-    ensures refuted { OnOk result (IsRefuted db.now.clauses trail.now.literals [] seen.new hints.new.items) }
-    ensures each { OnOk result ((place : ℕ) (c : List Lit) → place < length trail.now.literals → clause_numbered db.now.clauses conflict ≡ Some c → is_seen seen.new place ≡ has_var (literal_at trail.now.literals place).var c) }
-    ensures counted { IfOk result (λ more. more ≡ count_seen start seen.new) }
+    ensures refuted { OnOk result (IsRefuted on.now.clauses.now.clauses on.now.trail.now.literals [] seen.new hints.new.items) }
+    ensures each { OnOk result ((place : ℕ) (c : List Lit) → place < length on.now.trail.now.literals → clause_numbered on.now.clauses.now.clauses conflict ≡ Some c → is_seen seen.new place ≡ has_var (literal_at on.now.trail.now.literals place).var c) }
+    ensures counted { IfOk result (λ more. more ≡ count_seen on.now.start seen.new) }
     ensures size { length seen.new ≡ length seen.old }
 {
-    let _literals = trail.literals();
+    trail_state(on.trail);
     hints.push(conflict)?;
-    let more = see(seen, trail, db.clause(conflict), start);
+    let more = see(seen, on.trail, on.clauses.clause(conflict), on.start);
     Ok(more)
 }
 
 // Resolves from the last place down until one place is left that is seen from the last decision on, and gives it.
 pub fn resolve_to_one(
     seen: &mut [bool],
-    trail: &Trail,
-    db: &Clauses,
-    start: usize,
+    on: &Analysed<'_>,
     first: usize,
     hints: &mut Vec<ClauseId>,
 ) -> Result<usize, Memory>
-    requires grown { IsFront trail.now.clauses db.now.clauses }
-    requires size { length seen.old ≡ length trail.now.literals }
-    requires last { IsLastDecision trail.now.reasons start }
-    requires counted { first ≡ count_seen start seen.old }
+    requires analysed { IsAnalysed on.now.trail.now on.now.clauses.now.clauses seen.old }
+    requires last { IsLastDecision on.now.trail.now.reasons on.now.start }
+    requires counted { first ≡ count_seen on.now.start seen.old }
     requires some { 0 < first }
-    ensures refuted { OnOk result ((also : List Lit) → IsRefuted db.now.clauses trail.now.literals also seen.old hints.old.items → IsRefuted db.now.clauses trail.now.literals also seen.new hints.new.items) }
-    ensures found { IfOk result (λ place. IsFound start seen.new place) }
+    ensures refuted { OnOk result (StillRefutes on.now.clauses.now.clauses on.now.trail.now.literals seen.old seen.new hints.old.items hints.new.items) }
+    ensures found { IfOk result (λ place. IsFound on.now.start seen.new place) }
     ensures size { length seen.new ≡ length seen.old }
 {
-    let _literals = trail.literals();
-    let reasons = trail.reasons();
+    trail_state(on.trail);
+    let reasons = on.trail.reasons();
+    let start = on.start;
     let mut count = first;
     let mut place = seen.len() - 1;
     'down: while place > start {
@@ -116,7 +106,7 @@ pub fn resolve_to_one(
                 return Ok(place);
             }
             let id = reasons[place].unwrap();
-            let more = resolve(seen, trail, db, place, id, start, hints)?;
+            let more = resolve(seen, on, place, id, hints)?;
             count = count - 1 + more;
         }
         place -= 1;
@@ -127,24 +117,22 @@ pub fn resolve_to_one(
 // Resolves from the last place down all that has a reason.
 pub fn resolve_to_decisions(
     seen: &mut [bool],
-    trail: &Trail,
-    db: &Clauses,
+    on: &Analysed<'_>,
     hints: &mut Vec<ClauseId>,
 ) -> Result<(), Memory>
-    requires grown { IsFront trail.now.clauses db.now.clauses }
-    requires size { length seen.old ≡ length trail.now.literals }
-    ensures refuted { OnOk result ((also : List Lit) → IsRefuted db.now.clauses trail.now.literals also seen.old hints.old.items → IsRefuted db.now.clauses trail.now.literals also seen.new hints.new.items) }
-    ensures decided { OnOk result (IsDecidedFrom trail.now.reasons seen.new 0) }
+    requires { IsAnalysed on.now.trail.now on.now.clauses.now.clauses seen.old }
+    ensures refuted { OnOk result (StillRefutes on.now.clauses.now.clauses on.now.trail.now.literals seen.old seen.new hints.old.items hints.new.items) }
+    ensures decided { OnOk result (IsDecidedFrom on.now.trail.now.reasons seen.new 0) }
     ensures size { length seen.new ≡ length seen.old }
 {
-    let _literals = trail.literals();
-    let reasons = trail.reasons();
+    trail_state(on.trail);
+    let reasons = on.trail.reasons();
     let mut place = seen.len();
     'down: while place > 0 {
         place -= 1;
         if seen[place] {
             if let Some(id) = reasons[place] {
-                resolve(seen, trail, db, place, id, place, hints)?;
+                resolve(seen, on, place, id, hints)?;
             }
         }
     }

@@ -1,38 +1,35 @@
-ghost use Rattle.std.specs.Prelude.{◌≡◌, ℕ, ◌<◌, ◌≤◌, List, length, OnOk};
-ghost use Rattle.prop_core.specs.declared.lit.Lit.{Lit};
-ghost use Rattle.sat_prop.specs.Changes.{IsFront};
-ghost use Rattle.sat_learn.specs.Seen.{is_seen, IsRefuted};
+// What of a learnt clause follows from its other literals is resolved as well (Sörensson and Biere, "Minimizing learned clauses", 2009).
+ghost use Rattle.std.specs.Prelude.{◌≡◌, ℕ, ◌<◌, ◌≤◌, length, OnOk};
+ghost use Rattle.sat_learn.specs.Seen.{is_seen, IsAnalysed, StillRefutes};
 
+use crate::analysed::{Analysed, trail_state};
 use crate::removable::Removable;
 use crate::resolving::resolve;
 use des_base::Memory;
-use prop_core::{ClauseId, Clauses};
-use sat_prop::Trail;
+use prop_core::ClauseId;
 
-// Resolves from a place down what is marked, the last first: a reason's other literals stand before its own, so one pass does.
+// Resolves from the start down what is marked, the last first: a reason's other literals stand before its own, so one pass does.
 pub fn shorten(
     seen: &mut [bool],
     removable: &Removable,
-    trail: &Trail,
-    db: &Clauses,
-    start: usize,
+    on: &Analysed<'_>,
     hints: &mut Vec<ClauseId>,
 ) -> Result<(), Memory>
-    requires grown { IsFront trail.now.clauses db.now.clauses }
-    requires size { length seen.old ≡ length trail.now.literals }
-    requires start { start ≤ length seen.old }
-    ensures refuted { OnOk result ((also : List Lit) → IsRefuted db.now.clauses trail.now.literals also seen.old hints.old.items → IsRefuted db.now.clauses trail.now.literals also seen.new hints.new.items) }
-    ensures above { OnOk result ((later : ℕ) → start ≤ later → later < length trail.now.literals → is_seen seen.new later ≡ is_seen seen.old later) }
+    requires analysed { IsAnalysed on.now.trail.now on.now.clauses.now.clauses seen.old }
+    requires start { on.now.start ≤ length seen.old }
+    ensures refuted { OnOk result (StillRefutes on.now.clauses.now.clauses on.now.trail.now.literals seen.old seen.new hints.old.items hints.new.items) }
+    ensures above { OnOk result ((later : ℕ) → on.now.start ≤ later → later < length on.now.trail.now.literals → is_seen seen.new later ≡ is_seen seen.old later) }
     ensures size { length seen.new ≡ length seen.old }
 {
-    let literals = trail.literals();
-    let reasons = trail.reasons();
-    let mut place = start;
+    trail_state(on.trail);
+    let literals = on.trail.literals();
+    let reasons = on.trail.reasons();
+    let mut place = on.start;
     'down: while place > 0 {
         place -= 1;
         if seen[place] && removable.resolves(literals[place].var) {
             if let Some(id) = reasons[place] {
-                resolve(seen, trail, db, place, id, place, hints)?;
+                resolve(seen, on, place, id, hints)?;
             }
         }
     }

@@ -16,12 +16,16 @@ pub record OrderState (R : Type 0) : Type 0 where
   pub ranks : List ℕ
   pub waiting : List Bool
 
--- the ranks are what was answered, and they are those of variables
+-- The ranks are what was answered. It says nothing of which variables wait, so it stays true as they are taken and put back.
 pub record IsRanked {R : Type 0} (may : R → ℕ → Type 0) (gives : R → ℕ → ℕ → Type 0) (order : OrderState R) : Type 0 where
   pub rank : IsRank may gives order.rank
   pub each : (var : ℕ) → var < length order.ranks → gives order.rank var (rank_of order.ranks var)
-  pub limit : length order.ranks ≤ VAR_LIMIT
-  pub same : length order.waiting ≡ length order.ranks
+
+-- others may wait, and all else is as before
+pub record KeepsRanks {R : Type 0} (old new : OrderState R) : Type 0 where
+  pub rank : new.rank ≡ old.rank
+  pub ranks : new.ranks ≡ old.ranks
+  pub variables : length new.waiting ≡ length old.waiting
 
 -- the variable waits, and by whatever is answered it comes first of all that wait
 pub record IsNextByRank {R : Type 0} (gives : R → ℕ → ℕ → Type 0) (order : OrderState R) (var : ℕ) : Type 0 where

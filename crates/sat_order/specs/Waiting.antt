@@ -1,5 +1,6 @@
 -- Variables from 0 up, each with a rank, of which some wait to be taken.
 use Rattle.std.specs.Prelude.{◌≡◌, ℕ, ◌<◌, ◌≤◌, ◌⊎◌, Bool, false, true, List, length, slice_index, slice_index_or}
+use Rattle.des_base.specs.declared.TheConstants.{VAR_LIMIT}
 
 abbrev pub rank_of : List ℕ → ℕ → ℕ
 rank_of ranks var = slice_index ranks var
@@ -19,3 +20,8 @@ pub record IsNext (ranks : List ℕ) (waiting : List Bool) (var : ℕ) : Type 0 
 
 abbrev pub NoneWaits : List Bool → Type 0
 NoneWaits waiting = (var : ℕ) → waits waiting var ≡ false
+
+-- each variable waits or not, and no more of them are known than there may be
+pub record IsWaitingList (ranks : List ℕ) (waiting : List Bool) : Type 0 where
+  pub same : length waiting ≡ length ranks
+  pub limit : length ranks ≤ VAR_LIMIT

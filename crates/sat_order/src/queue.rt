@@ -1,3 +1,4 @@
+// The heap of the variables that wait.
 ghost use Rattle.std.specs.Prelude.{◌≡◌, ◌<◌, ◌≤◌, ◌+◌, ◌++◌, ◌∷◌, [], true, false, length, max, slice_set, OnOk, OnErr, OnSome, IfSome, IfNone};
 ghost use Rattle.sat_order.specs.Waiting.{IsNext, NoneWaits};
 

@@ -13,8 +13,8 @@ use Rattle.sat_prop.specs.TrailState.{TrailState}
 use Rattle.sat_prop.specs.Levels.{level_of}
 use Rattle.sat_prop.specs.Changes.{IsFront, with_clause}
 use Rattle.sat_prop.proofs.Fronts.{split_last, contains_more}
-use Rattle.sat_solve.specs.Solving.{SolverState, AllJoined, IsAtRest}
-use Rattle.sat_solve.proofs.Paying.{contains_last, wider}
+use Rattle.sat_solve.specs.Solving.{SolverState, AllJoined, AreAtRest}
+use Rattle.sat_solve.proofs.Learning.{contains_last, wider}
 use Rattle.sat_solve.proofs.Standing.{each_below}
 
 -- of the clauses so many are attached, where the trail began with its own
@@ -95,7 +95,7 @@ front_viewed {R} s v all clauses e f same =
     subst (λ (cs : List Clause). take (length v.adopted) cs ≡ v.adopted) (sym same) g
 
 -- when all are attached
-pub rest_adopted : (waiting : List Bool) (start t : TrailState) (values : List Bool) (vars spare left : ℕ) (all : List Clause) (count : ℕ) → IsAtRest waiting start values vars spare → IsAdopting start t all count → count ≡ length all → AllByRecursion (HasValues vars) all → left + length all ≡ spare + length start.clauses → IsAtRest waiting t values vars left
+pub rest_adopted : (waiting : List Bool) (start t : TrailState) (values : List Bool) (vars spare left : ℕ) (all : List Clause) (count : ℕ) → AreAtRest waiting start values vars spare → IsAdopting start t all count → count ≡ length all → AllByRecursion (HasValues vars) all → left + length all ≡ spare + length start.clauses → AreAtRest waiting t values vars left
 rest_adopted waiting start t values vars spare left all count r a n b h =
     let e = adopted_all start t all count a n in
     let m : length t.clauses ≡ count = ap length e ∙ sym n in

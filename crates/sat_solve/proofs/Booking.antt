@@ -15,7 +15,7 @@ use Rattle.proof_ledger.specs.Book.{BookEntry, learnt, final, clause_of, clauses
 use Rattle.proof_ledger.specs.Fresh.{is_learnt, IfLearnt, IsFreshClause}
 use Rattle.sat_learn.specs.Seen.{is_known_var}
 use Rattle.sat_solve.specs.Searching.{HasAxiomVars, is_derived, IsSearched}
-use Rattle.sat_solve.specs.Solving.{IsPaid, IsClosed}
+use Rattle.sat_solve.specs.Solving.{LearnsOne, IsClosed}
 
 pub clauses_of-learnt : (book : List BookEntry) (c : Clause) (hs : List ℕ) → clauses_of (book ++ learnt c hs ∷ []) ≡ clauses_of book ++ c ∷ []
 clauses_of-learnt book c hs = filter_map-append clause_of book (learnt c hs ∷ [])
@@ -67,8 +67,8 @@ searched_none book left = record {
 }
 
 -- a learnt entry is paid
-pub searched_paid : (old book new : List BookEntry) (first left last : ℕ) → IsSearched old book first left → IsPaid book new left last → IsSearched old new first last
-searched_paid old book new first left last s p = record {
+pub searched_learnt : (old book new : List BookEntry) (first left last : ℕ) → IsSearched old book first left → LearnsOne book new left last → IsSearched old new first last
+searched_learnt old book new first left last s p = record {
   since = s.since ++ learnt p.clause p.hints ∷ [];
   whole = whole_more old book new s.since (learnt p.clause p.hints) s.whole p.put;
   derived = list_all-append is_derived s.since (learnt p.clause p.hints ∷ []) ∙ and_from _ _ s.derived refl;
@@ -130,8 +130,8 @@ searched_both old book new first left last s r = record {
 }
 
 -- how the search's measure falls
-pub smaller_paid : (left last vars a b : ℕ) → last + 1 ≡ left → last * (vars + 1) + (vars - a) < left * (vars + 1) + (vars - b)
-smaller_paid left last vars a b e =
+pub smaller_learnt : (left last vars a b : ℕ) → last + 1 ≡ left → last * (vars + 1) + (vars - a) < left * (vars + 1) + (vars - b)
+smaller_learnt left last vars a b e =
     let m : (last + 1) * (vars + 1) ≡ last * (vars + 1) + (vars + 1) = omega arith in
     let k : left * (vars + 1) ≡ last * (vars + 1) + (vars + 1) = ap (λ (z : ℕ). z * (vars + 1)) (sym e) ∙ m in
     omega arith

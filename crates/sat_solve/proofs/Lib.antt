@@ -2,10 +2,11 @@ pub mod Booking
 pub mod Putting
 pub mod Standing
 pub mod Stepping
-pub mod Paying
+pub mod Learning
 pub mod Modeling
 pub mod Clashing
-pub mod Retreating
+pub mod WaitingVariables
 pub mod Adopting
 pub mod Joining
+pub mod Keeping
 mod Vectors

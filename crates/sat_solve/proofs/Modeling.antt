@@ -17,12 +17,9 @@ use Rattle.sat_prop.proofs.Justifying.{justified_consistent}
 use Rattle.sat_solve.specs.declared.answer.Answer.{Answer}
 use Rattle.sat_solve.specs.declared.answer.Answer.TheVariants.{Sat, Unsat, Spent}
 use Rattle.sat_solve.specs.Searching.{IsModel, IsAnswer}
-use Rattle.sat_solve.specs.Solving.{IsServing, IsComplete, IsFound, IsUnsettled}
-use Rattle.sat_solve.proofs.Paying.{all_quiet_from}
-
--- the values of the variables below a number are those of the trail
-abbrev pub AreValues : List Bool → List Lit → ℕ → Type 0
-AreValues values literals vars = (var : ℕ) → var < vars → value_in values var ≡ is_true literals (literal_of var true)
+use Rattle.sat_solve.specs.Solving.{IsServing, IsComplete, IsFound, IsUnsettled, AreValues, IsEnded}
+use Rattle.sat_solve.specs.declared.search.Search.{Search}
+use Rattle.sat_solve.proofs.Learning.{all_quiet_from}
 
 -- a true literal is true by the values
 true_holds : (values : List Bool) (literals : List Lit) (vars : ℕ) (l : Lit) → AreConsistent literals → AreValues values literals vars → is_true literals l ≡ true → l.var < vars → literal_true (value_in values) l ≡ true
@@ -100,11 +97,12 @@ model_from values assumed t book vars spare ts s below e c v =
     }
 
 -- what was found is an answer
-pub answer_from : (values : List Bool) (assumed : List Lit) (t : TrailState) (book : List BookEntry) (vars spare left : ℕ) (a : Answer) → IsTrailState t → IsServing vars spare t → HasValues vars assumed → IsUnsettled spare t book a → IsFound assumed vars t book left a → (a ≡ Sat → AreValues values t.literals vars) → IsAnswer values book assumed left a
-answer_from values assumed t book vars spare left Sat ts s below u f v = model_from values assumed t book vars spare ts s below u f (v refl)
-answer_from values assumed t book vars spare left (Unsat number) ts s below u f v = f
-answer_from values assumed t book vars spare left Spent ts s below u f v = f
+pub answer_from : (values : List Bool) (assumed : List Lit) (t : TrailState) (book : List BookEntry) (vars spare budget : ℕ) (a : Answer) → IsTrailState t → IsServing vars spare t → HasValues vars assumed → IsUnsettled spare t book a → IsFound assumed vars t book budget a → (a ≡ Sat → AreValues values t.literals vars) → IsAnswer values book assumed budget a
+answer_from values assumed t book vars spare budget Sat ts s below u f v = model_from values assumed t book vars spare ts s below u f (v refl)
+answer_from values assumed t book vars spare budget (Unsat number) ts s below u f v = f
+answer_from values assumed t book vars spare budget Spent ts s below u f v = f
 
-pub answers_from : {E : Type 0} (r : Result Answer E) (values : List Bool) (assumed : List Lit) (t : TrailState) (book : List BookEntry) (vars spare left : ℕ) → IsTrailState t → IsServing vars spare t → HasValues vars assumed → IfOk r (IsUnsettled spare t book) → IfOk r (IsFound assumed vars t book left) → (r ≡ Ok Sat → AreValues values t.literals vars) → IfOk r (IsAnswer values book assumed left)
-answers_from (Ok a) values assumed t book vars spare left ts s below u f v = answer_from values assumed t book vars spare left a ts s below u f (λ e. v (ap Ok e))
-answers_from (Err error) values assumed t book vars spare left ts s below u f v = tt
+-- what was found is an answer where the values of a model are kept
+pub answers_from : {R E : Type 0} (r : Result Answer E) (values : List Bool) (assumed : List Lit) (s : Search R) (old new : List BookEntry) (budget : ℕ) → IsTrailState s.trail → HasValues s.vars assumed → IfOk r (IsEnded assumed s old new budget) → (r ≡ Ok Sat → AreValues values s.trail.literals s.vars) → IfOk r (IsAnswer values new assumed budget)
+answers_from (Ok a) values assumed s old new budget ts below e v = answer_from values assumed s.trail new s.vars s.spare budget a ts e.sound.serving below e.unsettled e.found (λ q. v (ap Ok q))
+answers_from (Err error) values assumed s old new budget ts below e v = tt

@@ -1,6 +1,7 @@
 -- What a search puts, by its answer.
 use Rattle.std.proofs.Common.{◌≡◌, ◌∙◌, ℕ, ◌++◌, ◌∷◌, [], List, refl, ap, sym, append_assoc}
 use Rattle.std.proofs.lemmas.Bool.{and_from}
+use Rattle.std.proofs.lemmas.List.{append-nil}
 use Rattle.std.proofs.lemmas.List.Folds.{list_all-append}
 use Rattle.prop_core.specs.declared.lit.Lit.{Lit}
 use Rattle.proof_ledger.specs.Book.{BookEntry, learnt, final}
@@ -8,9 +9,19 @@ use Rattle.proof_ledger.specs.Fresh.{is_learnt}
 use Rattle.sat_solve.specs.declared.answer.Answer.{Answer}
 use Rattle.sat_solve.specs.declared.answer.Answer.TheVariants.{Sat, Unsat, Spent}
 use Rattle.sat_solve.specs.Searching.{AreLearnt, IsPutFor, HasPut}
-use Rattle.sat_solve.specs.Solving.{HasLearnt, IsPaid, IsClosed}
+use Rattle.sat_solve.specs.Solving.{HasLearnt, LearnsOne, IsClosed}
 
-pub learnt_one : (book new : List BookEntry) (left last : ℕ) → IsPaid book new left last → HasLearnt book new
+pub learnt_none : (book : List BookEntry) → HasLearnt book book
+learnt_none book = record { since = []; whole = sym (append-nil book); all_learnt = refl }
+
+-- where nothing is put
+pub put_for_sat : (book : List BookEntry) → HasPut book book Sat
+put_for_sat book = record { since = []; whole = sym (append-nil book); put = refl }
+
+pub put_for_spent : (book : List BookEntry) → HasPut book book Spent
+put_for_spent book = record { since = []; whole = sym (append-nil book); put = refl }
+
+pub learnt_one : (book new : List BookEntry) (left last : ℕ) → LearnsOne book new left last → HasLearnt book new
 learnt_one book new left last p = record { since = learnt p.clause p.hints ∷ []; whole = p.put; all_learnt = refl }
 
 are_learnt_both : (xs ys : List BookEntry) → AreLearnt xs → AreLearnt ys → AreLearnt (xs ++ ys)

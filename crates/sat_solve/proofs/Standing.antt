@@ -90,6 +90,7 @@ under_grown assumed vars t u s p ts us = record {
       (λ b. let m = ts.justified.same in let n = us.justified.same in absurd (no_new_decision t.reasons u.reasons k p.reasons p.level (omega arith) (omega arith) e))
       (cases_lt k (length t.literals));
   below = s.below;
+  compatible = s.compatible;
 }
 
 -- a decision
@@ -116,6 +117,7 @@ under_decided assumed vars t u l s same e o = rw e (record {
       rw (g, x) o)
       (split_last k (length t.literals) b);
   below = s.below;
+  compatible = s.compatible;
 })
 
 -- the way back
@@ -141,11 +143,12 @@ pub under_kept : (assumed : List Lit) (vars level : ℕ) (t u : TrailState) → 
 under_kept assumed vars level t u s same k = record {
   first = rw (k.literals, k.reasons) (first_take assumed t.literals t.reasons k.kept same k.cut.within s.first);
   below = s.below;
+  compatible = s.compatible;
 }
 
 -- at level 0 any assumptions may come
-pub under_none : (assumed : List Lit) (vars : ℕ) (t : TrailState) → level_of t.reasons ≡ 0 → length t.reasons ≡ length t.literals → HasValues vars assumed → IsUnder assumed vars t
-under_none assumed vars t e same b = record { first = λ k h n. absurd (level_none t.reasons e k (omega arith) n); below = b }
+pub under_none : (assumed : List Lit) (vars : ℕ) (t : TrailState) → level_of t.reasons ≡ 0 → length t.reasons ≡ length t.literals → HasValues vars assumed → AreCompatible assumed → IsUnder assumed vars t
+under_none assumed vars t e same b c = record { first = λ k h n. absurd (level_none t.reasons e k (omega arith) n); below = b; compatible = c }
 
 -- where an assumption is not true, each decision is an assumption
 pub next_assumed : (assumed : List Lit) (vars : ℕ) (t : TrailState) (l : Lit) → IsUnder assumed vars t → IsNext t.literals assumed l → AreAssumed t assumed (length t.literals)
@@ -162,14 +165,14 @@ next_assumed assumed vars t l s n k h e =
     (s.first k h e)
 
 -- and where it is false, its variable was forced
-pub next_forced : (assumed : List Lit) (vars : ℕ) (t : TrailState) (l : Lit) → IsUnder assumed vars t → IsJustified t.clauses t.attached t.literals t.reasons t.vars → IsNext t.literals assumed l → AreCompatible assumed → is_false t.literals l ≡ true
+pub next_forced : (assumed : List Lit) (vars : ℕ) (t : TrailState) (l : Lit) → IsUnder assumed vars t → IsJustified t.clauses t.attached t.literals t.reasons t.vars → IsNext t.literals assumed l → is_false t.literals l ≡ true
     → (i : ℕ) → i < length t.literals → (literal_at t.literals i).var ≡ l.var → is_none (reason_at t.reasons i) ≡ false
-next_forced assumed vars t l s j n compatible f i b v =
+next_forced assumed vars t l s j n f i b v =
     go (get_or t.reasons i None) (λ e.
     let d = next_assumed assumed vars t l s n i b e in
     let g = false_stands t.literals (justified_once t.clauses t.attached t.literals t.reasons t.vars j) l i f b v in
     let a = subst (λ (x : Lit). is_true assumed x ≡ true) g d in
-    let z = compatible l n.among in
+    let z = s.compatible l n.among in
     let w : true ≡ false = sym a ∙ z in cc)
   where
     go : (o : Option ℕ) → (o ≡ None → ⊥) → is_none o ≡ false

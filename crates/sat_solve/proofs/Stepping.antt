@@ -14,29 +14,60 @@ use Rattle.sat_prop.specs.Changes.{Propagates, with_literal}
 use Rattle.sat_prop.specs.Kept.{IsTrailState}
 use Rattle.sat_prop.proofs.Fronts.{front_length, front_at}
 use Rattle.sat_prop.proofs.Justifying.{room_for}
-use Rattle.sat_solve.specs.Solving.{IsUnderWay, IsLonger, to_do, AreTaken}
-use Rattle.sat_solve.proofs.Booking.{smaller_paid, smaller_grown}
+use Rattle.sat_solve.specs.Solving.{AreUnderWay, IsLonger, to_do, AreTaken}
+use Rattle.sat_solve.proofs.Booking.{smaller_learnt, smaller_grown}
 use Rattle.sat_solve.proofs.Standing.{serving_grown, under_grown, serving_decided, under_decided}
-use Rattle.sat_solve.proofs.Retreating.{waiting_grown, waiting_decided}
+use Rattle.sat_solve.proofs.WaitingVariables.{waiting_grown, waiting_decided}
+
+-- assumptions that are true stay true as the trail grows
+pub taken_more : (literals : List Lit) (l : Lit) (assumed : List Lit) (count : ℕ) → AreTaken literals assumed count → AreTaken (literals ++ l ∷ []) assumed count
+taken_more literals l assumed count h = all_from (is_true (literals ++ l ∷ [])) (take count assumed) (λ x e. let a = all_at (is_true literals) (take count assumed) x h e in true_more literals l x ∙ (rw a refl))
+
+pub taken_grown : (t u : TrailState) (assumed : List Lit) (count : ℕ) → Propagates t u → AreTaken t.literals assumed count → AreTaken u.literals assumed count
+taken_grown t u assumed count p h = all_from (is_true u.literals) (take count assumed) (λ x e.
+    let a = all_at (is_true t.literals) (take count assumed) x h e in
+    let i = place_found t.literals x a in
+    let w = i.1.within in
+    let n = front_length t.literals u.literals p.literals in
+    true_at u.literals x i.0 (omega arith) (front_at t.literals u.literals i.0 no_literal p.literals w ∙ i.1.at))
 
 -- propagation
-pub under_way_grown : (assumed : List Lit) (waiting : List Bool) (vars spare : ℕ) (t u : TrailState) (book : List BookEntry) → IsUnderWay assumed waiting vars spare t book → Propagates t u → IsTrailState t → IsTrailState u → IsUnderWay assumed waiting vars spare u book
-under_way_grown assumed waiting vars spare t u book w p ts us = record {
-  clauses = p.clauses ∙ w.clauses;
-  serving = serving_grown vars spare t u w.serving p ts us;
-  under = under_grown assumed vars t u w.under p ts us;
-  waiting_open = waiting_grown waiting t u vars w.waiting_open p;
-}
+pub under_way_grown : (assumed : List Lit) (taken : ℕ) (waiting : List Bool) (vars spare : ℕ) (t u : TrailState) (book : List BookEntry) → AreUnderWay assumed taken waiting vars spare t book → Propagates t u → IsTrailState t → IsTrailState u → AreUnderWay assumed taken waiting vars spare u book
+under_way_grown assumed taken waiting vars spare t u book w p ts us =
+    let s = w.over.sound in
+    record {
+      over = record {
+        sound = record {
+          serving = serving_grown vars spare t u s.serving p ts us;
+          waiting_open = waiting_grown waiting t u vars s.waiting_open p;
+          variables = s.variables;
+          limit = s.limit;
+        };
+        clauses = p.clauses ∙ w.over.clauses;
+      };
+      under = under_grown assumed vars t u w.under p ts us;
+      taken_first = taken_grown t u assumed taken p w.taken_first;
+    }
 
 -- a decision
-pub under_way_decided : (assumed : List Lit) (before waiting : List Bool) (vars spare : ℕ) (t u : TrailState) (book : List BookEntry) (l : Lit) → IsUnderWay assumed before vars spare t book → IsTrailState t → u ≡ with_literal t l None → l.var < vars → (is_true assumed l ≡ true) ⊎ (list_all (is_true t.literals) assumed ≡ true)
-    → ((other : ℕ) → other < vars → (other ≡ l.var → ⊥) → is_open t.literals (literal_of other false) ≡ true → waits waiting other ≡ true) → IsUnderWay assumed waiting vars spare u book
-under_way_decided assumed before waiting vars spare t u book l w s e b o f = record {
-  clauses = ap (λ (x : TrailState). x.clauses) e ∙ w.clauses;
-  serving = serving_decided vars spare t u l w.serving e b;
-  under = under_decided assumed vars t u l w.under s.justified.same e o;
-  waiting_open = rw (ap (λ (x : TrailState). x.literals) e) (waiting_decided waiting t.literals l vars f);
-}
+pub under_way_decided : (assumed : List Lit) (taken next : ℕ) (before waiting : List Bool) (vars spare : ℕ) (t u : TrailState) (book : List BookEntry) (l : Lit) → AreUnderWay assumed taken before vars spare t book → IsTrailState t → AreTaken t.literals assumed next → length waiting ≡ length before → u ≡ with_literal t l None → l.var < vars
+    → (is_true assumed l ≡ true) ⊎ (list_all (is_true t.literals) assumed ≡ true) → ((other : ℕ) → other < vars → (other ≡ l.var → ⊥) → is_open t.literals (literal_of other false) ≡ true → waits waiting other ≡ true) → AreUnderWay assumed next waiting vars spare u book
+under_way_decided assumed taken next before waiting vars spare t u book l w ts k n e b o f =
+    let s = w.over.sound in
+    let ls : u.literals ≡ t.literals ++ l ∷ [] = ap (λ (x : TrailState). x.literals) e in
+    record {
+      over = record {
+        sound = record {
+          serving = serving_decided vars spare t u l s.serving e b;
+          waiting_open = rw ls (waiting_decided waiting t.literals l vars f);
+          variables = n ∙ s.variables;
+          limit = s.limit;
+        };
+        clauses = ap (λ (x : TrailState). x.clauses) e ∙ w.over.clauses;
+      };
+      under = under_decided assumed vars t u l w.under ts.justified.same e o;
+      taken_first = rw ls (taken_more t.literals l assumed next k);
+    }
 
 pub longer_decided : (t u : TrailState) (l : Lit) (vars : ℕ) → IsTrailState t → is_open t.literals l ≡ true → l.var < vars → vars ≤ t.vars → u ≡ with_literal t l None → IsLonger t u
 longer_decided t u l vars s o b h e =
@@ -54,25 +85,13 @@ less_decided t u w left p l e =
     let b = l.within in
     rw v (smaller_grown left t.vars (length w.literals) (length t.literals) (omega arith) (omega arith))
 
-pub less_paid : (t u w : TrailState) (left last : ℕ) → Propagates t u → w.vars ≡ u.vars → last + 1 ≡ left → to_do last w < to_do left t
-less_paid t u w left last p e h =
+pub less_learnt : (t u w : TrailState) (left last : ℕ) → Propagates t u → w.vars ≡ u.vars → last + 1 ≡ left → to_do last w < to_do left t
+less_learnt t u w left last p e h =
     let v : w.vars ≡ t.vars = e ∙ p.vars in
-    rw v (smaller_paid left last t.vars (length w.literals) (length t.literals) h)
+    rw v (smaller_learnt left last t.vars (length w.literals) (length t.literals) h)
 
 -- what holds where a step goes on
 pub goes_on_with : {A E : Type 0} (r : Result (Option A) E) (P Q : Type 0) → IfOk r (λ o. IfNone o P) → (P → Q) → IfOk r (λ o. IfNone o Q)
 goes_on_with (Ok (Some a)) P Q h f = tt
 goes_on_with (Ok None) P Q h f = f h
 goes_on_with (Err e) P Q h f = tt
-
--- assumptions that are true stay true as the trail grows
-pub taken_more : (literals : List Lit) (l : Lit) (assumed : List Lit) (count : ℕ) → AreTaken literals assumed count → AreTaken (literals ++ l ∷ []) assumed count
-taken_more literals l assumed count h = all_from (is_true (literals ++ l ∷ [])) (take count assumed) (λ x e. let a = all_at (is_true literals) (take count assumed) x h e in true_more literals l x ∙ (rw a refl))
-
-pub taken_grown : (t u : TrailState) (assumed : List Lit) (count : ℕ) → Propagates t u → AreTaken t.literals assumed count → AreTaken u.literals assumed count
-taken_grown t u assumed count p h = all_from (is_true u.literals) (take count assumed) (λ x e.
-    let a = all_at (is_true t.literals) (take count assumed) x h e in
-    let i = place_found t.literals x a in
-    let w = i.1.within in
-    let n = front_length t.literals u.literals p.literals in
-    true_at u.literals x i.0 (omega arith) (front_at t.literals u.literals i.0 no_literal p.literals w ∙ i.1.at))

@@ -19,14 +19,14 @@ is_derived (learnt clause hints) = true
 is_derived (final clause hints) = true
 is_derived (mark number) = false
 
--- Derived entries alone were put, and as many learnt ones as conflicts were paid. Where all variables occurred in axioms, they
+-- Derived entries alone were put, and as many learnt ones as the budget was lowered by. Where all variables occurred in axioms, they
 -- still do, and each learnt clause was fresh.
-pub record IsSearched (old new : List BookEntry) (left_old left_new : ℕ) : Type 0 where
+pub record IsSearched (old new : List BookEntry) (budget_old budget_new : ℕ) : Type 0 where
   pub since : List BookEntry
   pub whole : new ≡ old ++ since
   pub derived : list_all is_derived since ≡ true
   pub count : ℕ
-  pub paid : count + left_new ≡ left_old
+  pub paid : count + budget_new ≡ budget_old
   pub number : count_by is_learnt since ≡ count
   pub learnt_entries : HasAxiomVars old → AreFresh old since count
   pub known : HasAxiomVars old → HasAxiomVars new
@@ -71,12 +71,12 @@ pub record IsRefuted (book : List BookEntry) (assumed : List Lit) (number : ℕ)
   pub negated : list_all (λ l. is_true assumed (negation l)) clause ≡ true
 
 -- Nothing is left at a further conflict.
-pub record IsSpent (book : List BookEntry) (assumed : List Lit) (left : ℕ) : Type 0 where
-  pub nothing : left ≡ 0
+pub record IsSpent (book : List BookEntry) (assumed : List Lit) (budget : ℕ) : Type 0 where
+  pub nothing : budget ≡ 0
   pub clashes : Clashes (clauses_of book) assumed
 
 -- what an answer means
 abbrev pub IsAnswer : List Bool → List BookEntry → List Lit → ℕ → Answer → Type 0
-IsAnswer values book assumed left Sat = IsModel values book assumed
-IsAnswer values book assumed left (Unsat number) = IsRefuted book assumed number
-IsAnswer values book assumed left Spent = IsSpent book assumed left
+IsAnswer values book assumed budget Sat = IsModel values book assumed
+IsAnswer values book assumed budget (Unsat number) = IsRefuted book assumed number
+IsAnswer values book assumed budget Spent = IsSpent book assumed budget

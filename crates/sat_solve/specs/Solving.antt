@@ -1,20 +1,21 @@
--- How the solver's parts stand to one another.
+-- How what a search keeps stands to its assumptions and its book.
 use Rattle.std.specs.Prelude.{◌≡◌, ℕ, ◌+◌, ◌-◌, ◌*◌, ◌<◌, ◌≤◌, ◌⊎◌, Bool, true, false, List, [], ◌∷◌, ◌++◌, take, length, Option, None, Contains}
 use Rattle.std.specs.List.{list_all, AllByRecursion}
 use Rattle.des_base.specs.declared.TheConstants.{VAR_LIMIT}
 use Rattle.prop_core.specs.declared.lit.Lit.{Lit}
-use Rattle.prop_core.specs.Clauses.{Clause, negation, is_true, is_false, is_open, HasValues}
+use Rattle.prop_core.specs.Clauses.{Clause, negation, is_true, is_false, is_open, value_in, HasValues}
 use Rattle.proof_ledger.specs.Book.{BookEntry, learnt, final, clauses_of}
 use Rattle.proof_ledger.specs.Fresh.{IsFreshClause}
-use Rattle.sat_order.specs.Rank.{OrderState}
+use Rattle.sat_order.specs.Rank.{OrderState, KeepsRanks}
 use Rattle.sat_order.specs.Waiting.{waits}
 use Rattle.sat_prop.specs.TrailState.{TrailState, literal_at, reason_at}
 use Rattle.sat_prop.specs.Levels.{level_of}
 use Rattle.sat_prop.specs.Quiet.{AreQuiet}
 use Rattle.sat_learn.specs.Seen.{is_known_var}
 use Rattle.sat_solve.specs.declared.answer.Answer.{Answer}
+use Rattle.sat_solve.specs.declared.search.Search.{Search}
 use Rattle.sat_solve.specs.declared.answer.Answer.TheVariants.{Sat, Unsat, Spent}
-use Rattle.sat_solve.specs.Searching.{HasAxiomVars, AreLearnt, IsRefuted, IsSpent}
+use Rattle.sat_solve.specs.Searching.{HasAxiomVars, AreLearnt, HasPut, IsRefuted, IsSpent}
 
 -- The order of the variables, the clauses that were adopted, the values of the last model, the number of variables, and for
 -- how many more clauses there is room.
@@ -24,6 +25,12 @@ pub record SolverState (R : Type 0) : Type 0 where
   pub assignment : List Bool
   pub vars : ℕ
   pub spare : ℕ
+
+-- The variables are as many as before and have the same ranks, and so has the room for clauses.
+pub record KeepsSize {R : Type 0} (old new : SolverState R) : Type 0 where
+  pub order : KeepsRanks old.order new.order
+  pub vars : new.vars ≡ old.vars
+  pub spare : new.spare ≡ old.spare
 
 -- no two assumptions are negations of each other
 abbrev pub AreCompatible : List Lit → Type 0
@@ -49,34 +56,65 @@ pub record IsServing (vars spare : ℕ) (t : TrailState) : Type 0 where
   pub enough : vars ≤ t.vars
   pub room : spare ≤ t.spare
 
--- it stands in a search under assumptions
+-- it stands in a search under assumptions, which are compatible and of known variables
 pub record IsUnder (assumed : List Lit) (vars : ℕ) (t : TrailState) : Type 0 where
   pub first : AssumedFirst assumed t.literals t.reasons
   pub below : HasValues vars assumed
+  pub compatible : AreCompatible assumed
 
 -- each open variable waits
 abbrev pub AreWaiting : List Bool → List Lit → ℕ → Type 0
 AreWaiting waiting literals vars = (var : ℕ) → var < vars → is_open literals (record { var = var; positive = false }) ≡ true → waits waiting var ≡ true
 
--- a search is under way over a book: it stands under its assumptions, and each open variable waits
-pub record IsUnderWay (assumed : List Lit) (waiting : List Bool) (vars spare : ℕ) (t : TrailState) (book : List BookEntry) : Type 0 where
-  pub clauses : t.clauses ≡ clauses_of book
+-- The trail serves, each open variable waits, and the order has just these variables.
+pub record AreSound (waiting : List Bool) (vars spare : ℕ) (t : TrailState) : Type 0 where
   pub serving : IsServing vars spare t
-  pub under : IsUnder assumed vars t
   pub waiting_open : AreWaiting waiting t.literals vars
+  pub variables : length waiting ≡ vars
+  pub limit : vars ≤ VAR_LIMIT
+
+-- a search is sound, whether it is under way or not
+abbrev pub IsSound : {R : Type 0} → Search R → Type 0
+IsSound s = AreSound s.order.waiting s.vars s.spare s.trail
+
+-- they are sound, and the trail's clauses are those of the book
+pub record AreOver (waiting : List Bool) (vars spare : ℕ) (t : TrailState) (book : List BookEntry) : Type 0 where
+  pub sound : AreSound waiting vars spare t
+  pub clauses : t.clauses ≡ clauses_of book
+
+-- a search is sound over a book
+abbrev pub IsOver : {R : Type 0} → Search R → List BookEntry → Type 0
+IsOver s book = AreOver s.order.waiting s.vars s.spare s.trail book
+
+-- they stand under assumptions, of which the first so many are true
+pub record AreUnderWay (assumed : List Lit) (taken : ℕ) (waiting : List Bool) (vars spare : ℕ) (t : TrailState) (book : List BookEntry) : Type 0 where
+  pub over : AreOver waiting vars spare t book
+  pub under : IsUnder assumed vars t
+  pub taken_first : AreTaken t.literals assumed taken
+
+-- a search is under way over a book, under its assumptions
+abbrev pub IsUnderWay : {R : Type 0} → List Lit → Search R → List BookEntry → Type 0
+IsUnderWay assumed s book = AreUnderWay assumed s.taken s.order.waiting s.vars s.spare s.trail book
+
+-- the variables are as many as before and have the same ranks, and so has the room that is kept
+pub record KeepsVariables {R : Type 0} (old new : Search R) : Type 0 where
+  pub order : KeepsRanks old.order new.order
+  pub vars : new.vars ≡ old.vars
+  pub spare : new.spare ≡ old.spare
+  pub known : new.trail.vars ≡ old.trail.vars
 
 -- one literal more stands on the trail, and there is room for it
 pub record IsLonger (old new : TrailState) : Type 0 where
   pub longer : length new.literals ≡ length old.literals + 1
   pub within : length new.literals ≤ new.vars
 
--- How much a search has left to do at most: it falls where a conflict is paid, whatever goes from the trail, and where the trail
+-- How much a search has left to do at most: it falls where a clause is learnt, whatever goes from the trail, and where the trail
 -- grows.
 abbrev pub to_do : ℕ → TrailState → ℕ
-to_do left t = left * (t.vars + 1) + (t.vars - length t.literals)
+to_do budget t = budget * (t.vars + 1) + (t.vars - length t.literals)
 
--- between two searches
-pub record IsAtRest (waiting : List Bool) (t : TrailState) (values : List Bool) (vars spare : ℕ) : Type 0 where
+-- they are sound at level 0, and there is a value of the last model for each variable
+pub record AreAtRest (waiting : List Bool) (t : TrailState) (values : List Bool) (vars spare : ℕ) : Type 0 where
   pub level : level_of t.reasons ≡ 0
   pub serving : IsServing vars spare t
   pub limit : vars ≤ VAR_LIMIT
@@ -84,16 +122,38 @@ pub record IsAtRest (waiting : List Bool) (t : TrailState) (values : List Bool) 
   pub waiting_open : AreWaiting waiting t.literals vars
   pub values_kept : vars ≤ length values
 
+-- between two searches
+abbrev pub IsAtRest : {R : Type 0} → Search R → List Bool → Type 0
+IsAtRest s values = AreAtRest s.order.waiting s.trail values s.vars s.spare
+
+-- what waited still waits
+abbrev pub KeepsWaiting : List Bool → List Bool → Type 0
+KeepsWaiting old new = (var : ℕ) → waits old var ≡ true → waits new var ≡ true
+
+-- the values of the variables below a number are those of the trail
+abbrev pub AreValues : List Bool → List Lit → ℕ → Type 0
+AreValues values literals vars = (var : ℕ) → var < vars → value_in values var ≡ is_true literals (record { var = var; positive = true })
+
 -- there is room for more clauses, and all else is as before
 pub record WithRoom (old new : TrailState) : Type 0 where
   pub same : new ≡ record old { spare = new.spare }
   pub more : old.spare ≤ new.spare
 
+-- no variable below a number is open
+abbrev pub AreClosed : List Lit → ℕ → Type 0
+AreClosed literals vars = (var : ℕ) → var < vars → is_open literals (record { var = var; positive = false }) ≡ false
+
+-- a variable was taken that is open, and each other open one still waits
+pub record IsPicked (literals : List Lit) (old new : List Bool) (var : ℕ) : Type 0 where
+  pub known : var < length old
+  pub undecided : is_open literals (record { var = var; positive = false }) ≡ true
+  pub others : (other : ℕ) → other < length old → (other ≡ var → ⊥) → is_open literals (record { var = other; positive = false }) ≡ true → waits new other ≡ true
+
 -- no variable is open, all assumptions are true, and propagation has nothing to do
 pub record IsComplete (assumed : List Lit) (vars : ℕ) (t : TrailState) : Type 0 where
   pub quiet : AreQuiet t.clauses t.attached t.literals
   pub assumptions : list_all (is_true t.literals) assumed ≡ true
-  pub closed : (var : ℕ) → var < vars → is_open t.literals (record { var = var; positive = false }) ≡ false
+  pub closed : AreClosed t.literals vars
 
 -- an assumption that is not true
 pub record IsNext (taken assumed : List Lit) (l : Lit) : Type 0 where
@@ -110,12 +170,12 @@ pub record IsFurther (t : TrailState) (assumed : List Lit) (place : ℕ) : Type 
 abbrev pub AreAssumed : TrailState → List Lit → ℕ → Type 0
 AreAssumed t assumed count = (place : ℕ) → place < count → reason_at t.reasons place ≡ None → is_true assumed (literal_at t.literals place) ≡ true
 
--- one learnt entry is put and paid for
-pub record IsPaid (old new : List BookEntry) (left_old left_new : ℕ) : Type 0 where
+-- one learnt entry is put, and the budget is lowered by one
+pub record LearnsOne (old new : List BookEntry) (budget_old budget_new : ℕ) : Type 0 where
   pub clause : Clause
   pub hints : List ℕ
   pub put : new ≡ old ++ learnt clause hints ∷ []
-  pub paid : left_new + 1 ≡ left_old
+  pub paid : budget_new + 1 ≡ budget_old
   pub fresh : HasAxiomVars old → IsFreshClause old clause
   pub known : list_all (λ l. is_known_var (clauses_of old) l.var) clause ≡ true
 
@@ -136,9 +196,9 @@ pub record IsClosed (assumed : List Lit) (old new : List BookEntry) (number : �
 
 -- what a search has found, by the trail as it stands then
 abbrev pub IsFound : List Lit → ℕ → TrailState → List BookEntry → ℕ → Answer → Type 0
-IsFound assumed vars t book left Sat = IsComplete assumed vars t
-IsFound assumed vars t book left (Unsat number) = IsRefuted book assumed number
-IsFound assumed vars t book left Spent = IsSpent book assumed left
+IsFound assumed vars t book budget Sat = IsComplete assumed vars t
+IsFound assumed vars t book budget (Unsat number) = IsRefuted book assumed number
+IsFound assumed vars t book budget Spent = IsSpent book assumed budget
 
 -- a final clause was put that is not attached yet
 pub record IsUnattached (spare : ℕ) (t : TrailState) (book : List BookEntry) (number : ℕ) : Type 0 where
@@ -154,7 +214,14 @@ IsUnsettled spare t book Sat = t.clauses ≡ clauses_of book
 IsUnsettled spare t book (Unsat number) = IsUnattached spare t book number
 IsUnsettled spare t book Spent = t.clauses ≡ clauses_of book
 
--- a search has ended
-pub record IsEnded (assumed : List Lit) (vars spare : ℕ) (t : TrailState) (book : List BookEntry) (left : ℕ) (a : Answer) : Type 0 where
-  pub found : IsFound assumed vars t book left a
-  pub unsettled : IsUnsettled spare t book a
+-- a search goes on after it put learnt entries alone
+pub record GoesOn {R : Type 0} (assumed : List Lit) (s : Search R) (old new : List BookEntry) : Type 0 where
+  pub under_way : IsUnderWay assumed s new
+  pub learnt : HasLearnt old new
+
+-- a search has ended with an answer
+pub record IsEnded {R : Type 0} (assumed : List Lit) (s : Search R) (old new : List BookEntry) (budget : ℕ) (answer : Answer) : Type 0 where
+  pub sound : IsSound s
+  pub put : HasPut old new answer
+  pub found : IsFound assumed s.vars s.trail new budget answer
+  pub unsettled : IsUnsettled s.spare s.trail new answer

@@ -1,6 +1,6 @@
 // Which variables took part in conflicts, the most active first.
 //
-// - Each conflict adds its *step* to the activity of the variables that took part in it, and steps grow, so that late conflicts weigh
+// - Each conflict adds an *increment* to the activity of the variables that took part in it, and increments grow, so that late conflicts weigh
 //   more (Eén and Sörensson, "An extensible SAT-solver", 2003). Activities are whole numbers, so the same question has the same
 //   answer on each machine.
 // - Of equal activities the greater rank comes first, then the smaller number, as `Order` has it.
@@ -16,14 +16,14 @@ const ABSENT: u32 = u32::MAX;
 // No heap of 32-bit numbers has more levels.
 const DEPTH: u32 = 32;
 
-// The first conflict's step.
-const FIRST_STEP: u64 = 1_048_576;
+// What the first conflict adds.
+const FIRST_INCREMENT: u64 = 1_048_576;
 
-// Each step is greater than the one before by this part of it.
+// Each increment is greater than the one before by this part of it.
 const GROWTH: u64 = 16;
 
-// Beyond this step all activities are divided, so that no sum comes near 2^64.
-const LAST_STEP: u64 = 1_125_899_906_842_624;
+// Beyond this increment all activities are divided, so that no sum comes near 2^64.
+const LAST_INCREMENT: u64 = 1_125_899_906_842_624;
 
 // What they are divided by.
 const DIVISOR: u64 = 1_073_741_824;
@@ -36,7 +36,7 @@ pub struct Activity {
     places: Vec<u32>,
     heap: Vec<u32>,
     held: u32,
-    step: u64,
+    increment: u64,
     conflict: u64,
 }
 
@@ -50,7 +50,7 @@ impl Activity {
             places: Vec::new(alloc),
             heap: Vec::new(alloc),
             held: 0,
-            step: FIRST_STEP,
+            increment: FIRST_INCREMENT,
             conflict: 1,
         }
     }
@@ -108,7 +108,7 @@ impl Activity {
             return;
         }
         set_amount(&mut self.conflicts, var, self.conflict);
-        let activity = amount_at(&self.activities, var).saturating_add(self.step);
+        let activity = amount_at(&self.activities, var).saturating_add(self.increment);
         set_amount(&mut self.activities, var, activity);
         let place = number_at(&self.places, var);
         if place == ABSENT {
@@ -121,8 +121,8 @@ impl Activity {
     // The present conflict is over.
     pub fn end_conflict(&mut self) {
         self.conflict = self.conflict.saturating_add(1);
-        self.step = self.step.saturating_add(self.step / GROWTH);
-        if self.step > LAST_STEP {
+        self.increment = self.increment.saturating_add(self.increment / GROWTH);
+        if self.increment > LAST_INCREMENT {
             self.divide();
         }
     }
@@ -132,7 +132,7 @@ impl Activity {
         for activity in self.activities.iter_mut() {
             *activity /= DIVISOR;
         }
-        self.step /= DIVISOR;
+        self.increment /= DIVISOR;
     }
 
     // Puts a known variable into the heap that it doesn't hold.

@@ -1,3 +1,4 @@
+// What a search answers.
 use prop_core::ClauseId;
 
 /// How a search ends.

@@ -1,19 +1,24 @@
-ghost use Rattle.std.specs.Prelude.{◌≡◌, ℕ, ◌<◌, ◌≤◌, ◌+◌, length, true, false, is_none, IfOk, IfSome, IfNone, OnErr, OnOk};
+// Assumptions, and the final clause of those that are refuted (Eén and Sörensson, "Temporal induction by incremental SAT solving", 2003).
+//
+// All assumptions are decided before any other literal. Where one of them is false, or a conflict depends on them alone, the decisions that
+// lead to it are assumptions, and the clause of their negations is derived.
+ghost use Rattle.std.specs.Prelude.{◌≡◌, ℕ, ◌<◌, ◌≤◌, ◌^◌, length, true, IfOk, IfSome, IfNone, OnErr};
 ghost use Rattle.std.specs.List.{list_all};
 ghost use Rattle.prop_core.specs.Clauses.{is_true, is_false};
-ghost use Rattle.proof_ledger.specs.Book.{clauses_of};
-ghost use Rattle.sat_prop.specs.TrailState.{StandsAt, reason_at};
 ghost use Rattle.sat_prop.specs.Quiet.{IsConflict};
-ghost use Rattle.sat_solve.specs.Solving.{IsNext, IsFurther, AreAssumed, AreTaken, IsClosed, WithRoom};
+ghost use Rattle.sat_prop.specs.Kept.{IsTrailState};
+ghost use Rattle.sat_solve.specs.Searching.{IsSearched};
+ghost use Rattle.sat_solve.specs.Solving.{IsNext, IsFurther, AreAssumed, AreTaken, IsOver, IsUnderWay, KeepsVariables, IsEnded};
 
+use crate::answer::Answer;
+use crate::search::Search;
 use des_base::Memory;
 use proof_ledger::Ledger;
 use prop_core::{ClauseId, Lit};
-use sat_learn::Learner;
 use sat_prop::Trail;
 
 // Whether the literal is one of these.
-pub fn among(literals: &[Lit], lit: Lit) -> bool
+pub fn contains(literals: &[Lit], lit: Lit) -> bool
     ensures { result ≡ is_true literals.now lit }
 {
     literals.iter().any(|other| lit == *other)
@@ -23,7 +28,7 @@ pub fn among(literals: &[Lit], lit: Lit) -> bool
 pub fn makes_true(trail: &Trail, lit: Lit) -> bool
     ensures { result ≡ is_true trail.now.literals lit }
 {
-    let _literals = trail.literals();
+    trail_state(trail);
     match trail.value(lit.var) {
         Some(value) => value == lit.positive,
         None => false,
@@ -67,7 +72,7 @@ fn last_if_further(trail: &Trail, assumptions: &[Lit]) -> Option<usize>
     }
     let place = trail.last_decision() as usize;
     let literals = trail.literals();
-    if among(assumptions, literals[place]) {
+    if contains(assumptions, literals[place]) {
         return None;
     }
     Some(place)
@@ -81,7 +86,7 @@ fn first_further(trail: &Trail, assumptions: &[Lit]) -> Option<usize>
     let literals = trail.literals();
     let reasons = trail.reasons();
     for place in 0..literals.len() {
-        if reasons[place].is_none() && !among(assumptions, literals[place]) {
+        if reasons[place].is_none() && !contains(assumptions, literals[place]) {
             return Some(place);
         }
     }
@@ -95,7 +100,7 @@ pub fn assumed_level(trail: &Trail, assumptions: &[Lit]) -> u32 {
     let mut level = 0_u32;
     for place in 0..literals.len().min(reasons.len()) {
         if reasons[place].is_none() {
-            if !among(assumptions, literals[place]) {
+            if !contains(assumptions, literals[place]) {
                 return level;
             }
             level = level.saturating_add(1);
@@ -104,52 +109,59 @@ pub fn assumed_level(trail: &Trail, assumptions: &[Lit]) -> u32 {
     level
 }
 
-// Puts the final clause of a conflict that depends on assumptions alone.
-pub fn refute(
-    trail: &mut Trail,
-    learner: &mut Learner,
-    book: &mut Ledger,
-    conflict: ClauseId,
-    assumptions: &[Lit],
-    spare: usize,
-) -> Result<ClauseId, Memory>
-    requires clauses { trail.old.clauses ≡ clauses_of book.old.entries }
-    requires conflict { IsConflict trail.old conflict }
-    requires assumed { AreAssumed trail.old assumptions.now (length trail.old.literals) }
-    requires spare { spare ≤ trail.old.spare }
-    ensures trail { WithRoom trail.old trail.new }
-    ensures room { OnOk result (spare + 1 ≤ trail.new.spare) }
-    ensures closed { IfOk result (IsClosed assumptions.now book.old.entries book.new.entries) }
-    ensures err { OnErr result (book.new ≡ book.old) }
+// What is true of each trail.
+pub fn trail_state(trail: &Trail)
+    ensures state { IsTrailState trail.now }
+    ensures room { length trail.now.literals ≤ trail.now.vars }
+    ensures spare { trail.now.spare < 2 ^ 63 }
 {
     let _literals = trail.literals();
-    trail.reserve_clauses(spare + 1)?;
-    let learnt = learner.analyse_final(trail, book.clauses(), conflict)?;
-    book.put_final(learnt.clause.as_slice(), learnt.hints.as_slice())
 }
 
-// Puts the final clause of an assumption that is false.
-pub fn dismiss(
-    trail: &mut Trail,
-    learner: &mut Learner,
-    book: &mut Ledger,
-    lit: Lit,
-    assumptions: &[Lit],
-    spare: usize,
-) -> Result<ClauseId, Memory>
-    requires clauses { trail.old.clauses ≡ clauses_of book.old.entries }
-    requires false_now { is_false trail.old.literals lit ≡ true }
-    requires among { is_true assumptions.now lit ≡ true }
-    requires forced { (place : ℕ) → StandsAt trail.old.literals lit.var place → is_none (reason_at trail.old.reasons place) ≡ false }
-    requires assumed { AreAssumed trail.old assumptions.now (length trail.old.literals) }
-    requires spare { spare ≤ trail.old.spare }
-    ensures trail { WithRoom trail.old trail.new }
-    ensures room { OnOk result (spare + 1 ≤ trail.new.spare) }
-    ensures closed { IfOk result (IsClosed assumptions.now book.old.entries book.new.entries) }
-    ensures err { OnErr result (book.new ≡ book.old) }
-{
-    let _literals = trail.literals();
-    trail.reserve_clauses(spare + 1)?;
-    let learnt = learner.analyse_failed(trail, book.clauses(), lit)?;
-    book.put_final(learnt.clause.as_slice(), learnt.hints.as_slice())
+impl<R: Fn(u32) -> u64> Search<R> {
+    // Puts the final clause of a conflict that depends on assumptions alone.
+    pub fn refute(
+        &mut self,
+        book: &mut Ledger,
+        conflict: ClauseId,
+        assumptions: &[Lit],
+    ) -> Result<ClauseId, Memory>
+        requires over { IsOver self.old book.old.entries }
+        requires conflict { IsConflict self.old.trail conflict }
+        requires assumed { AreAssumed self.old.trail assumptions.now (length self.old.trail.literals) }
+        ensures kept { KeepsVariables self.old self.new }
+        ensures searched { (budget : ℕ) → IsSearched book.old.entries book.new.entries budget budget }
+        ensures ended { (budget : ℕ) → IfOk result (λ id. IsEnded assumptions.now self.new book.old.entries book.new.entries budget (Answer.Unsat id)) }
+        ensures err { OnErr result (IsOver self.new book.new.entries) }
+    {
+        trail_state(&self.trail);
+        self.trail.reserve_clauses(self.spare + 1)?;
+        let learnt = self
+            .learner
+            .analyse_final(&self.trail, book.clauses(), conflict)?;
+        book.put_final(learnt.clause.as_slice(), learnt.hints.as_slice())
+    }
+
+    // Puts the final clause of an assumption that is false.
+    pub fn dismiss(
+        &mut self,
+        book: &mut Ledger,
+        lit: Lit,
+        assumptions: &[Lit],
+    ) -> Result<ClauseId, Memory>
+        requires under_way { IsUnderWay assumptions.now self.old book.old.entries }
+        requires next { IsNext self.old.trail.literals assumptions.now lit }
+        requires false_now { is_false self.old.trail.literals lit ≡ true }
+        ensures kept { KeepsVariables self.old self.new }
+        ensures searched { (budget : ℕ) → IsSearched book.old.entries book.new.entries budget budget }
+        ensures ended { (budget : ℕ) → IfOk result (λ id. IsEnded assumptions.now self.new book.old.entries book.new.entries budget (Answer.Unsat id)) }
+        ensures err { OnErr result (IsOver self.new book.new.entries) }
+    {
+        trail_state(&self.trail);
+        self.trail.reserve_clauses(self.spare + 1)?;
+        let learnt = self
+            .learner
+            .analyse_failed(&self.trail, book.clauses(), lit)?;
+        book.put_final(learnt.clause.as_slice(), learnt.hints.as_slice())
+    }
 }

@@ -10,10 +10,13 @@
 mod activity;
 mod advice;
 mod answer;
+mod backtracking;
+mod deciding;
 mod ending;
 mod levels;
 mod restarts;
 mod search;
+mod settling;
 mod solver;
 
 pub use answer::Answer;

@@ -2,7 +2,7 @@
 ghost use Rattle.std.specs.Prelude.{◌≡◌, ◌≤◌, [], length};
 ghost use Rattle.prop_core.specs.Clauses.{HasValues};
 ghost use Rattle.proof_ledger.specs.Book.{clauses_of};
-ghost use Rattle.sat_order.specs.Rank.{IsRanked};
+ghost use Rattle.sat_order.specs.Rank.{IsRank};
 ghost use Rattle.sat_solve.specs.Solving.{AreCompatible};
 
 use crate::ample::got;
@@ -69,10 +69,10 @@ fn add<R: Fn(u32) -> u64>(
     book: &mut Ledger,
     clause: &[Lit],
 ) -> Result<(), Memory>
-    requires ranked { IsRanked R.pre R.post solver.old.order }
+    requires ranked { IsRank R.pre R.post solver.old.order.rank }
     requires adopted { solver.old.adopted ≡ clauses_of book.old.entries }
     requires known { HasValues solver.old.vars clause.now }
-    ensures ranked { IsRanked R.pre R.post solver.new.order }
+    ensures ranked { IsRank R.pre R.post solver.new.order.rank }
     ensures adopted { solver.new.adopted ≡ clauses_of book.new.entries }
     ensures vars { solver.new.vars ≡ solver.old.vars }
 {
@@ -91,11 +91,11 @@ fn add_all<R: Fn(u32) -> u64>(
     first: u64,
     end: u64,
 ) -> bool
-    requires ranked { IsRanked R.pre R.post solver.old.order }
+    requires ranked { IsRank R.pre R.post solver.old.order.rank }
     requires adopted { solver.old.adopted ≡ clauses_of book.old.entries }
     requires vars { solver.old.vars ≡ vars }
     requires end { end ≤ length clauses.now.clauses }
-    ensures ranked { IsRanked R.pre R.post solver.new.order }
+    ensures ranked { IsRank R.pre R.post solver.new.order.rank }
     ensures adopted { solver.new.adopted ≡ clauses_of book.new.entries }
     ensures vars { solver.new.vars ≡ vars }
 {
@@ -116,10 +116,10 @@ fn ask<R: Fn(u32) -> u64>(
     vars: u32,
     question: &Question,
 ) -> bool
-    requires ranked { IsRanked R.pre R.post solver.old.order }
+    requires ranked { IsRank R.pre R.post solver.old.order.rank }
     requires adopted { solver.old.adopted ≡ clauses_of book.old.entries }
     requires vars { solver.old.vars ≡ vars }
-    ensures ranked { IsRanked R.pre R.post solver.new.order }
+    ensures ranked { IsRank R.pre R.post solver.new.order.rank }
     ensures adopted { solver.new.adopted ≡ clauses_of book.new.entries }
     ensures vars { solver.new.vars ≡ vars }
 {
@@ -183,10 +183,10 @@ fn ask_all<R: Fn(u32) -> u64>(
     vars: u32,
     questions: &[Question],
 ) -> bool
-    requires ranked { IsRanked R.pre R.post solver.old.order }
+    requires ranked { IsRank R.pre R.post solver.old.order.rank }
     requires adopted { solver.old.adopted ≡ clauses_of book.old.entries }
     requires vars { solver.old.vars ≡ vars }
-    ensures ranked { IsRanked R.pre R.post solver.new.order }
+    ensures ranked { IsRank R.pre R.post solver.new.order.rank }
     ensures adopted { solver.new.adopted ≡ clauses_of book.new.entries }
     ensures vars { solver.new.vars ≡ vars }
 {
@@ -208,7 +208,7 @@ fn answers_in_two<R: Fn(u32) -> u64>(
     early: &[Question],
     late: &[Question],
 ) -> bool
-    requires ranked { IsRanked R.pre R.post solver.old.order }
+    requires ranked { IsRank R.pre R.post solver.old.order.rank }
     requires adopted { solver.old.adopted ≡ clauses_of book.old.entries }
     requires vars { solver.old.vars ≡ vars }
 {
@@ -229,7 +229,7 @@ fn answers<R: Fn(u32) -> u64>(
     early: &[Question],
     late: &[Question],
 ) -> bool
-    requires ranked { IsRanked R.pre R.post order }
+    requires ranked { IsRank R.pre R.post order.rank }
     requires empty { order.waiting ≡ [] }
     requires few { vars ≤ 1000 }
 {

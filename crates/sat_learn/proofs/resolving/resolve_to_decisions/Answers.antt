@@ -12,7 +12,7 @@ down-preserved-in_ok-resolve c =
     record {
       size = omega arith;
       within = omega arith;
-      decided = decided_next _ c.down.seen _ _ z (λ i m b. c.in_ok-resolve.ensures.above i m (omega arith)) (λ e. absurd (let a = c.in_ok-resolve.ensures.cleared in let y : true ≡ false = sym e ∙ a in cc))
+      decided = decided_next _ c.down.seen _ _ z (λ i m b. c.in_ok-resolve.ensures.resolved.above i m (omega arith)) (λ e. absurd (let a = c.in_ok-resolve.ensures.resolved.cleared in let y : true ≡ false = sym e ∙ a in cc))
           (λ i m. c.down.invariant.decided i (omega arith));
       refuted = λ also h. c.in_ok-resolve.ensures.refuted also (c.down.invariant.refuted also h);
     }

@@ -1,6 +1,5 @@
-use Rattle.std.specs.Prelude.{◌≡◌, ◌≤◌, List, length}
-use Rattle.prop_core.specs.declared.lit.Lit.{Lit}
-use Rattle.sat_learn.specs.Seen.{IsRefuted, IsDecidedFrom}
+use Rattle.std.specs.Prelude.{◌≡◌, ◌≤◌, length}
+use Rattle.sat_learn.specs.Seen.{StillRefutes, IsDecidedFrom}
 use Rattle.sat_learn.proofs.resolving.resolve_to_decisions.Given as goal
 
 abbrev pub invariant-down : goal.invariant-down
@@ -8,7 +7,7 @@ invariant-down l = record {
   size : length l.seen ≡ length l.fn.seen;
   within : l.place ≤ length l.seen;
   decided : IsDecidedFrom l.reasons l.seen l.place;
-  refuted : (also : List Lit) → IsRefuted l.db.clauses l.trail.literals also l.fn.seen l.fn.hints.items → IsRefuted l.db.clauses l.trail.literals also l.seen l.hints.items;
+  refuted : StillRefutes l.on.clauses.now.clauses l.on.trail.now.literals l.fn.seen l.seen l.fn.hints.items l.hints.items;
 }
 
 abbrev pub decreases-down : goal.decreases-down

@@ -1,6 +1,5 @@
-use Rattle.std.specs.Prelude.{◌≡◌, ℕ, ◌<◌, ◌≤◌, List, false, length}
-use Rattle.prop_core.specs.declared.lit.Lit.{Lit}
-use Rattle.sat_learn.specs.Seen.{is_seen, count_seen, IsRefuted}
+use Rattle.std.specs.Prelude.{◌≡◌, ℕ, ◌<◌, ◌≤◌, false, length}
+use Rattle.sat_learn.specs.Seen.{is_seen, count_seen, StillRefutes}
 use Rattle.sat_learn.proofs.resolving.resolve_to_one.Given as goal
 
 abbrev pub invariant-down : goal.invariant-down
@@ -11,7 +10,7 @@ invariant-down l = record {
   counted : l.count ≡ count_seen l.start l.seen;
   some : 0 < l.count;
   above : (later : ℕ) → l.place < later → later < length l.seen → is_seen l.seen later ≡ false;
-  refuted : (also : List Lit) → IsRefuted l.db.clauses l.trail.literals also l.fn.seen l.fn.hints.items → IsRefuted l.db.clauses l.trail.literals also l.seen l.hints.items;
+  refuted : StillRefutes l.on.clauses.now.clauses l.on.trail.now.literals l.fn.seen l.seen l.fn.hints.items l.hints.items;
 }
 
 abbrev pub decreases-down : goal.decreases-down

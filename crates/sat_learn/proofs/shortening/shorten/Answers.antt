@@ -10,6 +10,6 @@ down-preserved-in_ok-resolve c =
     record {
       size = omega arith;
       within = omega arith;
-      above = λ later h b. c.in_ok-resolve.ensures.above later (omega arith) b ∙ c.down.invariant.above later h b;
+      above = λ later h b. c.in_ok-resolve.ensures.resolved.above later (omega arith) (let was = c.requires.analysed.size in omega arith) ∙ c.down.invariant.above later h b;
       refuted = λ also h. c.in_ok-resolve.ensures.refuted also (c.down.invariant.refuted also h);
     }

@@ -1,7 +1,7 @@
 use Rattle.std.proofs.Common.{◌≡◌, ◌∙◌, arith}
 use Rattle.std.proofs.Math.Nat.{le-max_right}
 use Rattle.sat_solve.proofs.Adopting.{HasOneMore, one_more}
-use Rattle.sat_solve.proofs.Retreating.{grown_is}
+use Rattle.sat_solve.proofs.WaitingVariables.{grown_is}
 use Rattle.search_calls.proofs.solver.add.Given as given
 use Rattle.search_calls.proofs.solver.add.Goals as goal
 

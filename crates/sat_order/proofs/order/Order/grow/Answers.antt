@@ -11,7 +11,8 @@ loop-var-preserved g c =
     let below : c.loop-var.var < c.args.vars = c.loop-var-test.true in
     record {
       rank = i.rank;
-      ranked = rw (ranks, waiting) (IsRanked-more _ _ c.loop-var.self-inside.rank _ _ c.call-rank.result i.ranked (let a = i.count in let b = c.requires.limit in omega arith)
+      same = let a = i.same in rw (ranks, waiting) (grind (arith, common_steps));
+      ranked = λ before. rw (ranks, waiting) (IsRanked-more _ _ c.loop-var.self-inside.rank _ _ c.call-rank.result (i.ranked before) (let a = i.count in let b = c.requires.limit in omega arith)
           (rw i.count c.call-rank.ensures));
       count = let a = i.count in grind (arith, common_steps);
       upto = omega arith;

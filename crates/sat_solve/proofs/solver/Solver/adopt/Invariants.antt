@@ -4,10 +4,10 @@ use Rattle.sat_solve.proofs.solver.Solver.adopt.Given as goal
 
 abbrev pub invariant-loop-before : goal.invariant-loop-before
 invariant-loop-before g l = record {
-  adopting : IsAdopting l.initial.self-inside.trail l.self-inside.trail l.clauses.clauses l.before;
-  order : l.self-inside.order ≡ l.initial.self-inside.order;
+  adopting : IsAdopting l.initial.self-inside.search.trail l.self-inside.search.trail l.clauses.clauses l.before;
+  order : l.self-inside.search.order ≡ l.initial.self-inside.search.order;
   assignment : l.self-inside.assignment ≡ l.initial.self-inside.assignment;
   clauses : l.self-inside.clauses ≡ l.initial.self-inside.clauses;
-  vars : l.self-inside.vars ≡ l.initial.self-inside.vars;
-  spare : l.self-inside.spare ≡ l.initial.self-inside.spare;
+  vars : l.self-inside.search.vars ≡ l.initial.self-inside.search.vars;
+  spare : l.self-inside.search.spare ≡ l.initial.self-inside.search.spare;
 }

@@ -1,19 +1,20 @@
-use Rattle.std.proofs.Common.{◌≡◌, ◌∙◌, ℕ, sym, ap, subst, length, arith}
+use Rattle.std.proofs.Common.{◌≡◌, ◌∙◌, sym, ap, subst, ℕ}
 use Rattle.prop_core.specs.Clauses.{HasValues}
 use Rattle.sat_solve.specs.Solving.{SolverState}
 use Rattle.sat_solve.proofs.Modeling.{answers_from}
 use Rattle.sat_solve.proofs.Standing.{under_none}
 use Rattle.sat_solve.proofs.solver.Solver.solve.Goals as goal
 
-pub search-found-requires-clause-under : goal.search-found-requires-clause-under
-search-found-requires-clause-under g c =
-    let same : c.args.self.now.vars ≡ length c.self.inside.order.waiting = sym (ap (λ (s : SolverState _). s.vars) c.self.view_is) ∙ sym c.self.invariant.rest.variables in
-    under_none c.args.assumptions.now (length c.self.inside.order.waiting) c.self.inside.trail c.self.invariant.rest.level c.literals-before.ensures.state.justified.same
-    (subst (λ (n : ℕ). HasValues n c.args.assumptions.now) same c.requires.known)
+pub run-found-requires-clause-under : goal.run-found-requires-clause-under
+run-found-requires-clause-under g c =
+    let s = c.self.inside.search in
+    let same : c.args.self.now.vars ≡ s.vars = sym (ap (λ (x : SolverState _). x.vars) c.self.view_is) in
+    under_none c.args.assumptions.now s.vars s.trail c.self.invariant.rest.level c.trail_state.ensures.state.justified.same
+    (subst (λ (n : ℕ). HasValues n c.args.assumptions.now) same c.requires.known) c.requires.compatible
 
 pub returns-clause-answer : goal.returns-clause-answer
 returns-clause-answer g c =
-    let same : c.args.self.now.vars ≡ length c.self.inside.order.waiting = sym (ap (λ (s : SolverState _). s.vars) c.self.view_is) ∙ sym c.self.invariant.rest.variables in
-    let variables = c.self.invariant.rest.variables in
-    answers_from c.search-found.result c.settle.new.assignment c.args.assumptions.now c.search-found.new.trail c.search-found.new.book.entries (length c.self.inside.order.waiting) c.self.inside.spare c.search-found.new.left c.literals-after.ensures.state c.search-found.ensures.serving
-    (subst (λ (n : ℕ). HasValues n c.args.assumptions.now) same c.requires.known) c.search-found.ensures.unsettled c.search-found.ensures.found (λ e var h. c.settle.ensures.values e var (omega arith))
+    let t = c.run-found.new.self in
+    let same : c.args.self.now.vars ≡ t.vars = sym (c.run-found.ensures.kept.vars ∙ ap (λ (x : SolverState _). x.vars) c.self.view_is) in
+    answers_from c.run-found.result c.settle.new.assignment c.args.assumptions.now t c.args.book.now.entries c.run-found.new.book.entries c.run-found.new.budget c.trail_state-2.ensures.state
+    (subst (λ (n : ℕ). HasValues n c.args.assumptions.now) same c.requires.known) c.run-found.ensures.ended c.settle.ensures.values

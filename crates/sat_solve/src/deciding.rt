@@ -1,0 +1,56 @@
+// Which variable to decide next: one that is suggested, or else the first that waits.
+ghost use Rattle.std.specs.Prelude.{◌≡◌, ◌<◌, true, false, length, IfSome, IfNone};
+ghost use Rattle.prop_core.specs.Clauses.{is_open};
+ghost use Rattle.sat_order.specs.Rank.{KeepsRanks};
+ghost use Rattle.sat_solve.specs.Solving.{AreWaiting, AreClosed, IsPicked};
+
+use crate::advice::Advice;
+use sat_order::Order;
+use sat_prop::Trail;
+
+// Takes a variable that is open. Those that come before it and are not open wait no longer.
+pub fn pick<R: Fn(u32) -> u64>(
+    trail: &Trail,
+    order: &mut Order<R>,
+    advice: &mut Advice,
+) -> Option<u32>
+    requires { AreWaiting order.old.waiting trail.now.literals (length order.old.waiting) }
+    ensures kept { KeepsRanks order.old order.new }
+    ensures some { IfSome result (IsPicked trail.now.literals order.old.waiting order.new.waiting) }
+    ensures none { IfNone result (AreClosed trail.now.literals (length order.old.waiting)) }
+{
+    if let Some(var) = first_suggested(trail, advice, order.vars()) {
+        return Some(var);
+    }
+    first_waiting(trail, order)
+}
+
+// Takes the first suggestion that is known and open. Those that come before it are suggested no longer.
+fn first_suggested(trail: &Trail, advice: &mut Advice, vars: u32) -> Option<u32>
+    ensures known { IfSome result (λ var. var < vars) }
+    ensures undecided { IfSome result (λ var. is_open trail.now.literals (record { var = var; positive = false }) ≡ true) }
+{
+    for _ in 0..advice.suggestions() {
+        if let Some(var) = advice.suggest() {
+            if var < vars && trail.value(var).is_none() {
+                return Some(var);
+            }
+        }
+    }
+    None
+}
+
+// Takes the first waiting variable that is open. Those that come before it and are not open wait no longer.
+fn first_waiting<R: Fn(u32) -> u64>(trail: &Trail, order: &mut Order<R>) -> Option<u32>
+    requires { AreWaiting order.old.waiting trail.now.literals (length order.old.waiting) }
+    ensures kept { KeepsRanks order.old order.new }
+    ensures some { IfSome result (IsPicked trail.now.literals order.old.waiting order.new.waiting) }
+    ensures none { IfNone result (AreClosed trail.now.literals (length order.old.waiting)) }
+{
+    while let Some(var) = order.take() {
+        if trail.value(var).is_none() {
+            return Some(var);
+        }
+    }
+    None
+}
