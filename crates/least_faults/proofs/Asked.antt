@@ -11,14 +11,15 @@ use Rattle.des_net.specs.Network.{Net, IsNetwork}
 use Rattle.least_faults.proofs.Assuming.{negates_only}
 use Rattle.least_faults.proofs.Entailing.{final_entailed}
 use Rattle.least_faults.proofs.Posing.{poses}
-use Rattle.least_faults.proofs.Putting.{counted_more, none_learnt, none_marked, none_final, derived_unmarked, same_axioms, learnt_no_final, no_final_in, none_joined, only_final, same_last}
+use Rattle.least_faults.proofs.Putting.{counted_more, none_learnt, none_marked, none_final, derived_unmarked, same_axioms, learnt_no_final, no_final_in, none_joined, only_final, same_last, axioms_with_learnt}
 use Rattle.least_faults.specs.declared.answer.Best.{Best}
 use Rattle.least_faults.specs.declared.asking.Asked.{Asked}
 use Rattle.least_faults.specs.declared.asking.Asked.TheVariants.{Explained, Refuted, Spent}
+use Rattle.least_faults.specs.declared.parts.Parts.{Parts}
 use Rattle.least_faults.specs.Answers.{IsExplanation}
-use Rattle.least_faults.specs.Asking.{AreAssumptions, bound_part, IsSearching, ArePut, HasAsked}
+use Rattle.least_faults.specs.Asking.{AreAssumptions, bound_part, IsSearching, ArePut, HasAskedBy}
 use Rattle.least_faults.specs.Evidence.{is_final}
-use Rattle.least_faults.specs.Growing.{AddsAxioms}
+use Rattle.least_faults.specs.Growing.{AddsAxioms, KeepsQuestion}
 use Rattle.least_faults.specs.Parts.{AreParts, AreReady}
 use Rattle.log_clauses.proofs.Lists.{all_at}
 use Rattle.log_encode.specs.CodedLog.{CodedLog, without_names}
@@ -31,7 +32,9 @@ use Rattle.run_decode.proofs.Decided.{refuted_is_decided}
 use Rattle.run_decode.specs.Decided.{NegatesOnly, Entails}
 use Rattle.run_decode.specs.Faithful.{IsWithin, IsFaithful}
 use Rattle.run_decode.specs.Decoding.{IsTrueRun}
+use Rattle.sat_order.specs.Rank.{IsRanked}
 use Rattle.sat_solve.specs.Searching.{IsSearched, HasPut, IsRefuted}
+use Rattle.sat_solve.specs.Solving.{SolverState}
 use Rattle.sat_solve.specs.declared.answer.Answer.TheVariants as solver
 use Rattle.std.proofs.lemmas.List.Elements.{Contains-append_cases as append_cases, Contains-append_left as append_left, Contains-append_right as append_right}
 use Rattle.step_encode.specs.Coded.{CodedSteps}
@@ -70,13 +73,18 @@ searching_both old mid new before after adds searched = record {
   paid = both_paid old mid new before after adds searched;
 }
 
-pub ready_after : (steps : CodedSteps) (code : CodedLog) (counter : CounterState) (vars before after : ℕ) (adopted kept : List Clause) (values more : ℕ) (mid new : List BookEntry) → AreReady steps code counter vars adopted values mid →
-    IsSearched mid new before after → kept ≡ clauses_of new → more ≡ values → AreReady steps code counter vars kept more new
-ready_after steps code counter vars before after adopted kept values more mid new ready searched all same = record {
-  parts = subst (AreParts steps code counter vars) (sym (ap axioms_of searched.whole ∙ same_axioms mid searched.since searched.derived)) ready.parts;
+-- the parts stay ready where their solver has searched
+pub ready_after : {R : Type 0} (may : R → ℕ → Type 0) (gives : R → ℕ → ℕ → Type 0) (parts : Parts R) (solver : SolverState R) (before after : ℕ) (mid new : List BookEntry) → AreReady may gives parts mid →
+    IsSearched mid new before after → solver.adopted ≡ clauses_of new → solver.vars ≡ parts.solver.vars → IsRanked may gives solver.order → AreReady may gives (record parts { solver = solver }) new
+ready_after may gives parts solver before after mid new ready searched all same ranked = record {
+  coded = subst (AreParts parts.step parts.code.code parts.counter parts.vars) (sym (ap axioms_of searched.whole ∙ same_axioms mid searched.since searched.derived)) ready.coded;
   adopted_all = all;
-  enough = subst (λ v. vars ≤ v) (sym same) ready.enough;
+  enough = subst (λ v. parts.vars ≤ v) (sym same) ready.enough;
+  ranked = ranked;
 }
+
+pub kept_after : {R : Type 0} (old parts : Parts R) (solver : SolverState R) → KeepsQuestion old parts → solver.order.rank ≡ parts.solver.order.rank → KeepsQuestion old (record parts { solver = solver })
+kept_after old parts solver kept same = record { step = kept.step; code = kept.code; counter = kept.counter; rank = same ∙ kept.rank }
 
 -- ---- a model
 
@@ -145,7 +153,7 @@ module _ (steps : CodedSteps) (code : CodedLog) (counter : CounterState) (vars :
     unbounded = if_none bound (list_all is_learnt (map axiomatic adds.axioms ++ searched.since) ≡ true) (asked ≢ Refuted → list_all is_learnt (map axiomatic adds.axioms ++ searched.since) ≡ true) (λ p not. p) (alone bound none all_learnt);
   }
 
-  pub asked_spent : IfNone bound (adds.axioms ≡ []) → HasPut mid new solver.Spent → after ≡ 0 → HasAsked code counter net log steps.steps bound old new before after Spent
+  pub asked_spent : IfNone bound (adds.axioms ≡ []) → HasPut mid new solver.Spent → after ≡ 0 → HasAskedBy code counter net log steps.steps bound old new before after Spent
   asked_spent none put nothing = record {
     since = map axiomatic adds.axioms ++ searched.since;
     whole = both_whole old mid new before after adds searched;
@@ -177,7 +185,7 @@ module _ (steps : CodedSteps) (code : CodedLog) (counter : CounterState) (vars :
   some_true value (l ∷ inputs) more = omega arith
 
   pub asked_explained : (value : ℕ → Bool) (best : Best) → IfNone bound (adds.axioms ≡ []) → HasPut mid new solver.Sat → AllClausesTrue value (axioms_of mid) → AllLiteralsTrue value assumed →
-      IsExplanation net log steps.steps best → best.faults ≡ true_count value counter.inputs → HasAsked code counter net log steps.steps bound old new before after (Explained best)
+      IsExplanation net log steps.steps best → best.faults ≡ true_count value counter.inputs → HasAskedBy code counter net log steps.steps bound old new before after (Explained best)
   asked_explained value best none put axioms literals given count = record {
     since = map axiomatic adds.axioms ++ searched.since;
     whole = both_whole old mid new before after adds searched;
@@ -196,7 +204,7 @@ module _ (steps : CodedSteps) (code : CodedLog) (counter : CounterState) (vars :
   refused : Refuted ≢ Refuted → ⊥
   refused not = not refl
 
-  pub asked_refuted : (number : ℕ) → HasPut mid new (solver.Unsat number) → IsRefuted new assumed number → IsValidBook new → HasAsked code counter net log steps.steps bound old new before after Refuted
+  pub asked_refuted : (number : ℕ) → HasPut mid new (solver.Unsat number) → IsRefuted new assumed number → IsValidBook new → HasAskedBy code counter net log steps.steps bound old new before after Refuted
   asked_refuted number put refuted whole = record {
     since = map axiomatic adds.axioms ++ searched.since;
     whole = both_whole old mid new before after adds searched;
@@ -211,13 +219,16 @@ module _ (steps : CodedSteps) (code : CodedLog) (counter : CounterState) (vars :
       assumed = assumed;
       assumptions = assumptions;
       refuted = record {
-        earlier = map axiomatic adds.axioms ++ put.put.before;
-        clause = put.put.clause;
-        hints = put.put.hints;
-        later = [];
-        whole = ap (λ xs. map axiomatic adds.axioms ++ xs) (sym same_put ∙ put.put.whole) ∙ sym (append_assoc (map axiomatic adds.axioms) put.put.before (final put.put.clause put.put.hints ∷ []));
-        last = refl;
-        negates = last_negates;
+        refuted = record {
+          earlier = map axiomatic adds.axioms ++ put.put.before;
+          clause = put.put.clause;
+          hints = put.put.hints;
+          later = [];
+          whole = ap (λ xs. map axiomatic adds.axioms ++ xs) (sym same_put ∙ put.put.whole) ∙ sym (append_assoc (map axiomatic adds.axioms) put.put.before (final put.put.clause put.put.hints ∷ []));
+          last = refl;
+          negates = last_negates;
+        };
+        faithful = subst (λ axioms. IsFaithful axioms assumed net log steps.steps bound) (sym (axioms_with_learnt old mid (map axiomatic adds.axioms) put.put.before adds.more put.put.all_learnt)) faithful;
       };
       decided = refuted_is_decided net log steps.steps bound (axioms_of mid) assumed put.put.clause faithful
           (subst (λ axioms. Entails axioms put.put.clause) now_axioms (final_entailed new put.put.clause put.put.hints whole there)) last_negates;

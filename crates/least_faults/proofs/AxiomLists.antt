@@ -1,7 +1,7 @@
 -- The clauses of a list, one after another, as axioms of a book.
 use Rattle.std.proofs.Common.{◌≡◌, ◌∙◌, ℕ, ◌+◌, ◌-◌, ◌<◌, ◌≤◌, false, List, [], ◌∷◌, ◌++◌, length, map, take, Option, Some, unwrap_or, get_or, eqb, refl, sym, ap, arith, sum_by}
 use Rattle.std.proofs.lemmas.Bool.{ne_eqb}
-use Rattle.std.proofs.lemmas.List.{append_assoc, map-append, take_more}
+use Rattle.std.proofs.lemmas.List.{append_assoc, append-nil, map-append, take_more}
 use Rattle.std.proofs.lemmas.List.Elements.{filter_map-append}
 use Rattle.std.proofs.lemmas.List.Sums.{sum_by_more, sum_by_more_le}
 use Rattle.std.proofs.lemmas.Option.{slice_get-get_or}
@@ -49,14 +49,20 @@ axioms_added book clauses = filter_map-append axiom_of book (map axiomatic claus
 pub clauses_added : (book : List BookEntry) (clauses : List Clause) → clauses_of (book ++ map axiomatic clauses) ≡ clauses_of book ++ clauses
 clauses_added book clauses = filter_map-append clause_of book (map axiomatic clauses) ∙ ap (λ (cs : List Clause). clauses_of book ++ cs) (clauses_are clauses)
 
+pub adds_none : (book : List BookEntry) → AddsAxioms book book
+adds_none book = record { axioms = []; more = sym (append-nil book) }
+
+pub adds_both : (old mid new : List BookEntry) → AddsAxioms old mid → AddsAxioms mid new → AddsAxioms old new
+adds_both old mid new first second = record {
+  axioms = first.axioms ++ second.axioms;
+  more = second.more ∙ ap (λ (entries : List BookEntry). entries ++ map axiomatic second.axioms) first.more ∙ append_assoc old (map axiomatic first.axioms) (map axiomatic second.axioms)
+      ∙ ap (λ (entries : List BookEntry). old ++ entries) (sym (map-append axiomatic first.axioms second.axioms));
+}
+
 -- two lists after one another
 module _ (old one two : List BookEntry) (first second : List Clause) (one_is : one ≡ old ++ map axiomatic first) (two_is : two ≡ one ++ map axiomatic second) where
-  pub adds_both : AddsAxioms old two
-  adds_both = record {
-    axioms = first ++ second;
-    more = two_is ∙ ap (λ (book : List BookEntry). book ++ map axiomatic second) one_is ∙ append_assoc old (map axiomatic first) (map axiomatic second)
-        ∙ ap (λ (entries : List BookEntry). old ++ entries) (sym (map-append axiomatic first second));
-  }
+  pub adds_all : AddsAxioms old two
+  adds_all = adds_both old one two (record { axioms = first; more = one_is }) (record { axioms = second; more = two_is })
 
   pub axioms_both : old ≡ [] → axioms_of two ≡ first ++ second
   axioms_both empty = ap axioms_of two_is ∙ axioms_added one second ∙ ap (λ (cs : List Clause). cs ++ second) (ap axioms_of one_is ∙ axioms_added old first ∙ ap (λ (book : List BookEntry). axioms_of book ++ first) empty)

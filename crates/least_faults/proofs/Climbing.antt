@@ -1,6 +1,8 @@
 -- The search upwards from 0, bound by bound.
-use Rattle.std.proofs.Common.{◌≡◌, ◌≢◌, ◌∙◌, ℕ, suc, ◌<◌, ◌≤◌, true, false, ◌⊎◌, inl, inr, List, [], ◌++◌, Option, None, Some, refl, sym, ap, subst, arith, Contains, count_by, append-nil, append_assoc}
-use Rattle.std.specs.List.{list_any, list_all}
+use Rattle.std.proofs.Common.{◌≡◌, ◌≢◌, ◌∙◌, ℕ, suc, ◌+◌, ◌<◌, ◌≤◌, true, false, ◌⊎◌, inl, inr, List, [], ◌∷◌, ◌++◌, Option, None, Some, refl, sym, ap, subst, arith, Contains, count_by, append-nil, append_assoc}
+use Rattle.std.proofs.lemmas.List.Elements.{filter_map-append}
+use Rattle.std.specs.List.{AllByRecursion, list_any, list_all}
+use Rattle.card_counter.proofs.ListLemmas.{all_split}
 use Rattle.card_counter.specs.CounterState.{CounterState}
 use Rattle.des_base.proofs.Elements.{none_in_nil}
 use Rattle.des_net.specs.Network.{Net, IsNetwork}
@@ -8,7 +10,6 @@ use Rattle.least_faults.proofs.Assuming.{assumptions_stay}
 use Rattle.least_faults.proofs.Entailing.{final_entailed}
 use Rattle.least_faults.proofs.Posing.{poses}
 use Rattle.least_faults.proofs.Putting.{counted_more, no_final_in, learnt_no_final, last_later, last_earlier}
-use Rattle.least_faults.proofs.Staying.{spent_not}
 use Rattle.least_faults.proofs.Telling.{tells_bound}
 use Rattle.least_faults.specs.declared.answer.Best.{Best}
 use Rattle.least_faults.specs.declared.answer.Found.{Found}
@@ -16,20 +17,21 @@ use Rattle.least_faults.specs.declared.answer.Found.TheVariants.{Explained, Abse
 use Rattle.least_faults.specs.declared.asking.Asked.{Asked}
 use Rattle.least_faults.specs.declared.asking.Asked.TheVariants as asked
 use Rattle.least_faults.specs.Answers.{IsExplanation, IsLeastFound, IsAbsentFound, IsManyFound, IsUndecidedFound}
-use Rattle.least_faults.specs.Ascending.{FinalsAreBelow, IsRefutedBelow, HasComeTo, HasFound}
-use Rattle.least_faults.specs.Asking.{AreAssumptions, IsSearching, HasAsked, IsRefusal}
-use Rattle.least_faults.specs.Evidence.{is_final, HasLastFinal, IsEvidence}
+use Rattle.least_faults.specs.Ascending.{FinalsAreBelow, IsRefutedBelow, HasComeToBy, HasFound}
+use Rattle.least_faults.specs.Asking.{AreAssumptions, IsSearching, HasAskedBy, IsRefusal}
+use Rattle.least_faults.specs.Evidence.{is_final, IsEvidence, IsPosed, IsRefutation}
 use Rattle.least_faults.specs.Growing.{KeepsColumns}
 use Rattle.least_faults.specs.Parts.{AreParts}
 use Rattle.log_encode.specs.CodedLog.{CodedLog, without_names}
-use Rattle.log_encode.specs.Drafted.{LogCodeState}
 use Rattle.log_order.specs.Log.{Log, IsValidLog}
-use Rattle.proof_ledger.specs.Book.{BookEntry, final, axioms_of, is_mark, IsValidBook}
+use Rattle.proof_ledger.specs.Book.{BookEntry, final, axiom_of, axioms_of, is_mark, IsValidBook}
 use Rattle.proof_ledger.specs.Fresh.{is_learnt}
 use Rattle.prop_core.specs.Clauses.{Clause}
+use Rattle.prop_core.specs.VariableNames.{Name}
 use Rattle.prop_core.specs.declared.lit.Lit.{Lit}
 use Rattle.replay.specs.Explanation.{IsExplained, NeedsFaults}
 use Rattle.run_decode.specs.Decided.{NegatesOnly}
+use Rattle.run_decode.specs.Drawn.{IsInstance}
 use Rattle.run_decode.specs.WholeNaming.{whole_names}
 use Rattle.std.proofs.lemmas.List.Elements.{Contains-append_cases as append_cases, Contains-append_right as append_right}
 use Rattle.step_encode.specs.Coded.{CodedSteps}
@@ -43,7 +45,13 @@ at_least net log n k best needs given = let more = needs _ _ given.explains in o
 
 -- ---- from one bound to the next
 
-pub come_to_none : (code : CodedLog) (counter : CounterState) (net : Net) (log : Log) (n : ℕ) (book : List BookEntry) (left : ℕ) → HasComeTo code counter net log n 0 book book left left
+pub explained_not : (best : Best) → asked.Explained best ≢ asked.Refuted
+explained_not best is = cc
+
+pub spent_not : asked.Spent ≢ asked.Refuted
+spent_not is = cc
+
+pub come_to_none : (code : CodedLog) (counter : CounterState) (net : Net) (log : Log) (n : ℕ) (book : List BookEntry) (left : ℕ) → HasComeToBy code counter net log n 0 book book left left
 come_to_none code counter net log n book left = record {
   since = [];
   whole = sym (append-nil book);
@@ -71,31 +79,24 @@ finals_same code old new k since more keeps none finals clause hints in' = by (a
     by (inr now) = absurd (no_final_in more clause hints none now)
 
 pub come_further : (code : CodedLog) (old new : CounterState) (net : Net) (log : Log) (n k : ℕ) (first mid last : List BookEntry) (budget before after : ℕ) → KeepsColumns old new →
-    HasComeTo code old net log n k first mid budget before → HasAsked code new net log n (Some k) mid last before after asked.Refuted → HasComeTo code new net log n (suc k) first last budget after
+    HasComeToBy code old net log n k first mid budget before → HasAskedBy code new net log n (Some k) mid last before after asked.Refuted → HasComeToBy code new net log n (suc k) first last budget after
 come_further code old new net log n k first mid last budget before after keeps come asked' = record {
   since = come.since ++ asked'.since;
   whole = asked'.whole ∙ ap (λ b. b ++ asked'.since) come.whole ∙ append_assoc first come.since asked'.since;
   unmarked = λ number. counted_more (is_mark number) come.since asked'.since ∙ (let one = come.unmarked number in let two = asked'.unmarked number in omega (arith, one, two));
   paid = (let count = counted_more is_learnt come.since asked'.since in omega (arith, count, come.paid, asked'.paid));
   finals = finals_further code old new k come.since asked'.since keeps come.finals asked'.put.finals;
-  below = λ j is. (let same : k ≡ j = omega (arith, is) in subst (λ i. IsRefutedBelow code new i (come.since ++ asked'.since)) same (record {
+  below = λ j is. (let same : k ≡ j = omega (arith, is) in subst (λ i. IsRefutedBelow code new net log n i (axioms_of first) (come.since ++ asked'.since)) same (record {
     assumed = asked'.means.assumed;
     assumptions = asked'.means.assumptions;
-    refuted = last_earlier come.since asked'.since asked'.means.assumed asked'.means.refuted;
+    refuted = last_earlier first mid come.since asked'.since net log n (Some k) asked'.means.assumed come.whole asked'.means.refuted;
   }));
   needs = asked'.means.decided.above;
 }
 
--- steps and code are the same before and after
-pub come_as : (code before : LogCodeState) (counter : CounterState) (net : Net) (log : Log) (steps earlier : CodedSteps) (k : ℕ) (first last : List BookEntry) (budget left : ℕ) → steps ≡ earlier → code ≡ before →
-    HasComeTo before.code counter net log earlier.steps k first last budget left → HasComeTo code.code counter net log steps.steps k first last budget left
-come_as code before counter net log steps earlier k first last budget left same_step same_code come =
-    subst (λ (s : CodedSteps). HasComeTo code.code counter net log s.steps k first last budget left) (sym same_step)
-    (subst (λ (c : LogCodeState). HasComeTo c.code counter net log earlier.steps k first last budget left) (sym same_code) come)
-
 -- the bounds below k stay refuted where nothing more is
 pub come_on : (code : CodedLog) (old new : CounterState) (net : Net) (log : Log) (n k : ℕ) (first mid last : List BookEntry) (budget before after : ℕ) (what : Asked) → KeepsColumns old new → what ≢ asked.Refuted →
-    HasComeTo code old net log n k first mid budget before → HasAsked code new net log n (Some k) mid last before after what → HasComeTo code new net log n k first last budget after
+    HasComeToBy code old net log n k first mid budget before → HasAskedBy code new net log n (Some k) mid last before after what → HasComeToBy code new net log n k first last budget after
 come_on code old new net log n k first mid last budget before after what keeps not come asked' = record {
   since = come.since ++ asked'.since;
   whole = asked'.whole ∙ ap (λ b. b ++ asked'.since) come.whole ∙ append_assoc first come.since asked'.since;
@@ -105,12 +106,12 @@ come_on code old new net log n k first mid last budget before after what keeps n
   below = λ j is. (let found = come.below j is in record {
     assumed = found.assumed;
     assumptions = assumptions_stay code old new (Some j) found.assumed keeps found.assumptions;
-    refuted = last_later come.since asked'.since found.assumed (asked'.put.none not) found.refuted;
+    refuted = last_later (axioms_of first) come.since asked'.since net log n (Some j) found.assumed (asked'.put.none not) found.refuted;
   });
   needs = come.needs;
 }
 
-pub searched_so_far : (code : CodedLog) (counter : CounterState) (net : Net) (log : Log) (n k : ℕ) (first last : List BookEntry) (budget left : ℕ) → HasComeTo code counter net log n k first last budget left → IsSearching first last budget left
+pub searched_so_far : (code : CodedLog) (counter : CounterState) (net : Net) (log : Log) (n k : ℕ) (first last : List BookEntry) (budget left : ℕ) → HasComeToBy code counter net log n k first last budget left → IsSearching first last budget left
 searched_so_far code counter net log n k first last budget left come = record { since = come.since; whole = come.whole; unmarked = come.unmarked; paid = come.paid }
 
 pub searching_further : (first mid last : List BookEntry) (budget before after : ℕ) → IsSearching first mid budget before → IsSearching mid last before after → IsSearching first last budget after
@@ -121,42 +122,70 @@ searching_further first mid last budget before after one two = record {
   paid = (let count = counted_more is_learnt one.since two.since in omega (arith, count, one.paid, two.paid));
 }
 
+paid_within : (count left budget : ℕ) → count + left ≡ budget → count ≤ budget
+paid_within count left budget paid = omega (arith, paid)
+
 -- ---- what is found
 
-module _ (steps : CodedSteps) (code : CodedLog) (counter : CounterState) (vars : ℕ) (log : Log) (book : List BookEntry) (parts : AreParts steps code counter vars (axioms_of book))
+module _ (steps : CodedSteps) (code : CodedLog) (counter : CounterState) (vars : ℕ) (log : Log) (first book since : List BookEntry) (is : book ≡ first ++ since) (parts : AreParts steps code counter vars (axioms_of book))
     (network : IsNetwork steps.net) (valid : IsValidLog log) (same : code.log ≡ without_names log) where
-  evidence : (bound : Option ℕ) (assumed : List Lit) (since : List BookEntry) → AreAssumptions code counter bound assumed → HasLastFinal since assumed →
-      IsEvidence (whole_names steps code counter) (axioms_of book) since steps.net log steps.steps bound
-  evidence bound assumed since assumptions refuted = record { assumed = assumed; posed = poses steps code counter vars (axioms_of book) bound assumed parts assumptions log network valid same; refuted = refuted }
+  -- the axioms before an entry are the first ones of all
+  axioms_before : (earlier later : List BookEntry) → since ≡ earlier ++ later → axioms_of book ≡ (axioms_of first ++ axioms_of earlier) ++ axioms_of later
+  axioms_before earlier later whole =
+      ap axioms_of (is ∙ ap (λ b. first ++ b) whole ∙ sym (append_assoc first earlier later)) ∙ filter_map-append axiom_of (first ++ earlier) later ∙ ap (λ cs. cs ++ axioms_of later) (filter_map-append axiom_of first earlier)
+
+  evidence : (bound : Option ℕ) (assumed : List Lit) → AreAssumptions code counter bound assumed → IsRefutation (axioms_of first) since steps.net log steps.steps bound assumed →
+      IsEvidence (whole_names steps code counter) (axioms_of first) since steps.net log steps.steps bound
+  evidence bound assumed assumptions refutation = record {
+    assumed = assumed;
+    refuted = refutation.refuted;
+    posed_before = record {
+      faithful = refutation.faithful;
+      once = posed.once;
+      instances = (all_split (IsInstance steps.net log steps.steps names) (axioms_of first ++ axioms_of refutation.refuted.earlier) (axioms_of later)
+          (subst (AllByRecursion (IsInstance steps.net log steps.steps names)) (axioms_before refutation.refuted.earlier later refutation.refuted.whole) posed.instances)).0;
+      assumes = posed.assumes;
+    };
+    posed = subst (λ cs. IsPosed names cs assumed steps.net log steps.steps bound) (ap axioms_of is ∙ filter_map-append axiom_of first since) posed;
+  }
+    where
+      names : List (ℕ × Name)
+      names = whole_names steps code counter
+
+      later : List BookEntry
+      later = final refutation.refuted.clause refutation.refuted.hints ∷ refutation.refuted.later
+
+      posed : IsPosed names (axioms_of book) assumed steps.net log steps.steps bound
+      posed = poses steps code counter vars (axioms_of book) bound assumed parts assumptions log network valid same
 
   -- with evidence below k, an explanation within k is least
-  pub least_found : (k : ℕ) (since : List BookEntry) (best : Best) → k ≤ 255 → ((j : ℕ) → k ≡ suc j → IsRefutedBelow code counter j since) → NeedsFaults steps.net log steps.steps k → IsExplanation steps.net log steps.steps best → best.faults ≤ k →
-      IsLeastFound (whole_names steps code counter) (axioms_of book) since steps.net log steps.steps best
-  least_found k since best small below needs given within =
+  pub least_found : (k : ℕ) (best : Best) → k ≤ 255 → ((j : ℕ) → k ≡ suc j → IsRefutedBelow code counter steps.net log steps.steps j (axioms_of first) since) → NeedsFaults steps.net log steps.steps k → IsExplanation steps.net log steps.steps best → best.faults ≤ k →
+      IsLeastFound (whole_names steps code counter) (axioms_of first) since steps.net log steps.steps best
+  least_found k best small below needs given within =
       let more = at_least steps.net log steps.steps k best needs given in
       let is : k ≡ best.faults = omega (arith, more, within) in record {
         given = given;
         few = omega (arith, within, small);
         least = record { reached = as_explained steps.net log steps.steps best given; least = subst (NeedsFaults steps.net log steps.steps) is needs };
-        evidence = λ b faults. (let found = below b (is ∙ faults) in evidence (Some b) found.assumed since found.assumptions found.refuted);
+        evidence = λ b faults. (let found = below b (is ∙ faults) in evidence (Some b) found.assumed found.assumptions found.refuted);
       }
 
-  pub many_found : (since : List BookEntry) (best : Best) → ((j : ℕ) → 256 ≡ suc j → IsRefutedBelow code counter j since) → NeedsFaults steps.net log steps.steps 256 → IsExplanation steps.net log steps.steps best →
-      IsManyFound (whole_names steps code counter) (axioms_of book) since steps.net log steps.steps best
-  many_found since best below needs given = record {
+  pub many_found : (best : Best) → ((j : ℕ) → 256 ≡ suc j → IsRefutedBelow code counter steps.net log steps.steps j (axioms_of first) since) → NeedsFaults steps.net log steps.steps 256 → IsExplanation steps.net log steps.steps best →
+      IsManyFound (whole_names steps code counter) (axioms_of first) since steps.net log steps.steps best
+  many_found best below needs given = record {
     given = given;
     above = (let more = at_least steps.net log steps.steps 256 best needs given in omega (arith, more));
     many = record { faults = best.faults; explained = as_explained steps.net log steps.steps best given; above = needs };
-    evidence = (let found = below 255 refl in evidence (Some 255) found.assumed since found.assumptions found.refuted);
+    evidence = (let found = below 255 refl in evidence (Some 255) found.assumed found.assumptions found.refuted);
   }
 
-  pub undecided_found : (k budget : ℕ) (first since : List BookEntry) (best : Best) → IsValidBook book → book ≡ first ++ since → count_by is_learnt since ≡ budget → FinalsAreBelow code counter k since →
-      ((j : ℕ) → k ≡ suc j → IsRefutedBelow code counter j since) → NeedsFaults steps.net log steps.steps k → IsExplanation steps.net log steps.steps best → k < best.faults →
-      IsUndecidedFound (whole_names steps code counter) (axioms_of book) since steps.net log steps.steps budget k (Some best)
-  undecided_found k budget first since best whole is spent finals below needs given more = record {
+  pub undecided_found : (k budget : ℕ) (best : Best) → IsValidBook book → count_by is_learnt since ≡ budget → FinalsAreBelow code counter k since →
+      ((j : ℕ) → k ≡ suc j → IsRefutedBelow code counter steps.net log steps.steps j (axioms_of first) since) → NeedsFaults steps.net log steps.steps k → IsExplanation steps.net log steps.steps best → k < best.faults →
+      IsUndecidedFound (whole_names steps code counter) (axioms_of first) since steps.net log steps.steps budget k (Some best)
+  undecided_found k budget best whole spent finals below needs given more = record {
     spent = spent;
     above = needs;
-    evidence = λ b lo. (let found = below b lo in evidence (Some b) found.assumed since found.assumptions found.refuted);
+    evidence = λ b lo. (let found = below b lo in evidence (Some b) found.assumed found.assumptions found.refuted);
     greatest = λ b assumed reads has.
         (let found = finals has.clause has.hints has.there in
         let there = subst (λ b'. Contains b' (final has.clause has.hints)) (sym is) (append_right first since (final has.clause has.hints) has.there) in
@@ -167,13 +196,13 @@ module _ (steps : CodedSteps) (code : CodedLog) (counter : CounterState) (vars :
     unknown = tt;
   }
 
-  pub absent_found : (since : List BookEntry) → IsRefusal code counter steps.net log steps.steps None since → IsAbsentFound (whole_names steps code counter) (axioms_of book) since steps.net log steps.steps
-  absent_found since refusal = record { absent = refusal.decided; evidence = evidence None refusal.assumed since refusal.assumptions refusal.refuted }
+  pub absent_found : IsRefusal code counter steps.net log steps.steps None (axioms_of first) since → IsAbsentFound (whole_names steps code counter) (axioms_of first) since steps.net log steps.steps
+  absent_found refusal = record { absent = refusal.decided; evidence = evidence None refusal.assumed refusal.assumptions refusal.refuted }
 
   -- where nothing is known, and learnt entries alone were put
-  pub nothing_found : (budget : ℕ) (since : List BookEntry) → count_by is_learnt since ≡ budget → list_all is_learnt since ≡ true →
-      IsUndecidedFound (whole_names steps code counter) (axioms_of book) since steps.net log steps.steps budget 0 None
-  nothing_found budget since spent all_learnt = record {
+  pub nothing_found : (budget : ℕ) → count_by is_learnt since ≡ budget → list_all is_learnt since ≡ true →
+      IsUndecidedFound (whole_names steps code counter) (axioms_of first) since steps.net log steps.steps budget 0 None
+  nothing_found budget spent all_learnt = record {
     spent = spent;
     above = λ word order explains. omega arith;
     evidence = λ b none. cc;
@@ -192,13 +221,13 @@ module _ (steps : CodedSteps) (code : CodedLog) (counter : CounterState) (vars :
   found_as : (answer : Found) → HasFound (whole_names steps code counter) steps.net log steps.steps budget first book answer → HasFound (whole_names steps code counter) net log steps.steps budget first book answer
   found_as answer = subst (λ net'. HasFound (whole_names steps code counter) net' log steps.steps budget first book answer) of_net
 
-  back : (k left : ℕ) → HasComeTo code counter net log steps.steps k first book budget left → HasComeTo code counter steps.net log steps.steps k first book budget left
-  back k left = subst (λ net'. HasComeTo code counter net' log steps.steps k first book budget left) (sym of_net)
+  back : (k left : ℕ) → HasComeToBy code counter net log steps.steps k first book budget left → HasComeToBy code counter steps.net log steps.steps k first book budget left
+  back k left = subst (λ net'. HasComeToBy code counter net' log steps.steps k first book budget left) (sym of_net)
 
   given_back : (best : Best) → IsExplanation net log steps.steps best → IsExplanation steps.net log steps.steps best
   given_back best = subst (λ net'. IsExplanation net' log steps.steps best) (sym of_net)
 
-  pub answers_least : (k left : ℕ) (best : Best) → k ≤ 255 → HasComeTo code counter net log steps.steps k first book budget left → IsExplanation net log steps.steps best → best.faults ≤ k →
+  pub answers_least : (k left : ℕ) (best : Best) → k ≤ 255 → HasComeToBy code counter net log steps.steps k first book budget left → IsExplanation net log steps.steps best → best.faults ≤ k →
       HasFound (whole_names steps code counter) net log steps.steps budget first book (Explained best)
   answers_least k left best small come given within =
       let here = back k left come in
@@ -206,10 +235,11 @@ module _ (steps : CodedSteps) (code : CodedLog) (counter : CounterState) (vars :
         since = here.since;
         whole = here.whole;
         unmarked = here.unmarked;
-        found = least_found steps code counter vars log book parts own valid same k here.since best small here.below here.needs (given_back best given) within;
+        within = paid_within (count_by is_learnt here.since) left budget here.paid;
+        found = least_found steps code counter vars log first book here.since here.whole parts own valid same k best small here.below here.needs (given_back best given) within;
       })
 
-  pub answers_many : (left : ℕ) (best : Best) → HasComeTo code counter net log steps.steps 256 first book budget left → IsExplanation net log steps.steps best →
+  pub answers_many : (left : ℕ) (best : Best) → HasComeToBy code counter net log steps.steps 256 first book budget left → IsExplanation net log steps.steps best →
       HasFound (whole_names steps code counter) net log steps.steps budget first book (Many best)
   answers_many left best come given =
       let here = back 256 left come in
@@ -217,10 +247,11 @@ module _ (steps : CodedSteps) (code : CodedLog) (counter : CounterState) (vars :
         since = here.since;
         whole = here.whole;
         unmarked = here.unmarked;
-        found = many_found steps code counter vars log book parts own valid same here.since best here.below here.needs (given_back best given);
+        within = paid_within (count_by is_learnt here.since) left budget here.paid;
+        found = many_found steps code counter vars log first book here.since here.whole parts own valid same best here.below here.needs (given_back best given);
       })
 
-  pub answers_undecided : (k : ℕ) (best : Best) → IsValidBook book → HasComeTo code counter net log steps.steps k first book budget 0 → IsExplanation net log steps.steps best → k < best.faults →
+  pub answers_undecided : (k : ℕ) (best : Best) → IsValidBook book → HasComeToBy code counter net log steps.steps k first book budget 0 → IsExplanation net log steps.steps best → k < best.faults →
       HasFound (whole_names steps code counter) net log steps.steps budget first book (Undecided k (Some best))
   answers_undecided k best whole come given more =
       let here = back k 0 come in
@@ -228,19 +259,21 @@ module _ (steps : CodedSteps) (code : CodedLog) (counter : CounterState) (vars :
         since = here.since;
         whole = here.whole;
         unmarked = here.unmarked;
-        found = undecided_found steps code counter vars log book parts own valid same k budget first here.since best whole here.whole (omega (arith, here.paid)) here.finals here.below here.needs (given_back best given) more;
+        within = paid_within (count_by is_learnt here.since) 0 budget here.paid;
+        found = undecided_found steps code counter vars log first book here.since here.whole parts own valid same k budget best whole (omega (arith, here.paid)) here.finals here.below here.needs (given_back best given) more;
       })
 
-  pub answers_absent : (left : ℕ) → HasAsked code counter net log steps.steps None first book budget left asked.Refuted → HasFound (whole_names steps code counter) net log steps.steps budget first book Absent
+  pub answers_absent : (left : ℕ) → HasAskedBy code counter net log steps.steps None first book budget left asked.Refuted → HasFound (whole_names steps code counter) net log steps.steps budget first book Absent
   answers_absent left asked' =
-      let here = subst (λ net'. HasAsked code counter net' log steps.steps None first book budget left asked.Refuted) (sym of_net) asked' in
-      found_as Absent (record { since = here.since; whole = here.whole; unmarked = here.unmarked; found = absent_found steps code counter vars log book parts own valid same here.since here.means })
+      let here = subst (λ net'. HasAskedBy code counter net' log steps.steps None first book budget left asked.Refuted) (sym of_net) asked' in
+      found_as Absent (record { since = here.since; whole = here.whole; unmarked = here.unmarked; within = paid_within (count_by is_learnt here.since) left budget here.paid; found = absent_found steps code counter vars log first book here.since here.whole parts own valid same here.means })
 
-  pub answers_nothing : (left : ℕ) → HasAsked code counter net log steps.steps None first book budget left asked.Spent → HasFound (whole_names steps code counter) net log steps.steps budget first book (Undecided 0 None)
+  pub answers_nothing : (left : ℕ) → HasAskedBy code counter net log steps.steps None first book budget left asked.Spent → HasFound (whole_names steps code counter) net log steps.steps budget first book (Undecided 0 None)
   answers_nothing left asked' =
       found_as (Undecided 0 None) (record {
         since = asked'.since;
         whole = asked'.whole;
         unmarked = asked'.unmarked;
-        found = nothing_found steps code counter vars log book parts own valid same budget asked'.since (omega (arith, asked'.paid, asked'.means)) (asked'.put.unbounded spent_not);
+        within = paid_within (count_by is_learnt asked'.since) left budget asked'.paid;
+        found = nothing_found steps code counter vars log first book asked'.since asked'.whole parts own valid same budget (omega (arith, asked'.paid, asked'.means)) (asked'.put.unbounded spent_not);
       })

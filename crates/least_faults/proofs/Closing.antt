@@ -1,29 +1,47 @@
 -- From the entries of a search to those of a whole answer: what came before, and the marks.
-use Rattle.std.proofs.Common.{◌≡◌, ◌∙◌, ℕ, ◌+◌, true, ◌&&◌, ◌⊎◌, inl, inr, List, [], ◌∷◌, ◌++◌, Option, None, Some, IfNone, sym, ap, subst, arith, Contains, count_by, append-nil, append_assoc, Result, Ok, Err, IfOk}
+use Rattle.std.proofs.Common.{◌≡◌, ◌∙◌, ℕ, ◌+◌, true, ◌&&◌, ◌⊎◌, inl, inr, List, [], ◌∷◌, ◌++◌, Option, None, Some, IfNone, sym, ap, subst, arith, Contains, count_by, append-nil, append_assoc, Result, Ok, Err, IfOk, ◌≤◌, refl}
 use Rattle.std.proofs.lemmas.List.Elements.{filter_map-append, Contains-append_cases as append_cases}
 use Rattle.std.proofs.lemmas.List.Folds.{list_all-append}
 use Rattle.std.specs.List.{list_all}
-use Rattle.card_counter.specs.CounterState.{CounterState}
 use Rattle.des_net.specs.Network.{Net}
-use Rattle.least_faults.proofs.Putting.{counted_more, last_earlier, learnt_no_final, no_final_in}
+use Rattle.least_faults.proofs.Putting.{counted_more, learnt_no_final, no_final_in, learnt_no_axioms}
 use Rattle.least_faults.specs.declared.answer.Best.{Best}
 use Rattle.least_faults.specs.declared.answer.Found.{Found}
 use Rattle.least_faults.specs.declared.answer.Found.TheVariants.{Explained, Absent, Many, Undecided}
 use Rattle.least_faults.specs.Answers.{IsFound, IsAnswered}
 use Rattle.least_faults.specs.Ascending.{HasFound}
-use Rattle.least_faults.specs.Evidence.{HasFinal, IsEvidence}
+use Rattle.least_faults.specs.Evidence.{HasFinal, IsEvidence, IsPosed}
 use Rattle.least_faults.specs.Parts.{AreParts, AreReady}
-use Rattle.log_encode.specs.CodedLog.{CodedLog}
 use Rattle.log_order.specs.Log.{Log}
 use Rattle.proof_ledger.specs.Book.{BookEntry, final, mark, clause_of, clauses_of, axiom_of, axioms_of, is_mark}
 use Rattle.proof_ledger.specs.Fresh.{is_learnt}
 use Rattle.prop_core.specs.Clauses.{Clause}
 use Rattle.prop_core.specs.VariableNames.{Name}
 use Rattle.prop_core.specs.declared.lit.Lit.{Lit}
-use Rattle.step_encode.specs.Coded.{CodedSteps}
+use Rattle.least_faults.specs.declared.parts.Parts.{Parts}
+use Rattle.least_faults.specs.Asking.{IsSearching}
+use Rattle.least_faults.specs.Growing.{HasGrownWithin}
 
-evidence_later : (names : List (ℕ × Name)) (axioms : List Clause) (front since : List BookEntry) (net : Net) (log : Log) (n : ℕ) (bound : Option ℕ) → IsEvidence names axioms since net log n bound → IsEvidence names axioms (front ++ since) net log n bound
-evidence_later names axioms front since net log n bound shown = record { assumed = shown.assumed; posed = shown.posed; refuted = last_earlier front since shown.assumed shown.refuted }
+-- the axioms are the same where learnt entries came before
+same_front : (first : List Clause) (front entries : List BookEntry) → list_all is_learnt front ≡ true → first ++ axioms_of entries ≡ first ++ axioms_of (front ++ entries)
+same_front first front entries all_learnt = ap (λ cs. first ++ cs) (sym (filter_map-append axiom_of front entries ∙ ap (λ cs. cs ++ axioms_of entries) (learnt_no_axioms front all_learnt)))
+
+evidence_later : (names : List (ℕ × Name)) (first : List Clause) (front since : List BookEntry) (net : Net) (log : Log) (n : ℕ) (bound : Option ℕ) → list_all is_learnt front ≡ true → IsEvidence names first since net log n bound →
+    IsEvidence names first (front ++ since) net log n bound
+evidence_later names first front since net log n bound all_learnt shown = record {
+  assumed = shown.assumed;
+  refuted = record {
+    earlier = front ++ shown.refuted.earlier;
+    clause = shown.refuted.clause;
+    hints = shown.refuted.hints;
+    later = shown.refuted.later;
+    whole = ap (λ xs. front ++ xs) shown.refuted.whole ∙ sym (append_assoc front shown.refuted.earlier (final shown.refuted.clause shown.refuted.hints ∷ shown.refuted.later));
+    last = shown.refuted.last;
+    negates = shown.refuted.negates;
+  };
+  posed_before = subst (λ cs. IsPosed names cs shown.assumed net log n bound) (same_front first front shown.refuted.earlier all_learnt) shown.posed_before;
+  posed = subst (λ cs. IsPosed names cs shown.assumed net log n bound) (same_front first front since all_learnt) shown.posed;
+}
 
 final_later : (front since : List BookEntry) (assumed : List Lit) → list_all is_learnt front ≡ true → HasFinal (front ++ since) assumed → HasFinal since assumed
 final_later front since assumed all_learnt has = record { clause = has.clause; hints = has.hints; there = by (append_cases front since (final has.clause has.hints) has.there); negates = has.negates }
@@ -33,17 +51,17 @@ final_later front since assumed all_learnt has = record { clause = has.clause; h
     by (inr here) = here
 
 -- what was found holds too where learnt entries came before
-is_found_later : (names : List (ℕ × Name)) (axioms : List Clause) (front since : List BookEntry) (net : Net) (log : Log) (n budget left : ℕ) (answer : Found) → list_all is_learnt front ≡ true → count_by is_learnt front + left ≡ budget →
-    IsFound names axioms since net log n left answer → IsFound names axioms (front ++ since) net log n budget answer
-is_found_later names axioms front since net log n budget left (Explained best) all_learnt paid is =
-    record { given = is.given; few = is.few; least = is.least; evidence = λ b faults. evidence_later names axioms front since net log n (Some b) (is.evidence b faults) }
-is_found_later names axioms front since net log n budget left Absent all_learnt paid is = record { absent = is.absent; evidence = evidence_later names axioms front since net log n None is.evidence }
-is_found_later names axioms front since net log n budget left (Many best) all_learnt paid is =
-    record { given = is.given; above = is.above; many = is.many; evidence = evidence_later names axioms front since net log n (Some 255) is.evidence }
-is_found_later names axioms front since net log n budget left (Undecided lo best) all_learnt paid is = record {
+is_found_later : (names : List (ℕ × Name)) (first : List Clause) (front since : List BookEntry) (net : Net) (log : Log) (n budget left : ℕ) (answer : Found) → list_all is_learnt front ≡ true → count_by is_learnt front + left ≡ budget →
+    IsFound names first since net log n left answer → IsFound names first (front ++ since) net log n budget answer
+is_found_later names first front since net log n budget left (Explained best) all_learnt paid is =
+    record { given = is.given; few = is.few; least = is.least; evidence = λ b faults. evidence_later names first front since net log n (Some b) all_learnt (is.evidence b faults) }
+is_found_later names first front since net log n budget left Absent all_learnt paid is = record { absent = is.absent; evidence = evidence_later names first front since net log n None all_learnt is.evidence }
+is_found_later names first front since net log n budget left (Many best) all_learnt paid is =
+    record { given = is.given; above = is.above; many = is.many; evidence = evidence_later names first front since net log n (Some 255) all_learnt is.evidence }
+is_found_later names first front since net log n budget left (Undecided lo best) all_learnt paid is = record {
   spent = counted_more is_learnt front since ∙ (let rest = is.spent in omega (arith, rest, paid));
   above = is.above;
-  evidence = λ b faults. evidence_later names axioms front since net log n (Some b) (is.evidence b faults);
+  evidence = λ b faults. evidence_later names first front since net log n (Some b) all_learnt (is.evidence b faults);
   greatest = λ b assumed reads has. is.greatest b assumed reads (final_later front since assumed all_learnt has);
   given = is.given;
   unknown = none best is.unknown;
@@ -59,8 +77,13 @@ found_later names net log n budget left old mid new front answer whole unmarked 
   since = front ++ found.since;
   whole = found.whole ∙ ap (λ b. b ++ found.since) whole ∙ append_assoc old front found.since;
   unmarked = λ number. counted_more (is_mark number) front found.since ∙ (let one = unmarked number in let two = found.unmarked number in omega (arith, one, two));
-  found = is_found_later names (axioms_of new) front found.since net log n budget left answer all_learnt paid found.found;
+  within = within (count_by is_learnt front) (count_by is_learnt found.since) (count_by is_learnt (front ++ found.since)) (counted_more is_learnt front found.since) found.within refl;
+  found = is_found_later names (axioms_of old) front found.since net log n budget left answer all_learnt paid
+      (subst (λ cs. IsFound names cs found.since net log n left answer) (ap axioms_of whole ∙ filter_map-append axiom_of old front ∙ ap (λ cs. axioms_of old ++ cs) (learnt_no_axioms front all_learnt) ∙ append-nil (axioms_of old)) found.found);
 }
+  where
+    within : (one two all : ℕ) → all ≡ one + two → two ≤ left → one ≡ count_by is_learnt front → all ≤ budget
+    within one two all is less same = omega (arith, is, less, same, paid)
 
 pub ok_weaker : {A B : Type 0} (r : Result A B) (P Q : A → Type 0) → ((a : A) → P a → Q a) → IfOk r P → IfOk r Q
 ok_weaker (Ok a) P Q f p = f a p
@@ -74,20 +97,41 @@ marked_axioms book number = filter_map-append axiom_of book (mark number ∷ [])
 marked_clauses : (book : List BookEntry) (number : ℕ) → clauses_of (book ++ mark number ∷ []) ≡ clauses_of book
 marked_clauses book number = filter_map-append clause_of book (mark number ∷ []) ∙ append-nil (clauses_of book)
 
-pub marked_ready : (steps : CodedSteps) (code : CodedLog) (counter : CounterState) (vars : ℕ) (adopted : List Clause) (values number : ℕ) (book new : List BookEntry) → new ≡ book ++ mark number ∷ [] → AreReady steps code counter vars adopted values book →
-    AreReady steps code counter vars adopted values new
-marked_ready steps code counter vars adopted values number book new is ready = record {
-  parts = subst (AreParts steps code counter vars) (sym (ap axioms_of is ∙ marked_axioms book number)) ready.parts;
+pub marked_ready : {R : Type 0} (may : R → ℕ → Type 0) (gives : R → ℕ → ℕ → Type 0) (parts : Parts R) (number : ℕ) (book new : List BookEntry) → new ≡ book ++ mark number ∷ [] → AreReady may gives parts book → AreReady may gives parts new
+marked_ready may gives parts number book new is ready = record {
+  coded = subst (AreParts parts.step parts.code.code parts.counter parts.vars) (sym (ap axioms_of is ∙ marked_axioms book number)) ready.coded;
   adopted_all = ready.adopted_all ∙ sym (ap clauses_of is ∙ marked_clauses book number);
   enough = ready.enough;
+  ranked = ready.ranked;
+}
+
+-- ---- no more learnt clauses than the budget says
+
+pub grown_not : (budget : ℕ) (old : List BookEntry) → HasGrownWithin budget old old
+grown_not budget old = record { since = []; whole = sym (append-nil old); within = omega arith }
+
+pub grown_opened : (budget left : ℕ) (old opened searched : List BookEntry) → opened ≡ old ++ mark 0 ∷ [] → IsSearching opened searched budget left → HasGrownWithin budget old searched
+grown_opened budget left old opened searched begins searching = record {
+  since = mark 0 ∷ searching.since;
+  whole = searching.whole ∙ ap (λ b. b ++ searching.since) begins ∙ append_assoc old (mark 0 ∷ []) searching.since;
+  within = (let paid = searching.paid in let one = counted_more is_learnt (mark 0 ∷ []) searching.since in omega (arith, paid, one));
+}
+
+pub grown_closed : (budget : ℕ) (old searched new : List BookEntry) → new ≡ searched ++ mark 1 ∷ [] → HasGrownWithin budget old searched → HasGrownWithin budget old new
+grown_closed budget old searched new ends grown = record {
+  since = grown.since ++ mark 1 ∷ [];
+  whole = ends ∙ ap (λ b. b ++ mark 1 ∷ []) grown.whole ∙ append_assoc old grown.since (mark 1 ∷ []);
+  within = (let less = grown.within in let more = counted_more is_learnt grown.since (mark 1 ∷ []) in omega (arith, less, more));
 }
 
 -- a search between marks is an answer
 pub answered : (names : List (ℕ × Name)) (net : Net) (log : Log) (n budget : ℕ) (old opened searched new : List BookEntry) (answer : Found) → opened ≡ old ++ mark 0 ∷ [] → new ≡ searched ++ mark 1 ∷ [] →
-    HasFound names net log n budget opened searched answer → IsAnswered names net log n budget old new answer
-answered names net log n budget old opened searched new answer begins ends found = record {
+    ((assumed : List Lit) × IsPosed names (axioms_of searched) assumed net log n None) → HasFound names net log n budget opened searched answer → IsAnswered names net log n budget old new answer
+answered names net log n budget old opened searched new answer begins ends asks found = record {
   since = found.since;
   whole = ends ∙ ap (λ b. b ++ mark 1 ∷ []) (found.whole ∙ ap (λ b. b ++ found.since) begins ∙ append_assoc old (mark 0 ∷ []) found.since);
   unmarked = found.unmarked;
-  found = subst (λ axioms. IsFound names axioms found.since net log n budget answer) (sym (ap axioms_of ends ∙ marked_axioms searched 1)) found.found;
+  within = found.within;
+  asks = (asks.0, subst (λ axioms. IsPosed names axioms asks.0 net log n None) (sym (ap axioms_of ends ∙ marked_axioms searched 1)) asks.1);
+  found = subst (λ first. IsFound names first found.since net log n budget answer) (ap axioms_of begins ∙ marked_axioms old 0) found.found;
 }

@@ -12,7 +12,7 @@ use Rattle.least_faults.proofs.AxiomLists.{axioms_added, clauses_added}
 use Rattle.least_faults.proofs.Below.{axioms_below}
 use Rattle.least_faults.proofs.FewClauses.{AreFew, few_in_column}
 use Rattle.least_faults.specs.Growing.{KeepsColumns, AddsAxioms}
-use Rattle.least_faults.specs.Parts.{most_columns, AreParts, AreReady}
+use Rattle.least_faults.specs.Parts.{most_columns, AreParts}
 use Rattle.log_encode.specs.CodedLog.{CodedLog}
 use Rattle.proof_ledger.specs.Book.{BookEntry, axiomatic, clauses_of, axioms_of}
 use Rattle.prop_core.specs.Clauses.{Clause, HasValues}
@@ -22,20 +22,6 @@ use Rattle.run_decode.proofs.WholeNames.{together_grow}
 use Rattle.sat_prop.specs.Changes.{IsFront}
 use Rattle.std.proofs.lemmas.List.{map-append as map_append}
 use Rattle.step_encode.specs.Coded.{CodedSteps}
-
--- ---- axioms that are added to a book
-
-pub adds_none : (book : List BookEntry) → AddsAxioms book book
-adds_none book = record { axioms = []; more = sym (append-nil book) }
-
-pub adds_both : (old mid new : List BookEntry) → AddsAxioms old mid → AddsAxioms mid new → AddsAxioms old new
-adds_both old mid new first second = record {
-  axioms = first.axioms ++ second.axioms;
-  more =
-      second.more ∙ ap (λ (entries : List BookEntry). entries ++ map axiomatic second.axioms) first.more
-      ∙ append_assoc old (map axiomatic first.axioms) (map axiomatic second.axioms)
-      ∙ ap (λ (entries : List BookEntry). old ++ entries) (sym (map_append axiomatic first.axioms second.axioms));
-}
 
 -- ---- columns that are added to a counter
 
@@ -75,7 +61,8 @@ parts_grow steps code counter vars axioms parts some few =
 
 -- What a column leaves: its axioms stand behind those of the book, and a solver with enough variables and room can adopt them.
 pub record HasColumn (steps : CodedSteps) (code : CodedLog) (old new : CounterState) (vars : ℕ) (adopted : List Clause) (values : ℕ) (book entries : List BookEntry) : Type 0 where
-  pub ready : AreReady steps code new vars (clauses_of entries) values entries
+  pub parts : AreParts steps code new vars (axioms_of entries)
+  pub enough : vars ≤ values
   pub front : IsFront adopted (clauses_of entries)
   pub long : length (clauses_of entries) ≤ length adopted + 2 * length old.inputs
   pub known : AllByRecursion (HasValues values) (drop (length adopted) (clauses_of entries))
@@ -83,22 +70,19 @@ pub record HasColumn (steps : CodedSteps) (code : CodedLog) (old new : CounterSt
   pub kept : KeepsColumns old new
   pub columns : length new.columns ≡ length old.columns + 1
 
-column_here : (steps : CodedSteps) (code : CodedLog) (counter : CounterState) (vars : ℕ) (values before : ℕ) (book : List BookEntry) →
-    AreReady steps code counter vars (clauses_of book) before book → 0 < length counter.inputs → length counter.columns < most_columns → vars + length counter.inputs ≤ values →
+column_here : (steps : CodedSteps) (code : CodedLog) (counter : CounterState) (vars : ℕ) (values : ℕ) (book : List BookEntry) →
+    AreParts steps code counter vars (axioms_of book) → 0 < length counter.inputs → length counter.columns < most_columns → vars + length counter.inputs ≤ values →
     HasColumn steps code counter (with_column counter vars) (vars + length counter.inputs) (clauses_of book) values book (book ++ map axiomatic (next_clauses counter vars))
-column_here steps code counter vars values before book ready some few enough =
-    let grown = parts_grow steps code counter vars (axioms_of book) ready.parts some few in
+column_here steps code counter vars values book parts some few enough =
+    let grown = parts_grow steps code counter vars (axioms_of book) parts some few in
     let all = clauses_added book (next_clauses counter vars) in
     let below = (all_split (HasValues (vars + length counter.inputs)) (axioms_of book) (next_clauses counter vars) (axioms_below steps code (with_column counter vars) (vars + length counter.inputs) (axioms_of book ++ next_clauses counter vars) grown)).1 in
     let known = all_change (HasValues (vars + length counter.inputs)) (HasValues values) (next_clauses counter vars)
     (λ clause low. All-weaker (λ (l : Lit). l.var < vars + length counter.inputs) (λ (l : Lit). l.var < values) (λ l less. omega (arith, less, enough)) clause low) below in
     let few' = (few_in_column counter vars).few in
     record {
-      ready = record {
-        parts = subst (AreParts steps code (with_column counter vars) (vars + length counter.inputs)) (sym (axioms_added book (next_clauses counter vars))) grown;
-        adopted_all = refl;
-        enough = enough;
-      };
+      parts = subst (AreParts steps code (with_column counter vars) (vars + length counter.inputs)) (sym (axioms_added book (next_clauses counter vars))) grown;
+      enough = enough;
       front = ap (take (length (clauses_of book))) all ∙ take-append_seam (clauses_of book) (next_clauses counter vars);
       long = let whole = ap length all in omega (arith, whole, length-append (clauses_of book) (next_clauses counter vars), few');
       known = subst (AllByRecursion (HasValues values)) (sym (ap (drop (length (clauses_of book))) all ∙ drop-append_seam (clauses_of book) (next_clauses counter vars))) known;
@@ -107,15 +91,15 @@ column_here steps code counter vars values before book ready some few enough =
       columns = columns_then counter vars;
     }
 
-pub column_added : (steps : CodedSteps) (code : CodedLog) (old new : CounterState) (vars then : ℕ) (adopted kept : List Clause) (values before : ℕ) (book mid entries : List BookEntry) (clauses : List Clause) →
-    AreReady steps code old vars adopted before book → 0 < length old.inputs → length old.columns < most_columns → vars + length old.inputs ≤ values →
+pub column_added : (steps : CodedSteps) (code : CodedLog) (old new : CounterState) (vars then : ℕ) (adopted kept : List Clause) (values : ℕ) (book mid entries : List BookEntry) (clauses : List Clause) →
+    AreParts steps code old vars (axioms_of book) → adopted ≡ clauses_of book → 0 < length old.inputs → length old.columns < most_columns → vars + length old.inputs ≤ values →
     new ≡ with_column old vars → then ≡ vars + length old.inputs → kept ≡ adopted → mid ≡ book → clauses ≡ next_clauses old vars → entries ≡ mid ++ map axiomatic clauses →
     HasColumn steps code old new then kept values book entries
-column_added steps code old new vars then adopted kept values before book mid entries clauses ready some few enough grown count same book_same written pushed =
-    let own = column_here steps code old vars values before book (subst (λ (held : List Clause). AreReady steps code old vars held before book) ready.adopted_all ready) some few enough in
+column_added steps code old new vars then adopted kept values book mid entries clauses parts all some few enough grown count same book_same written pushed =
+    let own = column_here steps code old vars values book parts some few enough in
     let there : entries ≡ book ++ map axiomatic (next_clauses old vars) = pushed ∙ ap (λ (front : List BookEntry). front ++ map axiomatic clauses) book_same ∙ ap (λ (cs : List Clause). book ++ map axiomatic cs) written in
     subst (HasColumn steps code old new then kept values book) (sym there)
-    (subst (λ (held : List Clause). HasColumn steps code old new then held values book (book ++ map axiomatic (next_clauses old vars))) (sym (same ∙ ready.adopted_all))
+    (subst (λ (held : List Clause). HasColumn steps code old new then held values book (book ++ map axiomatic (next_clauses old vars))) (sym (same ∙ all))
     (subst (λ (n : ℕ). HasColumn steps code old new n (clauses_of book) values book (book ++ map axiomatic (next_clauses old vars))) (sym count)
     (subst (λ (counter : CounterState). HasColumn steps code old counter (vars + length old.inputs) (clauses_of book) values book (book ++ map axiomatic (next_clauses old vars))) (sym grown) own)))
 
@@ -130,10 +114,3 @@ few_written counter first none written empty is =
 -- a solver that was asked for them has the variables of the column
 pub more_values : (before values made vars count inputs : ℕ) → values ≡ max before (made + count) → made ≡ vars → count ≡ inputs → vars + inputs ≤ values
 more_values before values made vars count inputs grown same long = omega (arith, grown, same, long)
-
--- the parts stay ready where the solver gets further variables
-pub still_ready : (steps : CodedSteps) (code : CodedLog) (counter : CounterState) (vars : ℕ) (adopted kept : List Clause) (values more : ℕ) (book entries : List BookEntry) →
-    AreReady steps code counter vars adopted values book → kept ≡ adopted → values ≤ more → entries ≡ book → AreReady steps code counter vars kept more entries
-still_ready steps code counter vars adopted kept values more book entries ready same grown book_same =
-    let enough = ready.enough in
-    subst (AreReady steps code counter vars kept more) (sym book_same) (record { parts = ready.parts; adopted_all = same ∙ ready.adopted_all; enough = omega (arith, enough, grown) })

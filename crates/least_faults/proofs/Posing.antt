@@ -4,10 +4,10 @@ use Rattle.card_counter.specs.CounterState.{CounterState}
 use Rattle.des_base.proofs.Elements.{all_from as all_of}
 use Rattle.least_faults.specs.Asking.{AreAssumptions, Pose, bound_part}
 use Rattle.least_faults.specs.Evidence.{IsPosed}
-use Rattle.least_faults.specs.Parts.{AreParts}
+use Rattle.least_faults.specs.Parts.{AreParts, AreReady, BelongTo, names_of}
 use Rattle.des_net.specs.Network.{Net, IsNetwork}
 use Rattle.log_clauses.proofs.Lists.{all_at}
-use Rattle.log_encode.specs.CodedLog.{CodedLog}
+use Rattle.log_encode.specs.CodedLog.{CodedLog, read_names}
 use Rattle.log_order.specs.Log.{Log, IsValidLog}
 use Rattle.prop_core.specs.Clauses.{Clause}
 use Rattle.prop_core.specs.VariableNames.{Name, NamedLiteral, ReadsAs}
@@ -19,6 +19,9 @@ use Rattle.run_decode.specs.Drawn.{IsInstance}
 use Rattle.run_decode.specs.Question.{Asks, IsNamedQuestion}
 use Rattle.run_decode.specs.WholeNaming.{whole_names, AskTogether}
 use Rattle.step_encode.specs.Coded.{CodedSteps}
+use Rattle.least_faults.specs.declared.parts.Parts.{Parts}
+use Rattle.log_clauses.specs.LogClauses.{guard_literals}
+use Rattle.proof_ledger.specs.Book.{BookEntry, axioms_of}
 
 -- what asks a question poses it by the same names
 asks_poses : (net : Net) (log : Log) (n : ℕ) (bound : Option ℕ) (names : List (ℕ × Name)) (clauses : List Clause) (assumed : List Lit) →
@@ -50,3 +53,11 @@ poses steps code counter vars axioms bound assumed parts assumptions log network
     asks_poses steps.net log steps.steps bound (whole_names steps code counter) axioms assumed network valid
     (((alarm_names_dont_matter steps.net log steps.steps).asks bound (whole_names steps code counter) axioms assumed).1
     (subst (λ l. Asks steps.net l steps.steps bound (whole_names steps code counter) axioms assumed) same (parts_ask steps code counter vars axioms bound assumed parts assumptions)))
+
+-- with its guards the parts ask a question without a bound
+pub unbounded : {R : Type 0} (may : R → ℕ → Type 0) (gives : R → ℕ → ℕ → Type 0) (parts : Parts R) (book : List BookEntry) (net : Net) (log : Log) (guards : List Lit) → AreReady may gives parts book → BelongTo net log parts → IsNetwork net → IsValidLog log →
+    ReadsAs (read_names parts.code.code) guards (guard_literals parts.code.code.net parts.code.code.log) → IsPosed (names_of parts) (axioms_of book) guards net log parts.step.steps None
+unbounded may gives parts book net log guards ready belong network valid read =
+    subst (λ net'. IsPosed (names_of parts) (axioms_of book) guards net' log parts.step.steps None) belong.of_steps
+    (poses parts.step parts.code.code parts.counter parts.vars (axioms_of book) None guards ready.coded (record { guards = guards; read = read; whole = sym (append-nil guards); column = tt })
+    log (subst IsNetwork (sym belong.of_steps) network) valid belong.same_log)

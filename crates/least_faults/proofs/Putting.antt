@@ -1,16 +1,19 @@
 -- What a question puts into a book: no marks, so many learnt entries, and at most one final one.
-use Rattle.std.proofs.Common.{◌≡◌, ◌∙◌, ℕ, ◌+◌, Bool, true, false, cond, ◌||◌, ◌⊎◌, inl, inr, List, [], ◌∷◌, ◌++◌, map, refl, sym, ap, subst, Contains, count_by, append-nil, append_assoc}
+use Rattle.std.proofs.Common.{◌≡◌, ◌∙◌, ℕ, ◌+◌, Bool, true, false, cond, ◌||◌, ◌⊎◌, inl, inr, List, [], ◌∷◌, ◌++◌, map, refl, sym, ap, subst, Contains, count_by, append-nil, append_assoc, Option}
 use Rattle.std.proofs.lemmas.List.Elements.{filter_map-append, Contains-append_cases as append_cases}
 use Rattle.std.proofs.lemmas.List.Folds.{list_any-append}
 use Rattle.std.proofs.lemmas.List.Sums.{sum_by-append}
 use Rattle.std.specs.List.{list_any, list_all}
 use Rattle.des_base.proofs.Elements.{cons_cases, none_in_nil}
-use Rattle.least_faults.specs.Evidence.{is_final, HasLastFinal}
+use Rattle.least_faults.specs.Evidence.{is_final, IsRefutation}
 use Rattle.proof_ledger.specs.Book.{BookEntry, axiomatic, learnt, final, mark, clause_of, axiom_of, axioms_of, is_mark}
 use Rattle.proof_ledger.specs.Fresh.{is_learnt}
 use Rattle.prop_core.specs.Clauses.{Clause}
 use Rattle.prop_core.specs.declared.lit.Lit.{Lit}
 use Rattle.sat_solve.specs.Searching.{is_derived, IsClosedByFinal}
+use Rattle.des_net.specs.Network.{Net}
+use Rattle.log_order.specs.Log.{Log}
+use Rattle.run_decode.specs.Faithful.{IsFaithful}
 
 pub counted_more : {X : Type 0} (p : X → Bool) (xs ys : List X) → count_by p (xs ++ ys) ≡ count_by p xs + count_by p ys
 counted_more p xs ys = sum_by-append (λ x. cond (p x) 1 0) xs ys
@@ -48,6 +51,23 @@ derived_no_axioms (mark k ∷ since) h = cc
 pub same_axioms : (old since : List BookEntry) → list_all is_derived since ≡ true → axioms_of (old ++ since) ≡ axioms_of old
 same_axioms old since h = filter_map-append axiom_of old since ∙ ap (λ more. axioms_of old ++ more) (derived_no_axioms since h) ∙ append-nil (axioms_of old)
 
+pub learnt_no_axioms : (since : List BookEntry) → list_all is_learnt since ≡ true → axioms_of since ≡ []
+learnt_no_axioms [] h = refl
+learnt_no_axioms (axiomatic c ∷ since) h = cc
+learnt_no_axioms (learnt c hints ∷ since) h = learnt_no_axioms since h
+learnt_no_axioms (final c hints ∷ since) h = cc
+learnt_no_axioms (mark k ∷ since) h = cc
+
+-- the axioms before an entry, those of an earlier book and those since
+pub axioms_further : (first mid front earlier : List BookEntry) → mid ≡ first ++ front → axioms_of mid ++ axioms_of earlier ≡ axioms_of first ++ axioms_of (front ++ earlier)
+axioms_further first mid front earlier whole =
+    ap (λ cs. cs ++ axioms_of earlier) (ap axioms_of whole ∙ filter_map-append axiom_of first front)
+    ∙ append_assoc (axioms_of first) (axioms_of front) (axioms_of earlier)
+    ∙ ap (λ cs. axioms_of first ++ cs) (sym (filter_map-append axiom_of front earlier))
+
+pub axioms_with_learnt : (first mid front learnt' : List BookEntry) → mid ≡ first ++ front → list_all is_learnt learnt' ≡ true → axioms_of first ++ axioms_of (front ++ learnt') ≡ axioms_of mid
+axioms_with_learnt first mid front learnt' whole all_learnt = sym (axioms_further first mid front learnt' whole) ∙ ap (λ cs. axioms_of mid ++ cs) (learnt_no_axioms learnt' all_learnt) ∙ append-nil (axioms_of mid)
+
 pub learnt_no_final : (since : List BookEntry) → list_all is_learnt since ≡ true → list_any is_final since ≡ false
 learnt_no_final [] h = refl
 learnt_no_final (axiomatic c ∷ since) h = cc
@@ -75,26 +95,34 @@ none_joined front since h k = list_any-append is_final front since ∙ ap (λ b.
 
 -- ---- the last final entry
 
-pub last_later : (since more : List BookEntry) (assumed : List Lit) → list_any is_final more ≡ false → HasLastFinal since assumed → HasLastFinal (since ++ more) assumed
-last_later since more assumed none last = record {
-  earlier = last.earlier;
-  clause = last.clause;
-  hints = last.hints;
-  later = last.later ++ more;
-  whole = ap (λ xs. xs ++ more) last.whole ∙ append_assoc last.earlier (final last.clause last.hints ∷ last.later) more;
-  last = none_joined last.later more last.last none;
-  negates = last.negates;
+pub last_later : (first : List Clause) (since more : List BookEntry) (net : Net) (log : Log) (n : ℕ) (bound : Option ℕ) (assumed : List Lit) → list_any is_final more ≡ false → IsRefutation first since net log n bound assumed →
+    IsRefutation first (since ++ more) net log n bound assumed
+last_later first since more net log n bound assumed none last = record {
+  refuted = record {
+    earlier = last.refuted.earlier;
+    clause = last.refuted.clause;
+    hints = last.refuted.hints;
+    later = last.refuted.later ++ more;
+    whole = ap (λ xs. xs ++ more) last.refuted.whole ∙ append_assoc last.refuted.earlier (final last.refuted.clause last.refuted.hints ∷ last.refuted.later) more;
+    last = none_joined last.refuted.later more last.refuted.last none;
+    negates = last.refuted.negates;
+  };
+  faithful = last.faithful;
 }
 
-pub last_earlier : (front since : List BookEntry) (assumed : List Lit) → HasLastFinal since assumed → HasLastFinal (front ++ since) assumed
-last_earlier front since assumed last = record {
-  earlier = front ++ last.earlier;
-  clause = last.clause;
-  hints = last.hints;
-  later = last.later;
-  whole = ap (λ xs. front ++ xs) last.whole ∙ sym (append_assoc front last.earlier (final last.clause last.hints ∷ last.later));
-  last = last.last;
-  negates = last.negates;
+pub last_earlier : (first mid front since : List BookEntry) (net : Net) (log : Log) (n : ℕ) (bound : Option ℕ) (assumed : List Lit) → mid ≡ first ++ front → IsRefutation (axioms_of mid) since net log n bound assumed →
+    IsRefutation (axioms_of first) (front ++ since) net log n bound assumed
+last_earlier first mid front since net log n bound assumed begun last = record {
+  refuted = record {
+    earlier = front ++ last.refuted.earlier;
+    clause = last.refuted.clause;
+    hints = last.refuted.hints;
+    later = last.refuted.later;
+    whole = ap (λ xs. front ++ xs) last.refuted.whole ∙ sym (append_assoc front last.refuted.earlier (final last.refuted.clause last.refuted.hints ∷ last.refuted.later));
+    last = last.refuted.last;
+    negates = last.refuted.negates;
+  };
+  faithful = subst (λ axioms. IsFaithful axioms assumed net log n bound) (axioms_further first mid front last.refuted.earlier begun) last.faithful;
 }
 
 final_is : (c d : Clause) (hs gs : List ℕ) → final c hs ≡ final d gs → c ≡ d

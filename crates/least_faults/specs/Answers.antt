@@ -5,7 +5,7 @@ use Rattle.des_net.specs.Network.{Net}
 use Rattle.least_faults.specs.declared.answer.Best.{Best}
 use Rattle.least_faults.specs.declared.answer.Found.{Found}
 use Rattle.least_faults.specs.declared.answer.Found.TheVariants.{Explained, Absent, Many, Undecided}
-use Rattle.least_faults.specs.Evidence.{HasFinal, IsEvidence}
+use Rattle.least_faults.specs.Evidence.{HasFinal, IsEvidence, IsPosed}
 use Rattle.log_order.specs.Log.{Log}
 use Rattle.proof_ledger.specs.Book.{BookEntry, mark, axioms_of, is_mark}
 use Rattle.proof_ledger.specs.Fresh.{is_learnt}
@@ -18,9 +18,9 @@ use Rattle.replay.specs.Traced.{word_of, step_faults}
 use Rattle.replay.specs.declared.run.RunStep.{RunStep}
 use Rattle.run_decode.specs.Drawn.{assumption_literals}
 
--- the step is a fault: a fault event, or a false alarm
-abbrev pub is_fault_step : Net → RunStep → Bool
-is_fault_step net step = step_faults net step || not (is_real step)
+-- the entry of a run is a fault: a fault event, or a false alarm
+abbrev pub is_fault_entry : Net → RunStep → Bool
+is_fault_entry net entry = step_faults net entry || not (is_real entry)
 
 -- a run that explains the log, and the number of its faults
 pub record IsExplanation (net : Net) (log : Log) (n : ℕ) (best : Best) : Type 0 where
@@ -28,45 +28,47 @@ pub record IsExplanation (net : Net) (log : Log) (n : ℕ) (best : Best) : Type 
   pub explains : Explains net log n (word_of best.run) (order_of log best.run)
   pub faults : faults_of net (word_of best.run) (order_of log best.run) ≡ best.faults
 
--- ---- the answers, with what the entries since the question was opened show
+-- ---- the answers, with what the entries since the question was opened show, where these axioms stood first
 
 -- no explanation has fewer faults, which the book shows
-pub record IsLeastFound (names : List (ℕ × Name)) (axioms : List Clause) (since : List BookEntry) (net : Net) (log : Log) (n : ℕ) (best : Best) : Type 0 where
+pub record IsLeastFound (names : List (ℕ × Name)) (first : List Clause) (since : List BookEntry) (net : Net) (log : Log) (n : ℕ) (best : Best) : Type 0 where
   pub given : IsExplanation net log n best
   pub few : best.faults ≤ 255
   pub least : IsLeast net log n best.faults
-  pub evidence : (b : ℕ) → best.faults ≡ suc b → IsEvidence names axioms since net log n (Some b)
+  pub evidence : (b : ℕ) → best.faults ≡ suc b → IsEvidence names first since net log n (Some b)
 
 -- nothing explains the log
-pub record IsAbsentFound (names : List (ℕ × Name)) (axioms : List Clause) (since : List BookEntry) (net : Net) (log : Log) (n : ℕ) : Type 0 where
+pub record IsAbsentFound (names : List (ℕ × Name)) (first : List Clause) (since : List BookEntry) (net : Net) (log : Log) (n : ℕ) : Type 0 where
   pub absent : IsAbsent net log n
-  pub evidence : IsEvidence names axioms since net log n None
+  pub evidence : IsEvidence names first since net log n None
 
 -- all that explains the log has more than 255 faults
-pub record IsManyFound (names : List (ℕ × Name)) (axioms : List Clause) (since : List BookEntry) (net : Net) (log : Log) (n : ℕ) (best : Best) : Type 0 where
+pub record IsManyFound (names : List (ℕ × Name)) (first : List Clause) (since : List BookEntry) (net : Net) (log : Log) (n : ℕ) (best : Best) : Type 0 where
   pub given : IsExplanation net log n best
   pub above : 255 < best.faults
   pub many : IsMany net log n
-  pub evidence : IsEvidence names axioms since net log n (Some 255)
+  pub evidence : IsEvidence names first since net log n (Some 255)
 
 -- The budget was spent on learnt entries. All explanations have at least lo faults, and lo is one more than the greatest bound that a final entry refutes, or 0; an explanation that is known has more. Where none is known, nothing but learnt entries was put.
-pub record IsUndecidedFound (names : List (ℕ × Name)) (axioms : List Clause) (since : List BookEntry) (net : Net) (log : Log) (n budget lo : ℕ) (best : Option Best) : Type 0 where
+pub record IsUndecidedFound (names : List (ℕ × Name)) (first : List Clause) (since : List BookEntry) (net : Net) (log : Log) (n budget lo : ℕ) (best : Option Best) : Type 0 where
   pub spent : count_by is_learnt since ≡ budget
   pub above : NeedsFaults net log n lo
-  pub evidence : (b : ℕ) → lo ≡ suc b → IsEvidence names axioms since net log n (Some b)
+  pub evidence : (b : ℕ) → lo ≡ suc b → IsEvidence names first since net log n (Some b)
   pub greatest : (b : ℕ) (assumed : List Lit) → ReadsAs names assumed (assumption_literals net log n (Some b)) → HasFinal since assumed → b < lo
   pub given : IfSome best (λ run. IsExplanation net log n run × (lo < run.faults))
   pub unknown : IfNone best ((lo ≡ 0) × (list_all is_learnt since ≡ true))
 
 abbrev pub IsFound : List (ℕ × Name) → List Clause → List BookEntry → Net → Log → ℕ → ℕ → Found → Type 0
-IsFound names axioms since net log n budget (Explained best) = IsLeastFound names axioms since net log n best
-IsFound names axioms since net log n budget Absent = IsAbsentFound names axioms since net log n
-IsFound names axioms since net log n budget (Many best) = IsManyFound names axioms since net log n best
-IsFound names axioms since net log n budget (Undecided lo best) = IsUndecidedFound names axioms since net log n budget lo best
+IsFound names first since net log n budget (Explained best) = IsLeastFound names first since net log n best
+IsFound names first since net log n budget Absent = IsAbsentFound names first since net log n
+IsFound names first since net log n budget (Many best) = IsManyFound names first since net log n best
+IsFound names first since net log n budget (Undecided lo best) = IsUndecidedFound names first since net log n budget lo best
 
--- The question was opened by a mark 0 and closed by a mark 1, and the entries between show what was found.
+-- The question was opened by a mark 0 and closed by a mark 1, and the entries between show what was found. At most as many clauses as the budget says were learnt. The axioms of the whole book pose the question without a bound, by these names and under some assumptions.
 pub record IsAnswered (names : List (ℕ × Name)) (net : Net) (log : Log) (n budget : ℕ) (old new : List BookEntry) (answer : Found) : Type 0 where
   pub since : List BookEntry
   pub whole : new ≡ old ++ mark 0 ∷ since ++ mark 1 ∷ []
   pub unmarked : (number : ℕ) → count_by (is_mark number) since ≡ 0
-  pub found : IsFound names (axioms_of new) since net log n budget answer
+  pub within : count_by is_learnt since ≤ budget
+  pub asks : (assumed : List Lit) × IsPosed names (axioms_of new) assumed net log n None
+  pub found : IsFound names (axioms_of old) since net log n budget answer

@@ -1,11 +1,12 @@
 -- A search upwards from 0: what it has found of a log when it comes to a bound, and what it finds.
-use Rattle.std.specs.Prelude.{◌≡◌, ℕ, suc, ◌+◌, ◌<◌, List, ◌++◌, Some, Contains, count_by}
+use Rattle.std.specs.Prelude.{◌≡◌, ℕ, suc, ◌+◌, ◌<◌, ◌≤◌, List, ◌++◌, Some, Contains, count_by}
 use Rattle.card_counter.specs.CounterState.{CounterState}
 use Rattle.des_net.specs.Network.{Net}
 use Rattle.least_faults.specs.declared.answer.Found.{Found}
+use Rattle.least_faults.specs.declared.parts.Parts.{Parts}
 use Rattle.least_faults.specs.Answers.{IsFound}
 use Rattle.least_faults.specs.Asking.{AreAssumptions}
-use Rattle.least_faults.specs.Evidence.{HasLastFinal}
+use Rattle.least_faults.specs.Evidence.{IsRefutation}
 use Rattle.log_encode.specs.CodedLog.{CodedLog}
 use Rattle.log_order.specs.Log.{Log}
 use Rattle.proof_ledger.specs.Book.{BookEntry, final, axioms_of, is_mark}
@@ -22,24 +23,29 @@ FinalsAreBelow code counter k since = (clause : Clause) (hints : List ℕ) → C
     (j : ℕ) × (j < k) × (assumed : List Lit) × AreAssumptions code counter (Some j) assumed × NegatesOnly assumed clause
 
 -- the bound before is refuted, by the last final entry
-pub record IsRefutedBelow (code : CodedLog) (counter : CounterState) (k : ℕ) (since : List BookEntry) : Type 0 where
+pub record IsRefutedBelow (code : CodedLog) (counter : CounterState) (net : Net) (log : Log) (n k : ℕ) (first : List Clause) (since : List BookEntry) : Type 0 where
   pub assumed : List Lit
   pub assumptions : AreAssumptions code counter (Some k) assumed
-  pub refuted : HasLastFinal since assumed
+  pub refuted : IsRefutation first since net log n (Some k) assumed
 
 -- The bounds below k are refuted, by entries since then.
-pub record HasComeTo (code : CodedLog) (counter : CounterState) (net : Net) (log : Log) (n k : ℕ) (old new : List BookEntry) (left_old left_new : ℕ) : Type 0 where
+pub record HasComeToBy (code : CodedLog) (counter : CounterState) (net : Net) (log : Log) (n k : ℕ) (old new : List BookEntry) (budget_old budget_new : ℕ) : Type 0 where
   pub since : List BookEntry
   pub whole : new ≡ old ++ since
   pub unmarked : (number : ℕ) → count_by (is_mark number) since ≡ 0
-  pub paid : count_by is_learnt since + left_new ≡ left_old
+  pub paid : count_by is_learnt since + budget_new ≡ budget_old
   pub finals : FinalsAreBelow code counter k since
-  pub below : (j : ℕ) → k ≡ suc j → IsRefutedBelow code counter j since
+  pub below : (j : ℕ) → k ≡ suc j → IsRefutedBelow code counter net log n j (axioms_of old) since
   pub needs : NeedsFaults net log n k
 
--- The entries that were put show what was found, and so many learnt ones were paid for.
+-- the same of the parts of a question
+abbrev pub HasComeTo : {R : Type 0} → Parts R → Net → Log → ℕ → List BookEntry → List BookEntry → ℕ → ℕ → Type 0
+HasComeTo parts net log k old new budget_old budget_new = HasComeToBy parts.code.code parts.counter net log parts.step.steps k old new budget_old budget_new
+
+-- The entries that were put show what was found, and no more clauses were learnt than the budget says.
 pub record HasFound (names : List (ℕ × Name)) (net : Net) (log : Log) (n budget : ℕ) (old new : List BookEntry) (answer : Found) : Type 0 where
   pub since : List BookEntry
   pub whole : new ≡ old ++ since
   pub unmarked : (number : ℕ) → count_by (is_mark number) since ≡ 0
-  pub found : IsFound names (axioms_of new) since net log n budget answer
+  pub within : count_by is_learnt since ≤ budget
+  pub found : IsFound names (axioms_of old) since net log n budget answer

@@ -1,17 +1,18 @@
 -- One question of a search: what it assumes, what it leaves in the book, and what its answer means.
-use Rattle.std.specs.Prelude.{◌≡◌, ◌≢◌, ℕ, ◌+◌, ◌<◌, true, false, List, [], ◌∷◌, ◌++◌, length, Option, Some, None, IfSome, IfNone, Contains, count_by}
+use Rattle.std.specs.Prelude.{◌≡◌, ◌≢◌, ℕ, ◌+◌, ◌<◌, ◌≤◌, true, false, List, [], ◌∷◌, ◌++◌, length, max, Option, Some, None, IfSome, IfNone, Contains, count_by}
 use Rattle.std.specs.List.{list_all, list_any}
 use Rattle.card_counter.specs.CounterState.{CounterState, bound_literal}
 use Rattle.des_net.specs.Network.{Net, IsNetwork}
 use Rattle.least_faults.specs.declared.answer.Best.{Best}
 use Rattle.least_faults.specs.declared.asking.Asked.{Asked}
 use Rattle.least_faults.specs.declared.asking.Asked.TheVariants.{Explained, Refuted, Spent}
+use Rattle.least_faults.specs.declared.parts.Parts.{Parts}
 use Rattle.least_faults.specs.Answers.{IsExplanation}
-use Rattle.least_faults.specs.Evidence.{IsPosed, is_final, HasLastFinal}
+use Rattle.least_faults.specs.Evidence.{IsPosed, is_final, IsRefutation}
 use Rattle.log_clauses.specs.LogClauses.{guard_literals}
 use Rattle.log_encode.specs.CodedLog.{CodedLog, read_names, without_names}
 use Rattle.log_order.specs.Log.{Log, IsValidLog}
-use Rattle.proof_ledger.specs.Book.{BookEntry, final, is_mark}
+use Rattle.proof_ledger.specs.Book.{BookEntry, final, axioms_of, is_mark}
 use Rattle.proof_ledger.specs.Fresh.{is_learnt}
 use Rattle.prop_core.specs.Clauses.{Clause}
 use Rattle.prop_core.specs.VariableNames.{ReadsAs}
@@ -34,19 +35,31 @@ pub record AreAssumptions (code : CodedLog) (counter : CounterState) (bound : Op
   pub whole : assumed ≡ guards ++ bound_part counter bound
   pub column : IfSome bound (λ k. k < length counter.columns)
 
+-- at most k faults can be asked for: there is something to count, and the bound is one of the columns that a counter may have
+pub record IsBoundable (counter : CounterState) (k : ℕ) : Type 0 where
+  pub some : 0 < length counter.inputs
+  pub few : k ≤ 255
+
 -- Together with the axioms they ask which explanations there are within the bound, whatever the names of the log's alarms.
 abbrev pub Pose : CodedSteps → CodedLog → CounterState → List Clause → Option ℕ → List Lit → Type 0
 Pose steps code counter axioms bound assumed = (log : Log) → IsNetwork steps.net → IsValidLog log → code.log ≡ without_names log →
     IsPosed (whole_names steps code counter) axioms assumed steps.net log steps.steps bound
 
+-- The counter has a column for the bound, and keeps those that it had. The literal is the counter's for it, and together with the guards it poses the question within the bound.
+pub record IsBoundLiteral {R : Type 0} (before : CounterState) (parts : Parts R) (axioms : List Clause) (k : ℕ) (literal : Lit) : Type 0 where
+  pub columns : length parts.counter.columns ≡ max (length before.columns) (k + 1)
+  pub literal_is : literal ≡ bound_literal parts.counter k
+  pub posed : (guards : List Lit) → ReadsAs (read_names parts.code.code) guards (guard_literals parts.code.code.net parts.code.code.log) →
+      Pose parts.step parts.code.code parts.counter axioms (Some k) (guards ++ literal ∷ [])
+
 -- ---- what is put down
 
 -- no marks were put, and as many learnt entries as were paid for
-pub record IsSearching (old new : List BookEntry) (left_old left_new : ℕ) : Type 0 where
+pub record IsSearching (old new : List BookEntry) (budget_old budget_new : ℕ) : Type 0 where
   pub since : List BookEntry
   pub whole : new ≡ old ++ since
   pub unmarked : (number : ℕ) → count_by (is_mark number) since ≡ 0
-  pub paid : count_by is_learnt since + left_new ≡ left_old
+  pub paid : count_by is_learnt since + budget_new ≡ budget_old
 
 -- Each final entry negates assumptions with the bound alone, and there is none where nothing is refuted. Without a bound learnt entries alone are put then.
 pub record ArePut (code : CodedLog) (counter : CounterState) (bound : Option ℕ) (since : List BookEntry) (asked : Asked) : Type 0 where
@@ -57,10 +70,10 @@ pub record ArePut (code : CodedLog) (counter : CounterState) (bound : Option ℕ
 -- ---- what was answered
 
 -- the last final entry refutes the question, which decides it
-pub record IsRefusal (code : CodedLog) (counter : CounterState) (net : Net) (log : Log) (n : ℕ) (bound : Option ℕ) (since : List BookEntry) : Type 0 where
+pub record IsRefusal (code : CodedLog) (counter : CounterState) (net : Net) (log : Log) (n : ℕ) (bound : Option ℕ) (first : List Clause) (since : List BookEntry) : Type 0 where
   pub assumed : List Lit
   pub assumptions : AreAssumptions code counter bound assumed
-  pub refuted : HasLastFinal since assumed
+  pub refuted : IsRefutation first since net log n bound assumed
   pub decided : Decides net log n bound
 
 -- an explanation within the bound, whose faults are inputs of the counter
@@ -69,16 +82,20 @@ pub record IsWitness (counter : CounterState) (net : Net) (log : Log) (n : ℕ) 
   pub within : IsWithin bound best.faults
   pub counted : 0 < best.faults → 0 < length counter.inputs
 
-abbrev pub Means : CodedLog → CounterState → Net → Log → ℕ → Option ℕ → List BookEntry → ℕ → Asked → Type 0
-Means code counter net log n bound since left (Explained best) = IsWitness counter net log n bound best
-Means code counter net log n bound since left Refuted = IsRefusal code counter net log n bound since
-Means code counter net log n bound since left Spent = left ≡ 0
+abbrev pub Means : CodedLog → CounterState → Net → Log → ℕ → Option ℕ → List Clause → List BookEntry → ℕ → Asked → Type 0
+Means code counter net log n bound first since budget (Explained best) = IsWitness counter net log n bound best
+Means code counter net log n bound first since budget Refuted = IsRefusal code counter net log n bound first since
+Means code counter net log n bound first since budget Spent = budget ≡ 0
 
 -- all of it
-pub record HasAsked (code : CodedLog) (counter : CounterState) (net : Net) (log : Log) (n : ℕ) (bound : Option ℕ) (old new : List BookEntry) (left_old left_new : ℕ) (asked : Asked) : Type 0 where
+pub record HasAskedBy (code : CodedLog) (counter : CounterState) (net : Net) (log : Log) (n : ℕ) (bound : Option ℕ) (old new : List BookEntry) (budget_old budget_new : ℕ) (asked : Asked) : Type 0 where
   pub since : List BookEntry
   pub whole : new ≡ old ++ since
   pub unmarked : (number : ℕ) → count_by (is_mark number) since ≡ 0
-  pub paid : count_by is_learnt since + left_new ≡ left_old
+  pub paid : count_by is_learnt since + budget_new ≡ budget_old
   pub put : ArePut code counter bound since asked
-  pub means : Means code counter net log n bound since left_new asked
+  pub means : Means code counter net log n bound (axioms_of old) since budget_new asked
+
+-- all of it, of the parts of a question
+abbrev pub HasAsked : {R : Type 0} → Parts R → Net → Log → Option ℕ → List BookEntry → List BookEntry → ℕ → ℕ → Asked → Type 0
+HasAsked parts net log bound old new budget_old budget_new asked = HasAskedBy parts.code.code parts.counter net log parts.step.steps bound old new budget_old budget_new asked

@@ -3,7 +3,7 @@ use Rattle.std.specs.Prelude.{◌≡◌, ℕ, Bool, true, false, List, ◌∷◌
 use Rattle.std.specs.List.{AllByRecursion, list_any}
 use Rattle.des_net.specs.Network.{Net}
 use Rattle.log_order.specs.Log.{Log}
-use Rattle.proof_ledger.specs.Book.{BookEntry, axiomatic, learnt, final, mark}
+use Rattle.proof_ledger.specs.Book.{BookEntry, axiomatic, learnt, final, mark, axioms_of}
 use Rattle.prop_core.specs.Clauses.{Clause}
 use Rattle.prop_core.specs.VariableNames.{Name, HasEachOnce, ReadsAs}
 use Rattle.prop_core.specs.declared.lit.Lit.{Lit}
@@ -41,8 +41,14 @@ pub record HasLastFinal (entries : List BookEntry) (assumed : List Lit) : Type 0
   pub last : list_any is_final later ≡ false
   pub negates : NegatesOnly assumed clause
 
--- The last of these final entries refutes the question within the bound, which the axioms pose.
-pub record IsEvidence (names : List (ℕ × Name)) (axioms : List Clause) (entries : List BookEntry) (net : Net) (log : Log) (n : ℕ) (bound : Option ℕ) : Type 0 where
-  pub assumed : List Lit
-  pub posed : IsPosed names axioms assumed net log n bound
+-- The last of these final entries has, and with the axioms before it, the first ones and those of these entries, what is assumed is faithful to the question within the bound.
+pub record IsRefutation (first : List Clause) (entries : List BookEntry) (net : Net) (log : Log) (n : ℕ) (bound : Option ℕ) (assumed : List Lit) : Type 0 where
   pub refuted : HasLastFinal entries assumed
+  pub faithful : IsFaithful (first ++ axioms_of refuted.earlier) assumed net log n bound
+
+-- The last of these final entries refutes the question within the bound. The axioms before it pose that question: those that the book had first, and those of these entries. So do all.
+pub record IsEvidence (names : List (ℕ × Name)) (first : List Clause) (entries : List BookEntry) (net : Net) (log : Log) (n : ℕ) (bound : Option ℕ) : Type 0 where
+  pub assumed : List Lit
+  pub refuted : HasLastFinal entries assumed
+  pub posed_before : IsPosed names (first ++ axioms_of refuted.earlier) assumed net log n bound
+  pub posed : IsPosed names (first ++ axioms_of entries) assumed net log n bound

@@ -1,7 +1,9 @@
--- How a counter and its book grow together.
-use Rattle.std.specs.Prelude.{◌≡◌, ℕ, List, ◌++◌, map}
+-- How a question and its book grow together.
+use Rattle.std.specs.Prelude.{◌≡◌, ◌≤◌, ℕ, List, ◌++◌, map, count_by}
 use Rattle.card_counter.specs.CounterState.{CounterState}
+use Rattle.least_faults.specs.declared.parts.Parts.{Parts}
 use Rattle.proof_ledger.specs.Book.{BookEntry, axiomatic}
+use Rattle.proof_ledger.specs.Fresh.{is_learnt}
 use Rattle.prop_core.specs.Clauses.{Clause}
 
 -- the counter has the same inputs, and perhaps further columns
@@ -10,12 +12,25 @@ pub record KeepsColumns (old new : CounterState) : Type 0 where
   pub columns : List (List ℕ)
   pub more : new.columns ≡ old.columns ++ columns
 
+-- The question stays: the code of its steps and of its log, and what ranks its variables. The counter perhaps has further columns.
+pub record KeepsQuestion {R : Type 0} (old new : Parts R) : Type 0 where
+  pub step : new.step ≡ old.step
+  pub code : new.code ≡ old.code
+  pub counter : KeepsColumns old.counter new.counter
+  pub rank : new.solver.order.rank ≡ old.solver.order.rank
+
 -- the book got axioms, and nothing else
 pub record AddsAxioms (old new : List BookEntry) : Type 0 where
   pub axioms : List Clause
   pub more : new ≡ old ++ map axiomatic axioms
 
--- the book got further entries
-pub record HasGrown (old new : List BookEntry) : Type 0 where
+-- the book got further entries, and no more of them are learnt clauses than the budget says
+pub record HasGrownWithin (budget : ℕ) (old new : List BookEntry) : Type 0 where
   pub since : List BookEntry
   pub whole : new ≡ old ++ since
+  pub within : count_by is_learnt since ≤ budget
+
+-- counter and book are as before
+pub record StandsStill (old new : CounterState) (old_book new_book : List BookEntry) : Type 0 where
+  pub counter : new ≡ old
+  pub book : new_book ≡ old_book

@@ -1,7 +1,9 @@
 pub mod LogVariables
+pub mod LogCoding
 pub mod Parts
 pub mod Growing
 pub mod Evidence
 pub mod Answers
 pub mod Asking
 pub mod Ascending
+pub mod Building

@@ -2,15 +2,27 @@
 use Rattle.std.specs.Prelude.{◌≡◌, ℕ, ◌+◌, ◌-◌, ◌*◌, ◌≤◌, List, length}
 use Rattle.card_counter.specs.CounterState.{CounterState, IsMade}
 use Rattle.des_base.specs.declared.TheConstants.{VAR_LIMIT}
+use Rattle.des_net.specs.Network.{Net}
+use Rattle.least_faults.specs.declared.parts.Parts.{Parts}
 use Rattle.log_encode.specs.CodedLog.{CodedLog}
+use Rattle.log_order.specs.Log.{Log}
 use Rattle.proof_ledger.specs.Book.{BookEntry, axioms_of, clauses_of}
 use Rattle.prop_core.specs.Clauses.{Clause}
-use Rattle.run_decode.specs.WholeNaming.{AreCodedTogether, AreClausesOf}
+use Rattle.prop_core.specs.VariableNames.{Name}
+use Rattle.replay.specs.QuestionSize.{question_size}
+use Rattle.run_decode.specs.Decoding.{BelongTogether}
+use Rattle.run_decode.specs.WholeNaming.{AreCodedTogether, AreClausesOf, whole_names}
+use Rattle.sat_order.specs.Rank.{IsRanked}
 use Rattle.step_encode.specs.Coded.{CodedSteps}
 
 -- the size of the largest question that is built
 abbrev pub most_size : ℕ
 most_size = 20000000
+
+-- at most 1000 steps, and not too large
+pub record IsWithinLimits (net : Net) (log : Log) (n : ℕ) : Type 0 where
+  pub steps : n ≤ 1000
+  pub size : question_size net log n ≤ most_size
 
 -- so many columns has a counter of faults at most
 abbrev pub most_columns : ℕ
@@ -24,8 +36,17 @@ pub record AreParts (steps : CodedSteps) (code : CodedLog) (counter : CounterSta
   pub made : IsMade vars counter
   pub room : vars + (most_columns - length counter.columns) * length counter.inputs ≤ VAR_LIMIT
 
--- They are those of the book, whose clauses a solver has adopted, and it has as many variables at least.
-pub record AreReady (steps : CodedSteps) (code : CodedLog) (counter : CounterState) (vars : ℕ) (adopted : List Clause) (values : ℕ) (book : List BookEntry) : Type 0 where
-  pub parts : AreParts steps code counter vars (axioms_of book)
-  pub adopted_all : adopted ≡ clauses_of book
-  pub enough : vars ≤ values
+-- The parts are those of a book: its axioms are their clauses, the solver has adopted all its clauses, and has their variables at least. What ranks the variables may be asked (`may`) and answers (`gives`).
+pub record AreReady {R : Type 0} (may : R → ℕ → Type 0) (gives : R → ℕ → ℕ → Type 0) (parts : Parts R) (book : List BookEntry) : Type 0 where
+  pub coded : AreParts parts.step parts.code.code parts.counter parts.vars (axioms_of book)
+  pub adopted_all : parts.solver.adopted ≡ clauses_of book
+  pub enough : parts.vars ≤ parts.solver.vars
+  pub ranked : IsRanked may gives parts.solver.order
+
+-- steps and log are coded for this network and this log
+abbrev pub BelongTo : {R : Type 0} → Net → Log → Parts R → Type 0
+BelongTo net log parts = BelongTogether net log parts.step parts.code.code
+
+-- the names of all variables
+abbrev pub names_of : {R : Type 0} → Parts R → List (ℕ × Name)
+names_of parts = whole_names parts.step parts.code.code parts.counter

@@ -1,3 +1,4 @@
+// The axioms of a book, clause by clause.
 ghost use Rattle.std.specs.Prelude.{◌≡◌, ◌≤◌, ◌+◌, ◌++◌, ℕ, map, take, length, sum_by, OnOk};
 ghost use Rattle.proof_ledger.specs.Book.{axiomatic};
 

@@ -1,14 +1,9 @@
-ghost use Rattle.std.specs.Prelude.{◌≡◌, ◌<◌, ◌≤◌, ◌+◌, ◌++◌, [], ◌∷◌, List, Some, IfOk, OnOk, OnErr, length, max};
-ghost use Rattle.card_counter.specs.CounterState.{bound_literal};
-ghost use Rattle.least_faults.specs.Asking.{Pose};
-ghost use Rattle.least_faults.specs.Growing.{KeepsColumns, AddsAxioms};
+// The literal for a bound on the faults, and the columns of the counter that it needs.
+ghost use Rattle.std.specs.Prelude.{◌≡◌, ◌<◌, ◌≤◌, ◌+◌, IfOk, OnOk, OnErr, length};
+ghost use Rattle.least_faults.specs.Asking.{IsBoundLiteral};
+ghost use Rattle.least_faults.specs.Growing.{AddsAxioms, KeepsQuestion, StandsStill};
 ghost use Rattle.least_faults.specs.Parts.{AreReady};
-ghost use Rattle.log_clauses.specs.LogClauses.{guard_literals};
-ghost use Rattle.log_encode.specs.CodedLog.{read_names};
 ghost use Rattle.proof_ledger.specs.Book.{axioms_of};
-ghost use Rattle.prop_core.specs.VariableNames.{ReadsAs};
-ghost use Rattle.prop_core.specs.declared.lit.Lit.{Lit};
-ghost use Rattle.sat_order.specs.Rank.{IsRanked};
 
 use crate::axioms::push_axioms;
 use crate::parts::Parts;
@@ -26,20 +21,13 @@ pub fn bound<R: Fn(u32) -> u64>(
     book: &mut Ledger,
     k: u32,
 ) -> Result<Lit, Memory>
-    requires ranked { IsRanked R.pre R.post parts.old.solver.order }
-    requires ready { AreReady parts.old.step parts.old.code.code parts.old.counter parts.old.vars parts.old.solver.adopted parts.old.solver.vars book.old.entries }
+    requires ready { AreReady R.pre R.post parts.old book.old.entries }
     requires some { 0 < length parts.old.counter.inputs }
     requires few { k ≤ 255 }
-    ensures ranked { IsRanked R.pre R.post parts.new.solver.order }
-    ensures rank { parts.new.solver.order.rank ≡ parts.old.solver.order.rank }
-    ensures same_step { parts.new.step ≡ parts.old.step }
-    ensures same_code { parts.new.code ≡ parts.old.code }
-    ensures ready { AreReady parts.new.step parts.new.code.code parts.new.counter parts.new.vars parts.new.solver.adopted parts.new.solver.vars book.new.entries }
+    ensures ready { AreReady R.pre R.post parts.new book.new.entries }
+    ensures kept { KeepsQuestion parts.old parts.new }
     ensures axioms { AddsAxioms book.old.entries book.new.entries }
-    ensures kept { KeepsColumns parts.old.counter parts.new.counter }
-    ensures columns { OnOk result (length parts.new.counter.columns ≡ max (length parts.old.counter.columns) (k + 1)) }
-    ensures literal { IfOk result (λ lit. lit ≡ bound_literal parts.new.counter k) }
-    ensures posed { IfOk result (λ lit. (guards : List Lit) → ReadsAs (read_names parts.new.code.code) guards (guard_literals parts.new.code.code.net parts.new.code.code.log) → Pose parts.new.step parts.new.code.code parts.new.counter (axioms_of book.new.entries) (Some k) (guards ++ lit ∷ [])) }
+    ensures literal { IfOk result (IsBoundLiteral parts.old.counter parts.new (axioms_of book.new.entries) k) }
 {
     for _ in parts.counter.columns()..k + 1 {
         add_column(alloc, parts, book)?;
@@ -53,20 +41,14 @@ fn add_column<R: Fn(u32) -> u64>(
     parts: &mut Parts<R>,
     book: &mut Ledger,
 ) -> Result<(), Memory>
-    requires ranked { IsRanked R.pre R.post parts.old.solver.order }
-    requires ready { AreReady parts.old.step parts.old.code.code parts.old.counter parts.old.vars parts.old.solver.adopted parts.old.solver.vars book.old.entries }
+    requires ready { AreReady R.pre R.post parts.old book.old.entries }
     requires some { 0 < length parts.old.counter.inputs }
     requires few { length parts.old.counter.columns < 256 }
-    ensures ranked { IsRanked R.pre R.post parts.new.solver.order }
-    ensures rank { parts.new.solver.order.rank ≡ parts.old.solver.order.rank }
-    ensures same_step { parts.new.step ≡ parts.old.step }
-    ensures same_code { parts.new.code ≡ parts.old.code }
-    ensures ready { AreReady parts.new.step parts.new.code.code parts.new.counter parts.new.vars parts.new.solver.adopted parts.new.solver.vars book.new.entries }
+    ensures ready { AreReady R.pre R.post parts.new book.new.entries }
+    ensures kept { KeepsQuestion parts.old parts.new }
     ensures axioms { AddsAxioms book.old.entries book.new.entries }
-    ensures kept { KeepsColumns parts.old.counter parts.new.counter }
     ensures columns { OnOk result (length parts.new.counter.columns ≡ length parts.old.counter.columns + 1) }
-    ensures same_counter { OnErr result (parts.new.counter ≡ parts.old.counter) }
-    ensures same_book { OnErr result (book.new.entries ≡ book.old.entries) }
+    ensures unchanged { OnErr result (StandsStill parts.old.counter parts.new.counter book.old.entries book.new.entries) }
 {
     let inputs = parts.counter.inputs();
     book.reserve(2 * inputs, 5 * inputs)?;

@@ -13,6 +13,7 @@ mod bounding;
 mod building;
 mod encode;
 mod parts;
+mod question;
 mod searching;
 
 pub use answer::{Best, Found};

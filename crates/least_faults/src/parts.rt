@@ -1,3 +1,4 @@
+// The parts of a question, which stand beside the book that holds its clauses.
 use card_counter::Counter;
 use log_encode::LogCode;
 use prop_core::Vars;

@@ -1,10 +1,11 @@
 use Rattle.std.proofs.Common.{arith, length, sym, subst}
 use Rattle.least_faults.proofs.Assuming.{with_bound, without_bound}
-use Rattle.least_faults.proofs.Columns.{adds_none, keeps_none}
+use Rattle.least_faults.proofs.AxiomLists.{adds_none}
+use Rattle.least_faults.proofs.Staying.{question_same}
 use Rattle.least_faults.proofs.asking.assumptions.Goals as goal
 use Rattle.least_faults.proofs.asking.assumptions.Goals.{in-Some+in_ok-bound+in_ok-push, in_default}
 use Rattle.least_faults.specs.Asking.{AreAssumptions}
-use Rattle.least_faults.specs.Growing.{AddsAxioms, KeepsColumns}
+use Rattle.least_faults.specs.Growing.{AddsAxioms, KeepsQuestion}
 use Rattle.least_faults.specs.Parts.{AreReady}
 use Rattle.least_faults.specs.declared.parts.Parts.{Parts}
 use Rattle.log_clauses.specs.LogClauses.{guard_literals}
@@ -14,11 +15,17 @@ use Rattle.prop_core.specs.VariableNames.{ReadsAs}
 pub returns-clause-ready : goal.returns-clause-ready
 returns-clause-ready g c = elim c.match-within.branch [
   | in-Some+in_ok-bound+in_ok-push w ↦
-      subst (λ (p : Parts g.row.R.Denot). AreReady p.step p.code.code p.counter p.vars p.solver.adopted p.solver.vars c.match-within.book.entries) (sym w.parts-is)
-      (subst (λ b. AreReady w.bound.new.parts.step w.bound.new.parts.code.code w.bound.new.parts.counter w.bound.new.parts.vars w.bound.new.parts.solver.adopted w.bound.new.parts.solver.vars b.entries) (sym w.book-is) w.bound.ensures.ready)
+      subst (λ (p : Parts g.row.R.Denot). AreReady (goal.R-pre g) (goal.R-post g) p c.match-within.book.entries) (sym w.parts-is)
+      (subst (λ b. AreReady (goal.R-pre g) (goal.R-post g) w.bound.new.parts b.entries) (sym w.book-is) w.bound.ensures.ready)
   | in_default w ↦
-      subst (λ (p : Parts g.row.R.Denot). AreReady p.step p.code.code p.counter p.vars p.solver.adopted p.solver.vars c.match-within.book.entries) (sym w.parts-is)
-      (subst (λ b. AreReady c.args.parts.now.step c.args.parts.now.code.code c.args.parts.now.counter c.args.parts.now.vars c.args.parts.now.solver.adopted c.args.parts.now.solver.vars b.entries) (sym w.book-is) c.requires.ready)
+      subst (λ (p : Parts g.row.R.Denot). AreReady (goal.R-pre g) (goal.R-post g) p c.match-within.book.entries) (sym w.parts-is)
+      (subst (λ b. AreReady (goal.R-pre g) (goal.R-post g) c.args.parts.now b.entries) (sym w.book-is) c.requires.ready)
+]
+
+pub returns-clause-kept : goal.returns-clause-kept
+returns-clause-kept g c = elim c.match-within.branch [
+  | in-Some+in_ok-bound+in_ok-push w ↦ subst (λ (p : Parts g.row.R.Denot). KeepsQuestion c.args.parts.now p) (sym w.parts-is) w.bound.ensures.kept
+  | in_default w ↦ subst (λ (p : Parts g.row.R.Denot). KeepsQuestion c.args.parts.now p) (sym w.parts-is) (question_same c.args.parts.now)
 ]
 
 pub returns-clause-axioms : goal.returns-clause-axioms
@@ -33,17 +40,11 @@ returns-clause-assumed g c = elim c.match-within.branch [
       subst (λ (p : Parts g.row.R.Denot). AreAssumptions p.code.code p.counter c.args.within c.match-within.assumed.items) (sym w.parts-is)
       (subst (λ within. AreAssumptions w.bound.new.parts.code.code w.bound.new.parts.counter within c.match-within.assumed.items) (sym w.in-Some.is)
       (with_bound w.bound.new.parts.code.code w.bound.new.parts.counter w.in-Some.k (length c.args.parts.now.counter.columns) c.guards.result.now w.in_ok-bound.field-0 c.match-within.assumed.items
-      (subst (λ code. ReadsAs (read_names code.code) c.guards.result.now (guard_literals code.code.net code.code.log)) (sym w.bound.ensures.same_code) c.guards.ensures.guards)
-      w.in_ok-bound.ensures.columns w.in_ok-bound.ensures.literal (grind (arith, w.assumed-is, w.in_ok-push.ensures.items, c.in_ok-extend_from_slice.ensures.items, c.new-assumed.ensures.items))))
+      (subst (λ code. ReadsAs (read_names code.code) c.guards.result.now (guard_literals code.code.net code.code.log)) (sym w.bound.ensures.kept.code) c.guards.ensures.guards)
+      w.in_ok-bound.ensures.literal.columns w.in_ok-bound.ensures.literal.literal_is (grind (arith, w.assumed-is, w.in_ok-push.ensures.items, c.in_ok-extend_from_slice.ensures.items, c.new-assumed.ensures.items))))
   | in_default w ↦
       subst (λ (p : Parts g.row.R.Denot). AreAssumptions p.code.code p.counter c.args.within c.match-within.assumed.items) (sym w.parts-is)
       (subst (λ within. AreAssumptions c.args.parts.now.code.code c.args.parts.now.counter within c.match-within.assumed.items) (sym w.in_default.is)
       (without_bound c.args.parts.now.code.code c.args.parts.now.counter c.guards.result.now c.match-within.assumed.items c.guards.ensures.guards
       (grind (arith, w.assumed-is, c.in_ok-extend_from_slice.ensures.items, c.new-assumed.ensures.items))))
-]
-
-pub returns-clause-columns : goal.returns-clause-columns
-returns-clause-columns g c = elim c.match-within.branch [
-  | in-Some+in_ok-bound+in_ok-push w ↦ subst (λ (p : Parts g.row.R.Denot). KeepsColumns c.args.parts.now.counter p.counter) (sym w.parts-is) w.bound.ensures.kept
-  | in_default w ↦ subst (λ (p : Parts g.row.R.Denot). KeepsColumns c.args.parts.now.counter p.counter) (sym w.parts-is) (keeps_none c.args.parts.now.counter)
 ]

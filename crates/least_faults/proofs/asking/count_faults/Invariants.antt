@@ -1,10 +1,10 @@
--- the count is that of the steps so far
+-- the count is that of the entries so far
 use Rattle.std.proofs.Common.{◌≡◌, ◌≤◌, count_by, take}
 use Rattle.least_faults.proofs.asking.count_faults.Given as goal
-use Rattle.least_faults.specs.Answers.{is_fault_step}
+use Rattle.least_faults.specs.Answers.{is_fault_entry}
 
-abbrev pub invariant-loop-step : goal.invariant-loop-step
-invariant-loop-step l = record {
-  count : l.faults ≡ count_by (is_fault_step l.net) (take l.step-index l.steps);
-  few : l.faults ≤ l.step-index;
+abbrev pub invariant-loop-entry : goal.invariant-loop-entry
+invariant-loop-entry l = record {
+  count : l.faults ≡ count_by (is_fault_entry l.net) (take l.entry-index l.entries);
+  few : l.faults ≤ l.entry-index;
 }

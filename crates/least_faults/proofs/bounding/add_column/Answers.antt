@@ -1,6 +1,5 @@
-use Rattle.std.proofs.Common.{ap, arith, length, refl}
-use Rattle.least_faults.proofs.Columns.{column_added, few_written, more_values, still_ready, written_alone}
-use Rattle.proof_ledger.specs.Book.{clauses_of}
+use Rattle.std.proofs.Common.{ap, arith, length}
+use Rattle.least_faults.proofs.Columns.{column_added, few_written, more_values, written_alone}
 use Rattle.prop_core.specs.ClauseStore.{ClauseStore}
 use Rattle.sat_solve.specs.Solving.{SolverState}
 use Rattle.least_faults.proofs.bounding.add_column.Goals as goal
@@ -21,9 +20,10 @@ push_axioms-requires-clause-literals g c =
 
 pub adopt-requires : goal.adopt-requires
 adopt-requires g c =
-    let column = column_added c.args.parts.now.step c.args.parts.now.code.code c.args.parts.now.counter c.add_column.new.self c.args.parts.now.vars c.add_column.new.vars c.args.parts.now.solver.adopted c.reserve-2.new.self.adopted
-    c.reserve-2.new.self.vars c.args.parts.now.solver.vars c.args.book.now.entries c.reserve.new.self.entries c.push_axioms.new.book.entries c.add_column.new.out.clauses c.requires.ready c.requires.some c.requires.few
-    (more_values c.args.parts.now.solver.vars c.reserve-2.new.self.vars c.count.result c.args.parts.now.vars c.inputs-inputs.result (length c.args.parts.now.counter.inputs) c.in_ok-reserve-2.ensures.vars c.count.ensures.count c.inputs-inputs.ensures)
+    let old = c.args.parts.now in
+    let column = column_added old.step old.code.code old.counter c.add_column.new.self old.vars c.add_column.new.vars old.solver.adopted c.reserve-2.new.self.adopted
+    c.reserve-2.new.self.vars c.args.book.now.entries c.reserve.new.self.entries c.push_axioms.new.book.entries c.add_column.new.out.clauses c.requires.ready.coded c.requires.ready.adopted_all c.requires.some c.requires.few
+    (more_values old.solver.vars c.reserve-2.new.self.vars c.count.result old.vars c.inputs-inputs.result (length old.counter.inputs) c.in_ok-reserve-2.ensures.vars c.count.ensures.count c.inputs-inputs.ensures)
     c.in_ok-add_column.ensures.column.counter c.in_ok-add_column.ensures.column.vars c.reserve-2.ensures.adopted c.reserve.ensures.same (written_alone c.new-clauses.result.clauses c.add_column.new.out.clauses _ (ap (λ (store : ClauseStore). store.clauses) c.new-clauses.ensures) c.in_ok-add_column.ensures.column.clauses) c.push_axioms.ensures in
     let long = column.long in
     let spare = c.in_ok-reserve-2.ensures.spare in
@@ -37,11 +37,16 @@ adopt-requires g c =
 
 pub returns-clause-ready : goal.returns-clause-ready
 returns-clause-ready g c =
-    let ready = (column_added c.args.parts.now.step c.args.parts.now.code.code c.args.parts.now.counter c.add_column.new.self c.args.parts.now.vars c.add_column.new.vars c.args.parts.now.solver.adopted c.reserve-2.new.self.adopted
-    c.reserve-2.new.self.vars c.args.parts.now.solver.vars c.args.book.now.entries c.reserve.new.self.entries c.push_axioms.new.book.entries c.add_column.new.out.clauses c.requires.ready c.requires.some c.requires.few
-    (more_values c.args.parts.now.solver.vars c.reserve-2.new.self.vars c.count.result c.args.parts.now.vars c.inputs-inputs.result (length c.args.parts.now.counter.inputs) c.in_ok-reserve-2.ensures.vars c.count.ensures.count c.inputs-inputs.ensures)
-    c.in_ok-add_column.ensures.column.counter c.in_ok-add_column.ensures.column.vars c.reserve-2.ensures.adopted c.reserve.ensures.same (written_alone c.new-clauses.result.clauses c.add_column.new.out.clauses _ (ap (λ (store : ClauseStore). store.clauses) c.new-clauses.ensures) c.in_ok-add_column.ensures.column.clauses) c.push_axioms.ensures).ready in
-    let kept = ap (λ (s : SolverState _). s.adopted) c.adopt.ensures.value in
+    let old = c.args.parts.now in
+    let column = column_added old.step old.code.code old.counter c.add_column.new.self old.vars c.add_column.new.vars old.solver.adopted c.reserve-2.new.self.adopted
+    c.reserve-2.new.self.vars c.args.book.now.entries c.reserve.new.self.entries c.push_axioms.new.book.entries c.add_column.new.out.clauses c.requires.ready.coded c.requires.ready.adopted_all c.requires.some c.requires.few
+    (more_values old.solver.vars c.reserve-2.new.self.vars c.count.result old.vars c.inputs-inputs.result (length old.counter.inputs) c.in_ok-reserve-2.ensures.vars c.count.ensures.count c.inputs-inputs.ensures)
+    c.in_ok-add_column.ensures.column.counter c.in_ok-add_column.ensures.column.vars c.reserve-2.ensures.adopted c.reserve.ensures.same (written_alone c.new-clauses.result.clauses c.add_column.new.out.clauses _ (ap (λ (store : ClauseStore). store.clauses) c.new-clauses.ensures) c.in_ok-add_column.ensures.column.clauses) c.push_axioms.ensures in
     let values = ap (λ (s : SolverState _). s.vars) c.adopt.ensures.value in
-    still_ready c.args.parts.now.step c.args.parts.now.code.code c.add_column.new.self c.add_column.new.vars (clauses_of c.push_axioms.new.book.entries) c.adopt.new.self.adopted c.reserve-2.new.self.vars c.adopt.new.self.vars
-    c.push_axioms.new.book.entries c.push_axioms.new.book.entries ready kept (omega (arith, values)) refl
+    let enough = column.enough in
+    record {
+      coded = column.parts;
+      adopted_all = ap (λ (s : SolverState _). s.adopted) c.adopt.ensures.value;
+      enough = omega (arith, values, enough);
+      ranked = c.adopt.ensures.ranked;
+    }

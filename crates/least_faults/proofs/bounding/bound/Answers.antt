@@ -1,9 +1,24 @@
-use Rattle.std.proofs.Common.{◌∙◌, [], ◌∷◌, ◌++◌, Some, ap, arith}
-use Rattle.least_faults.proofs.Columns.{adds_both, keeps_both}
+use Rattle.std.proofs.Common.{◌<◌, [], ◌∷◌, ◌++◌, Some, ap, arith, length, subst, sym}
+use Rattle.least_faults.proofs.AxiomLists.{adds_both, adds_none}
 use Rattle.least_faults.proofs.Posing.{poses}
+use Rattle.least_faults.proofs.Staying.{question_both, question_same}
+use Rattle.least_faults.proofs.bounding.bound.Goals as goal
 use Rattle.proof_ledger.specs.Book.{axioms_of}
 use Rattle.prop_core.specs.declared.lit.Lit.{Lit}
-use Rattle.least_faults.proofs.bounding.bound.Goals as goal
+
+pub loop-init : goal.loop-init
+loop-init g c =
+    let first = c.columns-counter.ensures.columns in
+    record {
+      ready = c.requires.ready;
+      kept = question_same c.args.parts.now;
+      axioms = adds_none c.args.book.now.entries;
+      columns = omega (arith, first);
+      upto = omega (arith, first);
+    }
+
+pub add_column-requires-clause-some : goal.add_column-requires-clause-some
+add_column-requires-clause-some g c = subst (λ inputs. 0 < length inputs) (sym c.loop.invariant.kept.counter.inputs) c.requires.some
 
 pub loop-preserved : goal.loop-preserved
 loop-preserved g c =
@@ -15,25 +30,27 @@ loop-preserved g c =
     let start = c.loop.auto.counter in
     let test = c.loop-test.true in
     record {
-      ranked = more.ranked;
-      rank = more.rank ∙ kept.rank;
-      same_step = more.same_step ∙ kept.same_step;
-      same_code = more.same_code ∙ kept.same_code;
       ready = more.ready;
+      kept = question_both c.args.parts.now c.loop.parts c.add_column.new.parts kept.kept more.kept;
       axioms = adds_both c.args.book.now.entries c.loop.book.entries c.add_column.new.book.entries kept.axioms more.axioms;
-      kept = keeps_both c.args.parts.now.counter c.loop.parts.counter c.add_column.new.parts.counter kept.kept more.kept;
       columns = omega (arith, columns, one, first, start);
       upto = omega (arith, test);
     }
 
-pub returns-clause-posed : goal.returns-clause-posed
-returns-clause-posed g c = λ guards read.
+pub returns-clause-literal : goal.returns-clause-literal
+returns-clause-literal g c =
     let parts = c.loop.parts in
     let columns = c.loop.invariant.columns in
+    let upto = c.loop.invariant.upto in
     let test = c.loop-test.false in
-    poses parts.step parts.code.code parts.counter parts.vars (axioms_of c.loop.book.entries) (Some c.args.k) (guards ++ c.bound_lit.result ∷ []) c.loop.invariant.ready.parts (record {
-      guards = guards;
-      read = read;
-      whole = ap (λ (lit : Lit). guards ++ lit ∷ []) c.bound_lit.ensures.literal;
-      column = omega (arith, columns, test);
-    })
+    record {
+      columns = omega (arith, columns, upto, test);
+      literal_is = c.bound_lit.ensures.literal;
+      posed = λ guards read.
+          poses parts.step parts.code.code parts.counter parts.vars (axioms_of c.loop.book.entries) (Some c.args.k) (guards ++ c.bound_lit.result ∷ []) c.loop.invariant.ready.coded (record {
+            guards = guards;
+            read = read;
+            whole = ap (λ (lit : Lit). guards ++ lit ∷ []) c.bound_lit.ensures.literal;
+            column = omega (arith, columns, test);
+          });
+    }

@@ -1,0 +1,48 @@
+// What is asked about: which runs of a network explain a log.
+ghost use Rattle.std.specs.Prelude.{List};
+ghost use Rattle.des_net.specs.Building.{IsDraft};
+ghost use Rattle.des_net.specs.Network.{IsNetwork};
+ghost use Rattle.log_clauses.specs.LogClauses.{guard_literals};
+ghost use Rattle.log_encode.specs.CodedLog.{read_names};
+ghost use Rattle.log_order.specs.Adding.{IsLog};
+ghost use Rattle.proof_ledger.specs.Book.{IsValidBook};
+ghost use Rattle.prop_core.specs.VariableNames.{ReadsAs};
+ghost use Rattle.prop_core.specs.declared.lit.Lit.{Lit};
+
+use des_net::Network;
+use log_encode::LogCode;
+use log_order::AlarmLog;
+use proof_ledger::Ledger;
+use std::alloc::Global;
+
+// A network and a log, and where the memory for answers comes from.
+#[derive(Clone, Copy)]
+pub struct Question<'a> {
+    pub net: &'a Network,
+    pub log: &'a AlarmLog,
+    pub alloc: Global,
+}
+
+// Network and log are whole, as their readers tell.
+pub fn are_whole(net: &Network, log: &AlarmLog)
+    ensures network { IsNetwork net.now }
+    ensures draft { IsDraft net.now }
+    ensures log { IsLog log.now }
+{
+    let _components = net.components();
+    let _alarms = log.alarms();
+}
+
+// The book is valid, as its reader tells.
+pub fn is_valid(book: &Ledger)
+    ensures { IsValidBook book.now.entries }
+{
+    let _entries = book.entries();
+}
+
+// The guards of the log are literals, as the reader of its code tells.
+pub fn has_guards(code: &LogCode)
+    ensures { (guards : List Lit) × ReadsAs (read_names code.now.code) guards (guard_literals code.now.code.net code.now.code.log) }
+{
+    let _guards = code.guards();
+}
