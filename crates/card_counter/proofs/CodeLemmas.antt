@@ -6,26 +6,26 @@ use Rattle.des_base.proofs.Elements.{all_at}
 use Rattle.prop_core.proofs.NameLemmas.{found_more, literal_more}
 use Rattle.prop_core.specs.declared.lit.Lit.{Lit}
 use Rattle.prop_core.specs.Clauses.{Clause, negation}
-use Rattle.prop_core.specs.NamedClauses.{IsCode, Each, Both, One, Appends}
+use Rattle.prop_core.specs.NamedClauses.{IsCode}
 use Rattle.prop_core.specs.VariableNames.{HasEachOnce, Name, NamedLiteral, yes, no, reaches, name_of, named_literal, with_literal, named_clause}
-use Rattle.prop_core.proofs.FamilyLemmas.{code_none, code_one, code_append, code_same, code_each_none, code_each_more, reads_whole}
+use Rattle.prop_core.proofs.FamilyLemmas.{Alone, Either, EachBelow, code_none, code_one, code_append, code_same, code_each_none, code_each_more, reads_whole}
 use Rattle.std.proofs.lemmas.List.Elements.{Contains-append_right}
 use Rattle.card_counter.proofs.NameLemmas.{named_by_entry}
 use Rattle.card_counter.proofs.ListLemmas.{map_of, map_contains, pairs_put, pairs_map, flat_next}
 use Rattle.card_counter.proofs.States.{place_cases, variable_before, variable_last, before_front, at_end, one_more_column}
 use Rattle.card_counter.specs.CounterClauses.{counts_on, counts_up, opposite, count_clause, IsNamedColumn, IsNamedCount}
-use Rattle.card_counter.specs.CounterState.{next_names, CounterState, IsPlace, variable, column_at, column_before, positive, negative, reached_in, reached_before, under, place_clauses, input_at, column_clauses, counter_clauses, with_column, next_clauses}
+use Rattle.card_counter.specs.CounterState.{next_names, CounterState, IsPlace, variable, column_at, column_before, positive, negative, reached_in, reached_before, under, place_clauses, input_at, column_clauses, counter_clauses, with_column}
 use Rattle.card_counter.specs.Counting.{NamesGrow, NamedColumnsGrow, IsNamedBy, CounterIsCode, ColumnIsCode}
 
 -- a list for each number is a family for each
-pub code_flat : (names : List (ℕ × Name)) (F : ℕ → List NamedLiteral → Type 0) (f : ℕ → List Clause) (n : ℕ) → ((i : ℕ) → i < n → IsCode names (F i) (f i)) → IsCode names (Each n F) (flat_map f (range_with_len 0 n))
+pub code_flat : (names : List (ℕ × Name)) (F : ℕ → List NamedLiteral → Type 0) (f : ℕ → List Clause) (n : ℕ) → ((i : ℕ) → i < n → IsCode names (F i) (f i)) → IsCode names (EachBelow n F) (flat_map f (range_with_len 0 n))
 code_flat names F f zero each = code_each_none names F
 code_flat names F f (suc n) each =
     let before = code_flat names F f n (λ i h. each i (omega arith)) in
     let here = each n (omega arith) in
     let more = code_each_more names F n (flat_map f (range_with_len 0 n)) (f n) before here in
     let next : n + 1 ≡ suc n = omega arith in
-    subst (IsCode names (Each (suc n) F)) (sym (flat_next f n)) (subst (λ k. IsCode names (Each k F) (flat_map f (range_with_len 0 n) ++ f n)) next more)
+    subst (IsCode names (EachBelow (suc n) F)) (sym (flat_next f n)) (subst (λ k. IsCode names (EachBelow k F) (flat_map f (range_with_len 0 n) ++ f n)) next more)
 
 -- ---- reading
 
@@ -91,13 +91,13 @@ module _ (names : List (ℕ × Name)) (read : List NamedLiteral) (state : Counte
       let before : IsPlace state i j = record { input = omega (arith, place.input); column = place.column } in
       let reads = reads_whole names (negative (variable state i j) ∷ positive (variable state (suc i) j) ∷ []) (count_clause (counts_on (suc i) (suc j)))
       (read_two names (negative (variable state i j)) (positive (variable state (suc i) j)) (no (reaches (suc i) (suc j))) (yes (reaches (suc (suc i)) (suc j))) (no_read i j before) (yes_read (suc i) j place)) in
-      code_same names (One (count_clause (counts_on (suc i) (suc j)))) (Kept j (suc i)) ((negative (variable state i j) ∷ positive (variable state (suc i) j) ∷ []) ∷ [])
+      code_same names (Alone (count_clause (counts_on (suc i) (suc j)))) (Kept j (suc i)) ((negative (variable state i j) ∷ positive (variable state (suc i) j) ∷ []) ∷ [])
       (λ literals same. (omega arith, same)) (λ literals is. is.1)
       (code_one names (negative (variable state i j) ∷ positive (variable state (suc i) j) ∷ []) (count_clause (counts_on (suc i) (suc j))) reads)
 
   -- one clause, for the input that is read there
   counted_one : (i j : ℕ) (clause : Clause) (at : IsRead names (input_at state.inputs i) read i) → (j ≡ 0) ⊎ (1 ≤ i) → named_clause names clause ≡ Some (count_clause (counts_up i j at.literal)) → IsCode names (Counted j i) (clause ∷ [])
-  counted_one i j clause at low reads = code_same names (One (count_clause (counts_up i j at.literal))) (Counted j i) (clause ∷ [])
+  counted_one i j clause at low reads = code_same names (Alone (count_clause (counts_up i j at.literal))) (Counted j i) (clause ∷ [])
       (λ literals same. (at.literal, at.at, low, same))
       (λ literals is. let same : at.literal ≡ is.0 = some_same at.literal is.0 (sym at.at ∙ is.1) in ap (λ x. count_clause (counts_up i j x)) same ∙ is.3)
       (code_one names clause (count_clause (counts_up i j at.literal)) (reads_whole names clause (count_clause (counts_up i j at.literal)) reads))
@@ -124,10 +124,10 @@ module _ (names : List (ℕ × Name)) (read : List NamedLiteral) (state : Counte
       (no_read i j before) (read_negation names (input_at state.inputs (suc i)) at.literal at.as_read) (yes_read (suc i) (suc j) place))
 
   abbrev AtPlace : ℕ → ℕ → List NamedLiteral → Type 0
-  AtPlace j i = Both (Kept j i) (Counted j i)
+  AtPlace j i = Either (Kept j i) (Counted j i)
 
   pub column_code : (j : ℕ) → j < length state.columns → IsCode names (IsNamedColumn read j) (column_clauses state.inputs (column_before state.columns j) (column_at state.columns j))
-  column_code j h = code_same names (Each (length state.inputs) (AtPlace j)) (IsNamedColumn read j) (column_clauses state.inputs (column_before state.columns j) (column_at state.columns j)) to back
+  column_code j h = code_same names (EachBelow (length state.inputs) (AtPlace j)) (IsNamedColumn read j) (column_clauses state.inputs (column_before state.columns j) (column_at state.columns j)) to back
       (code_flat names (AtPlace j) (λ i. place_clauses (input_at state.inputs i) (column_before state.columns j) (column_at state.columns j) i) (length state.inputs) (λ i inside.
       let place : IsPlace state i j = record { input = inside; column = h } in
       code_append names (Kept j i) (Counted j i) (under (reached_in (column_at state.columns j) i) (positive (variable state i j) ∷ []))
@@ -136,11 +136,11 @@ module _ (names : List (ℕ × Name)) (read : List NamedLiteral) (state : Counte
       count : length read ≡ length state.inputs
       count = read_length names state.inputs read named.inputs_read
 
-      to : (literals : List NamedLiteral) → Each (length state.inputs) (AtPlace j) literals → IsNamedColumn read j literals
+      to : (literals : List NamedLiteral) → EachBelow (length state.inputs) (AtPlace j) literals → IsNamedColumn read j literals
       to literals (i, inside, inl (low, same)) = (counts_on i (suc j), (low, omega (arith, inside, count), omega arith), refl, same)
       to literals (i, inside, inr (x, at, low, same)) = (counts_up i j x, (at, low), refl, same)
 
-      back : (literals : List NamedLiteral) → IsNamedColumn read j literals → Each (length state.inputs) (AtPlace j) literals
+      back : (literals : List NamedLiteral) → IsNamedColumn read j literals → EachBelow (length state.inputs) (AtPlace j) literals
       back literals (counts_on i k, (low, inside, one), of, same) = (i, omega (arith, inside, count), inl (low, subst (λ m. count_clause (counts_on i m) ≡ literals) of same))
       back literals (counts_up i k x, (at, low), of, same) =
           (i, omega (arith, within read i x at, count), inr (x, at, subst (λ m. (m ≡ 0) ⊎ (1 ≤ i)) of low, subst (λ m. count_clause (counts_up i m x) ≡ literals) of same))
@@ -151,14 +151,14 @@ module _ (names : List (ℕ × Name)) (read : List NamedLiteral) (state : Counte
           within (y ∷ xs) (suc i) x h = let rest = within xs i x h in omega arith
 
 pub counter_is_code : CounterIsCode
-counter_is_code names read state named = code_same names (Each (length state.columns) (IsNamedColumn read)) (IsNamedCount read (length state.columns)) (counter_clauses state) to back
+counter_is_code names read state named = code_same names (EachBelow (length state.columns) (IsNamedColumn read)) (IsNamedCount read (length state.columns)) (counter_clauses state) to back
     (code_flat names (IsNamedColumn read) (λ j. column_clauses state.inputs (column_before state.columns j) (column_at state.columns j)) (length state.columns) (column_code names read state named))
   where
-    to : (literals : List NamedLiteral) → Each (length state.columns) (IsNamedColumn read) literals → IsNamedCount read (length state.columns) literals
+    to : (literals : List NamedLiteral) → EachBelow (length state.columns) (IsNamedColumn read) literals → IsNamedCount read (length state.columns) literals
     to literals (j, h, (counts_on i k, is, of, same)) = (counts_on i k, is, omega arith, same)
     to literals (j, h, (counts_up i k x, is, of, same)) = (counts_up i k x, is, omega arith, same)
 
-    back : (literals : List NamedLiteral) → IsNamedCount read (length state.columns) literals → Each (length state.columns) (IsNamedColumn read) literals
+    back : (literals : List NamedLiteral) → IsNamedCount read (length state.columns) literals → EachBelow (length state.columns) (IsNamedColumn read) literals
     back literals (counts_on i zero, (low, inside, one), of, same) = absurd (omega arith)
     back literals (counts_on i (suc k), is, of, same) = (k, omega arith, (counts_on i (suc k), is, refl, same))
     back literals (counts_up i k x, is, of, same) = (k, of, (counts_up i k x, is, refl, same))
@@ -201,22 +201,6 @@ named_columns_grow inputs = record {
     back columns named (inl (counts_up i j x, is, of, same)) = (counts_up i j x, is, omega arith, same)
     back columns named (inr (counts_on i j, is, of, same)) = (counts_on i j, is, omega arith, same)
     back columns named (inr (counts_up i j x, is, of, same)) = (counts_up i j x, is, omega arith, same)
-
--- a counter's code, from none and by a column more
-pub count_code_begins : (names : List (ℕ × Name)) (inputs : List NamedLiteral) → IsCode names (IsNamedCount inputs 0) []
-count_code_begins names inputs = code_none names (IsNamedCount inputs 0) (named_columns_grow inputs).begins
-
-pub count_code_grows : (names : List (ℕ × Name)) (inputs : List NamedLiteral) (columns : ℕ) (clauses more : List Clause) →
-    IsCode names (IsNamedCount inputs columns) clauses → IsCode names (IsNamedColumn inputs columns) more → IsCode names (IsNamedCount inputs (suc columns)) (clauses ++ more)
-count_code_grows names inputs columns clauses more before column =
-    code_same names (Both (IsNamedCount inputs columns) (IsNamedColumn inputs columns)) (IsNamedCount inputs (suc columns)) (clauses ++ more)
-    (λ named is. ((named_columns_grow inputs).grows columns named).1 is) (λ named is. ((named_columns_grow inputs).grows columns named).0 is)
-    (code_append names (IsNamedCount inputs columns) (IsNamedColumn inputs columns) clauses more before column)
-
--- the same for a list that grows
-pub appends_column : (names : List (ℕ × Name)) (inputs : List NamedLiteral) (state : CounterState) (first : ℕ) (old new : List Clause) → IsNamedBy names inputs (with_column state first) →
-    new ≡ old ++ next_clauses state first → Appends names (IsNamedColumn inputs (length state.columns)) old new
-appends_column names inputs state first old new named whole = record { more = next_clauses state first; whole = whole; code = column_is_code names inputs state first named }
 
 -- ---- further names
 

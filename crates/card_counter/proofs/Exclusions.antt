@@ -1,22 +1,18 @@
 -- "At most one" by pairs or by a chain is exact by name, and its clauses are those of the names.
-use Rattle.std.proofs.Common.{◌≡◌, ℕ, zero, suc, ◌+◌, ◌-◌, ◌<◌, ◌≤◌, ◌∙◌, ◌⊎◌, inl, inr, Bool, true, false, List, [], ◌∷◌, length, take, map, Option, Some, None, refl, sym, ap, subst, arith, Contains, slice_get, ◌||◌, nat_le, nat_lt, option_map, unwrap_or, cond, tests}
+use Rattle.std.proofs.Common.{◌≡◌, ℕ, zero, suc, ◌+◌, ◌-◌, ◌<◌, ◌≤◌, ◌∙◌, ◌⊎◌, inl, inr, Bool, true, false, List, [], ◌∷◌, length, take, map, Option, Some, refl, sym, ap, subst, arith, Contains, slice_get, ◌||◌, option_map, unwrap_or}
 use Rattle.std.specs.List.{list_any}
 use Rattle.std.proofs.lemmas.Bool.{cases_lt, cases_eq}
-use Rattle.std.proofs.lemmas.Bool.{ltb-true, lt-ltb}
 use Rattle.std.proofs.lemmas.List.{length-map}
-use Rattle.std.proofs.lemmas.Option.{slice_get_within, slice_get-get_or, get_or_from_slice_get, slice_get-map}
+use Rattle.std.proofs.lemmas.Option.{slice_get_within, slice_get-get_or, slice_get-map}
 use Rattle.des_base.proofs.Elements.{contains_at}
 use Rattle.prop_core.proofs.Premises.{implied, implies, neither, two_negations}
 use Rattle.prop_core.specs.declared.lit.Lit.{Lit}
-use Rattle.prop_core.specs.Clauses.{negation}
-use Rattle.prop_core.specs.NamedClauses.{named_clause_true, IsCode, One, Both, Each, When}
-use Rattle.prop_core.specs.VariableNames.{Name, in_state, happens, asked, matches, done, unmatched, closed, dropped, reaches, some_of_first, Exclusion, NamedLiteral, yes, no, name_of, named_literal, named_clause}
-use Rattle.prop_core.proofs.FamilyLemmas.{code_one, code_append, code_same, code_when_true, code_when_false, reads_whole}
-use Rattle.card_counter.proofs.CodeLemmas.{code_flat, read_at, read_length, read_negation, read_two}
-use Rattle.card_counter.proofs.PairLemmas.{AreNamed, ExcludedNames, pairs_exclude_names}
-use Rattle.card_counter.specs.AtMostOne.{excluded_pairs, link_clauses, chain_clauses, IsNamedChain, ExclusionIsCode}
+use Rattle.prop_core.specs.NamedClauses.{named_clause_true}
+use Rattle.prop_core.specs.VariableNames.{Name, in_state, happens, asked, matches, done, unmatched, closed, dropped, reaches, some_of_first, Exclusion, yes, no, named_literal, named_clause}
+use Rattle.card_counter.proofs.CodeLemmas.{read_at, read_length}
+use Rattle.card_counter.specs.AtMostOne.{IsNamedChain}
 use Rattle.card_counter.specs.CounterState.{positive, negative, input_at}
-use Rattle.card_counter.specs.Exclusions.{ExclusionClause, exclusion_clause, IsExclusionClause, input_name, two, opens, goes_on, shuts_out, IsNamedExclusion, AtMostOneOf, ExclusionsHold, is_chain, with_chains, ExclusionIsSound, ExclusionIsComplete}
+use Rattle.card_counter.specs.Exclusions.{ExclusionClause, exclusion_clause, IsExclusionClause, input_name, two, opens, goes_on, shuts_out, AtMostOneOf, ExclusionsHold, is_chain, with_chains, ExclusionIsSound, ExclusionIsComplete}
 
 -- the chain is open from the first true input on
 chain_open : (value : Name → Bool) (family : Exclusion) (inputs : List Name) → ExclusionsHold value family inputs → 5 ≤ length inputs → (i : ℕ) (x : Name) → slice_get inputs i ≡ Some x → value x ≡ true →
@@ -119,16 +115,6 @@ exclusion_same value other family inputs same chain (shuts_out i x) (long, at) =
 
 -- ---- from variables to names
 
--- a literal that reads as a name is the variable of that name
-read_yes : (names : List (ℕ × Name)) (l : Lit) (name : Name) → named_literal names l ≡ Some (yes name) → (l.positive ≡ true) × (name_of names l.var ≡ Some name)
-read_yes names l name h = by (name_of names l.var) refl h
-  where
-    by : (o : Option Name) → name_of names l.var ≡ o → option_map (λ (n : Name). record { name = n; positive = l.positive }) o ≡ Some (yes name) → (l.positive ≡ true) × (name_of names l.var ≡ Some name)
-    by None e is = cc
-    by (Some n) e is =
-        let same : record { name = n; positive = l.positive } ≡ yes name = cc in
-        (ap (λ (x : NamedLiteral). x.positive) same, e ∙ ap (λ (x : NamedLiteral). Some x.name) same)
-
 module _ (names : List (ℕ × Name)) (family : Exclusion) (called : List Name) (inputs : List Lit) (first : ℕ) (reads : named_clause names inputs ≡ Some (map (λ name. yes name) called)) where
   pub count : length called ≡ length inputs
   count = sym (length-map called (λ (name : Name). yes name)) ∙ read_length names inputs (map (λ name. yes name) called) reads
@@ -139,85 +125,11 @@ module _ (names : List (ℕ × Name)) (family : Exclusion) (called : List Name) 
   pub at_place : (q : ℕ) → q < length inputs → slice_get called q ≡ Some (called_at q)
   at_place q h = slice_get-get_or called q asked (omega (arith, count))
 
-  is_called : (q : ℕ) (x : Name) → slice_get called q ≡ Some x → called_at q ≡ x
-  is_called q x at = get_or_from_slice_get called q x asked at
-
   pub input_reads : (q : ℕ) → q < length inputs → named_literal names (input_at inputs q) ≡ Some (yes (called_at q))
   input_reads q h =
       let at = read_at names inputs (map (λ name. yes name) called) reads q h in
       let there : slice_get (map (λ name. yes name) called) q ≡ Some (yes (called_at q)) = slice_get-map (λ (name : Name). yes name) called q ∙ ap (option_map (λ (name : Name). yes name)) (at_place q h) in
       at.as_read ∙ sym at.at ∙ there
 
-  -- pairs
-  are_named : AreNamed names called_at inputs
-  are_named q l at =
-      let within = slice_get_within inputs q l at in
-      let same : input_at inputs q ≡ l = get_or_from_slice_get inputs q l (record { var = 0; positive = false }) at in
-      subst (λ (x : Lit). (x.positive ≡ true) × (name_of names x.var ≡ Some (called_at q))) same (read_yes names (input_at inputs q) (called_at q) (input_reads q within))
-
-  pairs_to : length inputs ≤ 4 → (named : List NamedLiteral) → ExcludedNames (length inputs) called_at named → IsNamedExclusion family called named
-  pairs_to short named (r, r_below, (q, q_below, same)) = (two q r (called_at q) (called_at r), (omega (arith, count), q_below, at_place q (omega arith), at_place r r_below), same)
-
-  pairs_back : length inputs ≤ 4 → (named : List NamedLiteral) → IsNamedExclusion family called named → ExcludedNames (length inputs) called_at named
-  pairs_back short named (two i j x y, (few, less, at_i, at_j), same) =
-      let within = slice_get_within called j y at_j in
-      (j, omega (arith, count), (i, less, subst (λ n. (no n ∷ no (called_at j) ∷ []) ≡ named) (sym (is_called i x at_i)) (subst (λ n. (no x ∷ no n ∷ []) ≡ named) (sym (is_called j y at_j)) same)))
-  pairs_back short named (opens i x, (long, below, at), same) = absurd (omega (arith, count))
-  pairs_back short named (goes_on i, (long, below), same) = absurd (omega (arith, count))
-  pairs_back short named (shuts_out i x, (long, at), same) = absurd (omega (arith, count))
-
-  pub short_code : length inputs ≤ 4 → IsCode names (IsNamedExclusion family called) (excluded_pairs inputs)
-  short_code short = code_same names (ExcludedNames (length inputs) called_at) (IsNamedExclusion family called) (excluded_pairs inputs) (pairs_to short) (pairs_back short) (pairs_exclude_names names called_at inputs are_named)
-
-  -- a chain
-  abbrev Link : ℕ → List NamedLiteral → Type 0
-  Link i = Both (One (exclusion_clause family (opens i (called_at i)))) (Both (One (exclusion_clause family (shuts_out i (called_at (suc i))))) (When (nat_lt (suc i) (length inputs - 1)) (One (exclusion_clause family (goes_on i)))))
-
   pub open_reads : IsNamedChain names family first (length inputs - 1) → (i : ℕ) → i < length inputs - 1 → (named_literal names (positive (first + i)) ≡ Some (yes (some_of_first family (suc i)))) × (named_literal names (negative (first + i)) ≡ Some (no (some_of_first family (suc i))))
   open_reads chain i h = (ap (option_map (λ (name : Name). yes name)) (chain i h), ap (option_map (λ (name : Name). no name)) (chain i h))
-
-  one_of_two : (a b : Lit) (x y : NamedLiteral) → named_literal names a ≡ Some x → named_literal names b ≡ Some y → IsCode names (One (x ∷ y ∷ [])) ((a ∷ b ∷ []) ∷ [])
-  one_of_two a b x y h k = code_one names (a ∷ b ∷ []) (x ∷ y ∷ []) (reads_whole names (a ∷ b ∷ []) (x ∷ y ∷ []) (read_two names a b x y h k))
-
-  rest_code : IsNamedChain names family first (length inputs - 1) → (i : ℕ) → i < length inputs - 1 → (b : Bool) → nat_lt (suc i) (length inputs - 1) ≡ b →
-      IsCode names (When (nat_lt (suc i) (length inputs - 1)) (One (exclusion_clause family (goes_on i)))) (cond b ((negative (first + i) ∷ positive (first + suc i) ∷ []) ∷ []) [])
-  rest_code chain i h true e = code_when_true names (nat_lt (suc i) (length inputs - 1)) (One (exclusion_clause family (goes_on i))) ((negative (first + i) ∷ positive (first + suc i) ∷ []) ∷ []) e
-      (one_of_two (negative (first + i)) (positive (first + suc i)) (no (some_of_first family (suc i))) (yes (some_of_first family (suc (suc i)))) (open_reads chain i h).1 (open_reads chain (suc i) (ltb-true (suc i) (length inputs - 1) e)).0)
-  rest_code chain i h false e = code_when_false names (nat_lt (suc i) (length inputs - 1)) (One (exclusion_clause family (goes_on i))) e
-
-  link_code : IsNamedChain names family first (length inputs - 1) → (i : ℕ) → i < length inputs - 1 → IsCode names (Link i) (link_clauses inputs first i)
-  link_code chain i h =
-      let first_code = one_of_two (negation (input_at inputs i)) (positive (first + i)) (no (called_at i)) (yes (some_of_first family (suc i))) (read_negation names (input_at inputs i) (yes (called_at i)) (input_reads i (omega arith))) (open_reads chain i h).0 in
-      let second_code = one_of_two (negation (input_at inputs (suc i))) (negative (first + i)) (no (called_at (suc i))) (no (some_of_first family (suc i))) (read_negation names (input_at inputs (suc i)) (yes (called_at (suc i))) (input_reads (suc i) (omega arith))) (open_reads chain i h).1 in
-      let rest = rest_code chain i h (nat_lt (suc i) (length inputs - 1)) refl in
-      code_append names _ _ _ _ first_code (code_append names _ _ _ _ second_code rest)
-
-  chain_to : 5 ≤ length inputs → (named : List NamedLiteral) → Each (length inputs - 1) Link named → IsNamedExclusion family called named
-  chain_to long named (i, below, inl same) = (opens i (called_at i), (omega (arith, count), omega (arith, count), at_place i (omega arith)), same)
-  chain_to long named (i, below, inr (inl same)) = (shuts_out i (called_at (suc i)), (omega (arith, count), at_place (suc i) (omega arith)), same)
-  chain_to long named (i, below, inr (inr (more, same))) = let less = ltb-true (suc i) (length inputs - 1) more in (goes_on i, (omega (arith, count), omega (arith, count, less)), same)
-
-  chain_back : 5 ≤ length inputs → (named : List NamedLiteral) → IsNamedExclusion family called named → Each (length inputs - 1) Link named
-  chain_back long named (two i j x y, (few, less, at_i, at_j), same) = absurd (omega (arith, count))
-  chain_back long named (opens i x, (many, below, at), same) = (i, omega (arith, count), inl (ap (λ n. no n ∷ yes (some_of_first family (suc i)) ∷ []) (is_called i x at) ∙ same))
-  chain_back long named (goes_on i, (many, below), same) = (i, omega (arith, count), inr (inr (lt-ltb (suc i) (length inputs - 1) (omega (arith, count)), same)))
-  chain_back long named (shuts_out i x, (many, at), same) =
-      let within = slice_get_within called (suc i) x at in
-      (i, omega (arith, count), inr (inl (ap (λ n. no n ∷ no (some_of_first family (suc i)) ∷ []) (is_called (suc i) x at) ∙ same)))
-
-  pub long_code : 5 ≤ length inputs → IsNamedChain names family first (length inputs - 1) → IsCode names (IsNamedExclusion family called) (chain_clauses inputs first)
-  long_code long chain = code_same names (Each (length inputs - 1) Link) (IsNamedExclusion family called) (chain_clauses inputs first) (chain_to long) (chain_back long)
-      (code_flat names Link (link_clauses inputs first) (length inputs - 1) (link_code chain))
-
-pub exclusion_is_code : ExclusionIsCode
-exclusion_is_code names family called inputs first reads = by (nat_le (length inputs) 4) refl
-  where
-    by : (b : Bool) → nat_le (length inputs) 4 ≡ b → IsNamedChain names family first (cond b 0 (length inputs - 1)) → IsCode names (IsNamedExclusion family called) (cond b (excluded_pairs inputs) (chain_clauses inputs first))
-    by true h chain = short_code names family called inputs first reads (short_from (length inputs) h)
-      where
-        short_from : (n : ℕ) → nat_le n 4 ≡ true → n ≤ 4
-        short_from n e = search (arith, tests)
-    by false h chain = long_code names family called inputs first reads (long_from (length inputs) h) chain
-      where
-        long_from : (n : ℕ) → nat_le n 4 ≡ false → 5 ≤ n
-        long_from n e = search (arith, tests)

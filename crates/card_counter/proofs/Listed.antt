@@ -1,5 +1,6 @@
 -- The clauses of an "at most one", one after another.
 use Rattle.std.proofs.Common.{◌≡◌, ℕ, zero, suc, ◌+◌, ◌-◌, ◌*◌, ◌<◌, ◌≤◌, ◌∙◌, Bool, true, false, cond, List, [], ◌∷◌, ◌++◌, map, flat_map, length, take, Some, refl, sym, ap, subst, arith, tests, Contains, slice_get, get_or, nat_le, nat_lt, length-append}
+use Rattle.des_base.specs.ChainCount.{chain_count}
 use Rattle.std.specs.List.{AllZip, range_with_len}
 use Rattle.std.proofs.lemmas.Bool.{ltb-true, lt-ltb}
 use Rattle.std.proofs.lemmas.List.FromFn.{length-map-range_with_len}
@@ -7,16 +8,17 @@ use Rattle.std.proofs.lemmas.Option.{slice_get_within, slice_get-get_or, get_or_
 use Rattle.des_base.proofs.Elements.{some_at, zip_append, take_whole}
 use Rattle.prop_core.specs.declared.lit.Lit.{Lit}
 use Rattle.prop_core.specs.Clauses.{Clause, negation}
-use Rattle.prop_core.specs.VariableNames.{Name, Exclusion, asked, some_of_first, NamedLiteral, yes, no, named_literal, named_clause, ReadsAs}
-use Rattle.prop_core.proofs.FamilyLemmas.{reads_whole}
+use Rattle.prop_core.specs.VariableNames.{Name, Exclusion, asked, some_of_first, NamedLiteral, yes, no, named_literal, named_clause}
+use Rattle.prop_core.proofs.FamilyLemmas.{code_same}
 use Rattle.card_counter.proofs.CodeLemmas.{read_negation, read_two}
 use Rattle.card_counter.proofs.Exclusions.{count as called_count, input_reads, open_reads}
 use Rattle.card_counter.proofs.ListLemmas.{take_more, map_as_flat, flat_next, flat_of, flat_contains, map_of, map_contains}
 use Rattle.card_counter.proofs.PairLemmas.{pairs_take}
-use Rattle.card_counter.specs.AtMostOne.{not_both, excluded_pairs, link_clauses, chain_clauses, exclusion_clauses, IsNamedChain, ExclusionsRead}
+use Rattle.card_counter.specs.AtMostOne.{not_both, excluded_pairs, link_clauses, chain_clauses, exclusion_clauses, IsNamedChain, ExclusionIsCode, ExclusionIsListed}
 use Rattle.card_counter.specs.CounterState.{positive, negative, input_at}
-use Rattle.card_counter.specs.Exclusions.{ExclusionClause, exclusion_clause, IsExclusionClause, two, opens, goes_on, shuts_out, input_name, pairs_with, link_at, ExclusionsAreListed}
+use Rattle.card_counter.specs.Exclusions.{ExclusionClause, exclusion_clause, IsExclusionClause, two, opens, goes_on, shuts_out, input_name, pairs_with, link_at, ExclusionsAreListed, named_exclusion, IsNamedExclusion, exclusion_list}
 use Rattle.std.proofs.lemmas.List.{map-append}
+use Rattle.prop_core.proofs.Listed.{Has, has_map, listed_are_code, listed_from}
 
 -- ---- which they are
 
@@ -112,6 +114,23 @@ chain_size inputs zero = omega arith
 chain_size inputs (suc m) =
     omega (arith, chain_size inputs m, ap length (flat_next (link_at inputs) m), length-append (flat_map (link_at inputs) (range_with_len 0 m)) (link_at inputs m), link_size inputs m)
 
+-- with one clause more they are still at most as many as pairs of inputs, in either order or with itself
+pub fewer_than_square : (inputs : List Name) → 1 ≤ length inputs → length (exclusion_list inputs) + 1 ≤ length inputs * length inputs
+fewer_than_square inputs some = by (nat_le (length inputs) 4) refl
+  where
+    pairs : List ExclusionClause
+    pairs = flat_map (pairs_with inputs) (range_with_len 0 (length inputs))
+
+    links : List ExclusionClause
+    links = flat_map (link_at inputs) (range_with_len 0 (length inputs - 1))
+
+    many : (m : ℕ) → 5 ≤ m → 3 * m ≤ m * m
+    many m long = search (arith, long)
+
+    by : (b : Bool) → nat_le (length inputs) 4 ≡ b → length (cond b pairs links) + 1 ≤ length inputs * length inputs
+    by true e = omega (arith, pairs_size inputs (length inputs), some)
+    by false e = omega (arith, chain_size inputs (length inputs - 1), many (length inputs) (many_inputs (length inputs) e), many_inputs (length inputs) e)
+
 pub exclusions_are_listed : ExclusionsAreListed
 exclusions_are_listed inputs = record {
   same = λ which. (to which (nat_le (length inputs) 4) refl, back which (nat_le (length inputs) 4) refl);
@@ -150,15 +169,15 @@ map_next f n = map_as_flat f (range_with_len 0 (suc n)) ∙ flat_next (λ i. f i
 
 module _ (names : List (ℕ × Name)) (family : Exclusion) (called : List Name) (inputs : List Lit) (first : ℕ) (reads : named_clause names inputs ≡ Some (map (λ name. yes name) called)) where
   abbrev Reads : Clause → ExclusionClause → Type 0
-  Reads clause which = ReadsAs names clause (exclusion_clause family which)
+  Reads clause which = named_clause names clause ≡ Some (exclusion_clause family which)
 
   lit_reads : (q : ℕ) (l : Lit) → slice_get inputs q ≡ Some l → named_literal names l ≡ Some (yes (input_name called q))
   lit_reads q l at =
       let same : input_at inputs q ≡ l = get_or_from_slice_get inputs q l (record { var = 0; positive = false }) at in
       subst (λ (x : Lit). named_literal names x ≡ Some (yes (input_name called q))) same (input_reads names family called inputs first reads q (slice_get_within inputs q l at))
 
-  both_read : (a b : Lit) (x y : NamedLiteral) → named_literal names a ≡ Some x → named_literal names b ≡ Some y → ReadsAs names (a ∷ b ∷ []) (x ∷ y ∷ [])
-  both_read a b x y h k = reads_whole names (a ∷ b ∷ []) (x ∷ y ∷ []) (read_two names a b x y h k)
+  both_read : (a b : Lit) (x y : NamedLiteral) → named_literal names a ≡ Some x → named_literal names b ≡ Some y → named_clause names (a ∷ b ∷ []) ≡ Some (x ∷ y ∷ [])
+  both_read a b x y h k = read_two names a b x y h k
 
   pair_reads : (q r : ℕ) (y x : Lit) → slice_get inputs q ≡ Some y → slice_get inputs r ≡ Some x → Reads (not_both x y) (two q r (input_name called q) (input_name called r))
   pair_reads q r y x at_q at_r =
@@ -214,13 +233,33 @@ module _ (names : List (ℕ × Name)) (family : Exclusion) (called : List Name) 
     pub chain_reads : AllZip Reads (chain_clauses inputs first) (flat_map (link_at called) (range_with_len 0 (length inputs - 1)))
     chain_reads = zip_flat Reads (link_clauses inputs first) (link_at called) (length inputs - 1) link_reads
 
-pub exclusions_read : ExclusionsRead
+pub exclusions_read : (names : List (ℕ × Name)) (family : Exclusion) (called : List Name) (inputs : List Lit) (first : ℕ) → named_clause names inputs ≡ Some (map yes called) →
+    IsNamedChain names family first (chain_count (length inputs)) → AllZip (λ clause which. named_clause names clause ≡ Some (exclusion_clause family which)) (exclusion_clauses inputs first) (exclusion_list called)
 exclusions_read names family called inputs first reads chain =
-    subst (λ m. AllZip (λ clause which. ReadsAs names clause (exclusion_clause family which)) (exclusion_clauses inputs first)
+    subst (λ m. AllZip (λ clause which. named_clause names clause ≡ Some (exclusion_clause family which)) (exclusion_clauses inputs first)
     (cond (nat_le m 4) (flat_map (pairs_with called) (range_with_len 0 m)) (flat_map (link_at called) (range_with_len 0 (m - 1))))) (sym (called_count names family called inputs first reads))
     (by (nat_le (length inputs) 4) chain)
   where
-    by : (b : Bool) → IsNamedChain names family first (cond b 0 (length inputs - 1)) → AllZip (λ clause which. ReadsAs names clause (exclusion_clause family which)) (cond b (excluded_pairs inputs) (chain_clauses inputs first))
+    by : (b : Bool) → IsNamedChain names family first (cond b 0 (length inputs - 1)) → AllZip (λ clause which. named_clause names clause ≡ Some (exclusion_clause family which)) (cond b (excluded_pairs inputs) (chain_clauses inputs first))
         (cond b (flat_map (pairs_with called) (range_with_len 0 (length inputs))) (flat_map (link_at called) (range_with_len 0 (length inputs - 1))))
     by true h = pairs_read names family called inputs first reads
     by false h = chain_reads names family called inputs first reads h
+
+pub exclusion_is_listed : ExclusionIsListed
+exclusion_is_listed names family called inputs first reads chain =
+    listed_from names (exclusion_clause family) (exclusion_clauses inputs first) (exclusion_list called) (exclusions_read names family called inputs first reads chain)
+
+-- ---- as a set
+
+pub has_exclusion : (family : Exclusion) (called : List Name) (named : List NamedLiteral) → Has named (named_exclusion family called) (IsNamedExclusion family called)
+has_exclusion family called named =
+    let all = has_map named (exclusion_clause family) (exclusion_list called) in (
+      (λ there. let found = all.0 there in (found.0, ((exclusions_are_listed called).same found.0).0 found.1, found.2)),
+      (λ is. all.1 (is.0, ((exclusions_are_listed called).same is.0).1 is.1, is.2)),
+    )
+
+pub exclusion_is_code : ExclusionIsCode
+exclusion_is_code names family called inputs first reads chain =
+    code_same names (Contains (named_exclusion family called)) (IsNamedExclusion family called) (exclusion_clauses inputs first)
+    (λ named. (has_exclusion family called named).0) (λ named. (has_exclusion family called named).1)
+    (listed_are_code names (named_exclusion family called) (exclusion_clauses inputs first) (exclusion_is_listed names family called inputs first reads chain))

@@ -1,5 +1,5 @@
 -- The clauses of all pairs of a list.
-use Rattle.std.proofs.Common.{◌≡◌, ℕ, zero, suc, ◌+◌, ◌*◌, ◌-◌, ◌<◌, ◌≤◌, ◌∙◌, Bool, true, false, List, [], ◌∷◌, ◌++◌, map, length, take, drop, Some, refl, sym, ap, subst, arith, slice_get, IsTrue, not, ◌||◌, append_assoc, append-nil, length-append, get_or}
+use Rattle.std.proofs.Common.{◌≡◌, ℕ, zero, suc, ◌+◌, ◌*◌, ◌-◌, ◌<◌, ◌≤◌, ◌∙◌, Bool, true, false, List, [], ◌∷◌, ◌++◌, map, length, take, drop, Some, refl, sym, ap, arith, slice_get, IsTrue, not, ◌||◌, append_assoc, append-nil, length-append, get_or}
 use Rattle.std.proofs.Math.Nat.{suc-mul, mul-suc}
 use Rattle.std.proofs.lemmas.List.{length-map, length-take-le, take-append-drop, map-append}
 use Rattle.std.proofs.lemmas.Option.{slice_get-get_or}
@@ -10,9 +10,6 @@ use Rattle.des_base.specs.Lists.{EachPair}
 use Rattle.prop_core.proofs.Premises.{opposite}
 use Rattle.prop_core.specs.declared.lit.Lit.{Lit}
 use Rattle.prop_core.specs.Clauses.{Clause, negation, literal_true, clause_true, AllClausesTrue}
-use Rattle.prop_core.specs.NamedClauses.{IsCode, One, Each}
-use Rattle.prop_core.specs.VariableNames.{Name, NamedLiteral, no, name_of}
-use Rattle.prop_core.proofs.FamilyLemmas.{code_each_none, code_each_more, code_one, reads_two}
 use Rattle.card_counter.proofs.ListLemmas.{all_both, take_more}
 use Rattle.card_counter.specs.AtMostOne.{AreNotBothTrue, not_both, pairs_after, excluded_pairs, PairsExclude}
 
@@ -114,59 +111,6 @@ module _ (value : ℕ → Bool) where
 
 pub pairs_exclude : PairsExclude
 pairs_exclude value inputs = ((λ all. (pairs_say value [] inputs all).1), (λ pairs. pairs_said value [] inputs (none_across value inputs) pairs))
-
--- ---- by name
-
--- each input is the variable of the name that its place has
-abbrev pub AreNamed : List (ℕ × Name) → (ℕ → Name) → List Lit → Type 0
-AreNamed names name inputs = (q : ℕ) (l : Lit) → slice_get inputs q ≡ Some l → (l.positive ≡ true) × (name_of names l.var ≡ Some (name q))
-
--- for each two of the first k names, that not both are true
-abbrev pub ExcludedNames : ℕ → (ℕ → Name) → List NamedLiteral → Type 0
-ExcludedNames k name = Each k (λ r. Each r (λ q. One (no (name q) ∷ no (name r) ∷ [])))
-
-module _ (names : List (ℕ × Name)) (name : ℕ → Name) (inputs : List Lit) (named : AreNamed names name inputs) where
-  abbrev Excluded : ℕ → ℕ → List NamedLiteral → Type 0
-  Excluded r q = One (no (name q) ∷ no (name r) ∷ [])
-
-  one_pair : (q r : ℕ) (y x : Lit) → slice_get inputs q ≡ Some y → slice_get inputs r ≡ Some x → IsCode names (Excluded r q) (not_both x y ∷ [])
-  one_pair q r y x at_q at_r =
-      let first = named q y at_q in
-      let second = named r x at_r in
-      let y_is : negation y ≡ record { var = y.var; positive = false } = ap (λ b. record { var = y.var; positive = not b }) first.0 in
-      let x_is : negation x ≡ record { var = x.var; positive = false } = ap (λ b. record { var = x.var; positive = not b }) second.0 in
-      let reads = reads_two names y.var x.var (name q) (name r) first.1 second.1 in
-      code_one names (not_both x y) (no (name q) ∷ no (name r) ∷ []) (rw (y_is, x_is) reads)
-
-  one_row : (r : ℕ) (x : Lit) → slice_get inputs r ≡ Some x → (k : ℕ) → k ≤ length inputs → IsCode names (Each k (Excluded r)) (map (not_both x) (take k inputs))
-  one_row r x at_r zero inside = code_each_none names (Excluded r)
-  one_row r x at_r (suc k) inside =
-      let at = some_at inputs k (omega arith) in
-      let row = one_row r x at_r k (omega arith) in
-      let more = code_each_more names (Excluded r) k (map (not_both x) (take k inputs)) (not_both x at.0 ∷ []) row (one_pair k r at.0 x at.1 at_r) in
-      let whole : map (not_both x) (take (suc k) inputs) ≡ map (not_both x) (take k inputs) ++ not_both x at.0 ∷ [] = ap (map (not_both x)) (take_more inputs k at.0 at.1) ∙ map-append (not_both x) (take k inputs) (at.0 ∷ []) in
-      let next : k + 1 ≡ suc k = omega arith in
-      rw whole (subst (λ n. IsCode names (Each n (Excluded r)) (map (not_both x) (take k inputs) ++ not_both x at.0 ∷ [])) next more)
-
-  all_rows : (k : ℕ) → k ≤ length inputs → IsCode names (ExcludedNames k name) (excluded_pairs (take k inputs))
-  all_rows zero inside = code_each_none names (λ r. Each r (Excluded r))
-  all_rows (suc k) inside =
-      let at = some_at inputs k (omega arith) in
-      let before = all_rows k (omega arith) in
-      let row = one_row k at.0 at.1 k (omega arith) in
-      let more = code_each_more names (λ r. Each r (Excluded r)) k (excluded_pairs (take k inputs)) (map (not_both at.0) (take k inputs)) before row in
-      let whole = pairs_take inputs k at.0 at.1 in
-      let next : k + 1 ≡ suc k = omega arith in
-      rw whole (subst (λ n. IsCode names (ExcludedNames n name) (excluded_pairs (take k inputs) ++ map (not_both at.0) (take k inputs))) next more)
-
-pub pairs_exclude_names : (names : List (ℕ × Name)) (name : ℕ → Name) (inputs : List Lit) → AreNamed names name inputs → IsCode names (ExcludedNames (length inputs) name) (excluded_pairs inputs)
-pairs_exclude_names names name inputs named =
-    let whole = take_whole inputs in
-    subst (λ xs. IsCode names (ExcludedNames (length inputs) name) (excluded_pairs xs)) whole (all_rows names name inputs named (length inputs) (omega arith))
-  where
-    take_whole : (xs : List Lit) → take (length xs) xs ≡ xs
-    take_whole [] = refl
-    take_whole (x ∷ xs) = ap (λ rest. x ∷ rest) (take_whole xs)
 
 -- ---- how many they are
 

@@ -11,7 +11,7 @@ use Rattle.prop_core.specs.Clauses.{Clause}
 use Rattle.card_counter.specs.declared.counter.Column.{Column}
 use Rattle.card_counter.proofs.Inputs.{inputs_grow, longer_size}
 use Rattle.card_counter.proofs.States.{grown_is_counter, grown_is_made}
-use Rattle.card_counter.specs.CounterState.{CounterState, IsPlace, IsCounter, IsMade, HasInput, var_at, column_at, with_column, next_clauses, longer, with_input, clauses_of_column, clauses_of_input}
+use Rattle.card_counter.specs.CounterState.{CounterState, IsPlace, IsCounter, IsMade, HasInput, var_at, column_at, with_column, next_clauses, longer, with_input, clauses_of_column, clauses_of_input, variable}
 use Rattle.card_counter.specs.Rows.{column_of, columns_of, counter_of, var_of, IsLaidOut}
 use Rattle.prop_core.specs.ClauseStore.{ClauseStore}
 use Rattle.card_counter.proofs.PlaceLemmas.{last_column, last_input}

@@ -1,14 +1,14 @@
 -- At most one of a list of literals is true, and the clauses that say so: one for each pair of at most four, and a chain over more.
 use Rattle.std.specs.Prelude.{◌≡◌, ◌↔◌, ◌⊎◌, ◌+◌, ◌-◌, ◌<◌, ◌≤◌, ℕ, suc, Bool, List, [], ◌∷◌, ◌++◌, map, flat_map, length, Some, IsTrue, nat_le, nat_lt, if◌then◌else◌}
-use Rattle.std.specs.List.{AllZip}
 use Rattle.des_base.specs.ChainCount.{chain_count}
 use Rattle.des_base.specs.Lists.{EachPair}
 use Rattle.prop_core.specs.declared.lit.Lit.{Lit}
 use Rattle.prop_core.specs.Clauses.{Clause, negation, literal_true, AllClausesTrue, HasValues}
 use Rattle.prop_core.specs.NamedClauses.{IsCode}
-use Rattle.prop_core.specs.VariableNames.{Name, Exclusion, some_of_first, yes, name_of, named_clause, ReadsAs}
+use Rattle.prop_core.specs.VariableNames.{Name, Exclusion, some_of_first, yes, name_of, named_clause}
 use Rattle.card_counter.specs.CounterState.{positive, negative, input_at, numbers_below}
-use Rattle.card_counter.specs.Exclusions.{exclusion_clause, IsNamedExclusion, exclusion_list}
+use Rattle.card_counter.specs.Exclusions.{IsNamedExclusion, named_exclusion}
+use Rattle.prop_core.specs.Listings.{IsListed}
 
 abbrev pub AreNotBothTrue : (ℕ → Bool) → Lit → Lit → Type 0
 AreNotBothTrue value x y = IsTrue (literal_true value x) → IsTrue (literal_true value y) → ⊥
@@ -78,7 +78,7 @@ abbrev pub ExclusionIsCode : Type 0
 ExclusionIsCode = (names : List (ℕ × Name)) (family : Exclusion) (called : List Name) (inputs : List Lit) (first : ℕ) → named_clause names inputs ≡ Some (map yes called) →
     IsNamedChain names family first (chain_count (length inputs)) → IsCode names (IsNamedExclusion family called) (exclusion_clauses inputs first)
 
--- One after another they are those of the list.
-abbrev pub ExclusionsRead : Type 0
-ExclusionsRead = (names : List (ℕ × Name)) (family : Exclusion) (called : List Name) (inputs : List Lit) (first : ℕ) → named_clause names inputs ≡ Some (map yes called) →
-    IsNamedChain names family first (chain_count (length inputs)) → AllZip (λ clause which. ReadsAs names clause (exclusion_clause family which)) (exclusion_clauses inputs first) (exclusion_list called)
+-- One after another they are listed so, literal by literal.
+abbrev pub ExclusionIsListed : Type 0
+ExclusionIsListed = (names : List (ℕ × Name)) (family : Exclusion) (called : List Name) (inputs : List Lit) (first : ℕ) → named_clause names inputs ≡ Some (map yes called) →
+    IsNamedChain names family first (chain_count (length inputs)) → IsListed names (named_exclusion family called) (exclusion_clauses inputs first)

@@ -1,6 +1,7 @@
 -- The clauses of an "at most one", by name: each pair of at most four inputs, and of more inputs a chain (after Sinz, "Towards an optimal CNF encoding of Boolean cardinality constraints", CP 2005).
 use Rattle.std.specs.Prelude.{◌≡◌, ◌↔◌, ℕ, suc, ◌*◌, ◌-◌, ◌<◌, ◌≤◌, nat_le, nat_lt, Bool, true, false, List, [], ◌∷◌, map, flat_map, take, length, Option, Some, None, option_map, unwrap_or, slice_get, slice_index_or, Contains, IsTrue, if◌then◌else◌}
 use Rattle.std.specs.List.{list_any, range_with_len}
+use Rattle.prop_core.specs.Listings.{Listing}
 use Rattle.prop_core.specs.NamedClauses.{named_clause_true}
 use Rattle.prop_core.specs.VariableNames.{Name, in_state, happens, asked, matches, done, unmatched, closed, dropped, reaches, some_of_first, Exclusion, NamedLiteral, yes, no}
 
@@ -44,6 +45,10 @@ link_at inputs i = opens i (input_name inputs i) ∷ shuts_out i (input_name inp
 
 abbrev pub exclusion_list : List Name → List ExclusionClause
 exclusion_list inputs = if nat_le (length inputs) 4 then flat_map (pairs_with inputs) (range_with_len 0 (length inputs)) else flat_map (link_at inputs) (range_with_len 0 (length inputs - 1))
+
+-- and by name
+abbrev pub named_exclusion : Exclusion → List Name → Listing
+named_exclusion family inputs = map (exclusion_clause family) (exclusion_list inputs)
 
 -- These are the clauses that are written, and no others; at most three for each input.
 pub record AreListed (inputs : List Name) : Type 0 where

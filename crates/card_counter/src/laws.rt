@@ -1,4 +1,4 @@
-ghost use Rattle.card_counter.specs.AtMostOne.{ExclusionIsExact, ExclusionIsCode, ExclusionsRead};
+ghost use Rattle.card_counter.specs.AtMostOne.{ExclusionIsExact, ExclusionIsCode, ExclusionIsListed};
 ghost use Rattle.card_counter.specs.CounterState.{ColumnsAddClauses, ColumnsAddNames, InputsAddClauses, InputsGrow, ManyInputsAdd};
 ghost use Rattle.card_counter.specs.Counting.{NamesGrow, CounterIsExact, NamedCountIsExact, NamedColumnsGrow, CounterIsCode, ColumnIsCode, CounterNamesStand};
 ghost use Rattle.card_counter.specs.Exclusions.{ExclusionsAreListed, ExclusionIsSound, ExclusionIsComplete};
@@ -13,14 +13,14 @@ pub fn exclusion_is_code()
     ensures { ExclusionIsCode }
 {}
 
+/// A law: one after another they are listed so, literal by literal.
+pub fn exclusion_is_listed()
+    ensures { ExclusionIsListed }
+{}
+
 /// A law: by name they are the clauses of a list.
 pub fn exclusions_are_listed()
     ensures { ExclusionsAreListed }
-{}
-
-/// A law: one after another they read as those of the list.
-pub fn exclusions_read()
-    ensures { ExclusionsRead }
 {}
 
 /// A law: where these clauses are true by name, at most one input is.

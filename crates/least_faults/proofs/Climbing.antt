@@ -2,9 +2,8 @@
 use Rattle.std.proofs.Common.{◌≡◌, ◌≢◌, ◌∙◌, ℕ, suc, ◌+◌, ◌<◌, ◌≤◌, true, false, ◌⊎◌, inl, inr, List, [], ◌∷◌, ◌++◌, Option, None, Some, refl, sym, ap, subst, arith, Contains, count_by, append-nil, append_assoc}
 use Rattle.std.proofs.lemmas.List.Elements.{filter_map-append}
 use Rattle.std.specs.List.{AllByRecursion, list_any, list_all}
-use Rattle.card_counter.proofs.ListLemmas.{all_split}
 use Rattle.card_counter.specs.CounterState.{CounterState}
-use Rattle.des_base.proofs.Elements.{none_in_nil}
+use Rattle.des_base.proofs.Elements.{none_in_nil, all_split}
 use Rattle.des_net.specs.Network.{Net, IsNetwork}
 use Rattle.least_faults.proofs.Assuming.{assumptions_stay}
 use Rattle.least_faults.proofs.Entailing.{final_entailed}

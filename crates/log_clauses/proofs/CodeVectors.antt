@@ -1,17 +1,19 @@
 -- Worked codes over variables, where two events in one step are on 0 and 1.
-use Rattle.std.proofs.Common.{◌≡◌, ℕ, Bool, true, false, List, [], ◌∷◌, ◌++◌, refl, ◌==◌, arith}
+use Rattle.std.proofs.Common.{◌≡◌, ℕ, Bool, true, false, List, [], ◌∷◌, ◌++◌, Some, refl, ◌==◌, arith}
 use Rattle.std.specs.List.{list_all, list_any}
 use Rattle.des_net.specs.Models.{apart}
 use Rattle.log_order.specs.Log.{Log, no_log}
 use Rattle.log_clauses.proofs.BesideEvents.{log_code_begins, log_code_grows, log_codes_are}
-use Rattle.log_clauses.proofs.Numbered.{ordered_reads}
+use Rattle.log_clauses.proofs.Numbered.{ordered_reads, ordered_names}
 use Rattle.log_clauses.specs.Additions.{alarm_added, with_addition}
 use Rattle.log_clauses.specs.BesideEvents.{with_events, HasLogCode}
-use Rattle.log_clauses.specs.LogClauses.{guard_literals}
+use Rattle.log_clauses.specs.Drafts.{added_clauses, first_clauses}
+use Rattle.log_clauses.specs.LogClauses.{log_clause, guard_literals}
 use Rattle.log_clauses.specs.LogCodeLaws.{IsLogCode}
 use Rattle.log_clauses.specs.LogNames.{first_names, with_added, ReadsInOrder}
 use Rattle.prop_core.specs.Clauses.{Clause, clause_true, literal_true}
-use Rattle.prop_core.specs.VariableNames.{Name, happens, asked, matches, done, unmatched, closed, NamedLiteral, yes, no, ReadsAs}
+use Rattle.prop_core.proofs.Listed.{listed_from}
+use Rattle.prop_core.specs.VariableNames.{Name, happens, asked, matches, done, unmatched, closed, NamedLiteral, yes, no, named_clause}
 use Rattle.prop_core.specs.declared.lit.Lit.{Lit}
 use Rattle.run_clauses.specs.LaidOut.{laid_out}
 use Rattle.log_clauses.proofs.Vectors.{x}
@@ -31,10 +33,10 @@ abbrev written : List Clause
 written = (no_variable 3 ∷ no_variable 0 ∷ []) ∷ (no_variable 4 ∷ no_variable 1 ∷ []) ∷ []
 
 pub empty_code : HasLogCode apart no_log 1 0 5 (laid_out 2 (first_names apart)) written
-empty_code = log_code_begins apart 1 0 2 written (omega arith) (
-  ordered_reads names (no_variable 3 ∷ no_variable 0 ∷ []) (no (closed 0 0) ∷ no (happens 0 1) ∷ []) ((refl, refl), ((refl, refl), tt)),
-  (ordered_reads names (no_variable 4 ∷ no_variable 1 ∷ []) (no (closed 1 0) ∷ no (happens 1 1) ∷ []) ((refl, refl), ((refl, refl), tt)), tt),
-)
+empty_code = log_code_begins apart 1 0 2 written (omega arith) (listed_from names (log_clause apart no_log 1) written (first_clauses apart 1) (
+  ordered_names names (no_variable 3 ∷ no_variable 0 ∷ []) (no (closed 0 0) ∷ no (happens 0 1) ∷ []) ((refl, refl), ((refl, refl), tt)),
+  (ordered_names names (no_variable 4 ∷ no_variable 1 ∷ []) (no (closed 1 0) ∷ no (happens 1 1) ∷ []) ((refl, refl), ((refl, refl), tt)), tt),
+))
 
 -- ---- and with x on 5 to 9
 
@@ -52,15 +54,15 @@ drafted = (no_variable 5 ∷ no_variable 7 ∷ []) ∷ (no_variable 6 ∷ yes_va
     ∷ (no_variable 0 ∷ yes_variable 6 ∷ yes_variable 7 ∷ []) ∷ (no_variable 6 ∷ yes_variable 9 ∷ []) ∷ (no_variable 6 ∷ no_variable 8 ∷ [])
     ∷ (no_variable 8 ∷ []) ∷ (no_variable 2 ∷ yes_variable 9 ∷ []) ∷ (no_variable 8 ∷ yes_variable 9 ∷ []) ∷ (no_variable 9 ∷ yes_variable 8 ∷ yes_variable 6 ∷ []) ∷ []
 
-two : (a b : Lit) (l m : NamedLiteral) → ReadsInOrder all_names (a ∷ []) (l ∷ []) → ReadsInOrder all_names (b ∷ []) (m ∷ []) → ReadsAs all_names (a ∷ b ∷ []) (l ∷ m ∷ [])
-two a b l m first second = ordered_reads all_names (a ∷ b ∷ []) (l ∷ m ∷ []) (first.0, second)
+two : (a b : Lit) (l m : NamedLiteral) → ReadsInOrder all_names (a ∷ []) (l ∷ []) → ReadsInOrder all_names (b ∷ []) (m ∷ []) → named_clause all_names (a ∷ b ∷ []) ≡ Some (l ∷ m ∷ [])
+two a b l m first second = ordered_names all_names (a ∷ b ∷ []) (l ∷ m ∷ []) (first.0, second)
 
 three : (a b c : Lit) (l m n : NamedLiteral) → ReadsInOrder all_names (a ∷ []) (l ∷ []) → ReadsInOrder all_names (b ∷ []) (m ∷ []) → ReadsInOrder all_names (c ∷ []) (n ∷ []) →
-    ReadsAs all_names (a ∷ b ∷ c ∷ []) (l ∷ m ∷ n ∷ [])
-three a b c l m n first second third = ordered_reads all_names (a ∷ b ∷ c ∷ []) (l ∷ m ∷ n ∷ []) (first.0, (second.0, third))
+    named_clause all_names (a ∷ b ∷ c ∷ []) ≡ Some (l ∷ m ∷ n ∷ [])
+three a b c l m n first second third = ordered_names all_names (a ∷ b ∷ c ∷ []) (l ∷ m ∷ n ∷ []) (first.0, (second.0, third))
 
 pub code_of_x : HasLogCode apart with_x 1 0 10 x_names (written ++ drafted)
-code_of_x = log_code_grows apart no_log 1 0 5 5 (alarm_added x) (laid_out 2 (first_names apart)) written drafted empty_code (omega arith) (
+code_of_x = log_code_grows apart no_log 1 0 5 5 (alarm_added x) (laid_out 2 (first_names apart)) written drafted empty_code (omega arith) (listed_from all_names (log_clause apart with_x 1) drafted (added_clauses apart no_log 1 (alarm_added x)) (
   two (no_variable 5) (no_variable 7) (no (closed 0 1)) (no (unmatched 0 1 1)) ((refl, refl), tt) ((refl, refl), tt),
   (
     two (no_variable 6) (yes_variable 0) (no (matches 0 0 1)) (yes (happens 0 1)) ((refl, refl), tt) ((refl, refl), tt),
@@ -75,7 +77,7 @@ code_of_x = log_code_grows apart no_log 1 0 5 5 (alarm_added x) (laid_out 2 (fir
             (
               two (no_variable 6) (no_variable 8) (no (matches 0 0 1)) (no (done 0 0)) ((refl, refl), tt) ((refl, refl), tt),
               (
-                ordered_reads all_names (no_variable 8 ∷ []) (no (done 0 0) ∷ []) ((refl, refl), tt),
+                ordered_names all_names (no_variable 8 ∷ []) (no (done 0 0) ∷ []) ((refl, refl), tt),
                 (
                   two (no_variable 2) (yes_variable 9) (no asked) (yes (done 0 1)) ((refl, refl), tt) ((refl, refl), tt),
                   (
@@ -90,7 +92,7 @@ code_of_x = log_code_grows apart no_log 1 0 5 5 (alarm_added x) (laid_out 2 (fir
       ),
     ),
   ),
-)
+))
 
 -- its guards are on 2, 5 and 4, and no longer on 3, which ended the chain of ea before x
 abbrev assumed : List Lit

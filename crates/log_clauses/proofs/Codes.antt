@@ -9,9 +9,9 @@ use Rattle.log_clauses.specs.Additions.{with_addition, IsAddedClause}
 use Rattle.log_clauses.specs.LogClauses.{IsLogClause}
 use Rattle.log_clauses.specs.LogCodes.{IsNamedLog, IsNamedFirst, IsNamedAdded, AreAmong, ReadingsStay, CodesStay, CodeBegins, CodeGrows}
 use Rattle.log_order.specs.Log.{no_log}
-use Rattle.prop_core.proofs.FamilyLemmas.{code_append, code_same}
+use Rattle.prop_core.proofs.FamilyLemmas.{Either, code_append, code_same}
 use Rattle.prop_core.specs.Clauses.{Clause}
-use Rattle.prop_core.specs.NamedClauses.{IsCode, Both}
+use Rattle.prop_core.specs.NamedClauses.{IsCode}
 use Rattle.prop_core.specs.VariableNames.{Name, NamedLiteral, HasEachOnce, name_of, named_literal, named_clause, with_literal, ReadsAs}
 use Rattle.prop_core.specs.declared.lit.Lit.{Lit}
 use Rattle.run_clauses.specs.StepCodes.{IsNamedStep}
@@ -113,16 +113,16 @@ code_begins net n names clauses code = code_same names (IsNamedFirst net n) (IsN
 
 pub code_grows : CodeGrows
 code_grows net log n addition names more clauses drafted once inside code draft =
-    code_same more (Both (IsNamedLog net log n) (IsNamedAdded net log n addition)) (IsNamedLog net (with_addition log addition) n) (clauses ++ drafted) to back
+    code_same more (Either (IsNamedLog net log n) (IsNamedAdded net log n addition)) (IsNamedLog net (with_addition log addition) n) (clauses ++ drafted) to back
     (code_append more (IsNamedLog net log n) (IsNamedAdded net log n addition) clauses drafted (code_stays names more (IsNamedLog net log n) clauses once inside code) draft)
   where
-    to : (named : List NamedLiteral) → Both (IsNamedLog net log n) (IsNamedAdded net log n addition) named → IsNamedLog net (with_addition log addition) n named
+    to : (named : List NamedLiteral) → Either (IsNamedLog net log n) (IsNamedAdded net log n addition) named → IsNamedLog net (with_addition log addition) n named
     to named (inl (which, known, is)) = let exact = additions_are_exact net log n addition which in (which, exact.0.1 (inl known), sym (exact.1 known) ∙ is)
     to named (inr (which, known, is)) = (which, (additions_are_exact net log n addition which).0.1 (inr known), is)
 
-    back : (named : List NamedLiteral) → IsNamedLog net (with_addition log addition) n named → Both (IsNamedLog net log n) (IsNamedAdded net log n addition) named
+    back : (named : List NamedLiteral) → IsNamedLog net (with_addition log addition) n named → Either (IsNamedLog net log n) (IsNamedAdded net log n addition) named
     back named (which, known, is) = by ((additions_are_exact net log n addition which).0.0 known)
       where
-        by : IsLogClause net log n which ⊎ IsAddedClause net log n addition which → Both (IsNamedLog net log n) (IsNamedAdded net log n addition) named
+        by : IsLogClause net log n which ⊎ IsAddedClause net log n addition which → Either (IsNamedLog net log n) (IsNamedAdded net log n addition) named
         by (inl old) = inl (which, old, (additions_are_exact net log n addition which).1 old ∙ is)
         by (inr new) = inr (which, new, is)

@@ -1,6 +1,6 @@
 -- The listed clauses of an addition are those that it brings.
 use Rattle.std.proofs.Common.{◌≡◌, ℕ, zero, suc, ◌+◌, ◌*◌, ◌^◌, ◌<◌, ◌≤◌, Bool, true, false, cond, List, [], ◌∷◌, ◌++◌, ◌∙◌, length, refl, sym, ap, subst, arith, Contains, map, flat_map, inl, inr, ◌⊎◌, ◌↔◌, is_some, count_by, length-append, sum_by}
-use Rattle.std.specs.List.{AllByRecursion, AllZip}
+use Rattle.std.specs.List.{AllByRecursion}
 use Rattle.std.proofs.lemmas.List.{length-map}
 use Rattle.std.proofs.lemmas.List.Sums.{length-filter, sum_by-append, sum_by-cons}
 use Rattle.std.proofs.lemmas.List.FromFn.{length-range_with_len}
@@ -20,36 +20,23 @@ use Rattle.log_clauses.specs.LogClauses.{chain, match_inputs, observable_events,
 use Rattle.log_order.specs.Log.{Log, Alarm, no_log, is_doubtful}
 use Rattle.prop_core.specs.Clauses.{Clause}
 use Rattle.prop_core.specs.NamedClauses.{IsCode}
-use Rattle.prop_core.specs.VariableNames.{Name, matches, NamedLiteral, ReadsAs}
+use Rattle.prop_core.specs.VariableNames.{Name, matches, NamedLiteral}
 use Rattle.replay.specs.Explanation.{is_matching}
 use Rattle.replay.specs.QuestionSize.{question_size, matching_count, doubtful_count}
 use Rattle.run_clauses.proofs.Lists.{from_numbers, in_numbers}
 use Rattle.std.proofs.lemmas.List.Elements.{Contains-append_cases, Contains-append_left, Contains-append_right}
+use Rattle.prop_core.proofs.FamilyLemmas.{code_same}
+use Rattle.prop_core.proofs.Listed.{has_map, listed_are_code}
+use Rattle.prop_core.specs.Listings.{IsListed}
 
--- Clauses that read as a list of what is wanted are the code of it.
+-- Clauses that are listed as what is wanted are the code of it.
 listed : {W : Type 0} (names : List (ℕ × Name)) (wanted : W → Type 0) (literals : W → List NamedLiteral) (clauses : List Clause) (list : List W) →
-    ((w : W) → Contains list w ↔ wanted w) → AllZip (λ clause w. ReadsAs names clause (literals w)) clauses list → IsCode names (λ named. (w : W) × wanted w × (literals w ≡ named)) clauses
-listed names wanted literals clauses list same zip = record {
-  all = λ named (w, h, is). let there = covered clauses list w ((same w).1 h) zip in (there.0, there.1, subst (ReadsAs names there.0) is there.2);
-  only = written clauses list (λ w in'. (same w).0 in') zip;
-}
-  where
-    written : (cs : List Clause) (ws : List _) → ((w : _) → Contains ws w → wanted w) → AllZip (λ clause w. ReadsAs names clause (literals w)) cs ws →
-        AllByRecursion (λ clause. (named : List NamedLiteral) × ((w : _) × wanted w × (literals w ≡ named)) × ReadsAs names clause named) cs
-    written [] [] inside z = tt
-    written [] (w ∷ ws) inside z = absurd z
-    written (c ∷ cs) [] inside z = absurd z
-    written (c ∷ cs) (w ∷ ws) inside z = ((literals w, (w, inside w (here_first w ws w refl), refl), z.0), written cs ws (λ v in'. inside v (here_later w ws v in')) z.1)
-
-    covered : (cs : List Clause) (ws : List _) (w : _) → Contains ws w → AllZip (λ clause v. ReadsAs names clause (literals v)) cs ws → (clause : Clause) × Contains cs clause × ReadsAs names clause (literals w)
-    covered [] [] w in' z = absurd (none_in_nil w in')
-    covered [] (v ∷ ws) w in' z = absurd z
-    covered (c ∷ cs) [] w in' z = absurd z
-    covered (c ∷ cs) (v ∷ ws) w in' z = by (cons_cases v ws w in') (λ rest. covered cs ws w rest z.1)
-      where
-        by : (v ≡ w) ⊎ Contains ws w → (Contains ws w → (clause : Clause) × Contains cs clause × ReadsAs names clause (literals w)) → (clause : Clause) × Contains (c ∷ cs) clause × ReadsAs names clause (literals w)
-        by (inl is) later = (c, here_first c cs c refl, subst (λ x. ReadsAs names c (literals x)) is z.0)
-        by (inr rest) later = let found = later rest in (found.0, here_later c cs found.0 found.1, found.2)
+    ((w : W) → Contains list w ↔ wanted w) → IsListed names (map literals list) clauses → IsCode names (λ named. (w : W) × wanted w × (literals w ≡ named)) clauses
+listed {W} names wanted literals clauses list same are =
+    code_same names (Contains (map literals list)) (λ named. (w : W) × wanted w × (literals w ≡ named)) clauses
+    (λ named there. let found = (has_map named literals list).0 there in (found.0, (same found.0).0 found.1, found.2))
+    (λ named is. (has_map named literals list).1 (is.0, (same is.0).1 is.1, is.2))
+    (listed_are_code names (map literals list) clauses are)
 
 module _ (net : Net) (log : Log) (n : ℕ) (new : Alarm) where
   -- that the alarm stands for one of the events in the step after t steps
@@ -221,8 +208,8 @@ first_listed net n which = (to, λ h. from h.0 h.1 h.2 h.3 h.4)
 
 pub drafts_are_code : DraftsAreCode
 drafts_are_code net n names clauses = (
-  λ log addition zip. listed names (IsAddedClause net log n addition) (log_clause net (with_addition log addition) n) clauses (added_clauses net log n addition) (added_listed net log n addition) zip,
-  λ zip. listed names (IsFirstClause net n) (log_clause net no_log n) clauses (first_clauses net n) (first_listed net n) zip,
+  λ log addition are. listed names (IsAddedClause net log n addition) (log_clause net (with_addition log addition) n) clauses (added_clauses net log n addition) (added_listed net log n addition) are,
+  λ are. listed names (IsFirstClause net n) (log_clause net no_log n) clauses (first_clauses net n) (first_listed net n) are,
 )
 
 -- How many clauses and names an addition has.

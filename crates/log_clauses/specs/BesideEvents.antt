@@ -4,12 +4,13 @@ use Rattle.std.specs.List.{AllByRecursion}
 use Rattle.des_net.specs.Network.{Net}
 use Rattle.log_order.specs.Log.{Log, no_log}
 use Rattle.log_clauses.specs.Additions.{Addition, with_addition}
-use Rattle.log_clauses.specs.Drafts.{AreListed, added_clauses, first_clauses}
+use Rattle.log_clauses.specs.Drafts.{added_list, first_list}
 use Rattle.log_clauses.specs.LogClauses.{guard_literals}
 use Rattle.log_clauses.specs.LogCodeLaws.{IsLogCode}
 use Rattle.log_clauses.specs.LogCodes.{IsNamedLog}
 use Rattle.log_clauses.specs.LogNames.{AreLogNames, with_added, added_names, first_names}
 use Rattle.prop_core.specs.Clauses.{Clause}
+use Rattle.prop_core.specs.Listings.{IsListed}
 use Rattle.prop_core.specs.NamedClauses.{IsCode}
 use Rattle.prop_core.specs.VariableNames.{Name, happens, name_of, HasEachOnce, ReadsAs}
 use Rattle.prop_core.specs.declared.lit.Lit.{Lit}
@@ -43,14 +44,14 @@ pub record HasLogCode (net : Net) (log : Log) (n first vars : ℕ) (names : List
 -- Its first clauses on the next variables are the code of the empty log,
 abbrev pub LogCodeBegins : Type 0
 LogCodeBegins = (net : Net) (n first vars : ℕ) (written : List Clause) → IsAfterEvents net n first vars →
-    AreListed net no_log n (with_events net n first (laid_out vars (first_names net))) written (first_clauses net n) →
+    IsListed (with_events net n first (laid_out vars (first_names net))) (first_list net n) written →
     HasLogCode net no_log n first (vars + length (first_names net)) (laid_out vars (first_names net)) written
 
 -- a draft on later variables makes it the code of the log with the addition,
 abbrev pub LogCodeGrows : Type 0
 LogCodeGrows = (net : Net) (log : Log) (n first vars next : ℕ) (addition : Addition) (names : List (ℕ × Name)) (written drafted : List Clause) →
     HasLogCode net log n first vars names written → vars ≤ next →
-    AreListed net (with_addition log addition) n (with_events net n first (with_added net log n addition names next)) drafted (added_clauses net log n addition) →
+    IsListed (with_events net n first (with_added net log n addition names next)) (added_list net log n addition) drafted →
     HasLogCode net (with_addition log addition) n first (next + length (added_names net log n addition)) (with_added net log n addition names next) (written ++ drafted)
 
 -- and with its guards it is a code of the log.

@@ -1,6 +1,5 @@
 -- The clauses of an addition to a log as a list, in the order in which loops write them.
 use Rattle.std.specs.Prelude.{◌≡◌, ℕ, suc, Bool, true, false, ◌+◌, ◌*◌, ◌≤◌, List, [], ◌∷◌, ◌++◌, map, flat_map, length}
-use Rattle.std.specs.List.{AllZip}
 use Rattle.des_base.specs.Lists.{numbers_below}
 use Rattle.des_net.specs.Network.{Net}
 use Rattle.des_net.specs.QuestionSize.{observable_count}
@@ -11,8 +10,9 @@ use Rattle.log_clauses.specs.LogCodes.{IsNamedAdded, IsNamedFirst}
 use Rattle.prop_core.specs.Clauses.{Clause}
 use Rattle.prop_core.specs.NamedClauses.{IsCode}
 use Rattle.card_counter.specs.Exclusions.{exclusion_list}
-use Rattle.prop_core.specs.VariableNames.{Name, matches, ReadsAs}
+use Rattle.prop_core.specs.VariableNames.{Name, matches}
 use Rattle.replay.specs.QuestionSize.{question_size}
+use Rattle.prop_core.specs.Listings.{Listing, IsListed}
 
 -- the events that a new alarm may stand for
 abbrev pub taken_events : Net → Log → Alarm → List ℕ
@@ -51,15 +51,18 @@ added_clauses net log n (pair_added i j) = map (λ t. before_if_asked i j t) (nu
 abbrev pub first_clauses : Net → ℕ → List LogClause
 first_clauses net n = flat_map (λ e. map (λ t. chain_closed e 0 t) (numbers_below n)) (observable_events net)
 
--- one after another the clauses are these, by name
-abbrev pub AreListed : Net → Log → ℕ → List (ℕ × Name) → List Clause → List LogClause → Type 0
-AreListed net log n names clauses list = AllZip (λ clause which. ReadsAs names clause (log_clause net log n which)) clauses list
+-- the same by name
+abbrev pub added_list : Net → Log → ℕ → Addition → Listing
+added_list net log n addition = map (log_clause net (with_addition log addition) n) (added_clauses net log n addition)
 
--- Clauses in the listed order are the code of the addition, or of the empty log.
+abbrev pub first_list : Net → ℕ → Listing
+first_list net n = map (log_clause net no_log n) (first_clauses net n)
+
+-- Clauses that are listed so are the code of the addition, or of the empty log.
 abbrev pub DraftsAreCode : Type 0
 DraftsAreCode = (net : Net) (n : ℕ) (names : List (ℕ × Name)) (clauses : List Clause) →
-    ((log : Log) (addition : Addition) → AreListed net (with_addition log addition) n names clauses (added_clauses net log n addition) → IsCode names (IsNamedAdded net log n addition) clauses)
-    × (AreListed net no_log n names clauses (first_clauses net n) → IsCode names (IsNamedFirst net n) clauses)
+    ((log : Log) (addition : Addition) → IsListed names (added_list net log n addition) clauses → IsCode names (IsNamedAdded net log n addition) clauses)
+    × (IsListed names (first_list net n) clauses → IsCode names (IsNamedFirst net n) clauses)
 
 -- An addition has at most 12 clauses for each unit by which the size of the question grows, and 12.
 abbrev pub DraftsAreSmall : Type 0

@@ -7,16 +7,15 @@ use Rattle.des_base.proofs.Elements.{cons_cases, none_in_nil, contains_at, at_pl
 use Rattle.des_base.specs.Lists.{numbers_below}
 use Rattle.des_base.specs.declared.TheConstants.{VAR_LIMIT}
 use Rattle.des_net.specs.Network.{Net}
-use Rattle.log_order.specs.Log.{no_log, is_doubtful}
+use Rattle.log_order.specs.Log.{is_doubtful}
 use Rattle.log_clauses.specs.Additions.{alarm_added, with_addition}
 use Rattle.log_clauses.specs.LogClauses.{chain, observable_events, guard_literals, matching_events}
 use Rattle.log_clauses.specs.Decoded.{alarm_at, is_false}
-use Rattle.log_clauses.specs.LogCodes.{IsNamedLog, IsNamedAdded}
 use Rattle.log_clauses.specs.LogNames.{first_names, ReadsInOrder}
 use Rattle.log_clauses.proofs.Lists.{clash, filter_has, filter_from}
 use Rattle.replay.specs.Explanation.{is_matching}
 use Rattle.run_clauses.proofs.Lists.{in_numbers}
-use Rattle.log_clauses.proofs.Numbered.{ordered_reads, ordered_literal}
+use Rattle.log_clauses.proofs.Numbered.{ordered_literal, ordered_names}
 use Rattle.log_encode.proofs.CodeLemmas.{empty_is_coded, grown_is_coded}
 use Rattle.log_encode.proofs.DraftLemmas.{lifted, asked_named, first_written, alarm_brings}
 use Rattle.log_encode.proofs.EndLemmas.{empty_ends, observables_known, ends_events, ends_count}
@@ -35,13 +34,16 @@ use Rattle.log_encode.specs.Written.{has_any_label, taken_from, first_ends, guar
 use Rattle.prop_core.specs.declared.grid.Grid.{Grid}
 use Rattle.prop_core.specs.declared.lit.Lit.{Lit}
 use Rattle.prop_core.specs.Clauses.{Clause}
-use Rattle.prop_core.specs.NamedClauses.{Appends, IsCode, value_by}
+use Rattle.prop_core.specs.NamedClauses.{value_by}
 use Rattle.prop_core.proofs.NameLemmas.{values_match}
 use Rattle.replay.specs.QuestionSize.{question_size}
 use Rattle.std.specs.Option.{option_map_or}
 use Rattle.std.proofs.lemmas.Bool.{eqb-true, eq-eqb}
 use Rattle.log_encode.specs.declared.alarm_vars.AlarmVars.{AlarmVars}
-use Rattle.prop_core.specs.VariableNames.{Name, NamedLiteral, ReadsAs, name_of, named_clause, yes, closed, matches, done, dropped}
+use Rattle.prop_core.specs.VariableNames.{Name, NamedLiteral, name_of, named_clause, yes, closed, matches, done, dropped}
+use Rattle.prop_core.specs.Listings.{IsListed}
+use Rattle.log_clauses.specs.Drafts.{added_list}
+use Rattle.log_encode.specs.WrittenLog.{AppendsFirst}
 
 -- ---- the empty log
 
@@ -85,14 +87,16 @@ pub first_is_empty : (net : Net) (grid : Grid) (asked vars : ℕ) (alarms : List
 first_is_empty net grid asked vars alarms pairs a p v = rw (a, p, v) refl
 
 pub first_appends : (net : Net) (grid : Grid) (asked : ℕ) (chain_ends : List ChainEnd) (old made new : List Clause) → IsBeginning net grid asked chain_ends → made ≡ all_closed_written grid chain_ends → new ≡ old ++ made →
-    Appends (read_names (empty_code net grid asked)) (IsNamedLog net no_log grid.steps) old new
-first_appends net grid asked chain_ends old made new is written appended = record {
-  more = made;
-  whole = appended;
-  code = subst (IsCode (read_names (empty_code net grid asked)) (IsNamedLog net no_log grid.steps)) (sym written)
-      (first_written net grid asked chain_ends (empty_is_coded net grid asked is.events is.made is.few) (first_events net grid asked chain_ends is) (all_known net grid chain_ends is.events (first_events net grid asked chain_ends is))
-      (subst (AllByRecursion (IsChainEnd (empty_code net grid asked))) (sym is.begun) (empty_ends net grid asked).each));
-}
+    AppendsFirst net grid.steps (read_names (empty_code net grid asked)) old new
+first_appends net grid asked chain_ends old made new is written appended =
+    let first = first_written net grid asked chain_ends (empty_is_coded net grid asked is.events is.made is.few) (first_events net grid asked chain_ends is) (all_known net grid chain_ends is.events (first_events net grid asked chain_ends is))
+    (subst (AllByRecursion (IsChainEnd (empty_code net grid asked))) (sym is.begun) (empty_ends net grid asked).each) in record {
+      more = first.more;
+      whole = appended ∙ ap (λ xs. old ++ xs) (written ∙ first.whole);
+      listed = first.listed;
+      few = first.few;
+      code = first.code;
+    }
 
 -- ---- guards
 
@@ -101,9 +105,9 @@ ends_read : (code : CodedLog) (chain_ends : List ChainEnd) → IsCodedLog code �
 ends_read code [] coded all = tt
 ends_read code (end ∷ chain_ends) coded all = ((lifted code end.closed _ coded all.0.closing, refl), ends_read code chain_ends coded all.1)
 
-pub guards_read : (code : CodedLog) (chain_ends : List ChainEnd) (guards : List Lit) → IsCodedLog code → AreEnds code chain_ends guards → ReadsAs (read_names code) guards (guard_literals code.net code.log)
+pub guards_read : (code : CodedLog) (chain_ends : List ChainEnd) (guards : List Lit) → IsCodedLog code → AreEnds code chain_ends guards → named_clause (read_names code) guards ≡ Some (guard_literals code.net code.log)
 guards_read code chain_ends guards coded are =
-    ordered_reads (read_names code) guards (guard_literals code.net code.log)
+    ordered_names (read_names code) guards (guard_literals code.net code.log)
     (subst (λ gs. ReadsInOrder (read_names code) gs (guard_literals code.net code.log)) (sym are.guarding) (
       (lifted code code.asked _ coded (asked_named code), refl),
       subst (λ es. ReadsInOrder (read_names code) (map (λ (end : ChainEnd). holds end.closed) chain_ends) (map (λ e. yes (closed e (length (chain code.net code.log e)))) es)) are.events (ends_read code chain_ends coded are.each),
@@ -302,7 +306,7 @@ ready_alarm code labels maybe first links chain_ends after guards then old later
 
 pub draft_brings : (code : CodedLog) (labels : List (List ℕ)) (maybe : Bool) (first links : ℕ) (chain_ends : List ChainEnd) (guards : List Lit) (takes : List Taken) (clauses : List Clause) → IsDrafting code labels maybe first chain_ends guards → takes ≡ taken_from code.net labels chain_ends → links ≡ length takes →
     clauses ≡ alarm_written code.grid code.asked (new_vars code first links maybe) takes →
-    IsCode (read_names (code_after code (alarm_added (nameless labels maybe)) first)) (IsNamedAdded code.net code.log code.grid.steps (alarm_added (nameless labels maybe))) clauses
+    IsListed (read_names (code_after code (alarm_added (nameless labels maybe)) first)) (added_list code.net code.log code.grid.steps (alarm_added (nameless labels maybe))) clauses
     × (length clauses + 12 * question_size code.net code.log code.grid.steps ≤ 12 * question_size code.net (with_addition code.log (alarm_added (nameless labels maybe))) code.grid.steps + 12)
 draft_brings code labels maybe first links chain_ends guards takes clauses is t l w =
     rw (w, l, t) (alarm_brings code labels maybe first chain_ends is.coded (grown_is_coded code (alarm_added (nameless labels maybe)) first is.coded is.above is.few) is.above is.chains.events (draft_known code labels maybe first chain_ends guards is) is.chains.each)
@@ -358,7 +362,7 @@ ready_change code value labels kept maybe first takes after guards later same al
 
 -- a draft of the code is one of an equal code
 pub draft_of : (code value : CodedLog) (labels : List (List ℕ)) (maybe : Bool) (first width : ℕ) (clauses : List Clause) (draft : DraftState) → code ≡ value →
-    IsCode (read_names (code_after code (alarm_added (nameless labels maybe)) first)) (IsNamedAdded code.net code.log code.grid.steps (alarm_added (nameless labels maybe))) clauses
+    IsListed (read_names (code_after code (alarm_added (nameless labels maybe)) first)) (added_list code.net code.log code.grid.steps (alarm_added (nameless labels maybe))) clauses
     × (length clauses + 12 * question_size code.net code.log code.grid.steps ≤ 12 * question_size code.net (with_addition code.log (alarm_added (nameless labels maybe))) code.grid.steps + 12) →
     addition_width code (alarm_added (nameless labels maybe)) ≡ width → draft.code ≡ value → draft.addition ≡ alarm_added (nameless labels maybe) → draft.first ≡ first → draft.vars ≡ width → draft.clauses ≡ clauses →
     IsDraftOf value (alarm_added (nameless labels maybe)) first draft
@@ -369,7 +373,7 @@ draft_of code value labels maybe first width clauses draft same brings wide of a
       adds = adds;
       begins = begun;
       width = vars ∙ sym wide;
-      brings = subst (IsCode (read_names (code_after code (alarm_added (nameless labels maybe)) first)) (IsNamedAdded code.net code.log code.grid.steps (alarm_added (nameless labels maybe)))) (sym written) brings.0;
+      listed = subst (IsListed (read_names (code_after code (alarm_added (nameless labels maybe)) first)) (added_list code.net code.log code.grid.steps (alarm_added (nameless labels maybe)))) (sym written) brings.0;
       small = let few = brings.1 in let long = ap length written in omega (arith, few, long);
     }) of
 

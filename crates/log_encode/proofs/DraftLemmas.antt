@@ -7,11 +7,10 @@ use Rattle.des_base.specs.Lists.{numbers_below}
 use Rattle.des_net.specs.Network.{Net}
 use Rattle.log_order.specs.Log.{Log, Alarm, no_log}
 use Rattle.log_clauses.specs.Additions.{alarm_added, pair_added, with_addition}
-use Rattle.log_clauses.specs.Drafts.{AreListed, link_clauses, alarm_clauses, real_clauses, added_clauses, taken_events}
-use Rattle.log_clauses.specs.LogClauses.{chain, observable_events, chain_closed, before_if_asked}
-use Rattle.log_clauses.specs.LogCodes.{IsNamedAdded, IsNamedLog}
+use Rattle.log_clauses.specs.Drafts.{link_clauses, alarm_clauses, real_clauses, added_clauses, taken_events, first_clauses, added_list}
+use Rattle.log_clauses.specs.LogClauses.{chain, observable_events, chain_closed, before_if_asked, log_clause}
 use Rattle.log_clauses.specs.LogNames.{first_names}
-use Rattle.log_clauses.proofs.Drafts.{drafts_are_code, drafts_are_small}
+use Rattle.log_clauses.proofs.Drafts.{drafts_are_code, drafts_are_small, first_clauses_are_few}
 use Rattle.log_clauses.proofs.Codes.{code_begins}
 use Rattle.log_clauses.proofs.Stay.{doubtful_new}
 use Rattle.log_encode.proofs.GrowLemmas.{places, taken_count, get_at, new_vars}
@@ -27,11 +26,13 @@ use Rattle.log_encode.specs.Written.{has_any_label, taken_from, rest_variable, h
 use Rattle.prop_core.proofs.NameLemmas.{found_more}
 use Rattle.prop_core.specs.declared.grid.Grid.{Grid}
 use Rattle.prop_core.specs.Grids.{grid_variable}
-use Rattle.prop_core.specs.NamedClauses.{IsCode}
 use Rattle.prop_core.specs.VariableNames.{Name, name_of, asked, happens, done, dropped, closed, remaining, some_of_first, of_matches}
 use Rattle.replay.specs.QuestionSize.{question_size}
 use Rattle.run_clauses.proofs.LaidOut.{named_at}
 use Rattle.run_clauses.specs.LaidOut.{laid_out}
+use Rattle.prop_core.proofs.Listed.{listed_from}
+use Rattle.prop_core.specs.Listings.{IsListed}
+use Rattle.log_encode.specs.WrittenLog.{AppendsFirst}
 
 -- ---- names behind those of the code
 
@@ -145,7 +146,7 @@ alarm_named code labels maybe first links coded grown above count =
 
 alarm_listed : (code : CodedLog) (labels : List (List ℕ)) (maybe : Bool) (first : ℕ) (ends : List ChainEnd) → IsCodedLog code → IsCodedLog (code_after code (alarm_added (nameless labels maybe)) first) → code.vars ≤ first →
     map (λ (end : ChainEnd). end.event) ends ≡ observable_events code.net → AllByRecursion (λ (end : ChainEnd). end.event < code.grid.events) ends → AllByRecursion (IsChainEnd code) ends →
-    AreListed code.net (with_addition code.log (alarm_added (nameless labels maybe))) code.grid.steps (read_names (code_after code (alarm_added (nameless labels maybe)) first))
+    AllZip (Reads code.net (with_addition code.log (alarm_added (nameless labels maybe))) code.grid.steps (read_names (code_after code (alarm_added (nameless labels maybe)) first)))
     (alarm_written code.grid code.asked (new_vars code first (length (taken_from code.net labels ends)) maybe) (taken_from code.net labels ends))
     (added_clauses code.net code.log code.grid.steps (alarm_added (nameless labels maybe)))
 alarm_listed code labels maybe first ends coded grown above are known all =
@@ -171,7 +172,7 @@ alarm_listed code labels maybe first ends coded grown above are known all =
 -- what is written of a new alarm is what it brings, and no more than its size allows
 pub alarm_brings : (code : CodedLog) (labels : List (List ℕ)) (maybe : Bool) (first : ℕ) (ends : List ChainEnd) → IsCodedLog code → IsCodedLog (code_after code (alarm_added (nameless labels maybe)) first) → code.vars ≤ first →
     map (λ (end : ChainEnd). end.event) ends ≡ observable_events code.net → AllByRecursion (λ (end : ChainEnd). end.event < code.grid.events) ends → AllByRecursion (IsChainEnd code) ends →
-    IsCode (read_names (code_after code (alarm_added (nameless labels maybe)) first)) (IsNamedAdded code.net code.log code.grid.steps (alarm_added (nameless labels maybe)))
+    IsListed (read_names (code_after code (alarm_added (nameless labels maybe)) first)) (added_list code.net code.log code.grid.steps (alarm_added (nameless labels maybe)))
     (alarm_written code.grid code.asked (new_vars code first (length (taken_from code.net labels ends)) maybe) (taken_from code.net labels ends))
     × (length (alarm_written code.grid code.asked (new_vars code first (length (taken_from code.net labels ends)) maybe) (taken_from code.net labels ends)) + 12 * question_size code.net code.log code.grid.steps
     ≤ 12 * question_size code.net (with_addition code.log (alarm_added (nameless labels maybe))) code.grid.steps + 12)
@@ -181,8 +182,10 @@ alarm_brings code labels maybe first ends coded grown above are known all =
     let names = read_names (code_after code (alarm_added (nameless labels maybe)) first) in
     let listed = alarm_listed code labels maybe first ends coded grown above are known all in
     let counted = zip_count (Reads code.net (with_addition code.log (alarm_added (nameless labels maybe))) code.grid.steps names) (alarm_written code.grid code.asked vars takes) (added_clauses code.net code.log code.grid.steps (alarm_added (nameless labels maybe))) listed in
-    let small = drafts_are_small code.net code.log code.grid.steps (alarm_added (nameless labels maybe)) in
-    ((drafts_are_code code.net code.grid.steps names (alarm_written code.grid code.asked vars takes)).0 code.log (alarm_added (nameless labels maybe)) listed, omega (arith, small, counted))
+    let small = drafts_are_small code.net code.log code.grid.steps (alarm_added (nameless labels maybe)) in (
+      listed_from names (log_clause code.net (with_addition code.log (alarm_added (nameless labels maybe))) code.grid.steps) (alarm_written code.grid code.asked vars takes) (added_clauses code.net code.log code.grid.steps (alarm_added (nameless labels maybe))) listed,
+      omega (arith, small, counted),
+    )
 
 -- ---- a pair
 
@@ -197,7 +200,7 @@ pair_listed net log n names ask first second i j a (suc k) within asks firsts se
 
 pub pair_brings : (code : CodedLog) (i j first second start : ℕ) → IsCodedLog (code_after code (pair_added i j) start) →
     ((t : ℕ) → t ≤ code.grid.steps → name_of (code_names code) (first + t) ≡ Some (done i t)) → ((t : ℕ) → t ≤ code.grid.steps → name_of (code_names code) (second + t) ≡ Some (done j t)) →
-    IsCode (read_names (code_after code (pair_added i j) start)) (IsNamedAdded code.net code.log code.grid.steps (pair_added i j)) (pair_written code.asked first second code.grid.steps)
+    IsListed (read_names (code_after code (pair_added i j) start)) (added_list code.net code.log code.grid.steps (pair_added i j)) (pair_written code.asked first second code.grid.steps)
     × (length (pair_written code.asked first second code.grid.steps) + 12 * question_size code.net code.log code.grid.steps ≤ 12 * question_size code.net (with_addition code.log (pair_added i j)) code.grid.steps + 12)
 pair_brings code i j first second start grown firsts seconds =
     let after = code_after code (pair_added i j) start in
@@ -209,7 +212,7 @@ pair_brings code i j first second start grown firsts seconds =
     (λ t within. lifted after (first + t) _ grown (firsts t within)) (λ t within. lifted after (second + t) _ grown (seconds t within))) in
     let counted = zip_count (Reads code.net (with_addition code.log (pair_added i j)) code.grid.steps names) (pair_written code.asked first second code.grid.steps) (added_clauses code.net code.log code.grid.steps (pair_added i j)) listed in
     let small = drafts_are_small code.net code.log code.grid.steps (pair_added i j) in (
-      (drafts_are_code code.net code.grid.steps names (pair_written code.asked first second code.grid.steps)).0 code.log (pair_added i j) listed,
+      listed_from names (log_clause code.net (with_addition code.log (pair_added i j)) code.grid.steps) (pair_written code.asked first second code.grid.steps) (added_clauses code.net code.log code.grid.steps (pair_added i j)) listed,
       omega (arith, small, counted),
     )
 
@@ -234,8 +237,14 @@ all_closed_listed net grid ask (end ∷ ends) coded known all =
 
 pub first_written : (net : Net) (grid : Grid) (ask : ℕ) (ends : List ChainEnd) → IsCodedLog (empty_code net grid ask) → map (λ (end : ChainEnd). end.event) ends ≡ observable_events net →
     AllByRecursion (λ (end : ChainEnd). end.event < grid.events) ends → AllByRecursion (IsChainEnd (empty_code net grid ask)) ends →
-    IsCode (read_names (empty_code net grid ask)) (IsNamedLog net no_log grid.steps) (all_closed_written grid ends)
+    AppendsFirst net grid.steps (read_names (empty_code net grid ask)) [] (all_closed_written grid ends)
 first_written net grid ask ends coded are known all =
-    code_begins net grid.steps (read_names (empty_code net grid ask)) (all_closed_written grid ends)
-    ((drafts_are_code net grid.steps (read_names (empty_code net grid ask)) (all_closed_written grid ends)).1
-    (subst (λ es. AllZip (Reads net no_log grid.steps (read_names (empty_code net grid ask))) (all_closed_written grid ends) (flat_map (λ e. map (λ t. chain_closed e 0 t) (numbers_below grid.steps)) es)) are (all_closed_listed net grid ask ends coded known all)))
+    let names = read_names (empty_code net grid ask) in
+    let zipped = subst (λ es. AllZip (Reads net no_log grid.steps names) (all_closed_written grid ends) (flat_map (λ e. map (λ t. chain_closed e 0 t) (numbers_below grid.steps)) es)) are (all_closed_listed net grid ask ends coded known all) in
+    let listed = listed_from names (log_clause net no_log grid.steps) (all_closed_written grid ends) (first_clauses net grid.steps) zipped in record {
+      more = all_closed_written grid ends;
+      whole = refl;
+      listed = listed;
+      few = zip_count (Reads net no_log grid.steps names) (all_closed_written grid ends) (first_clauses net grid.steps) zipped ∙ first_clauses_are_few net grid.steps;
+      code = code_begins net grid.steps names (all_closed_written grid ends) ((drafts_are_code net grid.steps names (all_closed_written grid ends)).1 listed);
+    }

@@ -13,14 +13,14 @@ use Rattle.des_net.specs.Network.{Net}
 use Rattle.log_order.specs.Log.{Log, is_doubtful}
 use Rattle.log_clauses.specs.Drafts.{link_clauses, match_clauses, done_clauses, real_clauses}
 use Rattle.log_clauses.specs.LogClauses.{LogClause, log_clause, matching_events, one_match, match_is_real, not_done_first, done_if_asked, or_false}
-use Rattle.log_clauses.proofs.Numbered.{ordered_reads, ordered_names}
+use Rattle.log_clauses.proofs.Numbered.{ordered_names}
 use Rattle.log_encode.specs.AlarmVariables.{match_variable, done_variable, chain_variable, dropped_variable}
 use Rattle.log_encode.specs.declared.alarm_vars.AlarmVars.{AlarmVars}
 use Rattle.log_encode.specs.declared.writing.LinkVars.{LinkVars}
 use Rattle.log_encode.specs.Written.{holds, fails, link_written, matches_at, step_written, done_written, dropped_written, real_of_link, reals_written, real_written}
 use Rattle.prop_core.specs.declared.lit.Lit.{Lit}
 use Rattle.prop_core.specs.Clauses.{Clause}
-use Rattle.prop_core.specs.VariableNames.{Name, NamedLiteral, ReadsAs, name_of, yes, no, asked, matches, done, dropped, closed, remaining, of_matches}
+use Rattle.prop_core.specs.VariableNames.{Name, NamedLiteral, name_of, yes, no, asked, matches, done, dropped, closed, remaining, of_matches, named_clause}
 
 -- ---- lists side by side
 
@@ -45,20 +45,20 @@ zip_count R (x ∷ xs) (y ∷ ys) h = ap suc (zip_count R xs ys h.1)
 -- ---- clauses of one to three literals
 
 abbrev pub Reads : Net → Log → ℕ → List (ℕ × Name) → Clause → LogClause → Type 0
-Reads net log n names clause which = ReadsAs names clause (log_clause net log n which)
+Reads net log n names clause which = named_clause names clause ≡ Some (log_clause net log n which)
 
-pub reads_one : (names : List (ℕ × Name)) (v : ℕ) (a : Bool) (x : Name) → name_of names v ≡ Some x → ReadsAs names (record { var = v; positive = a } ∷ []) (record { name = x; positive = a } ∷ [])
-reads_one names v a x h = ordered_reads names (record { var = v; positive = a } ∷ []) (record { name = x; positive = a } ∷ []) ((h, refl), tt)
+pub reads_one : (names : List (ℕ × Name)) (v : ℕ) (a : Bool) (x : Name) → name_of names v ≡ Some x → named_clause names (record { var = v; positive = a } ∷ []) ≡ Some (record { name = x; positive = a } ∷ [])
+reads_one names v a x h = ordered_names names (record { var = v; positive = a } ∷ []) (record { name = x; positive = a } ∷ []) ((h, refl), tt)
 
 pub reads_two : (names : List (ℕ × Name)) (v w : ℕ) (a b : Bool) (x y : Name) → name_of names v ≡ Some x → name_of names w ≡ Some y →
-    ReadsAs names (record { var = v; positive = a } ∷ record { var = w; positive = b } ∷ []) (record { name = x; positive = a } ∷ record { name = y; positive = b } ∷ [])
-reads_two names v w a b x y h k = ordered_reads names (record { var = v; positive = a } ∷ record { var = w; positive = b } ∷ []) (record { name = x; positive = a } ∷ record { name = y; positive = b } ∷ []) ((h, refl), ((k, refl), tt))
+    named_clause names (record { var = v; positive = a } ∷ record { var = w; positive = b } ∷ []) ≡ Some (record { name = x; positive = a } ∷ record { name = y; positive = b } ∷ [])
+reads_two names v w a b x y h k = ordered_names names (record { var = v; positive = a } ∷ record { var = w; positive = b } ∷ []) (record { name = x; positive = a } ∷ record { name = y; positive = b } ∷ []) ((h, refl), ((k, refl), tt))
 
 pub reads_three : (names : List (ℕ × Name)) (u v w : ℕ) (a b c : Bool) (x y z : Name) → name_of names u ≡ Some x → name_of names v ≡ Some y → name_of names w ≡ Some z →
-    ReadsAs names (record { var = u; positive = a } ∷ record { var = v; positive = b } ∷ record { var = w; positive = c } ∷ [])
-    (record { name = x; positive = a } ∷ record { name = y; positive = b } ∷ record { name = z; positive = c } ∷ [])
+    named_clause names (record { var = u; positive = a } ∷ record { var = v; positive = b } ∷ record { var = w; positive = c } ∷ [])
+    ≡ Some (record { name = x; positive = a } ∷ record { name = y; positive = b } ∷ record { name = z; positive = c } ∷ [])
 reads_three names u v w a b c x y z h k l =
-    ordered_reads names (record { var = u; positive = a } ∷ record { var = v; positive = b } ∷ record { var = w; positive = c } ∷ [])
+    ordered_names names (record { var = u; positive = a } ∷ record { var = v; positive = b } ∷ record { var = w; positive = c } ∷ [])
     (record { name = x; positive = a } ∷ record { name = y; positive = b } ∷ record { name = z; positive = c } ∷ []) ((h, refl), ((k, refl), ((l, refl), tt)))
 
 -- ---- a link in one step
@@ -137,9 +137,9 @@ dropped_reads names log i vars lits named mark h zip = by vars.doubtful refl
     by false e = let d : is_doubtful log i ≡ false = mark ∙ e in rw (e, d) zip
 
 not_first_reads : (names : List (ℕ × Name)) (log : Log) (n i : ℕ) (events : List ℕ) (vars : AlarmVars) → is_doubtful log i ≡ vars.doubtful → AreAlarmNames names n i events vars →
-    ReadsAs names (fails (done_variable vars 0) ∷ dropped_written vars) (no (done i 0) ∷ or_false log i [])
+    named_clause names (fails (done_variable vars 0) ∷ dropped_written vars) ≡ Some (no (done i 0) ∷ or_false log i [])
 not_first_reads names log n i events vars mark are =
-    ordered_reads names (fails (done_variable vars 0) ∷ dropped_written vars) (no (done i 0) ∷ or_false log i [])
+    ordered_names names (fails (done_variable vars 0) ∷ dropped_written vars) (no (done i 0) ∷ or_false log i [])
     ((are.being_done 0 (omega arith), refl), subst (λ ls. AllZip (IsNamed names) ls (or_false log i [])) (append-nil (dropped_written vars)) (dropped_reads names log i vars [] [] mark are.being_false tt))
 
 -- the matches of a step
@@ -151,9 +151,9 @@ matches_read names n i t events vars time are =
 
 -- done after a step, by a match there or before
 by_match_reads : (names : List (ℕ × Name)) (log : Log) (n i t : ℕ) (events : List ℕ) (vars : AlarmVars) → t < n → is_doubtful log i ≡ vars.doubtful → AreAlarmNames names n i events vars →
-    ReadsAs names (fails (done_variable vars (suc t)) ∷ holds (done_variable vars t) ∷ (dropped_written vars ++ matches_at vars t)) (no (done i (suc t)) ∷ yes (done i t) ∷ or_false log i (map (λ e. yes (matches i e (suc t))) events))
+    named_clause names (fails (done_variable vars (suc t)) ∷ holds (done_variable vars t) ∷ (dropped_written vars ++ matches_at vars t)) ≡ Some (no (done i (suc t)) ∷ yes (done i t) ∷ or_false log i (map (λ e. yes (matches i e (suc t))) events))
 by_match_reads names log n i t events vars time mark are =
-    ordered_reads names (fails (done_variable vars (suc t)) ∷ holds (done_variable vars t) ∷ (dropped_written vars ++ matches_at vars t)) (no (done i (suc t)) ∷ yes (done i t) ∷ or_false log i (map (λ e. yes (matches i e (suc t))) events)) (
+    ordered_names names (fails (done_variable vars (suc t)) ∷ holds (done_variable vars t) ∷ (dropped_written vars ++ matches_at vars t)) (no (done i (suc t)) ∷ yes (done i t) ∷ or_false log i (map (λ e. yes (matches i e (suc t))) events)) (
       (are.being_done (suc t) (omega arith), refl),
       (
         (are.being_done t (omega arith), refl),
@@ -166,7 +166,7 @@ step_reads : (net : Net) (log : Log) (n : ℕ) (names : List (ℕ × Name)) (i t
 step_reads net log n names i t events vars time same mark are = (
   reads_two names (done_variable vars t) (done_variable vars (suc t)) false true _ _ (are.being_done t (omega arith)) (are.being_done (suc t) (omega arith)),
   (
-    subst (λ es. ReadsAs names (fails (done_variable vars (suc t)) ∷ holds (done_variable vars t) ∷ (dropped_written vars ++ matches_at vars t)) (no (done i (suc t)) ∷ yes (done i t) ∷ or_false log i (map (λ e. yes (matches i e (suc t))) es))) (sym same) (by_match_reads names log n i t events vars time mark are),
+    subst (λ es. named_clause names (fails (done_variable vars (suc t)) ∷ holds (done_variable vars t) ∷ (dropped_written vars ++ matches_at vars t)) ≡ Some (no (done i (suc t)) ∷ yes (done i t) ∷ or_false log i (map (λ e. yes (matches i e (suc t))) es))) (sym same) (by_match_reads names log n i t events vars time mark are),
     one_reads net log n names i t events vars time are (matches_read names n i t events vars time are),
   ),
 )

@@ -1,5 +1,5 @@
 -- The laws on what was written for a log.
-use Rattle.std.proofs.Common.{◌≡◌, ◌↔◌, ◌⊎◌, inl, inr, ℕ, zero, suc, Bool, false, ◌||◌, List, [], ◌∷◌, ◌++◌, length, map, refl, sym, ap, subst, arith, Contains, slice_get, option_map, unwrap_or}
+use Rattle.std.proofs.Common.{◌≡◌, ◌∙◌, ◌↔◌, ◌⊎◌, inl, inr, ℕ, zero, suc, Bool, false, ◌||◌, List, [], ◌∷◌, ◌++◌, length, map, refl, sym, ap, subst, arith, Contains, slice_get, option_map, unwrap_or}
 use Rattle.std.specs.List.{AllZip, AllByRecursion}
 use Rattle.std.specs.Prelude.{IsSomeAnd, IsTrue}
 use Rattle.des_net.specs.Network.{Net, label_of}
@@ -8,11 +8,16 @@ use Rattle.log_clauses.specs.Additions.{Addition, alarm_added, pair_added}
 use Rattle.log_clauses.specs.LogCodes.{AreAmong}
 use Rattle.log_clauses.specs.LogNames.{added_names}
 use Rattle.log_clauses.proofs.Codes.{code_grows}
+use Rattle.log_clauses.proofs.Drafts.{drafts_are_code}
+use Rattle.log_clauses.specs.Drafts.{added_list, first_list}
 use Rattle.log_clauses.proofs.Explained.{log_code_is_exact}
 use Rattle.log_encode.proofs.CodeLemmas.{beside, grown_is_coded, names_with_alarm}
 use Rattle.log_encode.proofs.TakenLemmas.{map_count}
 use Rattle.log_encode.specs.CodedLog.{CodedLog, code_names, read_names, code_after, without_names, nameless, IsCodedLog}
+use Rattle.log_encode.specs.BuiltLog.{DraftIsBuilt, FirstIsBuilt}
+use Rattle.log_encode.specs.Drafted.{DraftState, IsDraftOf}
 use Rattle.log_encode.specs.WrittenLog.{WrittenGrows, WrittenIsExact, NamesDontMatter}
+use Rattle.prop_core.proofs.Listed.{listed_are_written}
 use Rattle.prop_core.specs.VariableNames.{Name}
 use Rattle.replay.specs.Explanation.{Entry, alarms_of, real_alarms, Shows, Linearises, observables}
 use Rattle.run_clauses.specs.LaidOut.{laid_out, event_block}
@@ -34,12 +39,16 @@ among code addition first coded entry here = by (Contains-append_cases events (c
     by (inl event) = Contains-append_left events (code_names (code_after code addition first)) entry event
     by (inr own) = Contains-append_right events (code_names (code_after code addition first)) entry (names_stay code addition first coded entry own)
 
+-- a draft is one of its own addition and first variable
+pub its_own : (code : CodedLog) (addition : Addition) (first : ℕ) (draft : DraftState) → IsDraftOf code addition first draft → IsDraftOf code draft.addition draft.first draft
+its_own code addition first draft is = subst (λ (a : Addition). IsDraftOf code a draft.first draft) (sym is.adds) (subst (λ v. IsDraftOf code addition v draft) (sym is.begins) is)
+
 pub written_grows : WrittenGrows
 written_grows code addition draft written is made follows =
     let grown = grown_is_coded code addition draft.first is.coded follows.above (omega (arith, follows.few, made.width)) in record {
       coded = grown;
       clauses = code_grows code.net code.log code.grid.steps addition (read_names code) (read_names (code_after code addition draft.first)) written draft.clauses (beside (code_after code addition draft.first) grown).once
-          (among code addition draft.first is.coded) is.clauses made.brings;
+          (among code addition draft.first is.coded) is.clauses ((drafts_are_code code.net code.grid.steps (read_names (code_after code addition draft.first)) draft.clauses).0 code.log addition made.listed);
     }
 
 pub written_is_exact : WrittenIsExact
@@ -103,3 +112,14 @@ names_dont_matter net log n word order = (
   λ h. record { run = h.run; fits = h.fits; linear = (linear_same net log word order).0 h.linear },
   λ h. record { run = h.run; fits = h.fits; linear = (linear_same net log word order).1 h.linear },
 )
+
+-- ---- what is written is determined
+
+pub draft_is_built : DraftIsBuilt
+draft_is_built code addition draft coded made few =
+    let grown = grown_is_coded code addition code.vars coded (omega arith) (omega (arith, few, made.width)) in
+    listed_are_written (read_names (code_after code addition code.vars)) (added_list code.net code.log code.grid.steps addition) draft.clauses (beside (code_after code addition code.vars) grown).once made.listed
+
+pub first_is_built : FirstIsBuilt
+first_is_built code old new coded made =
+    made.whole ∙ ap (λ xs. old ++ xs) (listed_are_written (read_names code) (first_list code.net code.grid.steps) made.more (beside code coded).once made.listed)

@@ -1,10 +1,10 @@
 -- A draft of an addition to the log, and what stands ready for it.
 use Rattle.std.specs.Prelude.{◌≡◌, ℕ, Bool, true, false, ◌+◌, ◌*◌, ◌<◌, ◌≤◌, List, length}
 use Rattle.log_clauses.specs.Additions.{Addition, alarm_added, pair_added, with_addition}
-use Rattle.log_clauses.specs.LogCodes.{IsNamedAdded}
+use Rattle.log_clauses.specs.Drafts.{added_list}
 use Rattle.log_encode.specs.CodedLog.{CodedLog, code_after, addition_width, read_names}
 use Rattle.prop_core.specs.Clauses.{Clause}
-use Rattle.prop_core.specs.NamedClauses.{IsCode}
+use Rattle.prop_core.specs.Listings.{IsListed}
 use Rattle.prop_core.specs.VariableNames.{Name, done}
 use Rattle.replay.specs.QuestionSize.{question_size}
 
@@ -22,13 +22,13 @@ pub record DraftState : Type 0 where
   pub vars : ℕ
   pub clauses : List Clause
 
--- a draft of this addition to the code: its variables are those of the new names, and by the names of the longer log its clauses are those that the addition brings
+-- a draft of this addition to the code: its variables are those of the new names, and by the names of the longer log its clauses are those that the addition brings, in the order of their listing
 pub record IsDraftOf (code : CodedLog) (addition : Addition) (first : ℕ) (draft : DraftState) : Type 0 where
   pub made_by : draft.code ≡ code
   pub adds : draft.addition ≡ addition
   pub begins : draft.first ≡ first
   pub width : draft.vars ≡ addition_width code addition
-  pub brings : IsCode (read_names (code_after code addition first)) (IsNamedAdded code.net code.log code.grid.steps addition) draft.clauses
+  pub listed : IsListed (read_names (code_after code addition first)) (added_list code.net code.log code.grid.steps addition) draft.clauses
   pub small : length draft.clauses + 12 * question_size code.net code.log code.grid.steps ≤ 12 * question_size code.net (with_addition code.log addition) code.grid.steps + 12
 
 -- there is room for what the addition adds

@@ -5,3 +5,4 @@ pub mod CodedLog
 pub mod Drafted
 pub mod View
 pub mod WrittenLog
+pub mod BuiltLog

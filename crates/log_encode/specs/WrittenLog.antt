@@ -1,9 +1,11 @@
 -- The clauses that were written for a log, from the first on, and what they are good for.
-use Rattle.std.specs.Prelude.{◌↔◌, ℕ, ◌+◌, ◌≤◌, List, ◌++◌}
+use Rattle.std.specs.Prelude.{◌≡◌, ◌↔◌, ℕ, ◌+◌, ◌*◌, ◌≤◌, List, ◌++◌, length}
 use Rattle.des_base.specs.declared.TheConstants.{VAR_LIMIT}
 use Rattle.des_net.specs.Network.{Net}
-use Rattle.log_order.specs.Log.{Log}
+use Rattle.des_net.specs.QuestionSize.{observable_count}
+use Rattle.log_order.specs.Log.{Log, no_log}
 use Rattle.log_clauses.specs.Additions.{Addition}
+use Rattle.log_clauses.specs.Drafts.{first_list}
 use Rattle.log_clauses.specs.LogClauses.{guard_literals}
 use Rattle.log_clauses.specs.LogCodeLaws.{IsExactLogCode}
 use Rattle.log_clauses.specs.LogCodes.{IsNamedLog}
@@ -11,9 +13,18 @@ use Rattle.log_encode.specs.CodedLog.{CodedLog, read_names, code_after, without_
 use Rattle.log_encode.specs.Drafted.{DraftState, IsDraftOf}
 use Rattle.prop_core.specs.declared.lit.Lit.{Lit}
 use Rattle.prop_core.specs.Clauses.{Clause}
+use Rattle.prop_core.specs.Listings.{IsListed}
 use Rattle.prop_core.specs.NamedClauses.{IsCode}
-use Rattle.prop_core.specs.VariableNames.{ReadsAs}
+use Rattle.prop_core.specs.VariableNames.{Name, ReadsAs}
 use Rattle.replay.specs.Explanation.{Entry, Explains}
+
+-- Further clauses are those of the empty log, by these names, one after another in the order of their listing: for each event that can be seen one in each step.
+pub record AppendsFirst (net : Net) (n : ℕ) (names : List (ℕ × Name)) (old new : List Clause) : Type 0 where
+  pub more : List Clause
+  pub whole : new ≡ old ++ more
+  pub listed : IsListed names (first_list net n) more
+  pub few : length more ≡ observable_count net * n
+  pub code : IsCode names (IsNamedLog net no_log n) more
 
 -- by the names of the code's variables the clauses are those of its log
 pub record IsWritten (code : CodedLog) (written : List Clause) : Type 0 where

@@ -1,8 +1,8 @@
 // The laws of what was written for a log.
 ghost use Rattle.log_encode.specs.WrittenLog.{NamesDontMatter, WrittenGrows, WrittenIsExact};
+ghost use Rattle.log_encode.specs.BuiltLog.{DraftIsBuilt, FirstIsBuilt};
 
 /// A law: with the clauses of a draft that is committed, what was written is the code of the longer log.
-#[tactic(auto, using(crate::proofs::WrittenLemmas::written_grows))]
 pub fn written_grows()
     ensures { WrittenGrows }
 {}
@@ -15,4 +15,14 @@ pub fn written_is_exact()
 /// A law: what explains a log doesn't depend on the names of its alarms.
 pub fn names_dont_matter()
     ensures { NamesDontMatter }
+{}
+
+/// A law: a draft on the next variables has the clauses that the code and the addition determine.
+pub fn draft_is_built()
+    ensures { DraftIsBuilt }
+{}
+
+/// A law: the empty log has those that its code determines.
+pub fn first_is_built()
+    ensures { FirstIsBuilt }
 {}

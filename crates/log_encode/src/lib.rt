@@ -19,5 +19,7 @@ mod taken;
 mod writing;
 
 pub use draft::Draft;
-pub use laws::{names_dont_matter, written_grows, written_is_exact};
+pub use laws::{
+    draft_is_built, first_is_built, names_dont_matter, written_grows, written_is_exact,
+};
 pub use log_code::LogCode;

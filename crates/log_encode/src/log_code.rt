@@ -1,18 +1,17 @@
 // The code of an alarm log, which grows by drafts.
 ghost use Rattle.std.specs.Prelude.{◌≡◌, ◌<◌, ◌≤◌, ◌+◌, ◌*◌, ◌++◌, ◌∷◌, [], ℕ, Some, true, false, ◌&&◌, length, vec_len, vec_capacity, IfOk, OnOk, OnErr};
-ghost use Rattle.log_order.specs.Log.{no_log};
 ghost use Rattle.log_clauses.specs.Additions.{alarm_added, pair_added};
 ghost use Rattle.log_clauses.specs.Decoded.{alarm_at, is_false};
 ghost use Rattle.log_clauses.specs.LogClauses.{guard_literals};
-ghost use Rattle.log_clauses.specs.LogCodes.{IsNamedLog};
 ghost use Rattle.log_clauses.specs.LogNames.{first_names};
 ghost use Rattle.prop_core.specs.Clauses.{value_in};
-ghost use Rattle.prop_core.specs.NamedClauses.{Appends, value_by};
+ghost use Rattle.prop_core.specs.NamedClauses.{value_by};
 ghost use Rattle.prop_core.specs.VariableNames.{ReadsAs, name_of, named_clause, done};
 ghost use Rattle.log_encode.specs.AlarmState.{variables_of, is_matched};
 ghost use Rattle.log_encode.specs.AlarmVariables.{IsWithin, alarm_width, done_variable, dropped_variable};
 ghost use Rattle.log_encode.specs.CodedLog.{IsCodedLog, empty_code, code_after, code_names, false_literals, read_names, nameless, addition_width};
 ghost use Rattle.log_encode.specs.Drafted.{IsDraftOf, IsStepOf, HasRoomFor};
+ghost use Rattle.log_encode.specs.WrittenLog.{AppendsFirst};
 
 use crate::alarm_code::{AlarmCode, copy_labels};
 use crate::alarm_vars::AlarmVars;
@@ -73,7 +72,7 @@ impl LogCode {
         requires few { vars.old + length (first_names net.now) ≤ VAR_LIMIT }
         ensures code { IfOk result (λ made. made.code ≡ empty_code net.now grid vars.old) }
         ensures vars { OnOk result (vars.new ≡ vars.old + length (first_names net.now)) }
-        ensures written { OnOk result (Appends (read_names (empty_code net.now grid vars.old)) (IsNamedLog net.now no_log grid.steps) out.old.clauses out.new.clauses) }
+        ensures written { OnOk result (AppendsFirst net.now grid.steps (read_names (empty_code net.now grid vars.old)) out.old.clauses out.new.clauses) }
         ensures same_vars { OnErr result (vars.new ≡ vars.old) }
         ensures same_clauses { OnErr result (out.new ≡ out.old) }
     {
@@ -234,6 +233,7 @@ impl LogCode {
 
     /// The guards, which are to be assumed for the present log.
     pub fn guards(&self) -> &[Lit]
+        ensures listed { named_clause (read_names self.now.code) result.now ≡ Some (guard_literals self.now.code.net self.now.code.log) }
         ensures guards { ReadsAs (read_names self.now.code) result.now (guard_literals self.now.code.net self.now.code.log) }
         ensures whole { IsCodedLog self.now.code }
     {

@@ -1,30 +1,42 @@
--- How clauses of a family grow by the loops that write them.
-use Rattle.std.proofs.Common.{◌≡◌, ℕ, suc, ◌+◌, ◌<◌, ◌∙◌, ◌⊎◌, inl, inr, Bool, true, false, List, [], ◌∷◌, ◌++◌, Option, Some, None, refl, sym, ap, subst, arith, Contains, append-nil, append_assoc, map}
+-- How clauses of a family grow: by another family, and by one for each number.
+use Rattle.std.proofs.Common.{◌≡◌, ℕ, suc, ◌+◌, ◌<◌, ◌⊎◌, inl, inr, true, List, [], ◌∷◌, ◌++◌, Option, Some, None, refl, ap, subst, arith, Contains, map}
 use Rattle.std.proofs.lemmas.List.Elements.{Contains-append_left, Contains-append_right}
 use Rattle.std.proofs.lemmas.Bool.{cases_order}
 use Rattle.des_base.proofs.Elements.{all_append, all_change}
 use Rattle.prop_core.specs.Clauses.{Clause}
-use Rattle.prop_core.specs.VariableNames.{Name, NamedLiteral, named_clause, named_literal, with_literal, yes, no, name_of, ReadsAs, SameElements}
-use Rattle.prop_core.specs.NamedClauses.{IsCode, IsThere, One, Both, Each, When, Appends}
+use Rattle.prop_core.specs.VariableNames.{Name, NamedLiteral, named_clause, named_literal, with_literal, yes, name_of, ReadsAs, SameElements}
+use Rattle.prop_core.specs.NamedClauses.{IsCode, IsThere}
 use Rattle.prop_core.proofs.NameLemmas.{reads_more}
+
+-- ---- families that others make up
+
+-- this clause alone
+abbrev pub Alone : List NamedLiteral → List NamedLiteral → Type 0
+Alone clause named = clause ≡ named
+
+abbrev pub Either : (List NamedLiteral → Type 0) → (List NamedLiteral → Type 0) → List NamedLiteral → Type 0
+Either F G named = F named ⊎ G named
+
+abbrev pub EachBelow : ℕ → (ℕ → List NamedLiteral → Type 0) → List NamedLiteral → Type 0
+EachBelow k F named = (i : ℕ) × (i < k) × F i named
 
 module _ (names : List (ℕ × Name)) where
   -- an empty family
   pub code_none : (F : List NamedLiteral → Type 0) → ((named : List NamedLiteral) → F named → ⊥) → IsCode names F []
   code_none F none = record { all = λ named is. absurd (none named is); only = tt }
 
-  pub code_one : (clause : Clause) (named : List NamedLiteral) → ReadsAs names clause named → IsCode names (One named) (clause ∷ [])
+  pub code_one : (clause : Clause) (named : List NamedLiteral) → ReadsAs names clause named → IsCode names (Alone named) (clause ∷ [])
   code_one clause named reads = record { all = λ other same. (clause, (0, omega arith, refl), subst (ReadsAs names clause) same reads); only = ((named, refl, reads), tt) }
 
-  pub code_append : (F G : List NamedLiteral → Type 0) (xs ys : List Clause) → IsCode names F xs → IsCode names G ys → IsCode names (Both F G) (xs ++ ys)
+  pub code_append : (F G : List NamedLiteral → Type 0) (xs ys : List Clause) → IsCode names F xs → IsCode names G ys → IsCode names (Either F G) (xs ++ ys)
   code_append F G xs ys first second = record {
     all = all;
-    only = all_append (λ clause. (named : List NamedLiteral) × Both F G named × ReadsAs names clause named) xs ys
-        (all_change (λ clause. (named : List NamedLiteral) × F named × ReadsAs names clause named) (λ clause. (named : List NamedLiteral) × Both F G named × ReadsAs names clause named) xs (λ clause h. (h.0, inl h.1, h.2)) first.only)
-        (all_change (λ clause. (named : List NamedLiteral) × G named × ReadsAs names clause named) (λ clause. (named : List NamedLiteral) × Both F G named × ReadsAs names clause named) ys (λ clause h. (h.0, inr h.1, h.2)) second.only);
+    only = all_append (λ clause. (named : List NamedLiteral) × Either F G named × ReadsAs names clause named) xs ys
+        (all_change (λ clause. (named : List NamedLiteral) × F named × ReadsAs names clause named) (λ clause. (named : List NamedLiteral) × Either F G named × ReadsAs names clause named) xs (λ clause h. (h.0, inl h.1, h.2)) first.only)
+        (all_change (λ clause. (named : List NamedLiteral) × G named × ReadsAs names clause named) (λ clause. (named : List NamedLiteral) × Either F G named × ReadsAs names clause named) ys (λ clause h. (h.0, inr h.1, h.2)) second.only);
   }
     where
-      all : (named : List NamedLiteral) → Both F G named → IsThere names (xs ++ ys) named
+      all : (named : List NamedLiteral) → Either F G named → IsThere names (xs ++ ys) named
       all named (inl is) = let there = first.all named is in (there.0, Contains-append_left xs ys there.0 there.1, there.2)
       all named (inr is) = let there = second.all named is in (there.0, Contains-append_right xs ys there.0 there.1, there.2)
 
@@ -41,30 +53,23 @@ module _ (names : List (ℕ × Name)) where
   code_same F G xs to back code = code_alike F G xs to (λ named is. (named, back named is, λ l. ((λ h. h), (λ h. h)))) code
 
   -- a loop
-  pub code_each_none : (F : ℕ → List NamedLiteral → Type 0) → IsCode names (Each 0 F) []
-  code_each_none F = code_none (Each 0 F) (λ named is. omega (arith, is.1))
+  pub code_each_none : (F : ℕ → List NamedLiteral → Type 0) → IsCode names (EachBelow 0 F) []
+  code_each_none F = code_none (EachBelow 0 F) (λ named is. omega (arith, is.1))
 
-  pub code_each_more : (F : ℕ → List NamedLiteral → Type 0) (k : ℕ) (xs ys : List Clause) → IsCode names (Each k F) xs → IsCode names (F k) ys → IsCode names (Each (k + 1) F) (xs ++ ys)
-  code_each_more F k xs ys before now = code_same (Both (Each k F) (F k)) (Each (k + 1) F) (xs ++ ys) to back (code_append (Each k F) (F k) xs ys before now)
+  pub code_each_more : (F : ℕ → List NamedLiteral → Type 0) (k : ℕ) (xs ys : List Clause) → IsCode names (EachBelow k F) xs → IsCode names (F k) ys → IsCode names (EachBelow (k + 1) F) (xs ++ ys)
+  code_each_more F k xs ys before now = code_same (Either (EachBelow k F) (F k)) (EachBelow (k + 1) F) (xs ++ ys) to back (code_append (EachBelow k F) (F k) xs ys before now)
     where
-      to : (named : List NamedLiteral) → Both (Each k F) (F k) named → Each (k + 1) F named
+      to : (named : List NamedLiteral) → Either (EachBelow k F) (F k) named → EachBelow (k + 1) F named
       to named (inl (i, below, is)) = (i, omega arith, is)
       to named (inr is) = (k, omega arith, is)
 
-      back : (named : List NamedLiteral) → Each (k + 1) F named → Both (Each k F) (F k) named
+      back : (named : List NamedLiteral) → EachBelow (k + 1) F named → Either (EachBelow k F) (F k) named
       back named (i, below, is) = by (cases_order i k)
         where
-          by : (i ≡ k) ⊎ ((i < k) ⊎ (k < i)) → Both (Each k F) (F k) named
+          by : (i ≡ k) ⊎ ((i < k) ⊎ (k < i)) → Either (EachBelow k F) (F k) named
           by (inl same) = inr (subst (λ j. F j named) same is)
           by (inr (inl less)) = inl (i, less, is)
           by (inr (inr more)) = absurd (omega arith)
-
-  -- a test
-  pub code_when_true : (test : Bool) (F : List NamedLiteral → Type 0) (xs : List Clause) → test ≡ true → IsCode names F xs → IsCode names (When test F) xs
-  code_when_true test F xs h code = code_same F (When test F) xs (λ named is. (h, is)) (λ named is. is.1) code
-
-  pub code_when_false : (test : Bool) (F : List NamedLiteral → Type 0) → test ≡ false → IsCode names (When test F) []
-  code_when_false test F h = code_none (When test F) (λ named is. let t = is.0 in cc)
 
 -- further names change nothing
 pub code_more_names : (names more : List (ℕ × Name)) (F : List NamedLiteral → Type 0) (xs : List Clause) → IsCode names F xs → IsCode (names ++ more) F xs
@@ -72,42 +77,6 @@ code_more_names names more F xs code = record {
   all = λ named is. let there = code.all named is in (there.0, there.1, reads_more names more there.0 named named refl there.2);
   only = all_change (λ clause. (named : List NamedLiteral) × F named × ReadsAs names clause named) (λ clause. (named : List NamedLiteral) × F named × ReadsAs (names ++ more) clause named) xs
       (λ clause h. (h.0, h.1, reads_more names more clause h.0 h.0 refl h.2)) code.only;
-}
-
--- the same for a list that grows
-pub appends_each_none : (names : List (ℕ × Name)) (F : ℕ → List NamedLiteral → Type 0) (old : List Clause) → Appends names (Each 0 F) old old
-appends_each_none names F old = record { more = []; whole = sym (append-nil old); code = code_each_none names F }
-
-pub appends_each_more : (names : List (ℕ × Name)) (F : ℕ → List NamedLiteral → Type 0) (k : ℕ) (old mid new : List Clause) → Appends names (Each k F) old mid → Appends names (F k) mid new → Appends names (Each (k + 1) F) old new
-appends_each_more names F k old mid new first second = record {
-  more = first.more ++ second.more;
-  whole = second.whole ∙ ap (λ xs. xs ++ second.more) first.whole ∙ append_assoc old first.more second.more;
-  code = code_each_more names F k first.more second.more first.code second.code;
-}
-
-pub appends_both : (names : List (ℕ × Name)) (F G : List NamedLiteral → Type 0) (old mid new : List Clause) → Appends names F old mid → Appends names G mid new → Appends names (Both F G) old new
-appends_both names F G old mid new first second = record {
-  more = first.more ++ second.more;
-  whole = second.whole ∙ ap (λ xs. xs ++ second.more) first.whole ∙ append_assoc old first.more second.more;
-  code = code_append names F G first.more second.more first.code second.code;
-}
-
-pub appends_one : (names : List (ℕ × Name)) (clause : Clause) (named : List NamedLiteral) (old new : List Clause) → new ≡ old ++ clause ∷ [] → ReadsAs names clause named → Appends names (One named) old new
-appends_one names clause named old new whole reads = record { more = clause ∷ []; whole = whole; code = code_one names clause named reads }
-
-pub appends_when_true : (names : List (ℕ × Name)) (test : Bool) (F : List NamedLiteral → Type 0) (old new : List Clause) → test ≡ true → Appends names F old new → Appends names (When test F) old new
-appends_when_true names test F old new h grown = record { more = grown.more; whole = grown.whole; code = code_when_true names test F grown.more h grown.code }
-
-pub appends_when_false : (names : List (ℕ × Name)) (test : Bool) (F : List NamedLiteral → Type 0) (old : List Clause) → test ≡ false → Appends names (When test F) old old
-appends_when_false names test F old h = record { more = []; whole = sym (append-nil old); code = code_when_false names test F h }
-
--- two literals of known variables
-pub reads_two : (names : List (ℕ × Name)) (v w : ℕ) (x y : Name) → name_of names v ≡ Some x → name_of names w ≡ Some y →
-    ReadsAs names (record { var = v; positive = false } ∷ record { var = w; positive = false } ∷ []) (no x ∷ no y ∷ [])
-reads_two names v w x y first second = record {
-  read = no x ∷ no y ∷ [];
-  by_name = rw (first, second) refl;
-  same = λ l. ((λ h. h), (λ h. h));
 }
 
 -- clauses that are read as they stand

@@ -9,3 +9,4 @@ pub mod NameLemmas
 pub mod FamilyLemmas
 pub mod GridLemmas
 pub mod Premises
+pub mod Listed

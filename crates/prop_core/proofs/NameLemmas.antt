@@ -26,7 +26,7 @@ literal_more names more l m h = by (name_of names l.var) refl h
     by None e is = cc
     by (Some name) e is = rw (found_more names more l.var name e) is
 
-clause_more : (names more : List (ℕ × Name)) (clause : Clause) (read : List NamedLiteral) → named_clause names clause ≡ Some read → named_clause (names ++ more) clause ≡ Some read
+pub clause_more : (names more : List (ℕ × Name)) (clause : Clause) (read : List NamedLiteral) → named_clause names clause ≡ Some read → named_clause (names ++ more) clause ≡ Some read
 clause_more names more [] read h = h
 clause_more names more (l ∷ clause) read h = by (named_literal names l) refl (named_clause names clause) refl (clause_more names more clause) h
   where
@@ -113,7 +113,7 @@ named_in (entry ∷ names) var name h = by (entry.0 == var) refl (named_in names
     by true e later = let same : Some (entry.1) ≡ Some name = rw e at h in (entry, (0, omega arith, refl), cc)
     by false e later = let rest = later (rw e at h) in (rest.0, (suc rest.1.0, omega (arith, rest.1.1), rest.1.2), rest.2)
 
-variable_is : (names : List (ℕ × Name)) → HasEachOnce names → (var : ℕ) (name : Name) → name_of names var ≡ Some name → variable_of names name ≡ Some var
+pub variable_is : (names : List (ℕ × Name)) → HasEachOnce names → (var : ℕ) (name : Name) → name_of names var ≡ Some name → variable_of names name ≡ Some var
 variable_is [] once var name h = cc
 variable_is (entry ∷ names) once var name h = by (entry.0 == var) refl (variable_is names once.1 var name)
   where

@@ -6,3 +6,4 @@ pub mod Trail
 pub mod VariableNames
 pub mod NamedClauses
 pub mod Grids
+pub mod Listings

@@ -1,5 +1,5 @@
--- Clauses by the names of their variables, and families of clauses as loops write them.
-use Rattle.std.specs.Prelude.{◌≡◌, ◌↔◌, ◌⊎◌, ◌++◌, ℕ, ◌<◌, Bool, true, false, not, ◌&&◌, ◌==◌, List, Option, Some, find, option_map, unwrap_or, Contains, IsTrue}
+-- Clauses by the names of their variables, and families of clauses.
+use Rattle.std.specs.Prelude.{◌≡◌, ◌↔◌, ℕ, Bool, true, false, not, ◌&&◌, ◌==◌, List, Option, Some, find, option_map, unwrap_or, Contains, IsTrue}
 use Rattle.std.specs.List.{AllByRecursion, list_any}
 use Rattle.prop_core.specs.Clauses.{Clause, AllClausesTrue}
 use Rattle.prop_core.specs.VariableNames.{Name, in_state, happens, asked, matches, done, unmatched, closed, dropped, reaches, some_of_first, Exclusion, of_states, of_events, of_matches, NamedLiteral, HasEachOnce, name_of, ReadsAs}
@@ -76,26 +76,3 @@ AllHold family value = (named : List NamedLiteral) → family named → IsTrue (
 abbrev pub CodeHolds : (List NamedLiteral → Type 0) → Type 0
 CodeHolds family = (names : List (ℕ × Name)) (clauses : List Clause) (assignment : ℕ → Bool) (value : Name → Bool) →
     IsCode names family clauses → Match names assignment value → AllClausesTrue assignment clauses ↔ AllHold family value
-
--- ---- as loops write them
-
--- this clause alone
-abbrev pub One : List NamedLiteral → List NamedLiteral → Type 0
-One clause named = clause ≡ named
-
-abbrev pub Both : (List NamedLiteral → Type 0) → (List NamedLiteral → Type 0) → List NamedLiteral → Type 0
-Both F G named = F named ⊎ G named
-
--- a family for each number below k
-abbrev pub Each : ℕ → (ℕ → List NamedLiteral → Type 0) → List NamedLiteral → Type 0
-Each k F named = (i : ℕ) × (i < k) × F i named
-
--- a family where a test passes
-abbrev pub When : Bool → (List NamedLiteral → Type 0) → List NamedLiteral → Type 0
-When test F named = IsTrue test × F named
-
--- the list with further clauses, those of the family
-pub record Appends (names : List (ℕ × Name)) (family : List NamedLiteral → Type 0) (old new : List Clause) : Type 0 where
-  pub more : List Clause
-  pub whole : new ≡ old ++ more
-  pub code : IsCode names family more

@@ -1,6 +1,7 @@
 // The laws of derivation and of names.
 ghost use Rattle.prop_core.specs.Grids.{GridsAreInjective};
 ghost use Rattle.prop_core.specs.Laws.{DerivedClausesAreTrue};
+ghost use Rattle.prop_core.specs.Listings.{ListedAreWritten, ListedAreEqual, ListedAreCode};
 ghost use Rattle.prop_core.specs.NamedClauses.{AssignmentsMatch, ValuesMatch};
 
 /// A law: a clause that derives is true under each assignment that makes the held clauses true.
@@ -24,4 +25,19 @@ pub fn values_match()
 #[tactic(auto, using(crate::proofs::NameLemmas::assignments_match))]
 pub fn assignments_match()
     ensures { AssignmentsMatch }
+{}
+
+/// A law: clauses that are listed by a naming are written by it.
+pub fn listed_are_written()
+    ensures { ListedAreWritten }
+{}
+
+/// A law: by one naming, one listing is of one list of clauses.
+pub fn listed_are_equal()
+    ensures { ListedAreEqual }
+{}
+
+/// A law: listed clauses are those of the family whose clauses are in the listing.
+pub fn listed_are_code()
+    ensures { ListedAreCode }
 {}

@@ -19,7 +19,10 @@ mod vars;
 pub use assignment::Assignment;
 pub use clauses::{ClauseId, Clauses};
 pub use grid::Grid;
-pub use laws::{assignments_match, derived_clauses_are_true, grids_are_injective, values_match};
+pub use laws::{
+    assignments_match, derived_clauses_are_true, grids_are_injective, listed_are_code,
+    listed_are_equal, listed_are_written, values_match,
+};
 pub use lists::{IdList, LitList};
 pub use lit::Lit;
 pub use vars::Vars;

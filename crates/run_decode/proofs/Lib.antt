@@ -24,3 +24,4 @@ pub mod WholeClauses
 pub mod WholeRoom
 pub mod FewNames
 pub mod NamingVectors
+pub mod Built

@@ -7,3 +7,4 @@ pub mod QuestionLaws
 pub mod RunNaming
 pub mod WholeNaming
 pub mod Decoding
+pub mod QuestionAxioms

@@ -1,11 +1,11 @@
 -- A question as code: by one naming all clauses of the steps, of the log, and of some columns of the counter of faults.
-use Rattle.std.specs.Prelude.{ℕ, ◌<◌, ⊤, List, length, Option, Some, None}
+use Rattle.std.specs.Prelude.{◌⊎◌, ℕ, ◌<◌, ⊤, List, length, Option, Some, None}
 use Rattle.card_counter.specs.CounterClauses.{IsNamedCount}
 use Rattle.des_net.specs.Network.{Net}
 use Rattle.log_clauses.specs.LogCodes.{IsNamedLog, AreAmong}
 use Rattle.log_order.specs.Log.{Log}
 use Rattle.prop_core.specs.Clauses.{Clause}
-use Rattle.prop_core.specs.NamedClauses.{IsCode, Both}
+use Rattle.prop_core.specs.NamedClauses.{IsCode}
 use Rattle.prop_core.specs.VariableNames.{Name, NamedLiteral, HasEachOnce, ReadsAs}
 use Rattle.prop_core.specs.declared.lit.Lit.{Lit}
 use Rattle.run_clauses.specs.StepCodes.{IsNamedStep}
@@ -13,7 +13,7 @@ use Rattle.run_decode.specs.Drawn.{fault_inputs, assumption_literals}
 
 -- the clauses of the steps, of the log, and of so many columns of the counter
 abbrev pub IsNamedQuestion : Net → Log → ℕ → ℕ → List NamedLiteral → Type 0
-IsNamedQuestion net log n columns = Both (IsNamedStep net n) (Both (IsNamedLog net log n) (IsNamedCount (fault_inputs net log n) columns))
+IsNamedQuestion net log n columns named = IsNamedStep net n named ⊎ (IsNamedLog net log n named ⊎ IsNamedCount (fault_inputs net log n) columns named)
 
 -- by these names, each with one variable, the clauses are those, all of them and no others
 pub record IsQuestion (net : Net) (log : Log) (n columns : ℕ) (names : List (ℕ × Name)) (clauses : List Clause) : Type 0 where

@@ -4,6 +4,7 @@ ghost use Rattle.run_decode.specs.DecodedRuns.{DecodedExplains, FaultLiteralsSta
 ghost use Rattle.run_decode.specs.RunNaming.{BesideOneNaming, CodedAlarmsStand, CodedRunsExplain, TruthsAreRead};
 ghost use Rattle.run_decode.specs.WholeNaming.{ClausesBegin, ClausesGrow, TogetherAreFew, TogetherAsk, TogetherBegins, TogetherGrow, TogetherOneNaming, RoomIsFree};
 ghost use Rattle.run_decode.specs.QuestionLaws.{AlarmNamesDontMatter, BoundIsRead, InstancesStay, PartsAreAssumed, PartsMakeQuestion, QuestionGivesExplanations, QuestionIsDrawn, QuestionIsFaithful};
+ghost use Rattle.run_decode.specs.QuestionAxioms.{ColumnsAreCounted, QuestionBegins};
 
 // ---- what a question says
 
@@ -150,4 +151,16 @@ pub fn coded_runs_explain()
 /// A law: there the alarm of an event by the log's own names is the one that stands for it.
 pub fn coded_alarms_stand()
     ensures { CodedAlarmsStand }
+{}
+
+// ---- what is built is determined
+
+/// A law: steps, a log and a counter without columns, each on the next variables, are the question without columns, and their clauses its axioms.
+pub fn question_begins()
+    ensures { QuestionBegins }
+{}
+
+/// A law: a question has as many columns as were built.
+pub fn columns_are_counted()
+    ensures { ColumnsAreCounted }
 {}

@@ -1,15 +1,13 @@
 use Rattle.std.proofs.Common.{◌≡◌, ◌∙◌, ◌+◌, ◌<◌, ◌++◌, length, sym, ap, subst, arith, All}
 use Rattle.des_net.specs.Network.{Net}
-use Rattle.log_clauses.specs.LogCodes.{IsNamedLog}
 use Rattle.log_clauses.specs.LogNames.{first_names}
 use Rattle.log_encode.proofs.CallLemmas.{begins, guards_len, first_known, first_kept, first_is_empty, first_appends}
 use Rattle.log_encode.proofs.log_code.LogCode.new.Goals as goal
 use Rattle.log_encode.specs.CodedLog.{read_names, empty_code}
 use Rattle.log_encode.specs.declared.taken.ChainEnd.{ChainEnd}
 use Rattle.log_encode.specs.View.{AreKept, coded_of}
+use Rattle.log_encode.specs.WrittenLog.{AppendsFirst}
 use Rattle.log_encode.specs.Written.{all_closed_written, guards_of}
-use Rattle.log_order.specs.Log.{no_log}
-use Rattle.prop_core.specs.NamedClauses.{Appends}
 use Rattle.prop_core.specs.ClauseStore.{ClauseStore}
 
 pub write_all_closed-requires-clause-known : goal.write_all_closed-requires-clause-known
@@ -59,7 +57,7 @@ returns-clause-vars c =
 pub returns-clause-written : goal.returns-clause-written
 returns-clause-written c =
     let is = begins c.args.net.now c.args.grid c.args.vars.now c.count-asked.result c.in_ok-ends.ends.items c.count-asked.ensures.count c.requires.events c.requires.made c.requires.few c.in_ok-ends.ensures in
-    subst (λ k. Appends (read_names (empty_code c.args.net.now c.args.grid k)) (IsNamedLog c.args.net.now no_log c.args.grid.steps) c.args.out.now.clauses c.append.new.self.clauses) c.count-asked.ensures.count
+    subst (λ k. AppendsFirst c.args.net.now c.args.grid.steps (read_names (empty_code c.args.net.now c.args.grid k)) c.args.out.now.clauses c.append.new.self.clauses) c.count-asked.ensures.count
     (first_appends c.args.net.now c.args.grid c.count-asked.result c.in_ok-ends.ends.items c.args.out.now.clauses c.write_all_closed.new.out.clauses c.append.new.self.clauses is
     (c.in_ok-write_all_closed.ensures ∙ ap (λ (s : ClauseStore). s.clauses ++ all_closed_written c.args.grid c.as_slice-2.result.now) c.new-clauses.ensures ∙ ap (all_closed_written c.args.grid) c.as_slice-2.ensures.value)
     c.in_ok-append.ensures.added)

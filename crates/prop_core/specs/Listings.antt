@@ -1,0 +1,63 @@
+-- Clauses as lists, by the names of their variables, in the order in which loops write them.
+use Rattle.std.specs.Prelude.{◌≡◌, ℕ, Bool, List, [], ◌∷◌, ◌++◌, map, flat_map, Some, unwrap_or, if◌then◌else◌, Contains}
+use Rattle.std.specs.List.{range_with_len}
+use Rattle.prop_core.specs.declared.lit.Lit.{Lit}
+use Rattle.prop_core.specs.Clauses.{Clause}
+use Rattle.prop_core.specs.VariableNames.{Name, NamedLiteral, HasEachOnce, named_clause}
+use Rattle.prop_core.specs.NamedClauses.{IsCode, variable_of}
+
+abbrev pub Listing : Type 0
+Listing = List (List NamedLiteral)
+
+-- By these names the clauses are these, one by one, with each literal at its place.
+abbrev pub IsListed : List (ℕ × Name) → Listing → List Clause → Type 0
+IsListed names list clauses = map (named_clause names) clauses ≡ map (λ named. Some named) list
+
+-- ---- as loops write them
+
+-- this clause alone
+abbrev pub One : List NamedLiteral → Listing
+One clause = clause ∷ []
+
+abbrev pub Both : Listing → Listing → Listing
+Both first second = first ++ second
+
+-- a list for each element of a list, and for each number below k
+abbrev pub EachOf : {X : Type 0} → List X → (X → Listing) → Listing
+EachOf xs F = flat_map F xs
+
+abbrev pub Each : ℕ → (ℕ → Listing) → Listing
+Each k F = EachOf (range_with_len 0 k) F
+
+-- a list where a test passes
+abbrev pub When : Bool → Listing → Listing
+When test list = if test then list else []
+
+-- the list of clauses with further ones, which are listed so
+pub record Appends (names : List (ℕ × Name)) (list : Listing) (old new : List Clause) : Type 0 where
+  pub more : List Clause
+  pub whole : new ≡ old ++ more
+  pub listed : IsListed names list more
+
+-- ---- as variables
+
+-- the clauses whose variables have these names, where each name has one
+abbrev pub literal_by : List (ℕ × Name) → NamedLiteral → Lit
+literal_by names l = record { var = unwrap_or (variable_of names l.name) 0; positive = l.positive }
+
+abbrev pub written_by : List (ℕ × Name) → Listing → List Clause
+written_by names list = map (λ named. map (literal_by names) named) list
+
+-- ---- laws
+
+-- Clauses that are listed by a naming are written by it.
+abbrev pub ListedAreWritten : Type 0
+ListedAreWritten = (names : List (ℕ × Name)) (list : Listing) (clauses : List Clause) → HasEachOnce names → IsListed names list clauses → clauses ≡ written_by names list
+
+-- So by one naming, one listing is of one list of clauses.
+abbrev pub ListedAreEqual : Type 0
+ListedAreEqual = (names : List (ℕ × Name)) (list : Listing) (clauses others : List Clause) → HasEachOnce names → IsListed names list clauses → IsListed names list others → clauses ≡ others
+
+-- Listed clauses are those of the family whose clauses are in the listing.
+abbrev pub ListedAreCode : Type 0
+ListedAreCode = (names : List (ℕ × Name)) (list : Listing) (clauses : List Clause) → IsListed names list clauses → IsCode names (Contains list) clauses

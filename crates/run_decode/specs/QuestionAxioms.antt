@@ -1,0 +1,71 @@
+-- A question as it is built: network, log, n and the number of columns determine its parts, and its axioms as a list, whatever test and rank are stored.
+use Rattle.std.specs.Prelude.{◌≡◌, ℕ, zero, suc, ◌+◌, List, [], ◌++◌, map, length}
+use Rattle.card_counter.specs.CounterState.{CounterState, without_columns, with_column, next_clauses}
+use Rattle.des_net.specs.Network.{Net}
+use Rattle.log_encode.specs.BuiltLog.{BuiltLog, built_log}
+use Rattle.log_encode.specs.CodedLog.{CodedLog, code_names as log_names, false_literals, without_names, IsCodedLog}
+use Rattle.log_order.specs.Log.{Log}
+use Rattle.prop_core.specs.Clauses.{Clause}
+use Rattle.prop_core.specs.Listings.{literal_by, written_by}
+use Rattle.prop_core.specs.declared.lit.Lit.{Lit}
+use Rattle.run_clauses.specs.StepCodes.{StepsBelow}
+use Rattle.run_decode.specs.WholeNaming.{AreInputs}
+use Rattle.step_encode.specs.Coded.{CodedSteps, code_names as step_names, code_grid, variable_count, AppendsSteps}
+use Rattle.step_encode.specs.FaultInputs.{fault_literals}
+
+-- how steps, log and counter are coded, how many variables were made, and the axioms
+pub record BuiltQuestion : Type 0 where
+  pub steps : CodedSteps
+  pub code : CodedLog
+  pub counter : CounterState
+  pub vars : ℕ
+  pub axioms : List Clause
+
+-- The steps stand on the first variables, and the log, whose alarms have no names, on the next ones.
+abbrev pub steps_built : Net → ℕ → CodedSteps
+steps_built net n = record { net = net; steps = n; first = 0 }
+
+abbrev pub log_built : Net → Log → ℕ → BuiltLog
+log_built net log n = built_log net (code_grid (steps_built net n)) (variable_count net n) (without_names log)
+
+-- The counter counts the faults of the steps, and then that doubtful alarms are false.
+abbrev pub inputs_built : CodedSteps → CodedLog → List Lit
+inputs_built steps code = fault_literals steps.net (code_grid steps) ++ map (literal_by (log_names code)) (false_literals code.log)
+
+-- the clauses of the steps, and then those of the log
+abbrev pub alone_built : CodedSteps → BuiltLog → BuiltQuestion
+alone_built steps log = record {
+  steps = steps;
+  code = log.code;
+  counter = without_columns (inputs_built steps log.code);
+  vars = log.code.vars;
+  axioms = written_by (step_names steps) (StepsBelow steps.net steps.steps) ++ log.clauses;
+}
+
+-- a column more, on the next variables
+abbrev pub column_built : BuiltQuestion → BuiltQuestion
+column_built question = record question {
+  counter = with_column question.counter question.vars;
+  vars = question.vars + length question.counter.inputs;
+  axioms = question.axioms ++ next_clauses question.counter question.vars;
+}
+
+abbrev pub question_built : Net → Log → ℕ → ℕ → BuiltQuestion
+question_built net log n zero = alone_built (steps_built net n) (log_built net log n)
+question_built net log n (suc columns) = column_built (question_built net log n columns)
+
+-- the axioms of a question whose counter has so many columns
+abbrev pub question_axioms : Net → Log → ℕ → ℕ → List Clause
+question_axioms net log n columns = (question_built net log n columns).axioms
+
+-- ---- laws
+
+-- It is so once steps and log are coded, and a counter over their inputs has no columns:
+abbrev pub QuestionBegins : Type 0
+QuestionBegins = (net : Net) (log : Log) (n : ℕ) (code : CodedLog) (stepped written : List Clause) (inputs : List Lit) →
+    AppendsSteps net n (step_names (steps_built net n)) [] stepped → IsCodedLog code → record { code = code; clauses = written } ≡ log_built net log n → AreInputs (steps_built net n) code inputs →
+    record { steps = steps_built net n; code = code; counter = without_columns inputs; vars = code.vars; axioms = stepped ++ written } ≡ question_built net log n 0
+
+-- and its columns are as many as were built.
+abbrev pub ColumnsAreCounted : Type 0
+ColumnsAreCounted = (net : Net) (log : Log) (n columns : ℕ) → length (question_built net log n columns).counter.columns ≡ columns
