@@ -7,6 +7,7 @@ pub mod Seeing
 pub mod Passing
 pub mod Links
 pub mod WatchLists
+pub mod Nodes
 pub mod Settling
 pub mod Visiting
 pub mod Draining

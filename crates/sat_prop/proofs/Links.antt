@@ -9,7 +9,7 @@ use Rattle.std.proofs.lemmas.List.Folds.{list_any-append}
 use Rattle.std.proofs.lemmas.Map.Steps.{length-le_from_distinct_below}
 use Rattle.prop_core.specs.declared.lit.Lit.{Lit}
 use Rattle.prop_core.specs.Clauses.{same_literal}
-use Rattle.sat_prop.specs.declared.watches.Starts.{Starts}
+use Rattle.sat_prop.specs.declared.watch_lists.Starts.{Starts}
 use Rattle.sat_prop.specs.Watches.{Links, is_among, start_of, starts_at, with_start, begun, empty}
 
 -- ---- numbers among others

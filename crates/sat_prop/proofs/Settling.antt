@@ -15,7 +15,7 @@ use Rattle.sat_prop.specs.Levels.{level_of}
 use Rattle.sat_prop.specs.Quiet.{AreQuiet, stands}
 use Rattle.sat_prop.specs.Changes.{IsKeptUpTo, with_literal}
 use Rattle.sat_prop.specs.Kept.{IsTrailState}
-use Rattle.sat_prop.specs.declared.watches.Watch.{Watch}
+use Rattle.sat_prop.specs.declared.watch_lists.Watch.{Watch}
 use Rattle.sat_prop.specs.Watches.{watch_at}
 use Rattle.sat_prop.specs.Watching.{WatchedState, AreWatched, AreVisited, IsWatch, IsSettled, IsNarrow, MakesUp, other_of}
 use Rattle.sat_prop.proofs.Fronts.{split_last, held_same, contains_at}

@@ -14,12 +14,12 @@ use Rattle.prop_core.proofs.Entailed.{same_itself}
 use Rattle.prop_core.proofs.Literals.{same_back, true_at, below_at, open_parts, AreConsistent}
 use Rattle.prop_core.proofs.Forcing.{forced_stands}
 use Rattle.sat_prop.specs.TrailState.{TrailState, literal_at, IsKnownClause}
-use Rattle.sat_prop.specs.Changes.{IsFront, with_literal, with_clause}
-use Rattle.sat_prop.specs.declared.watches.Watch.{Watch}
+use Rattle.sat_prop.specs.Changes.{IsFront, Propagates, with_literal, with_clause}
+use Rattle.sat_prop.specs.declared.watch_lists.Watch.{Watch}
 use Rattle.sat_prop.specs.Watches.{WatchState, IsNext, Puts, watch_at, watching, is_among, with_pair}
-use Rattle.sat_prop.specs.Watching.{WatchedState, AreWatched, AreVisited, IsWatch, IsSettled, MakesUp, IsReplacement, IsShort, AreTwo, other_of}
+use Rattle.sat_prop.specs.Watching.{WatchedState, AreWatched, AreVisited, IsVisiting, Visits, IsWatch, IsSettled, MakesUp, IsReplacement, IsShort, AreTwo, other_of}
 use Rattle.sat_prop.specs.Kept.{IsTrailState}
-use Rattle.sat_prop.proofs.Fronts.{split_last, held_same, front_held, front_same, number_of, known_at, contains_more}
+use Rattle.sat_prop.proofs.Fronts.{split_last, front_trans, front_length, front_at, held_same, front_held, front_same, number_of, known_at, contains_more}
 use Rattle.sat_prop.proofs.Links.{not_both}
 use Rattle.sat_prop.proofs.Settling.{negation_once, other_among, settled_apart, settled_forced, visited_more, watched_more}
 
@@ -535,3 +535,44 @@ roomier_either (Err m) t new w more clauses e f a s n x v p q g h = rw f (watche
 -- the same list, where none was added
 pub same_front : {X : Type 0} (old new : List X) → take (length old) new ≡ old → length new ≡ length old → new ≡ old
 same_front old new e n = let a : take (length old) new ≡ new = rw (← n) (grind (arith, common_steps)) in sym a ∙ e
+
+-- ---- visits
+
+-- what is looked at grows by one more visit
+pub visits_then : (a b c : TrailState) (u v w : WatchedState) → Visits a u b v → Visits b v c w → Visits a u c w
+visits_then a b c u v w f s = record {
+  watched = s.watched;
+  grown = record {
+    clauses = s.grown.clauses ∙ f.grown.clauses;
+    attached = s.grown.attached ∙ f.grown.attached;
+    vars = s.grown.vars ∙ f.grown.vars;
+    spare = s.grown.spare ∙ f.grown.spare;
+    literals = front_trans a.literals b.literals c.literals f.grown.literals s.grown.literals;
+    reasons = front_trans a.reasons b.reasons c.reasons f.grown.reasons s.grown.reasons;
+    level = s.grown.level ∙ f.grown.level;
+  };
+  short = s.short ∙ f.short;
+  seen = s.seen ∙ f.seen;
+}
+
+-- a visit goes on where literals were forced
+pub visiting_still : (t after : TrailState) (w now : WatchedState) (clauses : List Clause) (l : Lit) → IsVisiting t w clauses l → Visits t w after now → IsVisiting after now clauses l
+visiting_still t after w now clauses l v s =
+    let longer = front_length t.literals after.literals s.grown.literals in
+    let seen = s.seen in
+    let within = v.within in
+    record {
+      watched = s.watched;
+      grown = subst (λ (cs : List Clause). IsFront cs clauses) (sym s.grown.clauses) v.grown;
+      within = omega arith;
+      falls = ap (literal_at after.literals) s.seen ∙ front_at t.literals after.literals w.seen no_literal s.grown.literals v.within ∙ v.falls;
+    }
+
+-- only lists changed of what is watched
+pub visits_same : (t after : TrailState) (old w now : WatchedState) → Propagates t after → w ≡ old → now.short ≡ w.short → now.seen ≡ w.seen → AreWatched after now → Visits t old after now
+visits_same t after old w now p e short seen a = record {
+  watched = a;
+  grown = p;
+  short = short ∙ ap (λ (s : WatchedState). s.short) e;
+  seen = seen ∙ ap (λ (s : WatchedState). s.seen) e;
+}

@@ -13,8 +13,8 @@ use Rattle.prop_core.specs.declared.lit.Lit.{Lit}
 use Rattle.prop_core.specs.Clauses.{same_literal}
 use Rattle.prop_core.proofs.Entailed.{same_itself}
 use Rattle.prop_core.proofs.Literals.{same_is}
-use Rattle.sat_prop.specs.declared.watches.Watch.{Watch}
-use Rattle.sat_prop.specs.declared.watches.Starts.{Starts}
+use Rattle.sat_prop.specs.declared.watch_lists.Watch.{Watch}
+use Rattle.sat_prop.specs.declared.watch_lists.Starts.{Starts}
 use Rattle.sat_prop.specs.Watches.{AreWatchLists, IsNext, Links, is_among, watch_at, no_watch, watching, start_of, with_start, empty, no_starts}
 use Rattle.sat_prop.proofs.Links.{among_itself, among_later, among_last, among_others, among_more, not_both, links_apart, links_more, links_below, links_distinct, start_set, start_kept}
 

@@ -1,10 +1,11 @@
 -- Clauses that are watched at literals (Moskewicz and others, "Chaff: engineering an efficient SAT solver", 2001): each watch stands in the list of its literal, linked by numbers, or waits.
-use Rattle.std.specs.Prelude.{◌≡◌, ℕ, ◌<◌, true, false, suc, Bool, ◌-◌, List, [], ◌∷◌, ◌++◌, length, replicate, Option, Some, None, nat_eq, slice_index_or, slice_set, if◌then◌else◌}
+use Rattle.std.specs.Prelude.{◌≡◌, ℕ, ◌<◌, true, false, suc, Bool, ◌-◌, List, [], ◌∷◌, ◌++◌, length, map, replicate, Option, Some, None, nat_eq, slice_index_or, slice_set, if◌then◌else◌}
 use Rattle.std.specs.List.{list_any, IsDistinct}
 use Rattle.prop_core.specs.declared.lit.Lit.{Lit}
 use Rattle.prop_core.specs.Trail.{no_literal}
-use Rattle.sat_prop.specs.declared.watches.Watch.{Watch}
-use Rattle.sat_prop.specs.declared.watches.Starts.{Starts}
+use Rattle.sat_prop.specs.declared.watch_lists.Watch.{Watch}
+use Rattle.sat_prop.specs.declared.watch_lists.Node.{Node}
+use Rattle.sat_prop.specs.declared.watch_lists.Starts.{Starts}
 
 -- the watches, the numbers of those that wait, for how many variables there are lists, and for how many more clauses there is room
 pub record WatchState : Type 0 where
@@ -18,6 +19,16 @@ no_watch = record { clause = 0; lit = no_literal; twin = 0 }
 
 abbrev pub watch_at : List Watch → ℕ → Watch
 watch_at watches number = slice_index_or watches number no_watch
+
+-- the watches alone, and of each the number that comes next in its list
+abbrev pub watches_of : List Node → List Watch
+watches_of nodes = map (λ n. n.watch) nodes
+
+abbrev pub nexts_of : List Node → List (Option ℕ)
+nexts_of nodes = map (λ n. n.next) nodes
+
+abbrev pub node_at : List Node → ℕ → Node
+node_at nodes number = slice_index_or nodes number (record { watch = no_watch; next = None })
 
 abbrev pub is_among : ℕ → List ℕ → Bool
 is_among number numbers = list_any (nat_eq number) numbers

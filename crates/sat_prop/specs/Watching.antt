@@ -8,7 +8,8 @@ use Rattle.prop_core.specs.Trail.{is_forced_by}
 use Rattle.sat_prop.specs.TrailState.{TrailState, literal_at}
 use Rattle.sat_prop.specs.Watches.{WatchState, watch_at, is_among}
 use Rattle.sat_prop.specs.Quiet.{IsConflict}
-use Rattle.sat_prop.specs.declared.watches.Watch.{Watch}
+use Rattle.sat_prop.specs.Changes.{IsFront, Propagates}
+use Rattle.sat_prop.specs.declared.watch_lists.Watch.{Watch}
 use Rattle.sat_prop.specs.declared.watched.Judged.{Judged}
 use Rattle.sat_prop.specs.declared.watched.Judged.TheVariants.{Stays, Moves, False}
 
@@ -76,6 +77,20 @@ pub record AreWatched (t : TrailState) (w : WatchedState) : Type 0 where
 -- those that wait no more are settled by the next literal too
 abbrev pub AreVisited : TrailState → WatchedState → Type 0
 AreVisited t w = (number : ℕ) → number < length w.lists.watches → is_among number w.lists.waiting ≡ false → IsSettled t.clauses t.literals (w.seen + 1) w.lists.watches number
+
+-- The first literal that hasn't been looked at makes this one false, over a database of clauses that may have grown.
+pub record IsVisiting (t : TrailState) (w : WatchedState) (clauses : List Clause) (l : Lit) : Type 0 where
+  pub watched : AreWatched t w
+  pub grown : IsFront t.clauses clauses
+  pub within : w.seen < length t.literals
+  pub falls : literal_at t.literals w.seen ≡ negation l
+
+-- Watches move and literals are forced, while the same literals count as looked at.
+pub record Visits (t : TrailState) (w : WatchedState) (after : TrailState) (now : WatchedState) : Type 0 where
+  pub watched : AreWatched after now
+  pub grown : Propagates t after
+  pub short : now.short ≡ w.short
+  pub seen : now.seen ≡ w.seen
 
 -- two different literals of a clause
 pub record AreTwo (clause : Clause) (first second : Lit) : Type 0 where

@@ -12,7 +12,7 @@
 mod stack;
 mod standing;
 mod trail;
+mod watch_lists;
 mod watched;
-mod watches;
 
 pub use trail::{Propagated, Trail};

@@ -123,15 +123,10 @@ impl Stack {
     {
         self.starts.push(self.literals.len() as u32).unwrap();
         set(&mut self.values, lit.var, Some(lit.positive));
-        put(
-            &mut self.literals,
-            &mut self.reasons,
-            &mut self.levels,
-            &mut self.places,
-            lit,
-            None,
-            self.starts.len() as u32,
-        );
+        set(&mut self.places, lit.var, self.literals.len() as u32);
+        append(&mut self.literals, lit);
+        append(&mut self.reasons, None);
+        append(&mut self.levels, self.starts.len() as u32);
     }
 
     /// Keeps the literals up to a level.
@@ -309,15 +304,10 @@ impl Stack {
         ensures { self.new ≡ with_literal self.old lit (Some id) }
     {
         set(&mut self.values, lit.var, Some(lit.positive));
-        put(
-            &mut self.literals,
-            &mut self.reasons,
-            &mut self.levels,
-            &mut self.places,
-            lit,
-            Some(id),
-            self.starts.len() as u32,
-        );
+        set(&mut self.places, lit.var, self.literals.len() as u32);
+        append(&mut self.literals, lit);
+        append(&mut self.reasons, Some(id));
+        append(&mut self.levels, self.starts.len() as u32);
     }
 }
 
@@ -331,12 +321,12 @@ fn widen(values: &mut Vec<Option<bool>>, count: usize) -> Result<(), Memory>
     Ok(())
 }
 
-// Keeps the value of a variable.
-fn set(values: &mut Vec<Option<bool>>, var: u32, value: Option<bool>)
-    requires { var < length values.old.items }
-    ensures { values.new.items ≡ slice_set values.old.items var value }
+// Keeps what is known of a variable.
+fn set<T: Copy>(items: &mut Vec<T>, var: u32, item: T)
+    requires { var < length items.old.items }
+    ensures { items.new.items ≡ slice_set items.old.items var item }
 {
-    values[var as usize] = value;
+    items[var as usize] = item;
 }
 
 // Takes the values of the literals from a place on back.
@@ -354,31 +344,11 @@ fn forget(values: &mut Vec<Option<bool>>, literals: &[Lit], kept: usize)
     }
 }
 
-// Puts a literal behind the others, with its reason and its level, where there is room.
-fn put(
-    literals: &mut Vec<Lit>,
-    reasons: &mut Vec<Option<ClauseId>>,
-    levels: &mut Vec<u32>,
-    places: &mut Vec<u32>,
-    lit: Lit,
-    reason: Option<ClauseId>,
-    level: u32,
-)
-    requires literals { vec_len literals.old < vec_capacity literals.old }
-    requires reasons { vec_len reasons.old < vec_capacity reasons.old }
-    requires levels { vec_len levels.old < vec_capacity levels.old }
-    requires place { lit.var < length places.old.items }
-    requires limit { vec_len literals.old < 2 ^ 32 }
-    ensures literals { literals.new.items ≡ literals.old.items ++ lit ∷ [] }
-    ensures reasons { reasons.new.items ≡ reasons.old.items ++ reason ∷ [] }
-    ensures levels { levels.new.items ≡ levels.old.items ++ level ∷ [] }
-    ensures places { places.new.items ≡ slice_set places.old.items lit.var (length literals.old.items) }
-    ensures room_literals { vec_capacity literals.old ≤ vec_capacity literals.new }
-    ensures room_reasons { vec_capacity reasons.old ≤ vec_capacity reasons.new }
-    ensures room_levels { vec_capacity levels.old ≤ vec_capacity levels.new }
+// Puts an item behind the others, where there is room.
+fn append<T>(items: &mut Vec<T>, item: T)
+    requires room { vec_len items.old < vec_capacity items.old }
+    ensures items { items.new.items ≡ items.old.items ++ item ∷ [] }
+    ensures room { vec_capacity items.old ≤ vec_capacity items.new }
 {
-    places[lit.var as usize] = literals.len() as u32;
-    literals.push(lit).unwrap();
-    reasons.push(reason).unwrap();
-    levels.push(level).unwrap();
+    items.push(item).unwrap();
 }

@@ -4,16 +4,15 @@ ghost use Rattle.std.specs.List.{list_any, list_all};
 ghost use Rattle.prop_core.specs.Clauses.{negation, same_literal, is_false, is_true, HasValues};
 ghost use Rattle.prop_core.specs.Derivation.{clause_numbered};
 ghost use Rattle.prop_core.specs.Trail.{is_forced_by};
-ghost use Rattle.sat_prop.specs.TrailState.{literal_at};
 ghost use Rattle.sat_prop.specs.Quiet.{AreQuiet, IsConflict, IsPropagated};
 ghost use Rattle.sat_prop.specs.Changes.{IsFront, Propagates, with_clause, with_literal};
 ghost use Rattle.sat_prop.specs.Watches.{IsNext, watch_at};
-ghost use Rattle.sat_prop.specs.Watching.{AreWatched, AreVisited, AreTwo, IsJudged, IsReplacement, IsNarrow, no_watched};
+ghost use Rattle.sat_prop.specs.Watching.{AreWatched, AreVisited, IsVisiting, Visits, AreTwo, IsJudged, IsReplacement, IsNarrow, no_watched};
 
 use crate::stack::Stack;
 use crate::standing::Stands;
 use crate::trail::Propagated;
-use crate::watches::Watches;
+use crate::watch_lists::WatchLists;
 use des_base::Memory;
 use prop_core::{ClauseId, Clauses, Lit};
 use std::alloc::Global;
@@ -25,7 +24,7 @@ use std::marker::Model;
 pub struct Watched {
     short: Vec<ClauseId>,
     spare: usize,
-    lists: Watches,
+    lists: WatchLists,
     seen: u32,
 }
 
@@ -48,7 +47,7 @@ impl Watched {
         Watched {
             short: Vec::new(alloc),
             spare: 0,
-            lists: Watches::new(alloc),
+            lists: WatchLists::new(alloc),
             seen: 0,
         }
     }
@@ -192,14 +191,8 @@ impl Watched {
 
     // Looks at each clause that watches the literal, which the first literal that hasn't been looked at makes false.
     fn visit(&mut self, stack: &mut Stack, db: &Clauses, lit: Lit) -> Option<ClauseId>
-        requires watched { AreWatched stack.old self.old }
-        requires grown { IsFront stack.old.clauses db.now.clauses }
-        requires within { self.old.seen < length stack.old.literals }
-        requires falls { literal_at stack.old.literals self.old.seen ≡ negation lit }
-        ensures watched { AreWatched stack.new self.new }
-        ensures grown { Propagates stack.old stack.new }
-        ensures short { self.new.short ≡ self.old.short }
-        ensures seen { self.new.seen ≡ self.old.seen }
+        requires visiting { IsVisiting stack.old self.old db.now.clauses lit }
+        ensures visits { Visits stack.old self.old stack.new self.new }
         ensures conflict { IfSome result (IsConflict stack.new) }
         ensures visited { IfNone result (AreWatched stack.new (record self.new { seen = self.new.seen + 1 })) }
     {
@@ -216,15 +209,9 @@ impl Watched {
     // Looks at the clause of the next watch that waits, and answers it where it is false.
     fn look(&mut self, stack: &mut Stack, db: &Clauses, number: u32, lit: Lit) -> Option<ClauseId>
         requires next { IsNext self.old.lists number }
-        requires watched { AreWatched stack.old self.old }
-        requires grown { IsFront stack.old.clauses db.now.clauses }
-        requires within { self.old.seen < length stack.old.literals }
-        requires falls { literal_at stack.old.literals self.old.seen ≡ negation lit }
+        requires visiting { IsVisiting stack.old self.old db.now.clauses lit }
         requires visited { AreVisited stack.old self.old }
-        ensures watched { AreWatched stack.new self.new }
-        ensures grown { Propagates stack.old stack.new }
-        ensures short { self.new.short ≡ self.old.short }
-        ensures seen { self.new.seen ≡ self.old.seen }
+        ensures visits { Visits stack.old self.old stack.new self.new }
         ensures conflict { IfSome result (IsConflict stack.new) }
         ensures visited { IfNone result (AreVisited stack.new self.new) }
         ensures fewer { IfNone result (length self.new.lists.waiting + 1 ≡ length self.old.lists.waiting) }
@@ -243,10 +230,7 @@ impl Watched {
     // What becomes of a watch. The other literal of its clause is made true where all others are false.
     fn judge(&self, stack: &mut Stack, db: &Clauses, number: u32, lit: Lit) -> Judged
         requires number { number < length self.now.lists.watches }
-        requires watched { AreWatched stack.old self.now }
-        requires grown { IsFront stack.old.clauses db.now.clauses }
-        requires within { self.now.seen < length stack.old.literals }
-        requires falls { literal_at stack.old.literals self.now.seen ≡ negation lit }
+        requires visiting { IsVisiting stack.old self.now db.now.clauses lit }
         ensures watched { AreWatched stack.new self.now }
         ensures grown { Propagates stack.old stack.new }
         ensures visited { AreVisited stack.old self.now → AreVisited stack.new self.now }

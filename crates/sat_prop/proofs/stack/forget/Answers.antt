@@ -16,7 +16,7 @@ down-preserved c =
     let k = below_at _ c.args.literals.now (get_or c.args.literals.now place no_literal) c.requires.known (true_at c.args.literals.now _ place h refl) in
     let e : place + 1 ≡ c.down.place = omega arith in
     let n = c.down.invariant.values.enough in
-    let s : c.set.new.values.items ≡ slice_set c.down.values.items (get_or c.args.literals.now place no_literal).var None = let q = c.set.ensures in grind (arith, common_steps) in
+    let s : c.set.new.items.items ≡ slice_set c.down.values.items (get_or c.args.literals.now place no_literal).var None = let q = c.set.ensures in grind (arith, common_steps) in
     let a = subst (λ (m : ℕ). AreValues (length c.args.values.now.items) (take m c.args.literals.now) c.down.values.items) (sym e) c.down.invariant.values in
     record {
       least = omega arith;

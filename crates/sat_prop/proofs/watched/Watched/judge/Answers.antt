@@ -8,7 +8,7 @@ use Rattle.prop_core.specs.Trail.{is_forced_by}
 use Rattle.prop_core.proofs.Entailed.{same_itself}
 use Rattle.prop_core.proofs.Literals.{same_is}
 use Rattle.sat_prop.specs.TrailState.{literal_at}
-use Rattle.sat_prop.specs.declared.watches.Watch.{Watch}
+use Rattle.sat_prop.specs.declared.watch_lists.Watch.{Watch}
 use Rattle.sat_prop.specs.Watches.{watch_at}
 use Rattle.sat_prop.specs.Watching.{WatchedState, AreWatched, IsSettled, IsReplacement, other_of}
 use Rattle.sat_prop.proofs.Links.{not_both}
@@ -19,16 +19,16 @@ use Rattle.sat_prop.proofs.watched.Watched.judge.Goals.{then-ne-via-then-ne, the
 
 pub watch-requires : goal.watch-requires
 watch-requires c =
-    let wa = subst (λ (s : WatchedState). AreWatched c.args.stack.now s) (sym c.self.view_is) c.requires.watched in
+    let wa = subst (λ (s : WatchedState). AreWatched c.args.stack.now s) (sym c.self.view_is) c.requires.visiting.watched in
     let n = subst (λ (s : WatchedState). c.args.number < length s.lists.watches) (sym c.self.view_is) c.requires.number in
     subst (λ (x : Watch). x.twin < length c.self.inside.lists.watches) (sym c.watch-watch.ensures) (wa.each c.args.number n).twin
 
 pub returns-then-ne-clause-judged : goal.returns-then-ne-clause-judged
 returns-then-ne-clause-judged c =
-    let wa = subst (λ (s : WatchedState). AreWatched c.args.stack.now s) (sym c.self.view_is) c.requires.watched in
+    let wa = subst (λ (s : WatchedState). AreWatched c.args.stack.now s) (sym c.self.view_is) c.requires.visiting.watched in
     let n = subst (λ (s : WatchedState). c.args.number < length s.lists.watches) (sym c.self.view_is) c.requires.number in
-    let falls = subst (λ (s : WatchedState). literal_at c.args.stack.now.literals s.seen ≡ negation c.args.lit) (sym c.self.view_is) c.requires.falls in
-    let within = subst (λ (s : WatchedState). s.seen < length c.args.stack.now.literals) (sym c.self.view_is) c.requires.within in
+    let falls = subst (λ (s : WatchedState). literal_at c.args.stack.now.literals s.seen ≡ negation c.args.lit) (sym c.self.view_is) c.requires.visiting.falls in
+    let within = subst (λ (s : WatchedState). s.seen < length c.args.stack.now.literals) (sym c.self.view_is) c.requires.visiting.within in
     subst (λ (s : WatchedState). IsSettled c.args.stack.now.clauses c.args.stack.now.literals (s.seen + 1) s.lists.watches c.args.number) c.self.view_is (elim c.then-ne.branch [
       | then-ne-via-then-ne w ↦
           let f : same_literal c.watch-watch.result.lit c.args.lit ≡ false = not-true _ (sym c.ne.ensures ∙ w.if-ne.true) in
@@ -42,31 +42,31 @@ returns-then-ne-clause-judged c =
 
 pub clause-requires-clause-from_one : goal.clause-requires-clause-from_one
 clause-requires-clause-from_one c =
-    let wa = subst (λ (s : WatchedState). AreWatched c.args.stack.now s) (sym c.self.view_is) c.requires.watched in
+    let wa = subst (λ (s : WatchedState). AreWatched c.args.stack.now s) (sym c.self.view_is) c.requires.visiting.watched in
     let n = subst (λ (s : WatchedState). c.args.number < length s.lists.watches) (sym c.self.view_is) c.requires.number in
     let joined = subst (λ (x : Watch). Contains c.args.stack.now.attached x.clause) (sym c.watch-watch.ensures) (wa.each c.args.number n).joined in
-    (found c.args.stack.now c.args.db.now.clauses c.watch-watch.result.clause c.literals-literals.ensures.state c.requires.grown joined).from_one
+    (found c.args.stack.now c.args.db.now.clauses c.watch-watch.result.clause c.literals-literals.ensures.state c.requires.visiting.grown joined).from_one
 
 pub clause-requires-clause-in_range : goal.clause-requires-clause-in_range
 clause-requires-clause-in_range c =
-    let wa = subst (λ (s : WatchedState). AreWatched c.args.stack.now s) (sym c.self.view_is) c.requires.watched in
+    let wa = subst (λ (s : WatchedState). AreWatched c.args.stack.now s) (sym c.self.view_is) c.requires.visiting.watched in
     let n = subst (λ (s : WatchedState). c.args.number < length s.lists.watches) (sym c.self.view_is) c.requires.number in
     let joined = subst (λ (x : Watch). Contains c.args.stack.now.attached x.clause) (sym c.watch-watch.ensures) (wa.each c.args.number n).joined in
-    (found c.args.stack.now c.args.db.now.clauses c.watch-watch.result.clause c.literals-literals.ensures.state c.requires.grown joined).in_range
+    (found c.args.stack.now c.args.db.now.clauses c.watch-watch.result.clause c.literals-literals.ensures.state c.requires.visiting.grown joined).in_range
 
 pub make_true-requires-clause-attached : goal.make_true-requires-clause-attached
 make_true-requires-clause-attached c =
-    let wa = subst (λ (s : WatchedState). AreWatched c.args.stack.now s) (sym c.self.view_is) c.requires.watched in
+    let wa = subst (λ (s : WatchedState). AreWatched c.args.stack.now s) (sym c.self.view_is) c.requires.visiting.watched in
     let n = subst (λ (s : WatchedState). c.args.number < length s.lists.watches) (sym c.self.view_is) c.requires.number in
     subst (λ (x : Watch). Contains c.args.stack.now.attached x.clause) (sym c.watch-watch.ensures) (wa.each c.args.number n).joined
 
 pub make_true-requires-clause-forced : goal.make_true-requires-clause-forced
 make_true-requires-clause-forced c =
-    let wa = subst (λ (s : WatchedState). AreWatched c.args.stack.now s) (sym c.self.view_is) c.requires.watched in
+    let wa = subst (λ (s : WatchedState). AreWatched c.args.stack.now s) (sym c.self.view_is) c.requires.visiting.watched in
     let n = subst (λ (s : WatchedState). c.args.number < length s.lists.watches) (sym c.self.view_is) c.requires.number in
-    let within = subst (λ (s : WatchedState). s.seen < length c.args.stack.now.literals) (sym c.self.view_is) c.requires.within in
+    let within = subst (λ (s : WatchedState). s.seen < length c.args.stack.now.literals) (sym c.self.view_is) c.requires.visiting.within in
     let joined = subst (λ (x : Watch). Contains c.args.stack.now.attached x.clause) (sym c.watch-watch.ensures) (wa.each c.args.number n).joined in
-    let f = found c.args.stack.now c.args.db.now.clauses c.watch-watch.result.clause c.literals-literals.ensures.state c.requires.grown joined in
+    let f = found c.args.stack.now c.args.db.now.clauses c.watch-watch.result.clause c.literals-literals.ensures.state c.requires.visiting.grown joined in
     let held : clause_numbered c.args.stack.now.clauses (watch_at c.self.inside.lists.watches c.args.number).clause ≡ Some c.clause.result.now = ap (λ (x : Watch). clause_numbered c.args.stack.now.clauses x.clause) (sym c.watch-watch.ensures) ∙ sym f.same ∙ c.clause.ensures in
     let q : c.watch.result.lit ≡ other_of c.self.inside.lists.watches c.args.number = ap (λ (x : Watch). x.lit) (c.watch.ensures ∙ ap (λ (x : Watch). watch_at c.self.inside.lists.watches x.twin) c.watch-watch.ensures) in
     let forced = forced_found c.args.stack.now (record { short = c.self.inside.short.items; spare = c.self.inside.spare; lists = c.self.inside.lists; seen = c.self.inside.seen }) c.args.number c.clause.result.now wa n held (rw (← q) c.in-None.ensures.none) in
@@ -76,11 +76,11 @@ make_true-requires-clause-forced c =
 
 pub returns-in-Some-clause-judged : goal.returns-in-Some-clause-judged
 returns-in-Some-clause-judged c =
-    let wa = subst (λ (s : WatchedState). AreWatched c.args.stack.now s) (sym c.self.view_is) c.requires.watched in
+    let wa = subst (λ (s : WatchedState). AreWatched c.args.stack.now s) (sym c.self.view_is) c.requires.visiting.watched in
     let n = subst (λ (s : WatchedState). c.args.number < length s.lists.watches) (sym c.self.view_is) c.requires.number in
-    let falls = subst (λ (s : WatchedState). literal_at c.args.stack.now.literals s.seen ≡ negation c.args.lit) (sym c.self.view_is) c.requires.falls in
+    let falls = subst (λ (s : WatchedState). literal_at c.args.stack.now.literals s.seen ≡ negation c.args.lit) (sym c.self.view_is) c.requires.visiting.falls in
     let joined = subst (λ (x : Watch). Contains c.args.stack.now.attached x.clause) (sym c.watch-watch.ensures) (wa.each c.args.number n).joined in
-    let f = found c.args.stack.now c.args.db.now.clauses c.watch-watch.result.clause c.literals-literals.ensures.state c.requires.grown joined in
+    let f = found c.args.stack.now c.args.db.now.clauses c.watch-watch.result.clause c.literals-literals.ensures.state c.requires.visiting.grown joined in
     let held : clause_numbered c.args.stack.now.clauses (watch_at c.self.inside.lists.watches c.args.number).clause ≡ Some c.clause.result.now = ap (λ (x : Watch). clause_numbered c.args.stack.now.clauses x.clause) (sym c.watch-watch.ensures) ∙ sym f.same ∙ c.clause.ensures in
     let q : c.watch.result.lit ≡ other_of c.self.inside.lists.watches c.args.number = ap (λ (x : Watch). x.lit) (c.watch.ensures ∙ ap (λ (x : Watch). watch_at c.self.inside.lists.watches x.twin) c.watch-watch.ensures) in
     let e : c.watch-watch.result.lit ≡ c.args.lit = same_is c.watch-watch.result.lit c.args.lit (not-false _ (sym c.ne.ensures ∙ c.if-ne.false)) in
@@ -90,18 +90,18 @@ returns-in-Some-clause-judged c =
     (here, (c.clause.result.now, held, r))
 
 pub returns-then-make_true-clause-watched : goal.returns-then-make_true-clause-watched
-returns-then-make_true-clause-watched c = watched_kept c.args.stack.now c.make_true.new.stack c.args.self.now c.watch.result.lit c.watch-watch.result.clause c.make_true.ensures.kept c.requires.watched
+returns-then-make_true-clause-watched c = watched_kept c.args.stack.now c.make_true.new.stack c.args.self.now c.watch.result.lit c.watch-watch.result.clause c.make_true.ensures.kept c.requires.visiting.watched
 
 pub returns-then-make_true-clause-visited : goal.returns-then-make_true-clause-visited
-returns-then-make_true-clause-visited c v = visited_kept c.args.stack.now c.make_true.new.stack c.args.self.now c.watch.result.lit c.watch-watch.result.clause c.make_true.ensures.kept c.requires.within v
+returns-then-make_true-clause-visited c v = visited_kept c.args.stack.now c.make_true.new.stack c.args.self.now c.watch.result.lit c.watch-watch.result.clause c.make_true.ensures.kept c.requires.visiting.within v
 
 pub returns-then-make_true-clause-judged : goal.returns-then-make_true-clause-judged
 returns-then-make_true-clause-judged c =
-    let wa = subst (λ (s : WatchedState). AreWatched c.args.stack.now s) (sym c.self.view_is) c.requires.watched in
+    let wa = subst (λ (s : WatchedState). AreWatched c.args.stack.now s) (sym c.self.view_is) c.requires.visiting.watched in
     let n = subst (λ (s : WatchedState). c.args.number < length s.lists.watches) (sym c.self.view_is) c.requires.number in
-    let within = subst (λ (s : WatchedState). s.seen < length c.args.stack.now.literals) (sym c.self.view_is) c.requires.within in
+    let within = subst (λ (s : WatchedState). s.seen < length c.args.stack.now.literals) (sym c.self.view_is) c.requires.visiting.within in
     let joined = subst (λ (x : Watch). Contains c.args.stack.now.attached x.clause) (sym c.watch-watch.ensures) (wa.each c.args.number n).joined in
-    let f = found c.args.stack.now c.args.db.now.clauses c.watch-watch.result.clause c.literals-literals.ensures.state c.requires.grown joined in
+    let f = found c.args.stack.now c.args.db.now.clauses c.watch-watch.result.clause c.literals-literals.ensures.state c.requires.visiting.grown joined in
     let held : clause_numbered c.args.stack.now.clauses (watch_at c.self.inside.lists.watches c.args.number).clause ≡ Some c.clause.result.now = ap (λ (x : Watch). clause_numbered c.args.stack.now.clauses x.clause) (sym c.watch-watch.ensures) ∙ sym f.same ∙ c.clause.ensures in
     let q : c.watch.result.lit ≡ other_of c.self.inside.lists.watches c.args.number = ap (λ (x : Watch). x.lit) (c.watch.ensures ∙ ap (λ (x : Watch). watch_at c.self.inside.lists.watches x.twin) c.watch-watch.ensures) in
     let w : WatchedState = record { short = c.self.inside.short.items; spare = c.self.inside.spare; lists = c.self.inside.lists; seen = c.self.inside.seen } in
@@ -111,7 +111,7 @@ returns-then-make_true-clause-judged c =
     (judged_forced c.args.stack.now c.make_true.new.stack w c.args.number c.clause.result.now c.watch.result.lit c.watch-watch.result.clause c.make_true.ensures.kept within wa n held forced holds)
 
 pub returns-else-make_true-clause-watched : goal.returns-else-make_true-clause-watched
-returns-else-make_true-clause-watched c = watched_kept c.args.stack.now c.make_true.new.stack c.args.self.now c.watch.result.lit c.watch-watch.result.clause c.make_true.ensures.kept c.requires.watched
+returns-else-make_true-clause-watched c = watched_kept c.args.stack.now c.make_true.new.stack c.args.self.now c.watch.result.lit c.watch-watch.result.clause c.make_true.ensures.kept c.requires.visiting.watched
 
 pub returns-else-make_true-clause-visited : goal.returns-else-make_true-clause-visited
-returns-else-make_true-clause-visited c v = visited_kept c.args.stack.now c.make_true.new.stack c.args.self.now c.watch.result.lit c.watch-watch.result.clause c.make_true.ensures.kept c.requires.within v
+returns-else-make_true-clause-visited c v = visited_kept c.args.stack.now c.make_true.new.stack c.args.self.now c.watch.result.lit c.watch-watch.result.clause c.make_true.ensures.kept c.requires.visiting.within v

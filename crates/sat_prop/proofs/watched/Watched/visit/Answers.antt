@@ -2,18 +2,18 @@ use Rattle.std.proofs.Common.{◌≡◌, ◌∙◌, ◌<◌, List, refl, ap, sym
 use Rattle.prop_core.specs.declared.lit.Lit.{Lit}
 use Rattle.prop_core.specs.Clauses.{negation}
 use Rattle.sat_prop.specs.TrailState.{literal_at}
-use Rattle.sat_prop.specs.declared.watches.Watch.{Watch}
+use Rattle.sat_prop.specs.declared.watch_lists.Watch.{Watch}
 use Rattle.sat_prop.specs.Watches.{watch_at}
 use Rattle.sat_prop.specs.Watching.{WatchedState, AreWatched}
-use Rattle.sat_prop.proofs.Fronts.{front_itself, front_length}
-use Rattle.sat_prop.proofs.Visiting.{at_known, watched_waits, visited_begins, visited_ends}
+use Rattle.sat_prop.proofs.Fronts.{front_itself}
+use Rattle.sat_prop.proofs.Visiting.{at_known, watched_waits, visited_begins, visited_ends, visiting_still}
 use Rattle.sat_prop.proofs.watched.Watched.visit.Goals as goal
 
 pub open-requires : goal.open-requires
 open-requires c =
-    let wa = subst (λ (s : WatchedState). AreWatched c.args.stack.now s) (sym c.self.view_is) c.requires.watched in
-    let within = subst (λ (s : WatchedState). s.seen < length c.args.stack.now.literals) (sym c.self.view_is) c.requires.within in
-    let falls = subst (λ (s : WatchedState). literal_at c.args.stack.now.literals s.seen ≡ negation c.args.lit) (sym c.self.view_is) c.requires.falls in
+    let wa = subst (λ (s : WatchedState). AreWatched c.args.stack.now s) (sym c.self.view_is) c.requires.visiting.watched in
+    let within = subst (λ (s : WatchedState). s.seen < length c.args.stack.now.literals) (sym c.self.view_is) c.requires.visiting.within in
+    let falls = subst (λ (s : WatchedState). literal_at c.args.stack.now.literals s.seen ≡ negation c.args.lit) (sym c.self.view_is) c.requires.visiting.falls in
     let k = at_known c.args.stack.now c.self.inside.seen c.literals-literals.ensures.state within in
     let e : (literal_at c.args.stack.now.literals c.self.inside.seen).var ≡ c.args.lit.var = ap (λ (l : Lit). l.var) falls in
     let v = wa.vars in
@@ -22,24 +22,27 @@ open-requires c =
 pub more-init : goal.more-init
 more-init c =
     let w : WatchedState = record { short = c.self.inside.short.items; spare = c.self.inside.spare; lists = c.self.inside.lists; seen = c.self.inside.seen } in
-    let wa : AreWatched c.args.stack.now w = subst (λ (s : WatchedState). AreWatched c.args.stack.now s) (sym c.self.view_is) c.requires.watched in
-    let falls = subst (λ (s : WatchedState). literal_at c.args.stack.now.literals s.seen ≡ negation c.args.lit) (sym c.self.view_is) c.requires.falls in
+    let wa : AreWatched c.args.stack.now w = subst (λ (s : WatchedState). AreWatched c.args.stack.now s) (sym c.self.view_is) c.requires.visiting.watched in
+    let falls = subst (λ (s : WatchedState). literal_at c.args.stack.now.literals s.seen ≡ negation c.args.lit) (sym c.self.view_is) c.requires.visiting.falls in
     let o = c.open.ensures in
     let a = watched_waits c.args.stack.now w c.open.new.self wa o.watches o.vars o.spare in
     record {
-      watched = a;
-      grown = record { clauses = refl; attached = refl; vars = refl; spare = refl; literals = front_itself c.args.stack.now.literals; reasons = front_itself c.args.stack.now.reasons; level = refl };
-      short = ap (λ (s : WatchedState). s.short) c.self.view_is;
-      seen = ap (λ (s : WatchedState). s.seen) c.self.view_is;
+      visits = record {
+        watched = a;
+        grown = record { clauses = refl; attached = refl; vars = refl; spare = refl; literals = front_itself c.args.stack.now.literals; reasons = front_itself c.args.stack.now.reasons; level = refl };
+        short = ap (λ (s : WatchedState). s.short) c.self.view_is;
+        seen = ap (λ (s : WatchedState). s.seen) c.self.view_is;
+      };
       visited = visited_begins c.args.stack.now (record w { lists = c.open.new.self }) c.args.lit a falls
           (λ n h e. o.waits n (subst (λ (ws : List Watch). n < length ws) o.watches h) (ap (λ (ws : List Watch). (watch_at ws n).lit) (sym o.watches) ∙ e));
     }
+
+pub look-requires-clause-visiting : goal.look-requires-clause-visiting
+look-requires-clause-visiting c = visiting_still c.args.stack.now c.more.stack c.args.self.now c.more.self c.args.db.now.clauses c.args.lit c.requires.visiting c.more.invariant.visits
 
 pub returns-clause-visited : goal.returns-clause-visited
 returns-clause-visited c =
     let i = c.more.invariant in
     let none = ap (λ (s : WatchedState). s.lists.waiting) (sym c.self-in-more.view_is) ∙ c.in_default.ensures.none in
-    let longer = front_length c.args.stack.now.literals c.more.stack.literals i.grown.literals in
-    let within = c.requires.within in
-    let seen = i.seen in
-    visited_ends c.more.stack c.more.self i.watched i.visited none (omega arith)
+    let v = visiting_still c.args.stack.now c.more.stack c.args.self.now c.more.self c.args.db.now.clauses c.args.lit c.requires.visiting i.visits in
+    visited_ends c.more.stack c.more.self v.watched i.visited none v.within

@@ -4,8 +4,8 @@ use Rattle.sat_prop.proofs.watched.Watched.visit_watched.Goals as goal
 
 pub more-smaller : goal.more-smaller
 more-smaller c =
-    let vars = c.visit.ensures.grown.vars in
-    let seen = ap (λ (s : WatchedState). s.seen) c.self-in-more.view_is ∙ c.visit.ensures.seen in
+    let vars = c.visit.ensures.visits.grown.vars in
+    let seen = ap (λ (s : WatchedState). s.seen) c.self-in-more.view_is ∙ c.visit.ensures.visits.seen in
     let room = c.literals-literals.ensures.room in
     let test = c.more-test.true in
     let len = c.len.ensures in

@@ -1,13 +1,12 @@
 use Rattle.std.proofs.Common.{arith}
 use Rattle.std.proofs.lemmas.Grind.{common_steps}
 use Rattle.sat_prop.proofs.WatchLists.{no_lists}
-use Rattle.sat_prop.proofs.watches.Watches.new.Goals as goal
+use Rattle.sat_prop.proofs.watch_lists.WatchLists.new.Goals as goal
 
 pub invariant_of-result : goal.invariant_of-result
 invariant_of-result c = record {
-  lists = rw (c.new.ensures.items, c.new-2.ensures.items, c.new-3.ensures.items, c.new-4.ensures.items) no_lists;
+  lists = rw (c.new.ensures.items, c.new-2.ensures.items, c.new-3.ensures.items) no_lists;
   few = let l = c.new.ensures.len in grind (arith, common_steps);
-  room_watches = let l = c.new.ensures.len in grind (arith, common_steps);
-  room_nexts = let l = c.new.ensures.len in grind (arith, common_steps);
+  room_nodes = let l = c.new.ensures.len in grind (arith, common_steps);
   room_waiting = let l = c.new.ensures.len in grind (arith, common_steps);
 }

@@ -1,6 +1,6 @@
 use Rattle.std.specs.Prelude.{◌≡◌, ◌≤◌, ◌-◌, ◌++◌, vec_len, vec_capacity}
 use Rattle.sat_prop.specs.Watches.{no_starts}
-use Rattle.sat_prop.proofs.watches.fill.Given as goal
+use Rattle.sat_prop.proofs.watch_lists.fill.Given as goal
 
 abbrev pub invariant-more : goal.invariant-more
 invariant-more l = record {

@@ -1,5 +1,5 @@
 ghost use Rattle.std.specs.Prelude.{◌≡◌, ℕ, ◌+◌, ◌-◌, ◌<◌, ◌≤◌, ◌^◌, List, ◌++◌, ◌∷◌, [], length, max, slice_set, vec_len, vec_capacity, Some, OnOk, OnErr, IfSome, IfNone};
-ghost use Rattle.sat_prop.specs.Watches.{Links, Drains, IsNext, IsOpened, Puts, no_starts, start_of, with_start, watch_at, watching, with_pair};
+ghost use Rattle.sat_prop.specs.Watches.{Links, Drains, IsNext, IsOpened, Puts, no_starts, start_of, with_start, node_at, nexts_of, watch_at, watching, with_pair};
 
 use des_base::Memory;
 use prop_core::{ClauseId, Lit};
@@ -14,6 +14,13 @@ pub struct Watch {
     pub twin: u32,
 }
 
+/// A watch, and the number of the one that comes next in its list.
+#[derive(Clone, Copy)]
+pub struct Node {
+    pub watch: Watch,
+    pub next: Option<u32>,
+}
+
 /// Where the lists of a variable's two literals begin.
 #[derive(Clone, Copy)]
 pub struct Starts {
@@ -25,39 +32,36 @@ pub struct Starts {
 ///
 /// Room for lists is taken by `grow` and room for watches by `reserve`; no other call takes memory.
 #[derive(Drop)]
-pub struct Watches {
-    watches: Vec<Watch>,
-    nexts: Vec<Option<u32>>,
+pub struct WatchLists {
+    nodes: Vec<Node>,
     starts: Vec<Starts>,
     waiting: Vec<u32>,
     spare: usize,
 }
 
-impl Model for Watches {
+impl Model for WatchLists {
     ghost use Rattle.std.specs.Prelude.{◌+◌, ◌*◌, ◌≤◌, ◌^◌, length, vec_len, vec_capacity};
-    ghost use Rattle.sat_prop.specs.Watches.{WatchState, AreWatchLists};
+    ghost use Rattle.sat_prop.specs.Watches.{WatchState, AreWatchLists, watches_of, nexts_of};
 
     ghost Value = { WatchState };
 
-    ghost view = { λ a. record { watches = a.watches.items; waiting = a.waiting.items; vars = length a.starts.items; spare = a.spare } };
+    ghost view = { λ a. record { watches = watches_of a.nodes.items; waiting = a.waiting.items; vars = length a.starts.items; spare = a.spare } };
 
     ghost invariant = { λ a. record {
-      lists : AreWatchLists a.watches.items a.nexts.items a.starts.items a.waiting.items;
-      few : vec_len a.watches + a.spare * 2 ≤ 2 ^ 32;
-      room_watches : vec_len a.watches + a.spare * 2 ≤ vec_capacity a.watches;
-      room_nexts : vec_len a.watches + a.spare * 2 ≤ vec_capacity a.nexts;
-      room_waiting : vec_len a.watches + a.spare * 2 ≤ vec_capacity a.waiting;
+      lists : AreWatchLists (watches_of a.nodes.items) (nexts_of a.nodes.items) a.starts.items a.waiting.items;
+      few : vec_len a.nodes + a.spare * 2 ≤ 2 ^ 32;
+      room_nodes : vec_len a.nodes + a.spare * 2 ≤ vec_capacity a.nodes;
+      room_waiting : vec_len a.nodes + a.spare * 2 ≤ vec_capacity a.waiting;
     } };
 }
 
-impl Watches {
+impl WatchLists {
     /// No watches, and no literals.
-    pub fn new(alloc: Global) -> Watches
+    pub fn new(alloc: Global) -> WatchLists
         ensures { result ≡ record { watches = []; waiting = []; vars = 0; spare = 0 } }
     {
-        Watches {
-            watches: Vec::new(alloc),
-            nexts: Vec::new(alloc),
+        WatchLists {
+            nodes: Vec::new(alloc),
             starts: Vec::new(alloc),
             waiting: Vec::new(alloc),
             spare: 0,
@@ -81,13 +85,12 @@ impl Watches {
         ensures err { OnErr result (self.new ≡ self.old) }
     {
         let spare = self.spare.max(clauses);
-        if spare > (WATCH_LIMIT - self.watches.len()) / 2 {
+        if spare > (WATCH_LIMIT - self.nodes.len()) / 2 {
             return Err(Memory);
         }
-        self.watches.reserve(spare * 2)?;
-        self.nexts.reserve(spare * 2)?;
+        self.nodes.reserve(spare * 2)?;
         self.waiting
-            .reserve(self.watches.len() - self.waiting.len() + spare * 2)?;
+            .reserve(self.nodes.len() - self.waiting.len() + spare * 2)?;
         self.spare = spare;
         Ok(())
     }
@@ -99,11 +102,10 @@ impl Watches {
         requires second { second.var < self.old.vars }
         ensures { self.new ≡ with_pair self.old clause first second }
     {
-        let number = self.watches.len() as u32;
+        let number = self.nodes.len() as u32;
         self.spare -= 1;
         push_watch(
-            &mut self.watches,
-            &mut self.nexts,
+            &mut self.nodes,
             &mut self.starts,
             Watch {
                 clause,
@@ -112,8 +114,7 @@ impl Watches {
             },
         );
         push_watch(
-            &mut self.watches,
-            &mut self.nexts,
+            &mut self.nodes,
             &mut self.starts,
             Watch {
                 clause,
@@ -128,7 +129,7 @@ impl Watches {
         requires { number < length self.now.watches }
         ensures { result ≡ watch_at self.now.watches number }
     {
-        self.watches[number as usize]
+        self.nodes[number as usize].watch
     }
 
     /// Lets all that watch the literal wait.
@@ -138,7 +139,7 @@ impl Watches {
     {
         let first = start(self.starts.as_slice(), lit);
         set_start(&mut self.starts, lit, None);
-        drain(self.nexts.as_slice(), first, &mut self.waiting);
+        drain(self.nodes.as_slice(), first, &mut self.waiting);
     }
 
     /// The next that waits, if one does.
@@ -160,13 +161,7 @@ impl Watches {
         ensures { Puts self.old self.new lit }
     {
         let number = self.waiting.pop().unwrap();
-        link(
-            &mut self.watches,
-            &mut self.nexts,
-            &mut self.starts,
-            number,
-            lit,
-        );
+        link(&mut self.nodes, &mut self.starts, number, lit);
     }
 }
 
@@ -215,62 +210,45 @@ fn set_start(starts: &mut Vec<Starts>, lit: Lit, first: Option<u32>)
 }
 
 // Appends the watches of a list.
-fn drain(nexts: &[Option<u32>], first: Option<u32>, into: &mut Vec<u32>)
-    requires { (rest : List ℕ) × Links nexts.now first rest × (vec_len into.old + length rest ≤ vec_capacity into.old) }
-    ensures drained { Drains nexts.now first into.old.items into.new.items }
+fn drain(nodes: &[Node], first: Option<u32>, into: &mut Vec<u32>)
+    requires { (rest : List ℕ) × Links (nexts_of nodes.now) first rest × (vec_len into.old + length rest ≤ vec_capacity into.old) }
+    ensures drained { Drains (nexts_of nodes.now) first into.old.items into.new.items }
     ensures capacity { vec_capacity into.old ≤ vec_capacity into.new }
 {
     let mut next = first;
     'more: while let Some(watch) = next {
         into.push(watch).unwrap();
-        next = nexts[watch as usize];
+        next = nodes[watch as usize].next;
     }
 }
 
 // Adds a watch, in the list of its literal.
-fn push_watch(
-    watches: &mut Vec<Watch>,
-    nexts: &mut Vec<Option<u32>>,
-    starts: &mut Vec<Starts>,
-    watch: Watch,
-)
+fn push_watch(nodes: &mut Vec<Node>, starts: &mut Vec<Starts>, watch: Watch)
     requires known { watch.lit.var < length starts.old.items }
-    requires same { vec_len nexts.old ≡ vec_len watches.old }
-    requires few { vec_len watches.old < 2 ^ 32 }
-    requires room_watches { vec_len watches.old < vec_capacity watches.old }
-    requires room_nexts { vec_len nexts.old < vec_capacity nexts.old }
-    ensures watches { watches.new.items ≡ watches.old.items ++ watch ∷ [] }
-    ensures nexts { nexts.new.items ≡ nexts.old.items ++ start_of starts.old.items watch.lit ∷ [] }
-    ensures starts { starts.new.items ≡ with_start starts.old.items watch.lit (Some (length watches.old.items)) }
-    ensures room_watches { vec_capacity watches.old ≤ vec_capacity watches.new }
-    ensures room_nexts { vec_capacity nexts.old ≤ vec_capacity nexts.new }
+    requires few { vec_len nodes.old < 2 ^ 32 }
+    requires room { vec_len nodes.old < vec_capacity nodes.old }
+    ensures nodes { nodes.new.items ≡ nodes.old.items ++ record { watch = watch; next = start_of starts.old.items watch.lit } ∷ [] }
+    ensures starts { starts.new.items ≡ with_start starts.old.items watch.lit (Some (length nodes.old.items)) }
+    ensures room { vec_capacity nodes.old ≤ vec_capacity nodes.new }
 {
-    let number = watches.len() as u32;
+    let number = nodes.len() as u32;
     let lit = watch.lit;
-    watches.push(watch).unwrap();
-    nexts.push(start(starts.as_slice(), lit)).unwrap();
+    let next = start(starts.as_slice(), lit);
+    nodes.push(Node { watch, next }).unwrap();
     set_start(starts, lit, Some(number));
 }
 
 // Puts a watch into the list of a literal, where it watches from now on.
-fn link(
-    watches: &mut Vec<Watch>,
-    nexts: &mut Vec<Option<u32>>,
-    starts: &mut Vec<Starts>,
-    number: u32,
-    lit: Lit,
-)
+fn link(nodes: &mut Vec<Node>, starts: &mut Vec<Starts>, number: u32, lit: Lit)
     requires known { lit.var < length starts.old.items }
-    requires watch { number < length watches.old.items }
-    requires next { number < length nexts.old.items }
-    ensures watches { watches.new.items ≡ slice_set watches.old.items number (watching (watch_at watches.old.items number) lit) }
-    ensures nexts { nexts.new.items ≡ slice_set nexts.old.items number (start_of starts.old.items lit) }
+    requires number { number < length nodes.old.items }
+    ensures nodes { nodes.new.items ≡ slice_set nodes.old.items number (record { watch = watching (node_at nodes.old.items number).watch lit; next = start_of starts.old.items lit }) }
     ensures starts { starts.new.items ≡ with_start starts.old.items lit (Some number) }
-    ensures count { vec_len watches.new ≡ vec_len watches.old }
-    ensures room_watches { vec_capacity watches.new ≡ vec_capacity watches.old }
-    ensures room_nexts { vec_capacity nexts.new ≡ vec_capacity nexts.old }
+    ensures room { vec_capacity nodes.new ≡ vec_capacity nodes.old }
 {
-    watches[number as usize].lit = lit;
-    nexts[number as usize] = start(starts.as_slice(), lit);
+    let mut watch = nodes[number as usize].watch;
+    watch.lit = lit;
+    let next = start(starts.as_slice(), lit);
+    nodes[number as usize] = Node { watch, next };
     set_start(starts, lit, Some(number));
 }

@@ -1,10 +1,10 @@
 use Rattle.std.proofs.Common.{◌≡◌, ◌∙◌, ◌+◌, ◌-◌, ◌++◌, ◌∷◌, [], List, ap, arith, append_assoc}
 use Rattle.std.specs.Prelude.{vec_len}
 use Rattle.std.proofs.lemmas.Grind.{common_steps}
-use Rattle.sat_prop.specs.declared.watches.Starts.{Starts}
+use Rattle.sat_prop.specs.declared.watch_lists.Starts.{Starts}
 use Rattle.sat_prop.specs.Watches.{no_starts, empty}
 use Rattle.sat_prop.proofs.WatchLists.{starts_more}
-use Rattle.sat_prop.proofs.watches.fill.Goals as goal
+use Rattle.sat_prop.proofs.watch_lists.fill.Goals as goal
 
 pub more-preserved : goal.more-preserved
 more-preserved c =

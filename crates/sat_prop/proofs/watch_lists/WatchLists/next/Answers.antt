@@ -2,7 +2,7 @@ use Rattle.std.proofs.Common.{◌≡◌, ◌+◌, ◌-◌, ℕ, length, get_or, 
 use Rattle.std.proofs.lemmas.Grind.{common_steps}
 use Rattle.sat_prop.specs.Watches.{WatchState, IsNext}
 use Rattle.sat_prop.proofs.WatchLists.{next_is}
-use Rattle.sat_prop.proofs.watches.Watches.next.Goals as goal
+use Rattle.sat_prop.proofs.watch_lists.WatchLists.next.Goals as goal
 
 pub returns-clause-some : goal.returns-clause-some
 returns-clause-some c =
