@@ -1,34 +1,49 @@
--- What a command answers over files that are told, not too long and well.
-use Rattle.std.proofs.Common.{◌≡◌, ◌≢◌, ◌≤◌, ◌<◌, inl, inr, ℕ, ◌+◌, List, [], ◌∷◌, ◌++◌, length, Option, Some, None, Ok, Err, IsErrAnd, IfSome, MatchOption, refl, sym, subst, append-nil, append_assoc, arith}
+-- What a command answers over the bytes of its files.
+use Rattle.std.proofs.Common.{◌≡◌, ◌≢◌, ◌≤◌, ◌<◌, inl, inr, ℕ, ◌+◌, List, [], ◌∷◌, ◌++◌, length, Option, Some, None, Ok, Err, IsOkAnd, IsErrAnd, IfSome, MatchOption, refl, sym, subst, append-nil, append_assoc, arith}
 use Rattle.std.specs.Prelude.{⊤}
+use Rattle.std.specs.List.{concat}
 use Rattle.des_base.specs.CommandWords.{word_at}
+use Rattle.des_base.specs.Outside.{Took}
 use Rattle.proof_ledger.specs.Book.{BookEntry}
 use Rattle.diagnose_cli.specs.declared.command.Command.{Command}
+use Rattle.diagnose_cli.specs.declared.ending.Kind.{Kind}
+use Rattle.diagnose_cli.specs.declared.stop.Stop.{Stop}
 use Rattle.diagnose_cli.specs.declared.stop.Stop.TheVariants.{Usage, Load, Faulty, Long, Large, Memory}
 use Rattle.diagnose_cli.specs.declared.stop.FaultyText.{FaultyText}
-use Rattle.diagnose_cli.specs.Transcripts.{Ending}
-use Rattle.diagnose_cli.specs.Endings.{HasStatus}
+use Rattle.diagnose_cli.specs.declared.stop.FaultyText.TheVariants.{Model, Log, Run, Cnf, Lrat}
+use Rattle.diagnose_cli.specs.Transcripts.{Ending, Transcript, IsWhole, whole}
+use Rattle.diagnose_cli.specs.Endings.{HasStatus, status_of_stop, status_of_faulty, texts_of}
 use Rattle.diagnose_cli.specs.Files.{Loads, StopsAt, WithFile}
-use Rattle.diagnose_cli.specs.Commands.{FileKind, limit_of, fault_of_text, files_of, Closes, InOrder, Answers, command_of}
+use Rattle.diagnose_cli.specs.Commands.{FileKind, limit_of, fault_of_text, files_of, too_large, Says, Closes, InOrder, Answers, command_of}
+use Rattle.diagnose_cli.specs.Outcomes.{Outcome, Tells}
+use Rattle.diagnose_cli.specs.Rows.{AreRead, Reads}
 use Rattle.diagnose_cli.specs.Run.{Ends}
+
+-- ---- an ending that has a reply
+
+pub told : (o : Outcome) (P : (Kind × List ℕ) → Type 0) (e : Ending) → IsOkAnd e (IsWhole P) → HasStatus e o.status → Took o.before o.now (concat (texts_of e)) → Tells o P
+told o P (Ok t) (reply, says, is) shown put =
+    record {
+      reply = reply;
+      says = says;
+      shown = subst (λ (x : Transcript). HasStatus (Ok x) o.status) is shown;
+      put = subst (Took o.before o.now) (append-nil reply.1) (subst (λ (x : Transcript). Took o.before o.now (concat x.texts)) is put);
+    }
+told o P (Err stop) says shown put = absurd says
+
+pub called : (l : Loads) (words : List (List ℕ)) (book : List BookEntry) (o : Option Command) (c : Command) (e : Ending) → o ≡ Some c → MatchOption o (e ≡ Err Usage) (λ c. Answers l words c book e) → Answers l words c book e
+called l words book None c e is h = cc
+called l words book (Some d) c e is h = subst (λ (c : Command). Answers l words c book e) (same is) h
+  where
+    same : Some d ≡ Some c → d ≡ c
+    same is = cc
+
+-- ---- over files that are told, not too long and well
 
 -- the ending is neither want of memory nor a load that failed
 pub record HasAnswer (e : Ending) : Type 0 where
   pub memory : e ≢ Err Memory
   pub load : (j : ℕ) → e ≢ Err (Load j)
-
--- these are the bytes of a file, not too long and without a fault
-pub record IsRead (held : List ℕ → Option (List ℕ)) (name : List ℕ) (kind : FileKind) (files : List (List ℕ)) (text : List ℕ) : Type 0 where
-  pub told : held name ≡ Some text
-  pub fits : length text ≤ limit_of kind
-  pub well : fault_of_text kind files text ≡ None
-
--- and so are all of these, from number i on
-abbrev pub AreRead : (List ℕ → Option (List ℕ)) → List (List ℕ) → ℕ → List FileKind → List (List ℕ) → List (List ℕ) → Type 0
-AreRead held words i [] files [] = ⊤
-AreRead held words i (kind ∷ kinds) files (text ∷ texts) = IsRead held (word_at words i) kind files text × AreRead held words (i + 1) kinds (files ++ text ∷ []) texts
-AreRead held words i [] files (text ∷ texts) = ⊥
-AreRead held words i (kind ∷ kinds) files [] = ⊥
 
 -- a file that is told and isn't too long doesn't stop the command
 never_stops : (l : Loads) (i : ℕ) (name : List ℕ) (limit : ℕ) (bytes : List ℕ) (e : Ending) → HasAnswer e → l.held name ≡ Some bytes → length bytes ≤ limit → IsErrAnd e (StopsAt l i name limit) → ⊥
@@ -54,8 +69,13 @@ past : (o : Option FaultyText) (e : Ending) (P : Type 0) → o ≡ None → Matc
 past None e P is h = h
 past (Some text) e P is h = cc
 
--- and in the end it closes over them
-pub closed : (l : Loads) (words : List (List ℕ)) (i : ℕ) (kinds : List FileKind) (files texts : List (List ℕ)) (closes : List (List ℕ) → Ending → Type 0) (e : Ending)
+-- nor does the size of its question, where it isn't too large
+asked : (o : Option ℕ) (e : Ending) (says : Transcript → Type 0) → o ≡ None → MatchOption o (IsOkAnd e says) (λ size. e ≡ Err (Large size)) → IsOkAnd e says
+asked None e says is h = h
+asked (Some size) e says is h = cc
+
+-- in the end it closes over them
+closed : (l : Loads) (words : List (List ℕ)) (i : ℕ) (kinds : List FileKind) (files texts : List (List ℕ)) (closes : List (List ℕ) → Ending → Type 0) (e : Ending)
     → HasAnswer e → AreRead l.held words i kinds files texts → InOrder l words i kinds files closes e → closes (files ++ texts) e
 closed l words i [] files [] closes e answer read h = subst (λ (fs : List (List ℕ)). closes fs e) (sym (append-nil files)) h
 closed l words i [] files (text ∷ texts) closes e answer read h = absurd read
@@ -67,20 +87,93 @@ closed l words i (kind ∷ kinds) files (text ∷ texts) closes e answer read h 
     subst (λ (fs : List (List ℕ)). closes fs e) (append_assoc files (text ∷ []) texts)
     (closed l words (i + 1) kinds (files ++ text ∷ []) texts closes e answer read.1 rest)
 
-pub called : (l : Loads) (words : List (List ℕ)) (book : List BookEntry) (o : Option Command) (c : Command) (e : Ending) → o ≡ Some c → MatchOption o (e ≡ Err Usage) (λ c. Answers l words c book e) → Answers l words c book e
-called l words book None c e is h = cc
-called l words book (Some d) c e is h = subst (λ (c : Command). Answers l words c book e) (same is) h
-  where
-    same : Some d ≡ Some c → d ≡ c
-    same is = cc
-
--- so does a whole run with neither of these statuses
-pub answered : (l : Loads) (words : List (List ℕ)) (book : List BookEntry) (b n : Option (List ℕ)) (s : ℕ) (c : Command) (texts : List (List ℕ)) (ends : Ends l words book b n s) → s ≢ 3 → s ≢ 9 → command_of words ≡ Some c
-    → AreRead l.held words 1 (files_of c) [] texts → Closes c book texts ends.ending
-answered l words book b n s c texts ends three nine command read =
+-- so status and text tell a reply that the command may give
+pub row : (o : Outcome) (c : Command) (texts : List (List ℕ)) → Ends o → Reads o c texts → o.status ≢ 3 → o.status ≢ 9 → Tells o (Says c o.book texts)
+row o c texts ends reads three nine =
     let e = ends.ending in
     let answer : HasAnswer e = record {
-      memory = λ p. nine (subst (λ (x : Ending). HasStatus x s) p ends.shown);
-      load = λ j p. three (subst (λ (x : Ending). HasStatus x s) p ends.shown);
+      memory = λ p. nine (subst (λ (x : Ending). HasStatus x o.status) p ends.shown);
+      load = λ j p. three (subst (λ (x : Ending). HasStatus x o.status) p ends.shown);
     } in
-    closed l words 1 (files_of c) [] texts (Closes c book) e answer read (called l words book (command_of words) c e command (ends.due answer.memory))
+    let closes = closed o.loads o.words 1 (files_of c) [] texts (Closes c o.book) e answer reads.files (called o.loads o.words o.book (command_of o.words) c e reads.command (ends.due answer.memory)) in
+    told o (Says c o.book texts) e (asked (too_large c texts) e (IsWhole (Says c o.book texts)) reads.small closes) ends.shown ends.put
+
+-- ---- by the status, whatever is told of the files
+
+-- no stop has the status of an answer
+pub record IsStopStatus (status : ℕ) : Type 0 where
+  pub low : 2 ≤ status
+  pub high : status ≤ 9
+
+of_faulty : (text : FaultyText) → IsStopStatus (status_of_faulty text)
+of_faulty (Model fault) = record { low = omega arith; high = omega arith }
+of_faulty (Log fault) = record { low = omega arith; high = omega arith }
+of_faulty (Run fault) = record { low = omega arith; high = omega arith }
+of_faulty (Cnf fault) = record { low = omega arith; high = omega arith }
+of_faulty (Lrat fault) = record { low = omega arith; high = omega arith }
+
+of_stop : (stop : Stop) → IsStopStatus (status_of_stop stop)
+of_stop Usage = record { low = omega arith; high = omega arith }
+of_stop (Load file) = record { low = omega arith; high = omega arith }
+of_stop (Faulty text) = of_faulty text
+of_stop (Long file) = record { low = omega arith; high = omega arith }
+of_stop (Large size) = record { low = omega arith; high = omega arith }
+of_stop Memory = record { low = omega arith; high = omega arith }
+
+-- these are the bytes of the files from number i on, as far as that is told
+abbrev pub AreHeld : (List ℕ → Option (List ℕ)) → List (List ℕ) → ℕ → List (List ℕ) → Type 0
+AreHeld held words i [] = ⊤
+AreHeld held words i (text ∷ texts) = IfSome (held (word_at words i)) (λ there. there ≡ text) × AreHeld held words (i + 1) texts
+
+-- a reply that the command gives over such bytes
+pub record SaidOver (o : Outcome) (c : Command) : Type 0 where
+  pub texts : List (List ℕ)
+  pub held : AreHeld o.loads.held o.words 1 texts
+  pub tells : Tells o (Says c o.book texts)
+
+abbrev saying : Transcript → Ending
+saying t = Ok t
+
+past_text : (o : Option FaultyText) (t : Transcript) (P : Type 0) → MatchOption o P (λ text. saying t ≡ Err (Faulty text)) → P
+past_text None t P h = h
+past_text (Some text) t P h = cc
+
+within : (o : Option ℕ) (t : Transcript) (says : Transcript → Type 0) → MatchOption o (IsOkAnd (saying t) says) (λ size. saying t ≡ Err (Large size)) → says t
+within None t says h = h
+within (Some size) t says h = cc
+
+record ClosesOver (l : Loads) (words : List (List ℕ)) (i : ℕ) (files : List (List ℕ)) (closes : List (List ℕ) → Ending → Type 0) (t : Transcript) : Type 0 where
+  texts : List (List ℕ)
+  held : AreHeld l.held words i texts
+  closed : closes (files ++ texts) (saying t)
+
+over_files : (l : Loads) (words : List (List ℕ)) (i : ℕ) (kinds : List FileKind) (files : List (List ℕ)) (closes : List (List ℕ) → Ending → Type 0) (t : Transcript) → InOrder l words i kinds files closes (saying t) → ClosesOver l words i files closes t
+over_files l words i [] files closes t h = record { texts = []; held = tt; closed = subst (λ (fs : List (List ℕ)). closes fs (saying t)) (sym (append-nil files)) h }
+over_files l words i (kind ∷ kinds) files closes t h =
+    elim h [
+      | inl s ↦ absurd s
+      | inr b ↦
+          let rest = over_files l words (i + 1) kinds (files ++ b.0 ∷ []) closes t (past_text (fault_of_text kind files b.0) t (InOrder l words (i + 1) kinds (files ++ b.0 ∷ []) closes (saying t)) b.2) in
+          record {
+            texts = b.0 ∷ rest.texts;
+            held = (b.1.told, rest.held);
+            closed = subst (λ (fs : List (List ℕ)). closes fs (saying t)) (append_assoc files (b.0 ∷ []) rest.texts) rest.closed;
+          }
+    ]
+
+said : (o : Outcome) (c : Command) (e : Ending) → (IsStopStatus o.status → ⊥) → Answers o.loads o.words c o.book e → HasStatus e o.status → Took o.before o.now (concat (texts_of e)) → SaidOver o c
+said o c (Ok t) answers h shown put =
+    let over = over_files o.loads o.words 1 (files_of c) [] (Closes c o.book) t h in
+    let says = within (too_large c over.texts) t (IsWhole (Says c o.book over.texts)) over.closed in
+    record { texts = over.texts; held = over.held; tells = told o (Says c o.book over.texts) (Ok t) says shown put }
+said o c (Err stop) answers h shown put = absurd (answers (subst IsStopStatus (sym shown) (of_stop stop)))
+
+pub said_over : (o : Outcome) (c : Command) → Ends o → command_of o.words ≡ Some c → (IsStopStatus o.status → ⊥) → SaidOver o c
+said_over o c ends command answers =
+    let e = ends.ending in
+    let memory : e ≢ Err Memory = λ p. answers (subst IsStopStatus (sym (subst (λ (x : Ending). HasStatus x o.status) p ends.shown)) (of_stop Memory)) in
+    said o c e answers (called o.loads o.words o.book (command_of o.words) c e command (ends.due memory)) ends.shown ends.put
+
+-- what is told is held
+pub same_text : (o : Option (List ℕ)) (text held : List ℕ) → o ≡ Some text → IfSome o (λ there. there ≡ held) → text ≡ held
+same_text o text held told is = subst (λ (o : Option (List ℕ)). IfSome o (λ there. there ≡ held)) told is

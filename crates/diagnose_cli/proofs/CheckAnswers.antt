@@ -10,7 +10,7 @@ use Rattle.diagnose_cli.specs.declared.command.Command.TheVariants.{Check}
 use Rattle.diagnose_cli.specs.declared.ending.Kind.{Kind}
 use Rattle.diagnose_cli.specs.declared.stop.Stop.{Stop}
 use Rattle.diagnose_cli.specs.Transcripts.{once, whole}
-use Rattle.diagnose_cli.specs.Files.{Loads, IsText, StopsIn}
+use Rattle.diagnose_cli.specs.Files.{Loads, IsText, IsReadAs, StopsIn}
 use Rattle.diagnose_cli.specs.Commands.{lrat, limit_of, fault_of_lrat, Closes, AnswersAfter, reply_of_checked}
 use Rattle.diagnose_cli.proofs.Orders.{stops_here, goes_on}
 
@@ -21,7 +21,7 @@ module _ (l : Loads) (words : List (List ℕ)) (book : List BookEntry) (cnf : Li
       stops_here l words 2 lrat [] (cnf ∷ []) (Closes Check book) stop (subst (λ (x : Formula). StopsIn l 2 (word_at words 2) (limit_of lrat) (fault_of_lrat x) stop) of h)
 
   -- or says what checking gives
-  pub checked : (proof : List ProofStep) (reply : Kind × List ℕ) → (text : List ℕ) × IsText l.held (word_at words 2) (limit_of lrat) (fault_of_lrat formula) text × (proof ≡ proof_of text)
+  pub checked : (proof : List ProofStep) (reply : Kind × List ℕ) → IsReadAs l.held (word_at words 2) (limit_of lrat) (fault_of_lrat formula) (λ text. proof ≡ proof_of text)
       → reply ≡ reply_of_checked (check_proof formula.clauses proof) → AnswersAfter l words Check book (cnf ∷ []) (once (Ok reply))
   checked proof reply (text, read, is) says =
       goes_on l words 2 lrat [] (cnf ∷ []) (Closes Check book) text (Ok (whole reply))

@@ -1,7 +1,6 @@
 -- How the command `diagnose` ends over a network and a log.
 use Rattle.std.proofs.Common.{◌≡◌, ◌≤◌, ◌<◌, ℕ, List, [], ◌∷◌, Option, Some, Ok, Err, IsOkAnd, MatchOption, refl, sym, subst}
 use Rattle.des_net.specs.Network.{Net}
-use Rattle.least_faults.specs.declared.answer.Found.{Found}
 use Rattle.log_csv.specs.LogText.{log_of}
 use Rattle.log_order.specs.Log.{Log}
 use Rattle.model_text.specs.ModelFaults.{network_of}
@@ -11,20 +10,15 @@ use Rattle.least_faults.specs.Parts.{most_size}
 use Rattle.diagnose_cli.specs.declared.command.Command.TheVariants.{Diagnose}
 use Rattle.diagnose_cli.specs.declared.ending.Kind.{Kind}
 use Rattle.diagnose_cli.specs.declared.stop.Stop.TheVariants.{Large}
-use Rattle.diagnose_cli.specs.Transcripts.{Ending, once, whole}
-use Rattle.diagnose_cli.specs.Diagnosed.{IsDiagnosed}
-use Rattle.diagnose_cli.specs.Commands.{Closes, above_limit, reply_of_found, RunReplays}
+use Rattle.diagnose_cli.specs.Transcripts.{Ending, IsWhole, once, whole}
+use Rattle.diagnose_cli.specs.Commands.{Closes, above_limit, SaysFound}
 use Rattle.diagnose_cli.proofs.Limits.{within_limit, past_limit}
 
 module _ (steps budget : ℕ) (book : List BookEntry) where
-  -- the reply tells what is found of the log
-  abbrev pub Tells : Net → Log → (Kind × List ℕ) → Type 0
-  Tells net alarms reply = (found : Found) × IsDiagnosed net alarms steps budget book found × RunReplays net alarms steps found × (reply ≡ reply_of_found net steps found)
-
   -- how the command ends
   abbrev ClosesOver : Net → Log → Ending → Type 0
   ClosesOver net alarms e =
-      MatchOption (above_limit (question_size net alarms steps)) (IsOkAnd e (λ told. (reply : Kind × List ℕ) × Tells net alarms reply × (told ≡ whole reply))) (λ size. e ≡ Err (Large size))
+      MatchOption (above_limit (question_size net alarms steps)) (IsOkAnd e (IsWhole (SaysFound net alarms steps budget book))) (λ size. e ≡ Err (Large size))
 
   module _ (model rows : List ℕ) (net : Net) (network : net ≡ network_of model) (alarms : Log) (log : alarms ≡ log_of rows) where
     over : (e : Ending) → ClosesOver net alarms e → Closes (Diagnose steps budget) book (model ∷ rows ∷ []) e
@@ -36,12 +30,12 @@ module _ (steps budget : ℕ) (book : List BookEntry) where
         let e : Ending = Err (Large size) in
         let over_limit : above_limit (question_size net alarms steps) ≡ Some size = subst (λ (k : ℕ). above_limit k ≡ Some size) is (past_limit size above) in
         over e
-        (subst (λ (o : Option ℕ). MatchOption o (IsOkAnd e (λ told. (reply : Kind × List ℕ) × Tells net alarms reply × (told ≡ whole reply))) (λ k. e ≡ Err (Large k))) (sym over_limit) refl)
+        (subst (λ (o : Option ℕ). MatchOption o (IsOkAnd e (IsWhole (SaysFound net alarms steps budget book))) (λ k. e ≡ Err (Large k))) (sym over_limit) refl)
 
     -- or with what is found
-    pub diagnosed : (reply : Kind × List ℕ) → question_size net alarms steps ≤ most_size → Tells net alarms reply → Closes (Diagnose steps budget) book (model ∷ rows ∷ []) (once (Ok reply))
+    pub diagnosed : (reply : Kind × List ℕ) → question_size net alarms steps ≤ most_size → SaysFound net alarms steps budget book reply → Closes (Diagnose steps budget) book (model ∷ rows ∷ []) (once (Ok reply))
     diagnosed reply small tells =
         let e : Ending = Ok (whole reply) in
         over e
-        (subst (λ (o : Option ℕ). MatchOption o (IsOkAnd e (λ told. (reply : Kind × List ℕ) × Tells net alarms reply × (told ≡ whole reply))) (λ k. e ≡ Err (Large k)))
+        (subst (λ (o : Option ℕ). MatchOption o (IsOkAnd e (IsWhole (SaysFound net alarms steps budget book))) (λ k. e ≡ Err (Large k)))
         (sym (within_limit (question_size net alarms steps) small)) (reply, tells, refl))

@@ -15,6 +15,7 @@ use Rattle.diagnose_cli.specs.Files.{Loads, StopsAt}
 use Rattle.diagnose_cli.specs.Endings.{HasStatus, status_of_stop, text_of_stop, texts_of}
 use Rattle.diagnose_cli.specs.Commands.{FileKind, limit_of, fault_of_text, files_of, too_large, Closes, InOrder, Answers, command_of}
 use Rattle.diagnose_cli.specs.Exact.{past, first_stop, stop_of_command, StopRow}
+use Rattle.diagnose_cli.specs.Outcomes.{Outcome}
 use Rattle.diagnose_cli.specs.Run.{Ends}
 
 -- e is the stop that is stated, if one is
@@ -76,15 +77,14 @@ due_exact : (l : Loads) (words : List (List ℕ)) (book : List BookEntry) (o : O
 due_exact l words book None e m n h = h
 due_exact l words book (Some c) e m n h = in_order_exact l words 1 (files_of c) [] (Closes c book) (too_large c) e (λ texts. closes_here (too_large c texts) e _) m n h
 
-row_here : (o : Option Stop) (e : Ending) (b n : Option (List ℕ)) (s : ℕ) → Is e o → HasStatus e s → Took b n (concat (texts_of e))
-    → IfSome o (λ stop. (s ≡ status_of_stop stop) × Took b n (text_of_stop stop))
-row_here None e b n s h p t = tt
-row_here (Some stop) e b n s h p t =
-    (subst (λ (x : Ending). HasStatus x s) h p, subst (Took b n) (append-nil (text_of_stop stop)) (subst (λ (x : Ending). Took b n (concat (texts_of x))) h t))
+row_here : (stop : Option Stop) (o : Outcome) (e : Ending) → Is e stop → HasStatus e o.status → Took o.before o.now (concat (texts_of e)) → IfSome stop (λ stop. (o.status ≡ status_of_stop stop) × Took o.before o.now (text_of_stop stop))
+row_here None o e h p t = tt
+row_here (Some stop) o e h p t =
+    (subst (λ (x : Ending). HasStatus x o.status) h p, subst (Took o.before o.now) (append-nil (text_of_stop stop)) (subst (λ (x : Ending). Took o.before o.now (concat (texts_of x))) h t))
 
-pub stop_row : (l : Loads) (words : List (List ℕ)) (book : List BookEntry) (b n : Option (List ℕ)) (s : ℕ) → Ends l words book b n s → s ≢ 3 → s ≢ 9 → StopRow l.held words b n s
-stop_row l words book b n s ends three nine =
+pub stop_row : (o : Outcome) → Ends o → o.status ≢ 3 → o.status ≢ 9 → StopRow o
+stop_row o ends three nine =
     let e = ends.ending in
-    let m : e ≢ Err Memory = λ p. nine (subst (λ (x : Ending). HasStatus x s) p ends.shown) in
-    let k : (j : ℕ) → e ≢ Err (Load j) = λ j p. three (subst (λ (x : Ending). HasStatus x s) p ends.shown) in
-    row_here (stop_of_command l.held words (command_of words)) e b n s (due_exact l words book (command_of words) e m k (ends.due m)) ends.shown ends.put
+    let m : e ≢ Err Memory = λ p. nine (subst (λ (x : Ending). HasStatus x o.status) p ends.shown) in
+    let k : (j : ℕ) → e ≢ Err (Load j) = λ j p. three (subst (λ (x : Ending). HasStatus x o.status) p ends.shown) in
+    row_here (stop_of_command o.loads.held o.words (command_of o.words)) o e (due_exact o.loads o.words o.book (command_of o.words) e m k (ends.due m)) ends.shown ends.put

@@ -11,7 +11,7 @@ use Rattle.log_order.specs.Log.{Log}
 use Rattle.replay.specs.Matching.{IsWellMatched, name_on}
 use Rattle.replay.specs.Traced.{word_of}
 use Rattle.replay.specs.declared.run.RunStep.{RunStep}
-use Rattle.diagnose_cli.proofs.ReadBack.{HasNames, IsPrintable}
+use Rattle.report.specs.ReadBack.{HasNames, IsPrintable}
 
 found_step : (b : Bool) (text name : List ℕ) (later : Option ℕ) → bytes_eq text name ≡ b → IsName name → (IsSome later → IsName text) → IsSome (cond b (Some zero) (option_map suc later)) → IsName text
 found_step true text name later is named rest h = subst IsName (sym ((bytes_eq-Decides text name).0 is)) named

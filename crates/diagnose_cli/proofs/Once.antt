@@ -1,17 +1,26 @@
 -- The run of a command that has one reply.
-use Rattle.std.proofs.Common.{◌≡◌, ℕ, List, [], ◌∷◌, ◌++◌, take, Option, Some, None, Result, Ok, Err, refl, sym, ap, subst, append-nil}
+use Rattle.std.proofs.Common.{◌≡◌, ◌≢◌, ◌∙◌, arith, ℕ, List, [], ◌∷◌, ◌++◌, take, Option, Some, None, Result, Ok, Err, refl, sym, ap, subst, append-nil}
 use Rattle.std.specs.List.{concat}
 use Rattle.des_base.specs.Outside.{Took, TookFront}
 use Rattle.proof_ledger.specs.Book.{BookEntry}
+use Rattle.diagnose_cli.specs.declared.command.Command.{Command}
+use Rattle.diagnose_cli.specs.declared.command.Command.TheVariants.{Trace, Show, Replay, Check, Diagnose, GenerateModel, GenerateLog, Bench}
 use Rattle.diagnose_cli.specs.declared.ending.Kind.{Kind}
 use Rattle.diagnose_cli.specs.declared.stop.Stop.{Stop}
 use Rattle.diagnose_cli.specs.declared.stop.Stop.TheVariants.{Memory}
 use Rattle.diagnose_cli.specs.Transcripts.{Ending, UnlessMemory, TookCut, once}
 use Rattle.diagnose_cli.specs.Endings.{texts_of, text_of_stop}
 use Rattle.diagnose_cli.specs.Files.{Loads}
-use Rattle.diagnose_cli.specs.Commands.{Due}
+use Rattle.diagnose_cli.specs.Commands.{Due, files_of}
 use Rattle.diagnose_cli.specs.Puts.{Puts}
-use Rattle.diagnose_cli.specs.Run.{Ran}
+use Rattle.diagnose_cli.specs.Outcomes.{Outcome, outcome}
+use Rattle.diagnose_cli.specs.Rows.{Row, RowAlone, CheckRows, DiagnoseRows}
+use Rattle.diagnose_cli.specs.Run.{Ends, CutOff, Ran, Does}
+use Rattle.diagnose_cli.proofs.Answered.{row}
+use Rattle.diagnose_cli.proofs.Exact.{stop_row}
+use Rattle.diagnose_cli.proofs.FailedLoads.{load_row, no_load_failed}
+use Rattle.diagnose_cli.proofs.StatusRows.{refuted, explained, absent, undecided, many}
+use Rattle.diagnose_cli.proofs.UsageRows.{usage_row}
 
 pub nothing_taken : (t : Option (List ℕ)) → Took t t []
 nothing_taken None = tt
@@ -42,20 +51,74 @@ due_once l words book (Err stop) d = λ m. d (λ e. m (ap_err stop e))
     ap_err : (s : Stop) → ◌≡◌ {A = Result (Kind × List ℕ) Stop} (Err s) (Err Memory) → ◌≡◌ {A = Ending} (Err s) (Err Memory)
     ap_err s e = cc
 
-pub ran_once : (l : Loads) (words : List (List ℕ)) (book : List BookEntry) (r : Result (Kind × List ℕ) Stop) (b n : Option (List ℕ)) (rose : Type 0) (status : ℕ)
-    → UnlessMemory r (Due l words book (once r)) → Puts (once r) b n rose status → Ran l words book b n rose status
-ran_once l words book r b n rose status d p =
-    record {
-      ends = λ h k. record { ending = once r; due = due_once l words book r d; shown = p.shown h k; put = p.whole h k };
-      broke = λ e. record { ending = Err Memory; due = λ m. absurd (m refl); put = p.nothing e };
-      cut_off = λ e.
-          record {
-            ending = once r;
-            due = due_once l words book r d;
-            texts = [];
-            next = text_of_once r;
-            split = one r;
-            put = cut_first b n (text_of_once r) (subst (TookFront b n) (one_text (texts_of (once r)) (text_of_once r) (one r)) (p.front e));
-          };
-      put_failed = p.put_failed;
-    }
+-- ---- what the run of a command does that puts its one text
+
+module _ (o : Outcome) (r : Result (Kind × List ℕ) Stop) (rose : Type 0) (due : UnlessMemory r (Due o.loads o.words o.book (once r))) (puts : Puts (once r) o.before o.now rose o.status) where
+  ends : o.status ≢ 4 → o.status ≢ 9 → Ends o
+  ends four nine = record { ending = once r; due = due_once o.loads o.words o.book r due; shown = puts.shown four nine; put = puts.whole four nine }
+
+  cut_off : o.status ≡ 4 → CutOff o
+  cut_off four = record {
+    ending = once r;
+    due = due_once o.loads o.words o.book r due;
+    texts = [];
+    next = text_of_once r;
+    split = one r;
+    put = cut_first o.before o.now (text_of_once r) (subst (TookFront o.before o.now) (one_text (texts_of (once r)) (text_of_once r) (one r)) (puts.front four));
+  }
+
+  ran : Ran o rose
+  ran = record {
+    stops = λ whole. stop_row o (ends whole.put.written whole.put.memory) whole.loaded whole.put.memory;
+    usage = λ two. usage_row o (ends (λ four. omega (arith, two, four)) (λ nine. omega (arith, two, nine))) two;
+    ends = ends;
+    load_failed = λ three. load_row o (ends (λ four. omega (arith, three, four)) (λ nine. omega (arith, three, nine))) three;
+    put_failed = puts.put_failed;
+    cut_off = cut_off;
+    broke = λ nine. record { ending = Err Memory; due = λ m. absurd (m refl); put = puts.nothing nine };
+  }
+
+  -- by its files
+  row_of : (c : Command) (texts : List (List ℕ)) → Row o c texts
+  row_of c texts reads whole = row o c texts (ends whole.put.written whole.put.memory) reads whole.loaded whole.put.memory
+
+  -- or without files
+  row_alone : (c : Command) → files_of c ≡ [] → RowAlone o c
+  row_alone c none reads put =
+      let e = ends put.written put.memory in
+      row o c [] e reads (no_load_failed o c e reads.command none) put.memory
+
+  -- an answer has neither of these statuses
+  answered : (k : ℕ) → o.status ≡ k → k ≢ 4 → k ≢ 9 → Ends o
+  answered k is four nine = ends (λ p. four (sym is ∙ p)) (λ p. nine (sym is ∙ p))
+
+  checked : CheckRows o
+  checked = record {
+    checked = λ formula proof. row_of Check (formula ∷ proof ∷ []);
+    refuted = λ formula asks zero. refuted o (answered 0 zero (λ p. cc) (λ p. cc)) formula asks zero;
+  }
+
+  diagnosed : DiagnoseRows o
+  diagnosed = record {
+    diagnosed = λ steps budget text alarms. row_of (Diagnose steps budget) (text ∷ alarms ∷ []);
+    explained = λ steps budget text alarms asks is. explained o (answered 0 is (λ p. cc) (λ p. cc)) steps budget text alarms asks is;
+    absent = λ steps budget text alarms asks is. absent o (answered 10 is (λ p. cc) (λ p. cc)) steps budget text alarms asks is;
+    undecided = λ steps budget text alarms asks is. undecided o (answered 11 is (λ p. cc) (λ p. cc)) steps budget text alarms asks is;
+    many = λ steps budget text alarms asks is. many o (answered 12 is (λ p. cc) (λ p. cc)) steps budget text alarms asks is;
+  }
+
+  does : Does o rose
+  does = record {
+    diagnosed = diagnosed;
+    replayed = λ steps text alarms events. row_of (Replay steps) (text ∷ alarms ∷ events ∷ []);
+    checked = checked;
+    traced = λ text steps. row_of Trace (text ∷ steps ∷ []);
+    shown = λ text. row_of Show (text ∷ []);
+    generated = record { model = λ units start. row_alone (GenerateModel units start) refl; log = λ units start. row_alone (GenerateLog units start) refl };
+    benched = λ units start steps budget. row_alone (Bench units start steps budget) refl;
+    ran = ran;
+  }
+
+pub done : (l : Loads) (words : List (List ℕ)) (before now : Option (List ℕ)) (book : List BookEntry) (status : ℕ) (r : Result (Kind × List ℕ) Stop) (rose : Type 0)
+    → UnlessMemory r (Due l words book (once r)) → Puts (once r) before now rose status → Does (outcome l words before now book status) rose
+done l words before now book status r rose due puts = does (outcome l words before now book status) r rose due puts

@@ -1,6 +1,10 @@
 -- A command that goes on from file to file.
 use Rattle.std.proofs.Common.{◌≡◌, ◌≢◌, ◌≤◌, inl, inr, ℕ, ◌+◌, List, [], ◌∷◌, ◌++◌, Option, Some, None, Result, Ok, Err, IsErrAnd, MatchOption, sym, subst}
 use Rattle.des_base.specs.CommandWords.{word_at}
+use Rattle.des_net.specs.Network.{Net}
+use Rattle.log_csv.specs.LogText.{log_of}
+use Rattle.log_order.specs.Log.{Log as AlarmLog}
+use Rattle.model_text.specs.ModelFaults.{network_of}
 use Rattle.proof_ledger.specs.Book.{BookEntry}
 use Rattle.diagnose_cli.specs.declared.command.Command.{Command}
 use Rattle.diagnose_cli.specs.declared.ending.Kind.{Kind}
@@ -8,8 +12,8 @@ use Rattle.diagnose_cli.specs.declared.stop.Stop.{Stop}
 use Rattle.diagnose_cli.specs.declared.stop.Stop.TheVariants.{Usage, Faulty, Memory}
 use Rattle.diagnose_cli.specs.declared.stop.FaultyText.{FaultyText}
 use Rattle.diagnose_cli.specs.Transcripts.{Ending, once, UnlessMemory}
-use Rattle.diagnose_cli.specs.Files.{Loads, Holds, IsText, StopsAt, StopsIn}
-use Rattle.diagnose_cli.specs.Commands.{FileKind, limit_of, fault_of_text, InOrder, Answers, Due, command_of}
+use Rattle.diagnose_cli.specs.Files.{Loads, Holds, IsText, IsReadAs, IsFaultOf, StopsAt, StopsIn}
+use Rattle.diagnose_cli.specs.Commands.{FileKind, model, log, limit_of, fault_of_text, fault_of_model, fault_of_log, IsCase, StopsInCase, InOrder, Answers, Due, command_of}
 use Rattle.diagnose_cli.proofs.Earlier.{stops_earlier}
 
 module _ (l : Loads) (words : List (List ℕ)) (i : ℕ) (kind : FileKind) (kinds : List FileKind) (files : List (List ℕ)) (closes : List (List ℕ) → Ending → Type 0) where
@@ -69,19 +73,56 @@ module _ (held now : List ℕ → Option (List ℕ)) (start before after : List 
   goes_on_later i kind kinds files text r read rest never =
       goes_on since_start words i kind kinds files closes text (once r) read (in_order_earlier (i + 1) kinds (files ++ text ∷ []) (once r) (rest never))
 
+module _ (held now : List ℕ → Option (List ℕ)) (start before after : List ℕ → ℕ) (same : now ≡ held) (later : (n : List ℕ) → start n ≤ before n) (words : List (List ℕ)) where
+  -- why it stops at a file after a later moment is why it does after an earlier one
+  stops_in_earlier : (i : ℕ) (name : List ℕ) (limit : ℕ) (fault : List ℕ → Option FaultyText) (stop : Stop) → StopsIn (record { held = now; before = before; after = after }) i name limit fault stop → StopsIn (record { held = held; before = start; after = after }) i name limit fault stop
+  stops_in_earlier i name limit fault stop h = elim h [
+    | inl at ↦ inl (stops_earlier held now start before after i name limit stop same later at)
+    | inr b ↦ inr (subst (λ (f : List ℕ → Option (List ℕ)). IsFaultOf f name limit fault stop) same b)
+  ]
+
+  -- at the log, behind a model that is read
+  pub stops_at_log : (text : List ℕ) (stop : Stop) → IsText held (word_at words 1) (limit_of model) fault_of_model text → StopsIn (record { held = now; before = before; after = after }) 2 (word_at words 2) (limit_of log) fault_of_log stop → StopsInCase (record { held = held; before = start; after = after }) words stop
+  stops_at_log text stop read h = inr (text, read, stops_in_earlier 2 (word_at words 2) (limit_of log) fault_of_log stop h)
+
+  -- model and log are read, one after the other
+  pub case_read : (net : Net) (alarms : AlarmLog) → IsReadAs held (word_at words 1) (limit_of model) fault_of_model (λ text. net ≡ network_of text)
+      → IsReadAs now (word_at words 2) (limit_of log) fault_of_log (λ rows. alarms ≡ log_of rows) → IsCase held words net alarms
+  case_read net alarms (text, model_read, net_is) (rows, log_read, log_is) = record {
+    text = text;
+    rows = rows;
+    model_read = model_read;
+    log_read = subst (λ (f : List ℕ → Option (List ℕ)). IsText f (word_at words 2) (limit_of log) fault_of_log rows) same log_read;
+    net_is = net_is;
+    log_is = log_is;
+  }
+
+-- a command goes on with the others where it has read its first two files
+pub with_case : (l : Loads) (words : List (List ℕ)) (kinds : List FileKind) (closes : List (List ℕ) → Ending → Type 0) (net : Net) (alarms : AlarmLog) (e : Ending) (case : IsCase l.held words net alarms)
+    → InOrder l words 3 kinds (case.text ∷ case.rows ∷ []) closes e → InOrder l words 1 (model ∷ log ∷ kinds) [] closes e
+with_case l words kinds closes net alarms e case rest =
+    goes_on l words 1 model (log ∷ kinds) [] closes case.text e case.model_read (goes_on l words 2 log kinds (case.text ∷ []) closes case.rows e case.log_read rest)
+
+-- it may stop at these two
+pub stops_in_case : (l : Loads) (words : List (List ℕ)) (kinds : List FileKind) (closes : List (List ℕ) → Ending → Type 0) (stop : Stop) → StopsInCase l words stop → InOrder l words 1 (model ∷ log ∷ kinds) [] closes (Err stop)
+stops_in_case l words kinds closes stop h = elim h [
+  | inl at ↦ stops_here l words 1 model (log ∷ kinds) [] closes stop at
+  | inr b ↦ goes_on l words 1 model (log ∷ kinds) [] closes b.0 (Err stop) b.1 (stops_here l words 2 log kinds (b.0 ∷ []) closes stop b.2)
+]
+
+-- the same where it loads them later
+pub goes_on_with : (held now : List ℕ → Option (List ℕ)) (start before after : List ℕ → ℕ) (same : now ≡ held) (later : (n : List ℕ) → start n ≤ before n) (words : List (List ℕ)) (closes : List (List ℕ) → Ending → Type 0)
+    (kinds : List FileKind) (net : Net) (alarms : AlarmLog) (case : IsCase held words net alarms) (r : Result (Kind × List ℕ) Stop)
+    → UnlessMemory r (InOrder (record { held = now; before = before; after = after }) words 3 kinds (case.text ∷ case.rows ∷ []) closes (once r))
+    → UnlessMemory r (InOrder (record { held = held; before = start; after = after }) words 1 (model ∷ log ∷ kinds) [] closes (once r))
+goes_on_with held now start before after same later words closes kinds net alarms case r rest never =
+    with_case (record { held = held; before = start; after = after }) words kinds closes net alarms (once r) case
+    (in_order_earlier held now start before after same later words closes 3 kinds (case.text ∷ case.rows ∷ []) (once r) (rest never))
+
 -- a refusal that is handed on
 pub handed_after : (r : Result (Kind × List ℕ) Stop) (stop : Stop) (P : Ending → Type 0) → IsErrAnd r (λ e. e ≡ stop) → (stop ≢ Memory → P (Err stop)) → UnlessMemory r (P (once r))
 handed_after (Ok reply) stop P is h m = absurd is
 handed_after (Err e) stop P is h m = subst (λ (s : Stop). P (Err s)) (sym is) (h (λ p. m (same p)))
-  where
-    same : stop ≡ Memory → ◌≡◌ {A = Result (Kind × List ℕ) Stop} (Err e) (Err Memory)
-    same p = cc
-
--- the same of a command
-pub handed_on : (l : Loads) (words : List (List ℕ)) (c : Command) (book : List BookEntry) (r : Result (Kind × List ℕ) Stop) (stop : Stop) → IsErrAnd r (λ e. e ≡ stop) → (stop ≢ Memory → Answers l words c book (Err stop)) → UnlessMemory r (Answers l words c book (once r))
-handed_on l words c book (Ok reply) stop is h m = absurd is
-handed_on l words c book (Err e) stop is h m =
-    subst (λ (s : Stop). Answers l words c book (Err s)) (sym is) (h (λ p. m (same p)))
   where
     same : stop ≡ Memory → ◌≡◌ {A = Result (Kind × List ℕ) Stop} (Err e) (Err Memory)
     same p = cc

@@ -27,11 +27,15 @@ use Rattle.diagnose_cli.specs.declared.stop.FaultyText.{FaultyText}
 use Rattle.diagnose_cli.specs.declared.stop.FaultyText.TheVariants.{Model, Log, Run, Cnf, Lrat}
 use Rattle.diagnose_cli.specs.Refusals.{stop_of_model, stop_of_log, stop_of_run, stop_of_cnf, stop_of_lrat}
 use Rattle.diagnose_cli.specs.Commands.{fault_of_model, fault_of_log, fault_of_run, fault_of_cnf, fault_of_lrat}
-use Rattle.diagnose_cli.specs.Files.{Loads, Holds, IsText, StopsIn}
+use Rattle.diagnose_cli.specs.Files.{Loads, Holds, IsText, IsReadAs, StopsIn}
 
 pub none_told : {X : Type 0} (f : X → FaultyText) (o : Option X) → o ≡ None → option_map f o ≡ None
 none_told f None h = refl
 none_told f (Some x) h = cc
+
+pub none_before : {X : Type 0} (f : X → FaultyText) (o : Option X) → option_map f o ≡ None → o ≡ None
+none_before f None h = refl
+none_before f (Some x) h = cc
 
 pub model_stops : (l : Loads) (i : ℕ) (name : List ℕ) (limit : ℕ) (text : List ℕ) (refusal : ModelRefusal) (stop : Stop)
     → Holds l.held name limit text → IsModelDue (first_model_fault text) refusal → stop ≡ stop_of_model refusal → stop ≢ Memory → StopsIn l i name limit fault_of_model stop
@@ -40,7 +44,7 @@ model_stops l i name limit text (Fault fault) stop holds due is never =
 model_stops l i name limit text ModelMemory stop holds due is never = absurd (never is)
 
 pub model_read : (held : List ℕ → Option (List ℕ)) (name : List ℕ) (limit : ℕ) (text : List ℕ) (net : Net) → Holds held name limit text → first_model_fault text ≡ None → net ≡ network_of text
-    → (text : List ℕ) × IsText held name limit fault_of_model text × (net ≡ network_of text)
+    → IsReadAs held name limit fault_of_model (λ text. net ≡ network_of text)
 model_read held name limit text net holds well is = (text, record { holds = holds; well = none_told _ (first_model_fault text) well }, is)
 
 pub run_stops : (l : Loads) (i : ℕ) (name : List ℕ) (limit : ℕ) (net : Net) (text : List ℕ) (refusal : RunRefusal) (stop : Stop)
@@ -50,7 +54,7 @@ run_stops l i name limit net text (RunFaulty fault) stop holds due is never =
 run_stops l i name limit net text RunMemory stop holds due is never = absurd (never is)
 
 pub run_read : (held : List ℕ → Option (List ℕ)) (name : List ℕ) (limit : ℕ) (net : Net) (text : List ℕ) (run : List RunStep) → Holds held name limit text → first_run_fault net text ≡ None → run ≡ run_of net text
-    → (text : List ℕ) × IsText held name limit (fault_of_run net) text × (run ≡ run_of net text)
+    → IsReadAs held name limit (fault_of_run net) (λ text. run ≡ run_of net text)
 run_read held name limit net text run holds well is = (text, record { holds = holds; well = none_told _ (first_run_fault net text) well }, is)
 
 -- ---- texts whose refusal tells the fault
@@ -70,7 +74,7 @@ log_stops l i name limit text (LogFaulty fault) stop holds due is never = by_fau
 log_stops l i name limit text LogMemory stop holds due is never = absurd (never is)
 
 pub log_read : (held : List ℕ → Option (List ℕ)) (name : List ℕ) (limit : ℕ) (text : List ℕ) (log : AlarmLog) → Holds held name limit text → first_log_fault text ≡ None → log ≡ log_of text
-    → (text : List ℕ) × IsText held name limit fault_of_log text × (log ≡ log_of text)
+    → IsReadAs held name limit fault_of_log (λ text. log ≡ log_of text)
 log_read held name limit text log holds well is = (text, is_well held name limit first_log_fault (λ f. Log f) text holds well, is)
 
 pub cnf_stops : (l : Loads) (i : ℕ) (name : List ℕ) (limit : ℕ) (text : List ℕ) (refusal : TextRefusal) (stop : Stop)
@@ -79,7 +83,7 @@ cnf_stops l i name limit text (TextFaulty fault) stop holds due is never = by_fa
 cnf_stops l i name limit text TextMemory stop holds due is never = absurd (never is)
 
 pub cnf_read : (held : List ℕ → Option (List ℕ)) (name : List ℕ) (limit : ℕ) (text : List ℕ) (vars : ℕ) (clauses : List Clause) → Holds held name limit text → first_cnf_fault text ≡ None → formula vars clauses ≡ formula_of text
-    → (text : List ℕ) × IsText held name limit fault_of_cnf text × (formula vars clauses ≡ formula_of text)
+    → IsReadAs held name limit fault_of_cnf (λ text. formula vars clauses ≡ formula_of text)
 cnf_read held name limit text vars clauses holds well is = (text, is_well held name limit first_cnf_fault (λ f. Cnf f) text holds well, is)
 
 pub lrat_stops : (l : Loads) (i : ℕ) (name : List ℕ) (limit : ℕ) (vars : ℕ) (clauses : List Clause) (count : ℕ) (text : List ℕ) (refusal : TextRefusal) (stop : Stop) → count ≡ length clauses
@@ -90,6 +94,6 @@ lrat_stops l i name limit vars clauses count text TextMemory stop same holds due
 
 pub lrat_read : (held : List ℕ → Option (List ℕ)) (name : List ℕ) (limit : ℕ) (vars : ℕ) (clauses : List Clause) (count : ℕ) (text : List ℕ) (proof : List ProofStep) → count ≡ length clauses
     → Holds held name limit text → first_lrat_fault vars count text ≡ None → proof ≡ proof_of text
-    → (text : List ℕ) × IsText held name limit (fault_of_lrat (formula vars clauses)) text × (proof ≡ proof_of text)
+    → IsReadAs held name limit (fault_of_lrat (formula vars clauses)) (λ text. proof ≡ proof_of text)
 lrat_read held name limit vars clauses count text proof same holds well is =
     (text, is_well held name limit (first_lrat_fault vars (length clauses)) (λ f. Lrat f) text holds (subst (λ (n : ℕ). first_lrat_fault vars n text ≡ None) same well), is)

@@ -10,12 +10,13 @@ use Rattle.replay.specs.declared.run.RunStep.{RunStep}
 use Rattle.replay.specs.declared.replaying.Replayed.{Replayed}
 use Rattle.replay.specs.Replayed.{IsReplayed}
 use Rattle.replay.specs.RunText.{run_of}
+use Rattle.replay.proofs.AcceptLemmas.{accepted_where}
 use Rattle.proof_ledger.specs.Book.{BookEntry}
 use Rattle.diagnose_cli.specs.declared.command.Command.TheVariants.{Replay}
 use Rattle.diagnose_cli.specs.declared.ending.Kind.{Kind}
 use Rattle.diagnose_cli.specs.declared.stop.Stop.{Stop}
 use Rattle.diagnose_cli.specs.Transcripts.{once, whole}
-use Rattle.diagnose_cli.specs.Files.{Loads, IsText, StopsIn}
+use Rattle.diagnose_cli.specs.Files.{Loads, IsText, IsReadAs, StopsIn}
 use Rattle.diagnose_cli.specs.Commands.{run, limit_of, fault_of_run, Closes, AnswersAfter, reply_of_replayed}
 use Rattle.diagnose_cli.proofs.Orders.{stops_here, goes_on}
 
@@ -26,12 +27,20 @@ module _ (l : Loads) (words : List (List ℕ)) (steps : ℕ) (book : List BookEn
       stops_here l words 3 run [] (model ∷ rows ∷ []) (Closes (Replay steps) book) stop (subst (λ (n : Net). StopsIn l 3 (word_at words 3) (limit_of run) (fault_of_run n) stop) network h)
 
   -- or says what replaying tells
-  pub replayed : (events : List RunStep) (told : Replayed) (reply : Kind × List ℕ) → (text : List ℕ) × IsText l.held (word_at words 3) (limit_of run) (fault_of_run net) text × (events ≡ run_of net text)
+  pub replayed : (events : List RunStep) (told : Replayed) (reply : Kind × List ℕ) → IsReadAs l.held (word_at words 3) (limit_of run) (fault_of_run net) (λ text. events ≡ run_of net text)
       → IsReplayed net alarms events steps told → reply ≡ reply_of_replayed (names_of alarms.alarms) told → AnswersAfter l words (Replay steps) book (model ∷ rows ∷ []) (once (Ok reply))
   replayed events told reply (text, read, is) tells says =
       let of_text : IsReplayed net alarms (run_of net text) steps told = subst (λ (es : List RunStep). IsReplayed net alarms es steps told) is tells in
       let of_model : IsReplayed (network_of model) alarms (run_of (network_of model) text) steps told = subst (λ (n : Net). IsReplayed n alarms (run_of n text) steps told) network of_text in
       let of_log : IsReplayed (network_of model) (log_of rows) (run_of (network_of model) text) steps told = subst (λ (a : Log). IsReplayed (network_of model) a (run_of (network_of model) text) steps told) log of_model in
       goes_on l words 3 run [] (model ∷ rows ∷ []) (Closes (Replay steps) book) text (Ok (whole reply))
-      (subst (λ (n : Net). IsText l.held (word_at words 3) (limit_of run) (fault_of_run n) text) network read)
-      (reply, (told, of_log, subst (λ (a : Log). reply ≡ reply_of_replayed (names_of a.alarms) told) log says), refl)
+      (subst (λ (n : Net). IsText l.held (word_at words 3) (limit_of run) (fault_of_run n) text) network read) (
+        reply,
+        record {
+          replayed = told;
+          holds = of_log;
+          accepted = accepted_where (network_of model) (log_of rows) (run_of (network_of model) text) steps told of_log;
+          is = subst (λ (a : Log). reply ≡ reply_of_replayed (names_of a.alarms) told) log says;
+        },
+        refl,
+      )

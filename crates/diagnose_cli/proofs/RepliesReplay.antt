@@ -18,10 +18,10 @@ use Rattle.replay.specs.Traced.{word_of}
 use Rattle.replay.specs.declared.run.RunStep.{RunStep}
 use Rattle.report.specs.Replies.{text_of_found}
 use Rattle.diagnose_cli.specs.Commands.{Replays, RunReplays}
-use Rattle.diagnose_cli.proofs.ReadBack.{IsPrintable, IsRunText}
+use Rattle.report.specs.ReadBack.{IsPrintable, IsRunText}
 use Rattle.diagnose_cli.proofs.MatchedNames.{printable}
-use Rattle.diagnose_cli.proofs.PrintedLengths.{replies_fit}
-use Rattle.diagnose_cli.proofs.ReadsBack.{replies_read_back}
+use Rattle.report.proofs.PrintedLengths.{replies_fit}
+use Rattle.report.proofs.ReadsBack.{replies_read_back}
 use Rattle.diagnose_cli.proofs.RunLengths.{run_length}
 
 -- it has no more steps than a run text may have

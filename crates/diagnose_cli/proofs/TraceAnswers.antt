@@ -12,7 +12,7 @@ use Rattle.diagnose_cli.specs.declared.command.Command.TheVariants.{Trace}
 use Rattle.diagnose_cli.specs.declared.ending.Kind.{Kind}
 use Rattle.diagnose_cli.specs.declared.stop.Stop.{Stop}
 use Rattle.diagnose_cli.specs.Transcripts.{once, whole}
-use Rattle.diagnose_cli.specs.Files.{Loads, IsText, StopsIn}
+use Rattle.diagnose_cli.specs.Files.{Loads, IsText, IsReadAs, StopsIn}
 use Rattle.diagnose_cli.specs.Commands.{run, limit_of, fault_of_run, Closes, AnswersAfter, reply_of_traced}
 use Rattle.diagnose_cli.proofs.Orders.{stops_here, goes_on}
 
@@ -23,9 +23,9 @@ module _ (l : Loads) (words : List (List ℕ)) (book : List BookEntry) (model : 
       stops_here l words 2 run [] (model ∷ []) (Closes Trace book) stop (subst (λ (n : Net). StopsIn l 2 (word_at words 2) (limit_of run) (fault_of_run n) stop) network h)
 
   -- or says what tracing tells
-  pub traced : (steps : List RunStep) (told : Traced) (reply : Kind × List ℕ) → (text : List ℕ) × IsText l.held (word_at words 2) (limit_of run) (fault_of_run net) text × (steps ≡ run_of net text)
+  pub traced : (steps : List RunStep) (told : Traced) (reply : Kind × List ℕ) → IsReadAs l.held (word_at words 2) (limit_of run) (fault_of_run net) (λ text. steps ≡ run_of net text)
       → IsTraced net steps told → reply ≡ reply_of_traced told → AnswersAfter l words Trace book (model ∷ []) (once (Ok reply))
   traced steps told reply (text, read, is) tells says =
       goes_on l words 2 run [] (model ∷ []) (Closes Trace book) text (Ok (whole reply))
       (subst (λ (n : Net). IsText l.held (word_at words 2) (limit_of run) (fault_of_run n) text) network read)
-      (reply, (told, subst (λ (n : Net). IsTraced n (run_of n text) told) network (subst (λ (s : List RunStep). IsTraced net s told) is tells), says), refl)
+      (reply, record { traced = told; holds = subst (λ (n : Net). IsTraced n (run_of n text) told) network (subst (λ (s : List RunStep). IsTraced net s told) is tells); is = says }, refl)

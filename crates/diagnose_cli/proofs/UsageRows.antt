@@ -7,10 +7,11 @@ use Rattle.diagnose_cli.specs.declared.ending.Kind.TheVariants.{Done, Rejected, 
 use Rattle.diagnose_cli.specs.declared.stop.Stop.TheVariants.{Usage, Load, Faulty, Long, Large, Memory}
 use Rattle.diagnose_cli.specs.declared.stop.FaultyText.{FaultyText}
 use Rattle.diagnose_cli.specs.declared.stop.FaultyText.TheVariants.{Model, Log, Run, Cnf, Lrat}
-use Rattle.diagnose_cli.specs.Transcripts.{Ending, Transcript, UnlessMemory}
+use Rattle.diagnose_cli.specs.Transcripts.{Ending, Transcript, IsWhole, UnlessMemory}
 use Rattle.diagnose_cli.specs.Files.{Loads}
 use Rattle.diagnose_cli.specs.Endings.{HasStatus, status_of_kind, status_of_faulty}
 use Rattle.diagnose_cli.specs.Commands.{FileKind, Says, fault_of_text, files_of, too_large, Closes, InOrder, Answers, Due, command_of}
+use Rattle.diagnose_cli.specs.Outcomes.{Outcome}
 use Rattle.diagnose_cli.specs.Run.{Ends}
 
 abbrev usage : Ending
@@ -35,7 +36,7 @@ never_closes (Some size) says h = cc
 
 no_command : (l : Loads) (words : List (List ℕ)) (book : List BookEntry) (o : Option Command) → MatchOption o (usage ≡ Err Usage) (λ c. Answers l words c book usage) → o ≡ None
 no_command l words book None h = refl
-no_command l words book (Some c) h = absurd (not_in_order l words 1 (files_of c) [] (Closes c book) (λ texts. never_closes (too_large c texts) (Says c book texts)) h)
+no_command l words book (Some c) h = absurd (not_in_order l words 1 (files_of c) [] (Closes c book) (λ texts. never_closes (too_large c texts) (IsWhole (Says c book texts))) h)
 
 not_kind : (k : Kind) → 2 ≡ status_of_kind k → ⊥
 not_kind Done p = cc
@@ -55,14 +56,14 @@ not_done : (o : Option Kind) → IsSomeAnd o (λ kind. 2 ≡ status_of_kind kind
 not_done None p = absurd p
 not_done (Some k) p = not_kind k p
 
-of_ending : (l : Loads) (words : List (List ℕ)) (book : List BookEntry) (e : Ending) → UnlessMemory e (Due l words book e) → HasStatus e 2 → command_of words ≡ None
-of_ending l words book (Ok told) d p = absurd (not_done told.done p)
-of_ending l words book (Err Usage) d p = no_command l words book (command_of words) (d (λ m. cc))
-of_ending l words book (Err (Load i)) d p = absurd (omega arith)
-of_ending l words book (Err (Faulty text)) d p = absurd (not_faulty text p)
-of_ending l words book (Err (Long i)) d p = absurd (omega arith)
-of_ending l words book (Err (Large size)) d p = absurd (omega arith)
-of_ending l words book (Err Memory) d p = absurd (omega arith)
+of_ending : (o : Outcome) (e : Ending) → UnlessMemory e (Due o.loads o.words o.book e) → HasStatus e 2 → command_of o.words ≡ None
+of_ending o (Ok told) d p = absurd (not_done told.done p)
+of_ending o (Err Usage) d p = no_command o.loads o.words o.book (command_of o.words) (d (λ m. cc))
+of_ending o (Err (Load i)) d p = absurd (omega arith)
+of_ending o (Err (Faulty text)) d p = absurd (not_faulty text p)
+of_ending o (Err (Long i)) d p = absurd (omega arith)
+of_ending o (Err (Large size)) d p = absurd (omega arith)
+of_ending o (Err Memory) d p = absurd (omega arith)
 
-pub usage_row : (l : Loads) (words : List (List ℕ)) (book : List BookEntry) (b n : Option (List ℕ)) (s : ℕ) → Ends l words book b n s → s ≡ 2 → command_of words ≡ None
-usage_row l words book b n s ends p = of_ending l words book ends.ending ends.due (subst (HasStatus ends.ending) p ends.shown)
+pub usage_row : (o : Outcome) → Ends o → o.status ≡ 2 → command_of o.words ≡ None
+usage_row o ends p = of_ending o ends.ending ends.due (subst (HasStatus ends.ending) p ends.shown)

@@ -1,5 +1,5 @@
 -- The commands, the files that each one needs, and what it may say over them.
-use Rattle.std.specs.Prelude.{◌≡◌, ℕ, ◌+◌, ◌-◌, ◌^◌, ◌≤◌, ⊤, List, [], ◌∷◌, ◌++◌, length, drop, take, codes, ◌==◌, Bool, ◌&&◌, nat_eq, nat_lt, nat_le, Option, Some, None, if◌then◌else◌, Err, IfSome, IsOkAnd, MatchOption, bytes_eq, option_map, option_and_then}
+use Rattle.std.specs.Prelude.{◌≡◌, ◌↔◌, ◌⊎◌, ℕ, ◌+◌, ◌-◌, ◌^◌, ◌≤◌, ⊤, List, [], ◌∷◌, ◌++◌, length, drop, take, codes, ◌==◌, Bool, ◌&&◌, nat_eq, nat_lt, nat_le, Option, Some, None, if◌then◌else◌, Err, IfSome, IsOkAnd, MatchOption, bytes_eq, option_map, option_and_then}
 use Rattle.std.specs.List.{position_or_len}
 use Rattle.des_base.specs.CommandWords.{word_at}
 use Rattle.des_base.specs.Numbers.{number_up_to}
@@ -7,9 +7,9 @@ use Rattle.des_net.specs.Network.{Net}
 use Rattle.gen_plant.specs.Plant.{most_units, plant_net, plant_log}
 use Rattle.model_text.specs.ModelFaults.{network_of, first_fault as first_model_fault}
 use Rattle.model_text.specs.PrintedModel.{model_text}
+use Rattle.model_text.specs.ReadBack.{ReadsBack}
 use Rattle.replay.specs.RunText.{run_of, first_fault as first_run_fault}
 use Rattle.least_faults.specs.Parts.{most_size}
-use Rattle.least_faults.specs.declared.answer.Best.{Best}
 use Rattle.least_faults.specs.declared.answer.Found.{Found}
 use Rattle.least_faults.specs.declared.answer.Found.TheVariants.{Explained, Absent as NotExplained, Many as ManyFaults, Undecided as NotDecided}
 use Rattle.log_order.specs.Adding.{names_of}
@@ -29,16 +29,17 @@ use Rattle.replay.specs.declared.replaying.Replayed.TheVariants.{Accepted, Stuck
 use Rattle.replay.specs.Traced.{IsTraced}
 use Rattle.replay.specs.declared.tracing.Traced.{Traced}
 use Rattle.replay.specs.declared.tracing.Traced.TheVariants.{Ran, Stuck}
-use Rattle.report.specs.Replies.{text_of_traced, text_of_replayed, text_of_checked, text_of_found, numbered}
+use Rattle.report.specs.Replies.{text_of_traced, text_of_replayed, text_of_checked, text_of_found, told_run, numbered}
 use Rattle.diagnose_cli.specs.declared.command.Command.{Command}
 use Rattle.diagnose_cli.specs.declared.command.Command.TheVariants.{Trace, Show, Replay, Check, Diagnose, GenerateModel, GenerateLog, Bench}
 use Rattle.diagnose_cli.specs.declared.stop.FaultyText.{FaultyText}
 use Rattle.diagnose_cli.specs.declared.stop.FaultyText.TheVariants.{Model, Log, Run, Cnf, Lrat}
+use Rattle.diagnose_cli.specs.declared.stop.Stop.{Stop}
 use Rattle.diagnose_cli.specs.declared.stop.Stop.TheVariants.{Usage, Faulty, Large}
 use Rattle.diagnose_cli.specs.declared.ending.Kind.{Kind}
 use Rattle.diagnose_cli.specs.declared.ending.Kind.TheVariants.{Done, Rejected, Absent, Undecided, Many}
-use Rattle.diagnose_cli.specs.Transcripts.{Ending, Transcript, whole}
-use Rattle.diagnose_cli.specs.Files.{Loads, WithFile}
+use Rattle.diagnose_cli.specs.Transcripts.{Ending, IsWhole}
+use Rattle.diagnose_cli.specs.Files.{Loads, IsText, StopsIn, WithFile}
 use Rattle.diagnose_cli.specs.Diagnosed.{IsDiagnosed}
 
 -- this many words, of which the first is the name
@@ -165,13 +166,19 @@ abbrev pub reply_of_traced : Traced → Kind × List ℕ
 reply_of_traced traced = (kind_of_traced traced, text_of_traced traced)
 
 -- the reply tells what tracing the word of the run text on the network of the model text tells
-abbrev pub SaysTraced : List ℕ → List ℕ → (Kind × List ℕ) → Type 0
-SaysTraced text steps reply =
-    (traced : Traced) × IsTraced (network_of text) (run_of (network_of text) steps) traced × (reply ≡ reply_of_traced traced)
+pub record SaysTraced (text steps : List ℕ) (reply : Kind × List ℕ) : Type 0 where
+  pub traced : Traced
+  pub holds : IsTraced (network_of text) (run_of (network_of text) steps) traced
+  pub is : reply ≡ reply_of_traced traced
 
 -- the plain form of a network
 abbrev pub reply_of_model : Net → Kind × List ℕ
 reply_of_model net = (Done, model_text net)
+
+-- the reply has the plain form of the network of the model text, and read again that says the same network
+pub record SaysShown (text : List ℕ) (reply : Kind × List ℕ) : Type 0 where
+  pub is : reply ≡ reply_of_model (network_of text)
+  pub again : ReadsBack (network_of text)
 
 abbrev pub kind_of_replayed : Replayed → Kind
 kind_of_replayed (Accepted faults) = Done
@@ -185,11 +192,13 @@ kind_of_replayed (TooWide pieces) = Rejected
 abbrev pub reply_of_replayed : List (List ℕ) → Replayed → Kind × List ℕ
 reply_of_replayed names replayed = (kind_of_replayed replayed, text_of_replayed names replayed)
 
--- the reply tells what replaying the run of the run text against the log of the log text tells, within so many parallel steps
-abbrev pub SaysReplayed : ℕ → List ℕ → List ℕ → List ℕ → (Kind × List ℕ) → Type 0
-SaysReplayed steps text alarms events reply =
-    (replayed : Replayed) × IsReplayed (network_of text) (log_of alarms) (run_of (network_of text) events) steps replayed
-    × (reply ≡ reply_of_replayed (names_of (log_of alarms).alarms) replayed)
+-- The reply tells what replaying the run of the run text against the log of the log text tells, within so many parallel steps. The run is accepted exactly
+-- where it is well matched and explains the log, with its number of faults.
+pub record SaysReplayed (steps : ℕ) (text alarms events : List ℕ) (reply : Kind × List ℕ) : Type 0 where
+  pub replayed : Replayed
+  pub holds : IsReplayed (network_of text) (log_of alarms) (run_of (network_of text) events) steps replayed
+  pub accepted : (faults : ℕ) → (replayed ≡ Accepted faults) ↔ IsAccepted (network_of text) (log_of alarms) (run_of (network_of text) events) steps faults
+  pub is : reply ≡ reply_of_replayed (names_of (log_of alarms).alarms) replayed
 
 abbrev pub kind_of_checked : Checked → Kind
 kind_of_checked Verified = Done
@@ -211,13 +220,6 @@ kind_of_found (NotDecided lo best) = Undecided
 abbrev pub reply_of_found : Net → ℕ → Found → Kind × List ℕ
 reply_of_found net n found = (kind_of_found found, text_of_found net n found)
 
--- the run that an answer tells, where it tells one
-abbrev pub told_run : Found → Option Best
-told_run (Explained best) = Some best
-told_run NotExplained = None
-told_run (ManyFaults best) = Some best
-told_run (NotDecided lo best) = best
-
 -- The printed reply is a run text as it stands: `replay` can read it, and accepts its run with so many faults.
 pub record Replays (net : Net) (alarms : AlarmLog) (n : ℕ) (reply : List ℕ) (faults : ℕ) : Type 0 where
   pub fits : length reply ≤ limit_of run
@@ -228,11 +230,20 @@ pub record Replays (net : Net) (alarms : AlarmLog) (n : ℕ) (reply : List ℕ) 
 abbrev pub RunReplays : Net → AlarmLog → ℕ → Found → Type 0
 RunReplays net alarms n found = IfSome (told_run found) (λ best. Replays net alarms n (text_of_found net n found) best.faults)
 
--- the reply tells what is found of the log of the log text within so many parallel steps, the book that is left shows it, and its run replays
+-- what is found of a question holds, the book that is left shows it, and the run that is told replays
+pub record AnswersQuestion (net : Net) (alarms : AlarmLog) (n budget : ℕ) (book : List BookEntry) (found : Found) : Type 0 where
+  pub diagnosed : IsDiagnosed net alarms n budget book found
+  pub replays : RunReplays net alarms n found
+
+-- the reply tells what is found
+pub record SaysFound (net : Net) (alarms : AlarmLog) (n budget : ℕ) (book : List BookEntry) (reply : Kind × List ℕ) : Type 0 where
+  pub found : Found
+  pub holds : AnswersQuestion net alarms n budget book found
+  pub is : reply ≡ reply_of_found net n found
+
+-- of the log of the log text within so many parallel steps
 abbrev pub SaysDiagnosed : ℕ → ℕ → List ℕ → List ℕ → List BookEntry → (Kind × List ℕ) → Type 0
-SaysDiagnosed steps budget text alarms book reply =
-    (found : Found) × IsDiagnosed (network_of text) (log_of alarms) steps budget book found
-    × RunReplays (network_of text) (log_of alarms) steps found × (reply ≡ reply_of_found (network_of text) steps found)
+SaysDiagnosed steps budget text alarms book reply = SaysFound (network_of text) (log_of alarms) steps budget book reply
 
 -- the text of a log
 abbrev pub reply_of_log : AlarmLog → Kind × List ℕ
@@ -249,23 +260,27 @@ summary_of units net alarms n reply = (
   numbered (codes "units ") units ++ numbered (codes "alarms ") (length alarms.alarms) ++ numbered (codes "size ") (question_size net alarms n) ++ first_line reply.1,
 )
 
--- the reply sums up what is found of a generated plant, of which the book that is left shows it, and the run that isn't printed replays
-abbrev pub SaysBenched : ℕ → ℕ → ℕ → ℕ → List BookEntry → (Kind × List ℕ) → Type 0
-SaysBenched units start steps budget book reply =
-    (found : Found) × IsDiagnosed (plant_net units) (plant_log units start) steps budget book found × RunReplays (plant_net units) (plant_log units start) steps found
-    × (reply ≡ summary_of units (plant_net units) (plant_log units start) steps (reply_of_found (plant_net units) steps found))
+-- the reply sums up what is found of a log of so many units, of which the run isn't printed
+pub record SaysSummary (units : ℕ) (net : Net) (alarms : AlarmLog) (n budget : ℕ) (book : List BookEntry) (reply : Kind × List ℕ) : Type 0 where
+  pub found : Found
+  pub holds : AnswersQuestion net alarms n budget book found
+  pub is : reply ≡ summary_of units net alarms n (reply_of_found net n found)
 
--- what a command may say over the bytes of its files, where it leaves this book
-abbrev pub Says : Command → List BookEntry → List (List ℕ) → Transcript → Type 0
-Says Trace book (text ∷ steps ∷ []) told = (reply : Kind × List ℕ) × SaysTraced text steps reply × (told ≡ whole reply)
-Says Show book (text ∷ []) told = told ≡ whole (reply_of_model (network_of text))
-Says (Replay steps) book (text ∷ alarms ∷ events ∷ []) told = (reply : Kind × List ℕ) × SaysReplayed steps text alarms events reply × (told ≡ whole reply)
-Says Check book (formula ∷ proof ∷ []) told = (reply : Kind × List ℕ) × SaysChecked formula proof reply × (told ≡ whole reply)
-Says (Diagnose steps budget) book (text ∷ alarms ∷ []) told = (reply : Kind × List ℕ) × SaysDiagnosed steps budget text alarms book reply × (told ≡ whole reply)
-Says (GenerateModel units start) book [] told = told ≡ whole (reply_of_model (plant_net units))
-Says (GenerateLog units start) book [] told = told ≡ whole (reply_of_log (plant_log units start))
-Says (Bench units start steps budget) book [] told = (reply : Kind × List ℕ) × SaysBenched units start steps budget book reply × (told ≡ whole reply)
-Says _ _ _ told = ⊥
+-- of a generated plant
+abbrev pub SaysBenched : ℕ → ℕ → ℕ → ℕ → List BookEntry → (Kind × List ℕ) → Type 0
+SaysBenched units start steps budget book reply = SaysSummary units (plant_net units) (plant_log units start) steps budget book reply
+
+-- the replies that a command may give over the bytes of its files, where it leaves this book
+abbrev pub Says : Command → List BookEntry → List (List ℕ) → (Kind × List ℕ) → Type 0
+Says Trace book (text ∷ steps ∷ []) reply = SaysTraced text steps reply
+Says Show book (text ∷ []) reply = SaysShown text reply
+Says (Replay steps) book (text ∷ alarms ∷ events ∷ []) reply = SaysReplayed steps text alarms events reply
+Says Check book (formula ∷ proof ∷ []) reply = SaysChecked formula proof reply
+Says (Diagnose steps budget) book (text ∷ alarms ∷ []) reply = SaysDiagnosed steps budget text alarms book reply
+Says (GenerateModel units start) book [] reply = reply ≡ reply_of_model (plant_net units)
+Says (GenerateLog units start) book [] reply = reply ≡ reply_of_log (plant_log units start)
+Says (Bench units start steps budget) book [] reply = SaysBenched units start steps budget book reply
+Says _ _ _ reply = ⊥
 
 -- the size, where it is above the limit
 abbrev pub above_limit : ℕ → Option ℕ
@@ -277,9 +292,24 @@ too_large (Diagnose steps budget) (text ∷ alarms ∷ []) = above_limit (questi
 too_large (Bench units start steps budget) [] = above_limit (question_size (plant_net units) (plant_log units start) steps)
 too_large _ _ = None
 
--- after its files a command stops by the size of its question, or says what it may
+-- after its files a command stops by the size of its question, or gives a reply that it may
 abbrev pub Closes : Command → List BookEntry → List (List ℕ) → Ending → Type 0
-Closes c book files e = MatchOption (too_large c files) (IsOkAnd e (Says c book files)) (λ size. e ≡ Err (Large size))
+Closes c book files e = MatchOption (too_large c files) (IsOkAnd e (IsWhole (Says c book files))) (λ size. e ≡ Err (Large size))
+
+-- the network of the model text and the log of the log text, which are the first two files of a command
+pub record IsCase (held : List ℕ → Option (List ℕ)) (words : List (List ℕ)) (net : Net) (alarms : AlarmLog) : Type 0 where
+  pub text : List ℕ
+  pub rows : List ℕ
+  pub model_read : IsText held (word_at words 1) (limit_of model) fault_of_model text
+  pub log_read : IsText held (word_at words 2) (limit_of log) fault_of_log rows
+  pub net_is : net ≡ network_of text
+  pub log_is : alarms ≡ log_of rows
+
+-- why a command may stop at one of these two
+abbrev pub StopsInCase : Loads → List (List ℕ) → Stop → Type 0
+StopsInCase l words stop =
+    StopsIn l 1 (word_at words 1) (limit_of model) fault_of_model stop
+    ⊎ ((text : List ℕ) × IsText l.held (word_at words 1) (limit_of model) fault_of_model text × StopsIn l 2 (word_at words 2) (limit_of log) fault_of_log stop)
 
 -- The files from number i on, in order: for each its load, its length and its text. Then the end.
 abbrev pub InOrder : Loads → List (List ℕ) → ℕ → List FileKind → List (List ℕ) → (List (List ℕ) → Ending → Type 0) → Ending → Type 0

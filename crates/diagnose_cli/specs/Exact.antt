@@ -8,6 +8,7 @@ use Rattle.diagnose_cli.specs.declared.stop.Stop.TheVariants.{Usage, Faulty, Lon
 use Rattle.diagnose_cli.specs.declared.stop.FaultyText.{FaultyText}
 use Rattle.diagnose_cli.specs.Endings.{status_of_stop, text_of_stop}
 use Rattle.diagnose_cli.specs.Commands.{FileKind, limit_of, fault_of_text, files_of, too_large, command_of}
+use Rattle.diagnose_cli.specs.Outcomes.{Outcome}
 
 -- the fault of a text, or what comes after it
 abbrev pub past : Option FaultyText → Option Stop → Option Stop
@@ -29,6 +30,5 @@ stop_of_command held words None = Some Usage
 stop_of_command held words (Some c) = first_stop held words 1 (files_of c) [] (too_large c)
 
 -- the words and the files give the one status and the one text of a stop
-abbrev pub StopRow : (List ℕ → Option (List ℕ)) → List (List ℕ) → Option (List ℕ) → Option (List ℕ) → ℕ → Type 0
-StopRow held words before now status =
-    IfSome (stop_of_command held words (command_of words)) (λ stop. (status ≡ status_of_stop stop) × Took before now (text_of_stop stop))
+abbrev pub StopRow : Outcome → Type 0
+StopRow o = IfSome (stop_of_command o.loads.held o.words (command_of o.words)) (λ stop. (o.status ≡ status_of_stop stop) × Took o.before o.now (text_of_stop stop))

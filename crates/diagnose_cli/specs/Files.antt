@@ -40,6 +40,10 @@ pub record IsText (held : List ℕ → Option (List ℕ)) (name : List ℕ) (lim
   pub holds : Holds held name limit bytes
   pub well : fault bytes ≡ None
 
+-- such bytes of a file, of which P holds
+abbrev pub IsReadAs : (List ℕ → Option (List ℕ)) → List ℕ → ℕ → (List ℕ → Option FaultyText) → (List ℕ → Type 0) → Type 0
+IsReadAs held name limit fault P = (text : List ℕ) × IsText held name limit fault text × P text
+
 -- the stop tells the fault of the bytes of a file
 pub record IsFaultOf (held : List ℕ → Option (List ℕ)) (name : List ℕ) (limit : ℕ) (fault : List ℕ → Option FaultyText) (stop : Stop) : Type 0 where
   pub bytes : List ℕ

@@ -4,13 +4,8 @@ pub mod Refusals
 pub mod Files
 pub mod Diagnosed
 pub mod Commands
+pub mod Outcomes
 pub mod Exact
 pub mod Puts
+pub mod Rows
 pub mod Run
-pub mod Trace
-pub mod Show
-pub mod Replay
-pub mod Check
-pub mod Diagnose
-pub mod Generated
-pub mod Benched

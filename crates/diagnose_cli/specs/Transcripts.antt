@@ -18,6 +18,10 @@ Ending = Result Transcript Stop
 abbrev pub whole : (Kind × List ℕ) → Transcript
 whole reply = record { texts = reply.1 ∷ []; done = Some reply.0 }
 
+-- one reply of which P holds, and done
+abbrev pub IsWhole : ((Kind × List ℕ) → Type 0) → Transcript → Type 0
+IsWhole P told = (reply : Kind × List ℕ) × P reply × (told ≡ whole reply)
+
 abbrev pub once : Result (Kind × List ℕ) Stop → Ending
 once (Ok reply) = Ok (whole reply)
 once (Err stop) = Err stop

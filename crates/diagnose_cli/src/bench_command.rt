@@ -1,21 +1,20 @@
+// The command `bench`: what is found of a generated plant, summed up.
 ghost use Rattle.std.specs.Prelude.{◌≡◌, ◌≤◌, ◌==◌, ◌++◌, ℕ, List, [], IfOk, codes, length, string_bytes};
 ghost use Rattle.std.specs.List.{position_or_len};
 ghost use Rattle.gen_plant.specs.Plant.{most_units, plant_net, plant_log};
-ghost use Rattle.replay.specs.QuestionSize.{question_size};
 ghost use Rattle.report.specs.Replies.{numbered};
 ghost use Rattle.diagnose_cli.specs.Files.{Loads};
 ghost use Rattle.diagnose_cli.specs.Transcripts.{UnlessMemory, once};
-ghost use Rattle.diagnose_cli.specs.Commands.{Answers, Closes, first_line, summary_of};
+ghost use Rattle.diagnose_cli.specs.Commands.{Answers, Closes, first_line};
 
 use crate::command::Command;
 use crate::diagnose_command::reply_to;
 use crate::ending::Reply;
+use crate::question::{Case, Limits};
 use crate::stop::Stop;
 use alarm_session::{SIZE_LIMIT, question_size};
 use des_base::Memory;
-use des_net::Network;
 use gen_plant::generate;
-use log_order::AlarmLog;
 use proof_ledger::Ledger;
 use std::alloc::Global;
 
@@ -24,39 +23,40 @@ pub fn bench_command(
     alloc: Global,
     units: u32,
     start: u64,
-    steps: u32,
-    budget: u64,
+    limits: Limits,
     book: &mut Ledger,
 ) -> Result<Reply, Stop>
     requires units { units ≤ most_units }
-    requires steps { steps ≤ 1000 }
+    requires steps { limits.steps ≤ 1000 }
     requires empty { book.old.entries ≡ [] }
-    ensures { (l : Loads) (words : List (List ℕ)) → UnlessMemory result (Answers l words (Command.Bench units start steps budget) book.new.entries (once result)) }
+    ensures { (l : Loads) (words : List (List ℕ)) → UnlessMemory result (Answers l words (Command.Bench units start limits.steps limits.budget) book.new.entries (once result)) }
 {
     let plant = generate(alloc, units, start)?;
-    bench_over(alloc, units, &plant.net, &plant.log, steps, budget, book)
+    let case = Case {
+        net: plant.net,
+        log: plant.log,
+    };
+    bench(alloc, units, &case, limits, book)
 }
 
 // The same where the plant is made.
-fn bench_over(
+fn bench(
     alloc: Global,
     units: u32,
-    net: &Network,
-    log: &AlarmLog,
-    steps: u32,
-    budget: u64,
+    case: &Case,
+    limits: Limits,
     book: &mut Ledger,
 ) -> Result<Reply, Stop>
-    requires steps { steps ≤ 1000 }
+    requires steps { limits.steps ≤ 1000 }
     requires empty { book.old.entries ≡ [] }
-    ensures { (start : ℕ) → net.now ≡ plant_net units → log.now ≡ plant_log units start → UnlessMemory result (Closes (Command.Bench units start steps budget) book.new.entries [] (once result)) }
+    ensures { (start : ℕ) → case.now.net ≡ plant_net units → case.now.log ≡ plant_log units start → UnlessMemory result (Closes (Command.Bench units start limits.steps limits.budget) book.new.entries [] (once result)) }
 {
-    let size = question_size(net, log, steps);
+    let size = question_size(&case.net, &case.log, limits.steps);
     if size > SIZE_LIMIT {
         return Err(Stop::Large(size));
     }
-    let reply = reply_to(alloc, net, log, steps, budget, book)?;
-    Ok(sum_up(alloc, units, log.alarms(), size, &reply)?)
+    let reply = reply_to(alloc, case, limits, book)?;
+    Ok(sum_up(alloc, units, case.log.alarms(), size, &reply)?)
 }
 
 // The summary of a reply.

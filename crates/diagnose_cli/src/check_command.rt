@@ -1,3 +1,4 @@
+// The command `check`: whether a proof refutes a formula.
 ghost use Rattle.std.specs.Prelude.{◌≡◌, ◌<◌, ◌≤◌, ℕ, List, [], ◌∷◌, length, IfOk};
 ghost use Rattle.proof_ledger.specs.Book.{BookEntry};
 ghost use Rattle.proof_ledger.specs.Checking.{check_proof};

@@ -1,3 +1,4 @@
+// The commands, and which one the words of a command line call.
 ghost use Rattle.std.specs.Prelude.{◌≡◌, ◌≤◌, length, IfSome, ◌<◌};
 ghost use Rattle.gen_plant.specs.Plant.{most_units};
 ghost use Rattle.diagnose_cli.specs.Commands.{calls, command_of, units_of, generate_of, bench_of, file_count, HasFewSteps, HasFewUnits};

@@ -1,3 +1,4 @@
+// The files of the disk as a shelf.
 ghost use Rattle.std.specs.Prelude.{◌≡◌, ◌+◌, ◌^◌, ◌<◌, ◌≤◌, [], length, None};
 
 use des_base::{LoadFault, Shelf};

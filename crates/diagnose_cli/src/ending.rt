@@ -1,3 +1,4 @@
+// How a command ends: its reply, or why it has none, and what is put then.
 ghost use Rattle.std.specs.Prelude.{◌≡◌, [], ◌∷◌, IfOk, Ok, Err};
 ghost use Rattle.des_base.specs.Outside.{Rose};
 ghost use Rattle.diagnose_cli.specs.Transcripts.{once};

@@ -1,3 +1,4 @@
+// The files of a command: each is loaded, held against its limit and read.
 ghost use Rattle.std.specs.Prelude.{◌≡◌, ◌≢◌, ℕ, ◌^◌, ◌<◌, ◌≤◌, List, length, All, IfOk, IfErr, OnOk};
 ghost use Rattle.des_base.specs.CommandWords.{word_at};
 ghost use Rattle.model_text.specs.ModelFaults.{network_of};
@@ -6,9 +7,10 @@ ghost use Rattle.proof_text.specs.CnfText.{formula, formula_of};
 ghost use Rattle.proof_text.specs.LratText.{proof_of};
 ghost use Rattle.replay.specs.RunText.{run_of};
 ghost use Rattle.replay.specs.Traced.{word_of};
-ghost use Rattle.diagnose_cli.specs.Commands.{fault_of_model, fault_of_log, fault_of_run, fault_of_cnf, fault_of_lrat};
-ghost use Rattle.diagnose_cli.specs.Files.{loads, Fetches, IsText, StopsIn};
+ghost use Rattle.diagnose_cli.specs.Commands.{IsCase, StopsInCase, fault_of_model, fault_of_log, fault_of_run, fault_of_cnf, fault_of_lrat};
+ghost use Rattle.diagnose_cli.specs.Files.{loads, Fetches, IsReadAs, StopsIn};
 
+use crate::question::Case;
 use crate::stop::{Stop, stop_of_cnf, stop_of_lrat};
 use des_base::{LoadFault, Shelf, WordList};
 use des_net::Network;
@@ -38,7 +40,7 @@ pub fn fetch_model<F: Shelf>(
     place: u32,
 ) -> Result<Network, Stop>
     requires { place < length words.now }
-    ensures net { IfOk result (λ net. (text : List ℕ) × IsText (F.held shelf.old) (word_at words.now place) MODEL_LIMIT fault_of_model text × (net ≡ network_of text)) }
+    ensures net { IfOk result (λ net. IsReadAs (F.held shelf.old) (word_at words.now place) MODEL_LIMIT fault_of_model (λ text. net ≡ network_of text)) }
     ensures stop { IfErr result (λ stop. stop ≢ Stop.Memory → StopsIn (loads F.held F.faults shelf.old shelf.new) place (word_at words.now place) MODEL_LIMIT fault_of_model stop) }
     ensures kept { F.held shelf.new ≡ F.held shelf.old }
     ensures never_falls { (n : List ℕ) → F.faults shelf.old n ≤ F.faults shelf.new n }
@@ -57,7 +59,7 @@ pub fn fetch_run<F: Shelf>(
     net: &Network,
 ) -> Result<Run, Stop>
     requires { place < length words.now }
-    ensures run { IfOk result (λ run. (text : List ℕ) × IsText (F.held shelf.old) (word_at words.now place) RUN_LIMIT (fault_of_run net.now) text × (run ≡ run_of net.now text)) }
+    ensures run { IfOk result (λ run. IsReadAs (F.held shelf.old) (word_at words.now place) RUN_LIMIT (fault_of_run net.now) (λ text. run ≡ run_of net.now text)) }
     ensures known { IfOk result (λ run. All (λ e. e < length net.now.events) (word_of run)) }
     ensures stop { IfErr result (λ stop. stop ≢ Stop.Memory → StopsIn (loads F.held F.faults shelf.old shelf.new) place (word_at words.now place) RUN_LIMIT (fault_of_run net.now) stop) }
     ensures kept { F.held shelf.new ≡ F.held shelf.old }
@@ -76,13 +78,26 @@ pub fn fetch_log<F: Shelf>(
     place: u32,
 ) -> Result<AlarmLog, Stop>
     requires { place < length words.now }
-    ensures log { IfOk result (λ log. (text : List ℕ) × IsText (F.held shelf.old) (word_at words.now place) LOG_LIMIT fault_of_log text × (log ≡ log_of text)) }
+    ensures log { IfOk result (λ log. IsReadAs (F.held shelf.old) (word_at words.now place) LOG_LIMIT fault_of_log (λ text. log ≡ log_of text)) }
     ensures stop { IfErr result (λ stop. stop ≢ Stop.Memory → StopsIn (loads F.held F.faults shelf.old shelf.new) place (word_at words.now place) LOG_LIMIT fault_of_log stop) }
     ensures kept { F.held shelf.new ≡ F.held shelf.old }
     ensures never_falls { (n : List ℕ) → F.faults shelf.old n ≤ F.faults shelf.new n }
 {
     let text = fetch(alloc, shelf, place, words.word(place as usize), LOG_LIMIT)?;
     Ok(read_log(alloc, text.as_slice())?)
+}
+
+/// The model and the log, which are the first two files of a command.
+pub fn fetch_case<F: Shelf>(alloc: Global, words: &WordList, shelf: &mut F) -> Result<Case, Stop>
+    requires { 2 < length words.now }
+    ensures read { IfOk result (λ case. IsCase (F.held shelf.old) words.now case.net case.log) }
+    ensures stop { IfErr result (λ stop. stop ≢ Stop.Memory → StopsInCase (loads F.held F.faults shelf.old shelf.new) words.now stop) }
+    ensures kept { F.held shelf.new ≡ F.held shelf.old }
+    ensures never_falls { (n : List ℕ) → F.faults shelf.old n ≤ F.faults shelf.new n }
+{
+    let net = fetch_model(alloc, words, shelf, 1)?;
+    let log = fetch_log(alloc, words, shelf, 2)?;
+    Ok(Case { net, log })
 }
 
 /// The formula in this place among the command's files.
@@ -94,7 +109,7 @@ pub fn fetch_cnf<F: Shelf>(
     place: u32,
 ) -> Result<Cnf, Stop>
     requires { place < length words.now }
-    ensures formula { IfOk result (λ cnf. (text : List ℕ) × IsText (F.held shelf.old) (word_at words.now place) FORMULA_LIMIT fault_of_cnf text × (formula cnf.vars cnf.clauses.clauses ≡ formula_of text)) }
+    ensures formula { IfOk result (λ cnf. IsReadAs (F.held shelf.old) (word_at words.now place) FORMULA_LIMIT fault_of_cnf (λ text. formula cnf.vars cnf.clauses.clauses ≡ formula_of text)) }
     ensures few { IfOk result (λ cnf. cnf.vars ≤ 100000000) }
     ensures stop { IfErr result (λ stop. stop ≢ Stop.Memory → StopsIn (loads F.held F.faults shelf.old shelf.new) place (word_at words.now place) FORMULA_LIMIT fault_of_cnf stop) }
     ensures kept { F.held shelf.new ≡ F.held shelf.old }
@@ -124,7 +139,7 @@ pub fn fetch_lrat<F: Shelf>(
 ) -> Result<Proof, Stop>
     requires place { place < length words.now }
     requires few { cnf.now.vars ≤ 100000000 }
-    ensures proof { IfOk result (λ proof. (text : List ℕ) × IsText (F.held shelf.old) (word_at words.now place) PROOF_LIMIT (fault_of_lrat (formula cnf.now.vars cnf.now.clauses.clauses)) text × (proof ≡ proof_of text)) }
+    ensures proof { IfOk result (λ proof. IsReadAs (F.held shelf.old) (word_at words.now place) PROOF_LIMIT (fault_of_lrat (formula cnf.now.vars cnf.now.clauses.clauses)) (λ text. proof ≡ proof_of text)) }
     ensures stop { IfErr result (λ stop. stop ≢ Stop.Memory → StopsIn (loads F.held F.faults shelf.old shelf.new) place (word_at words.now place) PROOF_LIMIT (fault_of_lrat (formula cnf.now.vars cnf.now.clauses.clauses)) stop) }
     ensures kept { F.held shelf.new ≡ F.held shelf.old }
     ensures never_falls { (n : List ℕ) → F.faults shelf.old n ≤ F.faults shelf.new n }

@@ -14,6 +14,7 @@ mod ending;
 mod files;
 mod generate_command;
 mod out_sink;
+mod question;
 mod replay_command;
 mod run;
 mod show_command;

@@ -1,3 +1,4 @@
+// A writer, such as the standard output, as a sink.
 ghost use Rattle.std.specs.Prelude.{◌≡◌};
 
 use des_base::{PutFault, Sink};

@@ -1,3 +1,4 @@
+// The command `replay`: whether a run explains a log.
 ghost use Rattle.std.specs.Prelude.{◌≡◌, ◌<◌, ℕ, List, [], ◌∷◌, All, length, IfOk};
 ghost use Rattle.log_csv.specs.LogText.{log_of};
 ghost use Rattle.log_order.specs.Adding.{names_of};
@@ -12,10 +13,10 @@ ghost use Rattle.diagnose_cli.specs.Commands.{Answers, AnswersAfter, kind_of_rep
 
 use crate::command::Command;
 use crate::ending::{Kind, Reply};
-use crate::files::{fetch_log, fetch_model, fetch_run};
+use crate::files::{fetch_case, fetch_run};
+use crate::question::Case;
 use crate::stop::Stop;
 use des_base::{Memory, Shelf, WordList};
-use des_net::Network;
 use log_order::AlarmLog;
 use replay::{Replayed, Run, replay};
 use report::print_replayed;
@@ -31,54 +32,32 @@ pub fn replay_command<F: Shelf>(
     requires { 3 < length words.now }
     ensures { (book : List BookEntry) → UnlessMemory result (Answers (loads F.held F.faults shelf.old shelf.new) words.now (Command.Replay steps) book (once result)) }
 {
-    let net = fetch_model(alloc, words, shelf, 1)?;
-    replay_over(alloc, words, shelf, &net, steps)
+    let case = fetch_case(alloc, words, shelf)?;
+    replay_over(alloc, words, shelf, &case, steps)
 }
 
-// The same where the network is read.
+// The same where model and log are read.
 fn replay_over<F: Shelf>(
     alloc: Global,
     words: &WordList,
     shelf: &mut F,
-    net: &Network,
+    case: &Case,
     steps: u32,
 ) -> Result<Reply, Stop>
     requires { 3 < length words.now }
-    ensures { (book : List BookEntry) → (text : List ℕ) → net.now ≡ network_of text → UnlessMemory result (AnswersAfter (loads F.held F.faults shelf.old shelf.new) words.now (Command.Replay steps) book (text ∷ []) (once result)) }
+    ensures { (book : List BookEntry) → (text alarms : List ℕ) → case.now.net ≡ network_of text → case.now.log ≡ log_of alarms → UnlessMemory result (AnswersAfter (loads F.held F.faults shelf.old shelf.new) words.now (Command.Replay steps) book (text ∷ alarms ∷ []) (once result)) }
 {
-    let log = fetch_log(alloc, words, shelf, 2)?;
-    replay_against(alloc, words, shelf, net, &log, steps)
-}
-
-// The same where the log is read too.
-fn replay_against<F: Shelf>(
-    alloc: Global,
-    words: &WordList,
-    shelf: &mut F,
-    net: &Network,
-    log: &AlarmLog,
-    steps: u32,
-) -> Result<Reply, Stop>
-    requires { 3 < length words.now }
-    ensures { (book : List BookEntry) → (text alarms : List ℕ) → net.now ≡ network_of text → log.now ≡ log_of alarms → UnlessMemory result (AnswersAfter (loads F.held F.faults shelf.old shelf.new) words.now (Command.Replay steps) book (text ∷ alarms ∷ []) (once result)) }
-{
-    let run = fetch_run(alloc, words, shelf, 3, net)?;
-    Ok(replay_run(alloc, net, log, &run, steps)?)
+    let run = fetch_run(alloc, words, shelf, 3, &case.net)?;
+    Ok(replay_run(alloc, case, &run, steps)?)
 }
 
 // The reply to a run of events of the network.
-fn replay_run(
-    alloc: Global,
-    net: &Network,
-    log: &AlarmLog,
-    run: &Run,
-    steps: u32,
-) -> Result<Reply, Memory>
-    requires { All (λ e. e < length net.now.events) (word_of run.now) }
-    ensures { IfOk result (λ reply. (replayed : Replayed) × IsReplayed net.now log.now run.now steps replayed × (reply ≡ reply_of_replayed (names_of log.now.alarms) replayed)) }
+fn replay_run(alloc: Global, case: &Case, run: &Run, steps: u32) -> Result<Reply, Memory>
+    requires { All (λ e. e < length case.now.net.events) (word_of run.now) }
+    ensures { IfOk result (λ reply. (replayed : Replayed) × IsReplayed case.now.net case.now.log run.now steps replayed × (reply ≡ reply_of_replayed (names_of case.now.log.alarms) replayed)) }
 {
-    let replayed = replay(alloc, net, log, run, steps)?;
-    reply_of_replayed(alloc, log, &replayed)
+    let replayed = replay(alloc, &case.net, &case.log, run, steps)?;
+    reply_of_replayed(alloc, &case.log, &replayed)
 }
 
 // The reply that tells the answer.

@@ -1,3 +1,4 @@
+// The command `show`: a model in its plain form.
 ghost use Rattle.std.specs.Prelude.{◌≡◌, ◌<◌, List, length, IfOk};
 ghost use Rattle.proof_ledger.specs.Book.{BookEntry};
 ghost use Rattle.diagnose_cli.specs.Files.{loads};

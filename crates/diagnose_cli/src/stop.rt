@@ -1,3 +1,4 @@
+// Why a command has no reply, with its status and its text.
 ghost use Rattle.std.specs.Prelude.{◌≡◌, ◌∷◌, ◌++◌, [], IfOk, string_bytes};
 ghost use Rattle.diagnose_cli.specs.declared.stop.Stop.TheVariants.{Memory as NoMemory};
 ghost use Rattle.diagnose_cli.specs.Endings.{status_of_faulty, status_of_stop, text_of_faulty, text_of_stop};

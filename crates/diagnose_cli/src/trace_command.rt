@@ -1,3 +1,4 @@
+// The command `trace`: whether the network of a model can perform a run.
 ghost use Rattle.std.specs.Prelude.{◌≡◌, ◌<◌, ℕ, List, [], ◌∷◌, All, length, IfOk};
 ghost use Rattle.model_text.specs.ModelFaults.{network_of};
 ghost use Rattle.proof_ledger.specs.Book.{BookEntry};

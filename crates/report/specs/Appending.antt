@@ -1,4 +1,4 @@
--- What is appended to a text.
+-- What is appended to a text, as the printers go.
 use Rattle.std.specs.Prelude.{◌≡◌, ℕ, List, ◌++◌}
 
 -- some was appended

@@ -87,3 +87,10 @@ EventsKnown net (Explained best) = All (λ e. e < length net.events) (word_of be
 EventsKnown net Absent = ⊤
 EventsKnown net (Many best) = All (λ e. e < length net.events) (word_of best.run)
 EventsKnown net (Undecided lo best) = IfSome best (λ known. All (λ e. e < length net.events) (word_of known.run))
+
+-- the run that is told, if one is
+abbrev pub told_run : Found → Option Best
+told_run (Explained best) = Some best
+told_run Absent = None
+told_run (Many best) = Some best
+told_run (Undecided lo best) = best

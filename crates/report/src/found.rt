@@ -1,3 +1,4 @@
+// The text of what is found of a log.
 ghost use Rattle.std.specs.Prelude.{◌≡◌, ◌<◌, ◌++◌, All, length, IfSome, OnErr, OnOk};
 ghost use Rattle.replay.specs.Traced.{word_of};
 ghost use Rattle.report.specs.Appending.{Extends};

@@ -2,7 +2,8 @@
 //!
 //! A reply tells what was found, each part of it on a line that ends with a line feed: a word that says which answer it is,
 //! and then numbers and names. `specs/Replies.antt` says the text of each answer. Each printer appends it whole or, where
-//! memory is wanting, appends nothing.
+//! memory is wanting, appends nothing. A printed run reads back as that run, and so does a reply that tells one
+//! (`specs/ReadBack.antt`).
 #![tactic(auto)]
 
 mod checked;
@@ -10,10 +11,12 @@ mod found;
 mod pieces;
 mod replayed;
 mod run;
+mod theorems;
 mod traced;
 
 pub use checked::print_checked;
 pub use found::print_found;
 pub use replayed::print_replayed;
 pub use run::print_run;
+pub use theorems::{replies_fit, replies_read_back, runs_read_back};
 pub use traced::print_traced;

@@ -1,3 +1,4 @@
+// The text of what replaying a run tells.
 ghost use Rattle.std.specs.Prelude.{◌≡◌, ◌<◌, ◌++◌, [], length, slice_index_or, OnErr, OnOk};
 ghost use Rattle.log_order.specs.Adding.{names_of};
 ghost use Rattle.replay.specs.Replayed.{NamesKnown};

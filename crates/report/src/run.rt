@@ -1,3 +1,4 @@
+// The text of a run.
 ghost use Rattle.std.specs.Prelude.{◌≡◌, ◌<◌, ◌++◌, ◌∷◌, [], All, IfSome, length, flat_map, slice_index_or, OnErr, OnOk};
 ghost use Rattle.replay.specs.Traced.{event_of, word_of};
 ghost use Rattle.report.specs.Appending.{Extends};

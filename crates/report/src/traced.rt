@@ -1,3 +1,4 @@
+// The text of what tracing a run tells.
 ghost use Rattle.std.specs.Prelude.{◌≡◌, ◌++◌, OnErr, OnOk};
 ghost use Rattle.report.specs.Appending.{Extends};
 ghost use Rattle.report.specs.Replies.{text_of_traced};

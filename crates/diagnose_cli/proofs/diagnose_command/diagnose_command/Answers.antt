@@ -1,13 +1,22 @@
--- By its first file, and then as it goes on.
-use Rattle.std.proofs.Common.{[], ◌∷◌}
+-- By its two files, and then as it goes on.
+use Rattle.std.proofs.Common.{[]}
 use Rattle.diagnose_cli.specs.declared.command.Command.TheVariants.{Diagnose}
-use Rattle.diagnose_cli.specs.Commands.{model, log, Closes}
-use Rattle.diagnose_cli.proofs.Orders.{goes_on_later}
+use Rattle.diagnose_cli.specs.Commands.{Answers, Closes}
+use Rattle.diagnose_cli.specs.Files.{loads}
+use Rattle.diagnose_cli.specs.Transcripts.{once}
+use Rattle.diagnose_cli.proofs.Orders.{handed_after, stops_in_case, with_case}
 use Rattle.diagnose_cli.proofs.diagnose_command.diagnose_command.Goals as goal
 
+pub returns-in_err-case : goal.returns-in_err-case
+returns-in_err-case g c =
+    let l = loads g.F.Shelf.held g.F.Shelf.faults c.args.shelf.now c.fetch_case.new.shelf in
+    let command = Diagnose c.args.limits.steps c.args.limits.budget in
+    handed_after _ _ (Answers l c.args.words.now command c.args.book.now.entries) c.from_residual.ensures.1 (λ never.
+    stops_in_case l c.args.words.now [] (Closes command c.args.book.now.entries) _ (c.in_err-case.ensures.stop never))
+
 pub returns : goal.returns
-returns g c =
-    let shelf = g.F.Shelf in
-    let m = c.in_ok-net.ensures.net in
-    goes_on_later (shelf.held c.args.shelf.now) (shelf.held c.fetch_model.new.shelf) (shelf.faults c.args.shelf.now) (shelf.faults c.fetch_model.new.shelf) (shelf.faults c.diagnose_over.new.shelf)
-    c.in_ok-net.ensures.kept c.in_ok-net.ensures.never_falls c.args.words.now (Closes (Diagnose c.args.steps c.args.budget) c.diagnose_over.new.book.entries) 1 model (log ∷ []) [] m.0 c.diagnose_over.result m.1 (c.diagnose_over.ensures m.0 m.2)
+returns g c never =
+    let l = loads g.F.Shelf.held g.F.Shelf.faults c.args.shelf.now c.fetch_case.new.shelf in
+    let case = c.in_ok-case.ensures.read in
+    with_case l c.args.words.now [] (Closes (Diagnose c.args.limits.steps c.args.limits.budget) c.diagnose.new.book.entries) c.in_ok-case.case.net c.in_ok-case.case.log (once c.diagnose.result) case
+    (c.diagnose.ensures case.text case.rows case.net_is case.log_is never)

@@ -1,5 +1,5 @@
 -- By the plant that is made.
-use Rattle.diagnose_cli.proofs.GeneratedRows.{log_said}
+use Rattle.diagnose_cli.proofs.GenerateAnswers.{log_said}
 use Rattle.diagnose_cli.proofs.Orders.{memory_free}
 use Rattle.diagnose_cli.proofs.generate_command.generate_log_command.Goals as goal
 

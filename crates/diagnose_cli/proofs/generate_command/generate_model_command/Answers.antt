@@ -1,5 +1,5 @@
 -- By the plant that is made.
-use Rattle.diagnose_cli.proofs.GeneratedRows.{model_said}
+use Rattle.diagnose_cli.proofs.GenerateAnswers.{model_said}
 use Rattle.diagnose_cli.proofs.Orders.{memory_free}
 use Rattle.diagnose_cli.proofs.generate_command.generate_model_command.Goals as goal
 

@@ -3,7 +3,7 @@ use Rattle.std.proofs.Common.{◌≡◌, sym, ◌∙◌, ap, Some}
 use Rattle.diagnose_cli.specs.declared.command.Command.TheVariants.{Trace, Show, Replay, Check, Diagnose, GenerateModel, GenerateLog, Bench}
 use Rattle.diagnose_cli.specs.Commands.{command_of}
 use Rattle.diagnose_cli.specs.Files.{loads}
-use Rattle.diagnose_cli.proofs.GeneratedRows.{asks_nothing, has_files}
+use Rattle.diagnose_cli.proofs.GenerateAnswers.{asks_nothing, has_files}
 use Rattle.diagnose_cli.proofs.Orders.{due_of}
 use Rattle.diagnose_cli.proofs.run.answer.Goals as goal
 

@@ -1,6 +1,6 @@
 -- By its file.
 use Rattle.diagnose_cli.specs.Files.{loads}
-use Rattle.diagnose_cli.proofs.ShowRows.{shown}
+use Rattle.diagnose_cli.proofs.ShowAnswers.{shown}
 use Rattle.diagnose_cli.proofs.show_command.show_command.Goals as goal
 
 pub returns : goal.returns

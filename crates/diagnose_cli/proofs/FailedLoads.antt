@@ -1,0 +1,93 @@
+-- What a failed load says, whichever command the words call.
+use Rattle.std.proofs.Common.{◌≡◌, ◌≢◌, inl, inr, ℕ, ◌+◌, ◌≤◌, List, [], ◌∷◌, ◌++◌, length, Option, Some, None, Ok, Err, IsOkAnd, MatchOption, sym, ap, subst, arith, append-nil, IsSomeAnd}
+use Rattle.des_base.specs.Outside.{Took}
+use Rattle.diagnose_cli.specs.declared.command.Command.{Command}
+use Rattle.diagnose_cli.specs.declared.stop.Stop.TheVariants.{Usage, Load, Faulty, Long, Large, Memory}
+use Rattle.diagnose_cli.specs.declared.stop.FaultyText.{FaultyText}
+use Rattle.diagnose_cli.specs.declared.stop.FaultyText.TheVariants.{Model, Log, Run, Cnf, Lrat}
+use Rattle.diagnose_cli.specs.declared.ending.Kind.{Kind}
+use Rattle.diagnose_cli.specs.declared.ending.Kind.TheVariants.{Done, Rejected, Absent, Undecided, Many}
+use Rattle.std.specs.List.{concat}
+use Rattle.diagnose_cli.specs.Transcripts.{Ending, Transcript, IsWhole, UnlessMemory}
+use Rattle.diagnose_cli.specs.Endings.{HasStatus, status_of_kind, status_of_faulty, texts_of}
+use Rattle.diagnose_cli.specs.Commands.{FileKind, Says, fault_of_text, files_of, file_count, too_large, Closes, InOrder, Answers, Due, command_of}
+use Rattle.diagnose_cli.specs.Outcomes.{Outcome}
+use Rattle.diagnose_cli.specs.Run.{Ends, RoseFor, LoadRow}
+
+abbrev failed : ℕ → Ending
+failed j = Err (Load j)
+
+no_usage : (j : ℕ) → failed j ≡ Err Usage → ⊥
+no_usage j m = cc
+
+-- the file of this number is one of so many, and its count rose
+record RoseAmong (o : Outcome) (count j : ℕ) : Type 0 where
+  first : 1 ≤ j
+  within : j ≤ count
+  rose : RoseFor o j
+
+-- after the text of a file
+past_text : (o : Option FaultyText) (P R : Type 0) (j : ℕ) → (P → R) → MatchOption o P (λ text. failed j ≡ Err (Faulty text)) → R
+past_text None P R j f m = f m
+past_text (Some text) P R j f m = cc
+
+rose_in_order : (o : Outcome) (count i : ℕ) (kinds : List FileKind) (files : List (List ℕ)) (closes : List (List ℕ) → Ending → Type 0) (j : ℕ)
+    → ((texts : List (List ℕ)) → closes texts (failed j) → ⊥) → 1 ≤ i → i + length kinds ≡ count + 1 → InOrder o.loads o.words i kinds files closes (failed j) → RoseAmong o count j
+rose_in_order o count i [] files closes j f low all h = absurd (f files h)
+rose_in_order o count i (kind ∷ kinds) files closes j f low all h =
+    elim h [
+      | inl s ↦ let same : j ≡ i = s.0 in record { first = omega arith; within = omega arith; rose = subst (RoseFor o) (sym same) s.1 }
+      | inr b ↦
+          past_text (fault_of_text kind files b.0) _ _ j (rose_in_order o count (i + 1) kinds (files ++ b.0 ∷ []) closes j f (omega arith) (omega arith)) b.2
+    ]
+
+-- after the files no load fails
+never_closes : (j : ℕ) (o : Option ℕ) (says : Transcript → Type 0) → MatchOption o (IsOkAnd (failed j) says) (λ size. failed j ≡ Err (Large size)) → ⊥
+never_closes j None says h = absurd h
+never_closes j (Some size) says h = cc
+
+rose_at : (o : Outcome) (j : ℕ) (called : Option Command) → MatchOption called (failed j ≡ Err Usage) (λ c. Answers o.loads o.words c o.book (failed j)) → IsSomeAnd called (λ c. (1 ≤ j) × (j ≤ file_count c)) × RoseFor o j
+rose_at o j None m = absurd (no_usage j m)
+rose_at o j (Some c) m =
+    let rose = rose_in_order o (file_count c) 1 (files_of c) [] (Closes c o.book) j (λ texts. never_closes j (too_large c texts) (IsWhole (Says c o.book texts))) (omega arith) (omega arith) m in
+    ((rose.first, rose.within), rose.rose)
+
+no_load_kind : (k : Kind) → 3 ≡ status_of_kind k → ⊥
+no_load_kind Done p = cc
+no_load_kind Rejected p = cc
+no_load_kind Absent p = cc
+no_load_kind Undecided p = cc
+no_load_kind Many p = cc
+
+no_load_text : (text : FaultyText) → 3 ≡ status_of_faulty text → ⊥
+no_load_text (Model fault) p = cc
+no_load_text (Log fault) p = cc
+no_load_text (Run fault) p = cc
+no_load_text (Cnf fault) p = cc
+no_load_text (Lrat fault) p = cc
+
+no_load_done : (o : Option Kind) → IsSomeAnd o (λ kind. 3 ≡ status_of_kind kind) → ⊥
+no_load_done None p = absurd p
+no_load_done (Some k) p = no_load_kind k p
+
+load_row_of : (o : Outcome) (e : Ending) → UnlessMemory e (Due o.loads o.words o.book e) → HasStatus e 3 → Took o.before o.now (concat (texts_of e)) → LoadRow o
+load_row_of o (Ok told) d p t = absurd (no_load_done told.done p)
+load_row_of o (Err Usage) d p t = absurd (omega arith)
+load_row_of o (Err (Load i)) d p t =
+    let rose = rose_at o i (command_of o.words) (d (λ m. cc)) in
+    record { file = i; known = rose.0; rose = rose.1; put = subst (Took o.before o.now) (append-nil _) t }
+load_row_of o (Err (Faulty text)) d p t = absurd (no_load_text text p)
+load_row_of o (Err (Long i)) d p t = absurd (omega arith)
+load_row_of o (Err (Large size)) d p t = absurd (omega arith)
+load_row_of o (Err Memory) d p t = absurd (omega arith)
+
+pub load_row : (o : Outcome) → Ends o → o.status ≡ 3 → LoadRow o
+load_row o e p = load_row_of o e.ending e.due (subst (HasStatus e.ending) p e.shown) e.put
+
+-- a command without files has none that fails
+pub no_load_failed : (o : Outcome) (c : Command) → Ends o → command_of o.words ≡ Some c → files_of c ≡ [] → o.status ≢ 3
+no_load_failed o c ends command none three =
+    let row = load_row o ends three in
+    let known = subst (λ (called : Option Command). IsSomeAnd called (λ d. (1 ≤ row.file) × (row.file ≤ file_count d))) command row.known in
+    let count : file_count c ≡ 0 = ap length none in
+    omega (arith, known.0, known.1, count)

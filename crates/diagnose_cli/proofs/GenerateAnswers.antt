@@ -1,0 +1,27 @@
+-- What `generate` answers, whatever the shelf holds, and what commands don't ask for.
+use Rattle.std.proofs.Common.{◌≡◌, List, [], Option, Some, Ok, IfSome, false, refl, subst, ap, ◌∙◌, ℕ}
+use Rattle.des_net.specs.Network.{Net}
+use Rattle.gen_plant.specs.Plant.{plant_net, plant_log}
+use Rattle.log_order.specs.Log.{Log}
+use Rattle.proof_ledger.specs.Book.{BookEntry}
+use Rattle.diagnose_cli.specs.declared.command.Command.{Command}
+use Rattle.diagnose_cli.specs.declared.command.Command.TheVariants.{GenerateModel, GenerateLog}
+use Rattle.diagnose_cli.specs.declared.ending.Kind.{Kind}
+use Rattle.diagnose_cli.specs.Transcripts.{once}
+use Rattle.diagnose_cli.specs.Files.{Loads}
+use Rattle.diagnose_cli.specs.Commands.{Answers, files_of, command_of, reply_of_model, reply_of_log}
+use Rattle.diagnose_cli.specs.Run.{AsksNone, LoadsNone, is_question}
+
+-- the words of a command that has files
+pub has_files : (words : List (List ℕ)) (c : Command) → command_of words ≡ Some c → LoadsNone words → files_of c ≡ []
+has_files words c command none = subst (λ (o : Option Command). IfSome o (λ d. files_of d ≡ [])) command none
+
+-- the words of one that asks a question
+pub asks_nothing : (words : List (List ℕ)) (c : Command) → command_of words ≡ Some c → AsksNone words → is_question c ≡ false
+asks_nothing words c command none = subst (λ (o : Option Command). IfSome o (λ d. is_question d ≡ false)) command none
+
+pub model_said : (l : Loads) (words : List (List ℕ)) (book : List BookEntry) (units start : ℕ) (net : Net) (reply : Kind × List ℕ) → net ≡ plant_net units → reply ≡ reply_of_model net → Answers l words (GenerateModel units start) book (once (Ok reply))
+model_said l words book units start net reply is says = (reply, says ∙ ap reply_of_model is, refl)
+
+pub log_said : (l : Loads) (words : List (List ℕ)) (book : List BookEntry) (units start : ℕ) (log : Log) (reply : Kind × List ℕ) → log ≡ plant_log units start → reply ≡ reply_of_log log → Answers l words (GenerateLog units start) book (once (Ok reply))
+log_said l words book units start log reply is says = (reply, says ∙ ap reply_of_log is, refl)

@@ -1,0 +1,159 @@
+-- What the status of an answer tells.
+use Rattle.std.proofs.Common.{◌≡◌, ◌≤◌, ℕ, List, [], ◌∷◌, ◌++◌, map, Option, Some, refl, sym, ap, ◌∙◌, subst, arith}
+use Rattle.std.specs.Prelude.{count_by}
+use Rattle.des_base.specs.CommandWords.{word_at}
+use Rattle.des_base.specs.Outside.{Took}
+use Rattle.des_net.specs.Network.{Net}
+use Rattle.least_faults.specs.declared.answer.Found.{Found}
+use Rattle.least_faults.specs.declared.answer.Found.TheVariants.{Explained, Absent, Many, Undecided}
+use Rattle.least_faults.proofs.Putting.{counted_more, none_learnt}
+use Rattle.log_csv.specs.LogText.{log_of}
+use Rattle.log_order.specs.Log.{Log}
+use Rattle.model_text.specs.ModelFaults.{network_of}
+use Rattle.proof_ledger.specs.Book.{BookEntry, axiomatic, mark}
+use Rattle.proof_ledger.specs.Checking.{check_proof, IsUnsatisfiable}
+use Rattle.proof_ledger.specs.declared.checker.Checked.{Checked}
+use Rattle.proof_ledger.specs.declared.checker.Checked.TheVariants.{Verified, Rejected}
+use Rattle.proof_ledger.specs.declared.checker.ProofStep.{ProofStep}
+use Rattle.proof_ledger.proofs.Checks.{verified_refutes}
+use Rattle.proof_ledger.specs.Fresh.{is_learnt}
+use Rattle.proof_text.specs.CnfText.{formula_of}
+use Rattle.proof_text.specs.LratText.{proof_of}
+use Rattle.prop_core.specs.Clauses.{Clause}
+use Rattle.replay.specs.Explanation.{IsAbsent}
+use Rattle.report.specs.Replies.{text_of_found}
+use Rattle.diagnose_cli.specs.declared.command.Command.TheVariants.{Check, Diagnose}
+use Rattle.diagnose_cli.specs.declared.ending.Kind.{Kind}
+use Rattle.diagnose_cli.specs.Endings.{status_of_kind}
+use Rattle.diagnose_cli.specs.Diagnosed.{IsDiagnosed}
+use Rattle.diagnose_cli.specs.Commands.{kind_of_found, reply_of_checked, AnswersQuestion, SaysChecked, SaysDiagnosed, Says}
+use Rattle.diagnose_cli.specs.Outcomes.{Outcome, Tells}
+use Rattle.diagnose_cli.specs.Rows.{AreTold, Asks, TellsLeast, TellsMany, TellsUndecided}
+use Rattle.diagnose_cli.specs.Run.{Ends}
+use Rattle.diagnose_cli.proofs.Answered.{AreHeld, IsStopStatus, SaidOver, said_over, same_text}
+
+-- ---- a proof that is verified
+
+-- a reply of status 0 is that of a proof that is verified
+yes : (axioms : List Clause) (steps : List ProofStep) (checked : Checked) → check_proof axioms steps ≡ checked → 0 ≡ status_of_kind (reply_of_checked checked).0 → IsUnsatisfiable axioms
+yes axioms steps Verified is status = verified_refutes axioms steps is
+yes axioms steps (Rejected line kind) is status = absurd (omega arith)
+
+of_checked : (o : Outcome) (formula : List ℕ) (texts : List (List ℕ)) → o.loads.held (word_at o.words 1) ≡ Some formula → o.status ≡ 0 → AreHeld o.loads.held o.words 1 texts → Tells o (Says Check o.book texts)
+    → IsUnsatisfiable (formula_of formula).clauses
+of_checked o formula [] there zero held tells = absurd tells.says
+of_checked o formula (text ∷ []) there zero held tells = absurd tells.says
+of_checked o formula (text ∷ proof ∷ []) there zero held tells =
+    let checked = check_proof (formula_of text).clauses (proof_of proof) in
+    let status : 0 ≡ status_of_kind (reply_of_checked checked).0 = subst (λ (r : Kind × List ℕ). 0 ≡ status_of_kind r.0) tells.says (sym zero ∙ tells.shown) in
+    subst (λ (f : List ℕ). IsUnsatisfiable (formula_of f).clauses) (sym (same_text (o.loads.held (word_at o.words 1)) formula text there held.0)) (yes (formula_of text).clauses (proof_of proof) checked refl status)
+of_checked o formula (text ∷ proof ∷ other ∷ texts) there zero held tells = absurd tells.says
+
+pub refuted : (o : Outcome) → Ends o → (formula : List ℕ) → Asks o Check (formula ∷ []) → o.status ≡ 0 → IsUnsatisfiable (formula_of formula).clauses
+refuted o ends formula asks zero =
+    let over = said_over o Check ends asks.command (λ stop. omega (arith, zero, stop.low)) in
+    of_checked o formula over.texts asks.told.0 zero over.held over.tells
+
+-- ---- what is found of a log
+
+record TellsFound (o : Outcome) (net : Net) (alarms : Log) (n budget : ℕ) : Type 0 where
+  found : Found
+  holds : AnswersQuestion net alarms n budget o.book found
+  shown : o.status ≡ status_of_kind (kind_of_found found)
+  put : Took o.before o.now (text_of_found net n found)
+
+of_reply : (o : Outcome) (steps budget : ℕ) (text alarms : List ℕ) → Tells o (SaysDiagnosed steps budget text alarms o.book) → TellsFound o (network_of text) (log_of alarms) steps budget
+of_reply o steps budget text alarms tells = record {
+  found = tells.says.found;
+  holds = tells.says.holds;
+  shown = subst (λ (r : Kind × List ℕ). o.status ≡ status_of_kind r.0) tells.says.is tells.shown;
+  put = subst (λ (r : Kind × List ℕ). Took o.before o.now r.1) tells.says.is tells.put;
+}
+
+-- over the two texts that are told
+over_texts : (o : Outcome) (steps budget : ℕ) (text alarms : List ℕ) (texts : List (List ℕ)) → AreTold o.loads.held o.words 1 (text ∷ alarms ∷ []) → AreHeld o.loads.held o.words 1 texts
+    → Tells o (Says (Diagnose steps budget) o.book texts) → Tells o (SaysDiagnosed steps budget text alarms o.book)
+over_texts o steps budget text alarms [] there held tells = absurd tells.says
+over_texts o steps budget text alarms (model ∷ []) there held tells = absurd tells.says
+over_texts o steps budget text alarms (model ∷ rows ∷ []) there held tells =
+    let of_model = subst (λ (m : List ℕ). Tells o (SaysDiagnosed steps budget m rows o.book)) (sym (same_text (o.loads.held (word_at o.words 1)) text model there.0 held.0)) tells in
+    subst (λ (a : List ℕ). Tells o (SaysDiagnosed steps budget text a o.book)) (sym (same_text (o.loads.held (word_at o.words 2)) alarms rows there.1.0 held.1.0)) of_model
+over_texts o steps budget text alarms (model ∷ rows ∷ other ∷ texts) there held tells = absurd tells.says
+
+found_told : (o : Outcome) (steps budget : ℕ) (text alarms : List ℕ) → Ends o → Asks o (Diagnose steps budget) (text ∷ alarms ∷ []) → (IsStopStatus o.status → ⊥) → TellsFound o (network_of text) (log_of alarms) steps budget
+found_told o steps budget text alarms ends asks answers =
+    let over = said_over o (Diagnose steps budget) ends asks.command answers in
+    of_reply o steps budget text alarms (over_texts o steps budget text alarms over.texts asks.told over.held over.tells)
+
+-- ---- by the status
+
+least_of : (o : Outcome) (net : Net) (alarms : Log) (steps budget : ℕ) (found : Found) → 0 ≡ status_of_kind (kind_of_found found) → IsDiagnosed net alarms steps budget o.book found
+    → Took o.before o.now (text_of_found net steps found) → TellsLeast o net alarms steps
+least_of o net alarms steps budget (Explained best) is holds put = record { best = best; given = holds.answered.found.given; least = holds.answered.found.least; put = put }
+least_of o net alarms steps budget Absent is holds put = absurd (omega arith)
+least_of o net alarms steps budget (Many best) is holds put = absurd (omega arith)
+least_of o net alarms steps budget (Undecided lo best) is holds put = absurd (omega arith)
+
+absent_of : (o : Outcome) (net : Net) (alarms : Log) (steps budget : ℕ) (found : Found) → 10 ≡ status_of_kind (kind_of_found found) → IsDiagnosed net alarms steps budget o.book found → IsAbsent net alarms steps
+absent_of o net alarms steps budget (Explained best) is holds = absurd (omega arith)
+absent_of o net alarms steps budget Absent is holds = holds.answered.found.absent
+absent_of o net alarms steps budget (Many best) is holds = absurd (omega arith)
+absent_of o net alarms steps budget (Undecided lo best) is holds = absurd (omega arith)
+
+many_of : (o : Outcome) (net : Net) (alarms : Log) (steps budget : ℕ) (found : Found) → 12 ≡ status_of_kind (kind_of_found found) → IsDiagnosed net alarms steps budget o.book found
+    → Took o.before o.now (text_of_found net steps found) → TellsMany o net alarms steps
+many_of o net alarms steps budget (Explained best) is holds put = absurd (omega arith)
+many_of o net alarms steps budget Absent is holds put = absurd (omega arith)
+many_of o net alarms steps budget (Many best) is holds put = record { best = best; given = holds.answered.found.given; many = holds.answered.found.many; put = put }
+many_of o net alarms steps budget (Undecided lo best) is holds put = absurd (omega arith)
+
+-- what was learnt stands between the marks
+learnt_between : (axioms : List Clause) (since : List BookEntry) → count_by is_learnt (map axiomatic axioms ++ mark 0 ∷ since ++ mark 1 ∷ []) ≡ count_by is_learnt since
+learnt_between axioms since =
+    let opened : count_by is_learnt (mark 0 ∷ since) ≡ count_by is_learnt since = refl in
+    let closing : count_by is_learnt (mark 1 ∷ []) ≡ 0 = refl in
+    omega (
+      arith,
+      counted_more is_learnt (map axiomatic axioms ++ mark 0 ∷ since) (mark 1 ∷ []),
+      counted_more is_learnt (map axiomatic axioms) (mark 0 ∷ since),
+      none_learnt axioms,
+      opened,
+      closing,
+    )
+
+undecided_of : (o : Outcome) (net : Net) (alarms : Log) (steps budget : ℕ) (found : Found) → 11 ≡ status_of_kind (kind_of_found found) → IsDiagnosed net alarms steps budget o.book found
+    → Took o.before o.now (text_of_found net steps found) → TellsUndecided o net alarms steps budget
+undecided_of o net alarms steps budget (Explained best) is holds put = absurd (omega arith)
+undecided_of o net alarms steps budget Absent is holds put = absurd (omega arith)
+undecided_of o net alarms steps budget (Many best) is holds put = absurd (omega arith)
+undecided_of o net alarms steps budget (Undecided lo best) is holds put =
+    let answered = holds.answered in
+    record {
+      lo = lo;
+      best = best;
+      spent = ap (count_by is_learnt) answered.whole ∙ learnt_between holds.built answered.since ∙ answered.found.spent;
+      above = answered.found.above;
+      known = answered.found.given;
+      put = put;
+    }
+
+module _ (o : Outcome) (ends : Ends o) where
+  pub explained : (steps budget : ℕ) (text alarms : List ℕ) → Asks o (Diagnose steps budget) (text ∷ alarms ∷ []) → o.status ≡ 0 → TellsLeast o (network_of text) (log_of alarms) steps
+  explained steps budget text alarms asks is =
+      let tells = found_told o steps budget text alarms ends asks (λ stop. omega (arith, is, stop.low)) in
+      least_of o (network_of text) (log_of alarms) steps budget tells.found (sym is ∙ tells.shown) tells.holds.diagnosed tells.put
+
+  pub absent : (steps budget : ℕ) (text alarms : List ℕ) → Asks o (Diagnose steps budget) (text ∷ alarms ∷ []) → o.status ≡ 10 → IsAbsent (network_of text) (log_of alarms) steps
+  absent steps budget text alarms asks is =
+      let tells = found_told o steps budget text alarms ends asks (λ stop. omega (arith, is, stop.high)) in
+      absent_of o (network_of text) (log_of alarms) steps budget tells.found (sym is ∙ tells.shown) tells.holds.diagnosed
+
+  pub undecided : (steps budget : ℕ) (text alarms : List ℕ) → Asks o (Diagnose steps budget) (text ∷ alarms ∷ []) → o.status ≡ 11 → TellsUndecided o (network_of text) (log_of alarms) steps budget
+  undecided steps budget text alarms asks is =
+      let tells = found_told o steps budget text alarms ends asks (λ stop. omega (arith, is, stop.high)) in
+      undecided_of o (network_of text) (log_of alarms) steps budget tells.found (sym is ∙ tells.shown) tells.holds.diagnosed tells.put
+
+  pub many : (steps budget : ℕ) (text alarms : List ℕ) → Asks o (Diagnose steps budget) (text ∷ alarms ∷ []) → o.status ≡ 12 → TellsMany o (network_of text) (log_of alarms) steps
+  many steps budget text alarms asks is =
+      let tells = found_told o steps budget text alarms ends asks (λ stop. omega (arith, is, stop.high)) in
+      many_of o (network_of text) (log_of alarms) steps budget tells.found (sym is ∙ tells.shown) tells.holds.diagnosed tells.put

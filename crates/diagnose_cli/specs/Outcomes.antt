@@ -1,0 +1,36 @@
+-- What is seen of a run of the program from outside.
+use Rattle.std.specs.Prelude.{◌≡◌, ◌≢◌, ℕ, List, Option}
+use Rattle.des_base.specs.Outside.{Took}
+use Rattle.proof_ledger.specs.Book.{BookEntry}
+use Rattle.diagnose_cli.specs.declared.ending.Kind.{Kind}
+use Rattle.diagnose_cli.specs.Endings.{status_of_kind}
+use Rattle.diagnose_cli.specs.Files.{Loads}
+
+-- the words, what the shelf holds and its counts of faults, what the sink had taken before and has taken now, the book that is left, and the status
+pub record Outcome : Type 0 where
+  pub loads : Loads
+  pub words : List (List ℕ)
+  pub before : Option (List ℕ)
+  pub now : Option (List ℕ)
+  pub book : List BookEntry
+  pub status : ℕ
+
+abbrev pub outcome : Loads → List (List ℕ) → Option (List ℕ) → Option (List ℕ) → List BookEntry → ℕ → Outcome
+outcome loads words before now book status = record { loads = loads; words = words; before = before; now = now; book = book; status = status }
+
+-- neither is memory wanting nor can the output not be written
+pub record IsPut (status : ℕ) : Type 0 where
+  pub written : status ≢ 4
+  pub memory : status ≢ 9
+
+-- nor is there a file that can't be loaded
+pub record IsUnbroken (status : ℕ) : Type 0 where
+  pub loaded : status ≢ 3
+  pub put : IsPut status
+
+-- status and text are those of a reply of which P holds
+pub record Tells (o : Outcome) (P : (Kind × List ℕ) → Type 0) : Type 0 where
+  pub reply : Kind × List ℕ
+  pub says : P reply
+  pub shown : o.status ≡ status_of_kind reply.0
+  pub put : Took o.before o.now reply.1

@@ -1,0 +1,115 @@
+-- What each command answers, by its words and the bytes that the shelf holds under the names of its files.
+use Rattle.std.specs.Prelude.{◌≡◌, ℕ, ◌+◌, ◌<◌, ◌≤◌, ⊤, List, [], ◌∷◌, ◌++◌, length, Option, Some, None, IfSome, count_by}
+use Rattle.des_base.specs.CommandWords.{word_at}
+use Rattle.des_base.specs.Outside.{Took}
+use Rattle.des_net.specs.Network.{Net}
+use Rattle.least_faults.specs.Answers.{IsExplanation}
+use Rattle.least_faults.specs.declared.answer.Best.{Best}
+use Rattle.least_faults.specs.declared.answer.Found.TheVariants.{Explained, Many, Undecided}
+use Rattle.log_csv.specs.LogText.{log_of}
+use Rattle.log_order.specs.Log.{Log}
+use Rattle.model_text.specs.ModelFaults.{network_of}
+use Rattle.proof_ledger.specs.Checking.{IsUnsatisfiable}
+use Rattle.proof_ledger.specs.Fresh.{is_learnt}
+use Rattle.proof_text.specs.CnfText.{formula_of}
+use Rattle.replay.specs.Explanation.{NeedsFaults, IsLeast, IsAbsent, IsMany}
+use Rattle.report.specs.Replies.{text_of_found}
+use Rattle.diagnose_cli.specs.declared.command.Command.{Command}
+use Rattle.diagnose_cli.specs.declared.command.Command.TheVariants.{Trace, Show, Replay, Check, Diagnose, GenerateModel, GenerateLog, Bench}
+use Rattle.diagnose_cli.specs.Commands.{FileKind, limit_of, fault_of_text, files_of, too_large, command_of, Says}
+use Rattle.diagnose_cli.specs.Outcomes.{Outcome, IsPut, IsUnbroken, Tells}
+
+-- ---- the files of a command
+
+-- the shelf tells these bytes of a file; they aren't too long, and their text has no fault
+pub record IsRead (held : List ℕ → Option (List ℕ)) (name : List ℕ) (kind : FileKind) (files : List (List ℕ)) (text : List ℕ) : Type 0 where
+  pub told : held name ≡ Some text
+  pub fits : length text ≤ limit_of kind
+  pub well : fault_of_text kind files text ≡ None
+
+-- so it is with all of these, from number i on
+abbrev pub AreRead : (List ℕ → Option (List ℕ)) → List (List ℕ) → ℕ → List FileKind → List (List ℕ) → List (List ℕ) → Type 0
+AreRead held words i [] files [] = ⊤
+AreRead held words i (kind ∷ kinds) files (text ∷ texts) = IsRead held (word_at words i) kind files text × AreRead held words (i + 1) kinds (files ++ text ∷ []) texts
+AreRead held words i [] files (text ∷ texts) = ⊥
+AreRead held words i (kind ∷ kinds) files [] = ⊥
+
+-- the words call the command, all its files can be read, and its question isn't too large
+pub record Reads (o : Outcome) (c : Command) (texts : List (List ℕ)) : Type 0 where
+  pub command : command_of o.words ≡ Some c
+  pub files : AreRead o.loads.held o.words 1 (files_of c) [] texts
+  pub small : too_large c texts ≡ None
+
+-- the shelf tells these bytes, from number i on
+abbrev pub AreTold : (List ℕ → Option (List ℕ)) → List (List ℕ) → ℕ → List (List ℕ) → Type 0
+AreTold held words i [] = ⊤
+AreTold held words i (text ∷ texts) = (held (word_at words i) ≡ Some text) × AreTold held words (i + 1) texts
+
+-- the words call the command, and the shelf tells these bytes of its files, from the first on, whatever they are
+pub record Asks (o : Outcome) (c : Command) (texts : List (List ℕ)) : Type 0 where
+  pub command : command_of o.words ≡ Some c
+  pub told : AreTold o.loads.held o.words 1 texts
+
+-- ---- one row for all commands
+
+-- where its files can be read, status and text are those of a reply that the command may give
+abbrev pub Row : Outcome → Command → List (List ℕ) → Type 0
+Row o c texts = Reads o c texts → IsUnbroken o.status → Tells o (Says c o.book texts)
+
+-- so it is with a command that has no files, of which none can fail
+abbrev pub RowAlone : Outcome → Command → Type 0
+RowAlone o c = Reads o c [] → IsPut o.status → Tells o (Says c o.book [])
+
+abbrev pub TraceRow : Outcome → Type 0
+TraceRow o = (text steps : List ℕ) → Row o Trace (text ∷ steps ∷ [])
+
+abbrev pub ShowRow : Outcome → Type 0
+ShowRow o = (text : List ℕ) → Row o Show (text ∷ [])
+
+abbrev pub ReplayRow : Outcome → Type 0
+ReplayRow o = (steps : ℕ) (text alarms events : List ℕ) → Row o (Replay steps) (text ∷ alarms ∷ events ∷ [])
+
+-- and where the status is 0, no assignment makes all clauses of the formula true
+pub record CheckRows (o : Outcome) : Type 0 where
+  pub checked : (formula proof : List ℕ) → Row o Check (formula ∷ proof ∷ [])
+  pub refuted : (formula : List ℕ) → Asks o Check (formula ∷ []) → o.status ≡ 0 → IsUnsatisfiable (formula_of formula).clauses
+
+pub record GenerateRows (o : Outcome) : Type 0 where
+  pub model : (units start : ℕ) → RowAlone o (GenerateModel units start)
+  pub log : (units start : ℕ) → RowAlone o (GenerateLog units start)
+
+abbrev pub BenchRow : Outcome → Type 0
+BenchRow o = (units start steps budget : ℕ) → RowAlone o (Bench units start steps budget)
+
+-- ---- what each status of `diagnose` tells
+
+-- the run that is told explains the log, and nothing that explains it has fewer faults
+pub record TellsLeast (o : Outcome) (net : Net) (alarms : Log) (n : ℕ) : Type 0 where
+  pub best : Best
+  pub given : IsExplanation net alarms n best
+  pub least : IsLeast net alarms n best.faults
+  pub put : Took o.before o.now (text_of_found net n (Explained best))
+
+-- the run that is told explains the log, and all that explains it has more than 255 faults
+pub record TellsMany (o : Outcome) (net : Net) (alarms : Log) (n : ℕ) : Type 0 where
+  pub best : Best
+  pub given : IsExplanation net alarms n best
+  pub many : IsMany net alarms n
+  pub put : Took o.before o.now (text_of_found net n (Many best))
+
+-- As many clauses were learnt as the budget allows. All that explains the log has at least lo faults, and a run that is told explains it with more.
+pub record TellsUndecided (o : Outcome) (net : Net) (alarms : Log) (n budget : ℕ) : Type 0 where
+  pub lo : ℕ
+  pub best : Option Best
+  pub spent : count_by is_learnt o.book ≡ budget
+  pub above : NeedsFaults net alarms n lo
+  pub known : IfSome best (λ run. IsExplanation net alarms n run × (lo < run.faults))
+  pub put : Took o.before o.now (text_of_found net n (Undecided lo best))
+
+-- by the status, over whatever two texts the shelf tells
+pub record DiagnoseRows (o : Outcome) : Type 0 where
+  pub diagnosed : (steps budget : ℕ) (text alarms : List ℕ) → Row o (Diagnose steps budget) (text ∷ alarms ∷ [])
+  pub explained : (steps budget : ℕ) (text alarms : List ℕ) → Asks o (Diagnose steps budget) (text ∷ alarms ∷ []) → o.status ≡ 0 → TellsLeast o (network_of text) (log_of alarms) steps
+  pub absent : (steps budget : ℕ) (text alarms : List ℕ) → Asks o (Diagnose steps budget) (text ∷ alarms ∷ []) → o.status ≡ 10 → IsAbsent (network_of text) (log_of alarms) steps
+  pub undecided : (steps budget : ℕ) (text alarms : List ℕ) → Asks o (Diagnose steps budget) (text ∷ alarms ∷ []) → o.status ≡ 11 → TellsUndecided o (network_of text) (log_of alarms) steps budget
+  pub many : (steps budget : ℕ) (text alarms : List ℕ) → Asks o (Diagnose steps budget) (text ∷ alarms ∷ []) → o.status ≡ 12 → TellsMany o (network_of text) (log_of alarms) steps

@@ -1,0 +1,119 @@
+// A question of the least number of faults, and the search that answers it.
+ghost use Rattle.std.specs.Prelude.{◌≡◌, ◌≤◌, [], IfOk};
+ghost use Rattle.des_net.specs.Building.{IsDraft};
+ghost use Rattle.des_net.specs.Network.{IsNetwork};
+ghost use Rattle.indep.specs.StoredTest.{IsTest};
+ghost use Rattle.least_faults.specs.Growing.{AddsAxioms};
+ghost use Rattle.least_faults.specs.Parts.{AreReady};
+ghost use Rattle.log_order.specs.Adding.{IsLog};
+ghost use Rattle.proof_ledger.specs.Book.{IsValidBook};
+ghost use Rattle.run_decode.specs.Decoding.{BelongTogether};
+ghost use Rattle.sat_order.specs.Rank.{IsRanked};
+ghost use Rattle.diagnose_cli.specs.Commands.{AnswersQuestion};
+ghost use Rattle.diagnose_cli.specs.Diagnosed.{IsSmall};
+
+use des_base::{EventId, Memory};
+use des_net::Network;
+use indep::{Indep, Table};
+use least_faults::{Found, Parts, build, least};
+use log_order::AlarmLog;
+use proof_ledger::Ledger;
+use sat_order::Order;
+use sat_solve::Solver;
+use std::alloc::Global;
+use step_encode::step_variables;
+
+/// What is asked for: a run of so many parallel steps at most, found by a search that may learn as many clauses as the budget says.
+#[derive(Clone, Copy)]
+pub struct Limits {
+    pub steps: u32,
+    pub budget: u64,
+}
+
+/// A network, and a log of what was seen of it: the least number of faults is asked for with which a run of the one explains the other.
+#[derive(Drop)]
+pub struct Case {
+    pub net: Network,
+    pub log: AlarmLog,
+}
+
+/// Asks the question, with a table of the events that touch a common component.
+pub fn find(alloc: Global, case: &Case, limits: Limits, book: &mut Ledger) -> Result<Found, Memory>
+    requires small { IsSmall case.now.net case.now.log limits.steps }
+    requires empty { book.old.entries ≡ [] }
+    ensures { IfOk result (AnswersQuestion case.now.net case.now.log limits.steps limits.budget book.new.entries) }
+{
+    let table = Table::new(alloc, &case.net)?;
+    let test = Indep::new(&case.net, |a: u32, b: u32| {
+        table.get(EventId(a), EventId(b))
+    });
+    ask(alloc, case, limits, &test, book)
+}
+
+// The same with a test that is given. What comes behind the variables of the steps is decided first: those of the log and of
+// the counter.
+fn ask<T: Fn(u32, u32) -> bool>(
+    alloc: Global,
+    case: &Case,
+    limits: Limits,
+    test: &Indep<T>,
+    book: &mut Ledger,
+) -> Result<Found, Memory>
+    requires right { IsTest T.pre T.post test.now.test test.now.net }
+    requires net { test.now.net ≡ case.now.net }
+    requires small { IsSmall case.now.net case.now.log limits.steps }
+    requires empty { book.old.entries ≡ [] }
+    ensures { IfOk result (AnswersQuestion case.now.net case.now.log limits.steps limits.budget book.new.entries) }
+{
+    let first = step_variables(alloc, &case.net, limits.steps, test)?;
+    let order = Order::new(alloc, |var: u32| u64::from(var >= first));
+    let solver = Solver::new(alloc, order);
+    match build(
+        alloc,
+        &case.net,
+        &case.log,
+        limits.steps,
+        test,
+        solver,
+        book,
+    )
+    .ok()
+    {
+        Some(parts) => search(alloc, case, limits, parts, book),
+        None => Err(Memory),
+    }
+}
+
+// The same where the question is built into the book.
+fn search<R: Fn(u32) -> u64>(
+    alloc: Global,
+    case: &Case,
+    limits: Limits,
+    parts: Parts<R>,
+    book: &mut Ledger,
+) -> Result<Found, Memory>
+    requires ranked { IsRanked R.pre R.post parts.solver.order }
+    requires belong { BelongTogether case.now.net case.now.log parts.step parts.code.code }
+    requires ready { AreReady parts.step parts.code.code parts.counter parts.vars parts.solver.adopted parts.solver.vars book.old.entries }
+    requires built { AddsAxioms [] book.old.entries }
+    requires steps { parts.step.steps ≡ limits.steps }
+    requires few { parts.step.steps ≤ 1000 }
+    ensures { IfOk result (AnswersQuestion case.now.net case.now.log limits.steps limits.budget book.new.entries) }
+{
+    let mut parts = parts;
+    let found = least(alloc, &case.net, &case.log, &mut parts, book, limits.budget);
+    are_whole(case, book);
+    found
+}
+
+// Does nothing: network and log are whole and the book is valid, as their readers tell.
+fn are_whole(case: &Case, book: &Ledger)
+    ensures network { IsNetwork case.now.net }
+    ensures draft { IsDraft case.now.net }
+    ensures log { IsLog case.now.log }
+    ensures book { IsValidBook book.now.entries }
+{
+    let _components = case.net.components();
+    let _alarms = case.log.alarms();
+    let _entries = book.entries();
+}

@@ -1,0 +1,99 @@
+-- How long replies are.
+use Rattle.std.proofs.Common.{◌≡◌, ◌≤◌, ◌+◌, ◌*◌, ◌/◌, ◌%◌, ℕ, zero, suc, Bool, true, false, List, [], ◌∷◌, ◌++◌, length, Option, Some, None, IfSome, cond, arith, length-append}
+use Rattle.std.proofs.lemmas.List.Elements.{All-head, All-tail}
+use Rattle.std.specs.Prelude.{◌==◌, codes, flat_map, slice_index_or}
+use Rattle.std.specs.Fmt.{decimal, digits, digits_onto, digit_glyph}
+use Rattle.std.specs.List.{AllByRecursion}
+use Rattle.des_base.specs.Names.{IsName, is_name_text}
+use Rattle.des_net.specs.Network.{Net}
+use Rattle.replay.specs.Matching.{name_on}
+use Rattle.replay.specs.declared.run.RunStep.{RunStep}
+use Rattle.replay.specs.declared.run.RunStep.TheVariants.{Happens, Dropped}
+use Rattle.least_faults.specs.declared.answer.Found.TheVariants.{Explained, Absent, Many, Undecided}
+use Rattle.report.specs.Replies.{numbered, placed, text_of_alarm, text_of_step, text_of_run}
+use Rattle.report.specs.ReadBack.{HasNames, RepliesAreShort, RepliesFit}
+use Rattle.report.proofs.NameWords.{name_text}
+
+-- ---- numbers and names
+
+either_short : (b : Bool) (xs ys : List ℕ) (most : ℕ) → length xs ≤ most → length ys ≤ most → length (cond b xs ys) ≤ most
+either_short true xs ys most h k = h
+either_short false xs ys most h k = k
+
+digits_onto-length : (k n : ℕ) (behind : List ℕ) → length (digits_onto k 10 false n behind) ≤ k + length behind
+digits_onto-length zero n behind = omega arith
+digits_onto-length (suc k) n behind =
+    let more = digit_glyph false (n % 10) ∷ behind in
+    either_short (n / 10 == 0) more (digits_onto k 10 false (n / 10) more) (suc k + length behind) (omega arith)
+    (let rest : length (digits_onto k 10 false (n / 10) more) ≤ k + suc (length behind) = digits_onto-length k (n / 10) more in omega arith)
+
+-- no number has more digits
+decimal-length : (n : ℕ) → length (decimal n) ≤ 64
+unfolding digits
+decimal-length n = let most : length (digits_onto 64 10 false n []) ≤ 64 + 0 = digits_onto-length 64 n [] in omega arith
+
+name-length : (name : List ℕ) → is_name_text name ≡ true → length name ≤ 64
+name-length name h = (name_text name h).few
+
+name_at-length : (names : List (List ℕ)) (k : ℕ) → AllByRecursion IsName names → length (slice_index_or names k []) ≤ 64
+name_at-length [] k h = omega arith
+name_at-length (name ∷ names) zero h = name-length name h.0
+name_at-length (name ∷ names) (suc k) h = name_at-length names k h.1
+
+-- ---- lines
+
+numbered-length : (words : List ℕ) (n : ℕ) → length (numbered words n) ≤ length words + 65
+numbered-length words n = omega (arith, length-append (words ++ decimal n) (10 ∷ []), length-append words (decimal n), decimal-length n)
+
+placed-length : (words : List ℕ) (first second : ℕ) → length (placed words first second) ≤ length words + 130
+placed-length words first second =
+    omega (arith, length-append (words ++ decimal first ++ 32 ∷ decimal second) (10 ∷ []), length-append (words ++ decimal first) (32 ∷ decimal second), length-append words (decimal first), decimal-length first, decimal-length second)
+
+alarm-length : (alarm : Option (List ℕ)) → IfSome alarm IsName → length (text_of_alarm alarm) ≤ 65
+alarm-length None h = omega arith
+alarm-length (Some name) h = omega (arith, name-length name h)
+
+step-length : (net : Net) (step : RunStep) → AllByRecursion IsName net.event_names → IfSome (name_on step) IsName → length (text_of_step net step) ≤ 130
+step-length net (Happens event alarm) names h =
+    let name = slice_index_or net.event_names event [] in
+    omega (arith, length-append (name ++ text_of_alarm alarm) (10 ∷ []), length-append name (text_of_alarm alarm), name_at-length net.event_names event names, alarm-length alarm h)
+step-length net (Dropped alarm) names h = omega (arith, length-append (codes "! " ++ alarm) (10 ∷ []), length-append (codes "! ") alarm, name-length alarm h)
+
+steps-length : (net : Net) (steps : List RunStep) → AllByRecursion IsName net.event_names → HasNames steps → length (flat_map (text_of_step net) steps) ≤ 130 * length steps
+steps-length net [] names h = omega arith
+steps-length net (step ∷ steps) names h =
+    omega (
+      arith,
+      length-append (text_of_step net step) (flat_map (text_of_step net) steps),
+      step-length net step names (All-head (λ (s : RunStep). IfSome (name_on s) IsName) step steps h),
+      steps-length net steps names (All-tail (λ (s : RunStep). IfSome (name_on s) IsName) step steps h),
+    )
+
+run-length : (net : Net) (steps : List RunStep) → AllByRecursion IsName net.event_names → HasNames steps → length (text_of_run net steps) ≤ 130 * length steps + 69
+run-length net steps names h =
+    omega (arith, length-append (numbered (codes "run ") (length steps)) (flat_map (text_of_step net) steps), numbered-length (codes "run ") (length steps), steps-length net steps names h)
+
+-- ---- replies
+
+behind_line : (net : Net) (line : List ℕ) (steps : List RunStep) → length line ≤ 140 → AllByRecursion IsName net.event_names → HasNames steps → length (line ++ text_of_run net steps) ≤ 130 * length steps + 209
+behind_line net line steps short names h = omega (arith, length-append line (text_of_run net steps), run-length net steps names h)
+
+unknown-length : (lo : ℕ) → length (codes "UNDECIDED " ++ decimal lo ++ codes " -\n") ≤ 209
+unknown-length lo = omega (arith, length-append (codes "UNDECIDED " ++ decimal lo) (codes " -\n"), length-append (codes "UNDECIDED ") (decimal lo), decimal-length lo)
+
+pub replies_are_short : RepliesAreShort
+replies_are_short net n (Explained best) whole h = behind_line net (numbered (codes "EXPLAINED ") best.faults) best.run (omega (arith, numbered-length (codes "EXPLAINED ") best.faults)) whole.event_names.each h
+replies_are_short net n Absent whole h = omega (arith, numbered-length (codes "NONE ") n)
+replies_are_short net n (Many best) whole h = behind_line net (codes "MANY 255\n") best.run (omega arith) whole.event_names.each h
+replies_are_short net n (Undecided lo None) whole h = omega (arith, unknown-length lo)
+replies_are_short net n (Undecided lo (Some best)) whole h = behind_line net (placed (codes "UNDECIDED ") lo best.faults) best.run (omega (arith, placed-length (codes "UNDECIDED ") lo best.faults)) whole.event_names.each h
+
+short_enough : (bytes steps : ℕ) → bytes ≤ 130 * steps + 209 → steps ≤ 4000000 → bytes ≤ 536870912
+short_enough bytes steps short few = omega arith
+
+pub replies_fit : RepliesFit
+replies_fit net n (Explained best) whole = λ h. short_enough _ (length best.run) (replies_are_short net n (Explained best) whole h.named) h.few
+replies_fit net n Absent whole = tt
+replies_fit net n (Many best) whole = λ h. short_enough _ (length best.run) (replies_are_short net n (Many best) whole h.named) h.few
+replies_fit net n (Undecided lo None) whole = tt
+replies_fit net n (Undecided lo (Some best)) whole = λ h. short_enough _ (length best.run) (replies_are_short net n (Undecided lo (Some best)) whole h.named) h.few

@@ -1,0 +1,47 @@
+-- A printed run reads back as that run, also behind the first line of a reply.
+use Rattle.std.specs.Prelude.{◌≡◌, ℕ, ◌+◌, ◌*◌, ◌<◌, ◌≤◌, List, [], length, All, None, IfSome}
+use Rattle.std.specs.Option.{option_map_or}
+use Rattle.des_base.specs.Names.{IsName}
+use Rattle.des_net.specs.Building.{IsDraft}
+use Rattle.des_net.specs.Network.{Net}
+use Rattle.replay.specs.Matching.{name_on}
+use Rattle.replay.specs.RunText.{first_fault, run_of}
+use Rattle.replay.specs.Traced.{word_of}
+use Rattle.replay.specs.declared.run.RunStep.{RunStep}
+use Rattle.least_faults.specs.declared.answer.Found.{Found}
+use Rattle.report.specs.Replies.{text_of_run, text_of_found, told_run}
+
+-- the alarms of a run have names
+abbrev pub HasNames : List RunStep → Type 0
+HasNames steps = All (λ step. IfSome (name_on step) IsName) steps
+
+-- a run of the network's events, whose alarms have names, and with no more steps than a run text may have
+pub record IsPrintable (net : Net) (steps : List RunStep) : Type 0 where
+  pub known : All (λ e. e < length net.events) (word_of steps)
+  pub named : HasNames steps
+  pub few : length steps ≤ 4000000
+
+-- The text is a run text without a fault, and this is its run.
+pub record IsRunText (net : Net) (steps : List RunStep) (text : List ℕ) : Type 0 where
+  pub well : first_fault net text ≡ None
+  pub value : run_of net text ≡ steps
+
+abbrev pub PrintedRunsReadBack : Type 0
+PrintedRunsReadBack = (net : Net) (steps : List RunStep) → IsDraft net → IsPrintable net steps → IsRunText net steps (text_of_run net steps)
+
+-- A reply that tells a run is a run text as it stands.
+abbrev pub RepliesReadBack : Type 0
+RepliesReadBack =
+    (net : Net) (n : ℕ) (found : Found) → IsDraft net → IfSome (told_run found) (λ best. IsPrintable net best.run → IsRunText net best.run (text_of_found net n found))
+
+-- the steps that an answer tells, or none
+abbrev pub told_steps : Found → List RunStep
+told_steps found = option_map_or (λ best. best.run) (told_run found) []
+
+-- A reply has at most 130 bytes for each step of its run, and 209 before them.
+abbrev pub RepliesAreShort : Type 0
+RepliesAreShort = (net : Net) (n : ℕ) (found : Found) → IsDraft net → HasNames (told_steps found) → length (text_of_found net n found) ≤ 130 * length (told_steps found) + 209
+
+-- A reply that tells a run is no longer than a run text may be.
+abbrev pub RepliesFit : Type 0
+RepliesFit = (net : Net) (n : ℕ) (found : Found) → IsDraft net → IfSome (told_run found) (λ best. IsPrintable net best.run → length (text_of_found net n found) ≤ 536870912)

@@ -1,0 +1,18 @@
+// What printed runs and replies read back as.
+ghost use Rattle.report.specs.ReadBack.{PrintedRunsReadBack, RepliesReadBack, RepliesFit};
+
+/// A printed run reads back as that run, where its events are the network's, its alarms have names, and it has no more steps
+/// than a run text may have.
+pub fn runs_read_back()
+    ensures { PrintedRunsReadBack }
+{}
+
+/// So does a reply that tells a run, as it stands.
+pub fn replies_read_back()
+    ensures { RepliesReadBack }
+{}
+
+/// Such a reply is no longer than a run text may be.
+pub fn replies_fit()
+    ensures { RepliesFit }
+{}
