@@ -16,10 +16,9 @@ use Rattle.log_clauses.specs.LogClauses.{guard_literals}
 use Rattle.log_encode.specs.CodedLog.{CodedLog, read_names}
 use Rattle.log_order.specs.Log.{Log}
 use Rattle.prop_core.proofs.Literals.{same_is, not_self, negation_twice}
-use Rattle.prop_core.specs.Clauses.{Clause, HasValues, is_true, is_false, negation, same_literal}
+use Rattle.prop_core.specs.Clauses.{Clause, HasValues, is_true, is_false, negation, same_literal, NegatesOnly}
 use Rattle.prop_core.specs.VariableNames.{ReadsAs}
 use Rattle.prop_core.specs.declared.lit.Lit.{Lit}
-use Rattle.run_decode.specs.Decided.{NegatesOnly}
 use Rattle.run_decode.specs.WholeNaming.{whole_names}
 use Rattle.sat_solve.specs.Solving.{AreCompatible}
 use Rattle.step_encode.specs.Coded.{CodedSteps}

@@ -25,11 +25,10 @@ use Rattle.log_encode.specs.CodedLog.{CodedLog, without_names}
 use Rattle.log_order.specs.Log.{Log, IsValidLog}
 use Rattle.proof_ledger.specs.Book.{BookEntry, final, axiom_of, axioms_of, is_mark, IsValidBook}
 use Rattle.proof_ledger.specs.Fresh.{is_learnt}
-use Rattle.prop_core.specs.Clauses.{Clause}
+use Rattle.prop_core.specs.Clauses.{Clause, NegatesOnly}
 use Rattle.prop_core.specs.VariableNames.{Name}
 use Rattle.prop_core.specs.declared.lit.Lit.{Lit}
 use Rattle.replay.specs.Explanation.{IsExplained, NeedsFaults}
-use Rattle.run_decode.specs.Decided.{NegatesOnly}
 use Rattle.run_decode.specs.Drawn.{IsInstance}
 use Rattle.run_decode.specs.WholeNaming.{whole_names}
 use Rattle.std.proofs.lemmas.List.Elements.{Contains-append_cases as append_cases, Contains-append_right as append_right}

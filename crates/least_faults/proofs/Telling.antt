@@ -12,13 +12,13 @@ use Rattle.log_clauses.proofs.Lists.{all_at}
 use Rattle.log_clauses.specs.LogClauses.{guard_literals, chain, observable_events}
 use Rattle.log_encode.specs.CodedLog.{CodedLog, without_names}
 use Rattle.log_order.specs.Log.{Log, IsValidLog}
-use Rattle.prop_core.specs.Clauses.{Clause, negation}
+use Rattle.prop_core.specs.Clauses.{Clause, negation, NegatesOnly}
 use Rattle.prop_core.specs.VariableNames.{Name, reaches, closed, NamedLiteral, yes, no, named_literal, named_clause, ReadsAs}
 use Rattle.prop_core.specs.declared.lit.Lit.{Lit}
 use Rattle.replay.specs.Explanation.{IsExplained}
 use Rattle.run_decode.proofs.Decided.{refuted_is_decided}
 use Rattle.run_decode.proofs.WholeNames.{together_one_naming}
-use Rattle.run_decode.specs.Decided.{NegatesOnly, Entails}
+use Rattle.run_decode.specs.Decided.{Entails}
 use Rattle.run_decode.specs.Drawn.{at_most, bound_literals, assumption_literals, fault_inputs}
 use Rattle.run_decode.specs.WholeNaming.{whole_names}
 use Rattle.std.proofs.lemmas.List.Elements.{Contains-append_cases as append_cases}

@@ -11,11 +11,10 @@ use Rattle.log_encode.specs.CodedLog.{CodedLog}
 use Rattle.log_order.specs.Log.{Log}
 use Rattle.proof_ledger.specs.Book.{BookEntry, final, axioms_of, is_mark}
 use Rattle.proof_ledger.specs.Fresh.{is_learnt}
-use Rattle.prop_core.specs.Clauses.{Clause}
+use Rattle.prop_core.specs.Clauses.{Clause, NegatesOnly}
 use Rattle.prop_core.specs.VariableNames.{Name}
 use Rattle.prop_core.specs.declared.lit.Lit.{Lit}
 use Rattle.replay.specs.Explanation.{NeedsFaults}
-use Rattle.run_decode.specs.Decided.{NegatesOnly}
 
 -- each final entry refutes a bound below this one
 abbrev pub FinalsAreBelow : CodedLog → CounterState → ℕ → List BookEntry → Type 0

@@ -14,10 +14,10 @@ use Rattle.log_encode.specs.CodedLog.{CodedLog, read_names, without_names}
 use Rattle.log_order.specs.Log.{Log, IsValidLog}
 use Rattle.proof_ledger.specs.Book.{BookEntry, final, axioms_of, is_mark}
 use Rattle.proof_ledger.specs.Fresh.{is_learnt}
-use Rattle.prop_core.specs.Clauses.{Clause}
+use Rattle.prop_core.specs.Clauses.{Clause, NegatesOnly}
 use Rattle.prop_core.specs.VariableNames.{ReadsAs}
 use Rattle.prop_core.specs.declared.lit.Lit.{Lit}
-use Rattle.run_decode.specs.Decided.{Decides, NegatesOnly}
+use Rattle.run_decode.specs.Decided.{Decides}
 use Rattle.run_decode.specs.Faithful.{IsWithin}
 use Rattle.run_decode.specs.WholeNaming.{whole_names}
 use Rattle.step_encode.specs.Coded.{CodedSteps}

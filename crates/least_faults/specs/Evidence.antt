@@ -4,10 +4,9 @@ use Rattle.std.specs.List.{AllByRecursion, list_any}
 use Rattle.des_net.specs.Network.{Net}
 use Rattle.log_order.specs.Log.{Log}
 use Rattle.proof_ledger.specs.Book.{BookEntry, axiomatic, learnt, final, mark, axioms_of}
-use Rattle.prop_core.specs.Clauses.{Clause}
+use Rattle.prop_core.specs.Clauses.{Clause, NegatesOnly}
 use Rattle.prop_core.specs.VariableNames.{Name, HasEachOnce, ReadsAs}
 use Rattle.prop_core.specs.declared.lit.Lit.{Lit}
-use Rattle.run_decode.specs.Decided.{NegatesOnly}
 use Rattle.run_decode.specs.Drawn.{IsInstance, assumption_literals}
 use Rattle.run_decode.specs.Faithful.{IsFaithful}
 

@@ -12,3 +12,6 @@ pub mod NumeralLemmas
 pub mod CnfPrinted
 pub mod LratPrinted
 pub mod PieceLemmas
+pub mod Rechecking
+pub mod Fronts
+pub mod Readable

@@ -6,3 +6,4 @@ pub mod ProofNumbers
 pub mod ClauseReading
 pub mod LineReading
 pub mod PrintedText
+pub mod Refutation

@@ -17,10 +17,12 @@ mod lrat_text;
 mod number;
 mod print;
 mod proof;
+mod refuting;
 
 pub use cnf::Cnf;
 pub use cnf_text::read_cnf;
 pub use fault::{TextFault, TextRefusal};
 pub use lrat_text::read_lrat;
 pub use print::{print_cnf, print_lrat};
-pub use proof::Proof;
+pub use proof::{Proof, Refutation};
+pub use refuting::{refutation, refutations_check};

@@ -1,5 +1,5 @@
 -- Literals, clauses and assignments, as in propositional logic.
-use Rattle.std.specs.Prelude.{ℕ, Bool, not, ◌&&◌, ◌==◌, List, IsTrue, ◌<◌, All, slice_index_or, false}
+use Rattle.std.specs.Prelude.{ℕ, Bool, not, ◌&&◌, ◌==◌, List, IsTrue, ◌<◌, All, slice_index_or, false, Contains}
 use Rattle.std.specs.Bool.{beq}
 use Rattle.std.specs.List.{list_any, AllByRecursion}
 use Rattle.prop_core.specs.declared.lit.Lit.{Lit}
@@ -47,3 +47,7 @@ is_false taken l = is_true taken (negation l)
 -- and open where neither is.
 abbrev pub is_open : List Lit → Lit → Bool
 is_open taken l = not (is_true taken l) && not (is_false taken l)
+
+-- the clause has no literals but negations of these
+abbrev pub NegatesOnly : List Lit → Clause → Type 0
+NegatesOnly literals clause = AllByRecursion (λ l. Contains literals (negation l)) clause

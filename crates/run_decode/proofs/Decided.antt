@@ -6,11 +6,11 @@ use Rattle.des_net.specs.Network.{Net}
 use Rattle.log_clauses.proofs.Lists.{all_at}
 use Rattle.log_order.specs.Log.{Log}
 use Rattle.prop_core.proofs.Premises.{opposite}
-use Rattle.prop_core.specs.Clauses.{Clause, literal_true, clause_true, negation, AllLiteralsTrue}
+use Rattle.prop_core.specs.Clauses.{Clause, literal_true, clause_true, negation, AllLiteralsTrue, NegatesOnly}
 use Rattle.prop_core.specs.declared.lit.Lit.{Lit}
 use Rattle.replay.specs.Explanation.{NeedsFaults, faults_of}
 use Rattle.run_decode.proofs.Questions.{question_is_faithful}
-use Rattle.run_decode.specs.Decided.{IsRefuted, Entails, NegatesOnly, FaithfulDecides, RefutedIsDecided, NoneIsLeast, QuestionIsDecided}
+use Rattle.run_decode.specs.Decided.{IsRefuted, Entails, FaithfulDecides, RefutedIsDecided, NoneIsLeast, QuestionIsDecided}
 use Rattle.run_decode.specs.Faithful.{IsFaithful}
 
 above : (net : Net) (log : Log) (n b : ℕ) (clauses : List Clause) (assumed : List Lit) → IsFaithful clauses assumed net log n (Some b) → IsRefuted clauses assumed → NeedsFaults net log n (suc b)

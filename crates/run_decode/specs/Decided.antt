@@ -1,9 +1,8 @@
 -- What the refutation of a question decides.
-use Rattle.std.specs.Prelude.{◌≡◌, ℕ, suc, Bool, List, Contains, Option, None, Some, IsTrue}
-use Rattle.std.specs.List.{AllByRecursion}
+use Rattle.std.specs.Prelude.{◌≡◌, ℕ, suc, Bool, List, Option, None, Some, IsTrue}
 use Rattle.des_net.specs.Network.{Net, IsNetwork}
 use Rattle.log_order.specs.Log.{Log, IsValidLog}
-use Rattle.prop_core.specs.Clauses.{Clause, clause_true, negation, AllClausesTrue}
+use Rattle.prop_core.specs.Clauses.{Clause, clause_true, AllClausesTrue, NegatesOnly}
 use Rattle.prop_core.specs.VariableNames.{Name}
 use Rattle.prop_core.specs.declared.lit.Lit.{Lit}
 use Rattle.replay.specs.Explanation.{IsExplained, NeedsFaults, IsLeast, IsAbsent, IsMany}
@@ -17,10 +16,6 @@ IsRefuted clauses assumed = (assignment : ℕ → Bool) → MakesTrue assignment
 -- each assignment that makes the clauses true makes this one true
 abbrev pub Entails : List Clause → Clause → Type 0
 Entails clauses clause = (assignment : ℕ → Bool) → AllClausesTrue assignment clauses → IsTrue (clause_true assignment clause)
-
--- the clause has no literals but negations of assumptions
-abbrev pub NegatesOnly : List Lit → Clause → Type 0
-NegatesOnly assumed clause = AllByRecursion (λ l. Contains assumed (negation l)) clause
 
 -- With a bound all that explains has more faults: where something has just one more, that is the least number, and where the bound is 255 and something explains, there are many.
 pub record IsAbove (net : Net) (log : Log) (n b : ℕ) : Type 0 where
