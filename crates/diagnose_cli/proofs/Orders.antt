@@ -1,5 +1,5 @@
 -- A command that goes on from file to file.
-use Rattle.std.proofs.Common.{◌≡◌, ◌≢◌, ◌≤◌, inl, inr, ℕ, ◌+◌, List, [], ◌∷◌, ◌++◌, Option, Some, None, Result, Ok, Err, IsErrAnd, MatchOption, sym, subst}
+use Rattle.std.proofs.Common.{◌≡◌, ◌≢◌, ◌≤◌, inl, inr, ℕ, ◌+◌, List, [], ◌∷◌, ◌++◌, Option, Some, None, Result, Ok, Err, IsErrAnd, IfErr, MatchOption, sym, subst, ◌∙◌}
 use Rattle.des_base.specs.CommandWords.{word_at}
 use Rattle.des_net.specs.Network.{Net}
 use Rattle.log_csv.specs.LogText.{log_of}
@@ -126,6 +126,11 @@ handed_after (Err e) stop P is h m = subst (λ (s : Stop). P (Err s)) (sym is) (
   where
     same : stop ≡ Memory → ◌≡◌ {A = Result (Kind × List ℕ) Stop} (Err e) (Err Memory)
     same p = cc
+
+-- the same where a file was to be read
+pub stop_handed : {A : Type 0} (r : Result A Stop) (stop : Stop) (P : Stop → Type 0) → IsErrAnd r (λ e. e ≡ stop) → (stop ≢ Memory → P stop) → IfErr r (λ s. s ≢ Memory → P s)
+stop_handed (Ok x) stop P is h = tt
+stop_handed (Err e) stop P is h = λ never. subst P (sym is) (h (λ p. never (is ∙ p)))
 
 -- want of memory is answered for nothing
 pub memory_free : (r : Result (Kind × List ℕ) Stop) (P : Type 0) → IsErrAnd r (λ e. e ≡ Memory) → UnlessMemory r P

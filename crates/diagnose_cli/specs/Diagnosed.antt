@@ -1,19 +1,12 @@
 -- What is found of a log, with the book that shows it.
-use Rattle.std.specs.Prelude.{ℕ, ◌≤◌, List, map}
+use Rattle.std.specs.Prelude.{ℕ, List, map}
 use Rattle.des_net.specs.Network.{Net}
 use Rattle.least_faults.specs.Answers.{IsAnswered}
-use Rattle.least_faults.specs.Parts.{most_size}
 use Rattle.least_faults.specs.declared.answer.Found.{Found}
 use Rattle.log_order.specs.Log.{Log}
 use Rattle.proof_ledger.specs.Book.{BookEntry, axiomatic, IsValidBook}
 use Rattle.prop_core.specs.Clauses.{Clause}
 use Rattle.prop_core.specs.VariableNames.{Name}
-use Rattle.replay.specs.QuestionSize.{question_size}
-
--- a question that may be asked: it isn't too large, and within no more steps than that
-pub record IsSmall (net : Net) (log : Log) (n : ℕ) : Type 0 where
-  pub steps : n ≤ 1000
-  pub size : question_size net log n ≤ most_size
 
 -- The book is valid. It has the clauses of the question first, and then what shows the answer.
 pub record IsDiagnosed (net : Net) (log : Log) (n budget : ℕ) (book : List BookEntry) (found : Found) : Type 0 where

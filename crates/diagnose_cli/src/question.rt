@@ -4,13 +4,11 @@ ghost use Rattle.des_net.specs.Building.{IsDraft};
 ghost use Rattle.des_net.specs.Network.{IsNetwork};
 ghost use Rattle.indep.specs.StoredTest.{IsTest};
 ghost use Rattle.least_faults.specs.Growing.{AddsAxioms};
-ghost use Rattle.least_faults.specs.Parts.{AreReady};
+ghost use Rattle.least_faults.specs.Building.{IsUnused};
+ghost use Rattle.least_faults.specs.Parts.{AreReady, BelongTo, IsWithinLimits};
 ghost use Rattle.log_order.specs.Adding.{IsLog};
 ghost use Rattle.proof_ledger.specs.Book.{IsValidBook};
-ghost use Rattle.run_decode.specs.Decoding.{BelongTogether};
-ghost use Rattle.sat_order.specs.Rank.{IsRanked};
 ghost use Rattle.diagnose_cli.specs.Commands.{AnswersQuestion};
-ghost use Rattle.diagnose_cli.specs.Diagnosed.{IsSmall};
 
 use des_base::{EventId, Memory};
 use des_net::Network;
@@ -39,7 +37,7 @@ pub struct Case {
 
 /// Asks the question, with a table of the events that touch a common component.
 pub fn find(alloc: Global, case: &Case, limits: Limits, book: &mut Ledger) -> Result<Found, Memory>
-    requires small { IsSmall case.now.net case.now.log limits.steps }
+    requires limits { IsWithinLimits case.now.net case.now.log limits.steps }
     requires empty { book.old.entries ≡ [] }
     ensures { IfOk result (AnswersQuestion case.now.net case.now.log limits.steps limits.budget book.new.entries) }
 {
@@ -47,12 +45,12 @@ pub fn find(alloc: Global, case: &Case, limits: Limits, book: &mut Ledger) -> Re
     let test = Indep::new(&case.net, |a: u32, b: u32| {
         table.get(EventId(a), EventId(b))
     });
-    ask(alloc, case, limits, &test, book)
+    find_by_test(alloc, case, limits, &test, book)
 }
 
 // The same with a test that is given. What comes behind the variables of the steps is decided first: those of the log and of
 // the counter.
-fn ask<T: Fn(u32, u32) -> bool>(
+fn find_by_test<T: Fn(u32, u32) -> bool>(
     alloc: Global,
     case: &Case,
     limits: Limits,
@@ -61,13 +59,32 @@ fn ask<T: Fn(u32, u32) -> bool>(
 ) -> Result<Found, Memory>
     requires right { IsTest T.pre T.post test.now.test test.now.net }
     requires net { test.now.net ≡ case.now.net }
-    requires small { IsSmall case.now.net case.now.log limits.steps }
+    requires limits { IsWithinLimits case.now.net case.now.log limits.steps }
     requires empty { book.old.entries ≡ [] }
     ensures { IfOk result (AnswersQuestion case.now.net case.now.log limits.steps limits.budget book.new.entries) }
 {
     let first = step_variables(alloc, &case.net, limits.steps, test)?;
     let order = Order::new(alloc, |var: u32| u64::from(var >= first));
     let solver = Solver::new(alloc, order);
+    ask(alloc, case, limits, test, solver, book)
+}
+
+// The same with a solver that is given too.
+fn ask<T: Fn(u32, u32) -> bool, R: Fn(u32) -> u64>(
+    alloc: Global,
+    case: &Case,
+    limits: Limits,
+    test: &Indep<T>,
+    solver: Solver<R>,
+    book: &mut Ledger,
+) -> Result<Found, Memory>
+    requires right { IsTest T.pre T.post test.now.test test.now.net }
+    requires net { test.now.net ≡ case.now.net }
+    requires unused { IsUnused R.pre R.post solver }
+    requires limits { IsWithinLimits case.now.net case.now.log limits.steps }
+    requires empty { book.old.entries ≡ [] }
+    ensures { IfOk result (AnswersQuestion case.now.net case.now.log limits.steps limits.budget book.new.entries) }
+{
     match build(
         alloc,
         &case.net,
@@ -92,9 +109,8 @@ fn search<R: Fn(u32) -> u64>(
     parts: Parts<R>,
     book: &mut Ledger,
 ) -> Result<Found, Memory>
-    requires ranked { IsRanked R.pre R.post parts.solver.order }
-    requires belong { BelongTogether case.now.net case.now.log parts.step parts.code.code }
-    requires ready { AreReady parts.step parts.code.code parts.counter parts.vars parts.solver.adopted parts.solver.vars book.old.entries }
+    requires belong { BelongTo case.now.net case.now.log parts }
+    requires ready { AreReady R.pre R.post parts book.old.entries }
     requires built { AddsAxioms [] book.old.entries }
     requires steps { parts.step.steps ≡ limits.steps }
     requires few { parts.step.steps ≤ 1000 }

@@ -12,7 +12,7 @@ use Rattle.least_faults.proofs.AxiomLists.{axioms_added, clauses_added}
 use Rattle.least_faults.proofs.Below.{axioms_below}
 use Rattle.least_faults.proofs.FewClauses.{AreFew, few_in_column}
 use Rattle.least_faults.specs.Growing.{KeepsColumns, AddsAxioms}
-use Rattle.least_faults.specs.Parts.{most_columns, AreParts}
+use Rattle.least_faults.specs.Parts.{most_columns, AreParts, AreReady}
 use Rattle.log_encode.specs.CodedLog.{CodedLog}
 use Rattle.proof_ledger.specs.Book.{BookEntry, axiomatic, clauses_of, axioms_of}
 use Rattle.prop_core.specs.Clauses.{Clause, HasValues}
@@ -22,6 +22,9 @@ use Rattle.run_decode.proofs.WholeNames.{together_grow}
 use Rattle.sat_prop.specs.Changes.{IsFront}
 use Rattle.std.proofs.lemmas.List.{map-append as map_append}
 use Rattle.step_encode.specs.Coded.{CodedSteps}
+use Rattle.least_faults.specs.declared.parts.Parts.{Parts}
+use Rattle.sat_order.specs.Rank.{IsRank}
+use Rattle.sat_solve.specs.Solving.{SolverState}
 
 -- ---- columns that are added to a counter
 
@@ -114,3 +117,14 @@ few_written counter first none written empty is =
 -- a solver that was asked for them has the variables of the column
 pub more_values : (before values made vars count inputs : ℕ) → values ≡ max before (made + count) → made ≡ vars → count ≡ inputs → vars + inputs ≤ values
 more_values before values made vars count inputs grown same long = omega (arith, grown, same, long)
+
+-- the parts stay ready where their solver gets variables and room
+pub reserved_ready : {R : Type 0} (may : R → ℕ → Type 0) (gives : R → ℕ → ℕ → Type 0) (parts : Parts R) (solver : SolverState R) (book entries : List BookEntry) → AreReady may gives parts book →
+    solver.adopted ≡ parts.solver.adopted → parts.solver.vars ≤ solver.vars → solver.order.rank ≡ parts.solver.order.rank → entries ≡ book → AreReady may gives (record parts { solver = solver }) entries
+reserved_ready may gives parts solver book entries ready same more same_rank same_book =
+    subst (AreReady may gives (record parts { solver = solver })) (sym same_book) (record {
+      coded = ready.coded;
+      adopted_all = same ∙ ready.adopted_all;
+      enough = (let enough = ready.enough in omega (arith, enough, more));
+      ranked = subst (IsRank may gives) (sym same_rank) ready.ranked;
+    })

@@ -12,7 +12,7 @@ use Rattle.prop_core.specs.VariableNames.{Name}
 use Rattle.replay.specs.QuestionSize.{question_size}
 use Rattle.run_decode.specs.Decoding.{BelongTogether}
 use Rattle.run_decode.specs.WholeNaming.{AreCodedTogether, AreClausesOf, whole_names}
-use Rattle.sat_order.specs.Rank.{IsRanked}
+use Rattle.sat_order.specs.Rank.{IsRank}
 use Rattle.step_encode.specs.Coded.{CodedSteps}
 
 -- the size of the largest question that is built
@@ -41,7 +41,7 @@ pub record AreReady {R : Type 0} (may : R → ℕ → Type 0) (gives : R → ℕ
   pub coded : AreParts parts.step parts.code.code parts.counter parts.vars (axioms_of book)
   pub adopted_all : parts.solver.adopted ≡ clauses_of book
   pub enough : parts.vars ≤ parts.solver.vars
-  pub ranked : IsRanked may gives parts.solver.order
+  pub ranked : IsRank may gives parts.solver.order.rank
 
 -- steps and log are coded for this network and this log
 abbrev pub BelongTo : {R : Type 0} → Net → Log → Parts R → Type 0

@@ -16,7 +16,6 @@ mod laws;
 mod runs;
 
 pub use laws::{
-pub use runs::decode;
     alarm_names_dont_matter, beside_one_naming, bound_is_read, clauses_begin, clauses_grow,
     coded_alarms_stand, coded_runs_explain, columns_are_counted, decoded_explains,
     faithful_decides, fault_literals_stay, faults_are_inputs, instances_stay, none_is_least,
@@ -25,3 +24,4 @@ pub use runs::decode;
     together_are_few, together_ask, together_begins, together_grow, together_one_naming,
     truths_are_read,
 };
+pub use runs::decode;

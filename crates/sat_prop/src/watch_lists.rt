@@ -246,9 +246,7 @@ fn link(nodes: &mut Vec<Node>, starts: &mut Vec<Starts>, number: u32, lit: Lit)
     ensures starts { starts.new.items ≡ with_start starts.old.items lit (Some number) }
     ensures room { vec_capacity nodes.new ≡ vec_capacity nodes.old }
 {
-    let mut watch = nodes[number as usize].watch;
-    watch.lit = lit;
-    let next = start(starts.as_slice(), lit);
-    nodes[number as usize] = Node { watch, next };
+    nodes[number as usize].watch.lit = lit;
+    nodes[number as usize].next = start(starts.as_slice(), lit);
     set_start(starts, lit, Some(number));
 }

@@ -10,8 +10,8 @@ returns-then-size-gt-SIZE_LIMIT c start of_net of_log _ =
     large_plant c.args.units start c.args.limits.steps c.args.limits.budget c.args.book.now.entries c.args.case.now.net of_net c.args.case.now.log of_log c.question_size-size.result c.question_size-size.ensures.size
     (omega (arith, c.if-size-gt-SIZE_LIMIT.true))
 
-pub reply_to-requires-clause-small : goal.reply_to-requires-clause-small
-reply_to-requires-clause-small c = record {
+pub reply_to-requires-clause-limits : goal.reply_to-requires-clause-limits
+reply_to-requires-clause-limits c = record {
   steps = c.requires.steps;
   size = subst (λ k. k ≤ most_size) c.question_size-size.ensures.size (omega (arith, c.if-size-gt-SIZE_LIMIT.false));
 }

@@ -18,8 +18,8 @@ returns c text alarms of_net of_log _ =
     diagnosed c.args.limits.steps c.args.limits.budget c.reply_to.new.book.entries text alarms c.args.case.now.net of_net c.args.case.now.log of_log c.in_ok-reply_to.field-0
     (subst (λ k. k ≤ most_size) c.question_size-size.ensures.size (omega (arith, c.if-size-gt-SIZE_LIMIT.false))) c.in_ok-reply_to.ensures
 
-pub reply_to-requires-clause-small : goal.reply_to-requires-clause-small
-reply_to-requires-clause-small c = record {
+pub reply_to-requires-clause-limits : goal.reply_to-requires-clause-limits
+reply_to-requires-clause-limits c = record {
   steps = c.requires.steps;
   size = subst (λ k. k ≤ most_size) c.question_size-size.ensures.size (omega (arith, c.if-size-gt-SIZE_LIMIT.false));
 }

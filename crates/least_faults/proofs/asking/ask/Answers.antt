@@ -48,10 +48,10 @@ returns-in-Unsat-clause-asked g c =
     asked_refuted parts.step parts.code.code parts.counter parts.vars c.args.question.net.now c.args.question.log.now c.assumptions.new.book.entries c.assumptions.ensures.ready.coded
     belong.of_steps c.are_whole.ensures.network c.are_whole.ensures.log.valid
     belong.same_log c.args.within c.in_ok-assumed.assumed.items c.in_ok-assumed.ensures.assumed
-    c.args.book.now.entries c.solve.new.book.entries c.args.budget.now c.solve.new.left c.assumptions.ensures.axioms c.solve.ensures.searched c.in-Unsat.field-0
+    c.args.book.now.entries c.solve.new.book.entries c.args.budget.now c.solve.new.budget c.assumptions.ensures.axioms c.solve.ensures.searched c.in-Unsat.field-0
     (subst (HasPut c.assumptions.new.book.entries c.solve.new.book.entries) c.in-Unsat.is c.in_ok-answer.ensures.put)
-    (subst (λ xs. IsAnswer c.solve.new.self.assignment c.solve.new.book.entries xs c.solve.new.left (Answer.Unsat c.in-Unsat.field-0)) c.as_slice.ensures.value
-    (subst (IsAnswer c.solve.new.self.assignment c.solve.new.book.entries c.as_slice.result.now c.solve.new.left) c.in-Unsat.is c.in_ok-answer.ensures.answer))
+    (subst (λ xs. IsAnswer c.solve.new.self.assignment c.solve.new.book.entries xs c.solve.new.budget (Answer.Unsat c.in-Unsat.field-0)) c.as_slice.ensures.value
+    (subst (IsAnswer c.solve.new.self.assignment c.solve.new.book.entries c.as_slice.result.now c.solve.new.budget) c.in-Unsat.is c.in_ok-answer.ensures.answer))
     c.is_valid.ensures
 
 spent : (values : List Bool) (book : List BookEntry) (xs : List Lit) (left : ℕ) → IsSpent book xs left → left ≡ 0
@@ -64,10 +64,10 @@ returns-in-Spent-clause-asked g c =
     asked_spent parts.step parts.code.code parts.counter parts.vars c.args.question.net.now c.args.question.log.now c.assumptions.new.book.entries c.assumptions.ensures.ready.coded
     belong.of_steps c.are_whole.ensures.network c.are_whole.ensures.log.valid
     belong.same_log c.args.within c.in_ok-assumed.assumed.items c.in_ok-assumed.ensures.assumed
-    c.args.book.now.entries c.solve.new.book.entries c.args.budget.now c.solve.new.left c.assumptions.ensures.axioms c.solve.ensures.searched
+    c.args.book.now.entries c.solve.new.book.entries c.args.budget.now c.solve.new.budget c.assumptions.ensures.axioms c.solve.ensures.searched
     (none_added c.args.within c.args.book.now.entries c.assumptions.new.book.entries c.assumptions.ensures.axioms c.assumptions.ensures.none)
     (subst (HasPut c.assumptions.new.book.entries c.solve.new.book.entries) c.in-Spent.is c.in_ok-answer.ensures.put)
-    (spent c.solve.new.self.assignment c.solve.new.book.entries c.as_slice.result.now c.solve.new.left (subst (IsAnswer c.solve.new.self.assignment c.solve.new.book.entries c.as_slice.result.now c.solve.new.left) c.in-Spent.is c.in_ok-answer.ensures.answer))
+    (spent c.solve.new.self.assignment c.solve.new.book.entries c.as_slice.result.now c.solve.new.budget (subst (IsAnswer c.solve.new.self.assignment c.solve.new.book.entries c.as_slice.result.now c.solve.new.budget) c.in-Spent.is c.in_ok-answer.ensures.answer))
 
 -- all clauses of the book are true, and what is assumed
 model : (values : List Bool) (book : List BookEntry) (xs assumed : List Lit) (left : ℕ) (answer : Answer) → answer ≡ Answer.Sat → xs ≡ assumed → IsAnswer values book xs left answer → IsModel values book assumed
@@ -77,53 +77,53 @@ pub found_run-requires-clause-true_there : goal.found_run-requires-clause-true_t
 found_run-requires-clause-true_there g c =
     let parts = c.assumptions.new.parts in
     let values = c.solve.new.self.assignment in
-    let holds = model values c.solve.new.book.entries c.as_slice.result.now c.in_ok-assumed.assumed.items c.solve.new.left c.in_ok-answer.answer c.in-Sat.is c.as_slice.ensures.value c.in_ok-answer.ensures.answer in
+    let holds = model values c.solve.new.book.entries c.as_slice.result.now c.in_ok-assumed.assumed.items c.solve.new.budget c.in_ok-answer.answer c.in-Sat.is c.as_slice.ensures.value c.in_ok-answer.ensures.answer in
     true_run parts.step parts.code.code parts.counter parts.vars (axioms_of c.assumptions.new.book.entries) c.args.within c.in_ok-assumed.assumed.items (value_in values) c.assumptions.ensures.ready.coded c.in_ok-assumed.ensures.assumed
-    (begun_true (value_in values) c.assumptions.new.book.entries c.solve.new.book.entries c.args.budget.now c.solve.new.left c.solve.ensures.searched holds.clauses) holds.assumptions
+    (begun_true (value_in values) c.assumptions.new.book.entries c.solve.new.book.entries c.args.budget.now c.solve.new.budget c.solve.ensures.searched holds.clauses) holds.assumptions
 
 pub returns-clause-asked : goal.returns-clause-asked
 returns-clause-asked g c =
     let parts = c.assumptions.new.parts in
     let belong = belong_still c.args.question.net.now c.args.question.log.now c.args.parts.now parts c.assumptions.ensures.kept c.requires.belong in
     let values = c.solve.new.self.assignment in
-    let holds = model values c.solve.new.book.entries c.as_slice.result.now c.in_ok-assumed.assumed.items c.solve.new.left c.in_ok-answer.answer c.in-Sat.is c.as_slice.ensures.value c.in_ok-answer.ensures.answer in
+    let holds = model values c.solve.new.book.entries c.as_slice.result.now c.in_ok-assumed.assumed.items c.solve.new.budget c.in_ok-answer.answer c.in-Sat.is c.as_slice.ensures.value c.in_ok-answer.ensures.answer in
     asked_explained parts.step parts.code.code parts.counter parts.vars c.args.question.net.now c.args.question.log.now c.assumptions.new.book.entries c.assumptions.ensures.ready.coded
     belong.of_steps c.are_whole.ensures.network c.are_whole.ensures.log.valid
     belong.same_log c.args.within c.in_ok-assumed.assumed.items c.in_ok-assumed.ensures.assumed
-    c.args.book.now.entries c.solve.new.book.entries c.args.budget.now c.solve.new.left c.assumptions.ensures.axioms c.solve.ensures.searched (value_in values) c.in_ok-found_run-in-Sat.field-0
+    c.args.book.now.entries c.solve.new.book.entries c.args.budget.now c.solve.new.budget c.assumptions.ensures.axioms c.solve.ensures.searched (value_in values) c.in_ok-found_run-in-Sat.field-0
     (none_added c.args.within c.args.book.now.entries c.assumptions.new.book.entries c.assumptions.ensures.axioms c.assumptions.ensures.none)
     (subst (HasPut c.assumptions.new.book.entries c.solve.new.book.entries) c.in-Sat.is c.in_ok-answer.ensures.put)
-    (begun_true (value_in values) c.assumptions.new.book.entries c.solve.new.book.entries c.args.budget.now c.solve.new.left c.solve.ensures.searched holds.clauses) holds.assumptions c.in_ok-found_run-in-Sat.ensures.given c.in_ok-found_run-in-Sat.ensures.faults
+    (begun_true (value_in values) c.assumptions.new.book.entries c.solve.new.book.entries c.args.budget.now c.solve.new.budget c.solve.ensures.searched holds.clauses) holds.assumptions c.in_ok-found_run-in-Sat.ensures.given c.in_ok-found_run-in-Sat.ensures.faults
 
 pub returns-in_err-answer-clause-ready : goal.returns-in_err-answer-clause-ready
-returns-in_err-answer-clause-ready g c = ready_after _ _ c.assumptions.new.parts c.solve.new.self c.args.budget.now c.solve.new.left c.assumptions.new.book.entries c.solve.new.book.entries c.assumptions.ensures.ready c.solve.ensures.searched c.solve.ensures.adopted c.solve.ensures.vars c.solve.ensures.ranked
+returns-in_err-answer-clause-ready g c = ready_after _ _ c.assumptions.new.parts c.solve.new.self c.args.budget.now c.solve.new.budget c.assumptions.new.book.entries c.solve.new.book.entries c.assumptions.ensures.ready c.solve.ensures.searched c.solve.ensures.adopted c.solve.ensures.kept.vars c.solve.ensures.kept.order.rank
 
 pub returns-in-Unsat-clause-ready : goal.returns-in-Unsat-clause-ready
-returns-in-Unsat-clause-ready g c = ready_after _ _ c.assumptions.new.parts c.solve.new.self c.args.budget.now c.solve.new.left c.assumptions.new.book.entries c.solve.new.book.entries c.assumptions.ensures.ready c.solve.ensures.searched c.solve.ensures.adopted c.solve.ensures.vars c.solve.ensures.ranked
+returns-in-Unsat-clause-ready g c = ready_after _ _ c.assumptions.new.parts c.solve.new.self c.args.budget.now c.solve.new.budget c.assumptions.new.book.entries c.solve.new.book.entries c.assumptions.ensures.ready c.solve.ensures.searched c.solve.ensures.adopted c.solve.ensures.kept.vars c.solve.ensures.kept.order.rank
 
 pub returns-in-Spent-clause-ready : goal.returns-in-Spent-clause-ready
-returns-in-Spent-clause-ready g c = ready_after _ _ c.assumptions.new.parts c.solve.new.self c.args.budget.now c.solve.new.left c.assumptions.new.book.entries c.solve.new.book.entries c.assumptions.ensures.ready c.solve.ensures.searched c.solve.ensures.adopted c.solve.ensures.vars c.solve.ensures.ranked
+returns-in-Spent-clause-ready g c = ready_after _ _ c.assumptions.new.parts c.solve.new.self c.args.budget.now c.solve.new.budget c.assumptions.new.book.entries c.solve.new.book.entries c.assumptions.ensures.ready c.solve.ensures.searched c.solve.ensures.adopted c.solve.ensures.kept.vars c.solve.ensures.kept.order.rank
 
 pub returns-in_err-found_run-in-Sat-clause-ready : goal.returns-in_err-found_run-in-Sat-clause-ready
-returns-in_err-found_run-in-Sat-clause-ready g c = ready_after _ _ c.assumptions.new.parts c.solve.new.self c.args.budget.now c.solve.new.left c.assumptions.new.book.entries c.solve.new.book.entries c.assumptions.ensures.ready c.solve.ensures.searched c.solve.ensures.adopted c.solve.ensures.vars c.solve.ensures.ranked
+returns-in_err-found_run-in-Sat-clause-ready g c = ready_after _ _ c.assumptions.new.parts c.solve.new.self c.args.budget.now c.solve.new.budget c.assumptions.new.book.entries c.solve.new.book.entries c.assumptions.ensures.ready c.solve.ensures.searched c.solve.ensures.adopted c.solve.ensures.kept.vars c.solve.ensures.kept.order.rank
 
 pub returns-clause-ready : goal.returns-clause-ready
-returns-clause-ready g c = ready_after _ _ c.assumptions.new.parts c.solve.new.self c.args.budget.now c.solve.new.left c.assumptions.new.book.entries c.solve.new.book.entries c.assumptions.ensures.ready c.solve.ensures.searched c.solve.ensures.adopted c.solve.ensures.vars c.solve.ensures.ranked
+returns-clause-ready g c = ready_after _ _ c.assumptions.new.parts c.solve.new.self c.args.budget.now c.solve.new.budget c.assumptions.new.book.entries c.solve.new.book.entries c.assumptions.ensures.ready c.solve.ensures.searched c.solve.ensures.adopted c.solve.ensures.kept.vars c.solve.ensures.kept.order.rank
 
 pub returns-in_err-answer-clause-kept : goal.returns-in_err-answer-clause-kept
-returns-in_err-answer-clause-kept g c = kept_after c.args.parts.now c.assumptions.new.parts c.solve.new.self c.assumptions.ensures.kept c.solve.ensures.rank
+returns-in_err-answer-clause-kept g c = kept_after c.args.parts.now c.assumptions.new.parts c.solve.new.self c.assumptions.ensures.kept c.solve.ensures.kept.order.rank
 
 pub returns-in-Unsat-clause-kept : goal.returns-in-Unsat-clause-kept
-returns-in-Unsat-clause-kept g c = kept_after c.args.parts.now c.assumptions.new.parts c.solve.new.self c.assumptions.ensures.kept c.solve.ensures.rank
+returns-in-Unsat-clause-kept g c = kept_after c.args.parts.now c.assumptions.new.parts c.solve.new.self c.assumptions.ensures.kept c.solve.ensures.kept.order.rank
 
 pub returns-in-Spent-clause-kept : goal.returns-in-Spent-clause-kept
-returns-in-Spent-clause-kept g c = kept_after c.args.parts.now c.assumptions.new.parts c.solve.new.self c.assumptions.ensures.kept c.solve.ensures.rank
+returns-in-Spent-clause-kept g c = kept_after c.args.parts.now c.assumptions.new.parts c.solve.new.self c.assumptions.ensures.kept c.solve.ensures.kept.order.rank
 
 pub returns-in_err-found_run-in-Sat-clause-kept : goal.returns-in_err-found_run-in-Sat-clause-kept
-returns-in_err-found_run-in-Sat-clause-kept g c = kept_after c.args.parts.now c.assumptions.new.parts c.solve.new.self c.assumptions.ensures.kept c.solve.ensures.rank
+returns-in_err-found_run-in-Sat-clause-kept g c = kept_after c.args.parts.now c.assumptions.new.parts c.solve.new.self c.assumptions.ensures.kept c.solve.ensures.kept.order.rank
 
 pub returns-clause-kept : goal.returns-clause-kept
-returns-clause-kept g c = kept_after c.args.parts.now c.assumptions.new.parts c.solve.new.self c.assumptions.ensures.kept c.solve.ensures.rank
+returns-clause-kept g c = kept_after c.args.parts.now c.assumptions.new.parts c.solve.new.self c.assumptions.ensures.kept c.solve.ensures.kept.order.rank
 
 pub found_run-requires-clause-belong : goal.found_run-requires-clause-belong
 found_run-requires-clause-belong g c = belong_still c.args.question.net.now c.args.question.log.now c.args.parts.now c.assumptions.new.parts c.assumptions.ensures.kept c.requires.belong
@@ -134,20 +134,20 @@ returns-in_err-assumed-clause-searching g c =
 
 pub returns-in_err-answer-clause-searching : goal.returns-in_err-answer-clause-searching
 returns-in_err-answer-clause-searching g c =
-    searching_both c.args.book.now.entries c.assumptions.new.book.entries c.solve.new.book.entries c.args.budget.now c.solve.new.left c.assumptions.ensures.axioms c.solve.ensures.searched
+    searching_both c.args.book.now.entries c.assumptions.new.book.entries c.solve.new.book.entries c.args.budget.now c.solve.new.budget c.assumptions.ensures.axioms c.solve.ensures.searched
 
 pub returns-in-Unsat-clause-searching : goal.returns-in-Unsat-clause-searching
 returns-in-Unsat-clause-searching g c =
-    searching_both c.args.book.now.entries c.assumptions.new.book.entries c.solve.new.book.entries c.args.budget.now c.solve.new.left c.assumptions.ensures.axioms c.solve.ensures.searched
+    searching_both c.args.book.now.entries c.assumptions.new.book.entries c.solve.new.book.entries c.args.budget.now c.solve.new.budget c.assumptions.ensures.axioms c.solve.ensures.searched
 
 pub returns-in-Spent-clause-searching : goal.returns-in-Spent-clause-searching
 returns-in-Spent-clause-searching g c =
-    searching_both c.args.book.now.entries c.assumptions.new.book.entries c.solve.new.book.entries c.args.budget.now c.solve.new.left c.assumptions.ensures.axioms c.solve.ensures.searched
+    searching_both c.args.book.now.entries c.assumptions.new.book.entries c.solve.new.book.entries c.args.budget.now c.solve.new.budget c.assumptions.ensures.axioms c.solve.ensures.searched
 
 pub returns-in_err-found_run-in-Sat-clause-searching : goal.returns-in_err-found_run-in-Sat-clause-searching
 returns-in_err-found_run-in-Sat-clause-searching g c =
-    searching_both c.args.book.now.entries c.assumptions.new.book.entries c.solve.new.book.entries c.args.budget.now c.solve.new.left c.assumptions.ensures.axioms c.solve.ensures.searched
+    searching_both c.args.book.now.entries c.assumptions.new.book.entries c.solve.new.book.entries c.args.budget.now c.solve.new.budget c.assumptions.ensures.axioms c.solve.ensures.searched
 
 pub returns-clause-searching : goal.returns-clause-searching
 returns-clause-searching g c =
-    searching_both c.args.book.now.entries c.assumptions.new.book.entries c.solve.new.book.entries c.args.budget.now c.solve.new.left c.assumptions.ensures.axioms c.solve.ensures.searched
+    searching_both c.args.book.now.entries c.assumptions.new.book.entries c.solve.new.book.entries c.args.budget.now c.solve.new.budget c.assumptions.ensures.axioms c.solve.ensures.searched

@@ -1,8 +1,11 @@
-use Rattle.std.proofs.Common.{ap, arith, length}
-use Rattle.least_faults.proofs.Columns.{column_added, few_written, more_values, written_alone}
+use Rattle.std.proofs.Common.{ap, arith, length, ◌∙◌, [], ◌∷◌, refl, subst, sym}
+use Rattle.least_faults.proofs.Columns.{column_added, few_written, more_values, written_alone, reserved_ready}
 use Rattle.prop_core.specs.ClauseStore.{ClauseStore}
 use Rattle.sat_solve.specs.Solving.{SolverState}
 use Rattle.least_faults.proofs.bounding.add_column.Goals as goal
+use Rattle.std.specs.List.{range_with_len}
+use Rattle.least_faults.specs.Growing.{KeepsColumns}
+use Rattle.sat_order.specs.Rank.{IsRank}
 
 pub push_axioms-requires-clause-clauses : goal.push_axioms-requires-clause-clauses
 push_axioms-requires-clause-clauses g c =
@@ -29,7 +32,6 @@ adopt-requires g c =
     let spare = c.in_ok-reserve-2.ensures.spare in
     let inputs = c.inputs-inputs.ensures in
     record {
-      ranked = c.reserve-2.ensures.ranked;
       grown = column.front;
       room = omega (arith, long, spare, inputs);
       known = column.known;
@@ -48,5 +50,20 @@ returns-clause-ready g c =
       coded = column.parts;
       adopted_all = ap (λ (s : SolverState _). s.adopted) c.adopt.ensures.value;
       enough = omega (arith, values, enough);
-      ranked = c.adopt.ensures.ranked;
+      ranked = subst (IsRank (goal.R-pre g) (goal.R-post g)) (sym (ap (λ (s : SolverState _). s.order.rank) c.adopt.ensures.value ∙ c.reserve-2.ensures.rank)) c.requires.ready.ranked;
+    }
+
+pub returns-in_err-reserve-2-clause-ready : goal.returns-in_err-reserve-2-clause-ready
+returns-in_err-reserve-2-clause-ready g c =
+    let same = ap (λ (s : SolverState _). s.vars) c.in_err-reserve-2.ensures.err in
+    reserved_ready _ _ c.args.parts.now c.reserve-2.new.self c.args.book.now.entries c.reserve.new.self.entries c.requires.ready c.reserve-2.ensures.adopted (omega (arith, same)) c.reserve-2.ensures.rank c.reserve.ensures.same
+
+pub returns-clause-kept : goal.returns-clause-kept
+returns-clause-kept g c =
+    let old = c.args.parts.now in
+    record {
+      step = refl;
+      code = refl;
+      counter = subst (KeepsColumns old.counter) (sym c.in_ok-add_column.ensures.column.counter) (record { inputs = refl; columns = range_with_len old.vars (length old.counter.inputs) ∷ []; more = refl });
+      rank = ap (λ (s : SolverState _). s.order.rank) c.adopt.ensures.value ∙ c.reserve-2.ensures.rank;
     }
