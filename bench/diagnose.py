@@ -16,6 +16,25 @@ time by a fault. The last are grids of 20 like components that reboot and tell t
 10 simulated faults, in their whole order and in that of each component alone, within the steps of the simulated run. So many faults are
 an upper bound of the answer.
 
+On 28 November 2026, on four shared processors of an Intel Xeon under heavy load, seconds of the processor, the least of up to three runs, and
+conflicts of the whole `diagnose`; MiniSat anew for each bound and CaDiCaL's library on the same ascending bounds, on the formulas that the
+program asks. Ours is a build of the sources without proofs and without a compiler's checks, as the proved one was not at hand; the two rows of six and
+seven alarms are from several runs. Ratios below 1.5 can't be told from noise. "Before" has watches and links apart. Memory was the same, 78 MiB for 100 units and 37 for the mesh of 30 nodes.
+
+| Plant | Steps | Conflicts | before | now | MiniSat | CaDiCaL | now to MiniSat | now to CaDiCaL |
+|---|---|---|---|---|---|---|---|---|
+| 64 units | 18 | 205 | 0.16 | 0.14 | 3.2 | 0.16 | 0.05 | 0.9 |
+| 100 units | 28 | 444 | 0.93 | 0.64 | 23 | 0.92 | 0.03 | 0.7 |
+| 6 valves, 4 alarms | 5 | 3,082 | 0.23 | 0.29 | 0.17 | 0.28 | 1.7 | 1.1 |
+| 6 valves, 5 alarms | 4 | 7,111 | 1.0 | 1.0 to 1.4 | 0.40 | 0.27 | 3.4 | 5.1 |
+| 6 stations, 6 alarms | 8 | 4,613 | 0.31 | 0.33 | 0.09 | 0.15 | 3.6 | 2.2 |
+| 10 stations, 6 alarms | 6 | 3,300 | 0.21 | 0.22 | 0.12 | 0.15 | 1.8 | 1.5 |
+| mesh of 20 nodes | 10 | 340 | 0.16 | 0.17 | 0.44 | 0.04 | 0.4 | 4.2 |
+| mesh of 30 nodes | 12 | 3,078 | 2.1 | 2.1 | 1.5 | 0.86 | 1.4 | 2.5 |
+| 5 alarms of one device | 5 | 3,181 | 0.12 | 0.10 | 0.04 | 0.08 | 2.3 | 1.3 |
+| 6 alarms of one device | 6 | 21,810 | 2.3 | 2.7 | 0.3 to 0.5 | 0.4 | 5 to 9 | 7 |
+| 7 alarms of one device | 7 | more than 50,000 | none in 40 | none in 100 | 4.4 | | | |
+
 On 28 November 2026, on four shared processors of an Intel Xeon under load, seconds of the processor for the whole `diagnose`, one run each, before
 and after both chains and restarts by levels came: 64, 100 and 200 units 0.04 and 0.06, 0.31 and 0.41, 3.3 and 3.7; six valves with four
 alarms in 5 steps 0.24 and 0.18, with five alarms 1.55 and 0.65; six stations in 8 steps 0.45 and 0.23, ten in 6 steps 0.32 and 0.15;
