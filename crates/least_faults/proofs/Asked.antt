@@ -32,7 +32,8 @@ use Rattle.run_decode.proofs.Decided.{refuted_is_decided}
 use Rattle.run_decode.specs.Decided.{Entails}
 use Rattle.run_decode.specs.Faithful.{IsWithin, IsFaithful}
 use Rattle.run_decode.specs.Decoding.{IsTrueRun}
-use Rattle.sat_order.specs.Rank.{IsRank}
+use Rattle.sat_order.specs.Rank.{IsRanked, KeepsRanks}
+use Rattle.least_faults.proofs.Ranking.{still_ranked}
 use Rattle.sat_solve.specs.Searching.{IsSearched, HasPut, IsRefuted}
 use Rattle.sat_solve.specs.Solving.{SolverState}
 use Rattle.sat_solve.specs.declared.answer.Answer.TheVariants as solver
@@ -75,12 +76,12 @@ searching_both old mid new before after adds searched = record {
 
 -- the parts stay ready where their solver has searched
 pub ready_after : {R : Type 0} (may : R → ℕ → Type 0) (gives : R → ℕ → ℕ → Type 0) (parts : Parts R) (solver : SolverState R) (before after : ℕ) (mid new : List BookEntry) → AreReady may gives parts mid →
-    IsSearched mid new before after → solver.adopted ≡ clauses_of new → solver.vars ≡ parts.solver.vars → solver.order.rank ≡ parts.solver.order.rank → AreReady may gives (record parts { solver = solver }) new
-ready_after may gives parts solver before after mid new ready searched all same same_rank = record {
+    IsSearched mid new before after → solver.adopted ≡ clauses_of new → solver.vars ≡ parts.solver.vars → KeepsRanks parts.solver.order solver.order → AreReady may gives (record parts { solver = solver }) new
+ready_after may gives parts solver before after mid new ready searched all same same_ranks = record {
   coded = subst (AreParts parts.step parts.code.code parts.counter parts.vars) (sym (ap axioms_of searched.whole ∙ same_axioms mid searched.since searched.derived)) ready.coded;
   adopted_all = all;
   enough = subst (λ v. parts.vars ≤ v) (sym same) ready.enough;
-  ranked = subst (IsRank may gives) (sym same_rank) ready.ranked;
+  ranked = still_ranked may gives parts.solver.order solver.order same_ranks ready.ranked;
 }
 
 pub kept_after : {R : Type 0} (old parts : Parts R) (solver : SolverState R) → KeepsQuestion old parts → solver.order.rank ≡ parts.solver.order.rank → KeepsQuestion old (record parts { solver = solver })

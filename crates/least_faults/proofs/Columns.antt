@@ -23,7 +23,7 @@ use Rattle.sat_prop.specs.Changes.{IsFront}
 use Rattle.std.proofs.lemmas.List.{map-append as map_append}
 use Rattle.step_encode.specs.Coded.{CodedSteps}
 use Rattle.least_faults.specs.declared.parts.Parts.{Parts}
-use Rattle.sat_order.specs.Rank.{IsRank}
+use Rattle.sat_order.specs.Rank.{IsRanked}
 use Rattle.sat_solve.specs.Solving.{SolverState}
 
 -- ---- columns that are added to a counter
@@ -120,11 +120,11 @@ more_values before values made vars count inputs grown same long = omega (arith,
 
 -- the parts stay ready where their solver gets variables and room
 pub reserved_ready : {R : Type 0} (may : R → ℕ → Type 0) (gives : R → ℕ → ℕ → Type 0) (parts : Parts R) (solver : SolverState R) (book entries : List BookEntry) → AreReady may gives parts book →
-    solver.adopted ≡ parts.solver.adopted → parts.solver.vars ≤ solver.vars → solver.order.rank ≡ parts.solver.order.rank → entries ≡ book → AreReady may gives (record parts { solver = solver }) entries
-reserved_ready may gives parts solver book entries ready same more same_rank same_book =
+    solver.adopted ≡ parts.solver.adopted → parts.solver.vars ≤ solver.vars → (IsRanked may gives parts.solver.order → IsRanked may gives solver.order) → entries ≡ book → AreReady may gives (record parts { solver = solver }) entries
+reserved_ready may gives parts solver book entries ready same more ranked same_book =
     subst (AreReady may gives (record parts { solver = solver })) (sym same_book) (record {
       coded = ready.coded;
       adopted_all = same ∙ ready.adopted_all;
       enough = (let enough = ready.enough in omega (arith, enough, more));
-      ranked = subst (IsRank may gives) (sym same_rank) ready.ranked;
+      ranked = ranked ready.ranked;
     })

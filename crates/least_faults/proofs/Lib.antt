@@ -16,3 +16,4 @@ pub mod Putting
 pub mod Asked
 pub mod Climbing
 pub mod Closing
+pub mod Ranking

@@ -10,18 +10,18 @@ use Rattle.log_order.specs.Log.{Log}
 use Rattle.proof_ledger.specs.Book.{BookEntry, axioms_of, clauses_of}
 use Rattle.prop_core.specs.Clauses.{Clause}
 use Rattle.prop_core.specs.declared.lit.Lit.{Lit}
-use Rattle.sat_order.specs.Rank.{IsRank}
+use Rattle.sat_order.specs.Rank.{IsRanked}
 use Rattle.sat_solve.specs.Solving.{SolverState}
 
--- the solver has no variables and no clauses, and what ranks may be asked
+-- the solver has no variables and no clauses, and its ranks are what was answered
 pub record IsUnused {R : Type 0} (may : R → ℕ → Type 0) (gives : R → ℕ → ℕ → Type 0) (solver : SolverState R) : Type 0 where
-  pub ranked : IsRank may gives solver.order.rank
+  pub ranked : IsRanked may gives solver.order
   pub no_clauses : solver.adopted ≡ []
   pub no_variables : solver.vars ≡ 0
 
 -- the solver has no clauses, as before, and ranks by what ranked before
 pub record IsHandedBack {R : Type 0} (may : R → ℕ → Type 0) (gives : R → ℕ → ℕ → Type 0) (old new : SolverState R) : Type 0 where
-  pub ranked : IsRank may gives new.order.rank
+  pub ranked : IsRanked may gives new.order
   pub rank : new.order.rank ≡ old.order.rank
   pub no_clauses : new.adopted ≡ []
 
@@ -30,7 +30,7 @@ pub record HasAdopted {R : Type 0} (may : R → ℕ → Type 0) (gives : R → �
   pub axioms_are : axioms_of book ≡ axioms
   pub adopted_all : new.adopted ≡ clauses_of book
   pub enough : vars ≤ new.vars
-  pub ranked : IsRank may gives new.order.rank
+  pub ranked : IsRanked may gives new.order
   pub rank : new.order.rank ≡ old.order.rank
 
 -- no clauses are written yet

@@ -12,7 +12,7 @@ use Rattle.prop_core.specs.VariableNames.{Name}
 use Rattle.replay.specs.QuestionSize.{question_size}
 use Rattle.run_decode.specs.Decoding.{BelongTogether}
 use Rattle.run_decode.specs.WholeNaming.{AreCodedTogether, AreClausesOf, whole_names}
-use Rattle.sat_order.specs.Rank.{IsRank}
+use Rattle.sat_order.specs.Rank.{IsRanked}
 use Rattle.step_encode.specs.Coded.{CodedSteps}
 
 -- the size of the largest question that is built
@@ -36,12 +36,12 @@ pub record AreParts (steps : CodedSteps) (code : CodedLog) (counter : CounterSta
   pub made : IsMade vars counter
   pub room : vars + (most_columns - length counter.columns) * length counter.inputs ≤ VAR_LIMIT
 
--- The parts are those of a book: its axioms are their clauses, the solver has adopted all its clauses, and has their variables at least. What ranks the variables may be asked (`may`) and answers (`gives`).
+-- The parts are those of a book: its axioms are their clauses, the solver has adopted all its clauses, and has their variables at least. The stored ranks are what was answered (`gives`) by what ranks, which may be asked (`may`).
 pub record AreReady {R : Type 0} (may : R → ℕ → Type 0) (gives : R → ℕ → ℕ → Type 0) (parts : Parts R) (book : List BookEntry) : Type 0 where
   pub coded : AreParts parts.step parts.code.code parts.counter parts.vars (axioms_of book)
   pub adopted_all : parts.solver.adopted ≡ clauses_of book
   pub enough : parts.vars ≤ parts.solver.vars
-  pub ranked : IsRank may gives parts.solver.order.rank
+  pub ranked : IsRanked may gives parts.solver.order
 
 -- steps and log are coded for this network and this log
 abbrev pub BelongTo : {R : Type 0} → Net → Log → Parts R → Type 0

@@ -96,19 +96,19 @@ returns-clause-asked g c =
     (begun_true (value_in values) c.assumptions.new.book.entries c.solve.new.book.entries c.args.budget.now c.solve.new.budget c.solve.ensures.searched holds.clauses) holds.assumptions c.in_ok-found_run-in-Sat.ensures.given c.in_ok-found_run-in-Sat.ensures.faults
 
 pub returns-in_err-answer-clause-ready : goal.returns-in_err-answer-clause-ready
-returns-in_err-answer-clause-ready g c = ready_after _ _ c.assumptions.new.parts c.solve.new.self c.args.budget.now c.solve.new.budget c.assumptions.new.book.entries c.solve.new.book.entries c.assumptions.ensures.ready c.solve.ensures.searched c.solve.ensures.adopted c.solve.ensures.kept.vars c.solve.ensures.kept.order.rank
+returns-in_err-answer-clause-ready g c = ready_after _ _ c.assumptions.new.parts c.solve.new.self c.args.budget.now c.solve.new.budget c.assumptions.new.book.entries c.solve.new.book.entries c.assumptions.ensures.ready c.solve.ensures.searched c.solve.ensures.adopted c.solve.ensures.kept.vars c.solve.ensures.kept.order
 
 pub returns-in-Unsat-clause-ready : goal.returns-in-Unsat-clause-ready
-returns-in-Unsat-clause-ready g c = ready_after _ _ c.assumptions.new.parts c.solve.new.self c.args.budget.now c.solve.new.budget c.assumptions.new.book.entries c.solve.new.book.entries c.assumptions.ensures.ready c.solve.ensures.searched c.solve.ensures.adopted c.solve.ensures.kept.vars c.solve.ensures.kept.order.rank
+returns-in-Unsat-clause-ready g c = ready_after _ _ c.assumptions.new.parts c.solve.new.self c.args.budget.now c.solve.new.budget c.assumptions.new.book.entries c.solve.new.book.entries c.assumptions.ensures.ready c.solve.ensures.searched c.solve.ensures.adopted c.solve.ensures.kept.vars c.solve.ensures.kept.order
 
 pub returns-in-Spent-clause-ready : goal.returns-in-Spent-clause-ready
-returns-in-Spent-clause-ready g c = ready_after _ _ c.assumptions.new.parts c.solve.new.self c.args.budget.now c.solve.new.budget c.assumptions.new.book.entries c.solve.new.book.entries c.assumptions.ensures.ready c.solve.ensures.searched c.solve.ensures.adopted c.solve.ensures.kept.vars c.solve.ensures.kept.order.rank
+returns-in-Spent-clause-ready g c = ready_after _ _ c.assumptions.new.parts c.solve.new.self c.args.budget.now c.solve.new.budget c.assumptions.new.book.entries c.solve.new.book.entries c.assumptions.ensures.ready c.solve.ensures.searched c.solve.ensures.adopted c.solve.ensures.kept.vars c.solve.ensures.kept.order
 
 pub returns-in_err-found_run-in-Sat-clause-ready : goal.returns-in_err-found_run-in-Sat-clause-ready
-returns-in_err-found_run-in-Sat-clause-ready g c = ready_after _ _ c.assumptions.new.parts c.solve.new.self c.args.budget.now c.solve.new.budget c.assumptions.new.book.entries c.solve.new.book.entries c.assumptions.ensures.ready c.solve.ensures.searched c.solve.ensures.adopted c.solve.ensures.kept.vars c.solve.ensures.kept.order.rank
+returns-in_err-found_run-in-Sat-clause-ready g c = ready_after _ _ c.assumptions.new.parts c.solve.new.self c.args.budget.now c.solve.new.budget c.assumptions.new.book.entries c.solve.new.book.entries c.assumptions.ensures.ready c.solve.ensures.searched c.solve.ensures.adopted c.solve.ensures.kept.vars c.solve.ensures.kept.order
 
 pub returns-clause-ready : goal.returns-clause-ready
-returns-clause-ready g c = ready_after _ _ c.assumptions.new.parts c.solve.new.self c.args.budget.now c.solve.new.budget c.assumptions.new.book.entries c.solve.new.book.entries c.assumptions.ensures.ready c.solve.ensures.searched c.solve.ensures.adopted c.solve.ensures.kept.vars c.solve.ensures.kept.order.rank
+returns-clause-ready g c = ready_after _ _ c.assumptions.new.parts c.solve.new.self c.args.budget.now c.solve.new.budget c.assumptions.new.book.entries c.solve.new.book.entries c.assumptions.ensures.ready c.solve.ensures.searched c.solve.ensures.adopted c.solve.ensures.kept.vars c.solve.ensures.kept.order
 
 pub returns-in_err-answer-clause-kept : goal.returns-in_err-answer-clause-kept
 returns-in_err-answer-clause-kept g c = kept_after c.args.parts.now c.assumptions.new.parts c.solve.new.self c.assumptions.ensures.kept c.solve.ensures.kept.order.rank

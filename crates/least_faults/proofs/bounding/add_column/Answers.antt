@@ -5,7 +5,7 @@ use Rattle.sat_solve.specs.Solving.{SolverState}
 use Rattle.least_faults.proofs.bounding.add_column.Goals as goal
 use Rattle.std.specs.List.{range_with_len}
 use Rattle.least_faults.specs.Growing.{KeepsColumns}
-use Rattle.sat_order.specs.Rank.{IsRank}
+use Rattle.sat_order.specs.Rank.{IsRanked}
 
 pub push_axioms-requires-clause-clauses : goal.push_axioms-requires-clause-clauses
 push_axioms-requires-clause-clauses g c =
@@ -50,13 +50,13 @@ returns-clause-ready g c =
       coded = column.parts;
       adopted_all = ap (λ (s : SolverState _). s.adopted) c.adopt.ensures.value;
       enough = omega (arith, values, enough);
-      ranked = subst (IsRank (goal.R-pre g) (goal.R-post g)) (sym (ap (λ (s : SolverState _). s.order.rank) c.adopt.ensures.value ∙ c.reserve-2.ensures.rank)) c.requires.ready.ranked;
+      ranked = subst (IsRanked (goal.R-pre g) (goal.R-post g)) (sym (ap (λ (s : SolverState _). s.order) c.adopt.ensures.value)) (c.reserve-2.ensures.ranked c.requires.ready.ranked);
     }
 
 pub returns-in_err-reserve-2-clause-ready : goal.returns-in_err-reserve-2-clause-ready
 returns-in_err-reserve-2-clause-ready g c =
     let same = ap (λ (s : SolverState _). s.vars) c.in_err-reserve-2.ensures.err in
-    reserved_ready _ _ c.args.parts.now c.reserve-2.new.self c.args.book.now.entries c.reserve.new.self.entries c.requires.ready c.reserve-2.ensures.adopted (omega (arith, same)) c.reserve-2.ensures.rank c.reserve.ensures.same
+    reserved_ready _ _ c.args.parts.now c.reserve-2.new.self c.args.book.now.entries c.reserve.new.self.entries c.requires.ready c.reserve-2.ensures.adopted (omega (arith, same)) c.reserve-2.ensures.ranked c.reserve.ensures.same
 
 pub returns-clause-kept : goal.returns-clause-kept
 returns-clause-kept g c =
