@@ -12,6 +12,7 @@ use Rattle.least_faults.proofs.Assuming.{negates_only}
 use Rattle.least_faults.proofs.Entailing.{final_entailed}
 use Rattle.least_faults.proofs.Posing.{poses}
 use Rattle.least_faults.proofs.Putting.{counted_more, none_learnt, none_marked, none_final, derived_unmarked, same_axioms, learnt_no_final, no_final_in, none_joined, only_final, same_last, axioms_with_learnt}
+use Rattle.least_faults.proofs.Staying.{question_both, question_kept}
 use Rattle.least_faults.specs.declared.answer.Best.{Best}
 use Rattle.least_faults.specs.declared.asking.Asked.{Asked}
 use Rattle.least_faults.specs.declared.asking.Asked.TheVariants.{Explained, Refuted, Spent}
@@ -84,8 +85,10 @@ ready_after may gives parts solver before after mid new ready searched all same 
   ranked = still_ranked may gives parts.solver.order solver.order same_ranks ready.ranked;
 }
 
-pub kept_after : {R : Type 0} (old parts : Parts R) (solver : SolverState R) → KeepsQuestion old parts → solver.order.rank ≡ parts.solver.order.rank → KeepsQuestion old (record parts { solver = solver })
-kept_after old parts solver kept same = record { step = kept.step; code = kept.code; counter = kept.counter; rank = same ∙ kept.rank }
+pub kept_after : {R : Type 0} (old parts : Parts R) (solver : SolverState R) (before after : ℕ) (book mid new : List BookEntry) → KeepsQuestion old parts book mid → IsSearched mid new before after → solver.order.rank ≡ parts.solver.order.rank → KeepsQuestion old (record parts { solver = solver }) book new
+kept_after old parts solver before after book mid new kept searched same =
+    question_both old parts (record parts { solver = solver }) kept
+    (question_kept parts parts.counter parts.vars solver mid new refl refl same (ap axioms_of searched.whole ∙ same_axioms mid searched.since searched.derived))
 
 -- ---- a model
 

@@ -5,6 +5,7 @@ use Rattle.std.proofs.lemmas.List.Folds.{list_all-append}
 use Rattle.std.specs.List.{list_all}
 use Rattle.des_net.specs.Network.{Net}
 use Rattle.least_faults.proofs.Putting.{counted_more, learnt_no_final, no_final_in, learnt_no_axioms}
+use Rattle.least_faults.proofs.Staying.{kept_by_axioms}
 use Rattle.least_faults.specs.declared.answer.Best.{Best}
 use Rattle.least_faults.specs.declared.answer.Found.{Found}
 use Rattle.least_faults.specs.declared.answer.Found.TheVariants.{Explained, Absent, Many, Undecided}
@@ -20,7 +21,7 @@ use Rattle.prop_core.specs.VariableNames.{Name}
 use Rattle.prop_core.specs.declared.lit.Lit.{Lit}
 use Rattle.least_faults.specs.declared.parts.Parts.{Parts}
 use Rattle.least_faults.specs.Asking.{IsSearching}
-use Rattle.least_faults.specs.Growing.{HasGrownWithin}
+use Rattle.least_faults.specs.Growing.{HasGrownWithin, KeepsQuestion}
 
 -- the axioms are the same where learnt entries came before
 same_front : (first : List Clause) (front entries : List BookEntry) → list_all is_learnt front ≡ true → first ++ axioms_of entries ≡ first ++ axioms_of (front ++ entries)
@@ -104,6 +105,12 @@ marked_ready may gives parts number book new is ready = record {
   enough = ready.enough;
   ranked = ready.ranked;
 }
+
+pub kept_opened : {R : Type 0} (old new : Parts R) (book opened searched : List BookEntry) → opened ≡ book ++ mark 0 ∷ [] → KeepsQuestion old new opened searched → KeepsQuestion old new book searched
+kept_opened old new book opened searched begins = kept_by_axioms old new book opened searched searched (sym (ap axioms_of begins ∙ marked_axioms book 0)) refl
+
+pub kept_closed : {R : Type 0} (old new : Parts R) (book searched closed : List BookEntry) → closed ≡ searched ++ mark 1 ∷ [] → KeepsQuestion old new book searched → KeepsQuestion old new book closed
+kept_closed old new book searched closed ends = kept_by_axioms old new book book searched closed refl (ap axioms_of ends ∙ marked_axioms searched 1)
 
 -- ---- no more learnt clauses than the budget says
 

@@ -6,6 +6,7 @@ pub mod Beginning
 pub mod Below
 pub mod FewClauses
 pub mod Columns
+pub mod Determined
 pub mod Entailing
 pub mod KnownEvents
 pub mod FaultSteps

@@ -5,11 +5,12 @@ use Rattle.least_faults.specs.declared.encode.Coded.{Coded}
 use Rattle.least_faults.specs.declared.encode.Written.{Written}
 use Rattle.least_faults.specs.declared.parts.Parts.{Parts}
 use Rattle.least_faults.specs.Asking.{AreAssumptions, Pose}
-use Rattle.least_faults.specs.Parts.{AreReady, BelongTo}
+use Rattle.least_faults.specs.Parts.{AreReady, BelongTo, IsBuilt}
 use Rattle.log_order.specs.Log.{Log}
 use Rattle.proof_ledger.specs.Book.{BookEntry, axioms_of, clauses_of}
 use Rattle.prop_core.specs.Clauses.{Clause}
 use Rattle.prop_core.specs.declared.lit.Lit.{Lit}
+use Rattle.run_decode.specs.QuestionAxioms.{BuiltQuestion}
 use Rattle.sat_order.specs.Rank.{IsRanked}
 use Rattle.sat_solve.specs.Solving.{SolverState}
 
@@ -42,11 +43,16 @@ pub record IsUnwritten (written : Written) : Type 0 where
 abbrev pub parts_with : {R : Type 0} → Coded → SolverState R → Parts R
 parts_with coded solver = record { step = coded.step; code = coded.code; counter = coded.counter; vars = coded.vars; solver = solver }
 
--- The parts are those of the book, coded for this network and this log within n steps. The counter has no column, and what ranks is the solver's from before. The axioms pose the question without a bound.
+-- what is built: these parts, and these axioms
+abbrev pub built_as : Coded → List Clause → BuiltQuestion
+built_as coded axioms = record { steps = coded.step; code = coded.code.code; counter = coded.counter; vars = coded.vars; axioms = axioms }
+
+-- The parts are those of the book, coded for this network and this log within n steps. The counter has no column, and what ranks is the solver's from before. Parts and axioms are those that network, log and n determine, whatever test and rank are stored. The axioms pose the question without a bound.
 pub record AreBuilt {R : Type 0} (may : R → ℕ → Type 0) (gives : R → ℕ → ℕ → Type 0) (net : Net) (log : Log) (n : ℕ) (solver : SolverState R) (book : List BookEntry) (parts : Parts R) : Type 0 where
   pub belong : BelongTo net log parts
   pub steps : parts.step.steps ≡ n
   pub ready : AreReady may gives parts book
   pub columns : parts.counter.columns ≡ []
   pub rank : parts.solver.order.rank ≡ solver.order.rank
+  pub built : IsBuilt net log n parts book
   pub posed : (assumed : List Lit) → AreAssumptions parts.code.code parts.counter None assumed → Pose parts.step parts.code.code parts.counter (axioms_of book) None assumed

@@ -1,7 +1,10 @@
 -- How a question and its book grow together.
 use Rattle.std.specs.Prelude.{◌≡◌, ◌≤◌, ℕ, List, ◌++◌, map, count_by}
 use Rattle.card_counter.specs.CounterState.{CounterState}
+use Rattle.des_net.specs.Network.{Net}
 use Rattle.least_faults.specs.declared.parts.Parts.{Parts}
+use Rattle.least_faults.specs.Parts.{IsBuilt}
+use Rattle.log_order.specs.Log.{Log}
 use Rattle.proof_ledger.specs.Book.{BookEntry, axiomatic}
 use Rattle.proof_ledger.specs.Fresh.{is_learnt}
 use Rattle.prop_core.specs.Clauses.{Clause}
@@ -12,12 +15,13 @@ pub record KeepsColumns (old new : CounterState) : Type 0 where
   pub columns : List (List ℕ)
   pub more : new.columns ≡ old.columns ++ columns
 
--- The question stays: the code of its steps and of its log, and what ranks its variables. The counter perhaps has further columns.
-pub record KeepsQuestion {R : Type 0} (old new : Parts R) : Type 0 where
+-- The question stays: the code of its steps and of its log, and what ranks its variables. The counter perhaps has further columns. Parts and axioms that network, log, n and the number of columns determined are still those that they determine.
+pub record KeepsQuestion {R : Type 0} (old new : Parts R) (old_book new_book : List BookEntry) : Type 0 where
   pub step : new.step ≡ old.step
   pub code : new.code ≡ old.code
   pub counter : KeepsColumns old.counter new.counter
   pub rank : new.solver.order.rank ≡ old.solver.order.rank
+  pub built : (net : Net) (log : Log) (n : ℕ) → IsBuilt net log n old old_book → IsBuilt net log n new new_book
 
 -- the book got axioms, and nothing else
 pub record AddsAxioms (old new : List BookEntry) : Type 0 where

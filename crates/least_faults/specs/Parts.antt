@@ -11,6 +11,7 @@ use Rattle.prop_core.specs.Clauses.{Clause}
 use Rattle.prop_core.specs.VariableNames.{Name}
 use Rattle.replay.specs.QuestionSize.{question_size}
 use Rattle.run_decode.specs.Decoding.{BelongTogether}
+use Rattle.run_decode.specs.QuestionAxioms.{BuiltQuestion, question_built}
 use Rattle.run_decode.specs.WholeNaming.{AreCodedTogether, AreClausesOf, whole_names}
 use Rattle.sat_order.specs.Rank.{IsRanked}
 use Rattle.step_encode.specs.Coded.{CodedSteps}
@@ -46,6 +47,14 @@ pub record AreReady {R : Type 0} (may : R → ℕ → Type 0) (gives : R → ℕ
 -- steps and log are coded for this network and this log
 abbrev pub BelongTo : {R : Type 0} → Net → Log → Parts R → Type 0
 BelongTo net log parts = BelongTogether net log parts.step parts.code.code
+
+-- what was built: how steps, log and counter are coded, and the axioms
+abbrev pub built_of : {R : Type 0} → Parts R → List BookEntry → BuiltQuestion
+built_of parts book = record { steps = parts.step; code = parts.code.code; counter = parts.counter; vars = parts.vars; axioms = axioms_of book }
+
+-- All of it is what network, log, n and the number of columns determine, the axioms as a list.
+pub record IsBuilt {R : Type 0} (net : Net) (log : Log) (n : ℕ) (parts : Parts R) (book : List BookEntry) : Type 0 where
+  pub determined : built_of parts book ≡ question_built net log n (length parts.counter.columns)
 
 -- the names of all variables
 abbrev pub names_of : {R : Type 0} → Parts R → List (ℕ × Name)

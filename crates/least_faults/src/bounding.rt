@@ -25,7 +25,7 @@ pub fn bound<R: Fn(u32) -> u64>(
     requires some { 0 < length parts.old.counter.inputs }
     requires few { k ≤ 255 }
     ensures ready { AreReady R.pre R.post parts.new book.new.entries }
-    ensures kept { KeepsQuestion parts.old parts.new }
+    ensures kept { KeepsQuestion parts.old parts.new book.old.entries book.new.entries }
     ensures axioms { AddsAxioms book.old.entries book.new.entries }
     ensures literal { IfOk result (IsBoundLiteral parts.old.counter parts.new (axioms_of book.new.entries) k) }
 {
@@ -45,7 +45,7 @@ fn add_column<R: Fn(u32) -> u64>(
     requires some { 0 < length parts.old.counter.inputs }
     requires few { length parts.old.counter.columns < 256 }
     ensures ready { AreReady R.pre R.post parts.new book.new.entries }
-    ensures kept { KeepsQuestion parts.old parts.new }
+    ensures kept { KeepsQuestion parts.old parts.new book.old.entries book.new.entries }
     ensures axioms { AddsAxioms book.old.entries book.new.entries }
     ensures columns { OnOk result (length parts.new.counter.columns ≡ length parts.old.counter.columns + 1) }
     ensures unchanged { OnErr result (StandsStill parts.old.counter parts.new.counter book.old.entries book.new.entries) }

@@ -111,19 +111,19 @@ pub returns-clause-ready : goal.returns-clause-ready
 returns-clause-ready g c = ready_after _ _ c.assumptions.new.parts c.solve.new.self c.args.budget.now c.solve.new.budget c.assumptions.new.book.entries c.solve.new.book.entries c.assumptions.ensures.ready c.solve.ensures.searched c.solve.ensures.adopted c.solve.ensures.kept.vars c.solve.ensures.kept.order
 
 pub returns-in_err-answer-clause-kept : goal.returns-in_err-answer-clause-kept
-returns-in_err-answer-clause-kept g c = kept_after c.args.parts.now c.assumptions.new.parts c.solve.new.self c.assumptions.ensures.kept c.solve.ensures.kept.order.rank
+returns-in_err-answer-clause-kept g c = kept_after c.args.parts.now c.assumptions.new.parts c.solve.new.self c.args.budget.now c.solve.new.budget c.args.book.now.entries c.assumptions.new.book.entries c.solve.new.book.entries c.assumptions.ensures.kept c.solve.ensures.searched c.solve.ensures.kept.order.rank
 
 pub returns-in-Unsat-clause-kept : goal.returns-in-Unsat-clause-kept
-returns-in-Unsat-clause-kept g c = kept_after c.args.parts.now c.assumptions.new.parts c.solve.new.self c.assumptions.ensures.kept c.solve.ensures.kept.order.rank
+returns-in-Unsat-clause-kept g c = kept_after c.args.parts.now c.assumptions.new.parts c.solve.new.self c.args.budget.now c.solve.new.budget c.args.book.now.entries c.assumptions.new.book.entries c.solve.new.book.entries c.assumptions.ensures.kept c.solve.ensures.searched c.solve.ensures.kept.order.rank
 
 pub returns-in-Spent-clause-kept : goal.returns-in-Spent-clause-kept
-returns-in-Spent-clause-kept g c = kept_after c.args.parts.now c.assumptions.new.parts c.solve.new.self c.assumptions.ensures.kept c.solve.ensures.kept.order.rank
+returns-in-Spent-clause-kept g c = kept_after c.args.parts.now c.assumptions.new.parts c.solve.new.self c.args.budget.now c.solve.new.budget c.args.book.now.entries c.assumptions.new.book.entries c.solve.new.book.entries c.assumptions.ensures.kept c.solve.ensures.searched c.solve.ensures.kept.order.rank
 
 pub returns-in_err-found_run-in-Sat-clause-kept : goal.returns-in_err-found_run-in-Sat-clause-kept
-returns-in_err-found_run-in-Sat-clause-kept g c = kept_after c.args.parts.now c.assumptions.new.parts c.solve.new.self c.assumptions.ensures.kept c.solve.ensures.kept.order.rank
+returns-in_err-found_run-in-Sat-clause-kept g c = kept_after c.args.parts.now c.assumptions.new.parts c.solve.new.self c.args.budget.now c.solve.new.budget c.args.book.now.entries c.assumptions.new.book.entries c.solve.new.book.entries c.assumptions.ensures.kept c.solve.ensures.searched c.solve.ensures.kept.order.rank
 
 pub returns-clause-kept : goal.returns-clause-kept
-returns-clause-kept g c = kept_after c.args.parts.now c.assumptions.new.parts c.solve.new.self c.assumptions.ensures.kept c.solve.ensures.kept.order.rank
+returns-clause-kept g c = kept_after c.args.parts.now c.assumptions.new.parts c.solve.new.self c.args.budget.now c.solve.new.budget c.args.book.now.entries c.assumptions.new.book.entries c.solve.new.book.entries c.assumptions.ensures.kept c.solve.ensures.searched c.solve.ensures.kept.order.rank
 
 pub found_run-requires-clause-belong : goal.found_run-requires-clause-belong
 found_run-requires-clause-belong g c = belong_still c.args.question.net.now c.args.question.log.now c.args.parts.now c.assumptions.new.parts c.assumptions.ensures.kept c.requires.belong

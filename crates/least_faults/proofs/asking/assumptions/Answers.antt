@@ -24,8 +24,12 @@ returns-clause-ready g c = elim c.match-within.branch [
 
 pub returns-clause-kept : goal.returns-clause-kept
 returns-clause-kept g c = elim c.match-within.branch [
-  | in-Some+in_ok-bound+in_ok-push w ↦ subst (λ (p : Parts g.row.R.Denot). KeepsQuestion c.args.parts.now p) (sym w.parts-is) w.bound.ensures.kept
-  | in_default w ↦ subst (λ (p : Parts g.row.R.Denot). KeepsQuestion c.args.parts.now p) (sym w.parts-is) (question_same c.args.parts.now)
+  | in-Some+in_ok-bound+in_ok-push w ↦
+      subst (λ (p : Parts g.row.R.Denot). KeepsQuestion c.args.parts.now p c.args.book.now.entries c.match-within.book.entries) (sym w.parts-is)
+      (subst (λ b. KeepsQuestion c.args.parts.now w.bound.new.parts c.args.book.now.entries b.entries) (sym w.book-is) w.bound.ensures.kept)
+  | in_default w ↦
+      subst (λ (p : Parts g.row.R.Denot). KeepsQuestion c.args.parts.now p c.args.book.now.entries c.match-within.book.entries) (sym w.parts-is)
+      (subst (λ b. KeepsQuestion c.args.parts.now c.args.parts.now c.args.book.now.entries b.entries) (sym w.book-is) (question_same c.args.parts.now c.args.book.now.entries))
 ]
 
 pub returns-clause-axioms : goal.returns-clause-axioms

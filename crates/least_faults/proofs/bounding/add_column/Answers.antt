@@ -1,5 +1,8 @@
 use Rattle.std.proofs.Common.{ap, arith, length, ◌∙◌, [], ◌∷◌, refl, subst, sym}
 use Rattle.least_faults.proofs.Columns.{column_added, few_written, more_values, written_alone, reserved_ready}
+use Rattle.least_faults.proofs.Determined.{column_determined}
+use Rattle.least_faults.proofs.Staying.{question_kept}
+use Rattle.proof_ledger.specs.Book.{axioms_of}
 use Rattle.prop_core.specs.ClauseStore.{ClauseStore}
 use Rattle.sat_solve.specs.Solving.{SolverState}
 use Rattle.least_faults.proofs.bounding.add_column.Goals as goal
@@ -66,4 +69,25 @@ returns-clause-kept g c =
       code = refl;
       counter = subst (KeepsColumns old.counter) (sym c.in_ok-add_column.ensures.column.counter) (record { inputs = refl; columns = range_with_len old.vars (length old.counter.inputs) ∷ []; more = refl });
       rank = ap (λ (s : SolverState _). s.order.rank) c.adopt.ensures.value ∙ c.reserve-2.ensures.rank;
+      built = λ net log n built. record {
+        determined = column_determined net log n old.step old.code.code old.counter c.add_column.new.self old.vars c.add_column.new.vars c.args.book.now.entries c.reserve.new.self.entries c.push_axioms.new.book.entries c.add_column.new.out.clauses
+            c.in_ok-add_column.ensures.column.counter c.in_ok-add_column.ensures.column.vars c.reserve.ensures.same
+            (written_alone c.new-clauses.result.clauses c.add_column.new.out.clauses _ (ap (λ (store : ClauseStore). store.clauses) c.new-clauses.ensures) c.in_ok-add_column.ensures.column.clauses) c.push_axioms.ensures built.determined;
+      };
     }
+
+pub returns-in_err-reserve-clause-kept : goal.returns-in_err-reserve-clause-kept
+returns-in_err-reserve-clause-kept g c =
+    let old = c.args.parts.now in
+    question_kept old old.counter old.vars old.solver c.args.book.now.entries c.reserve.new.self.entries refl refl refl (ap axioms_of c.reserve.ensures.same)
+
+pub returns-in_err-reserve-2-clause-kept : goal.returns-in_err-reserve-2-clause-kept
+returns-in_err-reserve-2-clause-kept g c =
+    let old = c.args.parts.now in
+    question_kept old old.counter old.vars c.reserve-2.new.self c.args.book.now.entries c.reserve.new.self.entries refl refl c.reserve-2.ensures.rank (ap axioms_of c.reserve.ensures.same)
+
+pub returns-in_err-add_column-clause-kept : goal.returns-in_err-add_column-clause-kept
+returns-in_err-add_column-clause-kept g c =
+    let old = c.args.parts.now in
+    let err = c.in_err-add_column.ensures.err in
+    question_kept old c.add_column.new.self c.add_column.new.vars c.reserve-2.new.self c.args.book.now.entries c.reserve.new.self.entries err.0 err.1 c.reserve-2.ensures.rank (ap axioms_of c.reserve.ensures.same)

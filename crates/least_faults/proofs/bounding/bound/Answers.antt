@@ -11,7 +11,7 @@ loop-init g c =
     let first = c.columns-counter.ensures.columns in
     record {
       ready = c.requires.ready;
-      kept = question_same c.args.parts.now;
+      kept = question_same c.args.parts.now c.args.book.now.entries;
       axioms = adds_none c.args.book.now.entries;
       columns = omega (arith, first);
       upto = omega (arith, first);

@@ -6,7 +6,7 @@ use Rattle.least_faults.specs.Parts.{AreReady}
 abbrev pub invariant-loop : goal.invariant-loop
 invariant-loop g l = record {
   ready : AreReady (goal.R-pre g) (goal.R-post g) l.parts l.book.entries;
-  kept : KeepsQuestion l.fn.parts l.parts;
+  kept : KeepsQuestion l.fn.parts l.parts l.fn.book.entries l.book.entries;
   axioms : AddsAxioms l.fn.book.entries l.book.entries;
   columns : length l.parts.counter.columns ≡ max (length l.fn.parts.counter.columns) l.counter;
   upto : l.counter ≤ max (length l.fn.parts.counter.columns) (l.k + 1);
