@@ -1,13 +1,13 @@
 // A question of the least number of faults, and the search that answers it.
-ghost use Rattle.std.specs.Prelude.{◌≡◌, ◌≤◌, [], IfOk};
+ghost use Rattle.std.specs.Prelude.{◌≡◌, ◌≤◌, [], map, IfOk};
 ghost use Rattle.des_net.specs.Building.{IsDraft};
 ghost use Rattle.des_net.specs.Network.{IsNetwork};
 ghost use Rattle.indep.specs.StoredTest.{IsTest};
-ghost use Rattle.least_faults.specs.Growing.{AddsAxioms};
 ghost use Rattle.least_faults.specs.Building.{IsUnused};
-ghost use Rattle.least_faults.specs.Parts.{AreReady, BelongTo, IsWithinLimits};
+ghost use Rattle.least_faults.specs.Parts.{AreReady, BelongTo, IsBuilt, IsWithinLimits};
 ghost use Rattle.log_order.specs.Adding.{IsLog};
-ghost use Rattle.proof_ledger.specs.Book.{IsValidBook};
+ghost use Rattle.proof_ledger.specs.Book.{IsValidBook, axiomatic};
+ghost use Rattle.run_decode.specs.QuestionAxioms.{question_axioms};
 ghost use Rattle.diagnose_cli.specs.Commands.{AnswersQuestion};
 
 use des_base::{EventId, Memory};
@@ -111,7 +111,8 @@ fn search<R: Fn(u32) -> u64>(
 ) -> Result<Found, Memory>
     requires belong { BelongTo case.now.net case.now.log parts }
     requires ready { AreReady R.pre R.post parts book.old.entries }
-    requires built { AddsAxioms [] book.old.entries }
+    requires axioms { book.old.entries ≡ map axiomatic (question_axioms case.now.net case.now.log limits.steps 0) }
+    requires determined { IsBuilt case.now.net case.now.log limits.steps parts book.old.entries }
     requires steps { parts.step.steps ≡ limits.steps }
     requires few { parts.step.steps ≤ 1000 }
     ensures { IfOk result (AnswersQuestion case.now.net case.now.log limits.steps limits.budget book.new.entries) }

@@ -1,8 +1,13 @@
 -- The question is built into an empty book.
-use Rattle.std.proofs.Common.{◌≡◌, ◌≤◌, subst, sym}
-use Rattle.least_faults.specs.Growing.{AddsAxioms}
-use Rattle.diagnose_cli.proofs.Diagnosing.{ok_some}
+use Rattle.std.proofs.Common.{◌≡◌, []}
+use Rattle.least_faults.specs.Building.{AreBuilt}
+use Rattle.diagnose_cli.proofs.Diagnosing.{axioms_begin, ok_some}
 use Rattle.diagnose_cli.proofs.question.ask.Goals as goal
 
-pub search-requires-clause-built : goal.search-requires-clause-built
-search-requires-clause-built g c = subst (λ b. AddsAxioms b c.build.new.book.entries) c.requires.empty c.build.ensures.axioms
+pub search-requires-clause-axioms : goal.search-requires-clause-axioms
+search-requires-clause-axioms g c =
+    let net = c.args.case.now.net in
+    let log = c.args.case.now.log in
+    let parts = c.in-Some.parts in
+    let built = ok_some c.build.result (AreBuilt _ _ net log c.args.limits.steps c.args.solver c.build.new.book.entries) parts c.in-Some.is c.build.ensures.built in
+    axioms_begin net log c.args.limits.steps parts c.args.book.now.entries c.build.new.book.entries c.requires.empty c.build.ensures.axioms built.columns built.built
