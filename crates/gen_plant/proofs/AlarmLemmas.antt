@@ -9,7 +9,8 @@ use Rattle.std.proofs.lemmas.List.FromFn.{length-range_with_len, length-map-rang
 use Rattle.des_base.proofs.BoolLemmas.{both, either, otherwise, same, is_less, not_most}
 use Rattle.des_base.proofs.Elements.{all_change}
 use Rattle.des_base.specs.Names.{place_of}
-use Rattle.log_order.specs.Adding.{alarm_refusal, with_alarm, before_refusal, with_pair, names_of, most_alarms, most_pairs}
+use Rattle.log_order.specs.Adding.{alarm_refusal, with_alarm, before_refusal, with_pair, names_of}
+use Rattle.log_order.specs.declared.TheConstants.{MOST_ALARMS, MOST_PAIRS}
 use Rattle.log_order.specs.Log.{Log, has_pair, reaches, closes_cycle, a_log, an_alarm}
 use Rattle.gen_plant.specs.Plant.{most_units, units, number_of, number_after, trips, tripping, trip_label, alarm_name, alarm_of, in_a_row, plant_log}
 use Rattle.gen_plant.specs.Stages.{with_tripped, AwaitsAlarm}
@@ -20,7 +21,7 @@ use Rattle.gen_plant.proofs.NameLemmas.{other_numeral}
 
 unlogged : (log : Log) (name label : List ℕ) → place_of name (names_of log.alarms) ≡ None → length log.alarms < most_units → alarm_refusal log name (label ∷ []) ≡ None
 unfolding alarm_refusal
-unlogged log name label h few = rw (h, not_most most_alarms (length log.alarms) (omega arith)) refl
+unlogged log name label h few = rw (h, not_most MOST_ALARMS (length log.alarms) (omega arith)) refl
 
 pub alarm_free : (log : Log) (unit : ℕ) (name label : List ℕ) → AwaitsAlarm log unit → name ≡ alarm_name unit → alarm_refusal log name (label ∷ []) ≡ None
 alarm_free log unit name label awaits called = unlogged log name label (ap (λ text. place_of text (names_of log.alarms)) called ∙ awaits.free) awaits.few
@@ -64,7 +65,7 @@ row_free : (m k : ℕ) → k + 1 < m → k < most_units → before_refusal m (ro
 unfolding before_refusal
 row_free m k less few =
     let count : length (row k) ≡ k = length-map-range_with_len (λ i. (i, i + 1)) 0 k in
-    rw (is_less k m (omega arith), is_less (k + 1) m less, no_cycle k, no_pair k, not_most most_pairs (length (row k)) (omega arith)) refl
+    rw (is_less k m (omega arith), is_less (k + 1) m less, no_cycle k, no_pair k, not_most MOST_PAIRS (length (row k)) (omega arith)) refl
 
 row_more : (k : ℕ) → with_pair (row k) k (k + 1) ≡ row (k + 1)
 row_more k = rw (no_pair k) (sym (map-range_with_len_more (λ i. (i, i + 1)) 0 k k (omega arith)))

@@ -8,7 +8,8 @@ use Rattle.des_base.specs.Names.{is_name_text, place_of}
 use Rattle.des_base.proofs.BoolLemmas.{is_less}
 use Rattle.des_base.proofs.TableLemmas.{place_of-within}
 use Rattle.log_order.specs.Log.{Log, closes_cycle, has_pair, no_log}
-use Rattle.log_order.specs.Adding.{Answers, alarm_refusal, before_refusal, most_alarms, most_labels, most_pairs, names_of, with_alarm, with_pair}
+use Rattle.log_order.specs.Adding.{Answers, alarm_refusal, before_refusal, names_of, with_alarm, with_pair}
+use Rattle.log_order.specs.declared.TheConstants.{MOST_ALARMS, MOST_LABELS, MOST_PAIRS}
 use Rattle.log_order.specs.declared.refusal.LogRefusal.{LogRefusal}
 use Rattle.log_order.specs.declared.refusal.LogRefusal.TheVariants as refused
 use Rattle.log_order.proofs.AlarmLemmas.{length-names_of}
@@ -80,7 +81,7 @@ alarm_case false false false false h = refl
 code-alarm : (earlier : List Record) (maybe : Bool) (id : List ℕ) (labels : List (List ℕ)) → row_code (alarm maybe id labels) ≡ None → record_code earlier (alarm maybe id labels) ≡ option_map code_of (alarm_refusal (log_of_records earlier) id labels)
 unfolding row_code record_code alarm_refusal
 code-alarm earlier maybe id labels h =
-    alarm_case (not (list_all is_name_text (id ∷ labels))) (is_some (place_of id (ids_of earlier))) (nat_le (length labels) 0) (nat_le most_alarms (length (alarms_of earlier)) || nat_lt most_labels (length labels)) h
+    alarm_case (not (list_all is_name_text (id ∷ labels))) (is_some (place_of id (ids_of earlier))) (nat_le (length labels) 0) (nat_le MOST_ALARMS (length (alarms_of earlier)) || nat_lt MOST_LABELS (length labels)) h
 
 answer_due : (row : ℕ) (why : Option LogRefusal) (e : LogRefusal) → Answers {X = ℕ} (Err e) why → IsDue (fault_at row (option_map code_of why)) (log_refusal_at row e)
 answer_due row why refused.Double h = ap (λ o. fault_at row (option_map code_of o)) h
@@ -122,9 +123,9 @@ code-unknown earlier first second h u = unknown_case (not (list_all is_name_text
 pair_case : (n : Bool) (o p : Option ℕ) (pairs : List (ℕ × ℕ)) (m i j : ℕ) → ◌≡◌ {A = Option ℕ} (cond n (Some 7) None) None → o ≡ Some i → p ≡ Some j → nat_lt i m ≡ true → nat_lt j m ≡ true
     → cond n (Some 7) (cond (is_none o || is_none p) (Some 2) (cond (option_map_or (λ (pair : ℕ × ℕ). closes_cycle pairs pair.0 pair.1) (option_and_then (λ a. option_map (λ b. (a, b)) p) o) false) (Some 3)
     (cond (option_map_or (is_pair_past_limit pairs) (option_and_then (λ a. option_map (λ b. (a, b)) p) o) false) (Some 5) None)))
-    ≡ option_map code_of (cond (nat_lt i m && nat_lt j m) (cond (closes_cycle pairs i j) (Some refused.Cycle) (cond (not (has_pair pairs i j) && nat_le most_pairs (length pairs)) (Some refused.Limit) None)) (Some refused.Unknown))
+    ≡ option_map code_of (cond (nat_lt i m && nat_lt j m) (cond (closes_cycle pairs i j) (Some refused.Cycle) (cond (not (has_pair pairs i j) && nat_le MOST_PAIRS (length pairs)) (Some refused.Limit) None)) (Some refused.Unknown))
 pair_case true o p pairs m i j h a b l k = cc
-pair_case false o p pairs m i j h a b l k = rw (a, b, l, k) (last (closes_cycle pairs i j) (not (has_pair pairs i j) && nat_le most_pairs (length pairs)))
+pair_case false o p pairs m i j h a b l k = rw (a, b, l, k) (last (closes_cycle pairs i j) (not (has_pair pairs i j) && nat_le MOST_PAIRS (length pairs)))
   where
     last : (c d : Bool) → cond c (Some 3) (cond d (Some 5) None) ≡ option_map code_of (cond c (Some refused.Cycle) (cond d (Some refused.Limit) None))
     last true d = refl

@@ -7,7 +7,8 @@ use Rattle.des_base.proofs.PlaceLemmas.{none_parts, place_next, text_turned, tex
 use Rattle.des_base.specs.Names.{AreDistinct, IsName, is_name_text, place_of}
 use Rattle.des_base.proofs.BoolLemmas.{is_less, join, neither, otherwise, not_most, not_less}
 use Rattle.log_order.specs.Log.{Alarm, AreKnown, Keeps, Log, StandOnce, closes_cycle, has_pair, place_in, reaches, a_log, an_alarm}
-use Rattle.log_order.specs.Adding.{IsAlarm, IsLog, alarm_refusal, before_refusal, most_alarms, most_labels, most_pairs, names_of, with_pair, with_texts}
+use Rattle.log_order.specs.Adding.{IsAlarm, IsLog, alarm_refusal, before_refusal, names_of, with_pair, with_texts}
+use Rattle.log_order.specs.declared.TheConstants.{MOST_ALARMS, MOST_LABELS, MOST_PAIRS}
 use Rattle.log_order.specs.declared.refusal.LogRefusal.{LogRefusal}
 use Rattle.log_order.specs.declared.refusal.LogRefusal.TheVariants as refused
 use Rattle.log_order.proofs.AlarmLemmas.{place_of-absent, with_text-new}
@@ -74,7 +75,7 @@ names_true (x ∷ xs) h = join (is_name_text x) (list_all is_name_text xs) (trut
 -- an alarm that reads back
 record IsWhole (a : Alarm) : Type 0 where
   printable : IsPrintable a
-  few : length a.labels ≤ most_labels
+  few : length a.labels ≤ MOST_LABELS
   once : with_texts [] a.labels ≡ a.labels
 
 whole_alarms : (alarms : List Alarm) → AllByRecursion IsName (names_of alarms) → AllByRecursion IsAlarm alarms → AllByRecursion IsWhole alarms
@@ -143,15 +144,15 @@ limit_free : (d n : Bool) → n ≡ false → ◌≡◌ {A = Option LogRefusal} 
 limit_free true n h = refl
 limit_free false n h = ap (λ b. cond b (Some refused.Limit) None) h
 
-pair_free : (m : ℕ) (pairs : List (ℕ × ℕ)) (i j : ℕ) → i < m → j < m → closes_cycle pairs i j ≡ false → length pairs < most_pairs → before_refusal m pairs i j ≡ None
+pair_free : (m : ℕ) (pairs : List (ℕ × ℕ)) (i j : ℕ) → i < m → j < m → closes_cycle pairs i j ≡ false → length pairs < MOST_PAIRS → before_refusal m pairs i j ≡ None
 unfolding before_refusal
 pair_free m pairs i j l k apart room =
-    rw (is_less i m l, is_less j m k, apart) (limit_free (has_pair pairs i j) (nat_le most_pairs (length pairs)) (not_most most_pairs (length pairs) room))
+    rw (is_less i m l, is_less j m k, apart) (limit_free (has_pair pairs i j) (nat_le MOST_PAIRS (length pairs)) (not_most MOST_PAIRS (length pairs) room))
 
-alarm_free : (log : Log) (name : List ℕ) (labels : List (List ℕ)) → place_of name (names_of log.alarms) ≡ None → 1 ≤ length labels → length labels ≤ most_labels → length log.alarms < most_alarms → alarm_refusal log name labels ≡ None
+alarm_free : (log : Log) (name : List ℕ) (labels : List (List ℕ)) → place_of name (names_of log.alarms) ≡ None → 1 ≤ length labels → length labels ≤ MOST_LABELS → length log.alarms < MOST_ALARMS → alarm_refusal log name labels ≡ None
 unfolding alarm_refusal
 alarm_free log name labels new some few room =
-    rw (new, not_most (length labels) 0 (omega arith), not_most most_alarms (length log.alarms) room, not_less most_labels (length labels) few) refl
+    rw (new, not_most (length labels) 0 (omega arith), not_most MOST_ALARMS (length log.alarms) room, not_less MOST_LABELS (length labels) few) refl
 
 -- ---- all records of a printed log
 
@@ -173,7 +174,7 @@ record ArePairs (alarms : List Alarm) (pairs : List (ℕ × ℕ)) : Type 0 where
   order : List ℕ
   kept : Keeps order pairs
   once : StandOnce pairs
-  few : length pairs ≤ most_pairs
+  few : length pairs ≤ MOST_PAIRS
 
 pair_next : (alarms : List Alarm) (all front rest : List (ℕ × ℕ)) (pair : ℕ × ℕ) (earlier : List Record) → ArePairs alarms all → front ++ pair ∷ rest ≡ all → IsLogOf earlier (log_with alarms front)
     → Adds earlier (pair_record_of alarms pair) 0 (log_with alarms (front ++ pair ∷ [])) (Ok tt)
@@ -181,7 +182,7 @@ pair_next alarms all front rest pair earlier h e logged =
     let known = at_middle (λ (p : ℕ × ℕ). (p.0 < length alarms) × (p.1 < length alarms)) front pair rest (subst (AreKnown (length alarms)) (sym e) h.known) in
     let kept = subst (Keeps h.order) (sym e) h.kept in
     let once = subst StandOnce (sym e) h.once in
-    let room : length front < most_pairs = let few = h.few in omega (arith, ap length e, length-append front (pair ∷ rest)) in
+    let room : length front < MOST_PAIRS = let few = h.few in omega (arith, ap length e, length-append front (pair ∷ rest)) in
     pair-added earlier (id_of alarms pair.0) (id_of alarms pair.1) 0 pair.0 pair.1 (log_with alarms front) (log_with alarms (front ++ pair ∷ [])) logged
     (before_accepted (id_of alarms pair.0) (id_of alarms pair.1) (id_named alarms pair.0 h.whole known.0) (id_named alarms pair.1 h.whole known.1))
     (sym (own_place alarms pair.0 h.distinct known.0))
@@ -202,7 +203,7 @@ pairs_accepted alarms all front (pair ∷ rest) earlier h e logged =
 record AreAlarms (alarms : List Alarm) : Type 0 where
   whole : AllByRecursion IsWhole alarms
   distinct : AreDistinct (names_of alarms)
-  few : length alarms ≤ most_alarms
+  few : length alarms ≤ MOST_ALARMS
 
 alarm_next : (all front rest : List Alarm) (a : Alarm) (earlier : List Record) → AreAlarms all → front ++ a ∷ rest ≡ all → IsLogOf earlier (log_with front [])
     → Adds earlier (alarm_record_of a) 0 (log_with (front ++ a ∷ []) []) (Ok tt)
@@ -210,7 +211,7 @@ alarm_next all front rest a earlier h e logged =
     let whole : IsWhole a = at_middle IsWhole front a rest (subst (AllByRecursion IsWhole) (sym e) h.whole) in
     let distinct : AreDistinct (names_of front ++ a.name ∷ names_of rest) = subst AreDistinct (ap names_of (sym e) ∙ names_append front a rest) h.distinct in
     let new : place_of a.name (names_of front) ≡ None = place_of-absent a.name (names_of front) (new_text (names_of front) a.name (names_of rest) distinct) in
-    let room : length front < most_alarms = let few = h.few in omega (arith, ap length e, length-append front (a ∷ rest)) in
+    let room : length front < MOST_ALARMS = let few = h.few in omega (arith, ap length e, length-append front (a ∷ rest)) in
     alarm-added earlier a.doubtful a.name a.labels 0 (log_with front []) (log_with (front ++ a ∷ []) []) logged
     (alarm_accepted a.doubtful a.name a.labels whole.printable.name whole.printable.labels)
     (alarm_free (log_with front []) a.name a.labels new whole.printable.some whole.few room)

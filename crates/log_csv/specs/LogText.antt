@@ -4,7 +4,8 @@ use Rattle.std.specs.List.{list_all}
 use Rattle.std.specs.Option.{option_map_or}
 use Rattle.des_base.specs.Names.{is_name_text, place_of}
 use Rattle.log_order.specs.Log.{Alarm, Log, closes_cycle, has_pair, a_log, an_alarm}
-use Rattle.log_order.specs.Adding.{most_alarms, most_labels, most_pairs, names_of, with_pair, with_texts}
+use Rattle.log_order.specs.Adding.{names_of, with_pair, with_texts}
+use Rattle.log_order.specs.declared.TheConstants.{MOST_ALARMS, MOST_LABELS, MOST_PAIRS}
 use Rattle.log_csv.specs.declared.fault.LogFault.{LogFault}
 use Rattle.log_csv.specs.Records.{Record, alarm, before, ask, nothing, malformed, records_of}
 use Rattle.log_csv.specs.ScriptText.{is_malformed, words_of}
@@ -90,11 +91,11 @@ lacks_labels nothing = false
 lacks_labels malformed = false
 
 abbrev pub is_pair_past_limit : List (ℕ × ℕ) → ℕ × ℕ → Bool
-is_pair_past_limit pairs pair = not (has_pair pairs pair.0 pair.1) && nat_le most_pairs (length pairs)
+is_pair_past_limit pairs pair = not (has_pair pairs pair.0 pair.1) && nat_le MOST_PAIRS (length pairs)
 
 -- a limit would be passed: by one more alarm, by the labels as they are written, or by a pair that is new
 abbrev pub is_past_limit : List Record → Record → Bool
-is_past_limit earlier (alarm maybe id labels) = nat_le most_alarms (length (alarms_of earlier)) || nat_lt most_labels (length labels)
+is_past_limit earlier (alarm maybe id labels) = nat_le MOST_ALARMS (length (alarms_of earlier)) || nat_lt MOST_LABELS (length labels)
 is_past_limit earlier (before first second) = option_map_or (is_pair_past_limit (pairs_of earlier)) (pair_of (ids_of earlier) (before first second)) false
 is_past_limit earlier ask = false
 is_past_limit earlier nothing = false

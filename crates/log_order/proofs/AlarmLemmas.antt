@@ -6,7 +6,8 @@ use Rattle.des_base.proofs.BoolLemmas.{neither, most_not, less_not}
 use Rattle.des_base.specs.Names.{place_of, AreNames, IsName}
 use Rattle.des_base.proofs.TableLemmas.{AreNames-push}
 use Rattle.log_order.specs.Log.{Log, Alarm, an_alarm}
-use Rattle.log_order.specs.Adding.{with_text, with_texts, most_labels, most_alarms, names_of, alarm_refusal, IsAlarm}
+use Rattle.log_order.specs.Adding.{with_text, with_texts, names_of, alarm_refusal, IsAlarm}
+use Rattle.log_order.specs.declared.TheConstants.{MOST_LABELS, MOST_ALARMS}
 use Rattle.log_order.specs.declared.refusal.LogRefusal.TheVariants.{Double, NoLabels, Limit}
 
 none_step : (b r : Bool) (q : Option ℕ) → (b || r) ≡ false → (r ≡ false → q ≡ None) → cond b (Some 0) (option_map suc q) ≡ None
@@ -29,7 +30,7 @@ with_text-there old text h = ap (λ b. cond b old (old ++ text ∷ [])) h
 pub with_text-new : (old : List (List ℕ)) (text : List ℕ) → list_any (bytes_eq text) old ≡ false → with_text old text ≡ old ++ text ∷ []
 with_text-new old text h = ap (λ b. cond b old (old ++ text ∷ [])) h
 
-pub names_more : (old : List (List ℕ)) (text : List ℕ) → IsName text → length old < most_labels → list_any (bytes_eq text) old ≡ false → AreNames old → AreNames (old ++ text ∷ [])
+pub names_more : (old : List (List ℕ)) (text : List ℕ) → IsName text → length old < MOST_LABELS → list_any (bytes_eq text) old ≡ false → AreNames old → AreNames (old ++ text ∷ [])
 names_more old text name few none names = AreNames-push old text names name (place_of-absent text old none) (omega arith)
 
 pub ruleset with_text_is = (with_text-there, with_text-new, names_more)
@@ -58,7 +59,7 @@ some [] h = absurd (omega arith)
 some (x ∷ xs) h = with_texts-longer (x ∷ []) xs
 
 -- an alarm from the labels that are given
-pub IsAlarm-from : (name : List ℕ) (labels : List (List ℕ)) (doubtful : Bool) → AreNames (with_texts [] labels) → 1 ≤ length labels → length labels ≤ most_labels → IsAlarm (an_alarm name (with_texts [] labels) doubtful)
+pub IsAlarm-from : (name : List ℕ) (labels : List (List ℕ)) (doubtful : Bool) → AreNames (with_texts [] labels) → 1 ≤ length labels → length labels ≤ MOST_LABELS → IsAlarm (an_alarm name (with_texts [] labels) doubtful)
 IsAlarm-from name labels doubtful names h few = record { labels = names; some = some labels h; few = let less = with_texts-few [] labels in omega arith }
 
 -- ---- an alarm that isn't refused
@@ -66,13 +67,13 @@ IsAlarm-from name labels doubtful names h few = record { labels = names; some = 
 pub record IsNewAlarm (log : Log) (name : List ℕ) (labels : List (List ℕ)) : Type 0 where
   pub new : place_of name (names_of log.alarms) ≡ None
   pub some : 1 ≤ length labels
-  pub few : length labels ≤ most_labels
-  pub room : length log.alarms < most_alarms
+  pub few : length labels ≤ MOST_LABELS
+  pub room : length log.alarms < MOST_ALARMS
 
-new_step : (o : Option ℕ) (l m : ℕ) → cond (is_some o) (Some Double) (cond (nat_le l 0) (Some NoLabels) (cond (nat_le most_alarms m || nat_lt most_labels l) (Some Limit) None)) ≡ None
-    → (o ≡ None) × (nat_le l 0 ≡ false) × ((nat_le most_alarms m || nat_lt most_labels l) ≡ false)
+new_step : (o : Option ℕ) (l m : ℕ) → cond (is_some o) (Some Double) (cond (nat_le l 0) (Some NoLabels) (cond (nat_le MOST_ALARMS m || nat_lt MOST_LABELS l) (Some Limit) None)) ≡ None
+    → (o ≡ None) × (nat_le l 0 ≡ false) × ((nat_le MOST_ALARMS m || nat_lt MOST_LABELS l) ≡ false)
 new_step (Some x) l m h = cc
-new_step None l m h = new_rest (nat_le l 0) (nat_le most_alarms m || nat_lt most_labels l) h
+new_step None l m h = new_rest (nat_le l 0) (nat_le MOST_ALARMS m || nat_lt MOST_LABELS l) h
   where
     new_rest : (a b : Bool) → cond a (Some NoLabels) (cond b (Some Limit) None) ≡ None → (let o : Option ℕ = None in o ≡ None) × (a ≡ false) × (b ≡ false)
     new_rest true b h = cc
@@ -94,5 +95,5 @@ pub length-names_of : (alarms : List Alarm) → length (names_of alarms) ≡ len
 length-names_of [] = refl
 length-names_of (x ∷ xs) = ap suc (length-names_of xs)
 
-pub few_ids : (ids : List (List ℕ)) (alarms : List Alarm) → ids ≡ names_of alarms → length alarms < most_alarms → length ids < most_alarms
+pub few_ids : (ids : List (List ℕ)) (alarms : List Alarm) → ids ≡ names_of alarms → length alarms < MOST_ALARMS → length ids < MOST_ALARMS
 few_ids ids alarms e l = omega (arith, ap length e, length-names_of alarms)

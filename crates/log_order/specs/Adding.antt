@@ -2,19 +2,10 @@
 use Rattle.std.specs.Prelude.{◌≡◌, ⊤, ℕ, Bool, ◌≤◌, nat_le, nat_lt, ◌&&◌, ◌||◌, not, List, [], ◌∷◌, ◌++◌, map, length, Option, Some, None, is_some, if◌then◌else◌, Result, Ok, Err, bytes_eq}
 use Rattle.std.specs.List.{list_any, AllByRecursion}
 use Rattle.des_base.specs.Names.{place_of, AreNames}
+use Rattle.log_order.specs.declared.TheConstants.{MOST_ALARMS, MOST_LABELS, MOST_PAIRS}
 use Rattle.log_order.specs.declared.refusal.LogRefusal.{LogRefusal}
 use Rattle.log_order.specs.declared.refusal.LogRefusal.TheVariants.{Double, Unknown, Cycle, NoLabels, Limit, Memory}
 use Rattle.log_order.specs.Log.{Log, Alarm, IsValidLog, has_pair, closes_cycle, an_alarm}
-
-abbrev pub most_alarms : ℕ
-most_alarms = 2000
-
--- given for one alarm
-abbrev pub most_labels : ℕ
-most_labels = 64
-
-abbrev pub most_pairs : ℕ
-most_pairs = 20000
 
 -- a call's answer, where this is the refusal that the log calls for: want of memory may come in place of any answer
 abbrev pub Answers : {X : Type 0} → Result X LogRefusal → Option LogRefusal → Type 0
@@ -36,7 +27,7 @@ unfoldable pub alarm_refusal : Log → List ℕ → List (List ℕ) → Option L
 alarm_refusal log name labels =
     if is_some (place_of name (names_of log.alarms)) then Some Double
     else if nat_le (length labels) 0 then Some NoLabels
-    else if nat_le most_alarms (length log.alarms) || nat_lt most_labels (length labels) then Some Limit
+    else if nat_le MOST_ALARMS (length log.alarms) || nat_lt MOST_LABELS (length labels) then Some Limit
     else None
 
 -- the texts, and this one last where it isn't there
@@ -59,7 +50,7 @@ unfoldable pub before_refusal : ℕ → List (ℕ × ℕ) → ℕ → ℕ → Op
 before_refusal alarms pairs first second =
     if nat_lt first alarms && nat_lt second alarms then
     if closes_cycle pairs first second then Some Cycle
-    else if not (has_pair pairs first second) && nat_le most_pairs (length pairs) then Some Limit
+    else if not (has_pair pairs first second) && nat_le MOST_PAIRS (length pairs) then Some Limit
     else None
     else Some Unknown
 
@@ -73,12 +64,12 @@ with_pair pairs first second = if has_pair pairs first second then pairs else pa
 pub record IsAlarm (alarm : Alarm) : Type 0 where
   pub labels : AreNames alarm.labels
   pub some : 1 ≤ length alarm.labels
-  pub few : length alarm.labels ≤ most_labels
+  pub few : length alarm.labels ≤ MOST_LABELS
 
 -- a valid log whose alarms have names of their own, within the limits
 pub record IsLog (log : Log) : Type 0 where
   pub valid : IsValidLog log
   pub names : AreNames (names_of log.alarms)
   pub alarms : AllByRecursion IsAlarm log.alarms
-  pub few_alarms : length log.alarms ≤ most_alarms
-  pub few_pairs : length log.pairs ≤ most_pairs
+  pub few_alarms : length log.alarms ≤ MOST_ALARMS
+  pub few_pairs : length log.pairs ≤ MOST_PAIRS

@@ -2,7 +2,8 @@
 ghost use Rattle.std.specs.Prelude.{◌≡◌, ◌<◌, ◌≤◌, [], length, bytes_eq, IfOk, OnOk};
 ghost use Rattle.std.specs.List.{list_any};
 ghost use Rattle.des_base.specs.Names.{AreNames};
-ghost use Rattle.log_order.specs.Adding.{with_text, with_texts, most_labels};
+ghost use Rattle.log_order.specs.Adding.{with_text, with_texts};
+ghost use Rattle.log_order.specs.declared.TheConstants.{MOST_LABELS};
 
 use des_base::{Memory, Name};
 use std::alloc::Global;
@@ -54,7 +55,7 @@ pub fn has_label(labels: &[Name], label: &Name) -> bool
 // Adds a label, where it isn't there.
 #[tactic(auto, using(crate::proofs::AlarmLemmas::with_text_is))]
 fn push_new(labels: &mut Vec<Name>, label: &Name) -> Result<(), Memory>
-    requires { length labels.old.items < most_labels }
+    requires { length labels.old.items < MOST_LABELS }
     ensures ok { OnOk result (labels.new.items ≡ with_text labels.old.items label.now) }
     ensures names { OnOk result (AreNames labels.old.items → AreNames labels.new.items) }
 {
@@ -67,7 +68,7 @@ fn push_new(labels: &mut Vec<Name>, label: &Name) -> Result<(), Memory>
 
 // The labels, each once and at its first place.
 pub fn each_once(alloc: Global, labels: &[Name]) -> Result<Vec<Name>, Memory>
-    requires { length labels.now ≤ most_labels }
+    requires { length labels.now ≤ MOST_LABELS }
     ensures once { IfOk result (λ once. once.items ≡ with_texts [] labels.now) }
     ensures names { IfOk result (λ once. AreNames once.items) }
 {

@@ -8,14 +8,10 @@ ghost use Rattle.log_order.specs.Order.{least_order};
 use crate::alarm::{Alarm, each_once};
 use crate::precedence::Precedence;
 use crate::refusal::LogRefusal;
+use crate::{MOST_ALARMS, MOST_LABELS};
 use des_base::{Memory, Name, NameTable};
 use std::alloc::Global;
 use std::marker::Model;
-
-const MOST_ALARMS: usize = 2_000;
-
-// Given for one alarm.
-const MOST_LABELS: usize = 64;
 
 /// A log: alarms, each with an id and labels, and certain or doubtful, and pairs of alarms, "the first before the second".
 ///

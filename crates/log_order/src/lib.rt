@@ -17,3 +17,12 @@ mod refusal;
 pub use alarm::has_label;
 pub use alarm_log::AlarmLog;
 pub use refusal::LogRefusal;
+
+/// A log has at most so many alarms.
+pub const MOST_ALARMS: usize = 2_000;
+
+/// For one alarm at most so many labels are given.
+pub const MOST_LABELS: usize = 64;
+
+/// A log has at most so many pairs.
+pub const MOST_PAIRS: usize = 20_000;

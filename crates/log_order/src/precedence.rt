@@ -2,10 +2,12 @@
 ghost use Rattle.std.specs.Prelude.{◌≡◌, ◌+◌, ◌<◌, ◌≤◌, ◌∷◌, ◌++◌, [], ℕ, true, false, not, length, Err, None, IfOk, OnOk, OnErr};
 ghost use Rattle.des_base.specs.Names.{place_of};
 ghost use Rattle.log_order.specs.Log.{has_pair, reaches, ListsOnce, Keeps, AreOrdered, StandOnce};
-ghost use Rattle.log_order.specs.Adding.{Answers, before_refusal, with_pair, most_alarms, most_pairs};
+ghost use Rattle.log_order.specs.Adding.{Answers, before_refusal, with_pair};
+ghost use Rattle.log_order.specs.declared.TheConstants.{MOST_ALARMS, MOST_PAIRS};
 ghost use Rattle.log_order.specs.Precedence.{no_precedence, is_marked, moved, with_follower};
 ghost use Rattle.log_order.specs.Order.{least_order};
 
+use crate::MOST_PAIRS;
 use crate::followers::Followers;
 use crate::marks::{is_marked, mark_all, push_marked, push_unmarked};
 use crate::order::least_order;
@@ -13,8 +15,6 @@ use crate::refusal::LogRefusal;
 use des_base::{Memory, Name, NameTable};
 use std::alloc::Global;
 use std::marker::Model;
-
-const MOST_PAIRS: usize = 20_000;
 
 // Pairs of numbers below a count, "the first before the second", without a cycle.
 //
@@ -55,7 +55,7 @@ impl Precedence {
     pub fn count(&self) -> u32
         ensures count { result ≡ self.now.count }
         ensures ordered { AreOrdered self.now.count self.now.pairs }
-        ensures few { self.now.count ≤ most_alarms }
+        ensures few { self.now.count ≤ MOST_ALARMS }
     {
         self.order.len() as u32
     }
@@ -109,7 +109,7 @@ impl Precedence {
         ensures second { OnOk result (second < self.now.count) }
         ensures ordered { AreOrdered self.now.count self.now.pairs }
         ensures cycle { result ≡ Err LogRefusal.Cycle → reaches self.now.pairs second first ≡ true }
-        ensures room { OnOk result (has_pair self.now.pairs first second ≡ false → length self.now.pairs < most_pairs) }
+        ensures room { OnOk result (has_pair self.now.pairs first second ≡ false → length self.now.pairs < MOST_PAIRS) }
     {
         if first >= self.count() || second >= self.count() {
             return Err(LogRefusal::Unknown);
@@ -146,8 +146,8 @@ impl Precedence {
 
     // Adds a number, which stands in no pair, and its id to the table: both or none.
     pub fn add_number(&mut self, ids: &mut NameTable, id: Name) -> Result<u32, Memory>
-        requires room { self.old.count < most_alarms }
-        requires few { length ids.old < most_alarms }
+        requires room { self.old.count < MOST_ALARMS }
+        requires few { length ids.old < MOST_ALARMS }
         requires new { place_of id ids.old ≡ None }
         ensures ok { OnOk result (self.new ≡ record self.old { count = self.old.count + 1 }) }
         ensures ids { OnOk result (ids.new ≡ ids.old ++ id ∷ []) }
@@ -186,7 +186,7 @@ impl Precedence {
     pub fn add(&mut self, first: u32, second: u32) -> Result<bool, LogRefusal>
         ensures refused { Answers result (before_refusal self.old.count self.old.pairs first second) }
         ensures ok { OnOk result (self.new ≡ record self.old { pairs = with_pair self.old.pairs first second }) }
-        ensures few { OnOk result (length self.old.pairs ≤ most_pairs → length self.new.pairs ≤ most_pairs) }
+        ensures few { OnOk result (length self.old.pairs ≤ MOST_PAIRS → length self.new.pairs ≤ MOST_PAIRS) }
         ensures fresh { IfOk result (λ fresh. fresh ≡ not (has_pair self.old.pairs first second)) }
         ensures err { OnErr result (self.new ≡ self.old) }
     {

@@ -5,7 +5,8 @@ use Rattle.des_base.specs.Names.{place_of, AreNames}
 use Rattle.des_base.proofs.TableLemmas.{AreNames-push}
 use Rattle.log_order.specs.Log.{Log, Alarm, an_alarm}
 use Rattle.log_order.specs.Precedence.{Precedence}
-use Rattle.log_order.specs.Adding.{most_alarms, most_pairs, names_of, with_texts, IsAlarm}
+use Rattle.log_order.specs.Adding.{names_of, with_texts, IsAlarm}
+use Rattle.log_order.specs.declared.TheConstants.{MOST_ALARMS, MOST_PAIRS}
 use Rattle.log_order.proofs.AlarmLemmas.{IsNewAlarm-from, IsAlarm-from, names_of-push, few_ids, length-names_of}
 use Rattle.log_order.proofs.OrderLemmas.{all_append}
 use Rattle.log_order.proofs.alarm_log.AlarmLog.put_alarm.Goals as goal
@@ -13,11 +14,11 @@ use Rattle.log_order.proofs.alarm_log.AlarmLog.put_alarm.Goals as goal
 pub each_once-requires : goal.each_once-requires
 each_once-requires c = (IsNewAlarm-from _ _ _ c.requires).few
 
-room : (c : goal.After-add_number-arg-2-1) → length c.self.inside.alarms.items < most_alarms
-room c = subst (λ (log : Log). length log.alarms < most_alarms) (sym c.self.view_is) (IsNewAlarm-from _ _ _ c.requires).room
+room : (c : goal.After-add_number-arg-2-1) → length c.self.inside.alarms.items < MOST_ALARMS
+room c = subst (λ (log : Log). length log.alarms < MOST_ALARMS) (sym c.self.view_is) (IsNewAlarm-from _ _ _ c.requires).room
 
 pub add_number-requires-clause-room : goal.add_number-requires-clause-room
-add_number-requires-clause-room c = subst (λ n. n < most_alarms) (sym c.self.invariant.counted) (room c)
+add_number-requires-clause-room c = subst (λ n. n < MOST_ALARMS) (sym c.self.invariant.counted) (room c)
 
 pub add_number-requires-clause-few : goal.add_number-requires-clause-few
 add_number-requires-clause-few c = few_ids _ _ c.self.invariant.named (room c)
@@ -37,7 +38,7 @@ invariant_of-self-2 c =
     let alarms = c.self.inside.alarms.items in
     let is : c.push_reserved.new.self.items ≡ c.self.inside.alarms.items ++ alarm ∷ [] = alarms_are c in
     let new = IsNewAlarm-from _ _ _ c.requires in
-    let few : length c.self.inside.alarms.items < most_alarms = subst (λ (log : Log). length log.alarms < most_alarms) (sym c.self.view_is) new.room in
+    let few : length c.self.inside.alarms.items < MOST_ALARMS = subst (λ (log : Log). length log.alarms < MOST_ALARMS) (sym c.self.view_is) new.room in
     let fresh : place_of c.args.id (names_of c.self.inside.alarms.items) ≡ None = ap (λ (log : Log). place_of c.args.id (names_of log.alarms)) c.self.view_is ∙ new.new in
     let names : names_of c.push_reserved.new.self.items ≡ names_of c.self.inside.alarms.items ++ c.args.id ∷ [] = ap names_of is ∙ names_of-push alarms alarm in
     let long : length c.push_reserved.new.self.items ≡ length c.self.inside.alarms.items + 1 = ap length is ∙ length-append alarms (alarm ∷ []) in
@@ -48,5 +49,5 @@ invariant_of-self-2 c =
       names = subst AreNames (sym names) (AreNames-push (names_of c.self.inside.alarms.items) c.args.id c.self.invariant.names c.as_str-text.ensures.name fresh (omega (arith, length-names_of alarms)));
       alarms = subst (λ (xs : List Alarm). AllByRecursion IsAlarm xs) (sym is) (all_append IsAlarm alarms (alarm ∷ []) c.self.invariant.alarms (IsAlarm-from c.args.id c.args.labels.now c.args.doubtful labels new.some new.few, tt));
       few_alarms = omega (arith, long);
-      few_pairs = subst (λ (p : Precedence). length p.pairs ≤ most_pairs) (sym c.in_ok-number.ensures.ok) c.self.invariant.few_pairs;
+      few_pairs = subst (λ (p : Precedence). length p.pairs ≤ MOST_PAIRS) (sym c.in_ok-number.ensures.ok) c.self.invariant.few_pairs;
     }
