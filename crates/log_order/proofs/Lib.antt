@@ -5,5 +5,6 @@ pub mod MarkLemmas
 pub mod PassLemmas
 pub mod KeptLemmas
 pub mod AlarmLemmas
+pub mod Meaning
 pub mod LeastOrder
 pub mod Vectors

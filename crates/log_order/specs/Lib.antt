@@ -1,4 +1,5 @@
 pub mod Log
+pub mod Meanings
 pub mod Adding
 pub mod Precedence
 pub mod View

@@ -4,6 +4,7 @@ use Rattle.std.specs.List.{AllByRecursion}
 use Rattle.des_base.specs.Names.{AreNames}
 use Rattle.log_order.specs.Log.{Log, StandOnce}
 use Rattle.log_order.specs.Adding.{names_of, IsAlarm}
+use Rattle.log_order.specs.Meanings.{alarms_with}
 use Rattle.log_order.specs.declared.TheConstants.{MOST_ALARMS, MOST_PAIRS}
 use Rattle.log_order.specs.Precedence.{Precedence, IsKept}
 use Rattle.log_order.specs.declared.alarm_log.AlarmLog.TheInside.{Inside as LogInside}
@@ -18,13 +19,14 @@ pub record IsPrecedence (a : PrecedenceInside) : Type 0 where
   pub once : StandOnce a.pairs.items
 
 abbrev pub log_view : LogInside → Log
-log_view a = record { alarms = a.alarms.items; pairs = a.precedence.pairs }
+log_view a = record { alarms = alarms_with a.ids a.meanings.items; pairs = a.precedence.pairs }
 
--- the ids are the alarms', and the pairs are of alarms
+-- each id has its meaning, and the pairs are of alarms
 pub record IsAlarmLog (a : LogInside) : Type 0 where
-  pub named : a.ids ≡ names_of a.alarms.items
-  pub counted : a.precedence.count ≡ length a.alarms.items
-  pub names : AreNames (names_of a.alarms.items)
-  pub alarms : AllByRecursion IsAlarm a.alarms.items
-  pub few_alarms : length a.alarms.items ≤ MOST_ALARMS
+  pub paired : length a.meanings.items ≡ length a.ids
+  pub named : a.ids ≡ names_of (alarms_with a.ids a.meanings.items)
+  pub counted : a.precedence.count ≡ length (alarms_with a.ids a.meanings.items)
+  pub names : AreNames (names_of (alarms_with a.ids a.meanings.items))
+  pub alarms : AllByRecursion IsAlarm (alarms_with a.ids a.meanings.items)
+  pub few_alarms : length (alarms_with a.ids a.meanings.items) ≤ MOST_ALARMS
   pub few_pairs : length a.precedence.pairs ≤ MOST_PAIRS

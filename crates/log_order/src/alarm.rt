@@ -9,29 +9,22 @@ use des_base::{Memory, Name};
 use std::alloc::Global;
 use std::marker::Model;
 
-// An alarm: its id and its labels, and whether it is perhaps false.
+// What an alarm may stand for: events with its labels, and no event where it is perhaps false.
 #[derive(Drop)]
-pub struct Alarm {
-    pub id: Name,
+pub struct Meaning {
     pub labels: Vec<Name>,
     pub doubtful: bool,
 }
 
-impl Model for Alarm {
-    ghost use Rattle.log_order.specs.Log.{Alarm};
+impl Model for Meaning {
+    ghost use Rattle.log_order.specs.Meanings.{Meaning};
 
-    ghost Value = { Alarm };
+    ghost Value = { Meaning };
 
-    ghost view = { λ a. record { name = a.id; labels = a.labels.items; doubtful = a.doubtful } };
+    ghost view = { λ a. record { labels = a.labels.items; doubtful = a.doubtful } };
 }
 
-impl Alarm {
-    pub fn id(&self) -> &Name
-        ensures { result.now ≡ self.now.name }
-    {
-        &self.id
-    }
-
+impl Meaning {
     pub fn labels(&self) -> &[Name]
         ensures { result.now ≡ self.now.labels }
     {

@@ -5,7 +5,7 @@ ghost use Rattle.log_order.specs.Log.{no_log, has_pair, ListsOnce, Keeps, IsVali
 ghost use Rattle.log_order.specs.Adding.{Answers, alarm_refusal, with_alarm, before_refusal, with_pair, names_of, IsLog};
 ghost use Rattle.log_order.specs.Order.{least_order};
 
-use crate::alarm::{Alarm, each_once};
+use crate::alarm::{Meaning, each_once};
 use crate::precedence::Precedence;
 use crate::refusal::LogRefusal;
 use crate::{MOST_ALARMS, MOST_LABELS};
@@ -21,7 +21,7 @@ use std::marker::Model;
 #[derive(Drop)]
 pub struct AlarmLog {
     ids: NameTable,
-    alarms: Vec<Alarm>,
+    meanings: Vec<Meaning>,
     precedence: Precedence,
     alloc: Global,
 }
@@ -45,7 +45,7 @@ impl AlarmLog {
     {
         AlarmLog {
             ids: NameTable::new(alloc),
-            alarms: Vec::new(alloc),
+            meanings: Vec::new(alloc),
             precedence: Precedence::new(alloc),
             alloc,
         }
@@ -60,27 +60,30 @@ impl AlarmLog {
     }
 
     /// The id of an alarm.
+    #[tactic(auto, using(crate::proofs::Meaning::id_is_known, crate::proofs::Meaning::id_is))]
     pub fn id(&self, alarm: u32) -> &Name
         requires { alarm < length self.now.alarms }
         ensures { option_map (λ a. a.name) (slice_get self.now.alarms alarm) ≡ Some result.now }
     {
-        self.alarms[alarm as usize].id()
+        self.ids.name(alarm)
     }
 
     /// The labels of an alarm, each once.
+    #[tactic(auto, using(crate::proofs::Meaning::meaning_is_known))]
     pub fn labels(&self, alarm: u32) -> &[Name]
         requires { alarm < length self.now.alarms }
         ensures { option_map (λ a. a.labels) (slice_get self.now.alarms alarm) ≡ Some result.now }
     {
-        self.alarms[alarm as usize].labels()
+        self.meanings[alarm as usize].labels()
     }
 
     /// Whether an alarm is doubtful: perhaps false, so that it stands for no event.
+    #[tactic(auto, using(crate::proofs::Meaning::meaning_is_known))]
     pub fn is_maybe(&self, alarm: u32) -> bool
         requires { alarm < length self.now.alarms }
         ensures { option_map (λ a. a.doubtful) (slice_get self.now.alarms alarm) ≡ Some result }
     {
-        self.alarms[alarm as usize].is_doubtful()
+        self.meanings[alarm as usize].is_doubtful()
     }
 
     /// The pairs, in the order in which they were added.
@@ -126,7 +129,7 @@ impl AlarmLog {
         if labels.is_empty() {
             return Some(LogRefusal::NoLabels);
         }
-        if self.alarms.len() >= MOST_ALARMS || labels.len() > MOST_LABELS {
+        if self.alarms() as usize >= MOST_ALARMS || labels.len() > MOST_LABELS {
             return Some(LogRefusal::Limit);
         }
         None
@@ -185,14 +188,13 @@ impl AlarmLog {
         ensures err { OnErr result (self.new ≡ self.old) }
     {
         let _text = id.as_str();
-        let alarm = Alarm {
-            id: id.copy()?,
+        let meaning = Meaning {
             labels: each_once(self.alloc, labels)?,
             doubtful,
         };
-        self.alarms.reserve(1)?;
+        self.meanings.reserve(1)?;
         let number = self.precedence.add_number(&mut self.ids, id)?;
-        self.alarms.push_reserved(alarm);
+        self.meanings.push_reserved(meaning);
         Ok(number)
     }
 
