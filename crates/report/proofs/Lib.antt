@@ -1,6 +1,5 @@
-pub mod Appended
 pub mod NameWords
-pub mod PrintedLines
+pub mod DecimalWords
 pub mod PrintedRuns
 pub mod ReadsBack
 pub mod PrintedLengths

@@ -1,32 +1,16 @@
 -- Names as words of a line, and the places of distinct names.
-use Rattle.std.proofs.Common.{◌≡◌, ◌<◌, ◌≤◌, ℕ, zero, suc, Bool, true, false, List, [], ◌∷◌, ◌++◌, length, Option, Some, None, cond, refl, arith, ap, sym}
+use Rattle.std.proofs.Common.{◌≡◌, ◌<◌, ℕ, zero, suc, Bool, true, false, List, [], ◌∷◌, ◌++◌, length, Option, Some, None, cond, refl, arith, ap, sym}
 use Rattle.std.proofs.lemmas.Bool.Decides.{nat_tests}
 use Rattle.std.proofs.lemmas.Slice.Eq.{bytes_eq-Decides}
-use Rattle.std.specs.Prelude.{◌&&◌, ◌==◌, nat_le, bytes_eq, codes, option_map, slice_index_or}
+use Rattle.std.specs.Prelude.{◌==◌, bytes_eq, codes, option_map, slice_index_or}
 use Rattle.std.specs.List.{list_all, AllByRecursion}
-use Rattle.des_base.proofs.BoolLemmas.{both, join, most_is, otherwise}
-use Rattle.des_base.proofs.PrintedLines.{word_byte, IsWord}
+use Rattle.des_base.proofs.BoolLemmas.{both, otherwise}
+use Rattle.des_base.proofs.PrintedLines.{IsNameText}
 use Rattle.des_base.specs.CountedLines.{is_blank, is_counted}
 use Rattle.des_base.specs.Names.{AreDistinct, IsName, is_name_byte, is_name_text, place_of}
 use Rattle.replay.specs.RunText.{is_mark}
 
 -- ---- words
-
-pub record IsNameText (text : List ℕ) : Type 0 where
-  pub some : 0 < length text
-  pub few : length text ≤ 64
-  pub bytes : list_all is_name_byte text ≡ true
-
-pub name_text : (text : List ℕ) → is_name_text text ≡ true → IsNameText text
-unfolding is_name_text
-name_text text h =
-    let outer = both (nat_le 1 (length text) && nat_le (length text) 64) (list_all is_name_byte text) h in
-    let inner = both (nat_le 1 (length text)) (nat_le (length text) 64) outer.0 in
-    record { some = let some = most_is 1 (length text) inner.0 in omega arith; few = most_is (length text) 64 inner.1; bytes = outer.1 }
-
-word_of_name : (c : ℕ) → is_name_byte c ≡ true → word_byte c ≡ true
-unfolding is_name_byte
-word_of_name c h = grind (arith, nat_tests)
 
 not_blank : (c : ℕ) → is_name_byte c ≡ true → is_blank c ≡ false
 unfolding is_name_byte
@@ -35,13 +19,6 @@ not_blank c h = grind (arith, nat_tests)
 no_comment : (c : ℕ) → is_name_byte c ≡ true → (c == 35) ≡ false
 unfolding is_name_byte
 no_comment c h = grind (arith, nat_tests)
-
-words_of_name : (text : List ℕ) → list_all is_name_byte text ≡ true → list_all word_byte text ≡ true
-words_of_name [] h = refl
-words_of_name (c ∷ cs) h = let parts = both (is_name_byte c) (list_all is_name_byte cs) h in join (word_byte c) (list_all word_byte cs) (word_of_name c parts.0) (words_of_name cs parts.1)
-
-pub name_word : (text : List ℕ) → IsNameText text → IsWord text
-name_word text h = record { some = h.some; bytes = words_of_name text h.bytes }
 
 first_counts : (c : ℕ) (rest : List ℕ) → is_name_byte c ≡ true → is_counted 35 (c ∷ rest) ≡ true
 first_counts c rest h = rw (not_blank c h, no_comment c h) refl

@@ -12,7 +12,7 @@ use Rattle.replay.specs.declared.run.RunStep.TheVariants.{Happens, Dropped}
 use Rattle.least_faults.specs.declared.answer.Found.TheVariants.{Explained, Absent, Many, Undecided}
 use Rattle.report.specs.Replies.{numbered, placed, text_of_alarm, text_of_step, text_of_run}
 use Rattle.report.specs.ReadBack.{HasNames, RepliesAreShort, RepliesFit}
-use Rattle.report.proofs.NameWords.{name_text}
+use Rattle.des_base.proofs.PrintedLines.{name_text}
 
 -- ---- numbers and names
 

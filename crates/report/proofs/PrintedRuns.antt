@@ -8,7 +8,7 @@ use Rattle.std.specs.List.{list_all, cons_option}
 use Rattle.std.specs.Option.{option_or}
 use Rattle.des_base.proofs.BoolLemmas.{join, is_most}
 use Rattle.des_base.proofs.LawLemmas.{numbers_are_decimal}
-use Rattle.des_base.proofs.PrintedLines.{line_byte, IsWord, tokens_of-word, tokens_of-last, word_in_line, word_before}
+use Rattle.des_base.proofs.PrintedLines.{line_byte, IsWord, IsNameText, counted_from-line, name_text, name_word, tokens_of-word, tokens_of-last, word_in_line, word_before}
 use Rattle.des_base.specs.CountedLines.{NumberedLine, numbered, counted_from, is_counted, tokens_of}
 use Rattle.des_base.specs.Names.{AreNames, IsName, is_name_text, place_of}
 use Rattle.des_base.specs.Numbers.{up_to}
@@ -21,8 +21,8 @@ use Rattle.replay.specs.declared.run.RunStep.TheVariants.{Happens, Dropped}
 use Rattle.replay.specs.declared.run_text.RunFault.{RunFault}
 use Rattle.report.specs.Replies.{text_of_alarm, text_of_step, text_of_run}
 use Rattle.report.specs.ReadBack.{HasNames}
-use Rattle.report.proofs.PrintedLines.{decimal_bytes, decimal_word, counted_from-line}
-use Rattle.report.proofs.NameWords.{IsNameText, no_mark, name_text, name_word, name_counts, name_at, own_place}
+use Rattle.report.proofs.DecimalWords.{decimal_bytes, decimal_word}
+use Rattle.report.proofs.NameWords.{no_mark, name_counts, name_at, own_place}
 
 -- a line, its end, and what follows it
 pub end_of_line : (line rest : List ℕ) → (line ++ 10 ∷ []) ++ rest ≡ line ++ 10 ∷ rest

@@ -3,7 +3,7 @@ use Rattle.std.proofs.Common.{◌≡◌, ◌≤◌, ◌+◌, ℕ, Bool, true, fa
 use Rattle.std.specs.Prelude.{codes}
 use Rattle.std.specs.Fmt.{decimal}
 use Rattle.std.specs.List.{list_all}
-use Rattle.des_base.proofs.PrintedLines.{line_byte, IsWord, tokens_of-word, word_in_line, word_before}
+use Rattle.des_base.proofs.PrintedLines.{line_byte, IsWord, counted_from-line, tokens_of-word, word_in_line, word_before}
 use Rattle.des_base.specs.CountedLines.{NumberedLine, numbered, counted_from, is_counted, tokens_of, last_line}
 use Rattle.des_net.specs.Building.{IsDraft}
 use Rattle.des_net.specs.Network.{Net}
@@ -12,7 +12,7 @@ use Rattle.replay.specs.declared.run.RunStep.{RunStep}
 use Rattle.least_faults.specs.declared.answer.Found.TheVariants.{Explained, Absent, Many, Undecided}
 use Rattle.report.specs.Replies.{text_of_run}
 use Rattle.report.specs.ReadBack.{IsPrintable, IsRunText, PrintedRunsReadBack, RepliesReadBack}
-use Rattle.report.proofs.PrintedLines.{decimal_bytes, counted_from-line}
+use Rattle.report.proofs.DecimalWords.{decimal_bytes}
 use Rattle.report.proofs.PrintedRuns.{end_of_line, AreNamed, are_named, step_lines, no_fault_of_steps, steps_of-lines, run_line, run_line-tokens, run_line-length, counted_from-run}
 
 abbrev run_lines : Net → ℕ → List RunStep → List NumberedLine

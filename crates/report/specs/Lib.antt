@@ -1,3 +1,2 @@
 pub mod Replies
-pub mod Appending
 pub mod ReadBack

@@ -1,6 +1,6 @@
 // The text of what checking a proof tells.
 ghost use Rattle.std.specs.Prelude.{◌≡◌, ◌++◌, OnErr, OnOk};
-ghost use Rattle.report.specs.Appending.{Extends};
+ghost use Rattle.des_base.specs.Lists.{Extends};
 ghost use Rattle.report.specs.Replies.{text_of_checked};
 
 use crate::pieces::{push_placed, push_text, whole_or_nothing};

@@ -1,12 +1,12 @@
 // The text of what is found of a log.
 ghost use Rattle.std.specs.Prelude.{◌≡◌, ◌<◌, ◌++◌, All, length, IfSome, OnErr, OnOk};
 ghost use Rattle.replay.specs.Traced.{word_of};
-ghost use Rattle.report.specs.Appending.{Extends};
+ghost use Rattle.des_base.specs.Lists.{Extends};
 ghost use Rattle.report.specs.Replies.{EventsKnown, text_of_bounds, text_of_found, text_of_run};
 
-use crate::pieces::{push_decimal, push_numbered, push_placed, push_text, whole_or_nothing};
+use crate::pieces::{push_numbered, push_placed, push_text, whole_or_nothing};
 use crate::run::push_run;
-use des_base::Memory;
+use des_base::{Memory, push_decimal};
 use des_net::Network;
 use least_faults::{Best, Found};
 
@@ -62,7 +62,7 @@ fn push_undecided(
         }
         None => {
             push_text("UNDECIDED ", out)?;
-            push_decimal(u64::from(lo), out)?;
+            push_decimal(out, u64::from(lo))?;
             push_text(" -\n", out)
         }
     }

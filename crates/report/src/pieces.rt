@@ -1,9 +1,9 @@
 // The pieces of lines. Where memory is wanting, some of what is to be appended may be there.
-ghost use Rattle.std.specs.Prelude.{◌≡◌, ◌++◌, decimal, take, OnErr, OnOk};
-ghost use Rattle.report.specs.Appending.{Extends};
+ghost use Rattle.std.specs.Prelude.{◌≡◌, ◌++◌, take, OnErr, OnOk};
+ghost use Rattle.des_base.specs.Lists.{Extends};
 ghost use Rattle.report.specs.Replies.{numbered, placed, named, paired};
 
-use des_base::Memory;
+use des_base::{Memory, push_decimal};
 
 /// Appends the text.
 pub fn push_text(text: &str, out: &mut Vec<u8>) -> Result<(), Memory>
@@ -14,28 +14,13 @@ pub fn push_text(text: &str, out: &mut Vec<u8>) -> Result<(), Memory>
     Ok(())
 }
 
-/// Appends the decimal digits of the number.
-#[tactic(auto, using(std::proofs::lemmas::Fmt::decimal_step, std::proofs::lemmas::Fmt::decimal_digit))]
-pub fn push_decimal(n: u64, out: &mut Vec<u8>) -> Result<(), Memory>
-    ensures ok { OnOk result (out.new.items ≡ out.old.items ++ decimal n) }
-    ensures kept { Extends out.old.items out.new.items }
-{
-    if n < 10 {
-        out.push(b'0' + n as u8)?;
-        return Ok(());
-    }
-    push_decimal(n / 10, out)?;
-    out.push(b'0' + (n % 10) as u8)?;
-    Ok(())
-}
-
 /// Appends words, a number and the end of the line.
 pub fn push_numbered(words: &str, n: u64, out: &mut Vec<u8>) -> Result<(), Memory>
     ensures ok { OnOk result (out.new.items ≡ out.old.items ++ numbered words.now n) }
     ensures kept { Extends out.old.items out.new.items }
 {
     push_text(words, out)?;
-    push_decimal(n, out)?;
+    push_decimal(out, n)?;
     push_text("\n", out)
 }
 
@@ -45,7 +30,7 @@ pub fn push_placed(words: &str, first: u64, second: u64, out: &mut Vec<u8>) -> R
     ensures kept { Extends out.old.items out.new.items }
 {
     push_text(words, out)?;
-    push_decimal(first, out)?;
+    push_decimal(out, first)?;
     push_numbered(" ", second, out)
 }
 

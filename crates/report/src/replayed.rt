@@ -2,7 +2,7 @@
 ghost use Rattle.std.specs.Prelude.{◌≡◌, ◌<◌, ◌++◌, [], length, slice_index_or, OnErr, OnOk};
 ghost use Rattle.log_order.specs.Adding.{names_of};
 ghost use Rattle.replay.specs.Replayed.{NamesKnown};
-ghost use Rattle.report.specs.Appending.{Extends};
+ghost use Rattle.des_base.specs.Lists.{Extends};
 ghost use Rattle.report.specs.Replies.{text_of_replayed};
 
 use crate::pieces::{push_named, push_numbered, push_paired, whole_or_nothing};

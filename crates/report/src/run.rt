@@ -1,7 +1,7 @@
 // The text of a run.
 ghost use Rattle.std.specs.Prelude.{◌≡◌, ◌<◌, ◌++◌, ◌∷◌, [], All, IfSome, length, flat_map, slice_index_or, OnErr, OnOk};
 ghost use Rattle.replay.specs.Traced.{event_of, word_of};
-ghost use Rattle.report.specs.Appending.{Extends};
+ghost use Rattle.des_base.specs.Lists.{Extends};
 ghost use Rattle.report.specs.Replies.{text_of_alarm, text_of_run, text_of_step};
 
 use crate::pieces::{push_named, push_numbered, push_text, whole_or_nothing};

@@ -1,6 +1,6 @@
 // The text of what tracing a run tells.
 ghost use Rattle.std.specs.Prelude.{◌≡◌, ◌++◌, OnErr, OnOk};
-ghost use Rattle.report.specs.Appending.{Extends};
+ghost use Rattle.des_base.specs.Lists.{Extends};
 ghost use Rattle.report.specs.Replies.{text_of_traced};
 
 use crate::pieces::{push_numbered, whole_or_nothing};

@@ -1,7 +1,7 @@
 use Rattle.std.proofs.Common.{arith}
 use Rattle.replay.proofs.RunLemmas.{event_known}
 use Rattle.report.specs.Replies.{text_of_step}
-use Rattle.report.proofs.Appended.{one_more}
+use Rattle.des_base.proofs.Appended.{one_more}
 use Rattle.report.proofs.run.push_steps.Goals as goal
 
 pub push_step-requires : goal.push_step-requires
