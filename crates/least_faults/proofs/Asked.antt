@@ -33,7 +33,7 @@ use Rattle.run_decode.proofs.Decided.{refuted_is_decided}
 use Rattle.run_decode.specs.Decided.{Entails}
 use Rattle.run_decode.specs.Faithful.{IsWithin, IsFaithful}
 use Rattle.run_decode.specs.Decoding.{IsTrueRun}
-use Rattle.sat_order.specs.Rank.{IsRanked, KeepsRanks}
+use Rattle.sat_order.specs.Rank.{KeepsRanks}
 use Rattle.least_faults.proofs.Ranking.{still_ranked}
 use Rattle.sat_solve.specs.Searching.{IsSearched, HasPut, IsRefuted}
 use Rattle.sat_solve.specs.Solving.{SolverState}

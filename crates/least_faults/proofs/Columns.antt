@@ -20,7 +20,6 @@ use Rattle.prop_core.specs.declared.lit.Lit.{Lit}
 use Rattle.run_decode.proofs.WholeClauses.{clauses_grow}
 use Rattle.run_decode.proofs.WholeNames.{together_grow}
 use Rattle.sat_prop.specs.Changes.{IsFront}
-use Rattle.std.proofs.lemmas.List.{map-append as map_append}
 use Rattle.step_encode.specs.Coded.{CodedSteps}
 use Rattle.least_faults.specs.declared.parts.Parts.{Parts}
 use Rattle.sat_order.specs.Rank.{IsRanked}

@@ -1,5 +1,5 @@
 -- Network, log, n and the number of columns determine what is built.
-use Rattle.std.proofs.Common.{◌≡◌, ◌∙◌, ℕ, suc, ◌+◌, ◌≤◌, List, [], ◌∷◌, ◌++◌, fold, length, map, take, sym, ap, subst, arith, Bool, Option, Some, option_map, slice_get}
+use Rattle.std.proofs.Common.{◌≡◌, ◌∙◌, ℕ, suc, ◌+◌, ◌≤◌, List, [], ◌∷◌, ◌++◌, fold, length, map, take, sym, ap, subst, arith, Bool, Some, option_map, slice_get}
 use Rattle.std.proofs.lemmas.Grind.{fold-append}
 use Rattle.std.proofs.lemmas.List.{map-append}
 use Rattle.card_counter.proofs.ListLemmas.{take_more}
@@ -12,7 +12,7 @@ use Rattle.least_faults.proofs.CodedAlarms.{nameless_at}
 use Rattle.least_faults.specs.LogCoding.{AreBuiltBy, alarms_added, pairs_added, written_of}
 use Rattle.log_clauses.specs.Additions.{Addition, alarm_added, pair_added}
 use Rattle.log_encode.proofs.WrittenLemmas.{draft_is_built, first_is_built}
-use Rattle.log_encode.specs.BuiltLog.{BuiltLog, added_written, built_empty, built_log, built_with, first_written}
+use Rattle.log_encode.specs.BuiltLog.{added_written, built_empty, built_log, built_with, first_written}
 use Rattle.log_encode.specs.CodedLog.{CodedLog, IsCodedLog, code_after, empty_code, nameless, read_names, without_names}
 use Rattle.log_encode.specs.Drafted.{DraftState, IsDraftOf}
 use Rattle.log_encode.specs.WrittenLog.{AppendsFirst}
@@ -22,7 +22,7 @@ use Rattle.prop_core.specs.Clauses.{Clause}
 use Rattle.prop_core.specs.declared.grid.Grid.{Grid}
 use Rattle.prop_core.specs.declared.lit.Lit.{Lit}
 use Rattle.run_decode.proofs.Built.{question_begins}
-use Rattle.run_decode.specs.QuestionAxioms.{BuiltQuestion, column_built, question_built, steps_built}
+use Rattle.run_decode.specs.QuestionAxioms.{column_built, question_built, steps_built}
 use Rattle.run_decode.specs.WholeNaming.{AreInputs}
 use Rattle.std.specs.List.{range_with_len}
 use Rattle.step_encode.specs.Coded.{CodedSteps, code_names as step_names, code_grid, variable_count, AppendsSteps}

@@ -1,5 +1,5 @@
 -- What is stored of the ranks stays what was answered.
-use Rattle.std.proofs.Common.{◌≡◌, ℕ, ◌<◌, List, length, subst, sym}
+use Rattle.std.proofs.Common.{ℕ, ◌<◌, List, length, subst, sym}
 use Rattle.sat_order.specs.Rank.{IsRank, IsRanked, OrderState, KeepsRanks}
 use Rattle.sat_order.specs.Waiting.{rank_of}
 

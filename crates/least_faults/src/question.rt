@@ -1,10 +1,7 @@
 // What is asked about: which runs of a network explain a log.
 ghost use Rattle.std.specs.Prelude.{List};
-ghost use Rattle.des_net.specs.Building.{IsDraft};
-ghost use Rattle.des_net.specs.Network.{IsNetwork};
 ghost use Rattle.log_clauses.specs.LogClauses.{guard_literals};
 ghost use Rattle.log_encode.specs.CodedLog.{read_names};
-ghost use Rattle.log_order.specs.Adding.{IsLog};
 ghost use Rattle.proof_ledger.specs.Book.{IsValidBook};
 ghost use Rattle.prop_core.specs.VariableNames.{ReadsAs};
 ghost use Rattle.prop_core.specs.declared.lit.Lit.{Lit};
@@ -21,16 +18,6 @@ pub struct Question<'a> {
     pub net: &'a Network,
     pub log: &'a AlarmLog,
     pub alloc: Global,
-}
-
-// Network and log are whole, as their readers tell.
-pub fn are_whole(net: &Network, log: &AlarmLog)
-    ensures network { IsNetwork net.now }
-    ensures draft { IsDraft net.now }
-    ensures log { IsLog log.now }
-{
-    let _components = net.components();
-    let _alarms = log.alarms();
 }
 
 // The book is valid, as its reader tells.

@@ -27,7 +27,7 @@ solve-requires-clause-known g c =
     let parts = c.assumptions.new.parts in
     let belong = belong_still c.args.question.net.now c.args.question.log.now c.args.parts.now parts c.assumptions.ensures.kept c.requires.belong in
     let asks = posed _ _ parts c.assumptions.new.book.entries c.args.question.net.now c.args.question.log.now c.args.within c.in_ok-assumed.assumed.items c.assumptions.ensures.ready
-    c.in_ok-assumed.ensures.assumed belong c.are_whole.ensures.network c.are_whole.ensures.log.valid in
+    c.in_ok-assumed.ensures.assumed belong c.is_built.ensures.network c.is_whole.ensures.whole.valid in
     subst (HasValues parts.solver.vars) (sym c.as_slice.ensures.value)
     (below_more parts.vars parts.solver.vars c.in_ok-assumed.assumed.items c.assumptions.ensures.ready.enough
     (assumed_below parts.step parts.code.code parts.counter parts.vars (axioms_of c.assumptions.new.book.entries) (axioms_of c.assumptions.new.book.entries) c.in_ok-assumed.assumed.items parts.step.net c.args.question.log.now parts.step.steps c.args.within
@@ -38,7 +38,7 @@ solve-requires-clause-compatible g c =
     let parts = c.assumptions.new.parts in
     let belong = belong_still c.args.question.net.now c.args.question.log.now c.args.parts.now parts c.assumptions.ensures.kept c.requires.belong in
     let asks = posed _ _ parts c.assumptions.new.book.entries c.args.question.net.now c.args.question.log.now c.args.within c.in_ok-assumed.assumed.items c.assumptions.ensures.ready
-    c.in_ok-assumed.ensures.assumed belong c.are_whole.ensures.network c.are_whole.ensures.log.valid in
+    c.in_ok-assumed.ensures.assumed belong c.is_built.ensures.network c.is_whole.ensures.whole.valid in
     subst AreCompatible (sym c.as_slice.ensures.value) (compatible c.in_ok-assumed.assumed.items asks.faithful.consistent)
 
 pub returns-in-Unsat-clause-asked : goal.returns-in-Unsat-clause-asked
@@ -46,7 +46,7 @@ returns-in-Unsat-clause-asked g c =
     let parts = c.assumptions.new.parts in
     let belong = belong_still c.args.question.net.now c.args.question.log.now c.args.parts.now parts c.assumptions.ensures.kept c.requires.belong in
     asked_refuted parts.step parts.code.code parts.counter parts.vars c.args.question.net.now c.args.question.log.now c.assumptions.new.book.entries c.assumptions.ensures.ready.coded
-    belong.of_steps c.are_whole.ensures.network c.are_whole.ensures.log.valid
+    belong.of_steps c.is_built.ensures.network c.is_whole.ensures.whole.valid
     belong.same_log c.args.within c.in_ok-assumed.assumed.items c.in_ok-assumed.ensures.assumed
     c.args.book.now.entries c.solve.new.book.entries c.args.budget.now c.solve.new.budget c.assumptions.ensures.axioms c.solve.ensures.searched c.in-Unsat.field-0
     (subst (HasPut c.assumptions.new.book.entries c.solve.new.book.entries) c.in-Unsat.is c.in_ok-answer.ensures.put)
@@ -62,7 +62,7 @@ returns-in-Spent-clause-asked g c =
     let parts = c.assumptions.new.parts in
     let belong = belong_still c.args.question.net.now c.args.question.log.now c.args.parts.now parts c.assumptions.ensures.kept c.requires.belong in
     asked_spent parts.step parts.code.code parts.counter parts.vars c.args.question.net.now c.args.question.log.now c.assumptions.new.book.entries c.assumptions.ensures.ready.coded
-    belong.of_steps c.are_whole.ensures.network c.are_whole.ensures.log.valid
+    belong.of_steps c.is_built.ensures.network c.is_whole.ensures.whole.valid
     belong.same_log c.args.within c.in_ok-assumed.assumed.items c.in_ok-assumed.ensures.assumed
     c.args.book.now.entries c.solve.new.book.entries c.args.budget.now c.solve.new.budget c.assumptions.ensures.axioms c.solve.ensures.searched
     (none_added c.args.within c.args.book.now.entries c.assumptions.new.book.entries c.assumptions.ensures.axioms c.assumptions.ensures.none)
@@ -88,7 +88,7 @@ returns-clause-asked g c =
     let values = c.solve.new.self.assignment in
     let holds = model values c.solve.new.book.entries c.as_slice.result.now c.in_ok-assumed.assumed.items c.solve.new.budget c.in_ok-answer.answer c.in-Sat.is c.as_slice.ensures.value c.in_ok-answer.ensures.answer in
     asked_explained parts.step parts.code.code parts.counter parts.vars c.args.question.net.now c.args.question.log.now c.assumptions.new.book.entries c.assumptions.ensures.ready.coded
-    belong.of_steps c.are_whole.ensures.network c.are_whole.ensures.log.valid
+    belong.of_steps c.is_built.ensures.network c.is_whole.ensures.whole.valid
     belong.same_log c.args.within c.in_ok-assumed.assumed.items c.in_ok-assumed.ensures.assumed
     c.args.book.now.entries c.solve.new.book.entries c.args.budget.now c.solve.new.budget c.assumptions.ensures.axioms c.solve.ensures.searched (value_in values) c.in_ok-found_run-in-Sat.field-0
     (none_added c.args.within c.args.book.now.entries c.assumptions.new.book.entries c.assumptions.ensures.axioms c.assumptions.ensures.none)
