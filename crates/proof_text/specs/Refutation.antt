@@ -1,5 +1,5 @@
 -- The refutation that a book holds, as a formula and a proof of their own (LRAT).
-use Rattle.std.specs.Prelude.{◌≡◌, ℕ, zero, suc, ◌+◌, ◌-◌, ◌==◌, Bool, false, List, [], ◌∷◌, ◌++◌, map, length, filter_map, slice_get, slice_index_or, Option, None, Some}
+use Rattle.std.specs.Prelude.{◌≡◌, ℕ, zero, suc, ◌+◌, ◌-◌, ◌==◌, Bool, false, All, List, [], ◌∷◌, ◌++◌, map, length, filter_map, slice_get, slice_index_or, Option, None, Some}
 use Rattle.std.specs.List.{range_with_len}
 use Rattle.proof_ledger.specs.Book.{BookEntry, axiomatic, learnt, final, mark, axioms_of, clauses_of, hints_of, IsValidBook}
 use Rattle.proof_ledger.specs.Checking.{check_proof}
@@ -8,9 +8,11 @@ use Rattle.proof_ledger.specs.declared.checker.ProofStep.TheVariants.{Add}
 use Rattle.proof_ledger.specs.declared.checker.Checked.TheVariants.{Verified}
 use Rattle.proof_ledger.specs.declared.entry.Entry.{Entry}
 use Rattle.proof_ledger.specs.declared.entry.Entry.TheVariants.{Axiom, Learnt, Final, Mark}
-use Rattle.prop_core.specs.Clauses.{Clause, NegatesOnly}
+use Rattle.prop_core.specs.Clauses.{Clause, HasValues, NegatesOnly}
 use Rattle.prop_core.specs.Derivation.{clause_numbered}
 use Rattle.prop_core.specs.declared.lit.Lit.{Lit}
+use Rattle.proof_text.specs.PrintedText.{HasNumberAbove, HasVariablesBelow}
+use Rattle.proof_text.specs.ProofNumbers.{NumbersAscend, HasNoZero}
 
 -- ---- where it ends
 
@@ -92,6 +94,14 @@ refutation_steps book assumed = steps_behind (length (axioms_of book)) (length a
 abbrev pub RefutationsCheck : Type 0
 RefutationsCheck = (book : List BookEntry) (assumed : List Lit) (last : ℕ) → IsValidBook book → EndsIn book assumed last →
     check_proof (refuted_formula (front_to last book) assumed) (refutation_steps (front_to last book) assumed) ≡ Verified
+
+-- Both can be printed, and both texts can be read: the variables are below a number, and the numbers of the steps ascend behind those of the formula.
+pub record CanBePrinted (vars : ℕ) (clauses : List Clause) (steps : List ProofStep) : Type 0 where
+  pub clauses_known : All (HasValues vars) clauses
+  pub steps_known : All (HasVariablesBelow vars) steps
+  pub behind : All (HasNumberAbove (length clauses)) steps
+  pub ascend : NumbersAscend 0 steps
+  pub above : All HasNoZero steps
 
 -- ---- what the code sees of an entry
 

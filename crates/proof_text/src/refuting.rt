@@ -5,8 +5,8 @@ ghost use Rattle.prop_core.specs.Clauses.{HasValues};
 ghost use Rattle.proof_ledger.specs.Book.{axioms_of, clauses_of, IsValidBook};
 ghost use Rattle.proof_ledger.specs.Checking.{check_proof};
 ghost use Rattle.proof_ledger.specs.declared.checker.Checked.TheVariants.{Verified};
-ghost use Rattle.proof_text.specs.ProofNumbers.{NumbersAscend, HasNoZero};
-ghost use Rattle.proof_text.specs.Refutation.{EndsIn, front_to, is_numbered, units, refuted_formula, numbers_from, new_number, derived_of, derived_steps, steps_behind, refutation_steps, IsStepOf, RefutationsCheck};
+ghost use Rattle.proof_text.specs.CnfText.{formula};
+ghost use Rattle.proof_text.specs.Refutation.{CanBePrinted, EndsIn, front_to, is_numbered, units, refuted_formula, numbers_from, new_number, derived_of, derived_steps, steps_behind, refutation_steps, IsStepOf, RefutationsCheck};
 
 use crate::cnf::Cnf;
 use crate::proof::{Proof, Refutation};
@@ -29,13 +29,10 @@ pub fn refutation(
     requires ends { EndsIn book.now.entries assumptions.now last }
     requires clauses { All (HasValues vars) (clauses_of book.now.entries) }
     requires assumptions { HasValues vars assumptions.now }
-    ensures vars { IfOk result (λ r. r.cnf.vars ≡ vars) }
-    ensures formula { IfOk result (λ r. r.cnf.clauses.clauses ≡ refuted_formula (front_to last book.now.entries) assumptions.now) }
+    ensures formula { IfOk result (λ r. formula r.cnf.vars r.cnf.clauses.clauses ≡ formula vars (refuted_formula (front_to last book.now.entries) assumptions.now)) }
     ensures proof { IfOk result (λ r. r.proof ≡ refutation_steps (front_to last book.now.entries) assumptions.now) }
     ensures verified { IfOk result (λ r. check_proof r.cnf.clauses.clauses r.proof ≡ Verified) }
-    ensures known { IfOk result (λ r. All (HasValues vars) r.cnf.clauses.clauses) }
-    ensures ascend { IfOk result (λ r. NumbersAscend 0 r.proof) }
-    ensures above { IfOk result (λ r. All HasNoZero r.proof) }
+    ensures printable { IfOk result (λ r. CanBePrinted vars r.cnf.clauses.clauses r.proof) }
 {
     let count = entries_to(book, last);
     let mut clauses = Clauses::new(alloc);

@@ -1,8 +1,8 @@
-use Rattle.std.proofs.Common.{◌≡◌, ◌∙◌, ◌++◌, ◌-◌, ap, take, length, List}
+use Rattle.std.proofs.Common.{◌≡◌, ◌∙◌, ◌++◌, ap, take, length, List}
 use Rattle.prop_core.specs.Clauses.{Clause}
 use Rattle.proof_ledger.specs.Book.{BookEntry, axioms_of}
 use Rattle.proof_text.specs.Refutation.{units, refuted_formula, front_to, refutation_steps}
-use Rattle.proof_text.proofs.Readable.{formula_known, steps_ascend, steps_above}
+use Rattle.proof_text.proofs.Readable.{can_be_printed}
 use Rattle.proof_text.proofs.Rechecking.{proof_is, verified_is}
 use Rattle.proof_text.proofs.refuting.refutation.Goals as goal
 
@@ -22,11 +22,7 @@ returns-clause-verified c =
     verified_is c.args.book.now.entries c.args.assumptions.now c.args.last c.put_units.new.out.clauses c.in_ok-proof.proof c.entries_to-count.ensures.valid c.requires.ends
     (formula_is c ∙ ap (λ (es : List BookEntry). refuted_formula es c.args.assumptions.now) c.entries_to-count.ensures.front) (steps_are c)
 
-pub returns-clause-known : goal.returns-clause-known
-returns-clause-known c = formula_known c.args.vars c.args.book.now.entries c.entries_to-count.result c.args.assumptions.now c.put_units.new.out.clauses c.requires.clauses c.requires.assumptions (formula_is c)
-
-pub returns-clause-ascend : goal.returns-clause-ascend
-returns-clause-ascend c = steps_ascend c.len-axioms.result (c.len.result - c.len-axioms.result) c.args.last (take c.entries_to-count.result c.args.book.now.entries) c.in_ok-proof.proof c.in_ok-proof.ensures
-
-pub returns-clause-above : goal.returns-clause-above
-returns-clause-above c = steps_above c.len-axioms.result (c.len.result - c.len-axioms.result) c.args.last (take c.entries_to-count.result c.args.book.now.entries) c.in_ok-proof.proof c.in_ok-proof.ensures
+pub returns-clause-printable : goal.returns-clause-printable
+returns-clause-printable c =
+    can_be_printed c.args.vars c.args.book.now.entries (front_to c.args.last c.args.book.now.entries) c.entries_to-count.result c.args.assumptions.now c.put_units.new.out.clauses c.in_ok-proof.proof
+    c.requires.clauses c.requires.assumptions c.entries_to-count.ensures.front (formula_is c ∙ ap (λ (es : List BookEntry). refuted_formula es c.args.assumptions.now) c.entries_to-count.ensures.front) (steps_are c)
