@@ -1,11 +1,9 @@
 """Times `diagnose` on plants that the program or these scripts make, and prints a table: plant, steps, seconds, memory, answer.
 
-    python3 bench/diagnose.py PROGRAM [FOLDER]
+    python3 bench/diagnose.py PROGRAM
 
 PROGRAM is the program as `rt run` builds it, crates/diagnose_cli/out/diagnose_cli. Where MiniSat or CaDiCaL is installed, it is timed on the
-same formula with one fault fewer than are needed, which it refutes. The formula is printed by a small program, whose files stand in
-`formula.program` beside this script; `rt run` proves and builds it in a scratch repository in FOLDER, or in a temporary folder. In a
-FOLDER that is kept a later run is quick. It's no part of the gate.
+same formula with one fault fewer than are needed, as `cnf` prints it, which it refutes. It's no part of the gate.
 
 The first plant is a bus and Z units, as the program's `generate` makes it. Each unit jams, which is a fault that nobody sees, then trips at the
 bus, and is fixed. Some units trip, one after the other, and the log has an alarm for each. So the least number of faults is the number of
@@ -72,11 +70,7 @@ import tempfile
 from grids import question
 from measure import timed
 from meshes import mesh
-from scratch import built
 
-USED = ["des_base", "prop_core", "proof_ledger", "sat_order", "sat_prop", "sat_learn", "sat_solve", "des_net", "indep", "run_clauses",
-        "card_counter", "log_order", "log_csv", "model_text", "replay", "step_encode", "log_clauses", "log_encode", "run_decode",
-        "least_faults", "alarm_session"]
 UNITS = [12, 20, 40, 64, 100, 200]
 START = 7
 BUDGET = 1_000_000
@@ -153,11 +147,11 @@ def written(folder, model, log):
     return files
 
 
-def refuted(printer, solver, files, steps, faults):
+def refuted(program, solver, files, steps, faults):
     """Seconds of another solver on the formula with one fault fewer."""
     if faults == 0 or not shutil.which(solver):
         return ""
-    _, _, _, formula = timed(printer, *files, str(steps), str(faults - 1))
+    _, _, _, formula = timed(program, "cnf", *files, str(steps), str(faults - 1))
     with tempfile.NamedTemporaryFile("w", suffix=".cnf") as f:
         f.write(formula + "\n")
         f.flush()
@@ -166,9 +160,7 @@ def refuted(printer, solver, files, steps, faults):
 
 
 def main(program, folder):
-    first = written(folder, *generated(program, 2))
     solvers = [solver for solver in ["minisat", "cadical"] if shutil.which(solver)]
-    printer = built(folder, "formula", USED, *first, "1", "0") if solvers else None
     print("| Plant | Steps | Seconds | Memory MiB | Answer |" + "".join(f" {solver}, one fault fewer |" for solver in solvers))
     print("|---|---|---|---|---|" + "---|" * len(solvers))
     for name, steps, model, log in questions(program):
@@ -177,13 +169,10 @@ def main(program, folder):
         answer = out.split("\n")[0] if status != 124 else "none"
         cells = [name, str(steps), f"{seconds:.2f}", f"{memory:.0f}", answer]
         faults = int(answer.split()[1]) if answer.startswith("EXPLAINED") else 0
-        cells += [refuted(printer, solver, files, steps, faults) for solver in solvers]
+        cells += [refuted(program, solver, files, steps, faults) for solver in solvers]
         print("| " + " | ".join(cells) + " |", flush=True)
 
 
 if __name__ == "__main__":
-    if len(sys.argv) > 2:
-        main(sys.argv[1], sys.argv[2])
-    else:
-        with tempfile.TemporaryDirectory() as scratch:
-            main(sys.argv[1], scratch)
+    with tempfile.TemporaryDirectory() as scratch:
+        main(sys.argv[1], scratch)

@@ -5,8 +5,9 @@
 PROGRAM is the compiled program, which `rt run` and `rt ci` leave as crates/diagnose_cli/out/diagnose_cli. A case is a folder with the
 files of a plant and answers.txt; with no FOLDER all in cases/ are run. answers.txt is a transcript: a line `$ WORDS`, what the
 program prints on these words (as a shell reads them), a line `status N`, and an empty line; lines before a `$` are comments. The
-commands run one after another in a copy of the folder, where make.py, if there is one, has made further files. An answer that
-has a run stands in the file reply.run for the commands that follow. With --tell the transcript of what the program answers is printed,
+commands run one after another in a copy of the folder, where make.py, if there is one, has made further files. A line `...` stands for
+whatever lines the program prints there. An answer that has a run stands in the file reply.run for the commands that follow, and one
+that is a formula in reply.cnf. With --tell the transcript of what the program answers is printed,
 and nothing is compared.
 
 Status 0: every answer is the one that is written down, 1: some isn't, 2: it could not begin.
@@ -22,6 +23,8 @@ HERE = os.path.dirname(os.path.abspath(__file__))
 SECONDS = 120
 # What stands between a command and the next one.
 STATUS = re.compile(rb"status (\d+)\n")
+# The files in which answers stand for later commands, and what such an answer has.
+REPLIES = [("reply.run", re.compile(rb"^run \d+\n", re.M)), ("reply.cnf", re.compile(rb"\Ap cnf "))]
 
 
 class Faulty(Exception):
@@ -65,11 +68,18 @@ def told(program, words, at):
         ran = subprocess.run(["sh", "-c", line], cwd=at, env=variables, stdin=subprocess.DEVNULL, stdout=subprocess.PIPE, timeout=SECONDS)
     except subprocess.TimeoutExpired:
         return f"no answer within {SECONDS} seconds\n".encode()
-    if re.search(rb"^run \d+\n", ran.stdout, re.M):
-        with open(os.path.join(at, "reply.run"), "wb") as it:
-            it.write(ran.stdout)
+    for name, shape in REPLIES:
+        if shape.search(ran.stdout):
+            with open(os.path.join(at, name), "wb") as it:
+                it.write(ran.stdout)
     status = ran.returncode if ran.returncode >= 0 else 128 - ran.returncode
     return ran.stdout + f"status {status}\n".encode()
+
+
+def fits(wanted, answer):
+    """Whether the answer is the one that is wanted, where a line `...` stands for any lines."""
+    pieces = re.split(rb"^\.\.\.\n", wanted, flags=re.M)
+    return re.fullmatch(rb"(?:.*\n)*".join(re.escape(piece) for piece in pieces), answer) is not None
 
 
 def prepared(folder, room):
@@ -98,7 +108,7 @@ def run(program, folder, tells):
             answer = told(program, words, at)
             if tells:
                 show(comment + b"$ " + words.encode() + b"\n" + answer)
-            elif answer != wanted:
+            elif not fits(wanted, answer):
                 wrong += 1
                 print(f"{os.path.relpath(folder)}: $ {words}\n  it should answer")
                 show(wanted)

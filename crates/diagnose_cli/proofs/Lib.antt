@@ -17,7 +17,8 @@ pub mod RunLengths
 pub mod MatchedNames
 pub mod RepliesReplay
 pub mod Diagnosing
-pub mod DiagnoseAnswers
+pub mod Formulas
+pub mod CaseAnswers
 pub mod Taking
 pub mod GenerateAnswers
 pub mod BenchAnswers

@@ -4,7 +4,7 @@ use Rattle.std.specs.List.{concat}
 use Rattle.des_base.specs.Outside.{Took, TookFront}
 use Rattle.proof_ledger.specs.Book.{BookEntry}
 use Rattle.diagnose_cli.specs.declared.command.Command.{Command}
-use Rattle.diagnose_cli.specs.declared.command.Command.TheVariants.{Trace, Show, Replay, Check, Diagnose, GenerateModel, GenerateLog, Bench}
+use Rattle.diagnose_cli.specs.declared.command.Command.TheVariants.{Trace, Show, Replay, Check, Diagnose, PrintCnf, GenerateModel, GenerateLog, Bench}
 use Rattle.diagnose_cli.specs.declared.ending.Kind.{Kind}
 use Rattle.diagnose_cli.specs.declared.stop.Stop.{Stop}
 use Rattle.diagnose_cli.specs.declared.stop.Stop.TheVariants.{Memory}
@@ -114,6 +114,7 @@ module _ (o : Outcome) (r : Result (Kind × List ℕ) Stop) (rose : Type 0) (due
     checked = checked;
     traced = λ text steps. row_of Trace (text ∷ steps ∷ []);
     shown = λ text. row_of Show (text ∷ []);
+    printed_formula = λ steps bound text alarms. row_of (PrintCnf steps bound) (text ∷ alarms ∷ []);
     generated = record { model = λ units start. row_alone (GenerateModel units start) refl; log = λ units start. row_alone (GenerateLog units start) refl };
     benched = λ units start steps budget. row_alone (Bench units start steps budget) refl;
     ran = ran;

@@ -22,6 +22,7 @@ use Rattle.proof_ledger.specs.declared.checker.Checked.{Checked}
 use Rattle.proof_ledger.specs.declared.checker.Checked.TheVariants.{Verified, Rejected as Fails}
 use Rattle.proof_text.specs.CnfText.{Formula, formula_of, first_cnf_fault}
 use Rattle.proof_text.specs.LratText.{proof_of, first_lrat_fault}
+use Rattle.proof_text.specs.PrintedText.{formula_text, KeepsLimits, IsFormulaText}
 use Rattle.replay.specs.QuestionSize.{question_size}
 use Rattle.replay.specs.Replayed.{IsReplayed, IsAccepted}
 use Rattle.replay.specs.declared.replaying.Replayed.{Replayed}
@@ -31,7 +32,7 @@ use Rattle.replay.specs.declared.tracing.Traced.{Traced}
 use Rattle.replay.specs.declared.tracing.Traced.TheVariants.{Ran, Stuck}
 use Rattle.report.specs.Replies.{text_of_traced, text_of_replayed, text_of_checked, text_of_found, told_run, numbered}
 use Rattle.diagnose_cli.specs.declared.command.Command.{Command}
-use Rattle.diagnose_cli.specs.declared.command.Command.TheVariants.{Trace, Show, Replay, Check, Diagnose, GenerateModel, GenerateLog, Bench}
+use Rattle.diagnose_cli.specs.declared.command.Command.TheVariants.{Trace, Show, Replay, Check, Diagnose, PrintCnf, GenerateModel, GenerateLog, Bench}
 use Rattle.diagnose_cli.specs.declared.stop.FaultyText.{FaultyText}
 use Rattle.diagnose_cli.specs.declared.stop.FaultyText.TheVariants.{Model, Log, Run, Cnf, Lrat}
 use Rattle.diagnose_cli.specs.declared.stop.Stop.{Stop}
@@ -41,6 +42,7 @@ use Rattle.diagnose_cli.specs.declared.ending.Kind.TheVariants.{Done, Rejected, 
 use Rattle.diagnose_cli.specs.Transcripts.{Ending, IsWhole}
 use Rattle.diagnose_cli.specs.Files.{Loads, IsText, StopsIn, WithFile}
 use Rattle.diagnose_cli.specs.Diagnosed.{IsDiagnosed}
+use Rattle.diagnose_cli.specs.Formula.{IsFormulaOf}
 
 -- this many words, of which the first is the name
 abbrev pub calls : List (List ℕ) → List ℕ → ℕ → Bool
@@ -57,6 +59,18 @@ most_budget = 2 ^ 64 - 1
 -- what the two words ask of `diagnose`
 abbrev pub diagnose_of : List ℕ → List ℕ → Option Command
 diagnose_of steps budget = option_and_then (λ n. option_map (λ b. Diagnose n b) (number_up_to most_budget budget)) (number_up_to most_steps steps)
+
+-- the faults that a formula may be asked for
+abbrev pub most_bound : ℕ
+most_bound = 255
+
+-- the bound on the faults that a word sets: `any` sets none
+abbrev pub bound_of : List ℕ → Option (Option ℕ)
+bound_of text = if bytes_eq text (codes "any") then Some None else option_map (λ k. Some k) (number_up_to most_bound text)
+
+-- what the two words ask of `cnf`
+abbrev pub cnf_of : List ℕ → List ℕ → Option Command
+cnf_of steps bound = option_and_then (λ n. option_map (λ b. PrintCnf n b) (bound_of bound)) (number_up_to most_steps steps)
 
 -- how many units a word asks for, at least one
 abbrev pub units_of : List ℕ → Option ℕ
@@ -88,13 +102,15 @@ command_of words =
     else if calls words (codes "replay") 5 then option_map (λ steps. Replay steps) (number_up_to most_steps (word_at words 4))
     else if calls words (codes "check") 3 then Some Check
     else if calls words (codes "diagnose") 5 then diagnose_of (word_at words 3) (word_at words 4)
+    else if calls words (codes "cnf") 5 then cnf_of (word_at words 3) (word_at words 4)
     else if calls words (codes "generate") 4 then generate_of (word_at words 1) (word_at words 2) (word_at words 3)
     else if calls words (codes "bench") 5 then bench_of (word_at words 1) (word_at words 2) (word_at words 3) (word_at words 4)
     else None
 
--- `diagnose` and `bench` are asked for no more steps than that
+-- a question is asked for no more steps than that
 abbrev pub HasFewSteps : Command → Type 0
 HasFewSteps (Diagnose steps budget) = steps ≤ most_steps
+HasFewSteps (PrintCnf steps bound) = steps ≤ most_steps
 HasFewSteps (Bench units start steps budget) = steps ≤ most_steps
 HasFewSteps _ = ⊤
 
@@ -154,6 +170,7 @@ files_of Show = model ∷ []
 files_of (Replay steps) = model ∷ log ∷ run ∷ []
 files_of Check = cnf ∷ lrat ∷ []
 files_of (Diagnose steps budget) = model ∷ log ∷ []
+files_of (PrintCnf steps bound) = model ∷ log ∷ []
 files_of (GenerateModel units start) = []
 files_of (GenerateLog units start) = []
 files_of (Bench units start steps budget) = []
@@ -245,6 +262,17 @@ pub record SaysFound (net : Net) (alarms : AlarmLog) (n budget : ℕ) (book : Li
 abbrev pub SaysDiagnosed : ℕ → ℕ → List ℕ → List ℕ → List BookEntry → (Kind × List ℕ) → Type 0
 SaysDiagnosed steps budget text alarms book reply = SaysFound (network_of text) (log_of alarms) steps budget book reply
 
+-- the text of a formula
+abbrev pub reply_of_formula : Formula → Kind × List ℕ
+reply_of_formula f = (Done, formula_text f)
+
+-- The reply has the text of the question's formula, which within the limits of such a file reads back as that formula.
+pub record SaysFormula (net : Net) (alarms : AlarmLog) (n : ℕ) (bound : Option ℕ) (book : List BookEntry) (reply : Kind × List ℕ) : Type 0 where
+  pub asked : Formula
+  pub holds : IsFormulaOf net alarms n bound book asked
+  pub is : reply ≡ reply_of_formula asked
+  pub again : KeepsLimits asked → IsFormulaText asked (formula_text asked)
+
 -- the text of a log
 abbrev pub reply_of_log : AlarmLog → Kind × List ℕ
 reply_of_log alarms = (Done, log_text alarms)
@@ -277,6 +305,7 @@ Says Show book (text ∷ []) reply = SaysShown text reply
 Says (Replay steps) book (text ∷ alarms ∷ events ∷ []) reply = SaysReplayed steps text alarms events reply
 Says Check book (formula ∷ proof ∷ []) reply = SaysChecked formula proof reply
 Says (Diagnose steps budget) book (text ∷ alarms ∷ []) reply = SaysDiagnosed steps budget text alarms book reply
+Says (PrintCnf steps bound) book (text ∷ alarms ∷ []) reply = SaysFormula (network_of text) (log_of alarms) steps bound book reply
 Says (GenerateModel units start) book [] reply = reply ≡ reply_of_model (plant_net units)
 Says (GenerateLog units start) book [] reply = reply ≡ reply_of_log (plant_log units start)
 Says (Bench units start steps budget) book [] reply = SaysBenched units start steps budget book reply
@@ -289,6 +318,7 @@ above_limit size = if nat_lt most_size size then Some size else None
 -- the size of the question that a command asks over the bytes of its files, where it is above the limit
 abbrev pub too_large : Command → List (List ℕ) → Option ℕ
 too_large (Diagnose steps budget) (text ∷ alarms ∷ []) = above_limit (question_size (network_of text) (log_of alarms) steps)
+too_large (PrintCnf steps bound) (text ∷ alarms ∷ []) = above_limit (question_size (network_of text) (log_of alarms) steps)
 too_large (Bench units start steps budget) [] = above_limit (question_size (plant_net units) (plant_log units start) steps)
 too_large _ _ = None
 

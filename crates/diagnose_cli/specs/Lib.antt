@@ -3,6 +3,7 @@ pub mod Endings
 pub mod Refusals
 pub mod Files
 pub mod Diagnosed
+pub mod Formula
 pub mod Commands
 pub mod Outcomes
 pub mod Exact

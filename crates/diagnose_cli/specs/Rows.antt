@@ -15,7 +15,7 @@ use Rattle.proof_text.specs.CnfText.{formula_of}
 use Rattle.replay.specs.Explanation.{NeedsFaults, IsLeast, IsAbsent, IsMany}
 use Rattle.report.specs.Replies.{text_of_found}
 use Rattle.diagnose_cli.specs.declared.command.Command.{Command}
-use Rattle.diagnose_cli.specs.declared.command.Command.TheVariants.{Trace, Show, Replay, Check, Diagnose, GenerateModel, GenerateLog, Bench}
+use Rattle.diagnose_cli.specs.declared.command.Command.TheVariants.{Trace, Show, Replay, Check, Diagnose, PrintCnf, GenerateModel, GenerateLog, Bench}
 use Rattle.diagnose_cli.specs.Commands.{FileKind, limit_of, fault_of_text, files_of, too_large, command_of, Says}
 use Rattle.diagnose_cli.specs.Outcomes.{Outcome, IsPut, IsUnbroken, Tells}
 
@@ -73,6 +73,9 @@ ReplayRow o = (steps : ℕ) (text alarms events : List ℕ) → Row o (Replay st
 pub record CheckRows (o : Outcome) : Type 0 where
   pub checked : (formula proof : List ℕ) → Row o Check (formula ∷ proof ∷ [])
   pub refuted : (formula : List ℕ) → Asks o Check (formula ∷ []) → o.status ≡ 0 → IsUnsatisfiable (formula_of formula).clauses
+
+abbrev pub FormulaRow : Outcome → Type 0
+FormulaRow o = (steps : ℕ) (bound : Option ℕ) (text alarms : List ℕ) → Row o (PrintCnf steps bound) (text ∷ alarms ∷ [])
 
 pub record GenerateRows (o : Outcome) : Type 0 where
   pub model : (units start : ℕ) → RowAlone o (GenerateModel units start)

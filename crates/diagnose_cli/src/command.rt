@@ -1,7 +1,7 @@
 // The commands, and which one the words of a command line call.
 ghost use Rattle.std.specs.Prelude.{◌≡◌, ◌≤◌, length, IfSome, ◌<◌};
 ghost use Rattle.gen_plant.specs.Plant.{most_units};
-ghost use Rattle.diagnose_cli.specs.Commands.{calls, command_of, units_of, generate_of, bench_of, file_count, HasFewSteps, HasFewUnits};
+ghost use Rattle.diagnose_cli.specs.Commands.{calls, command_of, bound_of, cnf_of, units_of, generate_of, bench_of, file_count, HasFewSteps, HasFewUnits};
 
 use des_base::{WordList, read_number};
 
@@ -21,6 +21,12 @@ pub enum Command {
     Diagnose {
         steps: u32,
         budget: u64,
+    },
+    /// `cnf MODEL LOG N K`: what explains the log within this many parallel steps as a formula, with at most K faults, or with
+    /// any number where K is `any`.
+    PrintCnf {
+        steps: u32,
+        bound: Option<u8>,
     },
     /// `generate model Z START`: the model of the plant of so many units.
     GenerateModel {
@@ -42,6 +48,8 @@ pub enum Command {
 }
 
 const STEP_LIMIT: u64 = 1000;
+
+const BOUND_LIMIT: u64 = 255;
 
 const UNIT_LIMIT: u64 = 900;
 
@@ -76,6 +84,8 @@ pub fn command_of(words: &WordList) -> Option<Command>
             steps: steps as u32,
             budget,
         })
+    } else if is_call(words, "cnf", 5) {
+        cnf_of(words.word(3), words.word(4))
     } else if is_call(words, "generate", 4) {
         generate_of(words.word(1), words.word(2), words.word(3))
     } else if is_call(words, "bench", 5) {
@@ -83,6 +93,31 @@ pub fn command_of(words: &WordList) -> Option<Command>
     } else {
         None
     }
+}
+
+// The bound on the faults that is asked for: `any` sets none.
+fn bound_of(text: &str) -> Option<Option<u8>>
+    ensures { result ≡ bound_of text.now }
+{
+    if text == "any" {
+        return Some(None);
+    }
+    let bound = read_number(text.as_bytes(), BOUND_LIMIT)?;
+    Some(Some(bound as u8))
+}
+
+fn cnf_of(steps: &str, bound: &str) -> Option<Command>
+    ensures command { result ≡ cnf_of steps.now bound.now }
+    ensures files { IfSome result (λ c. file_count c ≡ 2) }
+    ensures steps { IfSome result HasFewSteps }
+    ensures units { IfSome result HasFewUnits }
+{
+    let steps = read_number(steps.as_bytes(), STEP_LIMIT)?;
+    let bound = bound_of(bound)?;
+    Some(Command::PrintCnf {
+        steps: steps as u32,
+        bound,
+    })
 }
 
 // How many units are asked for.

@@ -7,11 +7,13 @@
 
 mod bench_command;
 mod check_command;
+mod cnf_command;
 mod command;
 mod diagnose_command;
 mod disk_shelf;
 mod ending;
 mod files;
+mod formula;
 mod generate_command;
 mod out_sink;
 mod question;

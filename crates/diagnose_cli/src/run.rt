@@ -4,15 +4,17 @@ ghost use Rattle.des_base.specs.Outside.{Rose};
 ghost use Rattle.diagnose_cli.specs.Commands.{Due};
 ghost use Rattle.diagnose_cli.specs.Files.{loads};
 ghost use Rattle.diagnose_cli.specs.Outcomes.{outcome};
-ghost use Rattle.diagnose_cli.specs.Rows.{TraceRow, ShowRow, ReplayRow, CheckRows, DiagnoseRows, GenerateRows, BenchRow};
+ghost use Rattle.diagnose_cli.specs.Rows.{TraceRow, ShowRow, ReplayRow, CheckRows, DiagnoseRows, FormulaRow, GenerateRows, BenchRow};
 ghost use Rattle.diagnose_cli.specs.Run.{Ran, AsksNone, LoadsNone, LeavesAlone};
 ghost use Rattle.diagnose_cli.specs.Transcripts.{UnlessMemory, once};
 
 use crate::bench_command::bench_command;
 use crate::check_command::check_command;
+use crate::cnf_command::cnf_command;
 use crate::command::{Command, command_of};
 use crate::diagnose_command::diagnose_command;
 use crate::ending::{Reply, put_once};
+use crate::formula::Within;
 use crate::generate_command::{generate_log_command, generate_model_command};
 use crate::question::Limits;
 use crate::replay_command::replay_command;
@@ -42,6 +44,7 @@ pub fn run<F: Shelf, S: Sink>(
     ensures checked { CheckRows (outcome (loads F.held F.faults shelf.old shelf.new) words.now (S.taken out.old) (S.taken out.new) book.new.entries result) }
     ensures traced { TraceRow (outcome (loads F.held F.faults shelf.old shelf.new) words.now (S.taken out.old) (S.taken out.new) book.new.entries result) }
     ensures shown { ShowRow (outcome (loads F.held F.faults shelf.old shelf.new) words.now (S.taken out.old) (S.taken out.new) book.new.entries result) }
+    ensures printed_formula { FormulaRow (outcome (loads F.held F.faults shelf.old shelf.new) words.now (S.taken out.old) (S.taken out.new) book.new.entries result) }
     ensures generated { GenerateRows (outcome (loads F.held F.faults shelf.old shelf.new) words.now (S.taken out.old) (S.taken out.new) book.new.entries result) }
     ensures benched { BenchRow (outcome (loads F.held F.faults shelf.old shelf.new) words.now (S.taken out.old) (S.taken out.new) book.new.entries result) }
     ensures ran { Ran (outcome (loads F.held F.faults shelf.old shelf.new) words.now (S.taken out.old) (S.taken out.new) book.new.entries result) (Rose (S.faults out.old) (S.faults out.new)) }
@@ -71,6 +74,9 @@ fn answer<F: Shelf>(
         Some(Command::Check) => check_command(alloc, words, shelf),
         Some(Command::Diagnose { steps, budget }) => {
             diagnose_command(alloc, words, shelf, Limits { steps, budget }, book)
+        }
+        Some(Command::PrintCnf { steps, bound }) => {
+            cnf_command(alloc, words, shelf, Within { steps, bound }, book)
         }
         Some(Command::GenerateModel { units, start }) => {
             generate_model_command(alloc, units, start)

@@ -1,0 +1,73 @@
+-- A question as a formula of its own: network, log, n and the bound determine it, and some assignment makes it true just where something explains the log within the bound.
+use Rattle.std.specs.Prelude.{◌≡◌, ◌↔◌, ℕ, ◌+◌, Bool, All, List, ◌++◌, length, map, max, nat_eq, Option, None, Some, if◌then◌else◌}
+use Rattle.card_counter.specs.CounterState.{CounterState}
+use Rattle.des_net.specs.Network.{Net}
+use Rattle.least_faults.specs.declared.parts.Parts.{Parts}
+use Rattle.least_faults.specs.Asking.{AreAssumptions, bound_part}
+use Rattle.least_faults.specs.Evidence.{IsPosed}
+use Rattle.log_clauses.specs.LogClauses.{guard_literals}
+use Rattle.log_encode.specs.CodedLog.{CodedLog, read_names}
+use Rattle.log_order.specs.Log.{Log}
+use Rattle.proof_ledger.specs.Book.{BookEntry, axiomatic, axioms_of}
+use Rattle.proof_text.specs.CnfText.{Formula, formula}
+use Rattle.proof_text.specs.Refutation.{units}
+use Rattle.prop_core.specs.Clauses.{Clause, HasValues, AllClausesTrue}
+use Rattle.prop_core.specs.Listings.{literal_by}
+use Rattle.prop_core.specs.VariableNames.{Name}
+use Rattle.prop_core.specs.declared.lit.Lit.{Lit}
+use Rattle.run_decode.specs.Faithful.{IsExplainedWithin}
+use Rattle.run_decode.specs.QuestionAxioms.{BuiltQuestion, question_built}
+
+-- ---- what is asked
+
+-- a counter of no inputs counts no faults, within whatever bound
+abbrev pub counted_bound : CounterState → Option ℕ → Option ℕ
+counted_bound counter bound = if nat_eq (length counter.inputs) 0 then None else bound
+
+-- the bound, where there is a fault to count
+abbrev pub bound_within : Net → Log → ℕ → Option ℕ → Option ℕ
+bound_within net log n bound = counted_bound (question_built net log n 0).counter bound
+
+-- at most k faults are told by the column after k others
+abbrev pub columns_for : Option ℕ → ℕ
+columns_for None = 0
+columns_for (Some k) = k + 1
+
+-- the question, built with the columns that the bound needs
+abbrev pub question_within : Net → Log → ℕ → Option ℕ → BuiltQuestion
+question_within net log n bound = question_built net log n (columns_for (bound_within net log n bound))
+
+-- the guards of the log, and then the counter's literal for the bound
+abbrev pub assumed_by : CodedLog → CounterState → Option ℕ → List Lit
+assumed_by code counter bound = map (literal_by (read_names code)) (guard_literals code.net code.log) ++ bound_part counter bound
+
+abbrev pub question_assumed : Net → Log → ℕ → Option ℕ → List Lit
+question_assumed net log n bound = assumed_by (question_within net log n bound).code (question_within net log n bound).counter (bound_within net log n bound)
+
+-- the axioms of the question in their order, and then a unit clause for each assumption
+abbrev pub question_formula : Net → Log → ℕ → Option ℕ → Formula
+question_formula net log n bound = formula (question_within net log n bound).vars ((question_within net log n bound).axioms ++ units (question_assumed net log n bound))
+
+-- ---- what it says
+
+-- some assignment makes all clauses true
+abbrev pub IsSatisfiable : List Clause → Type 0
+IsSatisfiable clauses = (assignment : ℕ → Bool) × AllClausesTrue assignment clauses
+
+-- It is the formula of the question, over variables that it has. Some assignment makes it true just where something explains the log within the bound.
+-- The book has the axioms of the question, and nothing else. With what is assumed they pose it within the bound.
+pub record IsFormulaOf (net : Net) (log : Log) (n : ℕ) (bound : Option ℕ) (book : List BookEntry) (f : Formula) : Type 0 where
+  pub is : f ≡ question_formula net log n bound
+  pub known : All (HasValues f.vars) f.clauses
+  pub exact : IsSatisfiable f.clauses ↔ IsExplainedWithin net log n bound
+  pub alone : book ≡ map axiomatic (question_within net log n bound).axioms
+  pub names : List (ℕ × Name)
+  pub posed : IsPosed names (axioms_of book) (question_assumed net log n bound) net log n bound
+
+-- ---- as it is built
+
+-- These are the assumptions for a bound that is counted, in their order, and the counter has got the columns that the bound needs.
+pub record AreAssumed {R : Type 0} (before : CounterState) (parts : Parts R) (bound : Option ℕ) (assumed : List Lit) : Type 0 where
+  pub listed : assumed ≡ assumed_by parts.code.code parts.counter bound
+  pub assumptions : AreAssumptions parts.code.code parts.counter bound assumed
+  pub columns : length parts.counter.columns ≡ max (length before.columns) (columns_for bound)
