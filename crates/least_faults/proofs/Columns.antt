@@ -1,15 +1,14 @@
 -- The parts of a question, and their book, with a column more.
-use Rattle.std.proofs.Common.{◌≡◌, ◌∙◌, ℕ, suc, ◌+◌, ◌-◌, ◌*◌, ◌<◌, ◌≤◌, List, [], ◌∷◌, ◌++◌, map, take, drop, length, max, refl, sym, ap, subst, arith, append_assoc, append-nil, length-append}
-use Rattle.std.proofs.Math.Nat.{suc-mul}
+use Rattle.std.proofs.Common.{◌≡◌, ◌∙◌, ℕ, ◌+◌, ◌*◌, ◌<◌, ◌≤◌, List, [], ◌∷◌, ◌++◌, map, take, drop, length, max, refl, sym, ap, subst, arith, append_assoc, append-nil, length-append}
 use Rattle.std.proofs.Math.Seq.{take-append_seam, drop-append_seam}
 use Rattle.std.proofs.lemmas.List.Elements.{All-weaker}
 use Rattle.std.specs.List.{AllByRecursion, range_with_len}
 use Rattle.card_counter.proofs.States.{one_more_column, grown_is_made}
 use Rattle.card_counter.specs.CounterState.{CounterState, with_column, next_clauses}
 use Rattle.des_base.proofs.Elements.{all_split, all_change}
-use Rattle.des_base.specs.declared.TheConstants.{VAR_LIMIT}
 use Rattle.least_faults.proofs.AxiomLists.{axioms_added, clauses_added}
 use Rattle.least_faults.proofs.Below.{axioms_below}
+use Rattle.least_faults.proofs.Bounded.{bounded_column}
 use Rattle.least_faults.proofs.FewClauses.{AreFew, few_in_column}
 use Rattle.least_faults.specs.Growing.{KeepsColumns, AddsAxioms}
 use Rattle.least_faults.specs.Parts.{most_columns, AreParts, AreReady}
@@ -37,14 +36,6 @@ keeps_both old mid new first second = record {
   more = second.more ∙ ap (λ (columns : List (List ℕ)). columns ++ second.columns) first.more ∙ append_assoc old.columns first.columns second.columns;
 }
 
--- ---- room for a column
-
-one_less : (columns inputs : ℕ) → columns < most_columns → (most_columns - columns) * inputs ≡ (most_columns - (columns + 1)) * inputs + inputs
-one_less columns inputs few = let rest : most_columns - columns ≡ suc (most_columns - (columns + 1)) = omega arith in ap (λ (k : ℕ). k * inputs) rest ∙ suc-mul (most_columns - (columns + 1)) inputs
-
-room_after_column : (vars columns inputs limit : ℕ) → columns < most_columns → vars + (most_columns - columns) * inputs ≤ limit → vars + inputs + (most_columns - (columns + 1)) * inputs ≤ limit
-room_after_column vars columns inputs limit few room = let less = one_less columns inputs few in omega (arith, less, room)
-
 -- ---- the parts with it
 
 columns_then : (counter : CounterState) (first : ℕ) → length (with_column counter first).columns ≡ length counter.columns + 1
@@ -58,7 +49,7 @@ parts_grow steps code counter vars axioms parts some few =
       clauses = (clauses_grow steps code counter axioms parts.together.counted.full parts.clauses).columns vars;
       above = omega (arith, above);
       made = grown_is_made counter vars parts.made;
-      room = rw (columns_then counter vars) (room_after_column vars (length counter.columns) (length counter.inputs) VAR_LIMIT few parts.room);
+      bounded = bounded_column steps code counter vars axioms parts.bounded (with_column counter vars) (next_clauses counter vars) few refl (columns_then counter vars) (few_in_column counter vars).few;
     }
 
 -- What a column leaves: its axioms stand behind those of the book, and a solver with enough variables and room can adopt them.

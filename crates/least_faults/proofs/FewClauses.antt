@@ -26,10 +26,10 @@ few_under always clause = record { few = omega arith; short = omega arith }
 few_under never clause = record { few = omega arith; short = omega arith }
 few_under (told_by var) clause = record { few = omega arith; short = omega arith }
 
-few_at : (input : Lit) (before : Option (List ℕ)) (column : List ℕ) (i : ℕ) → AreFew 2 5 (place_clauses input before column i)
+pub few_at : (input : Lit) (before : Option (List ℕ)) (column : List ℕ) (i : ℕ) → AreFew 2 5 (place_clauses input before column i)
 few_at input before column i = few_append 1 2 1 3 (under (reached_in column i) _) (under (reached_before before i) _) (few_under (reached_in column i) _) (few_under (reached_before before i) _)
 
-few_flat : (f : ℕ → List Clause) (a b : ℕ) (ns : List ℕ) → ((n : ℕ) → AreFew a b (f n)) → AreFew (a * length ns) (b * length ns) (flat_map f ns)
+pub few_flat : (f : ℕ → List Clause) (a b : ℕ) (ns : List ℕ) → ((n : ℕ) → AreFew a b (f n)) → AreFew (a * length ns) (b * length ns) (flat_map f ns)
 few_flat f a b [] each = record { few = omega arith; short = omega arith }
 few_flat f a b (n ∷ ns) each =
     let both = few_append a b (a * length ns) (b * length ns) (f n) (flat_map f ns) (each n) (few_flat f a b ns each) in

@@ -5,7 +5,12 @@ pub mod CodedAlarms
 pub mod Beginning
 pub mod Below
 pub mod FewClauses
+pub mod Observed
+pub mod AddedClauses
+pub mod Bounded
 pub mod Columns
+pub mod Drafts
+pub mod Reserving
 pub mod Determined
 pub mod Entailing
 pub mod KnownEvents

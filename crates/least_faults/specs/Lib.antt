@@ -1,7 +1,9 @@
 pub mod LogVariables
+pub mod Bounds
 pub mod LogCoding
 pub mod Parts
 pub mod Growing
+pub mod Adding
 pub mod Evidence
 pub mod Answers
 pub mod Asking

@@ -1,8 +1,8 @@
 -- The parts of a question, as they stand beside the book that holds its clauses.
-use Rattle.std.specs.Prelude.{◌≡◌, ℕ, ◌+◌, ◌-◌, ◌*◌, ◌≤◌, List, length}
+use Rattle.std.specs.Prelude.{◌≡◌, ℕ, ◌≤◌, List, length}
 use Rattle.card_counter.specs.CounterState.{CounterState, IsMade}
-use Rattle.des_base.specs.declared.TheConstants.{VAR_LIMIT}
 use Rattle.des_net.specs.Network.{Net}
+use Rattle.least_faults.specs.Bounds.{AreBounded}
 use Rattle.least_faults.specs.declared.parts.Parts.{Parts}
 use Rattle.log_encode.specs.CodedLog.{CodedLog}
 use Rattle.log_order.specs.Log.{Log}
@@ -29,13 +29,13 @@ pub record IsWithinLimits (net : Net) (log : Log) (n : ℕ) : Type 0 where
 abbrev pub most_columns : ℕ
 most_columns = 256
 
--- Steps, log and counter are coded together, on variables that were made; there is room for all columns; and the axioms are the clauses of the three.
+-- Steps, log and counter are coded together, on variables that were made; the axioms are the clauses of the three; and variables and axioms are no more than the question takes at most.
 pub record AreParts (steps : CodedSteps) (code : CodedLog) (counter : CounterState) (vars : ℕ) (axioms : List Clause) : Type 0 where
   pub together : AreCodedTogether steps code counter
   pub clauses : AreClausesOf steps code counter axioms
   pub above : code.vars ≤ vars
   pub made : IsMade vars counter
-  pub room : vars + (most_columns - length counter.columns) * length counter.inputs ≤ VAR_LIMIT
+  pub bounded : AreBounded steps code counter vars axioms
 
 -- The parts are those of a book: its axioms are their clauses, the solver has adopted all its clauses, and has their variables at least. The stored ranks are what was answered (`gives`) by what ranks, which may be asked (`may`).
 pub record AreReady {R : Type 0} (may : R → ℕ → Type 0) (gives : R → ℕ → ℕ → Type 0) (parts : Parts R) (book : List BookEntry) : Type 0 where

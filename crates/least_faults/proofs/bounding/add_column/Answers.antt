@@ -1,4 +1,5 @@
-use Rattle.std.proofs.Common.{ap, arith, length, ◌∙◌, [], ◌∷◌, refl, subst, sym}
+use Rattle.std.proofs.Common.{ap, append-nil, arith, length, ◌∙◌, [], ◌∷◌, refl, subst, sym}
+use Rattle.least_faults.proofs.Bounded.{column_fits}
 use Rattle.least_faults.proofs.Columns.{column_added, few_written, more_values, written_alone, reserved_ready}
 use Rattle.least_faults.proofs.Determined.{column_determined}
 use Rattle.least_faults.proofs.Staying.{question_kept}
@@ -9,6 +10,12 @@ use Rattle.least_faults.proofs.bounding.add_column.Goals as goal
 use Rattle.std.specs.List.{range_with_len}
 use Rattle.least_faults.specs.Growing.{KeepsColumns}
 use Rattle.sat_order.specs.Rank.{IsRanked}
+
+pub add_column-requires-clause-within : goal.add_column-requires-clause-within
+add_column-requires-clause-within g c =
+    let old = c.args.parts.now in
+    let fits = column_fits old.step old.code.code old.counter old.vars (axioms_of c.args.book.now.entries) c.requires.ready.coded.bounded c.requires.few in
+    omega (arith, fits)
 
 pub push_axioms-requires-clause-clauses : goal.push_axioms-requires-clause-clauses
 push_axioms-requires-clause-clauses g c =
@@ -91,3 +98,6 @@ returns-in_err-add_column-clause-kept g c =
     let old = c.args.parts.now in
     let err = c.in_err-add_column.ensures.err in
     question_kept old c.add_column.new.self c.add_column.new.vars c.reserve-2.new.self c.args.book.now.entries c.reserve.new.self.entries err.0 err.1 c.reserve-2.ensures.rank (ap axioms_of c.reserve.ensures.same)
+
+pub returns-in_err-add_column-clause-axioms : goal.returns-in_err-add_column-clause-axioms
+returns-in_err-add_column-clause-axioms g c = record { axioms = []; more = c.reserve.ensures.same ∙ sym (append-nil c.args.book.now.entries) }

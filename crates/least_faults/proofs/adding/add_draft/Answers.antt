@@ -1,0 +1,103 @@
+use Rattle.std.proofs.Common.{◌≡◌, ◌∙◌, ◌+◌, ◌*◌, ◌++◌, List, map, length, ap, arith, refl, subst, sym}
+use Rattle.card_counter.proofs.States.{made_later}
+use Rattle.least_faults.proofs.Drafts.{axioms_few, clauses_listed, code_joined, counter_added, draft_added, few_added, inputs_may_count, variables_fit}
+use Rattle.least_faults.proofs.adding.add_draft.Goals as goal
+use Rattle.least_faults.specs.Adding.{input_count}
+use Rattle.proof_ledger.specs.Book.{axiomatic, axioms_of}
+use Rattle.prop_core.specs.Clauses.{Clause}
+use Rattle.sat_order.specs.Rank.{IsRanked}
+use Rattle.sat_solve.specs.Solving.{SolverState}
+
+pub count_false-requires-clause-within : goal.count_false-requires-clause-within
+count_false-requires-clause-within g c =
+    let old = c.args.parts.now in
+    let fits = variables_fit old.step old.code.code old.counter old.vars (axioms_of c.args.book.now.entries) c.requires.ready.coded c.args.reserved.draft c.requires.reserved.drafted c.requires.reserved.fits in
+    let cells = ap (λ b. input_count b * length old.counter.columns) c.requires.reserved.doubted in
+    omega (arith, fits, cells, c.fresh.ensures.count, c.vars.ensures)
+
+pub count_false-requires-clause-made : goal.count_false-requires-clause-made
+count_false-requires-clause-made g c = made_later c.args.parts.now.vars c.fresh.new.self c.args.parts.now.counter (omega (arith, c.fresh.ensures.count)) c.requires.ready.coded.made
+
+pub count_false-requires-clause-inputs : goal.count_false-requires-clause-inputs
+count_false-requires-clause-inputs g c =
+    let old = c.args.parts.now in
+    inputs_may_count old.step old.code.code c.commit.new.self.code old.counter old.vars c.fresh.new.self c.args.book.now.entries c.requires.ready.coded c.args.reserved.draft c.requires.reserved.drafted c.requires.reserved.fits
+    (omega (arith, c.fresh.ensures.count, c.vars.ensures)) c.commit.ensures c.args.reserved.doubtful c.requires.reserved.doubted
+
+pub push_axioms-requires-clause-clauses : goal.push_axioms-requires-clause-clauses
+push_axioms-requires-clause-clauses g c =
+    let old = c.args.parts.now in
+    let few = few_added old.step old.code.code c.commit.new.self.code old.counter old.vars c.fresh.new.self c.args.book.now.entries c.requires.ready.coded c.args.reserved.draft c.requires.reserved.drafted c.requires.reserved.fits
+    (omega (arith, c.fresh.ensures.count, c.vars.ensures)) c.commit.ensures c.args.reserved.doubtful c.requires.reserved.doubted c.count_false.new.counter c.count_false.new.vars c.args.reserved.clauses.clauses c.count_false.new.clauses.clauses
+    c.requires.reserved.written c.count_false.ensures in
+    omega (arith, few.few, c.requires.reserved.room.entered)
+
+pub push_axioms-requires-clause-literals : goal.push_axioms-requires-clause-literals
+push_axioms-requires-clause-literals g c =
+    let old = c.args.parts.now in
+    let few = few_added old.step old.code.code c.commit.new.self.code old.counter old.vars c.fresh.new.self c.args.book.now.entries c.requires.ready.coded c.args.reserved.draft c.requires.reserved.drafted c.requires.reserved.fits
+    (omega (arith, c.fresh.ensures.count, c.vars.ensures)) c.commit.ensures c.args.reserved.doubtful c.requires.reserved.doubted c.count_false.new.counter c.count_false.new.vars c.args.reserved.clauses.clauses c.count_false.new.clauses.clauses
+    c.requires.reserved.written c.count_false.ensures in
+    omega (arith, few.short, c.requires.reserved.room.spelt)
+
+pub adopt-requires : goal.adopt-requires
+adopt-requires g c =
+    let old = c.args.parts.now in
+    let count : c.fresh.new.self ≡ old.vars + c.args.reserved.draft.vars = omega (arith, c.fresh.ensures.count, c.vars.ensures) in
+    let few = few_added old.step old.code.code c.commit.new.self.code old.counter old.vars c.fresh.new.self c.args.book.now.entries c.requires.ready.coded c.args.reserved.draft c.requires.reserved.drafted c.requires.reserved.fits
+    count c.commit.ensures c.args.reserved.doubtful c.requires.reserved.doubted c.count_false.new.counter c.count_false.new.vars c.args.reserved.clauses.clauses c.count_false.new.clauses.clauses
+    c.requires.reserved.written c.count_false.ensures in
+    let has = draft_added old.step old.code.code c.commit.new.self.code old.counter old.vars c.fresh.new.self c.args.book.now.entries c.requires.ready.coded c.args.reserved.draft c.requires.reserved.drafted c.requires.reserved.fits
+    count c.commit.ensures c.args.reserved.doubtful c.requires.reserved.doubted c.count_false.new.counter c.count_false.new.vars c.args.reserved.clauses.clauses c.count_false.new.clauses.clauses
+    c.requires.reserved.written c.count_false.ensures old.solver.adopted old.solver.vars c.push_axioms.new.book.entries c.requires.ready.adopted_all c.requires.reserved.room.values c.push_axioms.ensures in
+    let long = has.long in
+    record {
+      grown = has.front;
+      room = omega (arith, long, few.few, c.requires.reserved.room.attached);
+      known = has.known;
+    }
+
+pub returns-clause-ready : goal.returns-clause-ready
+returns-clause-ready g c =
+    let old = c.args.parts.now in
+    let has = draft_added old.step old.code.code c.commit.new.self.code old.counter old.vars c.fresh.new.self c.args.book.now.entries c.requires.ready.coded c.args.reserved.draft c.requires.reserved.drafted c.requires.reserved.fits
+    (omega (arith, c.fresh.ensures.count, c.vars.ensures)) c.commit.ensures c.args.reserved.doubtful c.requires.reserved.doubted c.count_false.new.counter c.count_false.new.vars c.args.reserved.clauses.clauses c.count_false.new.clauses.clauses
+    c.requires.reserved.written c.count_false.ensures old.solver.adopted old.solver.vars c.push_axioms.new.book.entries c.requires.ready.adopted_all c.requires.reserved.room.values c.push_axioms.ensures in
+    let values = ap (λ (s : SolverState _). s.vars) c.adopt.ensures.value in
+    let enough = has.enough in
+    record {
+      coded = has.parts;
+      adopted_all = ap (λ (s : SolverState _). s.adopted) c.adopt.ensures.value;
+      enough = omega (arith, values, enough);
+      ranked = subst (IsRanked (goal.R-pre g) (goal.R-post g)) (sym (ap (λ (s : SolverState _). s.order) c.adopt.ensures.value)) c.requires.ready.ranked;
+    }
+
+pub returns-clause-added : goal.returns-clause-added
+returns-clause-added g c =
+    let old = c.args.parts.now in
+    let count : c.fresh.new.self ≡ old.vars + c.args.reserved.draft.vars = omega (arith, c.fresh.ensures.count, c.vars.ensures) in
+    record {
+      step = refl;
+      code = code_joined old.step old.code.code c.commit.new.self.code old.counter old.vars c.fresh.new.self c.args.book.now.entries c.requires.ready.coded c.args.reserved.draft c.requires.reserved.drafted c.requires.reserved.fits
+          count c.commit.ensures c.args.reserved.doubtful c.requires.reserved.doubted;
+      counter = counter_added old.step old.code.code c.commit.new.self.code old.counter old.vars c.fresh.new.self c.args.book.now.entries c.requires.ready.coded c.args.reserved.draft c.requires.reserved.drafted c.requires.reserved.fits
+          count c.commit.ensures c.args.reserved.doubtful c.requires.reserved.doubted c.count_false.new.counter c.count_false.new.vars c.args.reserved.clauses.clauses c.count_false.new.clauses.clauses
+          c.requires.reserved.written c.count_false.ensures;
+      rank = ap (λ (s : SolverState _). s.order.rank) c.adopt.ensures.value;
+      axioms = c.push_axioms.ensures
+          ∙ ap (λ (cs : List Clause). c.args.book.now.entries ++ map axiomatic cs)
+          (clauses_listed old.step old.code.code c.commit.new.self.code old.counter old.vars c.fresh.new.self c.args.book.now.entries c.requires.ready.coded c.args.reserved.draft c.requires.reserved.drafted c.requires.reserved.fits
+          count c.commit.ensures c.args.reserved.doubtful c.requires.reserved.doubted c.count_false.new.counter c.count_false.new.vars c.args.reserved.clauses.clauses c.count_false.new.clauses.clauses
+          c.requires.reserved.written c.count_false.ensures);
+    }
+
+pub returns-clause-few : goal.returns-clause-few
+returns-clause-few g c =
+    let old = c.args.parts.now in
+    record {
+      axioms = c.count_false.new.clauses.clauses;
+      more = c.push_axioms.ensures;
+      few = axioms_few old.step old.code.code c.commit.new.self.code old.counter old.vars c.fresh.new.self c.args.book.now.entries c.requires.ready.coded c.args.reserved.draft c.requires.reserved.drafted c.requires.reserved.fits
+          (omega (arith, c.fresh.ensures.count, c.vars.ensures)) c.commit.ensures c.args.reserved.doubtful c.requires.reserved.doubted c.count_false.new.counter c.count_false.new.vars c.args.reserved.clauses.clauses c.count_false.new.clauses.clauses
+          c.requires.reserved.written c.count_false.ensures;
+    }
