@@ -1,66 +1,67 @@
 -- A book and how it is kept.
-use Rattle.std.proofs.Common.{◌≡◌, ◌∙◌, ℕ, zero, suc, ◌+◌, ◌-◌, ◌<◌, ◌≤◌, ◌++◌, ◌∷◌, [], List, refl, ap, sym, length, arith, subst, append_assoc, take, drop, add-zero, Some, slice_get, get_or}
+use Rattle.std.proofs.Common.{◌≡◌, ◌∙◌, ℕ, zero, suc, ◌+◌, ◌-◌, ◌<◌, ◌≤◌, ◌++◌, ◌∷◌, [], List, refl, ap, sym, length, arith, subst, append_assoc, take, drop, add-zero, Option, Some, None, slice_get, get_or}
 use Rattle.std.specs.Prelude.{MatchOption}
 use Rattle.std.proofs.lemmas.Grind.{common_steps}
 use Rattle.std.proofs.lemmas.List.{append-nil}
 use Rattle.std.proofs.lemmas.List.Elements.{filter_map-append}
 use Rattle.prop_core.specs.Clauses.{Clause}
 use Rattle.proof_ledger.specs.declared.entry.Entry.{Entry}
-use Rattle.proof_ledger.specs.declared.entry.Entry.TheVariants.{Axiom, Learnt, Final, Mark}
+use Rattle.proof_ledger.specs.declared.entry.Kept.{Kept}
+use Rattle.proof_ledger.specs.declared.entry.Kept.TheVariants.{Axiom, Learnt, Final, Mark}
 use Rattle.proof_ledger.specs.declared.ledger.Origin.{Origin}
 use Rattle.proof_ledger.specs.declared.ledger.Origin.TheVariants as origins
-use Rattle.proof_ledger.specs.Book.{BookEntry, axiomatic, learnt, final, mark, clause_of, clause_hints_of, clauses_of, hints_of, shown, EachAfter, IsDerived, IsEntryAt}
-use Rattle.proof_ledger.specs.Kept.{book_of, shown_from, IsBook, IsKept, made, kept_hints}
+use Rattle.proof_ledger.specs.Book.{BookEntry, axiomatic, learnt, final, mark, clause_of, clause_hints_of, clauses_of, hints_of, shown, EachAfter, IsDerived, DerivesFrom, IsEntryAt}
+use Rattle.proof_ledger.specs.Kept.{book_of, kept_from, kept, entry_of, IsBook, IsKept, made}
 
--- the book of what is shown of it
-pub book_of-shown : (count : ℕ) (book : List BookEntry) → book_of (shown_from count book) (clauses_of book) (hints_of book) ≡ book
-book_of-shown count [] = refl
-book_of-shown count (axiomatic clause ∷ book) = ap (λ es. axiomatic clause ∷ es) (book_of-shown (count + 1) book)
-book_of-shown count (learnt clause hints ∷ book) = ap (λ es. learnt clause hints ∷ es) (book_of-shown (count + 1) book)
-book_of-shown count (final clause hints ∷ book) = ap (λ es. final clause hints ∷ es) (book_of-shown (count + 1) book)
-book_of-shown count (mark k ∷ book) = ap (λ es. mark k ∷ es) (book_of-shown count book)
+-- the book of what is kept of it
+pub book_of-kept : (count : ℕ) (book : List BookEntry) → book_of (kept_from count book) (clauses_of book) (hints_of book) ≡ book
+book_of-kept count [] = refl
+book_of-kept count (axiomatic clause ∷ book) = ap (λ es. axiomatic clause ∷ es) (book_of-kept (count + 1) book)
+book_of-kept count (learnt clause hints ∷ book) = ap (λ es. learnt clause hints ∷ es) (book_of-kept (count + 1) book)
+book_of-kept count (final clause hints ∷ book) = ap (λ es. final clause hints ∷ es) (book_of-kept (count + 1) book)
+book_of-kept count (mark k ∷ book) = ap (λ es. mark k ∷ es) (book_of-kept count book)
 
-shown_from-append : (count : ℕ) (book : List BookEntry) (e : BookEntry) → shown_from count (book ++ e ∷ []) ≡ shown_from count book ++ shown (count + length (clauses_of book) + 1) e ∷ []
-shown_from-append count [] (axiomatic clause) = rw add-zero refl
-shown_from-append count [] (learnt clause hints) = rw add-zero refl
-shown_from-append count [] (final clause hints) = rw add-zero refl
-shown_from-append count [] (mark k) = refl
-shown_from-append count (axiomatic clause ∷ book) e = let h = shown_from-append (count + 1) book e in let n : count + 1 + length (clauses_of book) ≡ count + suc (length (clauses_of book)) = omega arith in cc
-shown_from-append count (learnt clause hints ∷ book) e = let h = shown_from-append (count + 1) book e in let n : count + 1 + length (clauses_of book) ≡ count + suc (length (clauses_of book)) = omega arith in cc
-shown_from-append count (final clause hints ∷ book) e = let h = shown_from-append (count + 1) book e in let n : count + 1 + length (clauses_of book) ≡ count + suc (length (clauses_of book)) = omega arith in cc
-shown_from-append count (mark k ∷ book) e = let h = shown_from-append count book e in cc
+kept_from-append : (count : ℕ) (book : List BookEntry) (e : BookEntry) → kept_from count (book ++ e ∷ []) ≡ kept_from count book ++ kept (count + length (clauses_of book) + 1) e ∷ []
+kept_from-append count [] (axiomatic clause) = rw add-zero refl
+kept_from-append count [] (learnt clause hints) = rw add-zero refl
+kept_from-append count [] (final clause hints) = rw add-zero refl
+kept_from-append count [] (mark k) = refl
+kept_from-append count (axiomatic clause ∷ book) e = let h = kept_from-append (count + 1) book e in let n : count + 1 + length (clauses_of book) ≡ count + suc (length (clauses_of book)) = omega arith in cc
+kept_from-append count (learnt clause hints ∷ book) e = let h = kept_from-append (count + 1) book e in let n : count + 1 + length (clauses_of book) ≡ count + suc (length (clauses_of book)) = omega arith in cc
+kept_from-append count (final clause hints ∷ book) e = let h = kept_from-append (count + 1) book e in let n : count + 1 + length (clauses_of book) ≡ count + suc (length (clauses_of book)) = omega arith in cc
+kept_from-append count (mark k ∷ book) e = let h = kept_from-append count book e in cc
 
 each_more : (earlier book : List BookEntry) (e : BookEntry) → EachAfter IsDerived earlier book → IsDerived (earlier ++ book) e → EachAfter IsDerived earlier (book ++ e ∷ [])
 each_more earlier [] e all h = (subst (λ (b : List BookEntry). IsDerived b e) (append-nil earlier) h, tt)
 each_more earlier (x ∷ book) e all h = (all.0, each_more (earlier ++ x ∷ []) book e all.1 (subst (λ (b : List BookEntry). IsDerived b e) (sym (append_assoc earlier (x ∷ []) book)) h))
 
 -- An entry joins a book: what is kept is that of the longer book.
-pub record Joined (entries : List Entry) (clauses : List Clause) (hints : List (List ℕ)) (book : List BookEntry) : Type 0 where
+pub record Joined (entries : List Kept) (clauses : List Clause) (hints : List (List ℕ)) (book : List BookEntry) : Type 0 where
   pub kept : IsKept entries clauses hints
   pub book_is : book_of entries clauses hints ≡ book
   pub count : length clauses ≡ length (clauses_of book)
 
-is_book : (entries : List Entry) (clauses : List Clause) (hints : List (List ℕ)) (book : List BookEntry) → IsBook entries clauses hints book → Joined entries clauses hints book
+is_book : (entries : List Kept) (clauses : List Clause) (hints : List (List ℕ)) (book : List BookEntry) → IsBook entries clauses hints book → Joined entries clauses hints book
 is_book entries clauses hints book h =
-    let same : book_of entries clauses hints ≡ book = rw (h.entries_are, h.clauses_are, h.hints_are) (book_of-shown 0 book) in
+    let same : book_of entries clauses hints ≡ book = rw (h.entries_are, h.clauses_are, h.hints_are) (book_of-kept 0 book) in
     record {
       kept = subst (λ (b : List BookEntry). IsBook entries clauses hints b) (sym same) h;
       book_is = same;
       count = ap length h.clauses_are;
     }
 
-pub joined : (es es' : List Entry) (cs cs' : List Clause) (hs hs' : List (List ℕ)) (book : List BookEntry) (e : BookEntry) → IsKept es cs hs → book_of es cs hs ≡ book → IsDerived book e →
-    es' ≡ es ++ shown (length cs + 1) e ∷ [] → cs' ≡ cs ++ clauses_of (e ∷ []) → hs' ≡ hs ++ hints_of (e ∷ []) → Joined es' cs' hs' (book ++ e ∷ [])
-joined es es' cs cs' hs hs' book e kept same derived more_entries more_clauses more_hints =
-    let k : IsBook es cs hs book = subst (λ (b : List BookEntry). IsBook es cs hs b) same kept in
+pub joined : (es es' : List Kept) (cs cs' : List Clause) (hs hs' : List (List ℕ)) (book : List BookEntry) (e : BookEntry) → IsKept es cs hs → book_of es cs hs ≡ book → IsDerived book e →
+    es' ≡ es ++ kept (length cs + 1) e ∷ [] → cs' ≡ cs ++ clauses_of (e ∷ []) → hs' ≡ hs ++ hints_of (e ∷ []) → Joined es' cs' hs' (book ++ e ∷ [])
+joined es es' cs cs' hs hs' book e before same derived more_entries more_clauses more_hints =
+    let k : IsBook es cs hs book = subst (λ (b : List BookEntry). IsBook es cs hs b) same before in
     is_book es' cs' hs' (book ++ e ∷ []) (record {
-      entries_are = let a = k.entries_are in let b = shown_from-append 0 book e in let d = ap length k.clauses_are in let z : 0 + length (clauses_of book) + 1 ≡ length cs + 1 = omega (arith, d) in cc;
+      entries_are = let a = k.entries_are in let b = kept_from-append 0 book e in let d = ap length k.clauses_are in let z : 0 + length (clauses_of book) + 1 ≡ length cs + 1 = omega (arith, d) in cc;
       clauses_are = let a = k.clauses_are in let b = filter_map-append clause_of book (e ∷ []) in cc;
       hints_are = let a = k.hints_are in let b = filter_map-append clause_hints_of book (e ∷ []) in cc;
       valid = each_more [] book e k.valid derived;
     })
 
-length-book_of : (es : List Entry) (cs : List Clause) (hs : List (List ℕ)) → length (book_of es cs hs) ≡ length es
+length-book_of : (es : List Kept) (cs : List Clause) (hs : List (List ℕ)) → length (book_of es cs hs) ≡ length es
 length-book_of [] cs hs = refl
 length-book_of (Axiom id ∷ es) cs hs = ap suc (length-book_of es (drop 1 cs) (drop 1 hs))
 length-book_of (Learnt id ∷ es) cs hs = ap suc (length-book_of es (drop 1 cs) (drop 1 hs))
@@ -68,7 +69,7 @@ length-book_of (Final id ∷ es) cs hs = ap suc (length-book_of es (drop 1 cs) (
 length-book_of (Mark k ∷ es) cs hs = ap suc (length-book_of es cs hs)
 
 -- there are as many entries as are kept
-pub count_entries : (es : List Entry) (cs : List Clause) (hs : List (List ℕ)) (book : List BookEntry) → book_of es cs hs ≡ book → length es ≡ length book
+pub count_entries : (es : List Kept) (cs : List Clause) (hs : List (List ℕ)) (book : List BookEntry) → book_of es cs hs ≡ book → length es ≡ length book
 count_entries es cs hs book same = sym (length-book_of es cs hs) ∙ ap length same
 
 length-hints_of : (book : List BookEntry) → length (hints_of book) ≡ length (clauses_of book)
@@ -79,68 +80,75 @@ length-hints_of (final clause hints ∷ book) = ap suc (length-hints_of book)
 length-hints_of (mark k ∷ book) = length-hints_of book
 
 -- and as many hints as clauses
-pub count_hints : (es : List Entry) (cs : List Clause) (hs : List (List ℕ)) (book : List BookEntry) → IsKept es cs hs → book_of es cs hs ≡ book → length hs ≡ length (clauses_of book)
-count_hints es cs hs book kept same = ap length kept.hints_are ∙ length-hints_of (book_of es cs hs) ∙ ap (λ (b : List BookEntry). length (clauses_of b)) same
+pub count_hints : (es : List Kept) (cs : List Clause) (hs : List (List ℕ)) (book : List BookEntry) → IsKept es cs hs → book_of es cs hs ≡ book → length hs ≡ length (clauses_of book)
+count_hints es cs hs book before same = ap length before.hints_are ∙ length-hints_of (book_of es cs hs) ∙ ap (λ (b : List BookEntry). length (clauses_of b)) same
 
-shown_at : (count : ℕ) (book : List BookEntry) (place : ℕ) (d : Entry) → place < length book →
-    MatchOption (slice_get book place) ⊥ (λ e. get_or (shown_from count book) place d ≡ shown (count + length (clauses_of (take place book)) + 1) e)
-shown_at count [] place d h = absurd (omega arith)
-shown_at count (axiomatic clause ∷ book) zero d h = rw add-zero refl
-shown_at count (learnt clause hints ∷ book) zero d h = rw add-zero refl
-shown_at count (final clause hints ∷ book) zero d h = rw add-zero refl
-shown_at count (mark k ∷ book) zero d h = refl
-shown_at count (axiomatic clause ∷ book) (suc k) d h =
+kept_at : (count : ℕ) (book : List BookEntry) (place : ℕ) (d : Kept) → place < length book →
+    MatchOption (slice_get book place) ⊥ (λ e. get_or (kept_from count book) place d ≡ kept (count + length (clauses_of (take place book)) + 1) e)
+kept_at count [] place d h = absurd (omega arith)
+kept_at count (axiomatic clause ∷ book) zero d h = rw add-zero refl
+kept_at count (learnt clause hints ∷ book) zero d h = rw add-zero refl
+kept_at count (final clause hints ∷ book) zero d h = rw add-zero refl
+kept_at count (mark k ∷ book) zero d h = refl
+kept_at count (axiomatic clause ∷ book) (suc k) d h =
     let n : count + 1 + length (clauses_of (take k book)) + 1 ≡ count + suc (length (clauses_of (take k book))) + 1 = omega arith in
-    subst (λ (m : ℕ). MatchOption (slice_get book k) ⊥ (λ e. get_or (shown_from (count + 1) book) k d ≡ shown m e)) n (shown_at (count + 1) book k d (omega arith))
-shown_at count (learnt clause hints ∷ book) (suc k) d h =
+    subst (λ (m : ℕ). MatchOption (slice_get book k) ⊥ (λ e. get_or (kept_from (count + 1) book) k d ≡ kept m e)) n (kept_at (count + 1) book k d (omega arith))
+kept_at count (learnt clause hints ∷ book) (suc k) d h =
     let n : count + 1 + length (clauses_of (take k book)) + 1 ≡ count + suc (length (clauses_of (take k book))) + 1 = omega arith in
-    subst (λ (m : ℕ). MatchOption (slice_get book k) ⊥ (λ e. get_or (shown_from (count + 1) book) k d ≡ shown m e)) n (shown_at (count + 1) book k d (omega arith))
-shown_at count (final clause hints ∷ book) (suc k) d h =
+    subst (λ (m : ℕ). MatchOption (slice_get book k) ⊥ (λ e. get_or (kept_from (count + 1) book) k d ≡ kept m e)) n (kept_at (count + 1) book k d (omega arith))
+kept_at count (final clause hints ∷ book) (suc k) d h =
     let n : count + 1 + length (clauses_of (take k book)) + 1 ≡ count + suc (length (clauses_of (take k book))) + 1 = omega arith in
-    subst (λ (m : ℕ). MatchOption (slice_get book k) ⊥ (λ e. get_or (shown_from (count + 1) book) k d ≡ shown m e)) n (shown_at (count + 1) book k d (omega arith))
-shown_at count (mark m ∷ book) (suc k) d h = shown_at count book k d (omega arith)
+    subst (λ (m : ℕ). MatchOption (slice_get book k) ⊥ (λ e. get_or (kept_from (count + 1) book) k d ≡ kept m e)) n (kept_at (count + 1) book k d (omega arith))
+kept_at count (mark m ∷ book) (suc k) d h = kept_at count book k d (omega arith)
+
+-- what is kept of an entry shows it
+entry_of-kept : (number : ℕ) (e : BookEntry) → entry_of (kept number e) ≡ shown number e
+entry_of-kept number (axiomatic clause) = refl
+entry_of-kept number (learnt clause hints) = refl
+entry_of-kept number (final clause hints) = refl
+entry_of-kept number (mark k) = refl
+
+if_some : (o : Option BookEntry) (P Q : BookEntry → Type 0) → ((e : BookEntry) → P e → Q e) → MatchOption o ⊥ P → MatchOption o ⊥ Q
+if_some None P Q f h = h
+if_some (Some e) P Q f h = f e h
 
 -- the entry at a place is shown with the number of its clause
-pub entry_at : (es : List Entry) (cs : List Clause) (hs : List (List ℕ)) (book : List BookEntry) (place : ℕ) (entry : Entry) → IsKept es cs hs → book_of es cs hs ≡ book →
-    place < length book → entry ≡ get_or es place entry → IsEntryAt book place entry
-entry_at es cs hs book place entry kept same h e =
-    let k : IsBook es cs hs book = subst (λ (b : List BookEntry). IsBook es cs hs b) same kept in
-    let at : get_or (shown_from 0 book) place entry ≡ entry = sym (e ∙ ap (λ (l : List Entry). get_or l place entry) k.entries_are) in
+pub entry_at : (es : List Kept) (cs : List Clause) (hs : List (List ℕ)) (book : List BookEntry) (place : ℕ) (there : Kept) (entry : Entry) → IsKept es cs hs → book_of es cs hs ≡ book →
+    place < length book → there ≡ get_or es place there → entry ≡ entry_of there → IsEntryAt book place entry
+entry_at es cs hs book place there entry same_book same h e shows =
+    let k : IsBook es cs hs book = subst (λ (b : List BookEntry). IsBook es cs hs b) same same_book in
+    let at : get_or (kept_from 0 book) place there ≡ there = sym (e ∙ ap (λ (l : List Kept). get_or l place there) k.entries_are) in
     let n : 0 + length (clauses_of (take place book)) + 1 ≡ length (clauses_of (take place book)) + 1 = omega arith in
-    subst (λ (x : Entry). MatchOption (slice_get book place) ⊥ (λ e. x ≡ shown (length (clauses_of (take place book)) + 1) e)) at
-    (subst (λ (m : ℕ). MatchOption (slice_get book place) ⊥ (λ e. get_or (shown_from 0 book) place entry ≡ shown m e)) n (shown_at 0 book place entry h))
-
-get-get_or : (xs : List (List ℕ)) (k : ℕ) (d : List ℕ) → k < length xs → slice_get xs k ≡ Some (get_or xs k d)
-get-get_or [] k d h = absurd (omega arith)
-get-get_or (x ∷ xs) zero d h = refl
-get-get_or (x ∷ xs) (suc k) d h = get-get_or xs k d (omega arith)
+    if_some (slice_get book place) _ _ (λ x is. shows ∙ ap entry_of (sym at ∙ is) ∙ ap (λ (m : ℕ). entry_of (kept m x)) n ∙ entry_of-kept _ x) (kept_at 0 book place there h)
 
 -- the hints of a clause
-pub hints_at : (es : List Entry) (cs : List Clause) (hs : List (List ℕ)) (book : List BookEntry) (id : ℕ) (hints : List ℕ) → IsKept es cs hs → book_of es cs hs ≡ book →
-    1 ≤ id → id ≤ length (clauses_of book) → hints ≡ get_or hs (id - 1) hints → slice_get (hints_of book) (id - 1) ≡ Some hints
-hints_at es cs hs book id hints kept same one range e =
-    let k : IsBook es cs hs book = subst (λ (b : List BookEntry). IsBook es cs hs b) same kept in
-    let n : id - 1 < length hs = omega (arith, count_hints es cs hs book kept same, one, range) in
-    let at = get-get_or hs (id - 1) hints n in
-    ap (λ (l : List (List ℕ)). slice_get l (id - 1)) (sym k.hints_are) ∙ at ∙ ap Some (sym e)
+pub hints_at : (es : List Kept) (cs : List Clause) (hs : List (List ℕ)) (book : List BookEntry) (place : ℕ) (hints : List ℕ) → IsKept es cs hs → book_of es cs hs ≡ book →
+    slice_get hs place ≡ Some hints → slice_get (hints_of book) place ≡ Some hints
+hints_at es cs hs book place hints before same at =
+    let k : IsBook es cs hs book = subst (λ (b : List BookEntry). IsBook es cs hs b) same before in
+    ap (λ (l : List (List ℕ)). slice_get l place) (sym k.hints_are) ∙ at
 
 one_more : (cs : List Clause) (c : Clause) → length (cs ++ c ∷ []) ≡ length cs + 1
 one_more cs c = grind (arith, common_steps)
 
--- a clause joins the book by its origin
-pub put_joined : (origin : Origin) (clause : Clause) (hints : List ℕ) (es es' : List Entry) (cs cs' : List Clause) (hs hs' : List (List ℕ)) (book : List BookEntry) (id : ℕ) (entry : Entry) →
-    IsKept es cs hs → book_of es cs hs ≡ book → IsDerived book (made origin clause hints) → hints ≡ kept_hints origin hints → id ≡ length cs' → entry ≡ shown id (made origin [] []) →
+-- an axiom joins the book
+pub axiom_joined : (clause : Clause) (es es' : List Kept) (cs cs' : List Clause) (hs hs' : List (List ℕ)) (book : List BookEntry) (id : ℕ) →
+    IsKept es cs hs → book_of es cs hs ≡ book → id ≡ length cs' → es' ≡ es ++ Axiom id ∷ [] → cs' ≡ cs ++ clause ∷ [] → hs' ≡ hs ++ [] ∷ [] → Joined es' cs' hs' (book ++ axiomatic clause ∷ [])
+axiom_joined clause es es' cs cs' hs hs' book id before same number e c h =
+    let n : id ≡ length cs + 1 = number ∙ ap length c ∙ one_more cs clause in
+    joined es es' cs cs' hs hs' book (axiomatic clause) before same tt (e ∙ ap (λ k. es ++ Axiom k ∷ []) n) c h
+
+-- a clause that is derived joins it by its origin
+pub put_joined : (origin : Origin) (clause : Clause) (hints : List ℕ) (es es' : List Kept) (cs cs' : List Clause) (hs hs' : List (List ℕ)) (book : List BookEntry) (id : ℕ) (entry : Kept) →
+    IsKept es cs hs → book_of es cs hs ≡ book → DerivesFrom book clause hints → id ≡ length cs' → entry ≡ kept id (made origin [] []) →
     es' ≡ es ++ entry ∷ [] → cs' ≡ cs ++ clause ∷ [] → hs' ≡ hs ++ hints ∷ [] → Joined es' cs' hs' (book ++ made origin clause hints ∷ [])
-put_joined origins.Axiom clause hints es es' cs cs' hs hs' book id entry kept same derived hinted number is e c h =
+put_joined origins.Learnt clause hints es es' cs cs' hs hs' book id entry before same derived number is e c h =
     let n : id ≡ length cs + 1 = number ∙ ap length c ∙ one_more cs clause in
-    joined es es' cs cs' hs hs' book (axiomatic clause) kept same derived (e ∙ ap (λ x. es ++ x ∷ []) (is ∙ ap Axiom n)) c (h ∙ ap (λ x. hs ++ x ∷ []) hinted)
-put_joined origins.Learnt clause hints es es' cs cs' hs hs' book id entry kept same derived hinted number is e c h =
+    joined es es' cs cs' hs hs' book (learnt clause hints) before same derived (e ∙ ap (λ x. es ++ x ∷ []) (is ∙ ap Learnt n)) c h
+put_joined origins.Final clause hints es es' cs cs' hs hs' book id entry before same derived number is e c h =
     let n : id ≡ length cs + 1 = number ∙ ap length c ∙ one_more cs clause in
-    joined es es' cs cs' hs hs' book (learnt clause hints) kept same derived (e ∙ ap (λ x. es ++ x ∷ []) (is ∙ ap Learnt n)) c h
-put_joined origins.Final clause hints es es' cs cs' hs hs' book id entry kept same derived hinted number is e c h =
-    let n : id ≡ length cs + 1 = number ∙ ap length c ∙ one_more cs clause in
-    joined es es' cs cs' hs hs' book (final clause hints) kept same derived (e ∙ ap (λ x. es ++ x ∷ []) (is ∙ ap Final n)) c h
+    joined es es' cs cs' hs hs' book (final clause hints) before same derived (e ∙ ap (λ x. es ++ x ∷ []) (is ∙ ap Final n)) c h
 
 -- a mark joins it, and the clauses stay
-pub mark_joined : (number : ℕ) (es es' : List Entry) (cs : List Clause) (hs : List (List ℕ)) (book : List BookEntry) → IsKept es cs hs → book_of es cs hs ≡ book → es' ≡ es ++ Mark number ∷ [] → Joined es' cs hs (book ++ mark number ∷ [])
-mark_joined number es es' cs hs book kept same e = joined es es' cs cs hs hs book (mark number) kept same tt e (sym (append-nil cs)) (sym (append-nil hs))
+pub mark_joined : (number : ℕ) (es es' : List Kept) (cs : List Clause) (hs : List (List ℕ)) (book : List BookEntry) → IsKept es cs hs → book_of es cs hs ≡ book → es' ≡ es ++ Mark number ∷ [] → Joined es' cs hs (book ++ mark number ∷ [])
+mark_joined number es es' cs hs book before same e = joined es es' cs cs hs hs book (mark number) before same tt e (sym (append-nil cs)) (sym (append-nil hs))

@@ -1,5 +1,6 @@
 // An entry of a book.
 ghost use Rattle.std.specs.Prelude.{◌≡◌};
+ghost use Rattle.proof_ledger.specs.Kept.{entry_of};
 
 use des_base::Memory;
 use prop_core::ClauseId;
@@ -15,6 +16,27 @@ pub enum Entry {
     Final(ClauseId),
     /// Where a question opens (0) or closes (1).
     Mark(u32),
+}
+
+// An entry as it is kept, in eight bytes.
+#[derive(Clone, Copy)]
+pub enum Kept {
+    Axiom(u32),
+    Learnt(u32),
+    Final(u32),
+    Mark(u32),
+}
+
+// The entry that is kept so.
+pub fn shown_entry(kept: Kept) -> Entry
+    ensures { result ≡ entry_of kept }
+{
+    match kept {
+        Kept::Axiom(number) => Entry::Axiom(ClauseId(number as u64)),
+        Kept::Learnt(number) => Entry::Learnt(ClauseId(number as u64)),
+        Kept::Final(number) => Entry::Final(ClauseId(number as u64)),
+        Kept::Mark(number) => Entry::Mark(number),
+    }
 }
 
 /// Why a clause was not derived.

@@ -1,22 +1,21 @@
 // The book of derived clauses.
 ghost use Rattle.std.specs.Prelude.{◌≡◌, ◌<◌, ◌≤◌, ◌+◌, ◌-◌, ◌^◌, ◌++◌, ◌∷◌, [], length, max, slice_get, Some, OnOk, OnErr, IfOk, IfErr};
 ghost use Rattle.prop_core.specs.Derivation.{derive, clause_numbered};
-ghost use Rattle.proof_ledger.specs.Book.{axiomatic, learnt, final, mark, clauses_of, hints_of, DerivesFrom, IsDerived, IsValidBook, IsEntryAt, shown};
-ghost use Rattle.proof_ledger.specs.Kept.{made, kept_hints};
+ghost use Rattle.proof_ledger.specs.Book.{axiomatic, learnt, final, mark, clauses_of, hints_of, DerivesFrom, IsValidBook, IsEntryAt};
+ghost use Rattle.proof_ledger.specs.Kept.{kept, made};
 ghost use Rattle.proof_ledger.specs.Following.{derivation_of, IsPlaceWithin, IsFaultOf};
 
-use crate::entry::{DeriveFault, Entry};
+use crate::entry::{DeriveFault, Entry, Kept, shown_entry};
 use crate::follow::{Outcome, derive_by};
 use crate::truths::Truths;
 use des_base::Memory;
-use prop_core::{ClauseId, Clauses, IdList, Lit};
+use prop_core::{ClauseId, Clauses, Lit, Pieces};
 use std::alloc::Global;
 use std::marker::Model;
 
-// How a clause comes into the book.
+// How a clause comes into the book that is derived.
 #[derive(Clone, Copy)]
 pub enum Origin {
-    Axiom,
     Learnt,
     Final,
 }
@@ -26,8 +25,8 @@ pub enum Origin {
 pub struct Ledger {
     alloc: Global,
     clauses: Clauses,
-    hints: Vec<IdList>,
-    entries: Vec<Entry>,
+    hints: Pieces<ClauseId>,
+    entries: Vec<Kept>,
     truths: Truths,
 }
 
@@ -37,11 +36,11 @@ impl Model for Ledger {
 
     ghost Value = { LedgerState };
 
-    ghost view = { λ a. record { entries = book_of a.entries.items a.clauses.clauses a.hints.items; spare_clauses = a.clauses.spare_clauses; spare_literals = a.clauses.spare_literals } };
+    ghost view = { λ a. record { entries = book_of a.entries.items a.clauses.clauses a.hints.pieces; spare_clauses = a.clauses.spare_clauses; spare_literals = a.clauses.spare_literals } };
 
     ghost invariant = { λ a. record {
-      kept : IsKept a.entries.items a.clauses.clauses a.hints.items;
-      hints : vec_len a.hints + a.clauses.spare_clauses ≤ vec_capacity a.hints;
+      kept : IsKept a.entries.items a.clauses.clauses a.hints.pieces;
+      hints : a.clauses.spare_clauses ≤ a.hints.spare_pieces;
       entries : vec_len a.entries + a.clauses.spare_clauses ≤ vec_capacity a.entries;
     } };
 }
@@ -54,7 +53,7 @@ impl Ledger {
         Ledger {
             alloc,
             clauses: Clauses::new(alloc),
-            hints: Vec::new(alloc),
+            hints: Pieces::new(alloc),
             entries: Vec::new(alloc),
             truths: Truths::new(alloc),
         }
@@ -80,7 +79,7 @@ impl Ledger {
         requires { place < length self.now.entries }
         ensures { IsEntryAt self.now.entries place result }
     {
-        self.entries[place as usize]
+        shown_entry(self.entries[place as usize])
     }
 
     /// The clauses of the book.
@@ -98,7 +97,7 @@ impl Ledger {
         requires in_range { id ≤ length (clauses_of self.now.entries) }
         ensures { slice_get (hints_of self.now.entries) (id - 1) ≡ Some result.now }
     {
-        self.hints[id.0 as usize - 1].as_slice()
+        self.hints.piece(id.0 as usize - 1)
     }
 
     /// Sees to it that there is room for this many more clauses with this many literals together.
@@ -109,7 +108,7 @@ impl Ledger {
         ensures err { OnErr result (self.new ≡ self.old) }
     {
         let room = self.clauses.spare_clauses().max(clauses);
-        self.hints.reserve(room)?;
+        self.hints.reserve(room, 0)?;
         self.entries.reserve(room)?;
         self.clauses.reserve(clauses, lits)
     }
@@ -123,8 +122,11 @@ impl Ledger {
         ensures spare_clauses { self.new.spare_clauses + 1 ≡ self.old.spare_clauses }
         ensures spare_literals { self.new.spare_literals + length clause.now ≡ self.old.spare_literals }
     {
-        let hints = IdList::new(self.alloc);
-        self.put(Origin::Axiom, clause, hints)
+        let id = self.clauses.push_reserved(clause);
+        self.hints.push_reserved(&[]);
+        let number = self.clauses.number(id);
+        self.entries.push(Kept::Axiom(number)).unwrap();
+        id
     }
 
     /// Adds an axiom. Like every call that adds a clause, it uses up room where some was reserved.
@@ -148,9 +150,7 @@ impl Ledger {
         ensures spare_literals { OnOk result (self.new.spare_literals ≡ self.old.spare_literals - length clause.now) }
         ensures err { OnErr result (self.new ≡ self.old) }
     {
-        let kept = IdList::from_slice(self.alloc, hints)?;
-        self.reserve(1, clause.len())?;
-        Ok(self.put(Origin::Learnt, clause, kept))
+        self.put(Origin::Learnt, clause, hints)
     }
 
     /// Adds a clause that the hints derive and that ends a search.
@@ -162,9 +162,7 @@ impl Ledger {
         ensures spare_literals { OnOk result (self.new.spare_literals ≡ self.old.spare_literals - length clause.now) }
         ensures err { OnErr result (self.new ≡ self.old) }
     {
-        let kept = IdList::from_slice(self.alloc, hints)?;
-        self.reserve(1, clause.len())?;
-        Ok(self.put(Origin::Final, clause, kept))
+        self.put(Origin::Final, clause, hints)
     }
 
     /// Adds a mark. Clauses keep their numbers, and the room that was reserved stays.
@@ -176,7 +174,7 @@ impl Ledger {
             return Err(Memory);
         };
         self.entries.reserve(room)?;
-        self.entries.push(Entry::Mark(number)).unwrap();
+        self.entries.push(Kept::Mark(number)).unwrap();
         Ok(())
     }
 
@@ -212,30 +210,37 @@ impl Ledger {
         derive_by(&mut self.truths, &self.clauses, clause, hints)
     }
 
-    // Puts a clause with its hints into the room that was reserved.
-    fn put(&mut self, origin: Origin, clause: &[Lit], hints: IdList) -> ClauseId
-        requires one { 1 ≤ self.old.spare_clauses }
-        requires enough { length clause.now ≤ self.old.spare_literals }
-        requires hinted { hints ≡ kept_hints origin hints }
-        requires derived { IsDerived self.old.entries (made origin clause.now hints) }
-        ensures added { self.new.entries ≡ self.old.entries ++ made origin clause.now hints ∷ [] }
-        ensures id { result ≡ length (clauses_of self.new.entries) }
-        ensures spare_clauses { self.new.spare_clauses + 1 ≡ self.old.spare_clauses }
-        ensures spare_literals { self.new.spare_literals + length clause.now ≡ self.old.spare_literals }
+    // Puts a clause that its hints derive.
+    fn put(
+        &mut self,
+        origin: Origin,
+        clause: &[Lit],
+        hints: &[ClauseId],
+    ) -> Result<ClauseId, Memory>
+        requires { DerivesFrom self.old.entries clause.now hints.now }
+        ensures added { OnOk result (self.new.entries ≡ self.old.entries ++ made origin clause.now hints.now ∷ []) }
+        ensures id { IfOk result (λ id. id ≡ length (clauses_of self.new.entries)) }
+        ensures spare_clauses { OnOk result (self.new.spare_clauses ≡ self.old.spare_clauses - 1) }
+        ensures spare_literals { OnOk result (self.new.spare_literals ≡ self.old.spare_literals - length clause.now) }
+        ensures err { OnErr result (self.new ≡ self.old) }
     {
+        let room = self.clauses.spare_clauses().max(1);
+        self.hints.reserve(room, hints.len())?;
+        self.entries.reserve(room)?;
+        self.clauses.reserve(1, clause.len())?;
         let id = self.clauses.push_reserved(clause);
-        self.hints.push(hints).unwrap();
-        self.entries.push(entry_of(origin, id)).unwrap();
-        id
+        self.hints.push_reserved(hints);
+        let number = self.clauses.number(id);
+        self.entries.push(kept_as(origin, number)).unwrap();
+        Ok(id)
     }
 }
 
-fn entry_of(origin: Origin, id: ClauseId) -> Entry
-    ensures { result ≡ shown id (made origin [] []) }
+fn kept_as(origin: Origin, number: u32) -> Kept
+    ensures { result ≡ kept number (made origin [] []) }
 {
     match origin {
-        Origin::Axiom => Entry::Axiom(id),
-        Origin::Learnt => Entry::Learnt(id),
-        Origin::Final => Entry::Final(id),
+        Origin::Learnt => Kept::Learnt(number),
+        Origin::Final => Kept::Final(number),
     }
 }

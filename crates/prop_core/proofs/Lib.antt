@@ -1,4 +1,4 @@
-pub mod Pieces
+pub mod PieceLists
 pub mod Entailed
 pub mod Literals
 pub mod Standings

@@ -1,5 +1,6 @@
 pub mod Clauses
 pub mod Derivation
+pub mod PieceList
 pub mod ClauseStore
 pub mod Laws
 pub mod Trail

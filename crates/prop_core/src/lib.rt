@@ -14,6 +14,7 @@ mod grid;
 mod laws;
 mod lists;
 mod lit;
+mod pieces;
 mod vars;
 
 pub use assignment::Assignment;
@@ -25,4 +26,5 @@ pub use laws::{
 };
 pub use lists::{IdList, LitList};
 pub use lit::Lit;
+pub use pieces::Pieces;
 pub use vars::Vars;

@@ -1,6 +1,6 @@
 // Conflict analysis (Marques-Silva and Sakallah, "GRASP: a new search algorithm for satisfiability", 1996): the clause of the first implication
 // point, and the clauses that close a search under assumptions (Eén and Sörensson, "Temporal induction by incremental SAT solving", 2003).
-ghost use Rattle.std.specs.Prelude.{◌≡◌, ℕ, ◌<◌, ◌≤◌, ◌∷◌, [], length, replicate, true, false, is_none, vec_capacity, IfOk, OnOk};
+ghost use Rattle.std.specs.Prelude.{◌≡◌, ℕ, ◌<◌, ◌≤◌, ◌∷◌, [], length, max, replicate, true, false, is_none, vec_capacity, IfOk, OnOk, OnErr};
 ghost use Rattle.prop_core.specs.Clauses.{is_false};
 ghost use Rattle.sat_prop.specs.TrailState.{StandsAt, reason_at};
 ghost use Rattle.sat_prop.specs.Levels.{level_of, IsLastDecision};
@@ -32,20 +32,23 @@ pub struct Learnt {
 
 /// Learns from conflicts.
 ///
-/// Its value is the number of literals that it has room for.
+/// Its value is the number of literals that it has room for. An analysis keeps it, also where memory is wanting, so that another can follow.
 #[derive(Drop)]
 pub struct Learner {
     alloc: Global,
     seen: Vec<bool>,
     removable: Removable,
+    room: u32,
 }
 
 impl Model for Learner {
-    ghost use Rattle.std.specs.Prelude.{ℕ, vec_capacity};
+    ghost use Rattle.std.specs.Prelude.{ℕ, ◌≤◌, vec_capacity};
 
     ghost Value = { ℕ };
 
-    ghost view = { λ a. vec_capacity a.seen };
+    ghost view = { λ a. a.room };
+
+    ghost invariant = { λ a. a.room ≤ vec_capacity a.seen };
 }
 
 impl Learner {
@@ -57,17 +60,22 @@ impl Learner {
             alloc,
             seen: Vec::new(alloc),
             removable: Removable::new(alloc),
+            room: 0,
         }
     }
 
-    /// Takes memory for the literals of so many variables beforehand.
+    /// Takes memory for the literals of so many variables beforehand. Where memory is wanting, the room is as before.
     pub fn grow(&mut self, vars: u32) -> Result<(), Memory>
         ensures ok { OnOk result (vars ≤ self.new) }
         ensures kept { self.old ≤ self.new }
+        ensures grown { OnOk result (self.new ≡ max self.old vars) }
+        ensures err { OnErr result (self.new ≡ self.old) }
     {
-        self.removable.widen(vars)?;
+        let room = self.room.max(vars);
+        self.removable.widen(room)?;
         self.seen.clear();
-        self.seen.reserve(vars as usize)?;
+        self.seen.reserve(room as usize)?;
+        self.room = room;
         Ok(())
     }
 
@@ -81,7 +89,7 @@ impl Learner {
         requires grown { IsFront trail.now.clauses db.now.clauses }
         requires conflict { IsConflict trail.now conflict }
         requires decided { 0 < level_of trail.now.reasons }
-        ensures kept { self.old ≤ self.new }
+        ensures kept { self.new ≡ self.old }
         ensures learnt { IfOk result (λ l. IsLearnt trail.now db.now.clauses l.clause l.hints l.level) }
     {
         unsee(&mut self.seen, trail.len() as usize)?;
@@ -108,7 +116,7 @@ impl Learner {
     ) -> Result<Learnt, Memory>
         requires grown { IsFront trail.now.clauses db.now.clauses }
         requires conflict { IsConflict trail.now conflict }
-        ensures kept { self.old ≤ self.new }
+        ensures kept { self.new ≡ self.old }
         ensures closing { IfOk result (λ l. IsClosing trail.now db.now.clauses [] l.clause l.hints) }
         ensures level { IfOk result (λ l. l.level ≡ 0) }
     {
@@ -126,7 +134,7 @@ impl Learner {
         requires grown { IsFront trail.now.clauses db.now.clauses }
         requires false_now { is_false trail.now.literals lit ≡ true }
         requires forced { (place : ℕ) → StandsAt trail.now.literals lit.var place → is_none (reason_at trail.now.reasons place) ≡ false }
-        ensures kept { self.old ≤ self.new }
+        ensures kept { self.new ≡ self.old }
         ensures closing { IfOk result (λ l. IsClosing trail.now db.now.clauses (lit ∷ []) l.clause l.hints) }
         ensures level { IfOk result (λ l. l.level ≡ 0) }
     {

@@ -20,7 +20,7 @@ use std::snapshot::Snapshot;
 #[derive(Drop)]
 pub struct Stack {
     db: Snapshot<Clauses>,
-    attached: Vec<ClauseId>,
+    attached: Vec<u32>,
     spare: usize,
     literals: Vec<Lit>,
     reasons: Vec<Option<ClauseId>>,
@@ -109,7 +109,7 @@ impl Stack {
         requires quiet { JoinsQuietly self.old (clause_numbered db.now.clauses id) }
         ensures { self.new ≡ with_clause self.old db.now.clauses id }
     {
-        self.attached.push(id).unwrap();
+        self.attached.push(db.number(id)).unwrap();
         self.spare -= 1;
         self.db = Snapshot::of(db);
     }

@@ -2,14 +2,14 @@ ghost use Rattle.std.specs.Prelude.{◌≡◌, ℕ, ◌+◌, ◌-◌, ◌<◌, �
 ghost use Rattle.sat_prop.specs.Watches.{Links, Drains, IsNext, IsOpened, Puts, no_starts, start_of, with_start, node_at, nexts_of, watch_at, watching, with_pair};
 
 use des_base::Memory;
-use prop_core::{ClauseId, Lit};
+use prop_core::Lit;
 use std::alloc::Global;
 use std::marker::Model;
 
-/// A clause that is watched at a literal, and the number of its other watch.
+/// The number of a clause that is watched at a literal, and that of its other watch.
 #[derive(Clone, Copy)]
 pub struct Watch {
-    pub clause: ClauseId,
+    pub clause: u32,
     pub lit: Lit,
     pub twin: u32,
 }
@@ -96,7 +96,7 @@ impl WatchLists {
     }
 
     /// Adds a clause that is watched at two literals.
-    pub fn add(&mut self, clause: ClauseId, first: Lit, second: Lit)
+    pub fn add(&mut self, clause: u32, first: Lit, second: Lit)
         requires room { 1 ≤ self.old.spare }
         requires first { first.var < self.old.vars }
         requires second { second.var < self.old.vars }

@@ -89,7 +89,7 @@ impl Watched {
         let _literals = stack.literals();
         match two_literals(stack, db.clause(id)) {
             Some((first, second)) => {
-                self.lists.add(id, first, second);
+                self.lists.add(db.number(id), first, second);
                 let falls = stack.falls(first).min(stack.falls(second));
                 self.seen = self.seen.min(falls);
             }
@@ -222,7 +222,7 @@ impl Watched {
         match judged {
             Judged::Stays => self.lists.put(watch.lit),
             Judged::Moves(found) => self.lists.put(found),
-            Judged::False => return Some(watch.clause),
+            Judged::False => return Some(ClauseId(watch.clause as u64)),
         }
         None
     }
@@ -242,10 +242,11 @@ impl Watched {
             return Judged::Stays;
         }
         let _literals = stack.literals();
-        match replacement(stack, db.clause(watch.clause), other, self.seen) {
+        let id = ClauseId(watch.clause as u64);
+        match replacement(stack, db.clause(id), other, self.seen) {
             Some(found) => Judged::Moves(found),
             None => {
-                if make_true(stack, db, watch.clause, other) {
+                if make_true(stack, db, id, other) {
                     Judged::Stays
                 } else {
                     Judged::False

@@ -1,5 +1,5 @@
 -- How what a search keeps stands to its assumptions and its book.
-use Rattle.std.specs.Prelude.{◌≡◌, ℕ, ◌+◌, ◌-◌, ◌*◌, ◌<◌, ◌≤◌, ◌⊎◌, Bool, true, false, List, [], ◌∷◌, ◌++◌, take, length, Option, None, Contains}
+use Rattle.std.specs.Prelude.{◌≡◌, ℕ, ◌+◌, ◌-◌, ◌*◌, ◌<◌, ◌≤◌, ◌⊎◌, Bool, true, false, List, [], ◌∷◌, ◌++◌, take, length, replicate, Option, None, Contains}
 use Rattle.std.specs.List.{list_all, AllByRecursion}
 use Rattle.des_base.specs.declared.TheConstants.{VAR_LIMIT}
 use Rattle.prop_core.specs.declared.lit.Lit.{Lit}
@@ -31,6 +31,19 @@ pub record KeepsSize {R : Type 0} (old new : SolverState R) : Type 0 where
   pub order : KeepsRanks old.order new.order
   pub vars : new.vars ≡ old.vars
   pub spare : new.spare ≡ old.spare
+
+-- these values, and false for each further variable below a number
+abbrev pub widened : List Bool → ℕ → List Bool
+widened values vars = values ++ replicate (vars - length values) false
+
+-- the variables below a number that are added wait, and have the value false
+pub record AddsVariables {R : Type 0} (old new : SolverState R) (vars : ℕ) : Type 0 where
+  pub waiting : new.order.waiting ≡ old.order.waiting ++ replicate (vars - length old.order.waiting) true
+  pub assignment : new.assignment ≡ widened old.assignment vars
+
+-- the values are as before, or there are some of further variables
+abbrev pub KeepsValues : List Bool → List Bool → ℕ → Type 0
+KeepsValues old new vars = (new ≡ old) ⊎ (new ≡ widened old vars)
 
 -- no two assumptions are negations of each other
 abbrev pub AreCompatible : List Lit → Type 0

@@ -6,7 +6,7 @@ ghost use Rattle.proof_ledger.specs.Book.{clauses_of};
 ghost use Rattle.sat_order.specs.Rank.{IsRank, IsRanked};
 ghost use Rattle.sat_prop.specs.Changes.{IsFront};
 ghost use Rattle.sat_solve.specs.Searching.{IsSearched, HasPut, IsAnswer};
-ghost use Rattle.sat_solve.specs.Solving.{AreCompatible, KeepsSize};
+ghost use Rattle.sat_solve.specs.Solving.{AreCompatible, AddsVariables, KeepsSize, KeepsValues};
 
 use crate::advice::Advice;
 use crate::answer::Answer;
@@ -67,7 +67,10 @@ impl<R: Fn(u32) -> u64> Solver<R> {
         }
     }
 
-    /// Sees to it that there are this many variables, and room to adopt this many more clauses.
+    /// Sees to it that there are this many variables, and room to adopt this many more clauses. Variables that are added wait, and have the
+    /// value false.
+    ///
+    /// Where memory is wanting the solver is as before, but that there may be values of further variables, all false; so it can be called again.
     pub fn reserve(&mut self, vars: u32, clauses: usize) -> Result<(), Memory>
         requires rank { IsRank R.pre R.post self.old.order.rank }
         requires limit { vars ≤ VAR_LIMIT }
@@ -76,7 +79,9 @@ impl<R: Fn(u32) -> u64> Solver<R> {
         ensures adopted { self.new.adopted ≡ self.old.adopted }
         ensures vars { OnOk result (self.new.vars ≡ max self.old.vars vars) }
         ensures spare { OnOk result (self.new.spare ≡ max self.old.spare clauses) }
+        ensures added { OnOk result (AddsVariables self.old self.new vars) }
         ensures err { OnErr result (self.new ≡ record self.old { assignment = self.new.assignment }) }
+        ensures values { OnErr result (KeepsValues self.old.assignment self.new.assignment vars) }
     {
         self.search.advice.widen(vars)?;
         self.search

@@ -1,7 +1,7 @@
 use Rattle.std.proofs.Common.{◌≡◌, ◌+◌, ◌-◌, ◌<◌, ◌++◌, ◌∷◌, [], ℕ, Option, None, subst, length, get_or, arith}
 use Rattle.std.specs.Prelude.{vec_len, vec_capacity}
 use Rattle.std.proofs.lemmas.Grind.{common_steps}
-use Rattle.sat_prop.specs.Watches.{nexts_of}
+use Rattle.sat_prop.specs.Watches.{nexts_of, no_watch}
 use Rattle.sat_prop.proofs.Nodes.{count_nexts, next_of_node}
 use Rattle.sat_prop.proofs.Draining.{IsDraining, draining_begins, draining_more, draining_ends, draining_room}
 use Rattle.sat_prop.proofs.watch_lists.drain.Goals as goal
@@ -19,8 +19,8 @@ bounds-nodes-watch c =
     let k = count_nexts c.args.nodes.now in
     omega arith
 
-pub bounds-nodes-watch-in-Some : goal.bounds-nodes-watch-in-Some
-bounds-nodes-watch-in-Some c =
+pub offset_bounds-nodes-watch : goal.offset_bounds-nodes-watch
+offset_bounds-nodes-watch c =
     let d = subst (λ (o : Option ℕ). IsDraining (nexts_of c.args.nodes.now) c.args.first o c.args.into.now.items c.more.into.items (vec_capacity c.more.into - vec_len c.more.into)) c.in-Some.is c.more.invariant.draining in
     let b = (draining_more (nexts_of c.args.nodes.now) c.args.first c.in-Some.watch c.args.into.now.items c.more.into.items (vec_capacity c.more.into - vec_len c.more.into) d).within in
     let k = count_nexts c.args.nodes.now in
@@ -49,7 +49,7 @@ more-preserved c =
     let more : IsDraining (nexts_of c.args.nodes.now) c.args.first (get_or (nexts_of c.args.nodes.now) c.in-Some.watch None) c.args.into.now.items (c.more.into.items ++ c.in-Some.watch ∷ []) (vec_capacity c.push.new.self - vec_len c.push.new.self) =
     draining_room _ _ _ _ _ _ _ (grind (arith, common_steps)) o.more in
     record {
-      draining = rw (e, ← next_of_node c.args.nodes.now c.in-Some.watch c.index-nodes-watch.result w) more;
+      draining = rw (e, ← next_of_node c.args.nodes.now c.in-Some.watch (record { watch = no_watch; next = None }) w) more;
       capacity = let b = c.more.invariant.capacity in grind (arith, common_steps);
     }
 

@@ -4,7 +4,7 @@ use Rattle.proof_ledger.specs.Book.{mark}
 use Rattle.proof_ledger.proofs.Books.{Joined, mark_joined}
 use Rattle.proof_ledger.proofs.ledger.Ledger.put_mark.Goals as goal
 
-all : (c : goal.After-unwrap) → Joined c.push.new.self.items c.self.inside.clauses.clauses c.self.inside.hints.items (c.args.self.now.entries ++ mark c.args.number ∷ [])
+all : (c : goal.After-unwrap) → Joined c.push.new.self.items c.self.inside.clauses.clauses c.self.inside.hints.pieces (c.args.self.now.entries ++ mark c.args.number ∷ [])
 all c = mark_joined c.args.number _ _ _ _ _ c.self.invariant.kept (ap (λ v. v.entries) c.self.view_is) (grind (arith, common_steps))
 
 pub invariant_of-self-2 : goal.invariant_of-self-2

@@ -1,11 +1,11 @@
-use Rattle.std.proofs.Common.{◌≡◌, ◌++◌, ◌∷◌, [], ◌≤◌, ◌-◌, ℕ, List, sym, subst, arith, Option}
+use Rattle.std.proofs.Common.{◌≡◌, ◌∙◌, ◌++◌, ◌∷◌, [], ◌≤◌, ◌-◌, ℕ, List, ap, sym, subst, arith, Option}
 use Rattle.std.specs.Prelude.{IfSome}
 use Rattle.std.proofs.lemmas.Grind.{common_steps}
 use Rattle.prop_core.specs.Clauses.{HasValues}
 use Rattle.prop_core.specs.Clauses.{Clause}
 use Rattle.prop_core.proofs.Literals.{below_at}
 use Rattle.sat_prop.specs.Changes.{with_clause}
-use Rattle.sat_prop.specs.Watches.{WatchState}
+use Rattle.sat_prop.specs.Watches.{WatchState, with_pair}
 use Rattle.sat_prop.specs.Watching.{WatchedState, AreWatched}
 use Rattle.sat_prop.proofs.Visiting.{short_attached, watch_attached}
 use Rattle.sat_prop.proofs.watched.Watched.attach.Goals as goal
@@ -36,7 +36,7 @@ returns-in-Some c =
     let fewer : c.min-self-inside.result ≤ c.self.inside.seen = grind (arith, common_steps) in
     let first : c.min-self-inside.result ≤ c.falls.result = grind (arith, common_steps) in
     let second : c.min-self-inside.result ≤ c.falls-in-Some.result = grind (arith, common_steps) in
-    subst (λ (s : WatchState). AreWatched (with_clause c.args.stack.now c.args.db.now.clauses c.args.id) (record w { lists = s; seen = c.min-self-inside.result })) (sym c.add.ensures)
+    subst (λ (s : WatchState). AreWatched (with_clause c.args.stack.now c.args.db.now.clauses c.args.id) (record w { lists = s; seen = c.min-self-inside.result })) (sym (c.add.ensures ∙ ap (λ (n : ℕ). with_pair w.lists n c.in-Some.first c.in-Some.second) c.number.ensures))
     (watch_attached c.args.stack.now w c.args.db.now.clauses c.args.id c.clause.result.now c.in-Some.first c.in-Some.second c.min-self-inside.result c.requires.grown c.requires.room wa c.clause.ensures c.in-Some.ensures.two fewer
     (λ place h e. c.falls.ensures place (omega arith) (omega arith) e)
     (λ place h e. c.falls-in-Some.ensures place (omega arith) (omega arith) e))

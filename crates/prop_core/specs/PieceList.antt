@@ -1,0 +1,25 @@
+-- Lists that stand one behind another among their items.
+use Rattle.std.specs.Prelude.{◌≡◌, ℕ, ◌+◌, ◌≤◌, List, [], ◌∷◌, slice_range}
+
+-- the lists in their order, and for how many more lists and items there is room
+pub record PieceList (X : Type 0) : Type 0 where
+  pub pieces : List (List X)
+  pub spare_pieces : ℕ
+  pub spare_items : ℕ
+
+-- the lists from a place of the items on, of which each ends where the next begins
+abbrev pub pieces_from : {X : Type 0} → List X → ℕ → List ℕ → List (List X)
+pieces_from items start [] = []
+pieces_from items start (end ∷ ends) = slice_range items start end ∷ pieces_from items end ends
+
+abbrev pub pieces_of : {X : Type 0} → List X → List ℕ → List (List X)
+pieces_of items ends = pieces_from items 0 ends
+
+-- from a place on the ends ascend, and the last is this one
+abbrev pub IsCutInto : ℕ → ℕ → List ℕ → Type 0
+IsCutInto start last [] = start ≡ last
+IsCutInto start last (end ∷ ends) = (start ≤ end) × IsCutInto end last ends
+
+-- so many items later
+abbrev pub later_by : ℕ → ℕ → ℕ
+later_by later end = later + end
