@@ -11,7 +11,8 @@ use Rattle.least_faults.proofs.Below.{axioms_below}
 use Rattle.least_faults.proofs.Bounded.{bounded_column}
 use Rattle.least_faults.proofs.FewClauses.{AreFew, few_in_column}
 use Rattle.least_faults.specs.Growing.{KeepsColumns, AddsAxioms}
-use Rattle.least_faults.specs.Parts.{most_columns, AreParts, AreReady}
+use Rattle.des_base.specs.declared.TheConstants.{MOST_COLUMNS}
+use Rattle.least_faults.specs.Parts.{AreParts, AreReady}
 use Rattle.log_encode.specs.CodedLog.{CodedLog}
 use Rattle.proof_ledger.specs.Book.{BookEntry, axiomatic, clauses_of, axioms_of}
 use Rattle.prop_core.specs.Clauses.{Clause, HasValues}
@@ -41,7 +42,7 @@ keeps_both old mid new first second = record {
 columns_then : (counter : CounterState) (first : ℕ) → length (with_column counter first).columns ≡ length counter.columns + 1
 columns_then counter first = omega (arith, one_more_column counter.columns (range_with_len first (length counter.inputs)))
 
-parts_grow : (steps : CodedSteps) (code : CodedLog) (counter : CounterState) (vars : ℕ) (axioms : List Clause) → AreParts steps code counter vars axioms → 0 < length counter.inputs → length counter.columns < most_columns →
+parts_grow : (steps : CodedSteps) (code : CodedLog) (counter : CounterState) (vars : ℕ) (axioms : List Clause) → AreParts steps code counter vars axioms → 0 < length counter.inputs → length counter.columns < MOST_COLUMNS →
     AreParts steps code (with_column counter vars) (vars + length counter.inputs) (axioms ++ next_clauses counter vars)
 parts_grow steps code counter vars axioms parts some few =
     let above = parts.above in record {
@@ -64,7 +65,7 @@ pub record HasColumn (steps : CodedSteps) (code : CodedLog) (old new : CounterSt
   pub columns : length new.columns ≡ length old.columns + 1
 
 column_here : (steps : CodedSteps) (code : CodedLog) (counter : CounterState) (vars : ℕ) (values : ℕ) (book : List BookEntry) →
-    AreParts steps code counter vars (axioms_of book) → 0 < length counter.inputs → length counter.columns < most_columns → vars + length counter.inputs ≤ values →
+    AreParts steps code counter vars (axioms_of book) → 0 < length counter.inputs → length counter.columns < MOST_COLUMNS → vars + length counter.inputs ≤ values →
     HasColumn steps code counter (with_column counter vars) (vars + length counter.inputs) (clauses_of book) values book (book ++ map axiomatic (next_clauses counter vars))
 column_here steps code counter vars values book parts some few enough =
     let grown = parts_grow steps code counter vars (axioms_of book) parts some few in
@@ -85,7 +86,7 @@ column_here steps code counter vars values book parts some few enough =
     }
 
 pub column_added : (steps : CodedSteps) (code : CodedLog) (old new : CounterState) (vars then : ℕ) (adopted kept : List Clause) (values : ℕ) (book mid entries : List BookEntry) (clauses : List Clause) →
-    AreParts steps code old vars (axioms_of book) → adopted ≡ clauses_of book → 0 < length old.inputs → length old.columns < most_columns → vars + length old.inputs ≤ values →
+    AreParts steps code old vars (axioms_of book) → adopted ≡ clauses_of book → 0 < length old.inputs → length old.columns < MOST_COLUMNS → vars + length old.inputs ≤ values →
     new ≡ with_column old vars → then ≡ vars + length old.inputs → kept ≡ adopted → mid ≡ book → clauses ≡ next_clauses old vars → entries ≡ mid ++ map axiomatic clauses →
     HasColumn steps code old new then kept values book entries
 column_added steps code old new vars then adopted kept values book mid entries clauses parts all some few enough grown count same book_same written pushed =

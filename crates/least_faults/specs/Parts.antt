@@ -1,6 +1,7 @@
 -- The parts of a question, as they stand beside the book that holds its clauses.
 use Rattle.std.specs.Prelude.{◌≡◌, ℕ, ◌≤◌, List, length}
 use Rattle.card_counter.specs.CounterState.{CounterState, IsMade}
+use Rattle.des_base.specs.declared.TheConstants.{MOST_STEPS}
 use Rattle.des_net.specs.Network.{Net}
 use Rattle.least_faults.specs.Bounds.{AreBounded}
 use Rattle.least_faults.specs.declared.parts.Parts.{Parts}
@@ -20,14 +21,10 @@ use Rattle.step_encode.specs.Coded.{CodedSteps}
 abbrev pub most_size : ℕ
 most_size = 20000000
 
--- at most 1000 steps, and not too large
+-- not too many steps, and not too large
 pub record IsWithinLimits (net : Net) (log : Log) (n : ℕ) : Type 0 where
-  pub steps : n ≤ 1000
+  pub steps : n ≤ MOST_STEPS
   pub size : question_size net log n ≤ most_size
-
--- so many columns has a counter of faults at most
-abbrev pub most_columns : ℕ
-most_columns = 256
 
 -- Steps, log and counter are coded together, on variables that were made; the axioms are the clauses of the three; and variables and axioms are no more than the question takes at most.
 pub record AreParts (steps : CodedSteps) (code : CodedLog) (counter : CounterState) (vars : ℕ) (axioms : List Clause) : Type 0 where

@@ -1,5 +1,6 @@
 // An addition to the log of a question whose clauses stand in a book: room first, and then all of it.
 ghost use Rattle.std.specs.Prelude.{◌≡◌, ◌≤◌, ◌+◌, ◌*◌, [], true, All, length, sum_by, IfOk, OnOk};
+ghost use Rattle.des_base.specs.declared.TheConstants.{MOST_COLUMNS};
 ghost use Rattle.card_counter.specs.CounterState.{IsMade};
 ghost use Rattle.card_counter.specs.Growing.{AddsInputs, HasRoom, MayCount};
 ghost use Rattle.least_faults.specs.Adding.{AddsFew, HasAddition, HasRoomForDraft, IsReserved, KeepsAllButRoom, input_count, is_doubted, new_inputs};
@@ -61,14 +62,14 @@ pub fn reserve_draft<R: Fn(u32) -> u64>(
 // How many variables a counter gets: one in each column for a doubtful alarm.
 fn cells_for(doubtful: bool, counter: &Counter) -> u32
     ensures is { result ≡ input_count doubtful * length counter.now.columns }
-    ensures few { result ≤ 256 }
+    ensures few { result ≤ MOST_COLUMNS }
 {
     if doubtful { counter.columns() } else { 0 }
 }
 
 // The clauses, with room for 2 clauses and 5 literals in them for each cell.
 fn copy_with_room(alloc: Global, clauses: &Clauses, cells: u32) -> Result<Clauses, Memory>
-    requires few { cells ≤ 256 }
+    requires few { cells ≤ MOST_COLUMNS }
     ensures copied { IfOk result (λ copy. copy.clauses ≡ clauses.now.clauses) }
     ensures room { IfOk result (λ copy. HasRoom copy (2 * cells) (5 * cells)) }
 {
@@ -104,7 +105,7 @@ fn reserve_room<R: Fn(u32) -> u64>(
 ) -> Result<(), Memory>
     requires ready { AreReady R.pre R.post parts.old book.old.entries }
     requires few { parts.old.vars + draft.now.vars + cells ≤ VAR_LIMIT }
-    requires cells { cells ≤ 256 }
+    requires cells { cells ≤ MOST_COLUMNS }
     ensures ready { AreReady R.pre R.post parts.new book.new.entries }
     ensures kept { KeepsAllButRoom parts.old parts.new book.old.entries book.new.entries }
     ensures room { OnOk result (HasRoomForDraft draft.now doubtful cells parts.new book.new) }

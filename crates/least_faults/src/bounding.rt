@@ -1,5 +1,6 @@
 // The literal for a bound on the faults, and the columns of the counter that it needs.
 ghost use Rattle.std.specs.Prelude.{◌≡◌, ◌<◌, ◌≤◌, ◌+◌, IfOk, OnOk, OnErr, length};
+ghost use Rattle.des_base.specs.declared.TheConstants.{MOST_COLUMNS};
 ghost use Rattle.least_faults.specs.Asking.{IsBoundLiteral};
 ghost use Rattle.least_faults.specs.Growing.{AddsAxioms, KeepsQuestion, StandsStill};
 ghost use Rattle.least_faults.specs.Parts.{AreReady};
@@ -43,7 +44,7 @@ fn add_column<R: Fn(u32) -> u64>(
 ) -> Result<(), Memory>
     requires ready { AreReady R.pre R.post parts.old book.old.entries }
     requires some { 0 < length parts.old.counter.inputs }
-    requires few { length parts.old.counter.columns < 256 }
+    requires few { length parts.old.counter.columns < MOST_COLUMNS }
     ensures ready { AreReady R.pre R.post parts.new book.new.entries }
     ensures kept { KeepsQuestion parts.old parts.new book.old.entries book.new.entries }
     ensures axioms { AddsAxioms book.old.entries book.new.entries }
