@@ -11,7 +11,7 @@ use Rattle.diagnose_cli.specs.declared.stop.Stop.{Stop}
 use Rattle.diagnose_cli.specs.declared.stop.Stop.TheVariants.{Usage, Load, Faulty, Long, Large, Memory}
 use Rattle.diagnose_cli.specs.declared.stop.FaultyText.{FaultyText}
 use Rattle.diagnose_cli.specs.declared.stop.FaultyText.TheVariants.{Model, Log, Run, Cnf, Lrat}
-use Rattle.diagnose_cli.specs.Transcripts.{Ending, Transcript, IsWhole, whole}
+use Rattle.diagnose_cli.specs.Transcripts.{Ending, Transcript, IsWhole}
 use Rattle.diagnose_cli.specs.Endings.{HasStatus, status_of_stop, status_of_faulty, texts_of}
 use Rattle.diagnose_cli.specs.Files.{Loads, StopsAt, WithFile}
 use Rattle.diagnose_cli.specs.Commands.{FileKind, limit_of, fault_of_text, files_of, too_large, Says, Closes, InOrder, Answers, command_of}

@@ -1,5 +1,5 @@
 -- What the status of an answer tells.
-use Rattle.std.proofs.Common.{◌≡◌, ◌≤◌, ℕ, List, [], ◌∷◌, ◌++◌, map, Option, Some, refl, sym, ap, ◌∙◌, subst, arith}
+use Rattle.std.proofs.Common.{◌≡◌, ℕ, List, [], ◌∷◌, ◌++◌, map, Some, refl, sym, ap, ◌∙◌, subst, arith}
 use Rattle.std.specs.Prelude.{count_by}
 use Rattle.des_base.specs.CommandWords.{word_at}
 use Rattle.des_base.specs.Outside.{Took}
@@ -22,15 +22,16 @@ use Rattle.proof_text.specs.LratText.{proof_of}
 use Rattle.prop_core.specs.Clauses.{Clause}
 use Rattle.replay.specs.Explanation.{IsAbsent}
 use Rattle.report.specs.Replies.{text_of_found}
+use Rattle.run_decode.specs.QuestionAxioms.{question_axioms}
 use Rattle.diagnose_cli.specs.declared.command.Command.TheVariants.{Check, Diagnose}
 use Rattle.diagnose_cli.specs.declared.ending.Kind.{Kind}
 use Rattle.diagnose_cli.specs.Endings.{status_of_kind}
 use Rattle.diagnose_cli.specs.Diagnosed.{IsDiagnosed}
-use Rattle.diagnose_cli.specs.Commands.{kind_of_found, reply_of_checked, AnswersQuestion, SaysChecked, SaysDiagnosed, Says}
+use Rattle.diagnose_cli.specs.Commands.{kind_of_found, reply_of_checked, AnswersQuestion, SaysDiagnosed, Says}
 use Rattle.diagnose_cli.specs.Outcomes.{Outcome, Tells}
 use Rattle.diagnose_cli.specs.Rows.{AreTold, Asks, TellsLeast, TellsMany, TellsUndecided}
 use Rattle.diagnose_cli.specs.Run.{Ends}
-use Rattle.diagnose_cli.proofs.Answered.{AreHeld, IsStopStatus, SaidOver, said_over, same_text}
+use Rattle.diagnose_cli.proofs.Answered.{AreHeld, IsStopStatus, said_over, same_text}
 
 -- ---- a proof that is verified
 
@@ -131,7 +132,7 @@ undecided_of o net alarms steps budget (Undecided lo best) is holds put =
     record {
       lo = lo;
       best = best;
-      spent = ap (count_by is_learnt) answered.whole ∙ learnt_between holds.built answered.since ∙ answered.found.spent;
+      spent = ap (count_by is_learnt) answered.whole ∙ learnt_between (question_axioms net alarms steps 0) answered.since ∙ answered.found.spent;
       above = answered.found.above;
       known = answered.found.given;
       put = put;

@@ -1,11 +1,8 @@
 // A question of the least number of faults, and the search that answers it.
 ghost use Rattle.std.specs.Prelude.{◌≡◌, ◌≤◌, [], map, IfOk};
-ghost use Rattle.des_net.specs.Building.{IsDraft};
-ghost use Rattle.des_net.specs.Network.{IsNetwork};
 ghost use Rattle.indep.specs.StoredTest.{IsTest};
 ghost use Rattle.least_faults.specs.Building.{IsUnused};
 ghost use Rattle.least_faults.specs.Parts.{AreReady, BelongTo, IsBuilt, IsWithinLimits};
-ghost use Rattle.log_order.specs.Adding.{IsLog};
 ghost use Rattle.proof_ledger.specs.Book.{IsValidBook, axiomatic};
 ghost use Rattle.run_decode.specs.QuestionAxioms.{question_axioms};
 ghost use Rattle.diagnose_cli.specs.Commands.{AnswersQuestion};
@@ -119,18 +116,15 @@ fn search<R: Fn(u32) -> u64>(
 {
     let mut parts = parts;
     let found = least(alloc, &case.net, &case.log, &mut parts, book, limits.budget);
-    are_whole(case, book);
+    case.net.is_built();
+    case.log.is_whole();
+    is_valid(book);
     found
 }
 
-// Does nothing: network and log are whole and the book is valid, as their readers tell.
-fn are_whole(case: &Case, book: &Ledger)
-    ensures network { IsNetwork case.now.net }
-    ensures draft { IsDraft case.now.net }
-    ensures log { IsLog case.now.log }
-    ensures book { IsValidBook book.now.entries }
+// Does nothing: the book is valid, as its reader tells.
+fn is_valid(book: &Ledger)
+    ensures { IsValidBook book.now.entries }
 {
-    let _components = case.net.components();
-    let _alarms = case.log.alarms();
     let _entries = book.entries();
 }

@@ -2,7 +2,6 @@
 use Rattle.std.proofs.Common.{◌≤◌, subst, arith}
 use Rattle.least_faults.specs.Parts.{most_size}
 use Rattle.diagnose_cli.proofs.BenchAnswers.{large_plant, summed_up}
-use Rattle.diagnose_cli.proofs.Orders.{memory_free}
 use Rattle.diagnose_cli.proofs.bench_command.bench.Goals as goal
 
 pub returns-then-size-gt-SIZE_LIMIT : goal.returns-then-size-gt-SIZE_LIMIT

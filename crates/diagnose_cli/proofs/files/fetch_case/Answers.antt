@@ -1,5 +1,5 @@
 -- The model, and then the log.
-use Rattle.std.proofs.Common.{inl, arith, ◌∙◌}
+use Rattle.std.proofs.Common.{inl, arith}
 use Rattle.diagnose_cli.specs.Commands.{StopsInCase}
 use Rattle.diagnose_cli.specs.Files.{loads}
 use Rattle.diagnose_cli.proofs.Orders.{stop_handed, stops_at_log, case_read}
