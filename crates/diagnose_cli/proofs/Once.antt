@@ -1,25 +1,26 @@
 -- The run of a command that has one reply.
-use Rattle.std.proofs.Common.{◌≡◌, ◌≢◌, ◌∙◌, arith, ℕ, List, [], ◌∷◌, ◌++◌, take, Option, Some, None, Result, Ok, Err, refl, sym, ap, subst, append-nil}
+use Rattle.std.proofs.Common.{◌≡◌, ◌≢◌, ◌∙◌, arith, ℕ, IfErr, List, [], ◌∷◌, ◌++◌, take, Option, Some, None, Result, Ok, Err, refl, sym, ap, subst, append-nil}
 use Rattle.std.specs.List.{concat}
 use Rattle.des_base.specs.Outside.{Took, TookFront}
 use Rattle.proof_ledger.specs.Book.{BookEntry}
 use Rattle.diagnose_cli.specs.declared.command.Command.{Command}
 use Rattle.diagnose_cli.specs.declared.command.Command.TheVariants.{Trace, Show, Replay, Check, Diagnose, PrintCnf, GenerateModel, GenerateLog, Bench}
 use Rattle.diagnose_cli.specs.declared.ending.Kind.{Kind}
+use Rattle.diagnose_cli.specs.declared.ending.Kind.TheVariants.{Done, Rejected, Absent, Undecided, Many}
 use Rattle.diagnose_cli.specs.declared.stop.Stop.{Stop}
 use Rattle.diagnose_cli.specs.declared.stop.Stop.TheVariants.{Memory}
 use Rattle.diagnose_cli.specs.Transcripts.{Ending, UnlessMemory, TookCut, once}
-use Rattle.diagnose_cli.specs.Endings.{texts_of, text_of_stop}
+use Rattle.diagnose_cli.specs.Endings.{HasStatus, status_of_kind, status_of_stop, texts_of, text_of_stop}
 use Rattle.diagnose_cli.specs.Files.{Loads}
 use Rattle.diagnose_cli.specs.Commands.{Due, files_of}
 use Rattle.diagnose_cli.specs.Puts.{Puts}
 use Rattle.diagnose_cli.specs.Outcomes.{Outcome, outcome}
 use Rattle.diagnose_cli.specs.Rows.{Row, RowAlone, CheckRows, DiagnoseRows}
-use Rattle.diagnose_cli.specs.Run.{Ends, CutOff, Ran, Does}
+use Rattle.diagnose_cli.specs.Run.{Ends, CutOff, Ran, Does, SaysStop}
 use Rattle.diagnose_cli.proofs.Answered.{row}
 use Rattle.diagnose_cli.proofs.Exact.{stop_row}
 use Rattle.diagnose_cli.proofs.FailedLoads.{load_row, no_load_failed}
-use Rattle.diagnose_cli.proofs.StatusRows.{refuted, explained, absent, undecided, many}
+use Rattle.diagnose_cli.proofs.StatusRows.{refuted, explained, absent, undecided, many, decided}
 use Rattle.diagnose_cli.proofs.UsageRows.{usage_row}
 
 pub nothing_taken : (t : Option (List ℕ)) → Took t t []
@@ -105,6 +106,7 @@ module _ (o : Outcome) (r : Result (Kind × List ℕ) Stop) (rose : Type 0) (due
     absent = λ steps budget text alarms asks is. absent o (answered 10 is (λ p. cc) (λ p. cc)) steps budget text alarms asks is;
     undecided = λ steps budget text alarms asks is. undecided o (answered 11 is (λ p. cc) (λ p. cc)) steps budget text alarms asks is;
     many = λ steps budget text alarms asks is. many o (answered 12 is (λ p. cc) (λ p. cc)) steps budget text alarms asks is;
+    decided = λ steps budget text alarms asks enough is. decided o (answered 11 is (λ p. cc) (λ p. cc)) steps budget text alarms asks enough is;
   }
 
   does : Does o rose
@@ -123,3 +125,24 @@ module _ (o : Outcome) (r : Result (Kind × List ℕ) Stop) (rose : Type 0) (due
 pub done : (l : Loads) (words : List (List ℕ)) (before now : Option (List ℕ)) (book : List BookEntry) (status : ℕ) (r : Result (Kind × List ℕ) Stop) (rose : Type 0)
     → UnlessMemory r (Due l words book (once r)) → Puts (once r) before now rose status → Does (outcome l words before now book status) rose
 done l words before now book status r rose due puts = does (outcome l words before now book status) r rose due puts
+
+-- ---- what a command leaves that stops
+
+-- no reply has the status of a stop
+no_reply : (kind : Kind) → SaysStop (status_of_kind kind) → ⊥
+no_reply Done stop = absurd (omega (arith, stop.low))
+no_reply Rejected stop = absurd (omega (arith, stop.high))
+no_reply Absent stop = absurd (omega (arith, stop.high))
+no_reply Undecided stop = absurd (omega (arith, stop.high))
+no_reply Many stop = absurd (omega (arith, stop.high))
+
+nine_of : (stop : Stop) → stop ≡ Memory → status_of_stop stop ≡ 9
+nine_of stop is = ap status_of_stop is
+
+-- so what an ending leaves that has none is left
+stop_told : (r : Result (Kind × List ℕ) Stop) (P : Type 0) (status : ℕ) → IfErr r (λ stop. stop ≢ Memory → P) → HasStatus (once r) status → SaysStop status → P
+stop_told (Ok reply) P status left shown stop = absurd (no_reply reply.0 (subst SaysStop shown stop))
+stop_told (Err why) P status left shown stop = left (λ is. let nine = nine_of why is in let high = stop.high in omega (arith, shown, nine, high))
+
+pub stop_left : (r : Result (Kind × List ℕ) Stop) (P : Type 0) (before now : Option (List ℕ)) (rose : Type 0) (status : ℕ) → Puts (once r) before now rose status → IfErr r (λ stop. stop ≢ Memory → P) → SaysStop status → P
+stop_left r P before now rose status puts left stop = stop_told r P status left (puts.shown stop.put (λ nine. let high = stop.high in omega (arith, nine, high))) stop

@@ -1,26 +1,26 @@
 -- What the status of an answer tells.
-use Rattle.std.proofs.Common.{◌≡◌, ℕ, List, [], ◌∷◌, ◌++◌, map, Some, refl, sym, ap, ◌∙◌, subst, arith}
-use Rattle.std.specs.Prelude.{count_by}
+use Rattle.std.proofs.Common.{◌≡◌, ◌≤◌, ◌^◌, ℕ, List, [], ◌∷◌, map, Some, refl, sym, ◌∙◌, subst, arith}
 use Rattle.des_base.specs.CommandWords.{word_at}
 use Rattle.des_base.specs.Outside.{Took}
 use Rattle.des_net.specs.Network.{Net}
 use Rattle.least_faults.specs.declared.answer.Found.{Found}
 use Rattle.least_faults.specs.declared.answer.Found.TheVariants.{Explained, Absent, Many, Undecided}
-use Rattle.least_faults.proofs.Putting.{counted_more, none_learnt}
+use Rattle.least_faults.proofs.Deciding.{undecided_is_small}
+use Rattle.least_faults.proofs.Freshness.{fresh_closed}
 use Rattle.log_csv.specs.LogText.{log_of}
 use Rattle.log_order.specs.Log.{Log}
 use Rattle.model_text.specs.ModelFaults.{network_of}
-use Rattle.proof_ledger.specs.Book.{BookEntry, axiomatic, mark}
+use Rattle.proof_ledger.specs.Book.{BookEntry, axiomatic}
 use Rattle.proof_ledger.specs.Checking.{check_proof, IsUnsatisfiable}
 use Rattle.proof_ledger.specs.declared.checker.Checked.{Checked}
 use Rattle.proof_ledger.specs.declared.checker.Checked.TheVariants.{Verified, Rejected}
 use Rattle.proof_ledger.specs.declared.checker.ProofStep.{ProofStep}
 use Rattle.proof_ledger.proofs.Checks.{verified_refutes}
-use Rattle.proof_ledger.specs.Fresh.{is_learnt}
 use Rattle.proof_text.specs.CnfText.{formula_of}
 use Rattle.proof_text.specs.LratText.{proof_of}
 use Rattle.prop_core.specs.Clauses.{Clause}
 use Rattle.replay.specs.Explanation.{IsAbsent}
+use Rattle.replay.specs.QuestionSize.{variable_bound}
 use Rattle.report.specs.Replies.{text_of_found}
 use Rattle.run_decode.specs.QuestionAxioms.{question_axioms}
 use Rattle.diagnose_cli.specs.declared.command.Command.TheVariants.{Check, Diagnose}
@@ -108,20 +108,6 @@ many_of o net alarms steps budget Absent is holds put = absurd (omega arith)
 many_of o net alarms steps budget (Many best) is holds put = record { best = best; given = holds.answered.found.given; many = holds.answered.found.many; put = put }
 many_of o net alarms steps budget (Undecided lo best) is holds put = absurd (omega arith)
 
--- what was learnt stands between the marks
-learnt_between : (axioms : List Clause) (since : List BookEntry) → count_by is_learnt (map axiomatic axioms ++ mark 0 ∷ since ++ mark 1 ∷ []) ≡ count_by is_learnt since
-learnt_between axioms since =
-    let opened : count_by is_learnt (mark 0 ∷ since) ≡ count_by is_learnt since = refl in
-    let closing : count_by is_learnt (mark 1 ∷ []) ≡ 0 = refl in
-    omega (
-      arith,
-      counted_more is_learnt (map axiomatic axioms ++ mark 0 ∷ since) (mark 1 ∷ []),
-      counted_more is_learnt (map axiomatic axioms) (mark 0 ∷ since),
-      none_learnt axioms,
-      opened,
-      closing,
-    )
-
 undecided_of : (o : Outcome) (net : Net) (alarms : Log) (steps budget : ℕ) (found : Found) → 11 ≡ status_of_kind (kind_of_found found) → IsDiagnosed net alarms steps budget o.book found
     → Took o.before o.now (text_of_found net steps found) → TellsUndecided o net alarms steps budget
 undecided_of o net alarms steps budget (Explained best) is holds put = absurd (omega arith)
@@ -132,11 +118,22 @@ undecided_of o net alarms steps budget (Undecided lo best) is holds put =
     record {
       lo = lo;
       best = best;
-      spent = ap (count_by is_learnt) answered.whole ∙ learnt_between (question_axioms net alarms steps 0) answered.since ∙ answered.found.spent;
+      spent = fresh_closed (question_axioms net alarms steps 0) answered.since o.book budget answered.whole answered.fresh answered.found.spent;
+      names = holds.names;
+      few = answered.few;
+      conflict = answered.conflict;
       above = answered.found.above;
       known = answered.found.given;
       put = put;
     }
+
+undecided_small : (net : Net) (alarms : Log) (steps budget : ℕ) (book : List BookEntry) (found : Found) → 11 ≡ status_of_kind (kind_of_found found) → IsDiagnosed net alarms steps budget book found → 3 ^ variable_bound net alarms steps ≤ budget → ⊥
+undecided_small net alarms steps budget book (Explained best) is holds enough = absurd (omega arith)
+undecided_small net alarms steps budget book Absent is holds enough = absurd (omega arith)
+undecided_small net alarms steps budget book (Many best) is holds enough = absurd (omega arith)
+undecided_small net alarms steps budget book (Undecided lo best) is holds enough =
+    let small = undecided_is_small holds.names net alarms steps budget lo best (map axiomatic (question_axioms net alarms steps 0)) book holds.answered in
+    omega (arith, small, enough)
 
 module _ (o : Outcome) (ends : Ends o) where
   pub explained : (steps budget : ℕ) (text alarms : List ℕ) → Asks o (Diagnose steps budget) (text ∷ alarms ∷ []) → o.status ≡ 0 → TellsLeast o (network_of text) (log_of alarms) steps
@@ -158,3 +155,8 @@ module _ (o : Outcome) (ends : Ends o) where
   many steps budget text alarms asks is =
       let tells = found_told o steps budget text alarms ends asks (λ stop. omega (arith, is, stop.high)) in
       many_of o (network_of text) (log_of alarms) steps budget tells.found (sym is ∙ tells.shown) tells.holds.diagnosed tells.put
+
+  pub decided : (steps budget : ℕ) (text alarms : List ℕ) → Asks o (Diagnose steps budget) (text ∷ alarms ∷ []) → 3 ^ variable_bound (network_of text) (log_of alarms) steps ≤ budget → o.status ≡ 11 → ⊥
+  decided steps budget text alarms asks enough is =
+      let tells = found_told o steps budget text alarms ends asks (λ stop. omega (arith, is, stop.high)) in
+      undecided_small (network_of text) (log_of alarms) steps budget o.book tells.found (sym is ∙ tells.shown) tells.holds.diagnosed enough

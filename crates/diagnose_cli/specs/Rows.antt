@@ -1,18 +1,20 @@
 -- What each command answers, by its words and the bytes that the shelf holds under the names of its files.
-use Rattle.std.specs.Prelude.{◌≡◌, ℕ, ◌+◌, ◌<◌, ◌≤◌, ⊤, List, [], ◌∷◌, ◌++◌, length, Option, Some, None, IfSome, count_by}
+use Rattle.std.specs.Prelude.{◌≡◌, ◌≢◌, ℕ, ◌+◌, ◌<◌, ◌≤◌, ◌^◌, ⊤, List, [], ◌∷◌, ◌++◌, length, Option, Some, None, IfSome}
 use Rattle.des_base.specs.CommandWords.{word_at}
 use Rattle.des_base.specs.Outside.{Took}
 use Rattle.des_net.specs.Network.{Net}
-use Rattle.least_faults.specs.Answers.{IsExplanation}
+use Rattle.least_faults.specs.Answers.{asked_last, HasConflict, IsExplanation}
 use Rattle.least_faults.specs.declared.answer.Best.{Best}
 use Rattle.least_faults.specs.declared.answer.Found.TheVariants.{Explained, Many, Undecided}
 use Rattle.log_csv.specs.LogText.{log_of}
 use Rattle.log_order.specs.Log.{Log}
 use Rattle.model_text.specs.ModelFaults.{network_of}
 use Rattle.proof_ledger.specs.Checking.{IsUnsatisfiable}
-use Rattle.proof_ledger.specs.Fresh.{is_learnt}
+use Rattle.proof_ledger.specs.Fresh.{AreFresh}
 use Rattle.proof_text.specs.CnfText.{formula_of}
+use Rattle.prop_core.specs.VariableNames.{Name}
 use Rattle.replay.specs.Explanation.{NeedsFaults, IsLeast, IsAbsent, IsMany}
+use Rattle.replay.specs.QuestionSize.{variable_bound}
 use Rattle.report.specs.Replies.{text_of_found}
 use Rattle.diagnose_cli.specs.declared.command.Command.{Command}
 use Rattle.diagnose_cli.specs.declared.command.Command.TheVariants.{Trace, Show, Replay, Check, Diagnose, PrintCnf, GenerateModel, GenerateLog, Bench}
@@ -100,19 +102,24 @@ pub record TellsMany (o : Outcome) (net : Net) (alarms : Log) (n : ℕ) : Type 0
   pub many : IsMany net alarms n
   pub put : Took o.before o.now (text_of_found net n (Many best))
 
--- As many clauses were learnt as the budget allows. All that explains the log has at least lo faults, and a run that is told explains it with more.
+-- As many clauses were learnt as the budget allows, each of them fresh, and there is a further conflict: without a bound where no run is told, and else within lo. By the names of the
+-- variables, which are no more than network, log and n allow, the book poses that question. All that explains the log has at least lo faults, and a run that is told explains it with more.
 pub record TellsUndecided (o : Outcome) (net : Net) (alarms : Log) (n budget : ℕ) : Type 0 where
   pub lo : ℕ
   pub best : Option Best
-  pub spent : count_by is_learnt o.book ≡ budget
+  pub spent : AreFresh [] o.book budget
+  pub names : List (ℕ × Name)
+  pub few : length names ≤ variable_bound net alarms n
+  pub conflict : HasConflict names o.book net alarms n (asked_last lo best)
   pub above : NeedsFaults net alarms n lo
   pub known : IfSome best (λ run. IsExplanation net alarms n run × (lo < run.faults))
   pub put : Took o.before o.now (text_of_found net n (Undecided lo best))
 
--- by the status, over whatever two texts the shelf tells
+-- By the status, over whatever two texts the shelf tells. A budget of 3 to the number of variables that network, log and steps allow decides.
 pub record DiagnoseRows (o : Outcome) : Type 0 where
   pub diagnosed : (steps budget : ℕ) (text alarms : List ℕ) → Row o (Diagnose steps budget) (text ∷ alarms ∷ [])
   pub explained : (steps budget : ℕ) (text alarms : List ℕ) → Asks o (Diagnose steps budget) (text ∷ alarms ∷ []) → o.status ≡ 0 → TellsLeast o (network_of text) (log_of alarms) steps
   pub absent : (steps budget : ℕ) (text alarms : List ℕ) → Asks o (Diagnose steps budget) (text ∷ alarms ∷ []) → o.status ≡ 10 → IsAbsent (network_of text) (log_of alarms) steps
   pub undecided : (steps budget : ℕ) (text alarms : List ℕ) → Asks o (Diagnose steps budget) (text ∷ alarms ∷ []) → o.status ≡ 11 → TellsUndecided o (network_of text) (log_of alarms) steps budget
   pub many : (steps budget : ℕ) (text alarms : List ℕ) → Asks o (Diagnose steps budget) (text ∷ alarms ∷ []) → o.status ≡ 12 → TellsMany o (network_of text) (log_of alarms) steps
+  pub decided : (steps budget : ℕ) (text alarms : List ℕ) → Asks o (Diagnose steps budget) (text ∷ alarms ∷ []) → 3 ^ variable_bound (network_of text) (log_of alarms) steps ≤ budget → o.status ≢ 11

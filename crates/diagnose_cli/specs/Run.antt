@@ -79,10 +79,17 @@ AsksNone words = IfSome (command_of words) (λ c. is_question c ≡ false)
 abbrev pub LoadsNone : List (List ℕ) → Type 0
 LoadsNone words = IfSome (command_of words) (λ c. files_of c ≡ [])
 
--- a shelf that no file is loaded from is as it was, and so is a book in which no question is asked
-pub record LeavesAlone {F B : Type 0} (words : List (List ℕ)) (shelf later : F) (book left : B) : Type 0 where
+-- the status says why there is no reply: the words, a file, its text, or the size of the question
+pub record SaysStop (status : ℕ) : Type 0 where
+  pub low : 2 ≤ status
+  pub high : status ≤ 8
+  pub put : status ≢ 4
+
+-- A shelf that no file is loaded from is as it was. So is a book in which no question is asked, by the words or since the command stops before.
+pub record LeavesAlone {F B : Type 0} (words : List (List ℕ)) (status : ℕ) (shelf later : F) (book left : B) : Type 0 where
   pub no_load : LoadsNone words → later ≡ shelf
   pub no_question : AsksNone words → left ≡ book
+  pub stopped : SaysStop status → left ≡ book
 
 -- ---- all of it
 

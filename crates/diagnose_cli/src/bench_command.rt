@@ -1,5 +1,5 @@
 // The command `bench`: what is found of a generated plant, summed up.
-ghost use Rattle.std.specs.Prelude.{◌≡◌, ◌≤◌, ◌==◌, ◌++◌, ℕ, List, [], IfOk, codes, length, string_bytes};
+ghost use Rattle.std.specs.Prelude.{◌≡◌, ◌≢◌, ◌≤◌, ◌==◌, ◌++◌, ℕ, List, [], IfErr, IfOk, codes, length, string_bytes};
 ghost use Rattle.std.specs.List.{position_or_len};
 ghost use Rattle.gen_plant.specs.Plant.{most_units, plant_net, plant_log};
 ghost use Rattle.report.specs.Replies.{numbered};
@@ -29,7 +29,8 @@ pub fn bench_command(
     requires units { units ≤ most_units }
     requires steps { limits.steps ≤ 1000 }
     requires empty { book.old.entries ≡ [] }
-    ensures { (l : Loads) (words : List (List ℕ)) → UnlessMemory result (Answers l words (Command.Bench units start limits.steps limits.budget) book.new.entries (once result)) }
+    ensures due { (l : Loads) (words : List (List ℕ)) → UnlessMemory result (Answers l words (Command.Bench units start limits.steps limits.budget) book.new.entries (once result)) }
+    ensures stopped { IfErr result (λ stop. stop ≢ Stop.Memory → book.new ≡ book.old) }
 {
     let plant = generate(alloc, units, start)?;
     let case = Case {
@@ -49,7 +50,8 @@ fn bench(
 ) -> Result<Reply, Stop>
     requires steps { limits.steps ≤ 1000 }
     requires empty { book.old.entries ≡ [] }
-    ensures { (start : ℕ) → case.now.net ≡ plant_net units → case.now.log ≡ plant_log units start → UnlessMemory result (Closes (Command.Bench units start limits.steps limits.budget) book.new.entries [] (once result)) }
+    ensures due { (start : ℕ) → case.now.net ≡ plant_net units → case.now.log ≡ plant_log units start → UnlessMemory result (Closes (Command.Bench units start limits.steps limits.budget) book.new.entries [] (once result)) }
+    ensures stopped { IfErr result (λ stop. stop ≢ Stop.Memory → book.new ≡ book.old) }
 {
     let size = question_size(&case.net, &case.log, limits.steps);
     if size > SIZE_LIMIT {

@@ -1,5 +1,5 @@
 // The command `cnf`: a question as a formula.
-ghost use Rattle.std.specs.Prelude.{◌≡◌, ◌<◌, ◌≤◌, ℕ, List, [], ◌∷◌, All, length, IfOk};
+ghost use Rattle.std.specs.Prelude.{◌≡◌, ◌≢◌, ◌<◌, ◌≤◌, ℕ, List, [], ◌∷◌, All, length, IfErr, IfOk};
 ghost use Rattle.diagnose_cli.specs.Commands.{Answers, Closes, SaysFormula, reply_of_formula};
 ghost use Rattle.diagnose_cli.specs.Files.{loads};
 ghost use Rattle.diagnose_cli.specs.Transcripts.{UnlessMemory, once};
@@ -32,7 +32,8 @@ pub fn cnf_command<F: Shelf>(
     requires words { 2 < length words.now }
     requires steps { within.steps ≤ 1000 }
     requires empty { book.old.entries ≡ [] }
-    ensures { UnlessMemory result (Answers (loads F.held F.faults shelf.old shelf.new) words.now (Command.PrintCnf within.steps within.bound) book.new.entries (once result)) }
+    ensures due { UnlessMemory result (Answers (loads F.held F.faults shelf.old shelf.new) words.now (Command.PrintCnf within.steps within.bound) book.new.entries (once result)) }
+    ensures stopped { IfErr result (λ stop. stop ≢ Stop.Memory → book.new ≡ book.old) }
 {
     let case = fetch_case(alloc, words, shelf)?;
     print_question(alloc, &case, within, book)
@@ -47,7 +48,8 @@ fn print_question(
 ) -> Result<Reply, Stop>
     requires steps { within.steps ≤ 1000 }
     requires empty { book.old.entries ≡ [] }
-    ensures { (text alarms : List ℕ) → case.now.net ≡ network_of text → case.now.log ≡ log_of alarms → UnlessMemory result (Closes (Command.PrintCnf within.steps within.bound) book.new.entries (text ∷ alarms ∷ []) (once result)) }
+    ensures due { (text alarms : List ℕ) → case.now.net ≡ network_of text → case.now.log ≡ log_of alarms → UnlessMemory result (Closes (Command.PrintCnf within.steps within.bound) book.new.entries (text ∷ alarms ∷ []) (once result)) }
+    ensures stopped { IfErr result (λ stop. stop ≢ Stop.Memory → book.new ≡ book.old) }
 {
     let size = question_size(&case.net, &case.log, within.steps);
     if size > SIZE_LIMIT {

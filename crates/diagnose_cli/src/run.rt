@@ -1,5 +1,5 @@
 // All that the program does, but for where its words, files and output come from.
-ghost use Rattle.std.specs.Prelude.{◌≡◌, []};
+ghost use Rattle.std.specs.Prelude.{◌≡◌, ◌≢◌, [], IfErr};
 ghost use Rattle.des_base.specs.Outside.{Rose};
 ghost use Rattle.diagnose_cli.specs.Commands.{Due};
 ghost use Rattle.diagnose_cli.specs.Files.{loads};
@@ -48,7 +48,7 @@ pub fn run<F: Shelf, S: Sink>(
     ensures generated { GenerateRows (outcome (loads F.held F.faults shelf.old shelf.new) words.now (S.taken out.old) (S.taken out.new) book.new.entries result) }
     ensures benched { BenchRow (outcome (loads F.held F.faults shelf.old shelf.new) words.now (S.taken out.old) (S.taken out.new) book.new.entries result) }
     ensures ran { Ran (outcome (loads F.held F.faults shelf.old shelf.new) words.now (S.taken out.old) (S.taken out.new) book.new.entries result) (Rose (S.faults out.old) (S.faults out.new)) }
-    ensures left_alone { LeavesAlone words.now shelf.old shelf.new book.old book.new }
+    ensures left_alone { LeavesAlone words.now result shelf.old shelf.new book.old book.new }
 {
     let ending = answer(alloc, words, shelf, book);
     put_once(alloc, ending, out)
@@ -65,6 +65,7 @@ fn answer<F: Shelf>(
     ensures due { UnlessMemory result (Due (loads F.held F.faults shelf.old shelf.new) words.now book.new.entries (once result)) }
     ensures no_load { LoadsNone words.now → shelf.new ≡ shelf.old }
     ensures no_question { AsksNone words.now → book.new ≡ book.old }
+    ensures stopped { IfErr result (λ stop. stop ≢ Stop.Memory → book.new ≡ book.old) }
 {
     match command_of(words) {
         None => Err(Stop::Usage),

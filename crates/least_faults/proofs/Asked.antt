@@ -10,6 +10,7 @@ use Rattle.des_base.proofs.Elements.{here_first, all_from as all_of}
 use Rattle.des_net.specs.Network.{Net, IsNetwork}
 use Rattle.least_faults.proofs.Assuming.{negates_only}
 use Rattle.least_faults.proofs.Entailing.{final_entailed}
+use Rattle.least_faults.proofs.Freshness.{fresh_after}
 use Rattle.least_faults.proofs.Posing.{poses}
 use Rattle.least_faults.proofs.Putting.{counted_more, none_learnt, none_marked, none_final, derived_unmarked, same_axioms, learnt_no_final, no_final_in, none_joined, only_final, same_last, axioms_with_learnt}
 use Rattle.least_faults.proofs.Staying.{question_both, question_kept}
@@ -35,7 +36,7 @@ use Rattle.run_decode.specs.Faithful.{IsWithin, IsFaithful}
 use Rattle.run_decode.specs.Decoding.{IsTrueRun}
 use Rattle.sat_order.specs.Rank.{KeepsRanks}
 use Rattle.least_faults.proofs.Ranking.{still_ranked}
-use Rattle.sat_solve.specs.Searching.{IsSearched, HasPut, IsRefuted}
+use Rattle.sat_solve.specs.Searching.{HasAxiomVars, IsSearched, HasPut, IsRefuted, IsSpent}
 use Rattle.sat_solve.specs.Solving.{SolverState}
 use Rattle.sat_solve.specs.declared.answer.Answer.TheVariants as solver
 use Rattle.std.proofs.lemmas.List.Elements.{Contains-append_cases as append_cases, Contains-append_left as append_left, Contains-append_right as append_right}
@@ -80,6 +81,7 @@ pub ready_after : {R : Type 0} (may : R → ℕ → Type 0) (gives : R → ℕ �
     IsSearched mid new before after → solver.adopted ≡ clauses_of new → solver.vars ≡ parts.solver.vars → KeepsRanks parts.solver.order solver.order → AreReady may gives (record parts { solver = solver }) new
 ready_after may gives parts solver before after mid new ready searched all same same_ranks = record {
   coded = subst (AreParts parts.step parts.code.code parts.counter parts.vars) (sym (ap axioms_of searched.whole ∙ same_axioms mid searched.since searched.derived)) ready.coded;
+  known = searched.known ready.known;
   adopted_all = all;
   enough = subst (λ v. parts.vars ≤ v) (sym same) ready.enough;
   ranked = still_ranked may gives parts.solver.order solver.order same_ranks ready.ranked;
@@ -129,7 +131,7 @@ true_run steps code counter vars axioms bound assumed value parts assumptions al
 
 module _ (steps : CodedSteps) (code : CodedLog) (counter : CounterState) (vars : ℕ) (net : Net) (log : Log) (mid : List BookEntry) (parts : AreParts steps code counter vars (axioms_of mid))
     (of_net : steps.net ≡ net) (network : IsNetwork net) (valid : IsValidLog log) (same : code.log ≡ without_names log) (bound : Option ℕ) (assumed : List Lit) (assumptions : AreAssumptions code counter bound assumed)
-    (old new : List BookEntry) (before after : ℕ) (adds : AddsAxioms old mid) (searched : IsSearched mid new before after) where
+    (old new : List BookEntry) (before after : ℕ) (adds : AddsAxioms old mid) (searched : IsSearched mid new before after) (known : HasAxiomVars mid) where
   now_axioms : axioms_of new ≡ axioms_of mid
   now_axioms = ap axioms_of searched.whole ∙ same_axioms mid searched.since searched.derived
 
@@ -157,14 +159,15 @@ module _ (steps : CodedSteps) (code : CodedLog) (counter : CounterState) (vars :
     unbounded = if_none bound (list_all is_learnt (map axiomatic adds.axioms ++ searched.since) ≡ true) (asked ≢ Refuted → list_all is_learnt (map axiomatic adds.axioms ++ searched.since) ≡ true) (λ p not. p) (alone bound none all_learnt);
   }
 
-  pub asked_spent : IfNone bound (adds.axioms ≡ []) → HasPut mid new solver.Spent → after ≡ 0 → HasAskedBy code counter net log steps.steps bound old new before after Spent
-  asked_spent none put nothing = record {
+  pub asked_spent : IfNone bound (adds.axioms ≡ []) → HasPut mid new solver.Spent → IsSpent new assumed after → HasAskedBy code counter net log steps.steps bound old new before after Spent
+  asked_spent none put spent = record {
     since = map axiomatic adds.axioms ++ searched.since;
     whole = both_whole old mid new before after adds searched;
     unmarked = both_unmarked old mid new before after adds searched;
     paid = both_paid old mid new before after adds searched;
+    fresh = fresh_after old mid new before after adds searched known;
     put = put_learnt Spent none (subst (λ xs. list_all is_learnt xs ≡ true) (same_since put.since put.whole) put.put);
-    means = nothing;
+    means = record { nothing = spent.nothing; assumed = assumed; assumptions = assumptions; clashes = spent.clashes };
   }
 
   -- ---- an explanation
@@ -195,6 +198,7 @@ module _ (steps : CodedSteps) (code : CodedLog) (counter : CounterState) (vars :
     whole = both_whole old mid new before after adds searched;
     unmarked = both_unmarked old mid new before after adds searched;
     paid = both_paid old mid new before after adds searched;
+    fresh = fresh_after old mid new before after adds searched known;
     put = put_learnt (Explained best) none (subst (λ xs. list_all is_learnt xs ≡ true) (same_since put.since put.whole) put.put);
     means = record {
       given = given;
@@ -214,6 +218,7 @@ module _ (steps : CodedSteps) (code : CodedLog) (counter : CounterState) (vars :
     whole = both_whole old mid new before after adds searched;
     unmarked = both_unmarked old mid new before after adds searched;
     paid = both_paid old mid new before after adds searched;
+    fresh = fresh_after old mid new before after adds searched known;
     put = record {
       finals = λ clause hints in'. (assumed, assumptions, negates clause hints in');
       none = λ not. absurd (refused not);

@@ -7,6 +7,7 @@ use Rattle.des_base.proofs.Elements.{none_in_nil, all_split}
 use Rattle.des_net.specs.Network.{Net, IsNetwork}
 use Rattle.least_faults.proofs.Assuming.{assumptions_stay}
 use Rattle.least_faults.proofs.Entailing.{final_entailed}
+use Rattle.least_faults.proofs.Freshness.{fresh_none, fresh_both}
 use Rattle.least_faults.proofs.Posing.{poses}
 use Rattle.least_faults.proofs.Putting.{counted_more, no_final_in, learnt_no_final, last_later, last_earlier}
 use Rattle.least_faults.proofs.Telling.{tells_bound}
@@ -15,9 +16,9 @@ use Rattle.least_faults.specs.declared.answer.Found.{Found}
 use Rattle.least_faults.specs.declared.answer.Found.TheVariants.{Explained, Absent, Many, Undecided}
 use Rattle.least_faults.specs.declared.asking.Asked.{Asked}
 use Rattle.least_faults.specs.declared.asking.Asked.TheVariants as asked
-use Rattle.least_faults.specs.Answers.{IsExplanation, IsLeastFound, IsAbsentFound, IsManyFound, IsUndecidedFound}
+use Rattle.least_faults.specs.Answers.{HasConflict, IsExplanation, IsLeastFound, IsAbsentFound, IsManyFound, IsUndecidedFound}
 use Rattle.least_faults.specs.Ascending.{FinalsAreBelow, IsRefutedBelow, HasComeToBy, HasFound}
-use Rattle.least_faults.specs.Asking.{AreAssumptions, IsSearching, HasAskedBy, IsRefusal}
+use Rattle.least_faults.specs.Asking.{AreAssumptions, IsSearching, HasAskedBy, IsRefusal, IsStopped}
 use Rattle.least_faults.specs.Evidence.{is_final, IsEvidence, IsPosed, IsRefutation}
 use Rattle.least_faults.specs.Growing.{KeepsColumns}
 use Rattle.least_faults.specs.Parts.{AreParts}
@@ -55,6 +56,7 @@ come_to_none code counter net log n book left = record {
   whole = sym (append-nil book);
   unmarked = λ number. refl;
   paid = omega arith;
+  fresh = fresh_none book;
   finals = λ clause hints in'. absurd (none_in_nil (final clause hints) in');
   below = λ j none. cc;
   needs = λ word order explains. omega arith;
@@ -83,6 +85,7 @@ come_further code old new net log n k first mid last budget before after keeps c
   whole = asked'.whole ∙ ap (λ b. b ++ asked'.since) come.whole ∙ append_assoc first come.since asked'.since;
   unmarked = λ number. counted_more (is_mark number) come.since asked'.since ∙ (let one = come.unmarked number in let two = asked'.unmarked number in omega (arith, one, two));
   paid = (let count = counted_more is_learnt come.since asked'.since in omega (arith, count, come.paid, asked'.paid));
+  fresh = fresh_both first mid come.since asked'.since come.whole come.fresh asked'.fresh;
   finals = finals_further code old new k come.since asked'.since keeps come.finals asked'.put.finals;
   below = λ j is. (let same : k ≡ j = omega (arith, is) in subst (λ i. IsRefutedBelow code new net log n i (axioms_of first) (come.since ++ asked'.since)) same (record {
     assumed = asked'.means.assumed;
@@ -100,6 +103,7 @@ come_on code old new net log n k first mid last budget before after what keeps n
   whole = asked'.whole ∙ ap (λ b. b ++ asked'.since) come.whole ∙ append_assoc first come.since asked'.since;
   unmarked = λ number. counted_more (is_mark number) come.since asked'.since ∙ (let one = come.unmarked number in let two = asked'.unmarked number in omega (arith, one, two));
   paid = (let count = counted_more is_learnt come.since asked'.since in omega (arith, count, come.paid, asked'.paid));
+  fresh = fresh_both first mid come.since asked'.since come.whole come.fresh asked'.fresh;
   finals = finals_same code old new k come.since asked'.since keeps (asked'.put.none not) come.finals;
   below = λ j is. (let found = come.below j is in record {
     assumed = found.assumed;
@@ -225,6 +229,17 @@ module _ (steps : CodedSteps) (code : CodedLog) (counter : CounterState) (vars :
   given_back : (best : Best) → IsExplanation net log steps.steps best → IsExplanation steps.net log steps.steps best
   given_back best = subst (λ net'. IsExplanation net' log steps.steps best) (sym of_net)
 
+  -- what is assumed at a conflict poses the question
+  at_conflict : (bound : Option ℕ) (left : ℕ) → IsStopped code counter bound book left → HasConflict (whole_names steps code counter) book steps.net log steps.steps bound
+  at_conflict bound left stopped = record {
+    assumed = stopped.assumed;
+    posed = poses steps code counter vars (axioms_of book) bound stopped.assumed parts stopped.assumptions log own valid same;
+    clashes = stopped.clashes;
+  }
+
+  nothing_left : (count left : ℕ) → count + left ≡ budget → left ≡ 0 → count ≡ budget
+  nothing_left count left paid none = omega (arith, paid, none)
+
   pub answers_least : (k left : ℕ) (best : Best) → k ≤ 255 → HasComeToBy code counter net log steps.steps k first book budget left → IsExplanation net log steps.steps best → best.faults ≤ k →
       HasFound (whole_names steps code counter) net log steps.steps budget first book (Explained best)
   answers_least k left best small come given within =
@@ -234,6 +249,8 @@ module _ (steps : CodedSteps) (code : CodedLog) (counter : CounterState) (vars :
         whole = here.whole;
         unmarked = here.unmarked;
         within = paid_within (count_by is_learnt here.since) left budget here.paid;
+        fresh = here.fresh;
+        conflict = tt;
         found = least_found steps code counter vars log first book here.since here.whole parts own valid same k best small here.below here.needs (given_back best given) within;
       })
 
@@ -246,25 +263,29 @@ module _ (steps : CodedSteps) (code : CodedLog) (counter : CounterState) (vars :
         whole = here.whole;
         unmarked = here.unmarked;
         within = paid_within (count_by is_learnt here.since) left budget here.paid;
+        fresh = here.fresh;
+        conflict = tt;
         found = many_found steps code counter vars log first book here.since here.whole parts own valid same best here.below here.needs (given_back best given);
       })
 
-  pub answers_undecided : (k : ℕ) (best : Best) → IsValidBook book → HasComeToBy code counter net log steps.steps k first book budget 0 → IsExplanation net log steps.steps best → k < best.faults →
+  pub answers_undecided : (k : ℕ) (best : Best) → IsValidBook book → HasComeToBy code counter net log steps.steps k first book budget 0 → IsStopped code counter (Some k) book 0 → IsExplanation net log steps.steps best → k < best.faults →
       HasFound (whole_names steps code counter) net log steps.steps budget first book (Undecided k (Some best))
-  answers_undecided k best whole come given more =
+  answers_undecided k best whole come stopped given more =
       let here = back k 0 come in
       found_as (Undecided k (Some best)) (record {
         since = here.since;
         whole = here.whole;
         unmarked = here.unmarked;
         within = paid_within (count_by is_learnt here.since) 0 budget here.paid;
+        fresh = here.fresh;
+        conflict = at_conflict (Some k) 0 stopped;
         found = undecided_found steps code counter vars log first book here.since here.whole parts own valid same k budget best whole (omega (arith, here.paid)) here.finals here.below here.needs (given_back best given) more;
       })
 
   pub answers_absent : (left : ℕ) → HasAskedBy code counter net log steps.steps None first book budget left asked.Refuted → HasFound (whole_names steps code counter) net log steps.steps budget first book Absent
   answers_absent left asked' =
       let here = subst (λ net'. HasAskedBy code counter net' log steps.steps None first book budget left asked.Refuted) (sym of_net) asked' in
-      found_as Absent (record { since = here.since; whole = here.whole; unmarked = here.unmarked; within = paid_within (count_by is_learnt here.since) left budget here.paid; found = absent_found steps code counter vars log first book here.since here.whole parts own valid same here.means })
+      found_as Absent (record { since = here.since; whole = here.whole; unmarked = here.unmarked; within = paid_within (count_by is_learnt here.since) left budget here.paid; fresh = here.fresh; conflict = tt; found = absent_found steps code counter vars log first book here.since here.whole parts own valid same here.means })
 
   pub answers_nothing : (left : ℕ) → HasAskedBy code counter net log steps.steps None first book budget left asked.Spent → HasFound (whole_names steps code counter) net log steps.steps budget first book (Undecided 0 None)
   answers_nothing left asked' =
@@ -273,5 +294,7 @@ module _ (steps : CodedSteps) (code : CodedLog) (counter : CounterState) (vars :
         whole = asked'.whole;
         unmarked = asked'.unmarked;
         within = paid_within (count_by is_learnt asked'.since) left budget asked'.paid;
-        found = nothing_found steps code counter vars log first book asked'.since asked'.whole parts own valid same budget (omega (arith, asked'.paid, asked'.means)) (asked'.put.unbounded spent_not);
+        fresh = asked'.fresh;
+        conflict = at_conflict None left asked'.means;
+        found = nothing_found steps code counter vars log first book asked'.since asked'.whole parts own valid same budget (nothing_left (count_by is_learnt asked'.since) left asked'.paid asked'.means.nothing) (asked'.put.unbounded spent_not);
       })

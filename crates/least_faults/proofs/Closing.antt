@@ -1,15 +1,16 @@
 -- From the entries of a search to those of a whole answer: what came before, and the marks.
-use Rattle.std.proofs.Common.{◌≡◌, ◌∙◌, ℕ, ◌+◌, true, ◌&&◌, ◌⊎◌, inl, inr, List, [], ◌∷◌, ◌++◌, Option, None, Some, IfNone, sym, ap, subst, arith, Contains, count_by, append-nil, append_assoc, Result, Ok, Err, IfOk, ◌≤◌, refl}
+use Rattle.std.proofs.Common.{◌≡◌, ◌∙◌, ℕ, ◌+◌, true, ◌&&◌, ◌⊎◌, inl, inr, List, [], ◌∷◌, ◌++◌, length, Option, None, Some, IfNone, sym, ap, subst, arith, Contains, count_by, append-nil, append_assoc, Result, Ok, Err, IfOk, ◌≤◌, refl}
 use Rattle.std.proofs.lemmas.List.Elements.{filter_map-append, Contains-append_cases as append_cases}
 use Rattle.std.proofs.lemmas.List.Folds.{list_all-append}
 use Rattle.std.specs.List.{list_all}
 use Rattle.des_net.specs.Network.{Net}
+use Rattle.least_faults.proofs.Freshness.{fresh_both, known_same}
 use Rattle.least_faults.proofs.Putting.{counted_more, learnt_no_final, no_final_in, learnt_no_axioms}
 use Rattle.least_faults.proofs.Staying.{kept_by_axioms}
 use Rattle.least_faults.specs.declared.answer.Best.{Best}
 use Rattle.least_faults.specs.declared.answer.Found.{Found}
 use Rattle.least_faults.specs.declared.answer.Found.TheVariants.{Explained, Absent, Many, Undecided}
-use Rattle.least_faults.specs.Answers.{IsFound, IsAnswered}
+use Rattle.least_faults.specs.Answers.{asked_last, HasConflictFor, HaveLearntFresh, IsFound, IsAnswered}
 use Rattle.least_faults.specs.Ascending.{HasFound}
 use Rattle.least_faults.specs.Evidence.{HasFinal, IsEvidence, IsPosed}
 use Rattle.least_faults.specs.Parts.{AreParts, AreReady}
@@ -17,6 +18,8 @@ use Rattle.log_order.specs.Log.{Log}
 use Rattle.proof_ledger.specs.Book.{BookEntry, final, mark, clause_of, clauses_of, axiom_of, axioms_of, is_mark}
 use Rattle.proof_ledger.specs.Fresh.{is_learnt}
 use Rattle.prop_core.specs.Clauses.{Clause}
+use Rattle.prop_core.specs.Trail.{Clashes}
+use Rattle.replay.specs.QuestionSize.{variable_bound}
 use Rattle.prop_core.specs.VariableNames.{Name}
 use Rattle.prop_core.specs.declared.lit.Lit.{Lit}
 use Rattle.least_faults.specs.declared.parts.Parts.{Parts}
@@ -73,12 +76,14 @@ is_found_later names first front since net log n budget left (Undecided lo best)
     none (Some run) known = tt
 
 pub found_later : (names : List (ℕ × Name)) (net : Net) (log : Log) (n budget left : ℕ) (old mid new front : List BookEntry) (answer : Found) → mid ≡ old ++ front → ((number : ℕ) → count_by (is_mark number) front ≡ 0) → list_all is_learnt front ≡ true →
-    count_by is_learnt front + left ≡ budget → HasFound names net log n left mid new answer → HasFound names net log n budget old new answer
-found_later names net log n budget left old mid new front answer whole unmarked all_learnt paid found = record {
+    count_by is_learnt front + left ≡ budget → HasFound names net log n left mid new answer → HaveLearntFresh old front → HasFound names net log n budget old new answer
+found_later names net log n budget left old mid new front answer whole unmarked all_learnt paid found fresh = record {
   since = front ++ found.since;
   whole = found.whole ∙ ap (λ b. b ++ found.since) whole ∙ append_assoc old front found.since;
   unmarked = λ number. counted_more (is_mark number) front found.since ∙ (let one = unmarked number in let two = found.unmarked number in omega (arith, one, two));
   within = within (count_by is_learnt front) (count_by is_learnt found.since) (count_by is_learnt (front ++ found.since)) (counted_more is_learnt front found.since) found.within refl;
+  fresh = fresh_both old mid front found.since whole fresh found.fresh;
+  conflict = found.conflict;
   found = is_found_later names (axioms_of old) front found.since net log n budget left answer all_learnt paid
       (subst (λ cs. IsFound names cs found.since net log n left answer) (ap axioms_of whole ∙ filter_map-append axiom_of old front ∙ ap (λ cs. axioms_of old ++ cs) (learnt_no_axioms front all_learnt) ∙ append-nil (axioms_of old)) found.found);
 }
@@ -102,6 +107,7 @@ pub marked_ready : {R : Type 0} (may : R → ℕ → Type 0) (gives : R → ℕ 
 marked_ready may gives parts number book new is ready = record {
   coded = subst (AreParts parts.step parts.code.code parts.counter parts.vars) (sym (ap axioms_of is ∙ marked_axioms book number)) ready.coded;
   adopted_all = ready.adopted_all ∙ sym (ap clauses_of is ∙ marked_clauses book number);
+  known = known_same book new (ap clauses_of is ∙ marked_clauses book number) (ap axioms_of is ∙ marked_axioms book number) ready.known;
   enough = ready.enough;
   ranked = ready.ranked;
 }
@@ -131,14 +137,28 @@ grown_closed budget old searched new ends grown = record {
   within = (let less = grown.within in let more = counted_more is_learnt grown.since (mark 1 ∷ []) in omega (arith, less, more));
 }
 
+-- a conflict stays one
+conflict_closed : (names : List (ℕ × Name)) (book new : List BookEntry) (number : ℕ) (net : Net) (log : Log) (n : ℕ) (answer : Found) → new ≡ book ++ mark number ∷ [] → HasConflictFor names book net log n answer → HasConflictFor names new net log n answer
+conflict_closed names book new number net log n (Explained best) is has = tt
+conflict_closed names book new number net log n Absent is has = tt
+conflict_closed names book new number net log n (Many best) is has = tt
+conflict_closed names book new number net log n (Undecided lo best) is has = record {
+  assumed = has.assumed;
+  posed = subst (λ axioms. IsPosed names axioms has.assumed net log n (asked_last lo best)) (sym (ap axioms_of is ∙ marked_axioms book number)) has.posed;
+  clashes = subst (λ clauses. Clashes clauses has.assumed) (sym (ap clauses_of is ∙ marked_clauses book number)) has.clashes;
+}
+
 -- a search between marks is an answer
 pub answered : (names : List (ℕ × Name)) (net : Net) (log : Log) (n budget : ℕ) (old opened searched new : List BookEntry) (answer : Found) → opened ≡ old ++ mark 0 ∷ [] → new ≡ searched ++ mark 1 ∷ [] →
-    ((assumed : List Lit) × IsPosed names (axioms_of searched) assumed net log n None) → HasFound names net log n budget opened searched answer → IsAnswered names net log n budget old new answer
-answered names net log n budget old opened searched new answer begins ends asks found = record {
+    length names ≤ variable_bound net log n → ((assumed : List Lit) × IsPosed names (axioms_of searched) assumed net log n None) → HasFound names net log n budget opened searched answer → IsAnswered names net log n budget old new answer
+answered names net log n budget old opened searched new answer begins ends few asks found = record {
   since = found.since;
   whole = ends ∙ ap (λ b. b ++ mark 1 ∷ []) (found.whole ∙ ap (λ b. b ++ found.since) begins ∙ append_assoc old (mark 0 ∷ []) found.since);
   unmarked = found.unmarked;
   within = found.within;
+  fresh = subst (λ earlier. HaveLearntFresh earlier found.since) begins found.fresh;
+  few = few;
+  conflict = conflict_closed names searched new 1 net log n answer ends found.conflict;
   asks = (asks.0, subst (λ axioms. IsPosed names axioms asks.0 net log n None) (sym (ap axioms_of ends ∙ marked_axioms searched 1)) asks.1);
   found = subst (λ first. IsFound names first found.since net log n budget answer) (ap axioms_of begins ∙ marked_axioms old 0) found.found;
 }

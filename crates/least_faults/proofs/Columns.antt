@@ -115,6 +115,7 @@ pub reserved_ready : {R : Type 0} (may : R → ℕ → Type 0) (gives : R → �
 reserved_ready may gives parts solver book entries ready same more ranked same_book =
     subst (AreReady may gives (record parts { solver = solver })) (sym same_book) (record {
       coded = ready.coded;
+      known = ready.known;
       adopted_all = same ∙ ready.adopted_all;
       enough = (let enough = ready.enough in omega (arith, enough, more));
       ranked = ranked ready.ranked;

@@ -12,6 +12,7 @@ pub mod Columns
 pub mod Drafts
 pub mod Reserving
 pub mod Determined
+pub mod Freshness
 pub mod Entailing
 pub mod KnownEvents
 pub mod FaultSteps
@@ -22,4 +23,6 @@ pub mod Putting
 pub mod Asked
 pub mod Climbing
 pub mod Closing
+pub mod FreshCount
+pub mod Deciding
 pub mod Ranking

@@ -1,5 +1,5 @@
 -- What the parts of a question ask, with what is assumed: it is faithful and drawn from its families, whatever the names of the log's alarms.
-use Rattle.std.proofs.Common.{ℕ, ◌<◌, List, ◌++◌, length, Option, Some, None, IfSome, sym, subst, append-nil}
+use Rattle.std.proofs.Common.{ℕ, ◌<◌, ◌≤◌, List, ◌++◌, length, Option, Some, None, IfSome, sym, subst, append-nil}
 use Rattle.card_counter.specs.CounterState.{CounterState}
 use Rattle.des_base.proofs.Elements.{all_from as all_of}
 use Rattle.least_faults.specs.Asking.{AreAssumptions, Pose, bound_part}
@@ -12,6 +12,8 @@ use Rattle.log_order.specs.Log.{Log, IsValidLog}
 use Rattle.prop_core.specs.Clauses.{Clause}
 use Rattle.prop_core.specs.VariableNames.{Name, NamedLiteral, ReadsAs}
 use Rattle.prop_core.specs.declared.lit.Lit.{Lit}
+use Rattle.replay.specs.QuestionSize.{variable_bound}
+use Rattle.run_decode.proofs.FewNames.{together_are_few}
 use Rattle.run_decode.proofs.Nameless.{alarm_names_dont_matter}
 use Rattle.run_decode.proofs.Questions.{instances_of, question_is_faithful}
 use Rattle.run_decode.proofs.WholeNames.{together_ask}
@@ -61,3 +63,8 @@ unbounded may gives parts book net log guards ready belong network valid read =
     subst (λ net'. IsPosed (names_of parts) (axioms_of book) guards net' log parts.step.steps None) belong.of_steps
     (poses parts.step parts.code.code parts.counter parts.vars (axioms_of book) None guards ready.coded (record { guards = guards; read = read; whole = sym (append-nil guards); column = tt })
     log (subst IsNetwork (sym belong.of_steps) network) valid belong.same_log)
+
+-- they have no more names than network, log and n allow
+pub names_few : {R : Type 0} (may : R → ℕ → Type 0) (gives : R → ℕ → ℕ → Type 0) (parts : Parts R) (book : List BookEntry) (net : Net) (log : Log) → AreReady may gives parts book → BelongTo net log parts → length parts.counter.columns ≤ 256 → length (names_of parts) ≤ variable_bound net log parts.step.steps
+names_few may gives parts book net log ready belong few =
+    subst (λ net'. length (names_of parts) ≤ variable_bound net' log parts.step.steps) belong.of_steps (together_are_few parts.step parts.code.code parts.counter log ready.coded.together belong.same_log few)

@@ -1,5 +1,5 @@
 -- What is found of the least number of faults that explains a log, and what each answer means.
-use Rattle.std.specs.Prelude.{◌≡◌, ℕ, suc, ◌<◌, ◌≤◌, Bool, true, not, ◌||◌, List, [], ◌∷◌, ◌++◌, Option, Some, None, IfSome, IfNone, count_by}
+use Rattle.std.specs.Prelude.{◌≡◌, ℕ, suc, ◌<◌, ◌≤◌, Bool, true, not, ◌||◌, List, [], ◌∷◌, ◌++◌, length, Option, Some, None, IfSome, IfNone, count_by, ⊤}
 use Rattle.std.specs.List.{list_all}
 use Rattle.des_net.specs.Network.{Net}
 use Rattle.least_faults.specs.declared.answer.Best.{Best}
@@ -7,13 +7,15 @@ use Rattle.least_faults.specs.declared.answer.Found.{Found}
 use Rattle.least_faults.specs.declared.answer.Found.TheVariants.{Explained, Absent, Many, Undecided}
 use Rattle.least_faults.specs.Evidence.{HasFinal, IsEvidence, IsPosed}
 use Rattle.log_order.specs.Log.{Log}
-use Rattle.proof_ledger.specs.Book.{BookEntry, mark, axioms_of, is_mark}
-use Rattle.proof_ledger.specs.Fresh.{is_learnt}
+use Rattle.proof_ledger.specs.Book.{BookEntry, mark, axioms_of, clauses_of, is_mark}
+use Rattle.proof_ledger.specs.Fresh.{AreFresh, is_learnt}
 use Rattle.prop_core.specs.Clauses.{Clause}
+use Rattle.prop_core.specs.Trail.{Clashes}
 use Rattle.prop_core.specs.VariableNames.{Name, ReadsAs}
 use Rattle.prop_core.specs.declared.lit.Lit.{Lit}
 use Rattle.replay.specs.Explanation.{Explains, faults_of, NeedsFaults, IsLeast, IsAbsent, IsMany}
 use Rattle.replay.specs.Matching.{IsWellMatched, is_real, order_of}
+use Rattle.replay.specs.QuestionSize.{variable_bound}
 use Rattle.replay.specs.Traced.{word_of, step_faults}
 use Rattle.replay.specs.declared.run.RunStep.{RunStep}
 use Rattle.run_decode.specs.Drawn.{assumption_literals}
@@ -64,11 +66,38 @@ IsFound names first since net log n budget Absent = IsAbsentFound names first si
 IsFound names first since net log n budget (Many best) = IsManyFound names first since net log n best
 IsFound names first since net log n budget (Undecided lo best) = IsUndecidedFound names first since net log n budget lo best
 
--- The question was opened by a mark 0 and closed by a mark 1, and the entries between show what was found. At most as many clauses as the budget says were learnt. The axioms of the whole book pose the question without a bound, by these names and under some assumptions.
+-- ---- what the budget was spent on
+
+-- each clause that was learnt since then was fresh
+abbrev pub HaveLearntFresh : List BookEntry → List BookEntry → Type 0
+HaveLearntFresh earlier since = AreFresh earlier since (count_by is_learnt since)
+
+-- By these names the axioms of the book pose the question within the bound, with some assumptions for which there is a further conflict.
+pub record HasConflict (names : List (ℕ × Name)) (book : List BookEntry) (net : Net) (log : Log) (n : ℕ) (bound : Option ℕ) : Type 0 where
+  pub assumed : List Lit
+  pub posed : IsPosed names (axioms_of book) assumed net log n bound
+  pub clashes : Clashes (clauses_of book) assumed
+
+-- what was asked last: without a bound where no run is known, else within lo
+abbrev pub asked_last : ℕ → Option Best → Option ℕ
+asked_last lo None = None
+asked_last lo (Some run) = Some lo
+
+-- Where it is undecided, it is so at a further conflict.
+abbrev pub HasConflictFor : List (ℕ × Name) → List BookEntry → Net → Log → ℕ → Found → Type 0
+HasConflictFor names book net log n (Explained best) = ⊤
+HasConflictFor names book net log n Absent = ⊤
+HasConflictFor names book net log n (Many best) = ⊤
+HasConflictFor names book net log n (Undecided lo best) = HasConflict names book net log n (asked_last lo best)
+
+-- The question was opened by a mark 0 and closed by a mark 1, and the entries between show what was found. At most as many clauses as the budget says were learnt, each of them fresh. The axioms of the whole book pose the question without a bound, by these names and under some assumptions; the names are no more than network, log and n allow.
 pub record IsAnswered (names : List (ℕ × Name)) (net : Net) (log : Log) (n budget : ℕ) (old new : List BookEntry) (answer : Found) : Type 0 where
   pub since : List BookEntry
   pub whole : new ≡ old ++ mark 0 ∷ since ++ mark 1 ∷ []
   pub unmarked : (number : ℕ) → count_by (is_mark number) since ≡ 0
   pub within : count_by is_learnt since ≤ budget
+  pub fresh : HaveLearntFresh (old ++ mark 0 ∷ []) since
+  pub few : length names ≤ variable_bound net log n
   pub asks : (assumed : List Lit) × IsPosed names (axioms_of new) assumed net log n None
   pub found : IsFound names (axioms_of old) since net log n budget answer
+  pub conflict : HasConflictFor names new net log n answer

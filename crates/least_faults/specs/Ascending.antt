@@ -4,7 +4,7 @@ use Rattle.card_counter.specs.CounterState.{CounterState}
 use Rattle.des_net.specs.Network.{Net}
 use Rattle.least_faults.specs.declared.answer.Found.{Found}
 use Rattle.least_faults.specs.declared.parts.Parts.{Parts}
-use Rattle.least_faults.specs.Answers.{IsFound}
+use Rattle.least_faults.specs.Answers.{HasConflictFor, HaveLearntFresh, IsFound}
 use Rattle.least_faults.specs.Asking.{AreAssumptions}
 use Rattle.least_faults.specs.Evidence.{IsRefutation}
 use Rattle.log_encode.specs.CodedLog.{CodedLog}
@@ -33,6 +33,7 @@ pub record HasComeToBy (code : CodedLog) (counter : CounterState) (net : Net) (l
   pub whole : new ≡ old ++ since
   pub unmarked : (number : ℕ) → count_by (is_mark number) since ≡ 0
   pub paid : count_by is_learnt since + budget_new ≡ budget_old
+  pub fresh : HaveLearntFresh old since
   pub finals : FinalsAreBelow code counter k since
   pub below : (j : ℕ) → k ≡ suc j → IsRefutedBelow code counter net log n j (axioms_of old) since
   pub needs : NeedsFaults net log n k
@@ -41,10 +42,12 @@ pub record HasComeToBy (code : CodedLog) (counter : CounterState) (net : Net) (l
 abbrev pub HasComeTo : {R : Type 0} → Parts R → Net → Log → ℕ → List BookEntry → List BookEntry → ℕ → ℕ → Type 0
 HasComeTo parts net log k old new budget_old budget_new = HasComeToBy parts.code.code parts.counter net log parts.step.steps k old new budget_old budget_new
 
--- The entries that were put show what was found, and no more clauses were learnt than the budget says.
+-- The entries that were put show what was found, and no more clauses were learnt than the budget says, each of them fresh.
 pub record HasFound (names : List (ℕ × Name)) (net : Net) (log : Log) (n budget : ℕ) (old new : List BookEntry) (answer : Found) : Type 0 where
   pub since : List BookEntry
   pub whole : new ≡ old ++ since
   pub unmarked : (number : ℕ) → count_by (is_mark number) since ≡ 0
   pub within : count_by is_learnt since ≤ budget
+  pub fresh : HaveLearntFresh old since
   pub found : IsFound names (axioms_of old) since net log n budget answer
+  pub conflict : HasConflictFor names new net log n answer

@@ -7,14 +7,15 @@ use Rattle.least_faults.specs.declared.answer.Best.{Best}
 use Rattle.least_faults.specs.declared.asking.Asked.{Asked}
 use Rattle.least_faults.specs.declared.asking.Asked.TheVariants.{Explained, Refuted, Spent}
 use Rattle.least_faults.specs.declared.parts.Parts.{Parts}
-use Rattle.least_faults.specs.Answers.{IsExplanation}
+use Rattle.least_faults.specs.Answers.{HaveLearntFresh, IsExplanation}
 use Rattle.least_faults.specs.Evidence.{IsPosed, is_final, IsRefutation}
 use Rattle.log_clauses.specs.LogClauses.{guard_literals}
 use Rattle.log_encode.specs.CodedLog.{CodedLog, read_names, without_names}
 use Rattle.log_order.specs.Log.{Log, IsValidLog}
-use Rattle.proof_ledger.specs.Book.{BookEntry, final, axioms_of, is_mark}
+use Rattle.proof_ledger.specs.Book.{BookEntry, final, axioms_of, clauses_of, is_mark}
 use Rattle.proof_ledger.specs.Fresh.{is_learnt}
 use Rattle.prop_core.specs.Clauses.{Clause, NegatesOnly}
+use Rattle.prop_core.specs.Trail.{Clashes}
 use Rattle.prop_core.specs.VariableNames.{ReadsAs}
 use Rattle.prop_core.specs.declared.lit.Lit.{Lit}
 use Rattle.run_decode.specs.Decided.{Decides}
@@ -82,10 +83,17 @@ pub record IsWitness (counter : CounterState) (net : Net) (log : Log) (n : ℕ) 
   pub within : IsWithin bound best.faults
   pub counted : 0 < best.faults → 0 < length counter.inputs
 
-abbrev pub Means : CodedLog → CounterState → Net → Log → ℕ → Option ℕ → List Clause → List BookEntry → ℕ → Asked → Type 0
-Means code counter net log n bound first since budget (Explained best) = IsWitness counter net log n bound best
-Means code counter net log n bound first since budget Refuted = IsRefusal code counter net log n bound first since
-Means code counter net log n bound first since budget Spent = budget ≡ 0
+-- nothing is left at a further conflict
+pub record IsStopped (code : CodedLog) (counter : CounterState) (bound : Option ℕ) (book : List BookEntry) (budget : ℕ) : Type 0 where
+  pub nothing : budget ≡ 0
+  pub assumed : List Lit
+  pub assumptions : AreAssumptions code counter bound assumed
+  pub clashes : Clashes (clauses_of book) assumed
+
+abbrev pub Means : CodedLog → CounterState → Net → Log → ℕ → Option ℕ → List Clause → List BookEntry → List BookEntry → ℕ → Asked → Type 0
+Means code counter net log n bound first since book budget (Explained best) = IsWitness counter net log n bound best
+Means code counter net log n bound first since book budget Refuted = IsRefusal code counter net log n bound first since
+Means code counter net log n bound first since book budget Spent = IsStopped code counter bound book budget
 
 -- all of it
 pub record HasAskedBy (code : CodedLog) (counter : CounterState) (net : Net) (log : Log) (n : ℕ) (bound : Option ℕ) (old new : List BookEntry) (budget_old budget_new : ℕ) (asked : Asked) : Type 0 where
@@ -93,8 +101,9 @@ pub record HasAskedBy (code : CodedLog) (counter : CounterState) (net : Net) (lo
   pub whole : new ≡ old ++ since
   pub unmarked : (number : ℕ) → count_by (is_mark number) since ≡ 0
   pub paid : count_by is_learnt since + budget_new ≡ budget_old
+  pub fresh : HaveLearntFresh old since
   pub put : ArePut code counter bound since asked
-  pub means : Means code counter net log n bound (axioms_of old) since budget_new asked
+  pub means : Means code counter net log n bound (axioms_of old) since new budget_new asked
 
 -- all of it, of the parts of a question
 abbrev pub HasAsked : {R : Type 0} → Parts R → Net → Log → Option ℕ → List BookEntry → List BookEntry → ℕ → ℕ → Asked → Type 0

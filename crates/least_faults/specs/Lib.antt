@@ -6,6 +6,7 @@ pub mod Growing
 pub mod Adding
 pub mod Evidence
 pub mod Answers
+pub mod Deciding
 pub mod Asking
 pub mod Ascending
 pub mod Building

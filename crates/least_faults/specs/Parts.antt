@@ -15,6 +15,7 @@ use Rattle.run_decode.specs.Decoding.{BelongTogether}
 use Rattle.run_decode.specs.QuestionAxioms.{BuiltQuestion, question_built}
 use Rattle.run_decode.specs.WholeNaming.{AreCodedTogether, AreClausesOf, whole_names}
 use Rattle.sat_order.specs.Rank.{IsRanked}
+use Rattle.sat_solve.specs.Searching.{HasAxiomVars}
 use Rattle.step_encode.specs.Coded.{CodedSteps}
 
 -- the size of the largest question that is built
@@ -34,9 +35,10 @@ pub record AreParts (steps : CodedSteps) (code : CodedLog) (counter : CounterSta
   pub made : IsMade vars counter
   pub bounded : AreBounded steps code counter vars axioms
 
--- The parts are those of a book: its axioms are their clauses, the solver has adopted all its clauses, and has their variables at least. The stored ranks are what was answered (`gives`) by what ranks, which may be asked (`may`).
+-- The parts are those of a book: its axioms are their clauses, in which all variables of its clauses occur, the solver has adopted all its clauses, and has their variables at least. The stored ranks are what was answered (`gives`) by what ranks, which may be asked (`may`).
 pub record AreReady {R : Type 0} (may : R → ℕ → Type 0) (gives : R → ℕ → ℕ → Type 0) (parts : Parts R) (book : List BookEntry) : Type 0 where
   pub coded : AreParts parts.step parts.code.code parts.counter parts.vars (axioms_of book)
+  pub known : HasAxiomVars book
   pub adopted_all : parts.solver.adopted ≡ clauses_of book
   pub enough : parts.vars ≤ parts.solver.vars
   pub ranked : IsRanked may gives parts.solver.order

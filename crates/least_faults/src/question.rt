@@ -1,11 +1,12 @@
 // What is asked about: which runs of a network explain a log.
-ghost use Rattle.std.specs.Prelude.{List};
+ghost use Rattle.std.specs.Prelude.{◌≤◌, List, length};
 ghost use Rattle.log_clauses.specs.LogClauses.{guard_literals};
 ghost use Rattle.log_encode.specs.CodedLog.{read_names};
 ghost use Rattle.proof_ledger.specs.Book.{IsValidBook};
 ghost use Rattle.prop_core.specs.VariableNames.{ReadsAs};
 ghost use Rattle.prop_core.specs.declared.lit.Lit.{Lit};
 
+use card_counter::Counter;
 use des_net::Network;
 use log_encode::LogCode;
 use log_order::AlarmLog;
@@ -25,6 +26,13 @@ pub fn is_valid(book: &Ledger)
     ensures { IsValidBook book.now.entries }
 {
     let _entries = book.entries();
+}
+
+// The counter has no more columns than it may have, as their reader tells.
+pub fn has_few_columns(counter: &Counter)
+    ensures { length counter.now.columns ≤ 256 }
+{
+    let _columns = counter.columns();
 }
 
 // The guards of the log are literals, as the reader of its code tells.

@@ -32,13 +32,13 @@ returns-in-Some-Diagnose-clause-due g c =
     let steps = c.in-Some-Diagnose.steps in
     let budget = c.in-Some-Diagnose.budget in
     let called : command_of c.args.words.now ≡ Some (Diagnose steps budget) = sym c.command_of.ensures.command ∙ c.in-Some-Diagnose.is ∙ ap Some c.in-Some-Diagnose.field-0-is in
-    due_of (loads g.F.Shelf.held g.F.Shelf.faults c.args.shelf.now c.diagnose_command.new.shelf) c.args.words.now (Diagnose steps budget) c.diagnose_command.new.book.entries c.diagnose_command.result called c.diagnose_command.ensures
+    due_of (loads g.F.Shelf.held g.F.Shelf.faults c.args.shelf.now c.diagnose_command.new.shelf) c.args.words.now (Diagnose steps budget) c.diagnose_command.new.book.entries c.diagnose_command.result called c.diagnose_command.ensures.due
 
 pub returns-in-Some-PrintCnf-clause-due : goal.returns-in-Some-PrintCnf-clause-due
 returns-in-Some-PrintCnf-clause-due g c =
     let command = PrintCnf c.in-Some-PrintCnf.steps c.in-Some-PrintCnf.bound in
     let called : command_of c.args.words.now ≡ Some command = sym c.command_of.ensures.command ∙ c.in-Some-PrintCnf.is ∙ ap Some c.in-Some-PrintCnf.field-0-is in
-    due_of (loads g.F.Shelf.held g.F.Shelf.faults c.args.shelf.now c.cnf_command.new.shelf) c.args.words.now command c.cnf_command.new.book.entries c.cnf_command.result called c.cnf_command.ensures
+    due_of (loads g.F.Shelf.held g.F.Shelf.faults c.args.shelf.now c.cnf_command.new.shelf) c.args.words.now command c.cnf_command.new.book.entries c.cnf_command.result called c.cnf_command.ensures.due
 
 pub returns-in-Some-GenerateModel-clause-due : goal.returns-in-Some-GenerateModel-clause-due
 returns-in-Some-GenerateModel-clause-due g c =
@@ -59,7 +59,7 @@ returns-in-Some-Bench-clause-due g c =
     let command = Bench c.in-Some-Bench.units c.in-Some-Bench.start c.in-Some-Bench.steps c.in-Some-Bench.budget in
     let called : command_of c.args.words.now ≡ Some command = sym c.command_of.ensures.command ∙ c.in-Some-Bench.is ∙ ap Some c.in-Some-Bench.field-0-is in
     let l = loads g.F.Shelf.held g.F.Shelf.faults c.args.shelf.now c.args.shelf.now in
-    due_of l c.args.words.now command c.bench_command.new.book.entries c.bench_command.result called (c.bench_command.ensures l c.args.words.now)
+    due_of l c.args.words.now command c.bench_command.new.book.entries c.bench_command.result called (c.bench_command.ensures.due l c.args.words.now)
 
 -- ---- a command that asks a question
 

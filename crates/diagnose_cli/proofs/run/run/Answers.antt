@@ -1,5 +1,5 @@
 -- Each clause is part of what the run does that puts the text of the ending that was due.
-use Rattle.diagnose_cli.proofs.Once.{done}
+use Rattle.diagnose_cli.proofs.Once.{done, stop_left}
 use Rattle.diagnose_cli.proofs.run.run.Goals as goal
 
 pub returns-clause-diagnosed : goal.returns-clause-diagnosed
@@ -30,4 +30,4 @@ pub returns-clause-ran : goal.returns-clause-ran
 returns-clause-ran g c = (done _ _ _ _ _ _ c.answer-ending.result _ c.answer-ending.ensures.due c.put_once.ensures).ran
 
 pub returns-clause-left_alone : goal.returns-clause-left_alone
-returns-clause-left_alone g c = record { no_load = c.answer-ending.ensures.no_load; no_question = c.answer-ending.ensures.no_question }
+returns-clause-left_alone g c = record { no_load = c.answer-ending.ensures.no_load; no_question = c.answer-ending.ensures.no_question; stopped = stop_left c.answer-ending.result _ _ _ _ _ c.put_once.ensures c.answer-ending.ensures.stopped }

@@ -13,7 +13,7 @@ use Rattle.log_order.specs.Log.{Log, IsValidLog}
 use Rattle.proof_ledger.specs.Book.{BookEntry, axioms_of}
 use Rattle.prop_core.specs.Clauses.{HasValues, value_in}
 use Rattle.prop_core.specs.declared.lit.Lit.{Lit}
-use Rattle.sat_solve.specs.Searching.{IsAnswer, IsSpent, IsModel, HasPut}
+use Rattle.sat_solve.specs.Searching.{IsAnswer, IsModel, HasPut}
 use Rattle.sat_solve.specs.declared.answer.Answer.{Answer}
 use Rattle.sat_solve.specs.Solving.{AreCompatible}
 
@@ -48,14 +48,11 @@ returns-in-Unsat-clause-asked g c =
     asked_refuted parts.step parts.code.code parts.counter parts.vars c.args.question.net.now c.args.question.log.now c.assumptions.new.book.entries c.assumptions.ensures.ready.coded
     belong.of_steps c.is_built.ensures.network c.is_whole.ensures.whole.valid
     belong.same_log c.args.within c.in_ok-assumed.assumed.items c.in_ok-assumed.ensures.assumed
-    c.args.book.now.entries c.solve.new.book.entries c.args.budget.now c.solve.new.budget c.assumptions.ensures.axioms c.solve.ensures.searched c.in-Unsat.field-0
+    c.args.book.now.entries c.solve.new.book.entries c.args.budget.now c.solve.new.budget c.assumptions.ensures.axioms c.solve.ensures.searched c.assumptions.ensures.ready.known c.in-Unsat.field-0
     (subst (HasPut c.assumptions.new.book.entries c.solve.new.book.entries) c.in-Unsat.is c.in_ok-answer.ensures.put)
     (subst (λ xs. IsAnswer c.solve.new.self.assignment c.solve.new.book.entries xs c.solve.new.budget (Answer.Unsat c.in-Unsat.field-0)) c.as_slice.ensures.value
     (subst (IsAnswer c.solve.new.self.assignment c.solve.new.book.entries c.as_slice.result.now c.solve.new.budget) c.in-Unsat.is c.in_ok-answer.ensures.answer))
     c.is_valid.ensures
-
-spent : (values : List Bool) (book : List BookEntry) (xs : List Lit) (left : ℕ) → IsSpent book xs left → left ≡ 0
-spent values book xs left holds = holds.nothing
 
 pub returns-in-Spent-clause-asked : goal.returns-in-Spent-clause-asked
 returns-in-Spent-clause-asked g c =
@@ -64,10 +61,11 @@ returns-in-Spent-clause-asked g c =
     asked_spent parts.step parts.code.code parts.counter parts.vars c.args.question.net.now c.args.question.log.now c.assumptions.new.book.entries c.assumptions.ensures.ready.coded
     belong.of_steps c.is_built.ensures.network c.is_whole.ensures.whole.valid
     belong.same_log c.args.within c.in_ok-assumed.assumed.items c.in_ok-assumed.ensures.assumed
-    c.args.book.now.entries c.solve.new.book.entries c.args.budget.now c.solve.new.budget c.assumptions.ensures.axioms c.solve.ensures.searched
+    c.args.book.now.entries c.solve.new.book.entries c.args.budget.now c.solve.new.budget c.assumptions.ensures.axioms c.solve.ensures.searched c.assumptions.ensures.ready.known
     (none_added c.args.within c.args.book.now.entries c.assumptions.new.book.entries c.assumptions.ensures.axioms c.assumptions.ensures.none)
     (subst (HasPut c.assumptions.new.book.entries c.solve.new.book.entries) c.in-Spent.is c.in_ok-answer.ensures.put)
-    (spent c.solve.new.self.assignment c.solve.new.book.entries c.as_slice.result.now c.solve.new.budget (subst (IsAnswer c.solve.new.self.assignment c.solve.new.book.entries c.as_slice.result.now c.solve.new.budget) c.in-Spent.is c.in_ok-answer.ensures.answer))
+    (subst (λ xs. IsAnswer c.solve.new.self.assignment c.solve.new.book.entries xs c.solve.new.budget Answer.Spent) c.as_slice.ensures.value
+    (subst (IsAnswer c.solve.new.self.assignment c.solve.new.book.entries c.as_slice.result.now c.solve.new.budget) c.in-Spent.is c.in_ok-answer.ensures.answer))
 
 -- all clauses of the book are true, and what is assumed
 model : (values : List Bool) (book : List BookEntry) (xs assumed : List Lit) (left : ℕ) (answer : Answer) → answer ≡ Answer.Sat → xs ≡ assumed → IsAnswer values book xs left answer → IsModel values book assumed
@@ -90,7 +88,7 @@ returns-clause-asked g c =
     asked_explained parts.step parts.code.code parts.counter parts.vars c.args.question.net.now c.args.question.log.now c.assumptions.new.book.entries c.assumptions.ensures.ready.coded
     belong.of_steps c.is_built.ensures.network c.is_whole.ensures.whole.valid
     belong.same_log c.args.within c.in_ok-assumed.assumed.items c.in_ok-assumed.ensures.assumed
-    c.args.book.now.entries c.solve.new.book.entries c.args.budget.now c.solve.new.budget c.assumptions.ensures.axioms c.solve.ensures.searched (value_in values) c.in_ok-found_run-in-Sat.field-0
+    c.args.book.now.entries c.solve.new.book.entries c.args.budget.now c.solve.new.budget c.assumptions.ensures.axioms c.solve.ensures.searched c.assumptions.ensures.ready.known (value_in values) c.in_ok-found_run-in-Sat.field-0
     (none_added c.args.within c.args.book.now.entries c.assumptions.new.book.entries c.assumptions.ensures.axioms c.assumptions.ensures.none)
     (subst (HasPut c.assumptions.new.book.entries c.solve.new.book.entries) c.in-Sat.is c.in_ok-answer.ensures.put)
     (begun_true (value_in values) c.assumptions.new.book.entries c.solve.new.book.entries c.args.budget.now c.solve.new.budget c.solve.ensures.searched holds.clauses) holds.assumptions c.in_ok-found_run-in-Sat.ensures.given c.in_ok-found_run-in-Sat.ensures.faults

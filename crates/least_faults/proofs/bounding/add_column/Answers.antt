@@ -1,6 +1,7 @@
 use Rattle.std.proofs.Common.{ap, append-nil, arith, length, ◌∙◌, [], ◌∷◌, refl, subst, sym}
 use Rattle.least_faults.proofs.Bounded.{column_fits}
 use Rattle.least_faults.proofs.Columns.{column_added, few_written, more_values, written_alone, reserved_ready}
+use Rattle.least_faults.proofs.Freshness.{known_after}
 use Rattle.least_faults.proofs.Determined.{column_determined}
 use Rattle.least_faults.proofs.Staying.{question_kept}
 use Rattle.proof_ledger.specs.Book.{axioms_of}
@@ -58,6 +59,7 @@ returns-clause-ready g c =
     let enough = column.enough in
     record {
       coded = column.parts;
+      known = known_after c.args.book.now.entries c.push_axioms.new.book.entries column.axioms c.requires.ready.known;
       adopted_all = ap (λ (s : SolverState _). s.adopted) c.adopt.ensures.value;
       enough = omega (arith, values, enough);
       ranked = subst (IsRanked (goal.R-pre g) (goal.R-post g)) (sym (ap (λ (s : SolverState _). s.order) c.adopt.ensures.value)) (c.reserve-2.ensures.ranked c.requires.ready.ranked);

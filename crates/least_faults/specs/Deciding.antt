@@ -1,0 +1,14 @@
+-- With a budget of at least as many clauses as there are sets of literals, no variable twice, a search is never undecided.
+use Rattle.std.specs.Prelude.{◌<◌, ◌^◌, ℕ, List, Option}
+use Rattle.des_net.specs.Network.{Net}
+use Rattle.least_faults.specs.Answers.{IsAnswered}
+use Rattle.least_faults.specs.declared.answer.Best.{Best}
+use Rattle.least_faults.specs.declared.answer.Found.TheVariants.{Undecided}
+use Rattle.log_order.specs.Log.{Log}
+use Rattle.proof_ledger.specs.Book.{BookEntry}
+use Rattle.prop_core.specs.VariableNames.{Name}
+use Rattle.replay.specs.QuestionSize.{variable_bound}
+
+-- Where it is undecided, the budget is below 3 to the bound on the question's variables.
+abbrev pub UndecidedIsSmall : Type 0
+UndecidedIsSmall = (names : List (ℕ × Name)) (net : Net) (log : Log) (n budget lo : ℕ) (best : Option Best) (old new : List BookEntry) → IsAnswered names net log n budget old new (Undecided lo best) → budget < 3 ^ variable_bound net log n
