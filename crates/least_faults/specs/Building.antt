@@ -20,11 +20,10 @@ pub record IsUnused {R : Type 0} (may : R → ℕ → Type 0) (gives : R → ℕ
   pub no_clauses : solver.adopted ≡ []
   pub no_variables : solver.vars ≡ 0
 
--- the solver has no clauses, as before, and ranks by what ranked before
+-- the solver has no variables and no clauses, as before, so that it can be built with again, and ranks by what ranked before
 pub record IsHandedBack {R : Type 0} (may : R → ℕ → Type 0) (gives : R → ℕ → ℕ → Type 0) (old new : SolverState R) : Type 0 where
-  pub ranked : IsRanked may gives new.order
+  pub unused : IsUnused may gives new
   pub rank : new.order.rank ≡ old.order.rank
-  pub no_clauses : new.adopted ≡ []
 
 -- these are the axioms of the book, whose clauses the solver has adopted; it has the variables, and ranks by what ranked before
 pub record HasAdopted {R : Type 0} (may : R → ℕ → Type 0) (gives : R → ℕ → ℕ → Type 0) (axioms : List Clause) (vars : ℕ) (old new : SolverState R) (book : List BookEntry) : Type 0 where

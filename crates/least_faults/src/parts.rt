@@ -23,6 +23,6 @@ pub struct Parts<R> {
 /// Memory was wanting, and nothing was built. The book may hold some of the axioms.
 #[derive(Drop)]
 pub struct Unbuilt<R> {
-    /// The solver, without clauses.
+    /// The solver, without variables and clauses: a question can be built with it.
     pub solver: Solver<R>,
 }
