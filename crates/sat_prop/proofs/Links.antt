@@ -10,7 +10,7 @@ use Rattle.std.proofs.lemmas.Map.Steps.{length-le_from_distinct_below}
 use Rattle.prop_core.specs.declared.lit.Lit.{Lit}
 use Rattle.prop_core.specs.Clauses.{same_literal}
 use Rattle.sat_prop.specs.declared.watch_lists.Starts.{Starts}
-use Rattle.sat_prop.specs.Watches.{Links, is_among, start_of, starts_at, with_start, begun, empty}
+use Rattle.sat_prop.specs.Watches.{Links, is_among, as_link, start_of, starts_at, with_start, begun, empty}
 
 -- ---- numbers among others
 
@@ -100,19 +100,19 @@ links_few nexts first xs h = length-le_from_distinct_below xs (length nexts) (li
 
 -- ---- the starts of lists
 
-pub start_set : (starts : List Starts) (l : Lit) (v : Option ℕ) → l.var < length starts → start_of (with_start starts l v) l ≡ v
+pub start_set : (starts : List Starts) (l : Lit) (v : ℕ) → l.var < length starts → start_of (with_start starts l v) l ≡ as_link v
 start_set starts l v h =
     let g : get_or (with_start starts l v) l.var empty ≡ begun (starts_at starts l.var) l.positive v = grind (arith, common_steps) in
-    by l.positive (starts_at (with_start starts l v) l.var) g
+    ap as_link (by l.positive (starts_at (with_start starts l v) l.var) g)
   where
     by : (b : Bool) (s : Starts) → s ≡ begun (starts_at starts l.var) b v → cond b s.positive s.negative ≡ v
     by true s e = ap (λ (x : Starts). x.positive) e
     by false s e = ap (λ (x : Starts). x.negative) e
 
-pub start_kept : (starts : List Starts) (l k : Lit) (v : Option ℕ) → same_literal k l ≡ false → l.var < length starts → start_of (with_start starts l v) k ≡ start_of starts k
+pub start_kept : (starts : List Starts) (l k : Lit) (v : ℕ) → same_literal k l ≡ false → l.var < length starts → start_of (with_start starts l v) k ≡ start_of starts k
 start_kept starts l k v d h = ⊎_elim
     (λ e. same_var e)
-    (λ n. let g : get_or (with_start starts l v) k.var empty ≡ get_or starts k.var empty = grind (arith, common_steps) in ap (λ (s : Starts). cond k.positive s.positive s.negative) g)
+    (λ n. let g : get_or (with_start starts l v) k.var empty ≡ get_or starts k.var empty = grind (arith, common_steps) in ap (λ (s : Starts). as_link (cond k.positive s.positive s.negative)) g)
     (cases_eq k.var l.var)
   where
     by : (a b : Bool) (s t : Starts) → t ≡ begun s b v → (eqb k.var l.var && beq a b) ≡ false → eqb k.var l.var ≡ true → cond a t.positive t.negative ≡ cond a s.positive s.negative
@@ -125,4 +125,4 @@ start_kept starts l k v d h = ⊎_elim
     same_var e =
         let g : get_or (with_start starts l v) k.var empty ≡ begun (starts_at starts l.var) l.positive v = grind (arith, common_steps) in
         let s : starts_at starts k.var ≡ starts_at starts l.var = ap (starts_at starts) e in
-        by k.positive l.positive (starts_at starts k.var) (starts_at (with_start starts l v) k.var) (g ∙ ap (λ (x : Starts). begun x l.positive v) (sym s)) d (eq-eqb k.var l.var e)
+        ap as_link (by k.positive l.positive (starts_at starts k.var) (starts_at (with_start starts l v) k.var) (g ∙ ap (λ (x : Starts). begun x l.positive v) (sym s)) d (eq-eqb k.var l.var e))

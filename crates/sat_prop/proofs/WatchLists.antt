@@ -15,7 +15,8 @@ use Rattle.prop_core.proofs.Entailed.{same_itself}
 use Rattle.prop_core.proofs.Literals.{same_is}
 use Rattle.sat_prop.specs.declared.watch_lists.Watch.{Watch}
 use Rattle.sat_prop.specs.declared.watch_lists.Starts.{Starts}
-use Rattle.sat_prop.specs.Watches.{AreWatchLists, IsNext, Links, is_among, watch_at, no_watch, watching, start_of, with_start, empty, no_starts}
+use Rattle.sat_prop.specs.declared.watch_lists.TheConstants.{NO_WATCH}
+use Rattle.sat_prop.specs.Watches.{AreWatchLists, IsNext, Links, is_among, watch_at, no_watch, watching, as_link, start_of, with_start, empty, no_starts}
 use Rattle.sat_prop.proofs.Links.{among_itself, among_later, among_last, among_others, among_more, not_both, links_apart, links_more, links_below, links_distinct, start_set, start_kept}
 
 no_number : (n : ℕ) → is_among n [] ≡ true → ⊥
@@ -69,7 +70,7 @@ unfolding IsDistinct
 others_distinct [] n h = tt
 others_distinct (x ∷ xs) n h = (apart_others x n xs h.0, others_distinct xs n h.1)
 
-module _ (watches : List Watch) (nexts : List (Option ℕ)) (starts : List Starts) (others : List ℕ) (n : ℕ) (a : AreWatchLists watches nexts starts (others ++ n ∷ [])) (l : Lit) (known : l.var < length starts) where
+module _ (watches : List Watch) (nexts : List (Option ℕ)) (starts : List Starts) (others : List ℕ) (n : ℕ) (a : AreWatchLists watches nexts starts (others ++ n ∷ [])) (l : Lit) (known : l.var < length starts) (small : as_link n ≡ Some n) where
   waits : is_among n (others ++ n ∷ []) ≡ true
   waits = among_last n others
 
@@ -86,7 +87,7 @@ module _ (watches : List Watch) (nexts : List (Option ℕ)) (starts : List Start
   put_nexts = slice_set nexts n (start_of starts l)
 
   abbrev pub put_starts : List Starts
-  put_starts = with_start starts l (Some n)
+  put_starts = with_start starts l n
 
   abbrev pub put_list : Lit → List ℕ
   put_list = with_list a.lists l (n ∷ a.lists l)
@@ -100,8 +101,8 @@ module _ (watches : List Watch) (nexts : List (Option ℕ)) (starts : List Start
       (λ e. let free = in_no_list l known in
       let i : n < length put_nexts = grind (arith, common_steps) in
       let g : get_or put_nexts n None ≡ start_of starts l = grind (arith, common_steps) in
-      (start_set starts l (Some n) known, i, free, subst (λ (o : Option ℕ). Links put_nexts o (a.lists l)) (sym g) (links_apart nexts (start_of starts l) (a.lists l) n (start_of starts l) (a.linked l known) free)))
-      (λ d. subst (λ (o : Option ℕ). Links put_nexts o (a.lists k)) (sym (start_kept starts l k (Some n) d known)) (links_apart nexts (start_of starts k) (a.lists k) n (start_of starts l) (a.linked k w) (in_no_list k w)))
+      (start_set starts l n known ∙ small, i, free, subst (λ (o : Option ℕ). Links put_nexts o (a.lists l)) (sym g) (links_apart nexts (start_of starts l) (a.lists l) n (start_of starts l) (a.linked l known) free)))
+      (λ d. subst (λ (o : Option ℕ). Links put_nexts o (a.lists k)) (sym (start_kept starts l k n d known)) (links_apart nexts (start_of starts k) (a.lists k) n (start_of starts l) (a.linked k w) (in_no_list k w)))
 
   lit_here : (watch_at put_watches n).lit ≡ l
   lit_here =
@@ -168,7 +169,7 @@ module _ (watches : List Watch) (nexts : List (Option ℕ)) (starts : List Start
 
 -- ---- a new watch
 
-module _ (watches : List Watch) (nexts : List (Option ℕ)) (starts : List Starts) (waiting : List ℕ) (a : AreWatchLists watches nexts starts waiting) (w : Watch) (known : w.lit.var < length starts) where
+module _ (watches : List Watch) (nexts : List (Option ℕ)) (starts : List Starts) (waiting : List ℕ) (a : AreWatchLists watches nexts starts waiting) (w : Watch) (known : w.lit.var < length starts) (small : as_link (length watches) ≡ Some (length watches)) where
   abbrev pub added : ℕ
   added = length watches
 
@@ -179,7 +180,7 @@ module _ (watches : List Watch) (nexts : List (Option ℕ)) (starts : List Start
   pushed_nexts = nexts ++ start_of starts w.lit ∷ []
 
   abbrev pub pushed_starts : List Starts
-  pushed_starts = with_start starts w.lit (Some added)
+  pushed_starts = with_start starts w.lit added
 
   abbrev pub pushed_list : Lit → List ℕ
   pushed_list = with_list a.lists w.lit (added ∷ a.lists w.lit)
@@ -202,8 +203,8 @@ module _ (watches : List Watch) (nexts : List (Option ℕ)) (starts : List Start
       (λ e. let s = a.same in
       let i : added < length pushed_nexts = grind (arith, common_steps) in
       let g : get_or pushed_nexts added None ≡ start_of starts w.lit = rw (← s) (grind (arith, common_steps)) in
-      (start_set starts w.lit (Some added) known, i, not_listed w.lit known, subst (λ (o : Option ℕ). Links pushed_nexts o (a.lists w.lit)) (sym g) (links_more nexts (start_of starts w.lit) (a.lists w.lit) (start_of starts w.lit) (a.linked w.lit known))))
-      (λ d. subst (λ (o : Option ℕ). Links pushed_nexts o (a.lists k)) (sym (start_kept starts w.lit k (Some added) d known)) (links_more nexts (start_of starts k) (a.lists k) (start_of starts w.lit) (a.linked k (known_before k h))))
+      (start_set starts w.lit added known ∙ small, i, not_listed w.lit known, subst (λ (o : Option ℕ). Links pushed_nexts o (a.lists w.lit)) (sym g) (links_more nexts (start_of starts w.lit) (a.lists w.lit) (start_of starts w.lit) (a.linked w.lit known))))
+      (λ d. subst (λ (o : Option ℕ). Links pushed_nexts o (a.lists k)) (sym (start_kept starts w.lit k added d known)) (links_more nexts (start_of starts k) (a.lists k) (start_of starts w.lit) (a.linked k (known_before k h))))
 
   lit_added : (watch_at pushed_watches added).lit ≡ w.lit
   lit_added = let g : get_or pushed_watches added no_watch ≡ w = grind (arith, common_steps) in ap (λ (x : Watch). x.lit) g
@@ -277,7 +278,7 @@ distinct_append xs (y ∷ ys) d e f =
 
 module _ (watches : List Watch) (nexts : List (Option ℕ)) (starts : List Starts) (waiting : List ℕ) (a : AreWatchLists watches nexts starts waiting) (l : Lit) (known : l.var < length starts) where
   abbrev pub opened_starts : List Starts
-  opened_starts = with_start starts l None
+  opened_starts = with_start starts l NO_WATCH
 
   abbrev pub opened_list : Lit → List ℕ
   opened_list = with_list a.lists l []
@@ -317,8 +318,8 @@ module _ (watches : List Watch) (nexts : List (Option ℕ)) (starts : List Start
     same = a.same;
     lists = opened_list;
     linked = λ k h. each_list a.lists l [] (λ x numbers. Links nexts (start_of opened_starts x) numbers) k
-        (λ e. start_set starts l None known)
-        (λ d. subst (λ (o : Option ℕ). Links nexts o (a.lists k)) (sym (start_kept starts l k None d known)) (a.linked k (still_known k h)));
+        (λ e. start_set starts l NO_WATCH known)
+        (λ d. subst (λ (o : Option ℕ). Links nexts o (a.lists k)) (sym (start_kept starts l k NO_WATCH d known)) (a.linked k (still_known k h)));
     own = λ k m h. each_list a.lists l [] (λ x numbers. is_among m numbers ≡ true → ((watch_at watches m).lit ≡ x) × (is_among m (waiting ++ a.lists l) ≡ false)) k
         (λ e t. absurd (no_number m t))
         (λ d t. let o = a.own k m (still_known k h) t in
@@ -355,10 +356,10 @@ module _ (watches : List Watch) (nexts : List (Option ℕ)) (starts : List Start
     lists = wider_list;
     linked = λ l h. wide_or_not (λ numbers. Links nexts (start_of wider_starts l) numbers) l
         (λ b. let g : get_or wider_starts l.var empty ≡ get_or starts l.var empty = grind (arith, common_steps) in
-        let e : start_of wider_starts l ≡ start_of starts l = ap (λ (s : Starts). cond l.positive s.positive s.negative) g in
+        let e : start_of wider_starts l ≡ start_of starts l = ap (λ (s : Starts). as_link (cond l.positive s.positive s.negative)) g in
         subst (λ (o : Option ℕ). Links nexts o (a.lists l)) (sym e) (a.linked l b))
         (λ b. let g : get_or wider_starts l.var empty ≡ empty = grind (arith, common_steps) in
-        ap (λ (s : Starts). cond l.positive s.positive s.negative) g ∙ none l.positive);
+        ap (λ (s : Starts). as_link (cond l.positive s.positive s.negative)) g ∙ none l.positive);
     own = λ l m h. wide_or_not (λ numbers. is_among m numbers ≡ true → ((watch_at watches m).lit ≡ l) × (is_among m waiting ≡ false)) l
         (λ b t. a.own l m b t)
         (λ b t. absurd (no_number m t));
@@ -370,7 +371,7 @@ module _ (watches : List Watch) (nexts : List (Option ℕ)) (starts : List Start
     below = a.below;
   }
     where
-      none : (b : Bool) → cond b empty.positive empty.negative ≡ None
+      none : (b : Bool) → as_link (cond b empty.positive empty.negative) ≡ None
       none true = refl
       none false = refl
 

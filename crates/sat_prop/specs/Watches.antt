@@ -1,11 +1,12 @@
 -- Clauses that are watched at literals (Moskewicz and others, "Chaff: engineering an efficient SAT solver", 2001): each watch stands in the list of its literal, linked by numbers, or waits.
-use Rattle.std.specs.Prelude.{◌≡◌, ℕ, ◌<◌, true, false, suc, Bool, ◌-◌, List, [], ◌∷◌, ◌++◌, length, map, replicate, Option, Some, None, nat_eq, slice_index_or, slice_set, if◌then◌else◌}
+use Rattle.std.specs.Prelude.{◌≡◌, ℕ, ◌+◌, ◌-◌, ◌%◌, ◌<◌, ◌==◌, true, false, suc, Bool, List, [], ◌∷◌, ◌++◌, length, map, replicate, Option, Some, None, nat_eq, slice_index_or, slice_set, if◌then◌else◌}
 use Rattle.std.specs.List.{list_any, IsDistinct}
 use Rattle.prop_core.specs.declared.lit.Lit.{Lit}
 use Rattle.prop_core.specs.Trail.{no_literal}
 use Rattle.sat_prop.specs.declared.watch_lists.Watch.{Watch}
 use Rattle.sat_prop.specs.declared.watch_lists.Node.{Node}
 use Rattle.sat_prop.specs.declared.watch_lists.Starts.{Starts}
+use Rattle.sat_prop.specs.declared.watch_lists.TheConstants.{NO_WATCH}
 
 -- the watches, the numbers of those that wait, for how many variables there are lists, and for how many more clauses there is room
 pub record WatchState : Type 0 where
@@ -20,15 +21,34 @@ no_watch = record { clause = 0; lit = no_literal; twin = 0 }
 abbrev pub watch_at : List Watch → ℕ → Watch
 watch_at watches number = slice_index_or watches number no_watch
 
+-- Two watches of a clause follow one another, of which the first has an even number. So each knows that of the other one.
+abbrev pub twin_of : ℕ → ℕ
+twin_of number = if number % 2 == 0 then number + 1 else number - 1
+
+-- the watch that is kept in the node of a number
+abbrev pub watch_of : ℕ → Node → Watch
+watch_of number node = record { clause = node.clause; lit = node.lit; twin = twin_of number }
+
+abbrev pub watches_from : ℕ → List Node → List Watch
+watches_from number [] = []
+watches_from number (node ∷ nodes) = watch_of number node ∷ watches_from (suc number) nodes
+
+-- the number that comes next, or none where the list ends
+abbrev pub as_link : ℕ → Option ℕ
+as_link number = if number == NO_WATCH then None else Some number
+
 -- the watches alone, and of each the number that comes next in its list
 abbrev pub watches_of : List Node → List Watch
-watches_of nodes = map (λ n. n.watch) nodes
+watches_of nodes = watches_from 0 nodes
 
 abbrev pub nexts_of : List Node → List (Option ℕ)
-nexts_of nodes = map (λ n. n.next) nodes
+nexts_of nodes = map (λ n. as_link n.next) nodes
+
+abbrev pub no_node : Node
+no_node = record { clause = 0; lit = no_literal; next = NO_WATCH }
 
 abbrev pub node_at : List Node → ℕ → Node
-node_at nodes number = slice_index_or nodes number (record { watch = no_watch; next = None })
+node_at nodes number = slice_index_or nodes number no_node
 
 abbrev pub is_among : ℕ → List ℕ → Bool
 is_among number numbers = list_any (nat_eq number) numbers
@@ -36,7 +56,7 @@ is_among number numbers = list_any (nat_eq number) numbers
 -- ---- lists
 
 abbrev pub empty : Starts
-empty = record { positive = None; negative = None }
+empty = record { positive = NO_WATCH; negative = NO_WATCH }
 
 abbrev pub starts_at : List Starts → ℕ → Starts
 starts_at starts var = slice_index_or starts var empty
@@ -45,14 +65,17 @@ abbrev pub no_starts : ℕ → List Starts
 no_starts count = replicate count empty
 
 -- where the list of a literal begins
-abbrev pub start_of : List Starts → Lit → Option ℕ
-start_of starts l = if l.positive then (starts_at starts l.var).positive else (starts_at starts l.var).negative
+abbrev pub begin_of : List Starts → Lit → ℕ
+begin_of starts l = if l.positive then (starts_at starts l.var).positive else (starts_at starts l.var).negative
 
-abbrev pub begun : Starts → Bool → Option ℕ → Starts
+abbrev pub start_of : List Starts → Lit → Option ℕ
+start_of starts l = as_link (begin_of starts l)
+
+abbrev pub begun : Starts → Bool → ℕ → Starts
 begun starts positive first = if positive then record starts { positive = first } else record starts { negative = first }
 
 -- the list of a literal begins elsewhere
-abbrev pub with_start : List Starts → Lit → Option ℕ → List Starts
+abbrev pub with_start : List Starts → Lit → ℕ → List Starts
 with_start starts l first = slice_set starts l.var (begun (starts_at starts l.var) l.positive first)
 
 -- from a number on one passes these, none twice, and comes to an end

@@ -1,5 +1,5 @@
-ghost use Rattle.std.specs.Prelude.{◌≡◌, ℕ, ◌+◌, ◌-◌, ◌<◌, ◌≤◌, ◌^◌, List, ◌++◌, ◌∷◌, [], length, max, slice_set, vec_len, vec_capacity, Some, OnOk, OnErr, IfSome, IfNone};
-ghost use Rattle.sat_prop.specs.Watches.{Links, Drains, IsNext, IsOpened, Puts, no_starts, start_of, with_start, node_at, nexts_of, watch_at, watching, with_pair};
+ghost use Rattle.std.specs.Prelude.{◌≡◌, ℕ, ◌+◌, ◌-◌, ◌<◌, ◌≤◌, List, ◌++◌, ◌∷◌, [], length, max, slice_set, vec_len, vec_capacity, OnOk, OnErr, IfSome, IfNone};
+ghost use Rattle.sat_prop.specs.Watches.{Links, Drains, IsNext, IsOpened, Puts, as_link, begin_of, no_starts, twin_of, with_start, node_at, nexts_of, watch_at, with_pair};
 
 use des_base::Memory;
 use prop_core::Lit;
@@ -14,18 +14,23 @@ pub struct Watch {
     pub twin: u32,
 }
 
-/// A watch, and the number of the one that comes next in its list.
+/// The number of no watch, where a list ends.
+pub const NO_WATCH: u32 = 4_294_967_295;
+
+/// A watch as it is kept, and the number of the one that comes next in its list. Watches come in pairs, so the number of the other one is
+/// known from its own.
 #[derive(Clone, Copy)]
 pub struct Node {
-    pub watch: Watch,
-    pub next: Option<u32>,
+    pub clause: u32,
+    pub lit: Lit,
+    pub next: u32,
 }
 
 /// Where the lists of a variable's two literals begin.
 #[derive(Clone, Copy)]
 pub struct Starts {
-    pub positive: Option<u32>,
-    pub negative: Option<u32>,
+    pub positive: u32,
+    pub negative: u32,
 }
 
 /// Watches, numbered from 0, each in the list of the literal that it watches or among those that wait to be looked at.
@@ -40,7 +45,8 @@ pub struct WatchLists {
 }
 
 impl Model for WatchLists {
-    ghost use Rattle.std.specs.Prelude.{◌+◌, ◌*◌, ◌≤◌, ◌^◌, length, vec_len, vec_capacity};
+    ghost use Rattle.std.specs.Prelude.{◌≡◌, ◌+◌, ◌*◌, ◌%◌, ◌≤◌, length, vec_len, vec_capacity};
+    ghost use Rattle.sat_prop.specs.declared.watch_lists.TheConstants.{NO_WATCH};
     ghost use Rattle.sat_prop.specs.Watches.{WatchState, AreWatchLists, watches_of, nexts_of};
 
     ghost Value = { WatchState };
@@ -49,7 +55,8 @@ impl Model for WatchLists {
 
     ghost invariant = { λ a. record {
       lists : AreWatchLists (watches_of a.nodes.items) (nexts_of a.nodes.items) a.starts.items a.waiting.items;
-      few : vec_len a.nodes + a.spare * 2 ≤ 2 ^ 32;
+      pairs : vec_len a.nodes % 2 ≡ 0;
+      few : vec_len a.nodes + a.spare * 2 ≤ NO_WATCH;
       room_nodes : vec_len a.nodes + a.spare * 2 ≤ vec_capacity a.nodes;
       room_waiting : vec_len a.nodes + a.spare * 2 ≤ vec_capacity a.waiting;
     } };
@@ -102,26 +109,9 @@ impl WatchLists {
         requires second { second.var < self.old.vars }
         ensures { self.new ≡ with_pair self.old clause first second }
     {
-        let number = self.nodes.len() as u32;
         self.spare -= 1;
-        push_watch(
-            &mut self.nodes,
-            &mut self.starts,
-            Watch {
-                clause,
-                lit: first,
-                twin: number + 1,
-            },
-        );
-        push_watch(
-            &mut self.nodes,
-            &mut self.starts,
-            Watch {
-                clause,
-                lit: second,
-                twin: number,
-            },
-        );
+        push_node(&mut self.nodes, &mut self.starts, clause, first);
+        push_node(&mut self.nodes, &mut self.starts, clause, second);
     }
 
     /// The watch of this number.
@@ -129,7 +119,12 @@ impl WatchLists {
         requires { number < length self.now.watches }
         ensures { result ≡ watch_at self.now.watches number }
     {
-        self.nodes[number as usize].watch
+        let node = self.nodes[number as usize];
+        Watch {
+            clause: node.clause,
+            lit: node.lit,
+            twin: twin(number),
+        }
     }
 
     /// Lets all that watch the literal wait.
@@ -138,7 +133,7 @@ impl WatchLists {
         ensures { IsOpened self.old self.new lit }
     {
         let first = start(self.starts.as_slice(), lit);
-        set_start(&mut self.starts, lit, None);
+        set_start(&mut self.starts, lit, NO_WATCH);
         drain(self.nodes.as_slice(), first, &mut self.waiting);
     }
 
@@ -166,7 +161,19 @@ impl WatchLists {
 }
 
 // How many watches there may be.
-const WATCH_LIMIT: usize = 1 << 32;
+const WATCH_LIMIT: usize = NO_WATCH as usize;
+
+// The number of the other watch of a pair.
+fn twin(number: u32) -> u32
+    requires { number < NO_WATCH }
+    ensures { result ≡ twin_of number }
+{
+    if number % 2 == 0 {
+        number + 1
+    } else {
+        number - 1
+    }
+}
 
 // Adds empty lists until there are those of so many variables, where there is room.
 fn fill(starts: &mut Vec<Starts>, count: usize)
@@ -177,17 +184,17 @@ fn fill(starts: &mut Vec<Starts>, count: usize)
     'more: while starts.len() < count {
         starts
             .push(Starts {
-                positive: None,
-                negative: None,
+                positive: NO_WATCH,
+                negative: NO_WATCH,
             })
             .unwrap();
     }
 }
 
 // Where the list of a literal begins.
-fn start(starts: &[Starts], lit: Lit) -> Option<u32>
+fn start(starts: &[Starts], lit: Lit) -> u32
     requires { lit.var < length starts.now }
-    ensures { result ≡ start_of starts.now lit }
+    ensures { result ≡ begin_of starts.now lit }
 {
     let starts = starts[lit.var as usize];
     if lit.positive {
@@ -198,7 +205,7 @@ fn start(starts: &[Starts], lit: Lit) -> Option<u32>
 }
 
 // Lets the list of a literal begin elsewhere.
-fn set_start(starts: &mut Vec<Starts>, lit: Lit, first: Option<u32>)
+fn set_start(starts: &mut Vec<Starts>, lit: Lit, first: u32)
     requires { lit.var < length starts.old.items }
     ensures { starts.new.items ≡ with_start starts.old.items lit first }
 {
@@ -210,43 +217,42 @@ fn set_start(starts: &mut Vec<Starts>, lit: Lit, first: Option<u32>)
 }
 
 // Appends the watches of a list.
-fn drain(nodes: &[Node], first: Option<u32>, into: &mut Vec<u32>)
-    requires { (rest : List ℕ) × Links (nexts_of nodes.now) first rest × (vec_len into.old + length rest ≤ vec_capacity into.old) }
-    ensures drained { Drains (nexts_of nodes.now) first into.old.items into.new.items }
+fn drain(nodes: &[Node], first: u32, into: &mut Vec<u32>)
+    requires { (rest : List ℕ) × Links (nexts_of nodes.now) (as_link first) rest × (vec_len into.old + length rest ≤ vec_capacity into.old) }
+    ensures drained { Drains (nexts_of nodes.now) (as_link first) into.old.items into.new.items }
     ensures capacity { vec_capacity into.old ≤ vec_capacity into.new }
 {
     let mut next = first;
-    'more: while let Some(watch) = next {
-        into.push(watch).unwrap();
-        next = nodes[watch as usize].next;
+    'more: while next != NO_WATCH {
+        into.push(next).unwrap();
+        next = nodes[next as usize].next;
     }
 }
 
 // Adds a watch, in the list of its literal.
-fn push_watch(nodes: &mut Vec<Node>, starts: &mut Vec<Starts>, watch: Watch)
-    requires known { watch.lit.var < length starts.old.items }
-    requires few { vec_len nodes.old < 2 ^ 32 }
+fn push_node(nodes: &mut Vec<Node>, starts: &mut Vec<Starts>, clause: u32, lit: Lit)
+    requires known { lit.var < length starts.old.items }
+    requires few { vec_len nodes.old < NO_WATCH }
     requires room { vec_len nodes.old < vec_capacity nodes.old }
-    ensures nodes { nodes.new.items ≡ nodes.old.items ++ record { watch = watch; next = start_of starts.old.items watch.lit } ∷ [] }
-    ensures starts { starts.new.items ≡ with_start starts.old.items watch.lit (Some (length nodes.old.items)) }
+    ensures nodes { nodes.new.items ≡ nodes.old.items ++ record { clause = clause; lit = lit; next = begin_of starts.old.items lit } ∷ [] }
+    ensures starts { starts.new.items ≡ with_start starts.old.items lit (length nodes.old.items) }
     ensures room { vec_capacity nodes.old ≤ vec_capacity nodes.new }
 {
     let number = nodes.len() as u32;
-    let lit = watch.lit;
     let next = start(starts.as_slice(), lit);
-    nodes.push(Node { watch, next }).unwrap();
-    set_start(starts, lit, Some(number));
+    nodes.push(Node { clause, lit, next }).unwrap();
+    set_start(starts, lit, number);
 }
 
 // Puts a watch into the list of a literal, where it watches from now on.
 fn link(nodes: &mut Vec<Node>, starts: &mut Vec<Starts>, number: u32, lit: Lit)
     requires known { lit.var < length starts.old.items }
     requires number { number < length nodes.old.items }
-    ensures nodes { nodes.new.items ≡ slice_set nodes.old.items number (record { watch = watching (node_at nodes.old.items number).watch lit; next = start_of starts.old.items lit }) }
-    ensures starts { starts.new.items ≡ with_start starts.old.items lit (Some number) }
+    ensures nodes { nodes.new.items ≡ slice_set nodes.old.items number (record { clause = (node_at nodes.old.items number).clause; lit = lit; next = begin_of starts.old.items lit }) }
+    ensures starts { starts.new.items ≡ with_start starts.old.items lit number }
     ensures room { vec_capacity nodes.new ≡ vec_capacity nodes.old }
 {
-    nodes[number as usize].watch.lit = lit;
+    nodes[number as usize].lit = lit;
     nodes[number as usize].next = start(starts.as_slice(), lit);
-    set_start(starts, lit, Some(number));
+    set_start(starts, lit, number);
 }

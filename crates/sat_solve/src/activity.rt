@@ -32,12 +32,12 @@ const DIVISOR: u64 = 1_073_741_824;
 pub struct Activity {
     activities: Vec<u64>,
     ranks: Vec<u64>,
-    conflicts: Vec<u64>,
+    conflicts: Vec<u32>,
     places: Vec<u32>,
     heap: Vec<u32>,
     held: u32,
     increment: u64,
-    conflict: u64,
+    conflict: u32,
 }
 
 impl Activity {
@@ -104,10 +104,10 @@ impl Activity {
 
     // A variable takes part in the present conflict. It counts once.
     pub fn bump(&mut self, var: u32) {
-        if amount_at(&self.conflicts, var) == self.conflict {
+        if number_at(&self.conflicts, var) == self.conflict {
             return;
         }
-        set_amount(&mut self.conflicts, var, self.conflict);
+        set_number(&mut self.conflicts, var, self.conflict);
         let activity = amount_at(&self.activities, var).saturating_add(self.increment);
         set_amount(&mut self.activities, var, activity);
         let place = number_at(&self.places, var);

@@ -6,6 +6,7 @@ use Rattle.sat_prop.proofs.watch_lists.WatchLists.grow.Goals as goal
 pub invariant_of-self-2 : goal.invariant_of-self-2
 invariant_of-self-2 c = record {
   lists = rw (c.fill.ensures, c.reserve.ensures.items) (lists_wider (watches_of c.self.inside.nodes.items) (nexts_of c.self.inside.nodes.items) c.self.inside.starts.items c.self.inside.waiting.items c.self.invariant.lists (c.max-count.result - length c.self.inside.starts.items));
+  pairs = c.self.invariant.pairs;
   few = c.self.invariant.few;
   room_nodes = c.self.invariant.room_nodes;
   room_waiting = c.self.invariant.room_waiting;

@@ -1,4 +1,4 @@
-use Rattle.std.proofs.Common.{arith}
+use Rattle.std.proofs.Common.{◌%◌, ap, arith}
 use Rattle.std.proofs.lemmas.Grind.{common_steps}
 use Rattle.sat_prop.proofs.WatchLists.{no_lists}
 use Rattle.sat_prop.proofs.watch_lists.WatchLists.new.Goals as goal
@@ -6,6 +6,7 @@ use Rattle.sat_prop.proofs.watch_lists.WatchLists.new.Goals as goal
 pub invariant_of-result : goal.invariant_of-result
 invariant_of-result c = record {
   lists = rw (c.new.ensures.items, c.new-2.ensures.items, c.new-3.ensures.items) no_lists;
+  pairs = ap (λ n. n % 2) c.new.ensures.len;
   few = let l = c.new.ensures.len in grind (arith, common_steps);
   room_nodes = let l = c.new.ensures.len in grind (arith, common_steps);
   room_waiting = let l = c.new.ensures.len in grind (arith, common_steps);

@@ -1,7 +1,7 @@
 use Rattle.std.proofs.Common.{◌≡◌, ◌∙◌, ◌<◌, ◌++◌, ℕ, true, List, ap, sym, subst, length, arith, length-append}
 use Rattle.std.proofs.lemmas.Grind.{common_steps}
 use Rattle.sat_prop.specs.declared.watch_lists.Starts.{Starts}
-use Rattle.sat_prop.specs.Watches.{WatchState, start_of, watch_at, is_among, watches_of, nexts_of}
+use Rattle.sat_prop.specs.Watches.{WatchState, as_link, begin_of, start_of, watch_at, is_among, watches_of, nexts_of}
 use Rattle.sat_prop.proofs.Links.{links_once}
 use Rattle.sat_prop.proofs.WatchLists.{all_few, all_wait, lists_opened}
 use Rattle.sat_prop.proofs.Nodes.{count_watches}
@@ -11,7 +11,7 @@ pub drain-requires : goal.drain-requires
 drain-requires c =
     let known = subst (λ (s : WatchState). c.args.lit.var < s.vars) (sym c.self.view_is) c.requires in
     let a = c.self.invariant.lists in
-    let first : c.start-first.result ≡ start_of c.self.inside.starts.items c.args.lit = c.start-first.ensures ∙ ap (λ (xs : List Starts). start_of xs c.args.lit) c.as_slice.ensures.value in
+    let first : as_link c.start-first.result ≡ start_of c.self.inside.starts.items c.args.lit = ap as_link (c.start-first.ensures ∙ ap (λ (xs : List Starts). begin_of xs c.args.lit) c.as_slice.ensures.value) in
     let few = all_few (watches_of c.self.inside.nodes.items) (nexts_of c.self.inside.nodes.items) c.self.inside.starts.items c.self.inside.waiting.items a c.args.lit known in
     let n = length-append c.self.inside.waiting.items (a.lists c.args.lit) in
     let m = count_watches c.self.inside.nodes.items in
@@ -22,12 +22,13 @@ pub invariant_of-self : goal.invariant_of-self
 invariant_of-self c =
     let known = subst (λ (s : WatchState). c.args.lit.var < s.vars) (sym c.self.view_is) c.requires in
     let a = c.self.invariant.lists in
-    let first : c.start-first.result ≡ start_of c.self.inside.starts.items c.args.lit = c.start-first.ensures ∙ ap (λ (xs : List Starts). start_of xs c.args.lit) c.as_slice.ensures.value in
+    let first : as_link c.start-first.result ≡ start_of c.self.inside.starts.items c.args.lit = ap as_link (c.start-first.ensures ∙ ap (λ (xs : List Starts). begin_of xs c.args.lit) c.as_slice.ensures.value) in
     let d = c.drain.ensures.drained in
     let same : d.0 ≡ a.lists c.args.lit = links_once (nexts_of c.self.inside.nodes.items) (start_of c.self.inside.starts.items c.args.lit) d.0 (a.lists c.args.lit) (rw (← c.as_slice-2.ensures.value, ← first) d.1) (a.linked c.args.lit known) in
     let all : c.drain.new.into.items ≡ c.self.inside.waiting.items ++ a.lists c.args.lit = d.2 ∙ ap (λ (xs : List ℕ). c.self.inside.waiting.items ++ xs) same in
     record {
       lists = rw (c.set_start.ensures, all) (lists_opened (watches_of c.self.inside.nodes.items) (nexts_of c.self.inside.nodes.items) c.self.inside.starts.items c.self.inside.waiting.items a c.args.lit known);
+      pairs = c.self.invariant.pairs;
       few = c.self.invariant.few;
       room_nodes = c.self.invariant.room_nodes;
       room_waiting = let r = c.self.invariant.room_waiting in let k = c.drain.ensures.capacity in omega arith;
@@ -37,7 +38,7 @@ pub returns : goal.returns
 returns c =
     let known = subst (λ (s : WatchState). c.args.lit.var < s.vars) (sym c.self.view_is) c.requires in
     let a = c.self.invariant.lists in
-    let first : c.start-first.result ≡ start_of c.self.inside.starts.items c.args.lit = c.start-first.ensures ∙ ap (λ (xs : List Starts). start_of xs c.args.lit) c.as_slice.ensures.value in
+    let first : as_link c.start-first.result ≡ start_of c.self.inside.starts.items c.args.lit = ap as_link (c.start-first.ensures ∙ ap (λ (xs : List Starts). begin_of xs c.args.lit) c.as_slice.ensures.value) in
     let d = c.drain.ensures.drained in
     let same : d.0 ≡ a.lists c.args.lit = links_once (nexts_of c.self.inside.nodes.items) (start_of c.self.inside.starts.items c.args.lit) d.0 (a.lists c.args.lit) (rw (← c.as_slice-2.ensures.value, ← first) d.1) (a.linked c.args.lit known) in
     let all : c.drain.new.into.items ≡ c.self.inside.waiting.items ++ a.lists c.args.lit = d.2 ∙ ap (λ (xs : List ℕ). c.self.inside.waiting.items ++ xs) same in
