@@ -11,6 +11,7 @@ use Rattle.least_faults.specs.declared.parts.Parts.{Parts}
 use Rattle.log_clauses.specs.Additions.{with_addition}
 use Rattle.log_encode.specs.CodedLog.{CodedLog}
 use Rattle.log_encode.specs.Drafted.{DraftState, IsDraftOf, LogCodeState}
+use Rattle.sat_solve.specs.Searching.{HasAxiomVars}
 use Rattle.proof_ledger.specs.Book.{BookEntry, axioms_of, clauses_of}
 use Rattle.proof_ledger.specs.Kept.{LedgerState}
 use Rattle.prop_core.specs.ClauseStore.{ClauseStore}
@@ -40,6 +41,7 @@ ready_roomy may gives parts code counter solver more book entries ready same roo
   coded = subst (λ (k : CodedLog). AreParts parts.step k counter parts.vars (axioms_of entries)) (sym same)
       (subst (λ (c : CounterState). AreParts parts.step parts.code.code c parts.vars (axioms_of entries)) (sym roomy)
       (parts_roomy parts.step parts.code.code parts.counter parts.vars more (axioms_of entries) (subst (λ (b : List BookEntry). AreParts parts.step parts.code.code parts.counter parts.vars (axioms_of b)) (sym kept) ready.coded)));
+  known = subst HasAxiomVars (sym kept) ready.known;
   adopted_all = adopted ∙ ready.adopted_all ∙ ap clauses_of (sym kept);
   enough = (let enough = ready.enough in omega (arith, enough, values));
   ranked = ranked ready.ranked;

@@ -1,6 +1,7 @@
 use Rattle.std.proofs.Common.{◌≡◌, ◌∙◌, ◌+◌, ◌*◌, ◌++◌, List, map, length, ap, arith, refl, subst, sym}
 use Rattle.card_counter.proofs.States.{made_later}
 use Rattle.least_faults.proofs.Drafts.{axioms_few, clauses_listed, code_joined, counter_added, draft_added, few_added, inputs_may_count, variables_fit}
+use Rattle.least_faults.proofs.Freshness.{known_after}
 use Rattle.least_faults.proofs.adding.add_draft.Goals as goal
 use Rattle.least_faults.specs.Adding.{input_count}
 use Rattle.proof_ledger.specs.Book.{axiomatic, axioms_of}
@@ -67,6 +68,7 @@ returns-clause-ready g c =
     let enough = has.enough in
     record {
       coded = has.parts;
+      known = known_after c.args.book.now.entries c.push_axioms.new.book.entries (record { axioms = c.count_false.new.clauses.clauses; more = c.push_axioms.ensures }) c.requires.ready.known;
       adopted_all = ap (λ (s : SolverState _). s.adopted) c.adopt.ensures.value;
       enough = omega (arith, values, enough);
       ranked = subst (IsRanked (goal.R-pre g) (goal.R-post g)) (sym (ap (λ (s : SolverState _). s.order) c.adopt.ensures.value)) c.requires.ready.ranked;
