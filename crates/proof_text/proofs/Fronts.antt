@@ -196,6 +196,19 @@ axiom_more book place n c at is = by s.e s.there s.seen
     by (final d hints) there seen = cc
     by (mark k) there seen = cc
 
+-- so there is one more
+pub axiom_counted : (book : List BookEntry) (place n : ℕ) → IsEntryAt book place (Axiom n) → length (axioms_of (take (place + 1) book)) ≡ length (axioms_of (take place book)) + 1
+axiom_counted book place n at = by s.e s.there s.seen
+  where
+    s : Seen book place (Axiom n)
+    s = seen_at book place (Axiom n) at
+
+    by : (e : BookEntry) → slice_get book place ≡ Some e → Axiom n ≡ shown (number_at book place) e → length (axioms_of (take (place + 1) book)) ≡ length (axioms_of (take place book)) + 1
+    by (axiomatic d) there seen = ap length (of_more axiom_of book place (axiomatic d) there) ∙ length-append (axioms_of (take place book)) (d ∷ [])
+    by (learnt d hints) there seen = cc
+    by (final d hints) there seen = cc
+    by (mark k) there seen = cc
+
 -- no other entry has one
 pub no_axiom_more : (book : List BookEntry) (place : ℕ) (entry : Entry) → IsEntryAt book place entry → ((n : ℕ) → entry ≡ Axiom n → ⊥) → axioms_of (take (place + 1) book) ≡ axioms_of (take place book)
 no_axiom_more book place entry at not = by s.e s.there s.seen

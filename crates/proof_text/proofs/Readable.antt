@@ -1,17 +1,20 @@
 -- What a refutation has: known variables, and numbers that ascend from 1.
-use Rattle.std.proofs.Common.{◌≡◌, ◌∙◌, ℕ, zero, suc, ◌+◌, ◌-◌, ◌<◌, ◌≤◌, List, [], ◌∷◌, ◌++◌, map, length, take, refl, sym, ap, subst, arith, append_assoc, length-append}
+use Rattle.std.proofs.Common.{◌≡◌, ◌∙◌, ℕ, zero, suc, ◌+◌, ◌-◌, ◌<◌, List, [], ◌∷◌, ◌++◌, map, length, take, refl, sym, ap, subst, arith, length-append}
 use Rattle.std.specs.Prelude.{All, slice_index_or}
 use Rattle.std.specs.List.{range_with_len}
 use Rattle.std.proofs.lemmas.List.{length-map}
 use Rattle.std.proofs.lemmas.List.Elements.{All-nil, All-cons, All-head, All-tail, All-append}
 use Rattle.prop_core.specs.declared.lit.Lit.{Lit}
 use Rattle.prop_core.specs.Clauses.{Clause, HasValues}
-use Rattle.proof_ledger.specs.Book.{BookEntry, axiomatic, learnt, final, mark, axioms_of, clauses_of}
+use Rattle.proof_ledger.specs.Book.{BookEntry, axiomatic, learnt, final, mark, axioms_of, clauses_of, IsValidBook}
+use Rattle.proof_ledger.specs.Checking.{check_proof}
+use Rattle.proof_ledger.specs.declared.checker.Checked.TheVariants.{Verified}
 use Rattle.proof_ledger.specs.declared.checker.ProofStep.{ProofStep}
 use Rattle.proof_ledger.specs.declared.checker.ProofStep.TheVariants.{Add}
 use Rattle.proof_text.specs.PrintedText.{HasNumberAbove, HasVariablesBelow}
 use Rattle.proof_text.specs.ProofNumbers.{NumbersAscend, HasNoZero}
-use Rattle.proof_text.specs.Refutation.{CanBePrinted, units, refuted_formula, numbers_from, new_number, derived_of, derived_steps, steps_by, steps_behind, refutation_steps}
+use Rattle.proof_text.specs.Refutation.{CanBePrinted, units, refuted_formula, numbers_from, new_number, derived_of, derived_steps, steps_behind, refutation_steps, EndsIn, front_to}
+use Rattle.proof_text.proofs.Rechecking.{proof_is, verified_is}
 
 -- ---- the formula's variables
 
@@ -158,3 +161,29 @@ can_be_printed vars book front k assumed formula steps known assumptions up_to f
 
     count : length formula ≡ length (axioms_of front) + length assumed
     count = ap length formula_is ∙ length-append (axioms_of front) (units assumed) ∙ ap (λ n. length (axioms_of front) + n) (length-map assumed (λ (l : Lit). let c : Clause = l ∷ [] in c))
+
+-- ---- the proof alone
+
+pub record IsRefuting (book : List BookEntry) (assumed : List Lit) (last : ℕ) (steps : List ProofStep) : Type 0 where
+  pub is : steps ≡ refutation_steps (front_to last book) assumed
+  pub verified : check_proof (refuted_formula (front_to last book) assumed) steps ≡ Verified
+  pub ascend : NumbersAscend 0 steps
+  pub above : All HasNoZero steps
+
+pub is_refuting : (book : List BookEntry) (assumed : List Lit) (last count axioms clauses : ℕ) (steps : List ProofStep) → IsValidBook book → EndsIn book assumed last → take count book ≡ front_to last book → axioms ≡ length (axioms_of (take count book)) →
+    clauses ≡ axioms + length assumed → steps ≡ steps_behind axioms (clauses - axioms) last (take count book) → IsRefuting book assumed last steps
+is_refuting book assumed last count axioms clauses steps valid ends front count_is clauses_are steps_are = record {
+  is = all;
+  verified = verified_is book assumed last (refuted_formula (front_to last book) assumed) steps valid ends refl all;
+  ascend = steps_ascend axioms (clauses - axioms) last (take count book) steps steps_are;
+  above = steps_above axioms (clauses - axioms) last (take count book) steps steps_are;
+}
+  where
+    formula : List Clause
+    formula = refuted_formula (take count book) assumed
+
+    long : length formula ≡ length (axioms_of (take count book)) + length assumed
+    long = length-append (axioms_of (take count book)) (units assumed) ∙ ap (λ n. length (axioms_of (take count book)) + n) (length-map assumed (λ (l : Lit). let c : Clause = l ∷ [] in c))
+
+    all : steps ≡ refutation_steps (front_to last book) assumed
+    all = proof_is book assumed last count axioms clauses formula steps ends front refl count_is (omega (arith, clauses_are, count_is, long)) steps_are

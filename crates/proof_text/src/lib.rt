@@ -25,4 +25,4 @@ pub use fault::{TextFault, TextRefusal};
 pub use lrat_text::read_lrat;
 pub use print::{print_cnf, print_lrat};
 pub use proof::{Proof, Refutation};
-pub use refuting::{refutation, refutations_check};
+pub use refuting::{refutation, refutation_proof, refutations_check};

@@ -6,6 +6,7 @@ ghost use Rattle.proof_ledger.specs.Book.{axioms_of, clauses_of, IsValidBook};
 ghost use Rattle.proof_ledger.specs.Checking.{check_proof};
 ghost use Rattle.proof_ledger.specs.declared.checker.Checked.TheVariants.{Verified};
 ghost use Rattle.proof_text.specs.CnfText.{formula};
+ghost use Rattle.proof_text.specs.ProofNumbers.{NumbersAscend, HasNoZero};
 ghost use Rattle.proof_text.specs.Refutation.{CanBePrinted, EndsIn, front_to, is_numbered, units, refuted_formula, numbers_from, new_number, derived_of, derived_steps, steps_behind, refutation_steps, IsStepOf, RefutationsCheck};
 
 use crate::cnf::Cnf;
@@ -45,6 +46,29 @@ pub fn refutation(
         cnf: Cnf { vars, clauses },
         proof,
     })
+}
+
+/// The proof of that refutation alone, for a formula that is made apart: of its clauses nothing but the count is needed.
+pub fn refutation_proof(
+    alloc: Global,
+    book: &Ledger,
+    assumptions: &[Lit],
+    last: ClauseId,
+) -> Result<Proof, Memory>
+    requires { EndsIn book.now.entries assumptions.now last }
+    ensures proof { IfOk result (λ proof. proof ≡ refutation_steps (front_to last book.now.entries) assumptions.now) }
+    ensures verified { IfOk result (λ proof. check_proof (refuted_formula (front_to last book.now.entries) assumptions.now) proof ≡ Verified) }
+    ensures ascend { IfOk result (λ proof. NumbersAscend 0 proof) }
+    ensures above { IfOk result (λ proof. All HasNoZero proof) }
+{
+    let count = entries_to(book, last);
+    let front = Front { alloc, book, count };
+    let axioms = front.axioms();
+    let assumed = assumptions.len() as u64;
+    if assumed > u64::MAX - axioms {
+        return Err(Memory);
+    }
+    front.proof(axioms, axioms + assumed, last)
 }
 
 // How many entries there are up to the clause of this number.
@@ -104,6 +128,20 @@ struct Front<'a> {
 }
 
 impl Front<'_> {
+    // How many axioms there are among them.
+    fn axioms(&self) -> u64
+        requires { self.now.count ≤ length self.now.book.now.entries }
+        ensures { result ≡ length (axioms_of (take self.now.count self.now.book.now.entries)) }
+    {
+        let mut axioms = 0;
+        for place in 0..self.count {
+            if let Entry::Axiom(_) = self.book.entry(place) {
+                axioms += 1;
+            }
+        }
+        axioms
+    }
+
     // The proof behind so many axioms, and so many clauses of the formula in all.
     fn proof(&self, axioms: u64, clauses: u64, last: ClauseId) -> Result<Proof, Memory>
         requires within { self.now.count ≤ length self.now.book.now.entries }

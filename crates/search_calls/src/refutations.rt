@@ -7,7 +7,7 @@ ghost use Rattle.prop_core.specs.Clauses.{HasValues};
 use crate::ample::got;
 use des_base::Memory;
 use proof_ledger::Ledger;
-use proof_text::{Refutation, print_cnf, print_lrat, refutation};
+use proof_text::{Refutation, print_cnf, print_lrat, refutation, refutation_proof};
 use prop_core::{ClauseId, Lit};
 
 // Literals of three variables, printed as 1, 2 and 3.
@@ -79,4 +79,18 @@ fn stands_by_itself(rt: HostRuntime) {
     let mut text = Vec::new(rt.alloc());
     got(&rt, print_both(&refuted, &mut text));
     assert!(rt; text.as_slice() == WORKED.as_bytes());
+}
+
+// The proof as it is made for a formula that is made apart.
+const ALONE: &str = "6 2 0 1 2 0\n7 -3 0 6 3 0\n8 0 4 5 7 0\n";
+
+#[test]
+fn proof_goes_with_a_formula_made_apart(rt: HostRuntime) {
+    let mut book = Ledger::new(rt.alloc());
+    let last = got(&rt, put_worked(&mut book));
+    let answer = refutation_proof(rt.alloc(), &book, &[THREE, NOT_ONE], last);
+    let proof = got(&rt, answer);
+    let mut text = Vec::new(rt.alloc());
+    got(&rt, print_lrat(&proof, &mut text));
+    assert!(rt; text.as_slice() == ALONE.as_bytes());
 }
