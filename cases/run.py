@@ -7,7 +7,7 @@ files of a plant and answers.txt; with no FOLDER all in cases/ are run. answers.
 program prints on these words (as a shell reads them), a line `status N`, and an empty line; lines before a `$` are comments. The
 commands run one after another in a copy of the folder, where make.py, if there is one, has made further files. A line `...` stands for
 whatever lines the program prints there. An answer that has a run stands in the file reply.run for the commands that follow, and one
-that is a formula in reply.cnf. With --tell the transcript of what the program answers is printed,
+that is a formula in reply.cnf, or a refutation in reply.lrat. With --tell the transcript of what the program answers is printed,
 and nothing is compared.
 
 Status 0: every answer is the one that is written down, 1: some isn't, 2: it could not begin.
@@ -24,7 +24,7 @@ SECONDS = 120
 # What stands between a command and the next one.
 STATUS = re.compile(rb"status (\d+)\n")
 # The files in which answers stand for later commands, and what such an answer has.
-REPLIES = [("reply.run", re.compile(rb"^run \d+\n", re.M)), ("reply.cnf", re.compile(rb"\Ap cnf "))]
+REPLIES = [("reply.run", re.compile(rb"^run \d+\n", re.M)), ("reply.cnf", re.compile(rb"\Ap cnf ")), ("reply.lrat", re.compile(rb"\Ac cnf "))]
 
 
 class Faulty(Exception):

@@ -6,7 +6,7 @@ use Rattle.diagnose_cli.specs.declared.stop.Stop.TheVariants.{Usage, Load, Fault
 use Rattle.diagnose_cli.specs.declared.stop.FaultyText.{FaultyText}
 use Rattle.diagnose_cli.specs.declared.stop.FaultyText.TheVariants.{Model, Log, Run, Cnf, Lrat}
 use Rattle.diagnose_cli.specs.declared.ending.Kind.{Kind}
-use Rattle.diagnose_cli.specs.declared.ending.Kind.TheVariants.{Done, Rejected, Absent, Undecided, Many}
+use Rattle.diagnose_cli.specs.declared.ending.Kind.TheVariants.{Done, Rejected, Absent, Undecided, Many, Nothing}
 use Rattle.std.specs.List.{concat}
 use Rattle.diagnose_cli.specs.Transcripts.{Ending, Transcript, IsWhole, UnlessMemory}
 use Rattle.diagnose_cli.specs.Endings.{HasStatus, status_of_kind, status_of_faulty, texts_of}
@@ -58,6 +58,7 @@ no_load_kind Rejected p = cc
 no_load_kind Absent p = cc
 no_load_kind Undecided p = cc
 no_load_kind Many p = cc
+no_load_kind Nothing p = cc
 
 no_load_text : (text : FaultyText) → 3 ≡ status_of_faulty text → ⊥
 no_load_text (Model fault) p = cc

@@ -4,7 +4,7 @@ use Rattle.std.specs.List.{concat}
 use Rattle.des_base.specs.Outside.{Took, TookFront}
 use Rattle.proof_ledger.specs.Book.{BookEntry}
 use Rattle.diagnose_cli.specs.declared.command.Command.{Command}
-use Rattle.diagnose_cli.specs.declared.command.Command.TheVariants.{Trace, Show, Replay, Check, Diagnose, PrintCnf, GenerateModel, GenerateLog, Bench}
+use Rattle.diagnose_cli.specs.declared.command.Command.TheVariants.{Trace, Show, Replay, Check, Diagnose, PrintCnf, PrintProof, GenerateModel, GenerateLog, Bench}
 use Rattle.diagnose_cli.specs.declared.ending.Kind.{Kind}
 use Rattle.diagnose_cli.specs.declared.ending.Kind.TheVariants.{Done, Rejected, Absent, Undecided, Many}
 use Rattle.diagnose_cli.specs.declared.stop.Stop.{Stop}
@@ -116,7 +116,10 @@ module _ (o : Outcome) (r : Result (Kind × List ℕ) Stop) (rose : Type 0) (due
     checked = checked;
     traced = λ text steps. row_of Trace (text ∷ steps ∷ []);
     shown = λ text. row_of Show (text ∷ []);
-    printed_formula = λ steps bound text alarms. row_of (PrintCnf steps bound) (text ∷ alarms ∷ []);
+    printed = record {
+      formula = λ steps bound text alarms. row_of (PrintCnf steps bound) (text ∷ alarms ∷ []);
+      proof = λ steps budget text alarms. row_of (PrintProof steps budget) (text ∷ alarms ∷ []);
+    };
     generated = record { model = λ units start. row_alone (GenerateModel units start) refl; log = λ units start. row_alone (GenerateLog units start) refl };
     benched = λ units start steps budget. row_alone (Bench units start steps budget) refl;
     ran = ran;

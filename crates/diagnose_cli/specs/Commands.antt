@@ -1,5 +1,5 @@
 -- The commands, the files that each one needs, and what it may say over them.
-use Rattle.std.specs.Prelude.{◌≡◌, ◌↔◌, ◌⊎◌, ℕ, ◌+◌, ◌-◌, ◌^◌, ◌≤◌, ⊤, List, [], ◌∷◌, ◌++◌, length, drop, take, codes, ◌==◌, Bool, ◌&&◌, nat_eq, nat_lt, nat_le, Option, Some, None, if◌then◌else◌, Err, IfSome, IsOkAnd, MatchOption, bytes_eq, option_map, option_and_then}
+use Rattle.std.specs.Prelude.{◌≡◌, ◌↔◌, ◌⊎◌, ℕ, zero, suc, ◌+◌, ◌-◌, ◌^◌, ◌≤◌, ⊤, List, [], ◌∷◌, ◌++◌, length, drop, take, codes, ◌==◌, Bool, ◌&&◌, nat_eq, nat_lt, nat_le, Option, Some, None, if◌then◌else◌, Err, IfSome, IsOkAnd, MatchOption, bytes_eq, option_map, option_and_then}
 use Rattle.std.specs.List.{position_or_len}
 use Rattle.des_base.specs.CommandWords.{word_at}
 use Rattle.des_base.specs.Numbers.{number_up_to}
@@ -18,11 +18,12 @@ use Rattle.log_csv.specs.LogText.{log_of, first_fault as first_log_fault}
 use Rattle.log_csv.specs.PrintedLog.{log_text}
 use Rattle.proof_ledger.specs.Book.{BookEntry}
 use Rattle.proof_ledger.specs.Checking.{check_proof}
+use Rattle.proof_ledger.specs.declared.checker.ProofStep.{ProofStep}
 use Rattle.proof_ledger.specs.declared.checker.Checked.{Checked}
 use Rattle.proof_ledger.specs.declared.checker.Checked.TheVariants.{Verified, Rejected as Fails}
 use Rattle.proof_text.specs.CnfText.{Formula, formula_of, first_cnf_fault}
 use Rattle.proof_text.specs.LratText.{proof_of, first_lrat_fault}
-use Rattle.proof_text.specs.PrintedText.{formula_text, KeepsLimits, IsFormulaText}
+use Rattle.proof_text.specs.PrintedText.{formula_text, steps_text, KeepsLimits, IsFormulaText}
 use Rattle.replay.specs.QuestionSize.{question_size}
 use Rattle.replay.specs.Replayed.{IsReplayed, IsAccepted}
 use Rattle.replay.specs.declared.replaying.Replayed.{Replayed}
@@ -32,17 +33,18 @@ use Rattle.replay.specs.declared.tracing.Traced.{Traced}
 use Rattle.replay.specs.declared.tracing.Traced.TheVariants.{Ran, Stuck}
 use Rattle.report.specs.Replies.{text_of_traced, text_of_replayed, text_of_checked, text_of_found, told_run, numbered}
 use Rattle.diagnose_cli.specs.declared.command.Command.{Command}
-use Rattle.diagnose_cli.specs.declared.command.Command.TheVariants.{Trace, Show, Replay, Check, Diagnose, PrintCnf, GenerateModel, GenerateLog, Bench}
+use Rattle.diagnose_cli.specs.declared.command.Command.TheVariants.{Trace, Show, Replay, Check, Diagnose, PrintCnf, PrintProof, GenerateModel, GenerateLog, Bench}
 use Rattle.diagnose_cli.specs.declared.stop.FaultyText.{FaultyText}
 use Rattle.diagnose_cli.specs.declared.stop.FaultyText.TheVariants.{Model, Log, Run, Cnf, Lrat}
 use Rattle.diagnose_cli.specs.declared.stop.Stop.{Stop}
 use Rattle.diagnose_cli.specs.declared.stop.Stop.TheVariants.{Usage, Faulty, Large}
 use Rattle.diagnose_cli.specs.declared.ending.Kind.{Kind}
-use Rattle.diagnose_cli.specs.declared.ending.Kind.TheVariants.{Done, Rejected, Absent, Undecided, Many}
+use Rattle.diagnose_cli.specs.declared.ending.Kind.TheVariants.{Done, Rejected, Absent, Undecided, Many, Nothing}
 use Rattle.diagnose_cli.specs.Transcripts.{Ending, IsWhole}
 use Rattle.diagnose_cli.specs.Files.{Loads, IsText, StopsIn, WithFile}
 use Rattle.diagnose_cli.specs.Diagnosed.{IsDiagnosed}
 use Rattle.diagnose_cli.specs.Formula.{IsFormulaOf}
+use Rattle.diagnose_cli.specs.Proof.{IsRefuted, proof_head}
 
 -- this many words, of which the first is the name
 abbrev pub calls : List (List ℕ) → List ℕ → ℕ → Bool
@@ -71,6 +73,10 @@ bound_of text = if bytes_eq text (codes "any") then Some None else option_map (�
 -- what the two words ask of `cnf`
 abbrev pub cnf_of : List ℕ → List ℕ → Option Command
 cnf_of steps bound = option_and_then (λ n. option_map (λ b. PrintCnf n b) (bound_of bound)) (number_up_to most_steps steps)
+
+-- what they ask of `proof`
+abbrev pub proof_words_of : List ℕ → List ℕ → Option Command
+proof_words_of steps budget = option_and_then (λ n. option_map (λ b. PrintProof n b) (number_up_to most_budget budget)) (number_up_to most_steps steps)
 
 -- how many units a word asks for, at least one
 abbrev pub units_of : List ℕ → Option ℕ
@@ -103,6 +109,7 @@ command_of words =
     else if calls words (codes "check") 3 then Some Check
     else if calls words (codes "diagnose") 5 then diagnose_of (word_at words 3) (word_at words 4)
     else if calls words (codes "cnf") 5 then cnf_of (word_at words 3) (word_at words 4)
+    else if calls words (codes "proof") 5 then proof_words_of (word_at words 3) (word_at words 4)
     else if calls words (codes "generate") 4 then generate_of (word_at words 1) (word_at words 2) (word_at words 3)
     else if calls words (codes "bench") 5 then bench_of (word_at words 1) (word_at words 2) (word_at words 3) (word_at words 4)
     else None
@@ -111,6 +118,7 @@ command_of words =
 abbrev pub HasFewSteps : Command → Type 0
 HasFewSteps (Diagnose steps budget) = steps ≤ most_steps
 HasFewSteps (PrintCnf steps bound) = steps ≤ most_steps
+HasFewSteps (PrintProof steps budget) = steps ≤ most_steps
 HasFewSteps (Bench units start steps budget) = steps ≤ most_steps
 HasFewSteps _ = ⊤
 
@@ -171,6 +179,7 @@ files_of (Replay steps) = model ∷ log ∷ run ∷ []
 files_of Check = cnf ∷ lrat ∷ []
 files_of (Diagnose steps budget) = model ∷ log ∷ []
 files_of (PrintCnf steps bound) = model ∷ log ∷ []
+files_of (PrintProof steps budget) = model ∷ log ∷ []
 files_of (GenerateModel units start) = []
 files_of (GenerateLog units start) = []
 files_of (Bench units start steps budget) = []
@@ -273,6 +282,36 @@ pub record SaysFormula (net : Net) (alarms : AlarmLog) (n : ℕ) (bound : Option
   pub is : reply ≡ reply_of_formula asked
   pub again : KeepsLimits asked → IsFormulaText asked (formula_text asked)
 
+-- ---- a refutation
+
+-- the steps, behind a comment that names the formula which they refute
+abbrev pub reply_of_proof : Option ℕ → List ProofStep → Kind × List ℕ
+reply_of_proof bound steps = (Done, proof_head bound ++ steps_text steps)
+
+-- the reply has the refutation of the question within the bound that the book holds
+pub record TellsRefutation (net : Net) (alarms : AlarmLog) (n : ℕ) (bound : Option ℕ) (book : List BookEntry) (reply : Kind × List ℕ) : Type 0 where
+  pub steps : List ProofStep
+  pub refuted : IsRefuted net alarms n bound book steps
+  pub is : reply ≡ reply_of_proof bound steps
+
+-- Without faults there is nothing to refute.
+abbrev pub TellsBelow : Net → AlarmLog → ℕ → ℕ → List BookEntry → (Kind × List ℕ) → Type 0
+TellsBelow net alarms n zero book reply = reply ≡ (Nothing, codes "NOTHING\n")
+TellsBelow net alarms n (suc k) book reply = TellsRefutation net alarms n (Some k) book reply
+
+-- by what is found: of one fault less, of any number where nothing explains, and of 255 where more are needed
+abbrev pub TellsProof : Net → AlarmLog → ℕ → List BookEntry → Found → (Kind × List ℕ) → Type 0
+TellsProof net alarms n book (Explained best) reply = TellsBelow net alarms n best.faults book reply
+TellsProof net alarms n book NotExplained reply = TellsRefutation net alarms n None book reply
+TellsProof net alarms n book (ManyFaults best) reply = TellsRefutation net alarms n (Some 255) book reply
+TellsProof net alarms n book (NotDecided lo best) reply = reply ≡ reply_of_found net n (NotDecided lo best)
+
+-- the reply tells what refutes the bound below what is found
+pub record SaysProved (net : Net) (alarms : AlarmLog) (n budget : ℕ) (book : List BookEntry) (reply : Kind × List ℕ) : Type 0 where
+  pub found : Found
+  pub holds : AnswersQuestion net alarms n budget book found
+  pub tells : TellsProof net alarms n book found reply
+
 -- the text of a log
 abbrev pub reply_of_log : AlarmLog → Kind × List ℕ
 reply_of_log alarms = (Done, log_text alarms)
@@ -306,6 +345,7 @@ Says (Replay steps) book (text ∷ alarms ∷ events ∷ []) reply = SaysReplaye
 Says Check book (formula ∷ proof ∷ []) reply = SaysChecked formula proof reply
 Says (Diagnose steps budget) book (text ∷ alarms ∷ []) reply = SaysDiagnosed steps budget text alarms book reply
 Says (PrintCnf steps bound) book (text ∷ alarms ∷ []) reply = SaysFormula (network_of text) (log_of alarms) steps bound book reply
+Says (PrintProof steps budget) book (text ∷ alarms ∷ []) reply = SaysProved (network_of text) (log_of alarms) steps budget book reply
 Says (GenerateModel units start) book [] reply = reply ≡ reply_of_model (plant_net units)
 Says (GenerateLog units start) book [] reply = reply ≡ reply_of_log (plant_log units start)
 Says (Bench units start steps budget) book [] reply = SaysBenched units start steps budget book reply
@@ -319,6 +359,7 @@ above_limit size = if nat_lt most_size size then Some size else None
 abbrev pub too_large : Command → List (List ℕ) → Option ℕ
 too_large (Diagnose steps budget) (text ∷ alarms ∷ []) = above_limit (question_size (network_of text) (log_of alarms) steps)
 too_large (PrintCnf steps bound) (text ∷ alarms ∷ []) = above_limit (question_size (network_of text) (log_of alarms) steps)
+too_large (PrintProof steps budget) (text ∷ alarms ∷ []) = above_limit (question_size (network_of text) (log_of alarms) steps)
 too_large (Bench units start steps budget) [] = above_limit (question_size (plant_net units) (plant_log units start) steps)
 too_large _ _ = None
 

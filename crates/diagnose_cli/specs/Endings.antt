@@ -5,7 +5,7 @@ use Rattle.diagnose_cli.specs.declared.stop.Stop.TheVariants.{Usage, Load, Fault
 use Rattle.diagnose_cli.specs.declared.stop.FaultyText.{FaultyText}
 use Rattle.diagnose_cli.specs.declared.stop.FaultyText.TheVariants.{Model, Log, Run, Cnf, Lrat}
 use Rattle.diagnose_cli.specs.declared.ending.Kind.{Kind}
-use Rattle.diagnose_cli.specs.declared.ending.Kind.TheVariants.{Done, Rejected, Absent, Undecided, Many}
+use Rattle.diagnose_cli.specs.declared.ending.Kind.TheVariants.{Done, Rejected, Absent, Undecided, Many, Nothing}
 use Rattle.report.specs.Replies.{numbered, placed}
 use Rattle.diagnose_cli.specs.Transcripts.{Ending}
 
@@ -15,6 +15,7 @@ status_of_kind Rejected = 13
 status_of_kind Absent = 10
 status_of_kind Undecided = 11
 status_of_kind Many = 12
+status_of_kind Nothing = 14
 
 abbrev pub status_of_faulty : FaultyText → ℕ
 status_of_faulty (Model fault) = 5

@@ -4,6 +4,7 @@ pub mod Refusals
 pub mod Files
 pub mod Diagnosed
 pub mod Formula
+pub mod Proof
 pub mod Commands
 pub mod Outcomes
 pub mod Exact

@@ -17,7 +17,7 @@ use Rattle.replay.specs.Explanation.{NeedsFaults, IsLeast, IsAbsent, IsMany}
 use Rattle.replay.specs.QuestionSize.{variable_bound}
 use Rattle.report.specs.Replies.{text_of_found}
 use Rattle.diagnose_cli.specs.declared.command.Command.{Command}
-use Rattle.diagnose_cli.specs.declared.command.Command.TheVariants.{Trace, Show, Replay, Check, Diagnose, PrintCnf, GenerateModel, GenerateLog, Bench}
+use Rattle.diagnose_cli.specs.declared.command.Command.TheVariants.{Trace, Show, Replay, Check, Diagnose, PrintCnf, PrintProof, GenerateModel, GenerateLog, Bench}
 use Rattle.diagnose_cli.specs.Commands.{FileKind, limit_of, fault_of_text, files_of, too_large, command_of, Says}
 use Rattle.diagnose_cli.specs.Outcomes.{Outcome, IsPut, IsUnbroken, Tells}
 
@@ -76,8 +76,10 @@ pub record CheckRows (o : Outcome) : Type 0 where
   pub checked : (formula proof : List ℕ) → Row o Check (formula ∷ proof ∷ [])
   pub refuted : (formula : List ℕ) → Asks o Check (formula ∷ []) → o.status ≡ 0 → IsUnsatisfiable (formula_of formula).clauses
 
-abbrev pub FormulaRow : Outcome → Type 0
-FormulaRow o = (steps : ℕ) (bound : Option ℕ) (text alarms : List ℕ) → Row o (PrintCnf steps bound) (text ∷ alarms ∷ [])
+-- a question as a formula, and the refutation of one
+pub record PrintedRows (o : Outcome) : Type 0 where
+  pub formula : (steps : ℕ) (bound : Option ℕ) (text alarms : List ℕ) → Row o (PrintCnf steps bound) (text ∷ alarms ∷ [])
+  pub proof : (steps budget : ℕ) (text alarms : List ℕ) → Row o (PrintProof steps budget) (text ∷ alarms ∷ [])
 
 pub record GenerateRows (o : Outcome) : Type 0 where
   pub model : (units start : ℕ) → RowAlone o (GenerateModel units start)

@@ -7,11 +7,11 @@ use Rattle.diagnose_cli.specs.Transcripts.{Ending, UnlessMemory, TookCut}
 use Rattle.report.specs.Replies.{numbered}
 use Rattle.diagnose_cli.specs.Endings.{HasStatus, texts_of}
 use Rattle.diagnose_cli.specs.declared.command.Command.{Command}
-use Rattle.diagnose_cli.specs.declared.command.Command.TheVariants.{Diagnose, PrintCnf, Bench}
+use Rattle.diagnose_cli.specs.declared.command.Command.TheVariants.{Diagnose, PrintCnf, PrintProof, Bench}
 use Rattle.diagnose_cli.specs.Commands.{Due, command_of, file_count, files_of}
 use Rattle.diagnose_cli.specs.Outcomes.{Outcome, IsUnbroken}
 use Rattle.diagnose_cli.specs.Exact.{StopRow}
-use Rattle.diagnose_cli.specs.Rows.{TraceRow, ShowRow, ReplayRow, CheckRows, FormulaRow, GenerateRows, BenchRow, DiagnoseRows}
+use Rattle.diagnose_cli.specs.Rows.{TraceRow, ShowRow, ReplayRow, CheckRows, PrintedRows, GenerateRows, BenchRow, DiagnoseRows}
 
 -- ---- how it ends
 
@@ -68,6 +68,7 @@ pub record Ran (o : Outcome) (rose : Type 0) : Type 0 where
 abbrev pub is_question : Command → Bool
 is_question (Diagnose steps budget) = true
 is_question (PrintCnf steps bound) = true
+is_question (PrintProof steps budget) = true
 is_question (Bench units start steps budget) = true
 is_question _ = false
 
@@ -99,7 +100,7 @@ pub record Does (o : Outcome) (rose : Type 0) : Type 0 where
   pub checked : CheckRows o
   pub traced : TraceRow o
   pub shown : ShowRow o
-  pub printed_formula : FormulaRow o
+  pub printed : PrintedRows o
   pub generated : GenerateRows o
   pub benched : BenchRow o
   pub ran : Ran o rose

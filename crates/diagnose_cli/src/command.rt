@@ -1,7 +1,7 @@
 // The commands, and which one the words of a command line call.
 ghost use Rattle.std.specs.Prelude.{◌≡◌, ◌≤◌, length, IfSome, ◌<◌};
 ghost use Rattle.gen_plant.specs.Plant.{most_units};
-ghost use Rattle.diagnose_cli.specs.Commands.{calls, command_of, bound_of, cnf_of, units_of, generate_of, bench_of, file_count, HasFewSteps, HasFewUnits};
+ghost use Rattle.diagnose_cli.specs.Commands.{calls, command_of, bound_of, cnf_of, proof_words_of, units_of, generate_of, bench_of, file_count, HasFewSteps, HasFewUnits};
 
 use des_base::{WordList, read_number};
 
@@ -27,6 +27,12 @@ pub enum Command {
     PrintCnf {
         steps: u32,
         bound: Option<u8>,
+    },
+    /// `proof MODEL LOG N BUDGET`: the refutation that `diagnose` finds of one fault fewer, or of any number where nothing explains
+    /// the log.
+    PrintProof {
+        steps: u32,
+        budget: u64,
     },
     /// `generate model Z START`: the model of the plant of so many units.
     GenerateModel {
@@ -86,6 +92,8 @@ pub fn command_of(words: &WordList) -> Option<Command>
         })
     } else if is_call(words, "cnf", 5) {
         cnf_of(words.word(3), words.word(4))
+    } else if is_call(words, "proof", 5) {
+        proof_words_of(words.word(3), words.word(4))
     } else if is_call(words, "generate", 4) {
         generate_of(words.word(1), words.word(2), words.word(3))
     } else if is_call(words, "bench", 5) {
@@ -117,6 +125,20 @@ fn cnf_of(steps: &str, bound: &str) -> Option<Command>
     Some(Command::PrintCnf {
         steps: steps as u32,
         bound,
+    })
+}
+
+fn proof_words_of(steps: &str, budget: &str) -> Option<Command>
+    ensures command { result ≡ proof_words_of steps.now budget.now }
+    ensures files { IfSome result (λ c. file_count c ≡ 2) }
+    ensures steps { IfSome result HasFewSteps }
+    ensures units { IfSome result HasFewUnits }
+{
+    let steps = read_number(steps.as_bytes(), STEP_LIMIT)?;
+    let budget = read_number(budget.as_bytes(), u64::MAX)?;
+    Some(Command::PrintProof {
+        steps: steps as u32,
+        budget,
     })
 }
 

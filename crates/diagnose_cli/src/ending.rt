@@ -23,6 +23,8 @@ pub enum Kind {
     Undecided,
     /// All that explains a log has more faults than are counted.
     Many,
+    /// There is nothing to refute, since a run without faults explains the log.
+    Nothing,
 }
 
 /// What a command answers: what it says, and the text.
@@ -96,5 +98,6 @@ fn status_of_kind(kind: Kind) -> u8
         Kind::Absent => 10,
         Kind::Undecided => 11,
         Kind::Many => 12,
+        Kind::Nothing => 14,
     }
 }

@@ -116,8 +116,8 @@ fn formula_of_parts<R: Fn(u32) -> u64>(
     formula_under(alloc, book, parts.vars.count(), assumed.as_slice())
 }
 
-// The bound, where there is a fault to count.
-fn counted(counter: &Counter, bound: Option<u8>) -> Option<u32>
+/// The bound, where there is a fault to count.
+pub fn counted(counter: &Counter, bound: Option<u8>) -> Option<u32>
     ensures bound { result ≡ counted_bound counter.now bound }
     ensures boundable { IfSome result (IsBoundable counter.now) }
 {

@@ -122,8 +122,8 @@ fn search<R: Fn(u32) -> u64>(
     found
 }
 
-// Does nothing: the book is valid, as its reader tells.
-fn is_valid(book: &Ledger)
+/// Does nothing: the book is valid, as its reader tells.
+pub fn is_valid(book: &Ledger)
     ensures { IsValidBook book.now.entries }
 {
     let _entries = book.entries();

@@ -4,7 +4,7 @@ ghost use Rattle.des_base.specs.Outside.{Rose};
 ghost use Rattle.diagnose_cli.specs.Commands.{Due};
 ghost use Rattle.diagnose_cli.specs.Files.{loads};
 ghost use Rattle.diagnose_cli.specs.Outcomes.{outcome};
-ghost use Rattle.diagnose_cli.specs.Rows.{TraceRow, ShowRow, ReplayRow, CheckRows, DiagnoseRows, FormulaRow, GenerateRows, BenchRow};
+ghost use Rattle.diagnose_cli.specs.Rows.{TraceRow, ShowRow, ReplayRow, CheckRows, DiagnoseRows, PrintedRows, GenerateRows, BenchRow};
 ghost use Rattle.diagnose_cli.specs.Run.{Ran, AsksNone, LoadsNone, LeavesAlone};
 ghost use Rattle.diagnose_cli.specs.Transcripts.{UnlessMemory, once};
 
@@ -16,6 +16,7 @@ use crate::diagnose_command::diagnose_command;
 use crate::ending::{Reply, put_once};
 use crate::formula::Within;
 use crate::generate_command::{generate_log_command, generate_model_command};
+use crate::proof_command::proof_command;
 use crate::question::Limits;
 use crate::replay_command::replay_command;
 use crate::show_command::show_command;
@@ -44,7 +45,7 @@ pub fn run<F: Shelf, S: Sink>(
     ensures checked { CheckRows (outcome (loads F.held F.faults shelf.old shelf.new) words.now (S.taken out.old) (S.taken out.new) book.new.entries result) }
     ensures traced { TraceRow (outcome (loads F.held F.faults shelf.old shelf.new) words.now (S.taken out.old) (S.taken out.new) book.new.entries result) }
     ensures shown { ShowRow (outcome (loads F.held F.faults shelf.old shelf.new) words.now (S.taken out.old) (S.taken out.new) book.new.entries result) }
-    ensures printed_formula { FormulaRow (outcome (loads F.held F.faults shelf.old shelf.new) words.now (S.taken out.old) (S.taken out.new) book.new.entries result) }
+    ensures printed { PrintedRows (outcome (loads F.held F.faults shelf.old shelf.new) words.now (S.taken out.old) (S.taken out.new) book.new.entries result) }
     ensures generated { GenerateRows (outcome (loads F.held F.faults shelf.old shelf.new) words.now (S.taken out.old) (S.taken out.new) book.new.entries result) }
     ensures benched { BenchRow (outcome (loads F.held F.faults shelf.old shelf.new) words.now (S.taken out.old) (S.taken out.new) book.new.entries result) }
     ensures ran { Ran (outcome (loads F.held F.faults shelf.old shelf.new) words.now (S.taken out.old) (S.taken out.new) book.new.entries result) (Rose (S.faults out.old) (S.faults out.new)) }
@@ -78,6 +79,9 @@ fn answer<F: Shelf>(
         }
         Some(Command::PrintCnf { steps, bound }) => {
             cnf_command(alloc, words, shelf, Within { steps, bound }, book)
+        }
+        Some(Command::PrintProof { steps, budget }) => {
+            proof_command(alloc, words, shelf, Limits { steps, budget }, book)
         }
         Some(Command::GenerateModel { units, start }) => {
             generate_model_command(alloc, units, start)

@@ -1,6 +1,6 @@
 -- Each command answers what is due for its words.
 use Rattle.std.proofs.Common.{◌≡◌, sym, ◌∙◌, ap, Some}
-use Rattle.diagnose_cli.specs.declared.command.Command.TheVariants.{Trace, Show, Replay, Check, Diagnose, PrintCnf, GenerateModel, GenerateLog, Bench}
+use Rattle.diagnose_cli.specs.declared.command.Command.TheVariants.{Trace, Show, Replay, Check, Diagnose, PrintCnf, PrintProof, GenerateModel, GenerateLog, Bench}
 use Rattle.diagnose_cli.specs.Commands.{command_of}
 use Rattle.diagnose_cli.specs.Files.{loads}
 use Rattle.diagnose_cli.proofs.GenerateAnswers.{asks_nothing, has_files}
@@ -40,6 +40,12 @@ returns-in-Some-PrintCnf-clause-due g c =
     let called : command_of c.args.words.now ≡ Some command = sym c.command_of.ensures.command ∙ c.in-Some-PrintCnf.is ∙ ap Some c.in-Some-PrintCnf.field-0-is in
     due_of (loads g.F.Shelf.held g.F.Shelf.faults c.args.shelf.now c.cnf_command.new.shelf) c.args.words.now command c.cnf_command.new.book.entries c.cnf_command.result called c.cnf_command.ensures.due
 
+pub returns-in-Some-PrintProof-clause-due : goal.returns-in-Some-PrintProof-clause-due
+returns-in-Some-PrintProof-clause-due g c =
+    let command = PrintProof c.in-Some-PrintProof.steps c.in-Some-PrintProof.budget in
+    let called : command_of c.args.words.now ≡ Some command = sym c.command_of.ensures.command ∙ c.in-Some-PrintProof.is ∙ ap Some c.in-Some-PrintProof.field-0-is in
+    due_of (loads g.F.Shelf.held g.F.Shelf.faults c.args.shelf.now c.proof_command.new.shelf) c.args.words.now command c.proof_command.new.book.entries c.proof_command.result called c.proof_command.ensures
+
 pub returns-in-Some-GenerateModel-clause-due : goal.returns-in-Some-GenerateModel-clause-due
 returns-in-Some-GenerateModel-clause-due g c =
     let command = GenerateModel c.in-Some-GenerateModel.units c.in-Some-GenerateModel.start in
@@ -74,6 +80,13 @@ pub returns-in-Some-PrintCnf-clause-no_question : goal.returns-in-Some-PrintCnf-
 returns-in-Some-PrintCnf-clause-no_question g c none =
     let command = PrintCnf c.in-Some-PrintCnf.steps c.in-Some-PrintCnf.bound in
     let called : command_of c.args.words.now ≡ Some command = sym c.command_of.ensures.command ∙ c.in-Some-PrintCnf.is ∙ ap Some c.in-Some-PrintCnf.field-0-is in
+    let asks_none = asks_nothing c.args.words.now command called none in
+    cc
+
+pub returns-in-Some-PrintProof-clause-no_question : goal.returns-in-Some-PrintProof-clause-no_question
+returns-in-Some-PrintProof-clause-no_question g c none =
+    let command = PrintProof c.in-Some-PrintProof.steps c.in-Some-PrintProof.budget in
+    let called : command_of c.args.words.now ≡ Some command = sym c.command_of.ensures.command ∙ c.in-Some-PrintProof.is ∙ ap Some c.in-Some-PrintProof.field-0-is in
     let asks_none = asks_nothing c.args.words.now command called none in
     cc
 
@@ -120,5 +133,12 @@ pub returns-in-Some-PrintCnf-clause-no_load : goal.returns-in-Some-PrintCnf-clau
 returns-in-Some-PrintCnf-clause-no_load g c none =
     let command = PrintCnf c.in-Some-PrintCnf.steps c.in-Some-PrintCnf.bound in
     let called : command_of c.args.words.now ≡ Some command = sym c.command_of.ensures.command ∙ c.in-Some-PrintCnf.is ∙ ap Some c.in-Some-PrintCnf.field-0-is in
+    let no_files = has_files c.args.words.now command called none in
+    cc
+
+pub returns-in-Some-PrintProof-clause-no_load : goal.returns-in-Some-PrintProof-clause-no_load
+returns-in-Some-PrintProof-clause-no_load g c none =
+    let command = PrintProof c.in-Some-PrintProof.steps c.in-Some-PrintProof.budget in
+    let called : command_of c.args.words.now ≡ Some command = sym c.command_of.ensures.command ∙ c.in-Some-PrintProof.is ∙ ap Some c.in-Some-PrintProof.field-0-is in
     let no_files = has_files c.args.words.now command called none in
     cc

@@ -17,8 +17,8 @@ returns-clause-traced g c = (done _ _ _ _ _ _ c.answer-ending.result _ c.answer-
 pub returns-clause-shown : goal.returns-clause-shown
 returns-clause-shown g c = (done _ _ _ _ _ _ c.answer-ending.result _ c.answer-ending.ensures.due c.put_once.ensures).shown
 
-pub returns-clause-printed_formula : goal.returns-clause-printed_formula
-returns-clause-printed_formula g c = (done _ _ _ _ _ _ c.answer-ending.result _ c.answer-ending.ensures.due c.put_once.ensures).printed_formula
+pub returns-clause-printed : goal.returns-clause-printed
+returns-clause-printed g c = (done _ _ _ _ _ _ c.answer-ending.result _ c.answer-ending.ensures.due c.put_once.ensures).printed
 
 pub returns-clause-generated : goal.returns-clause-generated
 returns-clause-generated g c = (done _ _ _ _ _ _ c.answer-ending.result _ c.answer-ending.ensures.due c.put_once.ensures).generated

@@ -1,0 +1,26 @@
+-- By the size of its question, and its refutation.
+use Rattle.std.proofs.Common.{◌≤◌, subst, arith}
+use Rattle.least_faults.specs.Parts.{most_size}
+use Rattle.diagnose_cli.specs.Commands.{SaysProved}
+use Rattle.diagnose_cli.proofs.Orders.{memory_free}
+use Rattle.diagnose_cli.proofs.CaseAnswers.{too_large, answered}
+use Rattle.diagnose_cli.proofs.proof_command.print_proof.Goals as goal
+
+pub returns-then-size-gt-SIZE_LIMIT : goal.returns-then-size-gt-SIZE_LIMIT
+returns-then-size-gt-SIZE_LIMIT c text alarms of_net of_log _ =
+    too_large c.args.limits.steps (λ net log. SaysProved net log c.args.limits.steps c.args.limits.budget c.args.book.now.entries) text alarms c.args.case.now.net of_net c.args.case.now.log of_log
+    c.question_size-size.result c.question_size-size.ensures.size (omega (arith, c.if-size-gt-SIZE_LIMIT.true))
+
+pub returns-in_err-prove : goal.returns-in_err-prove
+returns-in_err-prove c text alarms of_net of_log = memory_free _ _ c.from_residual.ensures.1
+
+pub returns : goal.returns
+returns c text alarms of_net of_log _ =
+    answered c.args.limits.steps (λ net log. SaysProved net log c.args.limits.steps c.args.limits.budget c.prove.new.book.entries) text alarms c.args.case.now.net of_net c.args.case.now.log of_log
+    c.in_ok-prove.field-0 (subst (λ k. k ≤ most_size) c.question_size-size.ensures.size (omega (arith, c.if-size-gt-SIZE_LIMIT.false))) c.in_ok-prove.ensures
+
+pub prove-requires-clause-limits : goal.prove-requires-clause-limits
+prove-requires-clause-limits c = record {
+  steps = c.requires.steps;
+  size = subst (λ k. k ≤ most_size) c.question_size-size.ensures.size (omega (arith, c.if-size-gt-SIZE_LIMIT.false));
+}

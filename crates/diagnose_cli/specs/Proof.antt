@@ -1,0 +1,68 @@
+-- The refutation that the book of a question holds, as it is printed.
+use Rattle.std.specs.Prelude.{◌≡◌, ◌<◌, ◌≤◌, ⊤, ℕ, suc, ◌+◌, false, List, ◌∷◌, ◌++◌, [], codes, decimal, length, map, Option, None, Some, IfSome}
+use Rattle.std.specs.List.{list_any}
+use Rattle.card_counter.specs.CounterState.{CounterState}
+use Rattle.des_net.specs.Network.{Net}
+use Rattle.least_faults.specs.declared.answer.Found.{Found}
+use Rattle.least_faults.specs.declared.answer.Found.TheVariants.{Explained, Absent, Many, Undecided}
+use Rattle.least_faults.specs.declared.parts.Parts.{Parts}
+use Rattle.least_faults.specs.Evidence.{IsPosed, IsEvidence, is_final}
+use Rattle.least_faults.specs.Parts.{names_of}
+use Rattle.log_order.specs.Log.{Log}
+use Rattle.proof_ledger.specs.Book.{BookEntry, axiomatic, final, mark, axioms_of, clauses_of}
+use Rattle.proof_ledger.specs.Checking.{check_proof}
+use Rattle.proof_ledger.specs.declared.checker.ProofStep.{ProofStep}
+use Rattle.proof_ledger.specs.declared.checker.Checked.TheVariants.{Verified}
+use Rattle.proof_text.specs.Refutation.{EndsIn, front_to, refuted_formula, refutation_steps}
+use Rattle.prop_core.specs.Clauses.{Clause}
+use Rattle.prop_core.specs.VariableNames.{Name}
+use Rattle.diagnose_cli.specs.Formula.{counted_bound, question_assumed}
+
+-- the word with which `cnf` is asked for the bound
+abbrev pub bound_word : Option ℕ → List ℕ
+bound_word None = codes "any"
+bound_word (Some k) = decimal k
+
+-- a comment that names the formula
+abbrev pub proof_head : Option ℕ → List ℕ
+proof_head bound = codes "c cnf " ++ bound_word bound ++ 10 ∷ []
+
+-- The steps are the refutation that the book holds up to a final clause, of negations of what the question assumes within the bound. With this the axioms
+-- before that clause pose the question within the bound, and of the formula that has these axioms and a unit clause for each assumption the steps are verified.
+pub record IsRefuted (net : Net) (log : Log) (n : ℕ) (bound : Option ℕ) (book : List BookEntry) (steps : List ProofStep) : Type 0 where
+  pub last : ℕ
+  pub ends : EndsIn book (question_assumed net log n bound) last
+  pub names : List (ℕ × Name)
+  pub posed : IsPosed names (axioms_of (front_to last book)) (question_assumed net log n bound) net log n bound
+  pub steps_are : steps ≡ refutation_steps (front_to last book) (question_assumed net log n bound)
+  pub verified : check_proof (refuted_formula (front_to last book) (question_assumed net log n bound)) steps ≡ Verified
+
+-- ---- as it is found
+
+-- the last final clause of the book has this number
+pub record IsLastFinal (book : List BookEntry) (last : ℕ) : Type 0 where
+  pub before : List BookEntry
+  pub clause : Clause
+  pub hints : List ℕ
+  pub later : List BookEntry
+  pub whole : book ≡ before ++ final clause hints ∷ later
+  pub none : list_any is_final later ≡ false
+  pub numbered : last ≡ length (clauses_of before) + 1
+
+-- the counter has the column for the bound, where there is a fault to count
+abbrev pub HasColumn : CounterState → Option ℕ → Type 0
+HasColumn counter bound = IfSome (counted_bound counter bound) (λ k. k < length counter.columns)
+
+-- behind its first axioms the book has evidence for the bound, between two marks
+pub record HasEvidence {R : Type 0} (net : Net) (log : Log) (parts : Parts R) (book : List BookEntry) (bound : Option ℕ) : Type 0 where
+  pub first : List Clause
+  pub since : List BookEntry
+  pub whole : book ≡ map axiomatic first ++ mark 0 ∷ since ++ mark 1 ∷ []
+  pub evidence : IsEvidence (names_of parts) first since net log parts.step.steps bound
+
+-- for the bound that what was found refutes: one less than the least number, none where nothing explains, and 255 where more are needed
+abbrev pub HasEvidenceFor : {R : Type 0} → Net → Log → Parts R → List BookEntry → Found → Type 0
+HasEvidenceFor net log parts book (Explained best) = (best.faults ≤ 255) × ((k : ℕ) → best.faults ≡ suc k → HasEvidence net log parts book (Some k))
+HasEvidenceFor net log parts book Absent = HasEvidence net log parts book None
+HasEvidenceFor net log parts book (Many best) = HasEvidence net log parts book (Some 255)
+HasEvidenceFor net log parts book (Undecided lo best) = ⊤
