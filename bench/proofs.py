@@ -1,11 +1,12 @@
-"""Asks other solvers what `cnf` prints, and compares their answers with that of `diagnose`.
+"""Asks other solvers what `cnf` prints, compares their answers with that of `diagnose`, and checks what `proof` prints.
 
     python3 bench/proofs.py PROGRAM [COUNT]
 
 PROGRAM is the program as `rt run` builds it, crates/diagnose_cli/out/diagnose_cli. The questions are those of `examples/`, in 4 steps, and COUNT
 small drawn ones (100 if COUNT isn't given), some with doubtful alarms. For each the formula for one fault fewer than `diagnose` tells must
 have no model, and that for as many must have one; where nothing explains the log the formula for any number has none. MiniSat and CaDiCaL
-are asked, whichever is installed. Status 1: some answers differ.
+are asked, whichever is installed. The refutation that `proof` prints must name the greatest bound that has no model, and `check` must verify it
+over the formula of that bound, and `lrat-check` (of drat-trim) too where it is installed. Status 1: something differs.
 """
 import glob
 import os
@@ -19,7 +20,7 @@ HERE = os.path.dirname(os.path.abspath(__file__))
 EXAMPLES = os.path.join(HERE, "..", "examples")
 STEPS, BUDGET, LABELS = 4, 1_000_000, "ABC"
 SATISFIABLE, UNSATISFIABLE = 10, 20
-EXPLAINED, ABSENT, MANY = 0, 10, 12
+EXPLAINED, ABSENT, MANY, NOTHING = 0, 10, 12, 14
 
 
 def drawn(seed):
@@ -96,7 +97,28 @@ def compared(program, solvers, folder, name, files, steps):
             if given != wanted:
                 differ += 1
                 print(f"{name}, bound {bound}: {solver} answers {given}, and {wanted} was expected")
-    return asked, differ
+    if not checked(program, folder, name, files, steps, status, text):
+        differ += 1
+        print(f"{name}: the refutation isn't verified")
+    return asked + 1, differ
+
+
+def checked(program, folder, name, files, steps, status, text):
+    """Whether the printed refutation is of the bound that it must be, and is verified over that formula."""
+    faults = int(text.split()[1]) if status == EXPLAINED else 1
+    told, proof = answered(program, "proof", *files, str(steps), str(BUDGET))
+    if faults == 0:
+        return told == NOTHING and proof == b"NOTHING\n"
+    bound = {ABSENT: "any", MANY: "255"}.get(status, str(faults - 1))
+    if told != 0 or not proof.startswith(f"c cnf {bound}\n".encode()):
+        return False
+    paths = [os.path.join(folder, it) for it in ["refuted.cnf", "proof.lrat"]]
+    for path, piece in zip(paths, [answered(program, "cnf", *files, str(steps), bound)[1], proof]):
+        with open(path, "wb") as it:
+            it.write(piece)
+    if answered(program, "check", *paths) != (0, b"VERIFIED\n"):
+        return False
+    return not shutil.which("lrat-check") or b"VERIFIED" in answered("lrat-check", *paths)[1]
 
 
 def main(program, count):
@@ -106,7 +128,7 @@ def main(program, count):
         for name, files, steps in questions(folder, count):
             some, wrong = compared(program, solvers, folder, name, files, steps)
             asked, differ, total = asked + some, differ + wrong, total + 1
-    print(f"{total} questions, {asked} answers of {' and '.join(solvers) or 'no solver'}, of which {differ} differ")
+    print(f"{total} questions, {asked} answers and refutations, with {' and '.join(solvers) or 'no solver'}, of which {differ} are wrong")
     return 1 if differ else 0
 
 
