@@ -6,7 +6,7 @@ use Rattle.proof_ledger.specs.Book.{BookEntry}
 use Rattle.diagnose_cli.specs.declared.command.Command.{Command}
 use Rattle.diagnose_cli.specs.declared.command.Command.TheVariants.{Trace, Show, Replay, Check, Diagnose, PrintCnf, PrintProof, GenerateModel, GenerateLog, Bench}
 use Rattle.diagnose_cli.specs.declared.ending.Kind.{Kind}
-use Rattle.diagnose_cli.specs.declared.ending.Kind.TheVariants.{Done, Rejected, Absent, Undecided, Many}
+use Rattle.diagnose_cli.specs.declared.ending.Kind.TheVariants.{Done, Rejected, Absent, Undecided, Many, Nothing}
 use Rattle.diagnose_cli.specs.declared.stop.Stop.{Stop}
 use Rattle.diagnose_cli.specs.declared.stop.Stop.TheVariants.{Memory}
 use Rattle.diagnose_cli.specs.Transcripts.{Ending, UnlessMemory, TookCut, once}
@@ -138,6 +138,7 @@ no_reply Rejected stop = absurd (omega (arith, stop.high))
 no_reply Absent stop = absurd (omega (arith, stop.high))
 no_reply Undecided stop = absurd (omega (arith, stop.high))
 no_reply Many stop = absurd (omega (arith, stop.high))
+no_reply Nothing stop = absurd (omega (arith, stop.high))
 
 nine_of : (stop : Stop) → stop ≡ Memory → status_of_stop stop ≡ 9
 nine_of stop is = ap status_of_stop is

@@ -1,5 +1,5 @@
 // The command `proof`: the refutation that `diagnose` finds.
-ghost use Rattle.std.specs.Prelude.{◌≡◌, ◌<◌, ◌≤◌, ℕ, List, [], ◌∷◌, ◌++◌, All, Some, suc, codes, length, map, IfOk, OnOk};
+ghost use Rattle.std.specs.Prelude.{◌≡◌, ◌≢◌, ◌<◌, ◌≤◌, ℕ, List, [], ◌∷◌, ◌++◌, All, Some, suc, codes, length, map, IfErr, IfOk, OnOk};
 ghost use Rattle.diagnose_cli.specs.Commands.{Answers, Closes, SaysProved, TellsBelow, TellsProof, TellsRefutation, reply_of_proof};
 ghost use Rattle.diagnose_cli.specs.Files.{loads};
 ghost use Rattle.diagnose_cli.specs.Proof.{HasEvidence, HasEvidenceFor, proof_head};
@@ -43,7 +43,8 @@ pub fn proof_command<F: Shelf>(
     requires words { 2 < length words.now }
     requires steps { limits.steps ≤ 1000 }
     requires empty { book.old.entries ≡ [] }
-    ensures { UnlessMemory result (Answers (loads F.held F.faults shelf.old shelf.new) words.now (Command.PrintProof limits.steps limits.budget) book.new.entries (once result)) }
+    ensures due { UnlessMemory result (Answers (loads F.held F.faults shelf.old shelf.new) words.now (Command.PrintProof limits.steps limits.budget) book.new.entries (once result)) }
+    ensures stopped { IfErr result (λ stop. stop ≢ Stop.Memory → book.new ≡ book.old) }
 {
     let case = fetch_case(alloc, words, shelf)?;
     print_proof(alloc, &case, limits, book)
@@ -53,7 +54,8 @@ pub fn proof_command<F: Shelf>(
 fn print_proof(alloc: Global, case: &Case, limits: Limits, book: &mut Ledger) -> Result<Reply, Stop>
     requires steps { limits.steps ≤ 1000 }
     requires empty { book.old.entries ≡ [] }
-    ensures { (text alarms : List ℕ) → case.now.net ≡ network_of text → case.now.log ≡ log_of alarms → UnlessMemory result (Closes (Command.PrintProof limits.steps limits.budget) book.new.entries (text ∷ alarms ∷ []) (once result)) }
+    ensures due { (text alarms : List ℕ) → case.now.net ≡ network_of text → case.now.log ≡ log_of alarms → UnlessMemory result (Closes (Command.PrintProof limits.steps limits.budget) book.new.entries (text ∷ alarms ∷ []) (once result)) }
+    ensures stopped { IfErr result (λ stop. stop ≢ Stop.Memory → book.new ≡ book.old) }
 {
     let size = question_size(&case.net, &case.log, limits.steps);
     if size > SIZE_LIMIT {

@@ -6,16 +6,16 @@ use Rattle.diagnose_cli.proofs.Orders.{memory_free}
 use Rattle.diagnose_cli.proofs.CaseAnswers.{too_large, answered}
 use Rattle.diagnose_cli.proofs.proof_command.print_proof.Goals as goal
 
-pub returns-then-size-gt-SIZE_LIMIT : goal.returns-then-size-gt-SIZE_LIMIT
-returns-then-size-gt-SIZE_LIMIT c text alarms of_net of_log _ =
+pub returns-then-size-gt-SIZE_LIMIT-clause-due : goal.returns-then-size-gt-SIZE_LIMIT-clause-due
+returns-then-size-gt-SIZE_LIMIT-clause-due c text alarms of_net of_log _ =
     too_large c.args.limits.steps (λ net log. SaysProved net log c.args.limits.steps c.args.limits.budget c.args.book.now.entries) text alarms c.args.case.now.net of_net c.args.case.now.log of_log
     c.question_size-size.result c.question_size-size.ensures.size (omega (arith, c.if-size-gt-SIZE_LIMIT.true))
 
-pub returns-in_err-prove : goal.returns-in_err-prove
-returns-in_err-prove c text alarms of_net of_log = memory_free _ _ c.from_residual.ensures.1
+pub returns-in_err-prove-clause-due : goal.returns-in_err-prove-clause-due
+returns-in_err-prove-clause-due c text alarms of_net of_log = memory_free _ _ c.from_residual.ensures.1
 
-pub returns : goal.returns
-returns c text alarms of_net of_log _ =
+pub returns-clause-due : goal.returns-clause-due
+returns-clause-due c text alarms of_net of_log _ =
     answered c.args.limits.steps (λ net log. SaysProved net log c.args.limits.steps c.args.limits.budget c.prove.new.book.entries) text alarms c.args.case.now.net of_net c.args.case.now.log of_log
     c.in_ok-prove.field-0 (subst (λ k. k ≤ most_size) c.question_size-size.ensures.size (omega (arith, c.if-size-gt-SIZE_LIMIT.false))) c.in_ok-prove.ensures
 

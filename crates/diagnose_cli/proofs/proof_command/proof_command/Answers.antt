@@ -7,16 +7,16 @@ use Rattle.diagnose_cli.specs.Transcripts.{once}
 use Rattle.diagnose_cli.proofs.Orders.{handed_after, stops_in_case, with_case}
 use Rattle.diagnose_cli.proofs.proof_command.proof_command.Goals as goal
 
-pub returns-in_err-case : goal.returns-in_err-case
-returns-in_err-case g c =
+pub returns-in_err-case-clause-due : goal.returns-in_err-case-clause-due
+returns-in_err-case-clause-due g c =
     let l = loads g.F.Shelf.held g.F.Shelf.faults c.args.shelf.now c.fetch_case.new.shelf in
     let command = PrintProof c.args.limits.steps c.args.limits.budget in
     handed_after _ _ (Answers l c.args.words.now command c.args.book.now.entries) c.from_residual.ensures.1 (λ never.
     stops_in_case l c.args.words.now [] (Closes command c.args.book.now.entries) _ (c.in_err-case.ensures.stop never))
 
-pub returns : goal.returns
-returns g c never =
+pub returns-clause-due : goal.returns-clause-due
+returns-clause-due g c never =
     let l = loads g.F.Shelf.held g.F.Shelf.faults c.args.shelf.now c.fetch_case.new.shelf in
     let case = c.in_ok-case.ensures.read in
     with_case l c.args.words.now [] (Closes (PrintProof c.args.limits.steps c.args.limits.budget) c.print_proof.new.book.entries) c.in_ok-case.case.net c.in_ok-case.case.log (once c.print_proof.result) case
-    (c.print_proof.ensures case.text case.rows case.net_is case.log_is never)
+    (c.print_proof.ensures.due case.text case.rows case.net_is case.log_is never)

@@ -44,7 +44,7 @@ pub returns-in-Some-PrintProof-clause-due : goal.returns-in-Some-PrintProof-clau
 returns-in-Some-PrintProof-clause-due g c =
     let command = PrintProof c.in-Some-PrintProof.steps c.in-Some-PrintProof.budget in
     let called : command_of c.args.words.now ≡ Some command = sym c.command_of.ensures.command ∙ c.in-Some-PrintProof.is ∙ ap Some c.in-Some-PrintProof.field-0-is in
-    due_of (loads g.F.Shelf.held g.F.Shelf.faults c.args.shelf.now c.proof_command.new.shelf) c.args.words.now command c.proof_command.new.book.entries c.proof_command.result called c.proof_command.ensures
+    due_of (loads g.F.Shelf.held g.F.Shelf.faults c.args.shelf.now c.proof_command.new.shelf) c.args.words.now command c.proof_command.new.book.entries c.proof_command.result called c.proof_command.ensures.due
 
 pub returns-in-Some-GenerateModel-clause-due : goal.returns-in-Some-GenerateModel-clause-due
 returns-in-Some-GenerateModel-clause-due g c =
