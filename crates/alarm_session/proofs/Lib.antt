@@ -1,0 +1,6 @@
+pub mod Sizes
+pub mod Refusing
+pub mod Keeping
+pub mod Drafting
+pub mod Joining
+pub mod Telling

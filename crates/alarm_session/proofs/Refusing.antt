@@ -1,0 +1,58 @@
+-- How the refusals of a log and of a size become those of a session.
+use Rattle.std.proofs.Common.{◌≡◌, ◌∙◌, ℕ, ◌<◌, ◌≤◌, Bool, true, false, cond, Option, None, Some, Err, refl, ap, arith}
+use Rattle.std.specs.Prelude.{nat_lt}
+use Rattle.std.proofs.lemmas.Bool.Decides.{nat_tests}
+use Rattle.alarm_session.specs.Refusals.{refusal_of, large_refusal, refusal_with, Answers}
+use Rattle.alarm_session.specs.declared.refusal.SessionRefusal.{SessionRefusal}
+use Rattle.alarm_session.specs.declared.refusal.SessionRefusal.TheVariants.{TooLarge}
+use Rattle.least_faults.specs.Parts.{most_size}
+use Rattle.log_order.specs.Adding.{Answers as LogAnswers}
+use Rattle.log_order.specs.declared.refusal.LogRefusal.{LogRefusal}
+use Rattle.log_order.specs.declared.refusal.LogRefusal.TheVariants as of_log
+
+-- by the log
+pub refused_by : (Y : Type 0) (r : LogRefusal) (o : Option LogRefusal) (size : ℕ) → o ≡ Some r → Answers {X = Y} (Err (refusal_of r)) (refusal_with o size)
+refused_by Y of_log.Double o size is = ap (λ p. refusal_with p size) is
+refused_by Y of_log.Unknown o size is = ap (λ p. refusal_with p size) is
+refused_by Y of_log.Cycle o size is = ap (λ p. refusal_with p size) is
+refused_by Y of_log.NoLabels o size is = ap (λ p. refusal_with p size) is
+refused_by Y of_log.Limit o size is = ap (λ p. refusal_with p size) is
+refused_by Y of_log.Memory o size is = tt
+
+pub refused_by_log : (X Y : Type 0) (r : LogRefusal) (o : Option LogRefusal) (size : ℕ) → LogAnswers {X = X} (Err r) o → Answers {X = Y} (Err (refusal_of r)) (refusal_with o size)
+refused_by_log X Y of_log.Double o size is = refused_by Y of_log.Double o size is
+refused_by_log X Y of_log.Unknown o size is = refused_by Y of_log.Unknown o size is
+refused_by_log X Y of_log.Cycle o size is = refused_by Y of_log.Cycle o size is
+refused_by_log X Y of_log.NoLabels o size is = refused_by Y of_log.NoLabels o size is
+refused_by_log X Y of_log.Limit o size is = refused_by Y of_log.Limit o size is
+refused_by_log X Y of_log.Memory o size is = tt
+
+-- where the log had nothing against it, memory alone is wanting
+pub memory_alone : (X Y : Type 0) (r : LogRefusal) (o : Option LogRefusal) (refusal : Option SessionRefusal) → o ≡ None → LogAnswers {X = X} (Err r) o → Answers {X = Y} (Err (refusal_of r)) refusal
+memory_alone X Y of_log.Double o refusal none is = cc
+memory_alone X Y of_log.Unknown o refusal none is = cc
+memory_alone X Y of_log.Cycle o refusal none is = cc
+memory_alone X Y of_log.NoLabels o refusal none is = cc
+memory_alone X Y of_log.Limit o refusal none is = cc
+memory_alone X Y of_log.Memory o refusal none is = tt
+
+-- by the size
+larger : (size : ℕ) (b : Bool) → nat_lt most_size size ≡ b → most_size < size → large_refusal size ≡ Some (TooLarge size)
+larger size true is above = ap (λ t. cond t (Some (TooLarge size)) None) is
+larger size false is above = absurd (let k = not_above size is in omega (arith, k, above))
+  where
+    not_above : (s : ℕ) → nat_lt most_size s ≡ false → s ≤ most_size
+    not_above s h = grind (arith, nat_tests)
+
+pub refused_by_size : (o : Option LogRefusal) (size there : ℕ) → o ≡ None → most_size < size → there ≡ size → refusal_with o there ≡ Some (TooLarge size)
+refused_by_size o size there none above is = ap (λ p. refusal_with p there) none ∙ ap large_refusal is ∙ larger size (nat_lt most_size size) refl above
+
+within : (size : ℕ) (b : Bool) → nat_lt most_size size ≡ b → size ≤ most_size → large_refusal size ≡ None
+within size false is below = ap (λ t. cond t (Some (TooLarge size)) None) is
+within size true is below = absurd (let k = above_is size is in omega (arith, k, below))
+  where
+    above_is : (s : ℕ) → nat_lt most_size s ≡ true → most_size < s
+    above_is s h = grind (arith, nat_tests)
+
+pub accepted : (o : Option LogRefusal) (size : ℕ) → o ≡ None → size ≤ most_size → refusal_with o size ≡ None
+accepted o size none below = ap (λ p. refusal_with p size) none ∙ within size (nat_lt most_size size) refl below

@@ -1,0 +1,68 @@
+-- What a session refuses: what its log refuses, and else a question that would be too large.
+use Rattle.std.specs.Prelude.{◌≡◌, ⊤, ℕ, Bool, false, not, List, length, Option, Some, None, Result, Ok, Err, nat_lt, if◌then◌else◌, option_map, option_and_then}
+use Rattle.alarm_session.specs.declared.refusal.SessionRefusal.{SessionRefusal}
+use Rattle.alarm_session.specs.declared.refusal.SessionRefusal.TheVariants.{Double, Unknown, Cycle, NoLabels, Limit, TooLarge, Memory}
+use Rattle.des_base.specs.Names.{place_of}
+use Rattle.des_net.specs.Network.{Net}
+use Rattle.least_faults.specs.Parts.{most_size}
+use Rattle.log_order.specs.Adding.{alarm_refusal, before_refusal, names_of, with_alarm, with_pair}
+use Rattle.log_order.specs.Log.{Log, has_pair}
+use Rattle.log_order.specs.declared.refusal.LogRefusal.{LogRefusal}
+use Rattle.log_order.specs.declared.refusal.LogRefusal.TheVariants as of_log
+use Rattle.replay.specs.QuestionSize.{question_size}
+
+abbrev pub refusal_of : LogRefusal → SessionRefusal
+refusal_of of_log.Double = Double
+refusal_of of_log.Unknown = Unknown
+refusal_of of_log.Cycle = Cycle
+refusal_of of_log.NoLabels = NoLabels
+refusal_of of_log.Limit = Limit
+refusal_of of_log.Memory = Memory
+
+-- a question of more than 20,000,000
+abbrev pub large_refusal : ℕ → Option SessionRefusal
+large_refusal size = if nat_lt most_size size then Some (TooLarge size) else None
+
+-- the log's refusal, and else that of the size with the addition
+abbrev pub refusal_with : Option LogRefusal → ℕ → Option SessionRefusal
+refusal_with None size = large_refusal size
+refusal_with (Some refusal) size = Some (refusal_of refusal)
+
+-- a call's answer, where this is the refusal that is called for: want of memory may come in place of any answer
+abbrev pub Answers : {X : Type 0} → Result X SessionRefusal → Option SessionRefusal → Type 0
+Answers (Ok x) refusal = refusal ≡ None
+Answers (Err Memory) refusal = ⊤
+Answers (Err Double) refusal = refusal ≡ Some Double
+Answers (Err Unknown) refusal = refusal ≡ Some Unknown
+Answers (Err Cycle) refusal = refusal ≡ Some Cycle
+Answers (Err NoLabels) refusal = refusal ≡ Some NoLabels
+Answers (Err Limit) refusal = refusal ≡ Some Limit
+Answers (Err (TooLarge size)) refusal = refusal ≡ Some (TooLarge size)
+
+-- ---- of an alarm
+
+-- certain or doubtful
+abbrev pub alarm_answer : Net → ℕ → Log → List ℕ → List (List ℕ) → Bool → Option SessionRefusal
+alarm_answer net n log name labels doubtful = refusal_with (alarm_refusal log name labels) (question_size net (with_alarm log name labels doubtful) n)
+
+-- ---- of a pair, by the names of its alarms
+
+-- the numbers of two alarms
+abbrev pub numbers_of : Log → List ℕ → List ℕ → Option (ℕ × ℕ)
+numbers_of log first second = option_and_then (λ i. option_map (λ j. (i, j)) (place_of second (names_of log.alarms))) (place_of first (names_of log.alarms))
+
+abbrev pub log_with : Log → Option (ℕ × ℕ) → Log
+log_with log None = log
+log_with log (Some pair) = record log { pairs = with_pair log.pairs pair.0 pair.1 }
+
+-- the pair isn't there yet
+abbrev pub is_new_pair : Log → Option (ℕ × ℕ) → Bool
+is_new_pair log None = false
+is_new_pair log (Some pair) = not (has_pair log.pairs pair.0 pair.1)
+
+abbrev pub refusal_of_pair : Log → Option (ℕ × ℕ) → Option LogRefusal
+refusal_of_pair log None = Some of_log.Unknown
+refusal_of_pair log (Some pair) = before_refusal (length log.alarms) log.pairs pair.0 pair.1
+
+abbrev pub before_answer : Net → ℕ → Log → List ℕ → List ℕ → Option SessionRefusal
+before_answer net n log first second = refusal_with (refusal_of_pair log (numbers_of log first second)) (question_size net (log_with log (numbers_of log first second)) n)

@@ -1,0 +1,114 @@
+-- A session: a log that grows, and questions about it, over one book.
+use Rattle.std.specs.Prelude.{◌≡◌, ℕ, ◌+◌, ◌*◌, ◌≤◌, List, [], length, None}
+use Rattle.alarm_session.specs.declared.kept.Kept.{Kept}
+use Rattle.alarm_session.specs.declared.kept.Drafted.{Drafted}
+use Rattle.des_base.specs.declared.TheConstants.{VAR_LIMIT}
+use Rattle.des_net.specs.Network.{Net}
+use Rattle.des_net.specs.QuestionSize.{component_sizes}
+use Rattle.least_faults.specs.Adding.{AddsFew}
+use Rattle.least_faults.specs.Answers.{IsAnswered}
+use Rattle.least_faults.specs.Bounds.{question_variables}
+use Rattle.least_faults.specs.Evidence.{IsPosed}
+use Rattle.least_faults.specs.Growing.{AddsAxioms}
+use Rattle.least_faults.specs.Parts.{AreParts, AreReady, BelongTo, IsWithinLimits}
+use Rattle.least_faults.specs.declared.answer.Found.{Found}
+use Rattle.log_clauses.specs.Additions.{Addition, with_addition}
+use Rattle.log_encode.specs.Drafted.{IsDraftOf}
+use Rattle.log_order.specs.Log.{Log, no_log}
+use Rattle.proof_ledger.specs.Book.{BookEntry, axioms_of, clauses_of, IsValidBook}
+use Rattle.prop_core.specs.VariableNames.{Name}
+use Rattle.prop_core.specs.declared.lit.Lit.{Lit}
+use Rattle.replay.specs.QuestionSize.{question_size}
+use Rattle.sat_order.specs.Rank.{OrderState}
+
+-- the network, the number of steps, the log so far, the book, and the order of the variables
+pub record SessionState (R : Type 0) : Type 0 where
+  pub net : Net
+  pub steps : ℕ
+  pub log : Log
+  pub book : List BookEntry
+  pub order : OrderState R
+
+-- ---- what is kept
+
+-- The log is within the limits, its size is known, and the parts are coded for it.
+pub record IsFor {R : Type 0} (net : Net) (n : ℕ) (kept : Kept R) : Type 0 where
+  pub limits : IsWithinLimits net kept.log n
+  pub size : kept.size ≡ question_size net kept.log n
+  pub belong : BelongTo net kept.log kept.parts
+  pub time : kept.parts.step.steps ≡ n
+
+-- The parts are those of the log, and their clauses are the axioms of the book, whose clauses the solver has adopted.
+pub record IsKept {R : Type 0} (net : Net) (n : ℕ) (kept : Kept R) : Type 0 where
+  pub of_log : IsFor net n kept
+  pub coded : AreParts kept.parts.step kept.parts.code.code kept.parts.counter kept.parts.vars (axioms_of kept.book.entries)
+  pub adopted_all : kept.parts.solver.adopted ≡ clauses_of kept.book.entries
+  pub enough : kept.parts.vars ≤ kept.parts.solver.vars
+
+-- The same, and the stored ranks are what was answered.
+pub record IsRankedKept {R : Type 0} (may : R → ℕ → Type 0) (gives : R → ℕ → ℕ → Type 0) (net : Net) (n : ℕ) (kept : Kept R) : Type 0 where
+  pub of_log : IsFor net n kept
+  pub ready : AreReady may gives kept.parts kept.book.entries
+
+-- An addition is drafted that makes this log, of this size, which is within the limits.
+pub record IsDraftedFor {R : Type 0} (net : Net) (n : ℕ) (kept : Kept R) (addition : Addition) (new : Log) (drafted : Drafted) : Type 0 where
+  pub draft : IsDraftOf kept.parts.code.code addition kept.parts.vars drafted.draft
+  pub fits : question_variables kept.parts.step.net (with_addition kept.parts.code.code.log addition) kept.parts.step.steps ≤ VAR_LIMIT
+  pub size : drafted.size ≡ question_size net new n
+  pub limits : IsWithinLimits net new n
+
+-- It is of the empty log, by this rank, and the book has nothing but axioms.
+pub record HasBegun {R : Type 0} (net : Net) (n : ℕ) (rank : R) (kept : Kept R) : Type 0 where
+  pub log : kept.log ≡ no_log
+  pub rank_is : kept.parts.solver.order.rank ≡ rank
+  pub book : AddsAxioms [] kept.book.entries
+
+-- ---- what each call leaves
+
+-- so does a session begin
+pub record BeginsAs {R : Type 0} (net : Net) (n : ℕ) (rank : R) (session : SessionState R) : Type 0 where
+  pub net_is : session.net ≡ net
+  pub steps : session.steps ≡ n
+  pub log : session.log ≡ no_log
+  pub rank_is : session.order.rank ≡ rank
+  pub book : AddsAxioms [] session.book
+
+-- It is about the same network and as many steps, and ranks by what ranked before.
+pub record KeepsSetting {R : Type 0} (old new : SessionState R) : Type 0 where
+  pub net : new.net ≡ old.net
+  pub steps : new.steps ≡ old.steps
+  pub rank : new.order.rank ≡ old.order.rank
+
+-- The log became this one, and few axioms were added, and nothing else.
+pub record Becomes (net : Net) (n : ℕ) (before wanted now : Log) (old new : List BookEntry) : Type 0 where
+  pub log : now ≡ wanted
+  pub few : AddsFew net n before wanted old new
+
+-- log and book stay as they were
+pub record StaysSame (before now : Log) (old new : List BookEntry) : Type 0 where
+  pub log : now ≡ before
+  pub book : new ≡ old
+
+-- The answer of the present log, with what shows it in the valid book: entries that were put since the question was opened.
+pub record IsToldBy (net : Net) (log : Log) (n budget : ℕ) (old new : List BookEntry) (found : Found) : Type 0 where
+  pub names : List (ℕ × Name)
+  pub answered : IsAnswered names net log n budget old new found
+  pub valid : IsValidBook new
+
+-- ---- what is always so of the book
+
+-- By some names, and with some assumptions, the axioms ask what explains the log: they are faithful and drawn.
+pub record Poses (net : Net) (log : Log) (n : ℕ) (book : List BookEntry) : Type 0 where
+  pub names : List (ℕ × Name)
+  pub assumed : List Lit
+  pub posed : IsPosed names (axioms_of book) assumed net log n None
+
+-- The book has each clause of its question about once: at most 12 axioms for each unit of the size, of the sizes of the components, and for each alarm and each pair, and 512.
+abbrev pub IsLean : List BookEntry → Net → Log → ℕ → Type 0
+IsLean book net log n = length (axioms_of book) ≤ 12 * (question_size net log n + component_sizes net + length log.alarms + length log.pairs) + 512
+
+-- what a session's book tells
+pub record IsSessionBook (net : Net) (log : Log) (n : ℕ) (book : List BookEntry) : Type 0 where
+  pub poses : Poses net log n book
+  pub lean : IsLean book net log n
+  pub valid : IsValidBook book

@@ -1,0 +1,221 @@
+// Additions to the log of a session: what can be refused first, and then all of it.
+ghost use Rattle.std.specs.Prelude.{◌≡◌, ◌≤◌, ◌+◌, false, length, not, IfOk, OnOk, OnErr, None, Some, [], true};
+ghost use Rattle.alarm_session.specs.Refusals.{Answers, alarm_answer, before_answer, is_new_pair, log_with, numbers_of, refusal_of_pair, refusal_with};
+ghost use Rattle.alarm_session.specs.Session.{Becomes, IsDraftedFor, IsFor, IsRankedKept, StaysSame};
+ghost use Rattle.least_faults.specs.Parts.{AreParts, most_size};
+ghost use Rattle.log_clauses.specs.Additions.{alarm_added, pair_added};
+ghost use Rattle.log_encode.specs.CodedLog.{nameless};
+ghost use Rattle.log_order.specs.Adding.{Answers as LogAnswers, alarm_refusal, with_alarm, with_texts};
+ghost use Rattle.log_order.specs.Log.{has_pair};
+ghost use Rattle.proof_ledger.specs.Book.{axioms_of};
+ghost use Rattle.replay.specs.QuestionSize.{question_size};
+
+use crate::kept::{Drafted, Kept, Setting};
+use crate::labels::{each_once, has_pair};
+use crate::refusal::{SessionRefusal, refusal_of};
+use crate::size::{SIZE_LIMIT, size_with_alarm, size_with_pair};
+use crate::whole::are_whole;
+use des_base::Name;
+use least_faults::{add_draft, reserve_draft};
+use log_order::{AlarmLog, LogRefusal};
+
+// Adds an alarm, certain or doubtful, to the log and to the parts and the book of its question: to all or to none.
+pub fn put_alarm<R: Fn(u32) -> u64>(
+    setting: Setting<'_>,
+    id: Name,
+    labels: &[Name],
+    doubtful: bool,
+    kept: &mut Kept<R>,
+) -> Result<u32, SessionRefusal>
+    requires kept { IsRankedKept R.pre R.post setting.net.now setting.steps kept.old }
+    ensures kept { IsRankedKept R.pre R.post setting.entry.net.now setting.entry.steps kept.new }
+    ensures rank { kept.new.parts.solver.order.rank ≡ kept.old.parts.solver.order.rank }
+    ensures refused { Answers result (alarm_answer setting.entry.net.now setting.entry.steps kept.old.log id labels.now doubtful) }
+    ensures number { IfOk result (λ alarm. alarm ≡ length kept.old.log.alarms) }
+    ensures added { OnOk result (Becomes setting.entry.net.now setting.entry.steps kept.old.log (with_alarm kept.old.log id labels.now doubtful) kept.new.log kept.old.book.entries kept.new.book.entries) }
+    ensures same { OnErr result (StaysSame kept.old.log kept.new.log kept.old.book.entries kept.new.book.entries) }
+{
+    let drafted = draft_alarm(setting, &id, labels, doubtful, kept)?;
+    let reserved = reserve_draft(
+        setting.alloc,
+        drafted.draft,
+        doubtful,
+        &mut kept.parts,
+        &mut kept.book,
+    )?;
+    match add_to_log(&mut kept.log, id, labels, doubtful) {
+        Ok(alarm) => {
+            kept.size = drafted.size;
+            add_draft(reserved, &mut kept.parts, &mut kept.book);
+            Ok(alarm)
+        }
+        Err(refusal) => Err(refusal_of(refusal)),
+    }
+}
+
+// Drafts an alarm, where neither the log nor the size refuses it.
+fn draft_alarm<R: Fn(u32) -> u64>(
+    setting: Setting<'_>,
+    id: &Name,
+    labels: &[Name],
+    doubtful: bool,
+    kept: &Kept<R>,
+) -> Result<Drafted, SessionRefusal>
+    requires of_log { IsFor setting.net.now setting.steps kept.now }
+    requires coded { AreParts kept.now.parts.step kept.now.parts.code.code kept.now.parts.counter kept.now.parts.vars (axioms_of kept.now.book.entries) }
+    ensures refused { Answers result (alarm_answer setting.entry.net.now setting.entry.steps kept.now.log id.now labels.now doubtful) }
+    ensures drafted { IfOk result (IsDraftedFor setting.entry.net.now setting.entry.steps kept.now (alarm_added (nameless (with_texts [] labels.now) doubtful)) (with_alarm kept.now.log id.now labels.now doubtful)) }
+{
+    are_whole(setting.net, &kept.log);
+    if let Some(refusal) = kept.log.test_alarm(id, labels) {
+        return Err(refusal_of(refusal));
+    }
+    let once = each_once(setting.alloc, labels)?;
+    let labels = once.as_slice();
+    let size = size_with_alarm(kept.size, setting.net, labels, doubtful, setting.steps);
+    if size > SIZE_LIMIT {
+        return Err(SessionRefusal::TooLarge { size });
+    }
+    let draft = kept
+        .parts
+        .code
+        .draft_alarm(setting.net, labels, doubtful, kept.parts.vars.count())?;
+    Ok(Drafted { draft, size })
+}
+
+// Adds an alarm to the log.
+fn add_to_log(
+    log: &mut AlarmLog,
+    id: Name,
+    labels: &[Name],
+    doubtful: bool,
+) -> Result<u32, LogRefusal>
+    ensures refused { LogAnswers result (alarm_refusal log.old id labels.now) }
+    ensures ok { OnOk result (log.new ≡ with_alarm log.old id labels.now doubtful) }
+    ensures place { IfOk result (λ alarm. alarm ≡ length log.old.alarms) }
+    ensures err { OnErr result (log.new ≡ log.old) }
+{
+    if doubtful {
+        log.add_maybe(id, labels)
+    } else {
+        log.add_alarm(id, labels)
+    }
+}
+
+// Adds a pair of alarms by their ids.
+pub fn put_before<R: Fn(u32) -> u64>(
+    setting: Setting<'_>,
+    first: &Name,
+    second: &Name,
+    kept: &mut Kept<R>,
+) -> Result<bool, SessionRefusal>
+    requires kept { IsRankedKept R.pre R.post setting.net.now setting.steps kept.old }
+    ensures kept { IsRankedKept R.pre R.post setting.entry.net.now setting.entry.steps kept.new }
+    ensures rank { kept.new.parts.solver.order.rank ≡ kept.old.parts.solver.order.rank }
+    ensures refused { Answers result (before_answer setting.entry.net.now setting.entry.steps kept.old.log first.now second.now) }
+    ensures new { IfOk result (λ new. new ≡ is_new_pair kept.old.log (numbers_of kept.old.log first.now second.now)) }
+    ensures added { OnOk result (Becomes setting.entry.net.now setting.entry.steps kept.old.log (log_with kept.old.log (numbers_of kept.old.log first.now second.now)) kept.new.log kept.old.book.entries kept.new.book.entries) }
+    ensures again { IfOk result (λ new. new ≡ false → StaysSame kept.old.log kept.new.log kept.old.book.entries kept.new.book.entries) }
+    ensures same { OnErr result (StaysSame kept.old.log kept.new.log kept.old.book.entries kept.new.book.entries) }
+{
+    match numbers_of(&kept.log, first, second) {
+        Some((first, second)) => put_pair(setting, first, second, kept),
+        None => Err(SessionRefusal::Unknown),
+    }
+}
+
+// The numbers of two alarms.
+fn numbers_of(log: &AlarmLog, first: &Name, second: &Name) -> Option<(u32, u32)>
+    ensures { result ≡ numbers_of log.now first.now second.now }
+{
+    let first = log.find(first.as_str().as_bytes())?;
+    let second = log.find(second.as_str().as_bytes())?;
+    Some((first, second))
+}
+
+// Adds a pair of alarms to the log and to the parts and the book of its question: to all or to none. Where it is there
+// already, nothing changes.
+fn put_pair<R: Fn(u32) -> u64>(
+    setting: Setting<'_>,
+    first: u32,
+    second: u32,
+    kept: &mut Kept<R>,
+) -> Result<bool, SessionRefusal>
+    requires kept { IsRankedKept R.pre R.post setting.net.now setting.steps kept.old }
+    ensures kept { IsRankedKept R.pre R.post setting.entry.net.now setting.entry.steps kept.new }
+    ensures rank { kept.new.parts.solver.order.rank ≡ kept.old.parts.solver.order.rank }
+    ensures refused { Answers result (refusal_with (refusal_of_pair kept.old.log (Some (first, second))) (question_size setting.entry.net.now (log_with kept.old.log (Some (first, second))) setting.entry.steps)) }
+    ensures new { IfOk result (λ new. new ≡ is_new_pair kept.old.log (Some (first, second))) }
+    ensures added { OnOk result (Becomes setting.entry.net.now setting.entry.steps kept.old.log (log_with kept.old.log (Some (first, second))) kept.new.log kept.old.book.entries kept.new.book.entries) }
+    ensures same { OnErr result (StaysSame kept.old.log kept.new.log kept.old.book.entries kept.new.book.entries) }
+    ensures again { IfOk result (λ new. new ≡ false → StaysSame kept.old.log kept.new.log kept.old.book.entries kept.new.book.entries) }
+{
+    if let Err(refusal) = kept.log.test_before(first, second) {
+        return Err(refusal_of(refusal));
+    }
+    if has_pair(&kept.log, first, second) {
+        return Ok(false);
+    }
+    put_new_pair(setting, first, second, kept)
+}
+
+// The same of a pair that the log accepts and that isn't there.
+fn put_new_pair<R: Fn(u32) -> u64>(
+    setting: Setting<'_>,
+    first: u32,
+    second: u32,
+    kept: &mut Kept<R>,
+) -> Result<bool, SessionRefusal>
+    requires kept { IsRankedKept R.pre R.post setting.net.now setting.steps kept.old }
+    requires accepted { refusal_of_pair kept.old.log (Some (first, second)) ≡ None }
+    requires new { has_pair kept.old.log.pairs first second ≡ false }
+    ensures kept { IsRankedKept R.pre R.post setting.entry.net.now setting.entry.steps kept.new }
+    ensures rank { kept.new.parts.solver.order.rank ≡ kept.old.parts.solver.order.rank }
+    ensures refused { Answers result (refusal_with (refusal_of_pair kept.old.log (Some (first, second))) (question_size setting.entry.net.now (log_with kept.old.log (Some (first, second))) setting.entry.steps)) }
+    ensures new { IfOk result (λ new. new ≡ true) }
+    ensures added { OnOk result (Becomes setting.entry.net.now setting.entry.steps kept.old.log (log_with kept.old.log (Some (first, second))) kept.new.log kept.old.book.entries kept.new.book.entries) }
+    ensures same { OnErr result (StaysSame kept.old.log kept.new.log kept.old.book.entries kept.new.book.entries) }
+{
+    let drafted = draft_pair(setting, first, second, kept)?;
+    let reserved = reserve_draft(
+        setting.alloc,
+        drafted.draft,
+        false,
+        &mut kept.parts,
+        &mut kept.book,
+    )?;
+    match kept.log.add_before(first, second) {
+        Ok(fresh) => {
+            kept.size = drafted.size;
+            add_draft(reserved, &mut kept.parts, &mut kept.book);
+            Ok(fresh)
+        }
+        Err(refusal) => Err(refusal_of(refusal)),
+    }
+}
+
+// Drafts it, where the size doesn't refuse it.
+fn draft_pair<R: Fn(u32) -> u64>(
+    setting: Setting<'_>,
+    first: u32,
+    second: u32,
+    kept: &Kept<R>,
+) -> Result<Drafted, SessionRefusal>
+    requires of_log { IsFor setting.net.now setting.steps kept.now }
+    requires coded { AreParts kept.now.parts.step kept.now.parts.code.code kept.now.parts.counter kept.now.parts.vars (axioms_of kept.now.book.entries) }
+    requires accepted { refusal_of_pair kept.now.log (Some (first, second)) ≡ None }
+    requires new { has_pair kept.now.log.pairs first second ≡ false }
+    ensures refused { Answers result (refusal_with (refusal_of_pair kept.now.log (Some (first, second))) (question_size setting.entry.net.now (log_with kept.now.log (Some (first, second))) setting.entry.steps)) }
+    ensures drafted { IfOk result (IsDraftedFor setting.entry.net.now setting.entry.steps kept.now (pair_added first second) (log_with kept.now.log (Some (first, second)))) }
+{
+    are_whole(setting.net, &kept.log);
+    let size = size_with_pair(kept.size, setting.steps);
+    if size > SIZE_LIMIT {
+        return Err(SessionRefusal::TooLarge { size });
+    }
+    let draft = kept
+        .parts
+        .code
+        .draft_before(first, second, kept.parts.vars.count())?;
+    Ok(Drafted { draft, size })
+}

@@ -1,0 +1,90 @@
+// A session begins, and questions are asked of what it keeps.
+ghost use Rattle.std.specs.Prelude.{◌≡◌, ◌≤◌, [], IfOk};
+ghost use Rattle.alarm_session.specs.Refusals.{Answers, large_refusal};
+ghost use Rattle.alarm_session.specs.Session.{HasBegun, IsRankedKept, IsToldBy};
+ghost use Rattle.des_base.specs.declared.TheConstants.{MOST_STEPS};
+ghost use Rattle.indep.specs.StoredTest.{IsTest};
+ghost use Rattle.least_faults.specs.Growing.{HasGrownWithin};
+ghost use Rattle.log_order.specs.Log.{no_log};
+ghost use Rattle.replay.specs.QuestionSize.{question_size};
+ghost use Rattle.sat_order.specs.Rank.{IsRanked};
+
+use crate::kept::{Kept, Setting};
+use crate::refusal::SessionRefusal;
+use crate::size::{SIZE_LIMIT, question_size};
+use des_base::Memory;
+use indep::Indep;
+use least_faults::{Found, build, least};
+use log_order::AlarmLog;
+use proof_ledger::Ledger;
+use sat_order::Order;
+use sat_solve::Solver;
+
+// Begins with an empty log, over an empty book.
+pub fn begin<T: Fn(u32, u32) -> bool, R: Fn(u32) -> u64>(
+    setting: Setting<'_>,
+    test: &Indep<T>,
+    rank: Order<R>,
+    book: Ledger,
+) -> Result<Kept<R>, SessionRefusal>
+    requires right { IsTest T.pre T.post test.now.test test.now.net }
+    requires net { test.now.net ≡ setting.net.now }
+    requires ranked { IsRanked R.pre R.post rank }
+    requires no_variables { rank.waiting ≡ [] }
+    requires steps { setting.steps ≤ MOST_STEPS }
+    requires empty { book.entries ≡ [] }
+    ensures refused { Answers result (large_refusal (question_size setting.entry.net.now no_log setting.entry.steps)) }
+    ensures kept { IfOk result (IsRankedKept R.pre R.post setting.entry.net.now setting.entry.steps) }
+    ensures begun { IfOk result (HasBegun setting.entry.net.now setting.entry.steps rank.rank) }
+{
+    let log = AlarmLog::new(setting.alloc);
+    let size = question_size(setting.net, &log, setting.steps);
+    if size > SIZE_LIMIT {
+        return Err(SessionRefusal::TooLarge { size });
+    }
+    let solver = Solver::new(setting.alloc, rank);
+    let mut book = book;
+    match build(
+        setting.alloc,
+        setting.net,
+        &log,
+        setting.steps,
+        test,
+        solver,
+        &mut book,
+    ) {
+        Ok(parts) => Ok(Kept {
+            log,
+            size,
+            parts,
+            book,
+        }),
+        Err(_) => Err(SessionRefusal::Memory),
+    }
+}
+
+// Asks what explains the log as it stands, with the fewest faults.
+pub fn ask_kept<R: Fn(u32) -> u64>(
+    setting: Setting<'_>,
+    kept: &mut Kept<R>,
+    budget: u64,
+) -> Result<Found, Memory>
+    requires kept { IsRankedKept R.pre R.post setting.net.now setting.steps kept.old }
+    ensures kept { IsRankedKept R.pre R.post setting.entry.net.now setting.entry.steps kept.new }
+    ensures rank { kept.new.parts.solver.order.rank ≡ kept.old.parts.solver.order.rank }
+    ensures log { kept.new.log ≡ kept.old.log }
+    ensures grown { HasGrownWithin budget kept.old.book.entries kept.new.book.entries }
+    ensures told { IfOk result (IsToldBy setting.entry.net.now kept.old.log setting.entry.steps budget kept.old.book.entries kept.new.book.entries) }
+{
+    let found = least(
+        setting.alloc,
+        setting.net,
+        &kept.log,
+        &mut kept.parts,
+        &mut kept.book,
+        budget,
+    )?;
+    // Its reader tells that the book is valid.
+    let _entries = kept.book.entries();
+    Ok(found)
+}

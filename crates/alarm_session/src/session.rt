@@ -1,0 +1,204 @@
+// A session: a log that grows, and questions about it, over one book.
+ghost use Rattle.std.specs.Prelude.{◌≡◌, ◌≤◌, [], false, length, true, IfOk, OnErr, OnOk};
+ghost use Rattle.alarm_session.specs.Refusals.{Answers, alarm_answer, before_answer, is_new_pair, large_refusal, log_with, numbers_of};
+ghost use Rattle.alarm_session.specs.Session.{Becomes, BeginsAs, IsSessionBook, IsToldBy, KeepsSetting, StaysSame};
+ghost use Rattle.des_base.specs.declared.TheConstants.{MOST_STEPS};
+ghost use Rattle.indep.specs.StoredTest.{IsTest};
+ghost use Rattle.least_faults.specs.Growing.{HasGrownWithin};
+ghost use Rattle.log_order.specs.Adding.{with_alarm};
+ghost use Rattle.log_order.specs.Log.{no_log};
+ghost use Rattle.replay.specs.QuestionSize.{question_size};
+ghost use Rattle.sat_order.specs.Rank.{IsRanked};
+
+use crate::adding::{put_alarm, put_before};
+use crate::asking::{ask_kept, begin};
+use crate::kept::{Kept, Setting};
+use crate::refusal::SessionRefusal;
+use crate::whole::is_session_book;
+use des_base::{Memory, Name};
+use des_net::Network;
+use indep::Indep;
+use least_faults::Found;
+use log_order::AlarmLog;
+use proof_ledger::Ledger;
+use sat_order::Order;
+use std::alloc::Global;
+use std::marker::Model;
+
+/// A log that grows, and questions about it, over one book that keeps what each question found.
+///
+/// Alarms and pairs are added one by one, and each question is about the log so far. Nothing is begun anew: the clauses of an
+/// addition join those that are there, and a question goes on with what earlier ones learnt.
+#[derive(Drop)]
+pub struct Session<'a, T, R> {
+    alloc: Global,
+    net: &'a Network,
+    steps: u32,
+    test: Indep<T>,
+    kept: Kept<R>,
+}
+
+impl<'a, T, R> Model for Session<'a, T, R> {
+    ghost use Rattle.alarm_session.specs.Session.{SessionState, IsKept};
+
+    ghost Value = { SessionState R };
+
+    ghost view = { λ a. record { net = a.net.now; steps = a.steps; log = a.kept.log; book = a.kept.book.entries; order = a.kept.parts.solver.order } };
+
+    ghost invariant = { λ a. IsKept a.net.now a.steps a.kept };
+}
+
+impl<'a, T: Fn(u32, u32) -> bool, R: Fn(u32) -> u64> Session<'a, T, R> {
+    /// A session about runs within n steps, with an empty log, over an empty book. The order has no variables yet.
+    ///
+    /// It is refused as too large where the question of the empty log is. A refusal drops the book.
+    pub fn new(
+        alloc: Global,
+        net: &'a Network,
+        n: u32,
+        test: Indep<T>,
+        rank: Order<R>,
+        book: Ledger,
+    ) -> Result<Session<'a, T, R>, SessionRefusal>
+        requires right { IsTest T.pre T.post test.test test.net }
+        requires net { test.net ≡ net.now }
+        requires ranked { IsRanked R.pre R.post rank }
+        requires no_variables { rank.waiting ≡ [] }
+        requires steps { n ≤ MOST_STEPS }
+        requires empty { book.entries ≡ [] }
+        ensures refused { Answers result (large_refusal (question_size net.now no_log n)) }
+        ensures begins { IfOk result (BeginsAs net.now n rank.rank) }
+        ensures ranked { IfOk result (λ session. IsRanked R.pre R.post session.order) }
+    {
+        let setting = Setting {
+            net,
+            steps: n,
+            alloc,
+        };
+        let kept = begin(setting, &test, rank, book)?;
+        Ok(Session {
+            alloc,
+            net,
+            steps: n,
+            test,
+            kept,
+        })
+    }
+
+    /// Adds an alarm, and answers its number. A refusal leaves log, book and answers as they were.
+    pub fn alarm(&mut self, id: Name, labels: &[Name]) -> Result<u32, SessionRefusal>
+        requires ranked { IsRanked R.pre R.post self.old.order }
+        ensures ranked { IsRanked R.pre R.post self.new.order }
+        ensures kept { KeepsSetting self.old self.new }
+        ensures refused { Answers result (alarm_answer self.old.net self.old.steps self.old.log id labels.now false) }
+        ensures number { IfOk result (λ alarm. alarm ≡ length self.old.log.alarms) }
+        ensures added { OnOk result (Becomes self.old.net self.old.steps self.old.log (with_alarm self.old.log id labels.now false) self.new.log self.old.book self.new.book) }
+        ensures same { OnErr result (StaysSame self.old.log self.new.log self.old.book self.new.book) }
+    {
+        let setting = Setting {
+            net: self.net,
+            steps: self.steps,
+            alloc: self.alloc,
+        };
+        put_alarm(setting, id, labels, false, &mut self.kept)
+    }
+
+    /// Adds an alarm that is perhaps false, and answers its number. A refusal leaves log, book and answers as they were.
+    pub fn maybe(&mut self, id: Name, labels: &[Name]) -> Result<u32, SessionRefusal>
+        requires ranked { IsRanked R.pre R.post self.old.order }
+        ensures ranked { IsRanked R.pre R.post self.new.order }
+        ensures kept { KeepsSetting self.old self.new }
+        ensures refused { Answers result (alarm_answer self.old.net self.old.steps self.old.log id labels.now true) }
+        ensures number { IfOk result (λ alarm. alarm ≡ length self.old.log.alarms) }
+        ensures added { OnOk result (Becomes self.old.net self.old.steps self.old.log (with_alarm self.old.log id labels.now true) self.new.log self.old.book self.new.book) }
+        ensures same { OnErr result (StaysSame self.old.log self.new.log self.old.book self.new.book) }
+    {
+        let setting = Setting {
+            net: self.net,
+            steps: self.steps,
+            alloc: self.alloc,
+        };
+        put_alarm(setting, id, labels, true, &mut self.kept)
+    }
+
+    /// Adds a pair of alarms, "the first before the second": true where it is new. A pair that is there already changes
+    /// nothing. A refusal leaves log, book and answers as they were.
+    pub fn before(&mut self, first: &Name, second: &Name) -> Result<bool, SessionRefusal>
+        requires ranked { IsRanked R.pre R.post self.old.order }
+        ensures ranked { IsRanked R.pre R.post self.new.order }
+        ensures kept { KeepsSetting self.old self.new }
+        ensures refused { Answers result (before_answer self.old.net self.old.steps self.old.log first.now second.now) }
+        ensures new { IfOk result (λ new. new ≡ is_new_pair self.old.log (numbers_of self.old.log first.now second.now)) }
+        ensures added { OnOk result (Becomes self.old.net self.old.steps self.old.log (log_with self.old.log (numbers_of self.old.log first.now second.now)) self.new.log self.old.book self.new.book) }
+        ensures again { IfOk result (λ new. new ≡ false → StaysSame self.old.log self.new.log self.old.book self.new.book) }
+        ensures same { OnErr result (StaysSame self.old.log self.new.log self.old.book self.new.book) }
+    {
+        let setting = Setting {
+            net: self.net,
+            steps: self.steps,
+            alloc: self.alloc,
+        };
+        put_before(setting, first, second, &mut self.kept)
+    }
+
+    /// The least number of faults that explains the log so far, by a search that may learn as many clauses as the budget says.
+    ///
+    /// After want of memory the log is as it was, the book may have grown, and the session goes on.
+    pub fn ask(&mut self, budget: u64) -> Result<Found, Memory>
+        requires ranked { IsRanked R.pre R.post self.old.order }
+        ensures ranked { IsRanked R.pre R.post self.new.order }
+        ensures kept { KeepsSetting self.old self.new }
+        ensures log { self.new.log ≡ self.old.log }
+        ensures grown { HasGrownWithin budget self.old.book self.new.book }
+        ensures told { IfOk result (IsToldBy self.old.net self.old.log self.old.steps budget self.old.book self.new.book) }
+    {
+        let setting = Setting {
+            net: self.net,
+            steps: self.steps,
+            alloc: self.alloc,
+        };
+        ask_kept(setting, &mut self.kept, budget)
+    }
+
+    /// The log so far.
+    pub fn log(&self) -> &AlarmLog
+        ensures { result.now ≡ self.now.log }
+    {
+        &self.kept.log
+    }
+
+    /// The book so far. It is valid, and has each clause about once, however many questions were asked; its axioms pose the
+    /// question of the log.
+    pub fn book(&self) -> &Ledger
+        ensures book { result.now.entries ≡ self.now.book }
+        ensures told { IsSessionBook self.now.net self.now.log self.now.steps self.now.book }
+    {
+        let setting = Setting {
+            net: self.net,
+            steps: self.steps,
+            alloc: self.alloc,
+        };
+        is_session_book(setting, &self.kept);
+        &self.kept.book
+    }
+
+    /// The book as it stands.
+    pub fn into_book(self) -> Ledger
+        ensures { result.entries ≡ self.entry.book }
+    {
+        let Session {
+            alloc: _,
+            net: _,
+            steps: _,
+            test: _,
+            kept,
+        } = self;
+        let Kept {
+            log: _,
+            size: _,
+            parts: _,
+            book,
+        } = kept;
+        book
+    }
+}
