@@ -20,6 +20,7 @@ use Rattle.prop_core.specs.VariableNames.{Name}
 use Rattle.prop_core.specs.declared.lit.Lit.{Lit}
 use Rattle.replay.specs.QuestionSize.{question_size}
 use Rattle.sat_order.specs.Rank.{OrderState}
+use Rattle.sat_solve.specs.Searching.{HasAxiomVars}
 
 -- the network, the number of steps, the log so far, the book, and the order of the variables
 pub record SessionState (R : Type 0) : Type 0 where
@@ -38,10 +39,11 @@ pub record IsFor {R : Type 0} (net : Net) (n : ℕ) (kept : Kept R) : Type 0 whe
   pub belong : BelongTo net kept.log kept.parts
   pub time : kept.parts.step.steps ≡ n
 
--- The parts are those of the log, and their clauses are the axioms of the book, whose clauses the solver has adopted.
+-- The parts are those of the log, and their clauses are the axioms of the book, in which all variables of its clauses occur; the solver has adopted these clauses.
 pub record IsKept {R : Type 0} (net : Net) (n : ℕ) (kept : Kept R) : Type 0 where
   pub of_log : IsFor net n kept
   pub coded : AreParts kept.parts.step kept.parts.code.code kept.parts.counter kept.parts.vars (axioms_of kept.book.entries)
+  pub known : HasAxiomVars kept.book.entries
   pub adopted_all : kept.parts.solver.adopted ≡ clauses_of kept.book.entries
   pub enough : kept.parts.vars ≤ kept.parts.solver.vars
 
