@@ -1,7 +1,7 @@
 //! Tests of calls that cross crates, and nothing else.
 //!
 //! What the program can print is among the cases of files. Here stands what only a call can show: how large questions are, what is
-//! found by whatever test and rank are stored, what the book shows of it, and replies that the program can't be brought to print.
+//! found by whatever test and rank are stored, what the book shows of it, what sessions answer, and replies that the program can't be brought to print.
 #![tactic(auto)]
 
 #[cfg(test)]
@@ -12,6 +12,8 @@ mod models;
 mod questions;
 #[cfg(test)]
 mod replies;
+#[cfg(test)]
+mod sessions;
 #[cfg(test)]
 mod shown;
 #[cfg(test)]

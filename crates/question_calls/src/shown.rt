@@ -1,6 +1,7 @@
 // What a run and a book must show of an answer.
 ghost use Rattle.std.specs.Prelude.{◌≡◌, ◌<◌, All, IfSome, IsTrue, length};
 ghost use Rattle.replay.specs.Traced.{event_of, word_of};
+ghost use Rattle.report.specs.Replies.{EventsKnown};
 
 use des_net::Network;
 use least_faults::{Best, Found};
@@ -51,6 +52,22 @@ fn given(found: &Found) -> Option<&Best> {
         Found::Absent => None,
         Found::Many(best) => Some(best),
         Found::Undecided { best, .. } => best.as_ref(),
+    }
+}
+
+// Sees that the events of the run that is given, if one is, are the network's.
+pub fn has_known_events(rt: &impl Abort, net: &Network, found: &Found)
+    ensures { EventsKnown net.now found.now }
+{
+    match found {
+        Found::Explained(best) => assert!(rt; are_known(net, best.run.steps())),
+        Found::Many(best) => assert!(rt; are_known(net, best.run.steps())),
+        Found::Absent => {}
+        Found::Undecided { best: None, .. } => {}
+        Found::Undecided {
+            best: Some(best),
+            ..
+        } => assert!(rt; are_known(net, best.run.steps())),
     }
 }
 
