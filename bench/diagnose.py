@@ -14,7 +14,29 @@ time by a fault. The last are grids of 20 like components that reboot and tell t
 10 simulated faults, in their whole order and in that of each component alone, within the steps of the simulated run. So many faults are
 an upper bound of the answer.
 
-On 28 November 2026, on four shared processors of an Intel Xeon under heavy load, seconds of the processor, the least of up to three runs, and
+On 28 November 2026, on four shared processors of an Intel Xeon under heavy load, seconds of the processor for the whole `diagnose`, the least of
+three runs, and MiB at the peak; "before" has nodes of 32 bytes, hints and spans apart, and was run in turns with "now". MiniSat and CaDiCaL (1.5.3, its
+program) were run anew for each bound up to the answer, once, on the formulas that `formula.program` prints. The programs are builds of the sources without
+proofs and without a compiler's checks, since the proved ones were not at hand. Ratios below 1.3 can't be told from noise. What is kept of a clause is told in
+docs/DECISIONS.md. The geometric mean of the last column is 1.0, and that of "now" to "before" 0.87. 200 units were run once, and seven alarms of one
+device not anew.
+
+| Plant | Steps | before | now | MiB before | MiB now | MiniSat | CaDiCaL | now to MiniSat |
+|---|---|---|---|---|---|---|---|---|
+| 64 units | 16 | 0.12 | 0.10 | 20 | 14 | 2.6 | 0.88 | 0.04 |
+| 100 units | 26 | 0.77 | 0.69 | 74 | 43 | 17.5 | 4.4 | 0.04 |
+| 200 units, one step fewer than alarms | 48 | 2.0 | 1.7 | 210 | 116 | | | |
+| 200 units | 50 | 8.6 | 6.4 | 394 | 270 | | | |
+| 6 valves, 4 alarms | 5 | 0.42 | 0.36 | 15 | 15 | 0.22 | 0.28 | 1.6 |
+| 6 valves, 5 alarms | 4 | 1.6 | 1.4 | 15 | 15 | 0.37 | 0.33 | 3.6 |
+| 6 stations, 6 alarms | 8 | 0.51 | 0.50 | 15 | 15 | 0.13 | 0.28 | 3.8 |
+| 10 stations, 6 alarms | 6 | 0.32 | 0.30 | 15 | 15 | 0.13 | 0.38 | 2.3 |
+| mesh of 20 nodes | 10 | 0.27 | 0.23 | 15 | 15 | 0.47 | 0.20 | 0.5 |
+| mesh of 30 nodes | 12 | 2.8 | 2.5 | 37 | 29 | 1.5 | 3.0 | 1.7 |
+| 5 alarms of one device | 5 | 0.14 | 0.13 | 15 | 15 | 0.04 | 0.07 | 3.0 |
+| 6 alarms of one device | 6 | 4.0 | 2.9 | 15 | 15 | 0.42 | 0.36 | 7.0 |
+
+Earlier that day, in seconds of the processor, the least of up to three runs, and
 conflicts of the whole `diagnose`; MiniSat anew for each bound and CaDiCaL's library on the same ascending bounds, on the formulas that the
 program asks. Ours is a build of the sources without proofs and without a compiler's checks, as the proved one was not at hand; the two rows of six and
 seven alarms are from several runs. Ratios below 1.5 can't be told from noise. "Before" has watches and links apart. Memory was the same, 78 MiB for 100 units and 37 for the mesh of 30 nodes.
