@@ -16,7 +16,7 @@ an upper bound of the answer.
 
 On 28 November 2026, on four shared processors of an Intel Xeon under heavy load, seconds of the processor for the whole `diagnose`, the least of
 three runs, and MiB at the peak; "before" has nodes of 32 bytes, hints and spans apart, and was run in turns with "now". MiniSat and CaDiCaL (1.5.3, its
-program) were run anew for each bound up to the answer, once, on the formulas that `formula.program` prints. The programs are builds of the sources without
+program) were run anew for each bound up to the answer, once, on the formulas that `cnf` prints. The programs are builds of the sources without
 proofs and without a compiler's checks, since the proved ones were not at hand. Ratios below 1.3 can't be told from noise. What is kept of a clause is told in
 docs/DECISIONS.md. The geometric mean of the last column is 1.0, and that of "now" to "before" 0.87. 200 units were run once, and seven alarms of one
 device not anew.

