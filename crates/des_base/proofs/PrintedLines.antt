@@ -91,7 +91,7 @@ strip_step false shorter line h = refl
 strip_none : (line : List ℕ) → list_all line_byte line ≡ true → strip_carriage_return line ≡ line
 strip_none line h = strip_step (get_or line (length line - 1) 0 == 13) (take (length line - 1) line) line (no_return_at line (length line - 1) h)
 
-text_lines-line : (line rest : List ℕ) → list_all line_byte line ≡ true → text_lines (line ++ 10 ∷ rest) ≡ line ∷ text_lines rest
+pub text_lines-line : (line rest : List ℕ) → list_all line_byte line ≡ true → text_lines (line ++ 10 ∷ rest) ≡ line ∷ text_lines rest
 text_lines-line line rest h =
     ap (λ pieces. map strip_carriage_return (without_empty_last pieces)) (slice_split_at (λ byte. byte == 10) line 10 rest (no_feed line h) refl)
     ∙ ap (map strip_carriage_return) (without_empty_last-cons line (slice_split (λ byte. byte == 10) rest) (omega (arith, length-slice_split (λ byte. byte == 10) rest)))
