@@ -11,13 +11,12 @@ ghost use Rattle.proof_ledger.specs.Book.{axioms_of};
 ghost use Rattle.replay.specs.QuestionSize.{question_size};
 
 use crate::kept::{Drafted, Kept, Setting};
-use crate::labels::{each_once, has_pair};
 use crate::refusal::{SessionRefusal, refusal_of};
 use crate::size::{SIZE_LIMIT, size_with_alarm, size_with_pair};
 use crate::whole::are_whole;
 use des_base::Name;
 use least_faults::{add_draft, reserve_draft};
-use log_order::{AlarmLog, LogRefusal};
+use log_order::{AlarmLog, LogRefusal, each_once};
 
 // Adds an alarm, certain or doubtful, to the log and to the parts and the book of its question: to all or to none.
 pub fn put_alarm<R: Fn(u32) -> u64>(
@@ -153,7 +152,7 @@ fn put_pair<R: Fn(u32) -> u64>(
     if let Err(refusal) = kept.log.test_before(first, second) {
         return Err(refusal_of(refusal));
     }
-    if has_pair(&kept.log, first, second) {
+    if kept.log.has_pair(first, second) {
         return Ok(false);
     }
     put_new_pair(setting, first, second, kept)

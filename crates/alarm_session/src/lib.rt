@@ -13,7 +13,6 @@
 mod adding;
 mod asking;
 mod kept;
-mod labels;
 mod refusal;
 mod session;
 mod size;

@@ -1,7 +1,7 @@
 -- The clauses of all pairs of a list.
 use Rattle.std.proofs.Common.{◌≡◌, ℕ, zero, suc, ◌+◌, ◌*◌, ◌-◌, ◌<◌, ◌≤◌, ◌∙◌, Bool, true, false, List, [], ◌∷◌, ◌++◌, map, length, take, drop, Some, refl, sym, ap, arith, slice_get, IsTrue, not, ◌||◌, append_assoc, append-nil, length-append, get_or}
 use Rattle.std.proofs.Math.Nat.{suc-mul, mul-suc}
-use Rattle.std.proofs.lemmas.List.{length-map, length-take-le, take-append-drop, map-append}
+use Rattle.std.proofs.lemmas.List.{length-map, length-take-le, take-append-drop}
 use Rattle.std.proofs.lemmas.Option.{slice_get-get_or}
 use Rattle.std.specs.Bool.{beq}
 use Rattle.std.specs.List.{AllByRecursion}

@@ -1,95 +1,29 @@
 -- How many clauses a log has at most, and how many an addition brings, without what a counter of faults takes.
-use Rattle.std.proofs.Common.{◌≡◌, ◌∙◌, ℕ, zero, suc, ◌+◌, ◌*◌, ◌^◌, ◌≤◌, Bool, true, false, cond, List, [], ◌∷◌, ◌++◌, fold, length, map, flat_map, refl, sym, ap, arith, sum_by, length-append}
+use Rattle.std.proofs.Common.{◌≡◌, ◌∙◌, ℕ, suc, ◌+◌, ◌*◌, ◌^◌, ◌≤◌, cond, List, [], ◌∷◌, ◌++◌, fold, length, map, ap, arith, sum_by, length-append}
 use Rattle.std.proofs.lemmas.List.{length-map}
 use Rattle.std.proofs.lemmas.List.FromFn.{length-range_with_len}
-use Rattle.std.proofs.Math.Nat.{mul-le-mul_left, one-mul, pow-suc, pow-zero}
-use Rattle.card_counter.proofs.Listed.{exclusions_are_listed}
-use Rattle.card_counter.specs.Exclusions.{exclusion_list}
 use Rattle.des_base.specs.Lists.{numbers_below}
 use Rattle.des_net.specs.Network.{Net}
 use Rattle.des_net.specs.QuestionSize.{component_sizes, counter_size, observable_count}
 use Rattle.least_faults.specs.Adding.{input_count, is_doubted}
 use Rattle.least_faults.specs.Bounds.{coded_clauses}
-use Rattle.log_clauses.proofs.Drafts.{doubtful_more, flat_length, first_clauses_are_few, longer, same_count, sum_more, taken_count}
+use Rattle.log_clauses.proofs.Drafts.{added_few, doubtful_more, first_clauses_are_few, longer, same_count, sum_more}
 use Rattle.log_clauses.proofs.Stay.{with_alarm}
 use Rattle.log_clauses.specs.Additions.{Addition, alarm_added, pair_added, with_addition}
-use Rattle.log_clauses.specs.Drafts.{taken_events, link_clauses, match_clauses, done_clauses, alarm_clauses, real_clauses, added_clauses, added_list, first_clauses, first_list}
-use Rattle.log_clauses.specs.LogClauses.{chain, log_clause, not_done_first, done_if_asked, match_is_real, one_match, before_if_asked}
+use Rattle.log_clauses.specs.Drafts.{added_clauses, added_list, first_clauses, first_list}
+use Rattle.log_clauses.specs.LogClauses.{log_clause, before_if_asked}
 use Rattle.log_encode.specs.BuiltLog.{BuiltLog, added_written, additions_of, built_empty, built_log, built_with}
 use Rattle.log_encode.specs.CodedLog.{CodedLog, code_after, empty_code, read_names}
 use Rattle.log_order.specs.Log.{Log, Alarm, no_log}
 use Rattle.prop_core.specs.Clauses.{Clause}
 use Rattle.prop_core.specs.Listings.{literal_by, written_by, Listing}
-use Rattle.prop_core.specs.VariableNames.{Name, matches}
+use Rattle.prop_core.specs.VariableNames.{Name}
 use Rattle.prop_core.specs.declared.grid.Grid.{Grid}
 use Rattle.replay.specs.QuestionSize.{alarm_sizes, doubtful_count, matching_count, question_size}
 
 -- ---- an alarm
 
-flat_few : {Y : Type 0} (f : ℕ → List Y) (xs : List ℕ) (c : ℕ) → ((x : ℕ) → length (f x) ≤ c) → length (flat_map f xs) ≤ length xs * c
-flat_few f [] c h = omega arith
-flat_few f (x ∷ xs) c h = omega (arith, flat_few f xs c h, h x, length-append (f x) (flat_map f xs))
-
-match_few : (i t : ℕ) (events : List ℕ) → length (match_clauses i t events) ≤ 3 * length events
-match_few i t events =
-    omega (
-      arith,
-      (exclusions_are_listed (map (λ e. matches i e (suc t)) events)).few,
-      length-map (exclusion_list (map (λ e. matches i e (suc t)) events)) (one_match i t),
-      length-map events (λ e. matches i e (suc t)),
-    )
-
-within_square : (m : ℕ) → m ≤ m * m
-within_square zero = omega arith
-within_square (suc m) = omega arith
-
-few_clauses : (n m r : ℕ) → r ≤ m * n → m * (n * 7) + (2 + n * (2 + 3 * m)) + r ≤ 12 * (n * (m * m + 1)) + 12
-few_clauses n m r real =
-    let more = within_square m in
-    let each : 8 * m + (2 + 3 * m) ≤ 12 * (m * m + 1) = omega (arith, more) in
-    let all = mul-le-mul_left n each in
-    omega (arith, all, real)
-
-square : (m : ℕ) → m ^ 2 ≡ m * m
-square m = pow-suc m 1 ∙ ap (λ k. k * m) (pow-suc m 0 ∙ ap (λ k. k * m) (pow-zero m) ∙ one-mul m)
-
 module _ (net : Net) (log : Log) (n : ℕ) (new : Alarm) where
-  taken : List ℕ
-  taken = taken_events net log new
-
-  alarm_few : length (alarm_clauses net log n new) ≤ length taken * (n * 7) + (2 + n * (2 + 3 * length taken))
-  unfolding taken
-  alarm_few =
-      let range = length-range_with_len 0 n in
-      let front = flat_length (λ e. flat_map (link_clauses (length log.alarms) e (length (chain net log e))) (numbers_below n)) taken (n * 7) (λ e.
-      let inner = flat_length (link_clauses (length log.alarms) e (length (chain net log e))) (numbers_below n) 7 (λ t. refl) in omega (arith, inner, range)) in
-      let back = flat_few (done_clauses (length log.alarms) taken) (numbers_below n) (2 + 3 * length taken) (λ t.
-      let few = match_few (length log.alarms) t taken in omega (arith, few)) in
-      let moved = ap (λ k. k * (2 + 3 * length taken)) range in
-      let whole = length-append (flat_map (λ e. flat_map (link_clauses (length log.alarms) e (length (chain net log e))) (numbers_below n)) taken)
-      (not_done_first (length log.alarms) ∷ done_if_asked (length log.alarms) ∷ flat_map (done_clauses (length log.alarms) taken) (numbers_below n)) in
-      omega (arith, range, front, back, whole, moved)
-
-  real_few : (b : Bool) → length (real_clauses b (length log.alarms) taken n) ≤ length taken * n
-  unfolding taken
-  real_few false = omega arith
-  real_few true =
-      let range = length-range_with_len 0 n in
-      let all = flat_length (λ e. map (λ t. match_is_real (length log.alarms) e t) (numbers_below n)) taken n (λ e. length-map (numbers_below n) (λ t. match_is_real (length log.alarms) e t) ∙ range) in
-      omega (arith, all)
-
-  added_few : length (added_clauses net log n (alarm_added new)) ≤ 12 * (n * (matching_count net (with_alarm log new) (length log.alarms) ^ 2 + 1)) + 12
-  unfolding taken
-  added_few =
-      let size = alarm_few in
-      let real = real_few new.doubtful in
-      let whole = length-append (alarm_clauses net log n new) (real_clauses new.doubtful (length log.alarms) taken n) in
-      let bound = few_clauses n (length taken) (length (real_clauses new.doubtful (length log.alarms) taken n)) real in
-      let same : length taken * length taken + 1 ≡ matching_count net (with_alarm log new) (length log.alarms) ^ 2 + 1 =
-      ap (λ k. k + 1) (sym (square (length taken)) ∙ ap (λ k. k ^ 2) (taken_count net log n new)) in
-      let moved = ap (λ k. 12 * (n * k) + 12) same in
-      omega (arith, size, whole, bound, moved)
-
   sizes_more : alarm_sizes net (with_alarm log new) ≡ alarm_sizes net log + (matching_count net (with_alarm log new) (length log.alarms) ^ 2 + 1)
   sizes_more =
       ap (λ k. sum_by (λ i. matching_count net (with_alarm log new) i ^ 2 + 1) (numbers_below k)) (longer net log n new)
@@ -97,7 +31,7 @@ module _ (net : Net) (log : Log) (n : ℕ) (new : Alarm) where
 
   alarm_grows : length (added_clauses net log n (alarm_added new)) + coded_clauses net log n ≤ coded_clauses net (with_alarm log new) n
   alarm_grows = rw (sizes_more, longer net log n new)
-      (grows n (component_sizes net) (alarm_sizes net log) (length log.pairs) (length log.alarms) (matching_count net (with_alarm log new) (length log.alarms) ^ 2 + 1) (length (added_clauses net log n (alarm_added new))) added_few)
+      (grows n (component_sizes net) (alarm_sizes net log) (length log.pairs) (length log.alarms) (matching_count net (with_alarm log new) (length log.alarms) ^ 2 + 1) (length (added_clauses net log n (alarm_added new))) (added_few net log n new))
     where
       grows : (n q s r a d k : ℕ) → k ≤ 12 * (n * d) + 12 → k + 12 * (n * (q + s + r) + (q + a + r)) ≤ 12 * (n * (q + (s + d) + r) + (q + suc a + r))
       grows n q s r a d k few = omega (arith, few)
@@ -105,7 +39,7 @@ module _ (net : Net) (log : Log) (n : ℕ) (new : Alarm) where
   -- with 256 inputs of the counter for a doubtful alarm, the size of the question grows by more
   alarm_size : length (added_clauses net log n (alarm_added new)) + 12 * question_size net log n + 12 * (256 * cond new.doubtful 1 0) ≤ 12 * question_size net (with_alarm log new) n + 12
   alarm_size = rw (sizes_more, doubtful_more net log n new)
-      (grows n (component_sizes net) (alarm_sizes net log) (length log.pairs) (counter_size net n) (doubtful_count log) (cond new.doubtful 1 0) (matching_count net (with_alarm log new) (length log.alarms) ^ 2 + 1) (length (added_clauses net log n (alarm_added new))) added_few)
+      (grows n (component_sizes net) (alarm_sizes net log) (length log.pairs) (counter_size net n) (doubtful_count log) (cond new.doubtful 1 0) (matching_count net (with_alarm log new) (length log.alarms) ^ 2 + 1) (length (added_clauses net log n (alarm_added new))) (added_few net log n new))
     where
       grows : (n q s r f g o d k : ℕ) → k ≤ 12 * (n * d) + 12 → k + 12 * (n * (q + s + r) + (f + 256 * g)) + 12 * (256 * o) ≤ 12 * (n * (q + (s + d) + r) + (f + 256 * (g + o))) + 12
       grows n q s r f g o d k few = omega (arith, few)

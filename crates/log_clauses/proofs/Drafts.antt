@@ -307,8 +307,8 @@ module _ (net : Net) (log : Log) (n : ℕ) (new : Alarm) where
       ∙ sum_more (λ i. cond (is_doubtful (with_alarm log new) i) 1 0) (λ i. cond (is_doubtful log i) 1 0) (length log.alarms) (λ i h. ap {B = ℕ} (λ b. cond b 1 0) (doubtful_same log new i h))
       ∙ ap {B = ℕ} (λ b. doubtful_count log + cond b 1 0) (doubtful_new log new)
 
-  few : length (added_clauses net log n (alarm_added new)) ≤ 12 * (n * (matching_count net (with_alarm log new) (length log.alarms) ^ 2 + 1)) + 12
-  few =
+  pub added_few : length (added_clauses net log n (alarm_added new)) ≤ 12 * (n * (matching_count net (with_alarm log new) (length log.alarms) ^ 2 + 1)) + 12
+  added_few =
       let size = alarm_size in
       let real = real_size new.doubtful in
       let whole = length-append (alarm_clauses net log n new) (real_clauses new.doubtful (length log.alarms) (taken_events net log new) n) in
@@ -327,7 +327,7 @@ module _ (net : Net) (log : Log) (n : ℕ) (new : Alarm) where
       ∙ sum_more (λ i. matching_count net (with_alarm log new) i ^ 2 + 1) (λ i. matching_count net log i ^ 2 + 1) (length log.alarms) (λ i h. ap (λ k. k ^ 2 + 1) (same_count i h)) in
       rw (sum, doubtful_more) (grows n (sum_by (λ c. (state_number net c + touching_count net c) ^ 2) (numbers_below (length net.components)))
       (sum_by (λ i. matching_count net log i ^ 2 + 1) (numbers_below (length log.alarms))) (length log.pairs)
-      (matching_count net (with_alarm log new) (length log.alarms) ^ 2 + 1) (256 * n * fault_event_count net) (doubtful_count log) (cond new.doubtful 1 0) (length (added_clauses net log n (alarm_added new))) few)
+      (matching_count net (with_alarm log new) (length log.alarms) ^ 2 + 1) (256 * n * fault_event_count net) (doubtful_count log) (cond new.doubtful 1 0) (length (added_clauses net log n (alarm_added new))) added_few)
 
 pair_grows : (n q s r f a : ℕ) → a ≤ suc n → a + 12 * (n * (q + s + r) + f) ≤ 12 * (n * (q + s + (r + 1)) + f) + 12
 pair_grows n q s r f a h = omega arith

@@ -1,7 +1,7 @@
 -- Alarms that are kept as ids and meanings.
-use Rattle.std.proofs.Common.{◌≡◌, ◌∙◌, ℕ, zero, suc, ◌<◌, ◌≤◌, List, [], ◌∷◌, ◌++◌, length, Option, None, Some, refl, arith, ap, sym, subst}
+use Rattle.std.proofs.Common.{◌≡◌, ◌∙◌, ℕ, zero, suc, ◌<◌, List, [], ◌∷◌, ◌++◌, length, Some, refl, arith, ap, sym}
 use Rattle.std.specs.Prelude.{option_map, slice_get}
-use Rattle.log_order.specs.Log.{Log, Alarm, an_alarm}
+use Rattle.log_order.specs.Log.{Log, an_alarm}
 use Rattle.log_order.specs.Adding.{names_of}
 use Rattle.log_order.specs.Meanings.{Meaning, alarms_with}
 use Rattle.log_order.specs.View.{log_view, IsAlarmLog}

@@ -59,7 +59,7 @@ fn push_new(labels: &mut Vec<Name>, label: &Name) -> Result<(), Memory>
     Ok(())
 }
 
-// The labels, each once and at its first place.
+/// The labels, each once and at its first place: at most 64, as an alarm keeps them. Only want of memory fails.
 pub fn each_once(alloc: Global, labels: &[Name]) -> Result<Vec<Name>, Memory>
     requires { length labels.now ≤ MOST_LABELS }
     ensures once { IfOk result (λ once. once.items ≡ with_texts [] labels.now) }

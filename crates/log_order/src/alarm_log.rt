@@ -93,6 +93,13 @@ impl AlarmLog {
         self.precedence.pairs()
     }
 
+    /// Whether the pair "the first before the second" is there. It need not be one of known alarms.
+    pub fn has_pair(&self, first: u32, second: u32) -> bool
+        ensures { result ≡ has_pair self.now.pairs first second }
+    {
+        self.precedence.has(first, second)
+    }
+
     /// How many pairs there are. Each is there once.
     pub fn pair_count(&self) -> u32
         ensures count { result ≡ length self.now.pairs }

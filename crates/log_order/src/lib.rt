@@ -14,7 +14,7 @@ mod order;
 mod precedence;
 mod refusal;
 
-pub use alarm::has_label;
+pub use alarm::{each_once, has_label};
 pub use alarm_log::AlarmLog;
 pub use refusal::LogRefusal;
 

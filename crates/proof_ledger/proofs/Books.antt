@@ -1,5 +1,5 @@
 -- A book and how it is kept.
-use Rattle.std.proofs.Common.{◌≡◌, ◌∙◌, ℕ, zero, suc, ◌+◌, ◌-◌, ◌<◌, ◌≤◌, ◌++◌, ◌∷◌, [], List, refl, ap, sym, length, arith, subst, append_assoc, take, drop, add-zero, Option, Some, None, slice_get, get_or}
+use Rattle.std.proofs.Common.{◌≡◌, ◌∙◌, ℕ, zero, suc, ◌+◌, ◌-◌, ◌<◌, ◌++◌, ◌∷◌, [], List, refl, ap, sym, length, arith, subst, append_assoc, take, drop, add-zero, Option, Some, None, slice_get, get_or}
 use Rattle.std.specs.Prelude.{MatchOption}
 use Rattle.std.proofs.lemmas.Grind.{common_steps}
 use Rattle.std.proofs.lemmas.List.{append-nil}

@@ -9,7 +9,7 @@ use Rattle.std.proofs.lemmas.Option.{slice_get_within}
 use Rattle.prop_core.specs.declared.lit.Lit.{Lit}
 use Rattle.prop_core.specs.Clauses.{Clause}
 use Rattle.prop_core.specs.Derivation.{clause_numbered}
-use Rattle.proof_ledger.specs.Book.{BookEntry, axiomatic, learnt, final, mark, clause_of, clause_hints_of, axiom_of, axioms_of, clauses_of, hints_of, shown, IsEntryAt, EachAfter, IsDerived, IsValidBook}
+use Rattle.proof_ledger.specs.Book.{BookEntry, axiomatic, learnt, final, mark, clause_of, clause_hints_of, axiom_of, axioms_of, clauses_of, hints_of, shown, IsEntryAt}
 use Rattle.proof_ledger.specs.declared.checker.ProofStep.{ProofStep}
 use Rattle.proof_ledger.specs.declared.checker.ProofStep.TheVariants.{Add}
 use Rattle.proof_ledger.specs.declared.entry.Entry.{Entry}

@@ -1,22 +1,21 @@
 -- The refutation that a book holds checks.
-use Rattle.std.proofs.Common.{◌≡◌, ◌∙◌, ℕ, zero, suc, ◌+◌, ◌-◌, ◌<◌, ◌≤◌, ◌==◌, Bool, true, false, cond, ◌&&◌, ◌||◌, List, [], ◌∷◌, ◌++◌, map, length, Option, None, Some, slice_get, take, refl, sym, ap, subst, arith, Contains, append-nil, append_assoc, length-append, sub-one, add-one}
+use Rattle.std.proofs.Common.{◌≡◌, ◌∙◌, ℕ, zero, suc, ◌+◌, ◌-◌, ◌==◌, Bool, true, false, cond, ◌&&◌, ◌||◌, List, [], ◌∷◌, ◌++◌, map, length, Option, None, Some, slice_get, take, refl, sym, ap, subst, arith, Contains, append-nil, append_assoc, length-append, sub-one}
 use Rattle.des_base.proofs.BoolLemmas.{differ}
 use Rattle.std.specs.Prelude.{⊤, slice_index_or}
 use Rattle.std.specs.Bool.{beq}
-use Rattle.std.specs.List.{AllByRecursion, list_all, list_any, range_with_len}
+use Rattle.std.specs.List.{AllByRecursion, list_all, range_with_len}
 use Rattle.std.proofs.lemmas.List.{length-map}
 use Rattle.std.proofs.lemmas.List.Elements.{filter_map-append}
 use Rattle.std.proofs.lemmas.List.Folds.{list_any-append}
 use Rattle.std.proofs.lemmas.Bool.{eqb-true, eq-eqb}
 use Rattle.prop_core.specs.declared.lit.Lit.{Lit}
-use Rattle.prop_core.specs.Clauses.{Clause, negation, same_literal, is_true, is_false, is_open, NegatesOnly}
-use Rattle.prop_core.specs.Derivation.{Standing, falsified, satisfied, unit, wide, standing, open_standing, after_standing, after_hint, two_open, hints_end, follow, Derivation, derives, fails, ended, goes_on, derive, clause_numbered}
+use Rattle.prop_core.specs.Clauses.{Clause, negation, same_literal, is_true, is_false, NegatesOnly}
+use Rattle.prop_core.specs.Derivation.{Standing, falsified, satisfied, unit, wide, standing, after_standing, after_hint, two_open, hints_end, follow, Derivation, derives, fails, ended, derive, clause_numbered}
 use Rattle.prop_core.proofs.Following.{follow-falsified, follow-satisfied, follow-unit}
 use Rattle.proof_ledger.specs.Book.{BookEntry, axiomatic, learnt, final, mark, axiom_of, clause_of, axioms_of, clauses_of, EachAfter, IsDerived, IsValidBook}
-use Rattle.proof_ledger.specs.Checking.{with_clause, is_empty, Checking, answered, holds, after_add, after_step, check_from, check_proof}
+use Rattle.proof_ledger.specs.Checking.{with_clause, is_empty, answered, holds, after_add, after_step, check_from, check_proof}
 use Rattle.proof_ledger.specs.declared.checker.ProofStep.{ProofStep}
-use Rattle.proof_ledger.specs.declared.checker.ProofStep.TheVariants.{Add, Delete}
-use Rattle.proof_ledger.specs.declared.checker.Checked.{Checked}
+use Rattle.proof_ledger.specs.declared.checker.ProofStep.TheVariants.{Add}
 use Rattle.proof_ledger.specs.declared.checker.Checked.TheVariants.{Verified}
 use Rattle.proof_ledger.proofs.Checks.{held_same}
 use Rattle.proof_text.proofs.Fronts.{front_ends}

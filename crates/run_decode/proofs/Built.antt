@@ -1,18 +1,16 @@
 -- What is built of a question is determined.
-use Rattle.std.proofs.Common.{◌≡◌, ◌∙◌, ℕ, zero, suc, List, [], ◌∷◌, ◌++◌, map, length, refl, sym, ap, arith, length-append}
+use Rattle.std.proofs.Common.{◌≡◌, ◌∙◌, ℕ, zero, suc, List, [], ◌∷◌, ◌++◌, length, refl, ap, arith, length-append}
 use Rattle.std.specs.List.{range_with_len}
 use Rattle.card_counter.specs.CounterState.{without_columns}
 use Rattle.des_net.specs.Network.{Net}
-use Rattle.log_encode.specs.BuiltLog.{BuiltLog}
 use Rattle.log_encode.specs.CodedLog.{CodedLog, code_names as log_names, false_literals, IsCodedLog}
-use Rattle.log_order.specs.Log.{Log}
 use Rattle.prop_core.proofs.Listed.{clause_written, listed_are_written}
 use Rattle.prop_core.specs.Clauses.{Clause}
-use Rattle.prop_core.specs.Listings.{literal_by, written_by}
+use Rattle.prop_core.specs.Listings.{written_by}
 use Rattle.prop_core.specs.declared.lit.Lit.{Lit}
 use Rattle.run_clauses.proofs.LaidOut.{steps_are_laid_out}
 use Rattle.run_clauses.specs.StepCodes.{StepsBelow}
-use Rattle.run_decode.specs.QuestionAxioms.{BuiltQuestion, steps_built, inputs_built, alone_built, question_built, QuestionBegins, ColumnsAreCounted}
+use Rattle.run_decode.specs.QuestionAxioms.{steps_built, inputs_built, alone_built, question_built, QuestionBegins, ColumnsAreCounted}
 use Rattle.run_decode.specs.WholeNaming.{AreInputs}
 use Rattle.step_encode.specs.Coded.{CodedSteps, code_names as step_names, code_grid, AppendsSteps}
 use Rattle.step_encode.specs.FaultInputs.{fault_literals}

@@ -3,7 +3,6 @@ use Rattle.std.proofs.Common.{◌≡◌, ◌∙◌, ℕ, ◌+◌, ◌-◌, ◌<�
 use Rattle.std.specs.Prelude.{Option, Some, None, count_by, slice_get, max, replicate}
 use Rattle.std.specs.List.{list_all, AllByRecursion}
 use Rattle.std.specs.Bool.{beq}
-use Rattle.std.proofs.Math.ListN.{set}
 use Rattle.std.proofs.lemmas.Grind.{common_steps}
 use Rattle.std.proofs.lemmas.Bool.{cases_lt, cases_Bool, or_right}
 use Rattle.std.proofs.lemmas.List.Sums.{sum_by-set}

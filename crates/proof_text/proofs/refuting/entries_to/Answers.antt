@@ -1,7 +1,6 @@
 use Rattle.std.proofs.Common.{◌≡◌, ◌∙◌, ◌<◌, take, length, sym, ap, subst, arith, ℕ}
 use Rattle.proof_ledger.specs.Book.{clauses_of}
 use Rattle.proof_text.proofs.Fronts.{ends_here, goes_on, ends_never}
-use Rattle.proof_text.specs.Refutation.{front_to}
 use Rattle.proof_text.proofs.refuting.entries_to.Goals as goal
 
 pub returns-then-has_number-clause-front : goal.returns-then-has_number-clause-front

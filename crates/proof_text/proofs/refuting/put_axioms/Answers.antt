@@ -1,8 +1,8 @@
-use Rattle.std.proofs.Common.{◌≡◌, ◌∙◌, ◌≤◌, ◌++◌, take, length, sym, ap, subst, arith, append_assoc, [], ◌∷◌}
+use Rattle.std.proofs.Common.{◌≡◌, ◌∙◌, ◌++◌, take, length, sym, ap, subst, arith, append_assoc, [], ◌∷◌}
 use Rattle.std.proofs.Common.{List, Some}
 use Rattle.prop_core.specs.Clauses.{Clause}
 use Rattle.prop_core.specs.Derivation.{clause_numbered}
-use Rattle.proof_ledger.specs.Book.{axioms_of, clauses_of}
+use Rattle.proof_ledger.specs.Book.{axioms_of}
 use Rattle.proof_text.proofs.Fronts.{axiom_within, axiom_more, no_axiom_more}
 use Rattle.proof_text.proofs.refuting.put_axioms.Goals as goal
 use Rattle.proof_text.proofs.refuting.put_axioms.Goals.{in-Axiom+in_ok-push, in_default}

@@ -1,5 +1,5 @@
 -- What is told of an alarm is its meaning's.
-use Rattle.std.proofs.Common.{◌≡◌, ◌∙◌, Some, refl, ap, sym}
+use Rattle.std.proofs.Common.{◌∙◌, Some, refl, ap, sym}
 use Rattle.std.proofs.lemmas.Option.{slice_get_read}
 use Rattle.log_order.proofs.Meaning.{meaning_is_known, labels_are}
 use Rattle.log_order.proofs.alarm_log.AlarmLog.labels.Goals as goal

@@ -1,4 +1,4 @@
-use Rattle.std.proofs.Common.{◌∙◌, ◌++◌, ◌∷◌, [], ap, sym, arith, length, rules}
+use Rattle.std.proofs.Common.{◌∙◌, ◌++◌, ◌∷◌, [], ap, sym, length, rules}
 use Rattle.proof_ledger.specs.Book.{clauses_of}
 use Rattle.proof_ledger.specs.Kept.{made}
 use Rattle.proof_ledger.proofs.Books.{Joined, put_joined}

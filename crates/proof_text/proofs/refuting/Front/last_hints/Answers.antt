@@ -1,4 +1,4 @@
-use Rattle.std.proofs.Common.{◌≡◌, ◌∙◌, ◌+◌, ◌-◌, ◌++◌, [], ◌∷◌, List, ℕ, sym, ap, subst, arith}
+use Rattle.std.proofs.Common.{◌≡◌, ◌∙◌, ◌+◌, ◌-◌, ◌++◌, [], ◌∷◌, List, ℕ, sym, ap, arith}
 use Rattle.std.specs.List.{range_with_len}
 use Rattle.proof_text.proofs.Fronts.{range_more}
 use Rattle.proof_text.proofs.refuting.Front.last_hints.Goals as goal

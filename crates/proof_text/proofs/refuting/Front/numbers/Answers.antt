@@ -1,4 +1,4 @@
-use Rattle.std.proofs.Common.{◌≡◌, ◌∙◌, ◌+◌, ◌<◌, ◌≤◌, sym, ap, subst, arith, ℕ}
+use Rattle.std.proofs.Common.{◌≡◌, ◌∙◌, ◌+◌, sym, subst, arith, ℕ}
 use Rattle.proof_text.proofs.Fronts.{AreNumbered, numbered_axiom, numbered_entry, numbered_mark}
 use Rattle.proof_text.proofs.refuting.Front.numbers.Goals as goal
 use Rattle.proof_text.proofs.refuting.Front.numbers.Goals.{in-Axiom+in_ok-push-in-Axiom, in-Learnt+in_ok-push-in-Learnt, in-Mark}

@@ -1,4 +1,4 @@
-use Rattle.std.proofs.Common.{◌≡◌, ◌∙◌, ◌+◌, ◌<◌, ◌≤◌, sym, ap, subst, arith, ℕ}
+use Rattle.std.proofs.Common.{◌≡◌, ◌∙◌, ◌+◌, sym, subst, ℕ}
 use Rattle.proof_text.proofs.Fronts.{HaveSteps, step_derived, no_step, derived_within}
 use Rattle.proof_text.proofs.refuting.Front.put_steps.Goals as goal
 use Rattle.proof_text.proofs.refuting.Front.put_steps.Goals.{in_default, in-Learnt+in_ok-step+in_ok-push}

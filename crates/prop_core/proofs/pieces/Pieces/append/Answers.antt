@@ -1,4 +1,4 @@
-use Rattle.std.proofs.Common.{◌∙◌, ap, arith, length, rules, vec_len}
+use Rattle.std.proofs.Common.{ap, rules, vec_len}
 use Rattle.prop_core.proofs.PieceLists.{cut_appended, pieces_appended}
 use Rattle.prop_core.proofs.pieces.Pieces.append.Goals as goal
 

@@ -1,5 +1,4 @@
-use Rattle.std.proofs.Common.{◌∙◌, ap, arith, length, rules}
-use Rattle.std.proofs.lemmas.Grind.{common_steps}
+use Rattle.std.proofs.Common.{ap, length, rules}
 use Rattle.prop_core.proofs.PieceLists.{cut_pushed, pieces_pushed}
 use Rattle.prop_core.proofs.pieces.Pieces.push_reserved.Goals as goal
 
