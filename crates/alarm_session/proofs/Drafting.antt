@@ -6,7 +6,8 @@ use Rattle.alarm_session.specs.declared.kept.Kept.{Kept}
 use Rattle.des_base.specs.declared.TheConstants.{VAR_LIMIT}
 use Rattle.des_net.specs.Building.{IsDraft}
 use Rattle.des_net.specs.Network.{Net}
-use Rattle.least_faults.specs.Parts.{AreParts, IsWithinLimits, most_size}
+use Rattle.least_faults.specs.Parts.{AreParts, IsWithinLimits}
+use Rattle.least_faults.specs.declared.TheConstants.{MOST_SIZE}
 use Rattle.log_clauses.specs.Additions.{Addition, alarm_added, pair_added, with_addition}
 use Rattle.log_encode.specs.CodedLog.{addition_width, nameless}
 use Rattle.log_encode.specs.Drafted.{DraftState, IsDraftOf}
@@ -18,7 +19,7 @@ use Rattle.replay.specs.QuestionSize.{question_size}
 module _ {R : Type 0} (net : Net) (n : ℕ) (kept : Kept R) (of_log : IsFor net n kept) (coded : AreParts kept.parts.step kept.parts.code.code kept.parts.counter kept.parts.vars (axioms_of kept.book.entries)) (whole : IsDraft net) where
   -- ---- any addition
 
-  module _ (addition : Addition) (new : Log) (codes : Codes kept.parts.code.code.log addition new) (few : length new.alarms ≤ 2000) (size : ℕ) (sized : size ≡ question_size net new n) (small : size ≤ most_size) where
+  module _ (addition : Addition) (new : Log) (codes : Codes kept.parts.code.code.log addition new) (few : length new.alarms ≤ 2000) (size : ℕ) (sized : size ≡ question_size net new n) (small : size ≤ MOST_SIZE) where
     limits : IsWithinLimits net new n
     limits = record { steps = of_log.limits.steps; size = omega (arith, sized, small) }
 
@@ -42,7 +43,7 @@ module _ {R : Type 0} (net : Net) (n : ℕ) (kept : Kept R) (of_log : IsFor net 
     pub alarm_sized : size ≡ question_size net (with_alarm kept.log name labels doubtful) n
     alarm_sized = sized kept.log name of_log.size ∙ ap (λ ls. question_size net (with_addition kept.log (alarm_added (an_alarm name ls doubtful))) n) each
 
-    module _ (few : length kept.log.alarms < 2000) (small : size ≤ most_size) where
+    module _ (few : length kept.log.alarms < 2000) (small : size ≤ MOST_SIZE) where
       longer : length (with_alarm kept.log name labels doubtful).alarms ≤ 2000
       longer = omega (arith, few, length-append kept.log.alarms (an_alarm name (with_texts [] labels) doubtful ∷ []))
 
@@ -67,7 +68,7 @@ module _ {R : Type 0} (net : Net) (n : ℕ) (kept : Kept R) (of_log : IsFor net 
     pub pair_sized : size ≡ question_size net (paired kept.log first second) n
     pair_sized = sized net kept.log first second of_log.size ∙ ap (λ l. question_size net l n) (sym (paired_is kept.log first second new))
 
-    pub pair_drafted : length kept.log.alarms ≤ 2000 → size ≤ most_size → (draft : DraftState) → IsDraftOf kept.parts.code.code (pair_added first second) kept.parts.vars draft →
+    pub pair_drafted : length kept.log.alarms ≤ 2000 → size ≤ MOST_SIZE → (draft : DraftState) → IsDraftOf kept.parts.code.code (pair_added first second) kept.parts.vars draft →
         IsDraftedFor net n kept (pair_added first second) (paired kept.log first second) (record { draft = draft; size = size })
     pair_drafted few small draft is =
         addition_drafted (pair_added first second) (paired kept.log first second) (pair_codes kept.log kept.parts.code.code.log first second new of_log.belong.same_log) few size pair_sized small draft is

@@ -5,7 +5,7 @@ use Rattle.std.proofs.lemmas.Bool.Decides.{nat_tests}
 use Rattle.alarm_session.specs.Refusals.{refusal_of, large_refusal, refusal_with, Answers}
 use Rattle.alarm_session.specs.declared.refusal.SessionRefusal.{SessionRefusal}
 use Rattle.alarm_session.specs.declared.refusal.SessionRefusal.TheVariants.{TooLarge}
-use Rattle.least_faults.specs.Parts.{most_size}
+use Rattle.least_faults.specs.declared.TheConstants.{MOST_SIZE}
 use Rattle.log_order.specs.Adding.{Answers as LogAnswers}
 use Rattle.log_order.specs.declared.refusal.LogRefusal.{LogRefusal}
 use Rattle.log_order.specs.declared.refusal.LogRefusal.TheVariants as of_log
@@ -37,22 +37,22 @@ memory_alone X Y of_log.Limit o refusal none is = cc
 memory_alone X Y of_log.Memory o refusal none is = tt
 
 -- by the size
-larger : (size : ℕ) (b : Bool) → nat_lt most_size size ≡ b → most_size < size → large_refusal size ≡ Some (TooLarge size)
+larger : (size : ℕ) (b : Bool) → nat_lt MOST_SIZE size ≡ b → MOST_SIZE < size → large_refusal size ≡ Some (TooLarge size)
 larger size true is above = ap (λ t. cond t (Some (TooLarge size)) None) is
 larger size false is above = absurd (let k = not_above size is in omega (arith, k, above))
   where
-    not_above : (s : ℕ) → nat_lt most_size s ≡ false → s ≤ most_size
+    not_above : (s : ℕ) → nat_lt MOST_SIZE s ≡ false → s ≤ MOST_SIZE
     not_above s h = grind (arith, nat_tests)
 
-pub refused_by_size : (o : Option LogRefusal) (size there : ℕ) → o ≡ None → most_size < size → there ≡ size → refusal_with o there ≡ Some (TooLarge size)
-refused_by_size o size there none above is = ap (λ p. refusal_with p there) none ∙ ap large_refusal is ∙ larger size (nat_lt most_size size) refl above
+pub refused_by_size : (o : Option LogRefusal) (size there : ℕ) → o ≡ None → MOST_SIZE < size → there ≡ size → refusal_with o there ≡ Some (TooLarge size)
+refused_by_size o size there none above is = ap (λ p. refusal_with p there) none ∙ ap large_refusal is ∙ larger size (nat_lt MOST_SIZE size) refl above
 
-within : (size : ℕ) (b : Bool) → nat_lt most_size size ≡ b → size ≤ most_size → large_refusal size ≡ None
+within : (size : ℕ) (b : Bool) → nat_lt MOST_SIZE size ≡ b → size ≤ MOST_SIZE → large_refusal size ≡ None
 within size false is below = ap (λ t. cond t (Some (TooLarge size)) None) is
 within size true is below = absurd (let k = above_is size is in omega (arith, k, below))
   where
-    above_is : (s : ℕ) → nat_lt most_size s ≡ true → most_size < s
+    above_is : (s : ℕ) → nat_lt MOST_SIZE s ≡ true → MOST_SIZE < s
     above_is s h = grind (arith, nat_tests)
 
-pub accepted : (o : Option LogRefusal) (size : ℕ) → o ≡ None → size ≤ most_size → refusal_with o size ≡ None
-accepted o size none below = ap (λ p. refusal_with p size) none ∙ within size (nat_lt most_size size) refl below
+pub accepted : (o : Option LogRefusal) (size : ℕ) → o ≡ None → size ≤ MOST_SIZE → refusal_with o size ≡ None
+accepted o size none below = ap (λ p. refusal_with p size) none ∙ within size (nat_lt MOST_SIZE size) refl below

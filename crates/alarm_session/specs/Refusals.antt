@@ -4,7 +4,7 @@ use Rattle.alarm_session.specs.declared.refusal.SessionRefusal.{SessionRefusal}
 use Rattle.alarm_session.specs.declared.refusal.SessionRefusal.TheVariants.{Double, Unknown, Cycle, NoLabels, Limit, TooLarge, Memory}
 use Rattle.des_base.specs.Names.{place_of}
 use Rattle.des_net.specs.Network.{Net}
-use Rattle.least_faults.specs.Parts.{most_size}
+use Rattle.least_faults.specs.declared.TheConstants.{MOST_SIZE}
 use Rattle.log_order.specs.Adding.{alarm_refusal, before_refusal, names_of, with_alarm, with_pair}
 use Rattle.log_order.specs.Log.{Log, has_pair}
 use Rattle.log_order.specs.declared.refusal.LogRefusal.{LogRefusal}
@@ -21,7 +21,7 @@ refusal_of of_log.Memory = Memory
 
 -- a question of more than 20,000,000
 abbrev pub large_refusal : ℕ → Option SessionRefusal
-large_refusal size = if nat_lt most_size size then Some (TooLarge size) else None
+large_refusal size = if nat_lt MOST_SIZE size then Some (TooLarge size) else None
 
 -- the log's refusal, and else that of the size with the addition
 abbrev pub refusal_with : Option LogRefusal → ℕ → Option SessionRefusal

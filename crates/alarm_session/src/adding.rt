@@ -2,7 +2,8 @@
 ghost use Rattle.std.specs.Prelude.{◌≡◌, ◌≤◌, ◌+◌, false, length, not, IfOk, OnOk, OnErr, None, Some, [], true};
 ghost use Rattle.alarm_session.specs.Refusals.{Answers, alarm_answer, before_answer, is_new_pair, log_with, numbers_of, refusal_of_pair, refusal_with};
 ghost use Rattle.alarm_session.specs.Session.{Becomes, IsDraftedFor, IsFor, IsRankedKept, StaysSame};
-ghost use Rattle.least_faults.specs.Parts.{AreParts, most_size};
+ghost use Rattle.least_faults.specs.Parts.{AreParts};
+ghost use Rattle.least_faults.specs.declared.TheConstants.{MOST_SIZE};
 ghost use Rattle.log_clauses.specs.Additions.{alarm_added, pair_added};
 ghost use Rattle.log_encode.specs.CodedLog.{nameless};
 ghost use Rattle.log_order.specs.Adding.{Answers as LogAnswers, alarm_refusal, with_alarm, with_texts};
@@ -12,10 +13,9 @@ ghost use Rattle.replay.specs.QuestionSize.{question_size};
 
 use crate::kept::{Drafted, Kept, Setting};
 use crate::refusal::{SessionRefusal, refusal_of};
-use crate::size::{SIZE_LIMIT, size_with_alarm, size_with_pair};
-use crate::whole::are_whole;
+use crate::size::{size_with_alarm, size_with_pair};
 use des_base::Name;
-use least_faults::{add_draft, reserve_draft};
+use least_faults::{MOST_SIZE, add_draft, reserve_draft};
 use log_order::{AlarmLog, LogRefusal, each_once};
 
 // Adds an alarm, certain or doubtful, to the log and to the parts and the book of its question: to all or to none.
@@ -65,14 +65,15 @@ fn draft_alarm<R: Fn(u32) -> u64>(
     ensures refused { Answers result (alarm_answer setting.entry.net.now setting.entry.steps kept.now.log id.now labels.now doubtful) }
     ensures drafted { IfOk result (IsDraftedFor setting.entry.net.now setting.entry.steps kept.now (alarm_added (nameless (with_texts [] labels.now) doubtful)) (with_alarm kept.now.log id.now labels.now doubtful)) }
 {
-    are_whole(setting.net, &kept.log);
+    setting.net.is_built();
+    kept.log.is_whole();
     if let Some(refusal) = kept.log.test_alarm(id, labels) {
         return Err(refusal_of(refusal));
     }
     let once = each_once(setting.alloc, labels)?;
     let labels = once.as_slice();
     let size = size_with_alarm(kept.size, setting.net, labels, doubtful, setting.steps);
-    if size > SIZE_LIMIT {
+    if size > MOST_SIZE {
         return Err(SessionRefusal::TooLarge { size });
     }
     let draft = kept
@@ -207,9 +208,10 @@ fn draft_pair<R: Fn(u32) -> u64>(
     ensures refused { Answers result (refusal_with (refusal_of_pair kept.now.log (Some (first, second))) (question_size setting.entry.net.now (log_with kept.now.log (Some (first, second))) setting.entry.steps)) }
     ensures drafted { IfOk result (IsDraftedFor setting.entry.net.now setting.entry.steps kept.now (pair_added first second) (log_with kept.now.log (Some (first, second)))) }
 {
-    are_whole(setting.net, &kept.log);
+    setting.net.is_built();
+    kept.log.is_whole();
     let size = size_with_pair(kept.size, setting.steps);
-    if size > SIZE_LIMIT {
+    if size > MOST_SIZE {
         return Err(SessionRefusal::TooLarge { size });
     }
     let draft = kept

@@ -11,10 +11,10 @@ ghost use Rattle.sat_order.specs.Rank.{IsRanked};
 
 use crate::kept::{Kept, Setting};
 use crate::refusal::SessionRefusal;
-use crate::size::{SIZE_LIMIT, question_size};
+use crate::size::question_size;
 use des_base::Memory;
 use indep::Indep;
-use least_faults::{Found, build, least};
+use least_faults::{Found, MOST_SIZE, build, least};
 use log_order::AlarmLog;
 use proof_ledger::Ledger;
 use sat_order::Order;
@@ -39,7 +39,7 @@ pub fn begin<T: Fn(u32, u32) -> bool, R: Fn(u32) -> u64>(
 {
     let log = AlarmLog::new(setting.alloc);
     let size = question_size(setting.net, &log, setting.steps);
-    if size > SIZE_LIMIT {
+    if size > MOST_SIZE {
         return Err(SessionRefusal::TooLarge { size });
     }
     let solver = Solver::new(setting.alloc, rank);

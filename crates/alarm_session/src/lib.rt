@@ -20,4 +20,4 @@ mod whole;
 
 pub use refusal::SessionRefusal;
 pub use session::Session;
-pub use size::{SIZE_LIMIT, question_size};
+pub use size::question_size;

@@ -3,7 +3,7 @@ use Rattle.std.proofs.Common.{◌≡◌, ◌≤◌, ◌<◌, ℕ, List, [], ◌+
 use Rattle.std.specs.Prelude.{codes}
 use Rattle.des_net.specs.Network.{Net}
 use Rattle.gen_plant.specs.Plant.{plant_net, plant_log}
-use Rattle.least_faults.specs.Parts.{most_size}
+use Rattle.least_faults.specs.declared.TheConstants.{MOST_SIZE}
 use Rattle.log_order.specs.Log.{Log}
 use Rattle.proof_ledger.specs.Book.{BookEntry}
 use Rattle.replay.specs.QuestionSize.{question_size}
@@ -27,13 +27,13 @@ module _ (units start steps budget : ℕ) (book : List BookEntry) where
     same_size : question_size net alarms steps ≡ size_of_plant
     same_size = ap (λ n. question_size n alarms steps) network ∙ ap (λ a. question_size (plant_net units) a steps) log
 
-    pub large_plant : (size : ℕ) → size ≡ question_size net alarms steps → most_size < size → Closes (Bench units start steps budget) book [] (Err (Large size))
+    pub large_plant : (size : ℕ) → size ≡ question_size net alarms steps → MOST_SIZE < size → Closes (Bench units start steps budget) book [] (Err (Large size))
     large_plant size is above =
         let e : Ending = Err (Large size) in
         let over_limit : above_limit size_of_plant ≡ Some size = ap above_limit (sym (is ∙ same_size)) ∙ past_limit size above in
         subst (λ (o : Option ℕ). MatchOption o (IsOkAnd e says) (λ k. e ≡ Err (Large k))) (sym over_limit) refl
 
-    pub summed_up : (size : ℕ) (reply summary : Kind × List ℕ) (count : ℕ) → size ≡ question_size net alarms steps → size ≤ most_size → count ≡ length alarms.alarms → SaysFound net alarms steps budget book reply
+    pub summed_up : (size : ℕ) (reply summary : Kind × List ℕ) (count : ℕ) → size ≡ question_size net alarms steps → size ≤ MOST_SIZE → count ≡ length alarms.alarms → SaysFound net alarms steps budget book reply
         → summary ≡ (reply.0, numbered (codes "units ") units ++ numbered (codes "alarms ") count ++ numbered (codes "size ") size ++ first_line reply.1)
         → Closes (Bench units start steps budget) book [] (once (Ok summary))
     summed_up size reply summary count is small counted replied sums =
@@ -46,4 +46,4 @@ module _ (units start steps budget : ℕ) (book : List BookEntry) where
         let of_plant : SaysBenched units start steps budget book summary =
         subst (λ (a : Log). SaysSummary units (plant_net units) a steps budget book summary) log (subst (λ (n : Net). SaysSummary units n alarms steps budget book summary) network of_net) in
         subst (λ (o : Option ℕ). MatchOption o (IsOkAnd e says) (λ k. e ≡ Err (Large k)))
-        (sym (within_limit size_of_plant (subst (λ k. k ≤ most_size) (is ∙ same_size) small))) (summary, of_plant, refl)
+        (sym (within_limit size_of_plant (subst (λ k. k ≤ MOST_SIZE) (is ∙ same_size) small))) (summary, of_plant, refl)

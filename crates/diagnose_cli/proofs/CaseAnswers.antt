@@ -5,7 +5,7 @@ use Rattle.log_csv.specs.LogText.{log_of}
 use Rattle.log_order.specs.Log.{Log}
 use Rattle.model_text.specs.ModelFaults.{network_of}
 use Rattle.replay.specs.QuestionSize.{question_size}
-use Rattle.least_faults.specs.Parts.{most_size}
+use Rattle.least_faults.specs.declared.TheConstants.{MOST_SIZE}
 use Rattle.diagnose_cli.specs.declared.ending.Kind.{Kind}
 use Rattle.diagnose_cli.specs.declared.stop.Stop.TheVariants.{Large}
 use Rattle.diagnose_cli.specs.Transcripts.{Ending, IsWhole, once, whole}
@@ -21,13 +21,13 @@ module _ (steps : ℕ) (Says : Net → Log → (Kind × List ℕ) → Type 0) wh
     over : (e : Ending) → ClosesOver net alarms e → ClosesOver (network_of model) (log_of rows) e
     over e h = subst (λ (a : Log). ClosesOver (network_of model) a e) log (subst (λ (n : Net). ClosesOver n alarms e) network h)
 
-    pub too_large : (size : ℕ) → size ≡ question_size net alarms steps → most_size < size → ClosesOver (network_of model) (log_of rows) (Err (Large size))
+    pub too_large : (size : ℕ) → size ≡ question_size net alarms steps → MOST_SIZE < size → ClosesOver (network_of model) (log_of rows) (Err (Large size))
     too_large size is above =
         let e : Ending = Err (Large size) in
         let over_limit : above_limit (question_size net alarms steps) ≡ Some size = subst (λ (k : ℕ). above_limit k ≡ Some size) is (past_limit size above) in
         over e (subst (λ (o : Option ℕ). MatchOption o (IsOkAnd e (IsWhole (Says net alarms))) (λ k. e ≡ Err (Large k))) (sym over_limit) refl)
 
-    pub answered : (reply : Kind × List ℕ) → question_size net alarms steps ≤ most_size → Says net alarms reply → ClosesOver (network_of model) (log_of rows) (once (Ok reply))
+    pub answered : (reply : Kind × List ℕ) → question_size net alarms steps ≤ MOST_SIZE → Says net alarms reply → ClosesOver (network_of model) (log_of rows) (once (Ok reply))
     answered reply small tells =
         let e : Ending = Ok (whole reply) in
         over e

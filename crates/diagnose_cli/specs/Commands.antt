@@ -9,7 +9,7 @@ use Rattle.model_text.specs.ModelFaults.{network_of, first_fault as first_model_
 use Rattle.model_text.specs.PrintedModel.{model_text}
 use Rattle.model_text.specs.ReadBack.{ReadsBack}
 use Rattle.replay.specs.RunText.{run_of, first_fault as first_run_fault}
-use Rattle.least_faults.specs.Parts.{most_size}
+use Rattle.least_faults.specs.declared.TheConstants.{MOST_SIZE}
 use Rattle.least_faults.specs.declared.answer.Found.{Found}
 use Rattle.least_faults.specs.declared.answer.Found.TheVariants.{Explained, Absent as NotExplained, Many as ManyFaults, Undecided as NotDecided}
 use Rattle.log_order.specs.Adding.{names_of}
@@ -353,7 +353,7 @@ Says _ _ _ reply = ⊥
 
 -- the size, where it is above the limit
 abbrev pub above_limit : ℕ → Option ℕ
-above_limit size = if nat_lt most_size size then Some size else None
+above_limit size = if nat_lt MOST_SIZE size then Some size else None
 
 -- the size of the question that a command asks over the bytes of its files, where it is above the limit
 abbrev pub too_large : Command → List (List ℕ) → Option ℕ

@@ -3,6 +3,7 @@ ghost use Rattle.std.specs.Prelude.{◌≡◌, ◌≢◌, ◌≤◌, ◌==◌, �
 ghost use Rattle.std.specs.List.{position_or_len};
 ghost use Rattle.gen_plant.specs.Plant.{most_units, plant_net, plant_log};
 ghost use Rattle.report.specs.Replies.{numbered};
+ghost use Rattle.des_base.specs.declared.TheConstants.{MOST_STEPS};
 ghost use Rattle.diagnose_cli.specs.Files.{Loads};
 ghost use Rattle.diagnose_cli.specs.Transcripts.{UnlessMemory, once};
 ghost use Rattle.diagnose_cli.specs.Commands.{Answers, Closes, first_line};
@@ -12,9 +13,10 @@ use crate::diagnose_command::reply_to;
 use crate::ending::Reply;
 use crate::question::{Case, Limits};
 use crate::stop::Stop;
-use alarm_session::{SIZE_LIMIT, question_size};
+use alarm_session::question_size;
 use des_base::Memory;
 use gen_plant::generate;
+use least_faults::MOST_SIZE;
 use proof_ledger::Ledger;
 use std::alloc::Global;
 
@@ -27,7 +29,7 @@ pub fn bench_command(
     book: &mut Ledger,
 ) -> Result<Reply, Stop>
     requires units { units ≤ most_units }
-    requires steps { limits.steps ≤ 1000 }
+    requires steps { limits.steps ≤ MOST_STEPS }
     requires empty { book.old.entries ≡ [] }
     ensures due { (l : Loads) (words : List (List ℕ)) → UnlessMemory result (Answers l words (Command.Bench units start limits.steps limits.budget) book.new.entries (once result)) }
     ensures stopped { IfErr result (λ stop. stop ≢ Stop.Memory → book.new ≡ book.old) }
@@ -48,13 +50,13 @@ fn bench(
     limits: Limits,
     book: &mut Ledger,
 ) -> Result<Reply, Stop>
-    requires steps { limits.steps ≤ 1000 }
+    requires steps { limits.steps ≤ MOST_STEPS }
     requires empty { book.old.entries ≡ [] }
     ensures due { (start : ℕ) → case.now.net ≡ plant_net units → case.now.log ≡ plant_log units start → UnlessMemory result (Closes (Command.Bench units start limits.steps limits.budget) book.new.entries [] (once result)) }
     ensures stopped { IfErr result (λ stop. stop ≢ Stop.Memory → book.new ≡ book.old) }
 {
     let size = question_size(&case.net, &case.log, limits.steps);
-    if size > SIZE_LIMIT {
+    if size > MOST_SIZE {
         return Err(Stop::Large(size));
     }
     let reply = reply_to(alloc, case, limits, book)?;

@@ -1,5 +1,6 @@
 // The command `cnf`: a question as a formula.
 ghost use Rattle.std.specs.Prelude.{◌≡◌, ◌≢◌, ◌<◌, ◌≤◌, ℕ, List, [], ◌∷◌, All, length, IfErr, IfOk};
+ghost use Rattle.des_base.specs.declared.TheConstants.{MOST_STEPS};
 ghost use Rattle.diagnose_cli.specs.Commands.{Answers, Closes, SaysFormula, reply_of_formula};
 ghost use Rattle.diagnose_cli.specs.Files.{loads};
 ghost use Rattle.diagnose_cli.specs.Transcripts.{UnlessMemory, once};
@@ -15,8 +16,9 @@ use crate::files::fetch_case;
 use crate::formula::{Within, formula};
 use crate::question::Case;
 use crate::stop::Stop;
-use alarm_session::{SIZE_LIMIT, question_size};
+use alarm_session::question_size;
 use des_base::{Memory, Shelf, WordList};
+use least_faults::MOST_SIZE;
 use proof_ledger::Ledger;
 use proof_text::{Cnf, print_cnf};
 use std::alloc::Global;
@@ -30,7 +32,7 @@ pub fn cnf_command<F: Shelf>(
     book: &mut Ledger,
 ) -> Result<Reply, Stop>
     requires words { 2 < length words.now }
-    requires steps { within.steps ≤ 1000 }
+    requires steps { within.steps ≤ MOST_STEPS }
     requires empty { book.old.entries ≡ [] }
     ensures due { UnlessMemory result (Answers (loads F.held F.faults shelf.old shelf.new) words.now (Command.PrintCnf within.steps within.bound) book.new.entries (once result)) }
     ensures stopped { IfErr result (λ stop. stop ≢ Stop.Memory → book.new ≡ book.old) }
@@ -46,13 +48,13 @@ fn print_question(
     within: Within,
     book: &mut Ledger,
 ) -> Result<Reply, Stop>
-    requires steps { within.steps ≤ 1000 }
+    requires steps { within.steps ≤ MOST_STEPS }
     requires empty { book.old.entries ≡ [] }
     ensures due { (text alarms : List ℕ) → case.now.net ≡ network_of text → case.now.log ≡ log_of alarms → UnlessMemory result (Closes (Command.PrintCnf within.steps within.bound) book.new.entries (text ∷ alarms ∷ []) (once result)) }
     ensures stopped { IfErr result (λ stop. stop ≢ Stop.Memory → book.new ≡ book.old) }
 {
     let size = question_size(&case.net, &case.log, within.steps);
-    if size > SIZE_LIMIT {
+    if size > MOST_SIZE {
         return Err(Stop::Large(size));
     }
     Ok(reply_of_question(alloc, case, within, book)?)

@@ -1,5 +1,6 @@
 // The command `proof`: the refutation that `diagnose` finds.
 ghost use Rattle.std.specs.Prelude.{◌≡◌, ◌≢◌, ◌<◌, ◌≤◌, ℕ, List, [], ◌∷◌, ◌++◌, All, Some, suc, codes, length, map, IfErr, IfOk, OnOk};
+ghost use Rattle.des_base.specs.declared.TheConstants.{MOST_STEPS};
 ghost use Rattle.diagnose_cli.specs.Commands.{Answers, Closes, SaysProved, TellsBelow, TellsProof, TellsRefutation, reply_of_proof};
 ghost use Rattle.diagnose_cli.specs.Files.{loads};
 ghost use Rattle.diagnose_cli.specs.Proof.{HasEvidence, HasEvidenceFor, proof_head};
@@ -21,10 +22,10 @@ use crate::files::fetch_case;
 use crate::question::{Case, Limits, is_valid};
 use crate::refuting::refuting_proof;
 use crate::stop::Stop;
-use alarm_session::{SIZE_LIMIT, question_size};
+use alarm_session::question_size;
 use des_base::{EventId, Memory, Shelf, WordList, push_decimal};
 use indep::{Indep, Table};
-use least_faults::{Found, Parts, build, least};
+use least_faults::{Found, MOST_SIZE, Parts, build, least};
 use proof_ledger::Ledger;
 use proof_text::{Proof, print_lrat};
 use sat_order::Order;
@@ -41,7 +42,7 @@ pub fn proof_command<F: Shelf>(
     book: &mut Ledger,
 ) -> Result<Reply, Stop>
     requires words { 2 < length words.now }
-    requires steps { limits.steps ≤ 1000 }
+    requires steps { limits.steps ≤ MOST_STEPS }
     requires empty { book.old.entries ≡ [] }
     ensures due { UnlessMemory result (Answers (loads F.held F.faults shelf.old shelf.new) words.now (Command.PrintProof limits.steps limits.budget) book.new.entries (once result)) }
     ensures stopped { IfErr result (λ stop. stop ≢ Stop.Memory → book.new ≡ book.old) }
@@ -52,13 +53,13 @@ pub fn proof_command<F: Shelf>(
 
 // The same where both files are read.
 fn print_proof(alloc: Global, case: &Case, limits: Limits, book: &mut Ledger) -> Result<Reply, Stop>
-    requires steps { limits.steps ≤ 1000 }
+    requires steps { limits.steps ≤ MOST_STEPS }
     requires empty { book.old.entries ≡ [] }
     ensures due { (text alarms : List ℕ) → case.now.net ≡ network_of text → case.now.log ≡ log_of alarms → UnlessMemory result (Closes (Command.PrintProof limits.steps limits.budget) book.new.entries (text ∷ alarms ∷ []) (once result)) }
     ensures stopped { IfErr result (λ stop. stop ≢ Stop.Memory → book.new ≡ book.old) }
 {
     let size = question_size(&case.net, &case.log, limits.steps);
-    if size > SIZE_LIMIT {
+    if size > MOST_SIZE {
         return Err(Stop::Large(size));
     }
     Ok(prove(alloc, case, limits, book)?)
@@ -142,7 +143,7 @@ fn prove_with<R: Fn(u32) -> u64>(
     requires axioms { book.old.entries ≡ map axiomatic (question_axioms case.now.net case.now.log limits.steps 0) }
     requires determined { IsBuilt case.now.net case.now.log limits.steps parts book.old.entries }
     requires steps { parts.step.steps ≡ limits.steps }
-    requires few { parts.step.steps ≤ 1000 }
+    requires few { parts.step.steps ≤ MOST_STEPS }
     ensures { IfOk result (SaysProved case.now.net case.now.log limits.steps limits.budget book.new.entries) }
 {
     let mut parts = parts;

@@ -5,6 +5,7 @@ ghost use Rattle.least_faults.specs.Building.{IsUnused};
 ghost use Rattle.least_faults.specs.Parts.{AreReady, BelongTo, IsBuilt, IsWithinLimits};
 ghost use Rattle.proof_ledger.specs.Book.{IsValidBook, axiomatic};
 ghost use Rattle.run_decode.specs.QuestionAxioms.{question_axioms};
+ghost use Rattle.des_base.specs.declared.TheConstants.{MOST_STEPS};
 ghost use Rattle.diagnose_cli.specs.Commands.{AnswersQuestion};
 
 use des_base::{EventId, Memory};
@@ -111,7 +112,7 @@ fn search<R: Fn(u32) -> u64>(
     requires axioms { book.old.entries ≡ map axiomatic (question_axioms case.now.net case.now.log limits.steps 0) }
     requires determined { IsBuilt case.now.net case.now.log limits.steps parts book.old.entries }
     requires steps { parts.step.steps ≡ limits.steps }
-    requires few { parts.step.steps ≤ 1000 }
+    requires few { parts.step.steps ≤ MOST_STEPS }
     ensures { IfOk result (AnswersQuestion case.now.net case.now.log limits.steps limits.budget book.new.entries) }
 {
     let mut parts = parts;

@@ -12,7 +12,7 @@ use Rattle.des_net.specs.Building.{IsDraft}
 use Rattle.des_net.specs.Network.{Net, label_of}
 use Rattle.des_net.specs.QuestionSize.{component_sizes, counter_size, observable_count}
 use Rattle.least_faults.specs.LogVariables.{own_variables, variables_of_first, variables_of_alarms, log_variables}
-use Rattle.least_faults.specs.Parts.{most_size}
+use Rattle.least_faults.specs.declared.TheConstants.{MOST_SIZE}
 use Rattle.log_encode.proofs.TakenLemmas.{false_is_small}
 use Rattle.log_order.specs.Log.{Log, is_doubtful}
 use Rattle.replay.specs.Explanation.{is_matching}
@@ -95,13 +95,13 @@ alarms_within net log n size within =
     spread_out : (k a b c : ℕ) → k * b ≤ k * (a + b + c)
     spread_out k a b c = grind arith
 
-pub question_fits : (net : Net) (log : Log) (n : ℕ) → IsDraft net → length log.alarms ≤ 2000 → n ≤ 1000 → question_size net log n ≤ most_size →
+pub question_fits : (net : Net) (log : Log) (n : ℕ) → IsDraft net → length log.alarms ≤ 2000 → n ≤ 1000 → question_size net log n ≤ MOST_SIZE →
     variable_count net n + log_variables net log n + (counter_size net n + 256 * doubtful_count log) ≤ VAR_LIMIT
 question_fits net log n draft alarms time size =
     let steps = variables_are_few net n draft time in
     let observable = few_observable net draft in
     let logged = alarms_bound net log n draft in
-    let within = alarms_within net log n most_size size in
+    let within = alarms_within net log n MOST_SIZE size in
     omega (arith, steps, observable, logged, within, alarms)
 
 -- ---- alarm by alarm

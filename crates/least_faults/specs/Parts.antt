@@ -4,6 +4,7 @@ use Rattle.card_counter.specs.CounterState.{CounterState, IsMade}
 use Rattle.des_base.specs.declared.TheConstants.{MOST_STEPS}
 use Rattle.des_net.specs.Network.{Net}
 use Rattle.least_faults.specs.Bounds.{AreBounded}
+use Rattle.least_faults.specs.declared.TheConstants.{MOST_SIZE}
 use Rattle.least_faults.specs.declared.parts.Parts.{Parts}
 use Rattle.log_encode.specs.CodedLog.{CodedLog}
 use Rattle.log_order.specs.Log.{Log}
@@ -18,14 +19,10 @@ use Rattle.sat_order.specs.Rank.{IsRanked}
 use Rattle.sat_solve.specs.Searching.{HasAxiomVars}
 use Rattle.step_encode.specs.Coded.{CodedSteps}
 
--- the size of the largest question that is built
-abbrev pub most_size : ℕ
-most_size = 20000000
-
 -- not too many steps, and not too large
 pub record IsWithinLimits (net : Net) (log : Log) (n : ℕ) : Type 0 where
   pub steps : n ≤ MOST_STEPS
-  pub size : question_size net log n ≤ most_size
+  pub size : question_size net log n ≤ MOST_SIZE
 
 -- Steps, log and counter are coded together, on variables that were made; the axioms are the clauses of the three; and variables and axioms are no more than the question takes at most.
 pub record AreParts (steps : CodedSteps) (code : CodedLog) (counter : CounterState) (vars : ℕ) (axioms : List Clause) : Type 0 where

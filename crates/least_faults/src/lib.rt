@@ -26,3 +26,6 @@ pub use building::build;
 pub use laws::undecided_is_small;
 pub use parts::{Parts, Unbuilt};
 pub use searching::least;
+
+/// The size of the largest question that is built.
+pub const MOST_SIZE: u64 = 20_000_000;

@@ -1,7 +1,8 @@
 // Sizes of questions that were worked by hand, on networks and logs of a few rows and of many.
 use crate::models::{EMPTY, VALVE, VALVE_AND_BELL, alarm_log, network};
-use alarm_session::{SIZE_LIMIT, question_size};
+use alarm_session::question_size;
 use des_net::Network;
+use least_faults::MOST_SIZE;
 use log_order::AlarmLog;
 use std::alloc::Global;
 use std::process::Abort;
@@ -112,7 +113,7 @@ fn assert_sizes_of_units(rt: &impl Abort, alloc: Global, net: &Network) {
     let log = alarms_of_units(rt, alloc);
     for (n, want, large) in SIZES_OF_UNITS {
         let size = question_size(net, &log, n);
-        assert!(rt; size == want && (size > SIZE_LIMIT) == large, "{n} steps");
+        assert!(rt; size == want && (size > MOST_SIZE) == large, "{n} steps");
     }
 }
 

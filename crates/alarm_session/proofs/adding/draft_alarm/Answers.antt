@@ -12,34 +12,34 @@ use Rattle.replay.specs.QuestionSize.{question_size}
 pub each_once-requires : goal.each_once-requires
 each_once-requires g c = (IsNewAlarm-from c.args.kept.now.log c.args.id.now c.args.labels.now (sym c.test_alarm.ensures ∙ c.in_default.is)).few
 
-pub returns-then-size-gt-SIZE_LIMIT-clause-refused : goal.returns-then-size-gt-SIZE_LIMIT-clause-refused
-returns-then-size-gt-SIZE_LIMIT-clause-refused g c =
+pub returns-then-size-gt-MOST_SIZE-clause-refused : goal.returns-then-size-gt-MOST_SIZE-clause-refused
+returns-then-size-gt-MOST_SIZE-clause-refused g c =
     let net = c.args.setting.net.now in
     let log = c.args.kept.now.log in
-    let sized = alarm_sized net c.args.setting.steps c.args.kept.now c.requires.of_log c.requires.coded c.are_whole.ensures.draft c.args.id.now c.args.labels.now c.as_slice-labels.result.now c.args.doubtful
+    let sized = alarm_sized net c.args.setting.steps c.args.kept.now c.requires.of_log c.requires.coded c.is_built.ensures.whole c.args.id.now c.args.labels.now c.as_slice-labels.result.now c.args.doubtful
     (c.as_slice-labels.ensures.value ∙ c.in_ok-once.ensures.once) c.size_with_alarm-size.result c.size_with_alarm-size.ensures in
     refused_by_size (alarm_refusal log c.args.id.now c.args.labels.now) c.size_with_alarm-size.result (question_size net (with_alarm log c.args.id.now c.args.labels.now c.args.doubtful) c.args.setting.steps)
-    (sym c.test_alarm.ensures ∙ c.in_default.is) (omega (arith, c.if-size-gt-SIZE_LIMIT.true)) (sym sized)
+    (sym c.test_alarm.ensures ∙ c.in_default.is) (omega (arith, c.if-size-gt-MOST_SIZE.true)) (sym sized)
 
 pub draft_alarm-requires-clause-few : goal.draft_alarm-requires-clause-few
 draft_alarm-requires-clause-few g c =
     let new = IsNewAlarm-from c.args.kept.now.log c.args.id.now c.args.labels.now (sym c.test_alarm.ensures ∙ c.in_default.is) in
-    let room = alarm_room c.args.setting.net.now c.args.setting.steps c.args.kept.now c.requires.of_log c.requires.coded c.are_whole.ensures.draft c.args.id.now c.args.labels.now c.as_slice-labels.result.now c.args.doubtful
-    (c.as_slice-labels.ensures.value ∙ c.in_ok-once.ensures.once) c.size_with_alarm-size.result c.size_with_alarm-size.ensures new.room (omega (arith, c.if-size-gt-SIZE_LIMIT.false)) in
+    let room = alarm_room c.args.setting.net.now c.args.setting.steps c.args.kept.now c.requires.of_log c.requires.coded c.is_built.ensures.whole c.args.id.now c.args.labels.now c.as_slice-labels.result.now c.args.doubtful
+    (c.as_slice-labels.ensures.value ∙ c.in_ok-once.ensures.once) c.size_with_alarm-size.result c.size_with_alarm-size.ensures new.room (omega (arith, c.if-size-gt-MOST_SIZE.false)) in
     omega (arith, room, c.count.ensures.count)
 
 pub returns-clause-refused : goal.returns-clause-refused
 returns-clause-refused g c =
     let net = c.args.setting.net.now in
     let log = c.args.kept.now.log in
-    let sized = alarm_sized net c.args.setting.steps c.args.kept.now c.requires.of_log c.requires.coded c.are_whole.ensures.draft c.args.id.now c.args.labels.now c.as_slice-labels.result.now c.args.doubtful
+    let sized = alarm_sized net c.args.setting.steps c.args.kept.now c.requires.of_log c.requires.coded c.is_built.ensures.whole c.args.id.now c.args.labels.now c.as_slice-labels.result.now c.args.doubtful
     (c.as_slice-labels.ensures.value ∙ c.in_ok-once.ensures.once) c.size_with_alarm-size.result c.size_with_alarm-size.ensures in
     accepted (alarm_refusal log c.args.id.now c.args.labels.now) (question_size net (with_alarm log c.args.id.now c.args.labels.now c.args.doubtful) c.args.setting.steps)
-    (sym c.test_alarm.ensures ∙ c.in_default.is) (omega (arith, sized, c.if-size-gt-SIZE_LIMIT.false))
+    (sym c.test_alarm.ensures ∙ c.in_default.is) (omega (arith, sized, c.if-size-gt-MOST_SIZE.false))
 
 pub returns-clause-drafted : goal.returns-clause-drafted
 returns-clause-drafted g c =
     let new = IsNewAlarm-from c.args.kept.now.log c.args.id.now c.args.labels.now (sym c.test_alarm.ensures ∙ c.in_default.is) in
-    alarm_drafted c.args.setting.net.now c.args.setting.steps c.args.kept.now c.requires.of_log c.requires.coded c.are_whole.ensures.draft c.args.id.now c.args.labels.now c.as_slice-labels.result.now c.args.doubtful
-    (c.as_slice-labels.ensures.value ∙ c.in_ok-once.ensures.once) c.size_with_alarm-size.result c.size_with_alarm-size.ensures new.room (omega (arith, c.if-size-gt-SIZE_LIMIT.false)) c.in_ok-draft.draft
+    alarm_drafted c.args.setting.net.now c.args.setting.steps c.args.kept.now c.requires.of_log c.requires.coded c.is_built.ensures.whole c.args.id.now c.args.labels.now c.as_slice-labels.result.now c.args.doubtful
+    (c.as_slice-labels.ensures.value ∙ c.in_ok-once.ensures.once) c.size_with_alarm-size.result c.size_with_alarm-size.ensures new.room (omega (arith, c.if-size-gt-MOST_SIZE.false)) c.in_ok-draft.draft
     (subst (λ first. IsDraftOf c.args.kept.now.parts.code.code (alarm_added (nameless c.as_slice-labels.result.now c.args.doubtful)) first c.in_ok-draft.draft) c.count.ensures.count c.in_ok-draft.ensures)

@@ -8,13 +8,13 @@ use Rattle.log_clauses.specs.Additions.{pair_added}
 use Rattle.log_encode.specs.Drafted.{IsDraftOf}
 use Rattle.replay.specs.QuestionSize.{question_size}
 
-pub returns-then-size-gt-SIZE_LIMIT-clause-refused : goal.returns-then-size-gt-SIZE_LIMIT-clause-refused
-returns-then-size-gt-SIZE_LIMIT-clause-refused g c =
+pub returns-then-size-gt-MOST_SIZE-clause-refused : goal.returns-then-size-gt-MOST_SIZE-clause-refused
+returns-then-size-gt-MOST_SIZE-clause-refused g c =
     let net = c.args.setting.net.now in
     let log = c.args.kept.now.log in
-    let sized = pair_sized net c.args.setting.steps c.args.kept.now c.requires.of_log c.requires.coded c.are_whole.ensures.draft c.args.first c.args.second c.requires.new c.size_with_pair-size.result c.size_with_pair-size.ensures in
+    let sized = pair_sized net c.args.setting.steps c.args.kept.now c.requires.of_log c.requires.coded c.is_built.ensures.whole c.args.first c.args.second c.requires.new c.size_with_pair-size.result c.size_with_pair-size.ensures in
     refused_by_size (refusal_of_pair log (Some (c.args.first, c.args.second))) c.size_with_pair-size.result (question_size net (paired log c.args.first c.args.second) c.args.setting.steps)
-    c.requires.accepted (omega (arith, c.if-size-gt-SIZE_LIMIT.true)) (sym sized)
+    c.requires.accepted (omega (arith, c.if-size-gt-MOST_SIZE.true)) (sym sized)
 
 pub draft_before-requires-clause-first : goal.draft_before-requires-clause-first
 draft_before-requires-clause-first g c =
@@ -32,11 +32,11 @@ pub returns-clause-refused : goal.returns-clause-refused
 returns-clause-refused g c =
     let net = c.args.setting.net.now in
     let log = c.args.kept.now.log in
-    let sized = pair_sized net c.args.setting.steps c.args.kept.now c.requires.of_log c.requires.coded c.are_whole.ensures.draft c.args.first c.args.second c.requires.new c.size_with_pair-size.result c.size_with_pair-size.ensures in
-    accepted (refusal_of_pair log (Some (c.args.first, c.args.second))) (question_size net (paired log c.args.first c.args.second) c.args.setting.steps) c.requires.accepted (omega (arith, sized, c.if-size-gt-SIZE_LIMIT.false))
+    let sized = pair_sized net c.args.setting.steps c.args.kept.now c.requires.of_log c.requires.coded c.is_built.ensures.whole c.args.first c.args.second c.requires.new c.size_with_pair-size.result c.size_with_pair-size.ensures in
+    accepted (refusal_of_pair log (Some (c.args.first, c.args.second))) (question_size net (paired log c.args.first c.args.second) c.args.setting.steps) c.requires.accepted (omega (arith, sized, c.if-size-gt-MOST_SIZE.false))
 
 pub returns-clause-drafted : goal.returns-clause-drafted
 returns-clause-drafted g c =
-    pair_drafted c.args.setting.net.now c.args.setting.steps c.args.kept.now c.requires.of_log c.requires.coded c.are_whole.ensures.draft c.args.first c.args.second c.requires.new c.size_with_pair-size.result c.size_with_pair-size.ensures
-    c.are_whole.ensures.log.few_alarms (omega (arith, c.if-size-gt-SIZE_LIMIT.false)) c.in_ok-draft.draft
+    pair_drafted c.args.setting.net.now c.args.setting.steps c.args.kept.now c.requires.of_log c.requires.coded c.is_built.ensures.whole c.args.first c.args.second c.requires.new c.size_with_pair-size.result c.size_with_pair-size.ensures
+    c.is_whole.ensures.whole.few_alarms (omega (arith, c.if-size-gt-MOST_SIZE.false)) c.in_ok-draft.draft
     (subst (λ first. IsDraftOf c.args.kept.now.parts.code.code (pair_added c.args.first c.args.second) first c.in_ok-draft.draft) c.count.ensures.count c.in_ok-draft.ensures)

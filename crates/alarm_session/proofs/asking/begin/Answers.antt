@@ -7,4 +7,4 @@ use Rattle.replay.specs.QuestionSize.{question_size}
 pub returns-in-Ok-clause-refused : goal.returns-in-Ok-clause-refused
 returns-in-Ok-clause-refused g c =
     let log = ap (λ l. question_size c.args.setting.net.now l c.args.setting.steps) c.new-log.ensures in
-    accepted None (question_size c.args.setting.net.now no_log c.args.setting.steps) refl (omega (arith, c.question_size-size.ensures.size, log, c.if-size-gt-SIZE_LIMIT.false))
+    accepted None (question_size c.args.setting.net.now no_log c.args.setting.steps) refl (omega (arith, c.question_size-size.ensures.size, log, c.if-size-gt-MOST_SIZE.false))

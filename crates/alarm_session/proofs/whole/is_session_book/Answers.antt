@@ -3,7 +3,7 @@ use Rattle.alarm_session.proofs.whole.is_session_book.Goals as goal
 
 pub returns : goal.returns
 returns g c = record {
-  poses = book_poses c.args.setting.net.now c.args.setting.steps c.args.kept.now c.requires c.are_whole.ensures.network c.are_whole.ensures.log.valid c.guards-guards.result.now c.guards-guards.ensures.guards;
+  poses = book_poses c.args.setting.net.now c.args.setting.steps c.args.kept.now c.requires c.is_built.ensures.network c.is_whole.ensures.whole.valid c.guards-guards.result.now c.guards-guards.ensures.guards;
   lean = book_lean c.args.setting.net.now c.args.setting.steps c.args.kept.now c.requires;
   valid = c.entries-entries.ensures.valid;
 }
