@@ -15,3 +15,4 @@ pub mod PieceLemmas
 pub mod Rechecking
 pub mod Fronts
 pub mod Readable
+pub mod Commented
