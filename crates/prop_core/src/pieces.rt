@@ -9,7 +9,6 @@ use std::marker::Model;
 /// Lists that stand one behind another in one vector, with room that was reserved for more of them.
 ///
 /// Of lists and of items there are fewer than 2^32, so that it takes four bytes to know where a list ends.
-#[derive(Drop)]
 pub struct Pieces<T> {
     items: Vec<T>,
     ends: Vec<u32>,
@@ -32,6 +31,23 @@ impl<T> Model for Pieces<T> {
       few_ends : vec_len a.ends + a.spare_pieces < 2 ^ 32;
       few_items : vec_len a.items + a.spare_items < 2 ^ 32;
     } };
+}
+
+// Large blocks are made small before they are given back. Once the allocator of the GNU C library got a large block back, it takes all up to
+// that size from a heap that gives nothing back between blocks, so vectors that grow later would leave their old places behind.
+impl<T: Drop> Drop for Pieces<T> {
+    fn drop(self) {
+        let Self {
+            mut items,
+            mut ends,
+            spare_pieces: _,
+            spare_items: _,
+        } = self;
+        items.clear();
+        items.shrink_to(1);
+        ends.clear();
+        ends.shrink_to(1);
+    }
 }
 
 impl<T: Copy> Pieces<T> {
