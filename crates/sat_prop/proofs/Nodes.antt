@@ -1,5 +1,5 @@
 -- Watches and links stand together in nodes: what both lists are where a node is added or changed.
-use Rattle.std.proofs.Common.{◌≡◌, ◌∙◌, ℕ, zero, suc, ◌+◌, ◌-◌, ◌%◌, ◌<◌, ◌++◌, ◌∷◌, [], List, refl, ap, sym, subst, length, get_or, arith, add-zero, Some, None}
+use Rattle.std.proofs.Common.{◌≡◌, ◌∙◌, ℕ, zero, suc, ◌+◌, ◌-◌, ◌*◌, ◌/◌, ◌%◌, ◌<◌, Bool, true, false, ◌++◌, ◌∷◌, [], List, refl, ap, sym, subst, length, get_or, arith, add-zero, Some, None}
 use Rattle.std.specs.Prelude.{slice_set}
 use Rattle.std.proofs.Math.Nat.{add-mod, add-mod_right}
 use Rattle.std.proofs.lemmas.Grind.{common_steps}
@@ -9,7 +9,7 @@ use Rattle.sat_prop.specs.declared.watch_lists.Watch.{Watch}
 use Rattle.sat_prop.specs.declared.watch_lists.Node.{Node}
 use Rattle.sat_prop.specs.declared.watch_lists.Starts.{Starts}
 use Rattle.sat_prop.specs.declared.watch_lists.TheConstants.{NO_WATCH}
-use Rattle.sat_prop.specs.Watches.{AreWatchLists, Puts, watches_from, watches_of, nexts_of, node_at, watch_at, watch_of, watching, as_link, begin_of, twin_of, with_start}
+use Rattle.sat_prop.specs.Watches.{AreWatchLists, Puts, watches_from, watches_of, nexts_of, node_at, watch_at, watch_of, watching, as_link, begin_of, code_of, literal_of, twin_of, with_start}
 use Rattle.sat_prop.proofs.WatchLists.{lists_pushed, lists_put}
 
 -- ---- numbers of watches
@@ -37,6 +37,14 @@ twin_odd number h =
 
 pub pair_more : (number : ℕ) → number % 2 ≡ 0 → (number + 1 + 1) % 2 ≡ 0
 pair_more number h = let e : number + 1 + 1 ≡ number + 2 = omega arith in ap (λ (k : ℕ). k % 2) e ∙ add-mod_right number 2 ∙ h
+
+-- the number of a literal gives it back
+pub code_back : (l : Lit) → literal_of (code_of l) ≡ l
+code_back l = by l.positive l.var
+  where
+    by : (b : Bool) (v : ℕ) → literal_of (code_of (record { var = v; positive = b })) ≡ record { var = v; positive = b }
+    by true v = let q : (2 * v + 1) / 2 ≡ v = omega arith in let r : (2 * v + 1) % 2 ≡ 1 = omega arith in rw (q, r) refl
+    by false v = let q : 2 * v / 2 ≡ v = omega arith in let r : 2 * v % 2 ≡ 0 = omega arith in rw (q, r) refl
 
 -- ---- watches and links of nodes
 
@@ -90,7 +98,14 @@ nexts_set nodes i n = map-set (λ (m : Node). as_link m.next) nodes i n
 
 -- a node at the front of the list of its literal
 abbrev pub at_front : List Starts → ℕ → Lit → Node
-at_front starts clause l = record { clause = clause; lit = l; next = begin_of starts l }
+at_front starts clause l = record { clause = clause; code = code_of l; next = begin_of starts l }
+
+-- it keeps the watch of that literal
+abbrev pub watch_with : ℕ → ℕ → Lit → Watch
+watch_with number clause l = record { clause = clause; lit = l; twin = twin_of number }
+
+pub front_keeps : (number : ℕ) (starts : List Starts) (clause : ℕ) (l : Lit) → watch_of number (at_front starts clause l) ≡ watch_with number clause l
+front_keeps number starts clause l = ap (λ (x : Lit). watch_with number clause x) (code_back l)
 
 -- a node is added to the list of its literal
 pub node_pushed : (nodes : List Node) (starts : List Starts) (waiting : List ℕ) (clause : ℕ) (l : Lit) → AreWatchLists (watches_of nodes) (nexts_of nodes) starts waiting → l.var < length starts → length nodes < NO_WATCH
@@ -98,7 +113,7 @@ pub node_pushed : (nodes : List Node) (starts : List Starts) (waiting : List ℕ
 node_pushed nodes starts waiting clause l a known few =
     let n = count_watches nodes in
     let small : as_link (length (watches_of nodes)) ≡ Some (length (watches_of nodes)) = subst (λ (k : ℕ). as_link k ≡ Some k) (sym n) (linked_to (length nodes) few) in
-    rw (watches_pushed nodes (at_front starts clause l), nexts_pushed nodes (at_front starts clause l), ← n) (lists_pushed (watches_of nodes) (nexts_of nodes) starts waiting a (watch_of (length (watches_of nodes)) (at_front starts clause l)) known small)
+    rw (watches_pushed nodes (at_front starts clause l), nexts_pushed nodes (at_front starts clause l), front_keeps (length nodes) starts clause l, ← n) (lists_pushed (watches_of nodes) (nexts_of nodes) starts waiting a (watch_with (length (watches_of nodes)) clause l) known small)
 
 -- the node that a watch has at another literal
 abbrev pub moved : List Node → List Starts → ℕ → Lit → Node
@@ -108,7 +123,8 @@ moved nodes starts number l = at_front starts (node_at nodes number).clause l
 pub node_put : (nodes : List Node) (starts : List Starts) (others : List ℕ) (number : ℕ) (l : Lit) → AreWatchLists (watches_of nodes) (nexts_of nodes) starts (others ++ number ∷ []) → l.var < length starts → number < length nodes → number < NO_WATCH
     → AreWatchLists (watches_of (slice_set nodes number (moved nodes starts number l))) (nexts_of (slice_set nodes number (moved nodes starts number l))) (with_start starts l number) others
 node_put nodes starts others number l a known within few =
-    let w : watching (watch_at (watches_of nodes) number) l ≡ watch_of number (moved nodes starts number l) = ap (λ (x : Watch). watching x l) (watch_of_node nodes number _ within) in
+    let w : watching (watch_at (watches_of nodes) number) l ≡ watch_of number (moved nodes starts number l) =
+    ap (λ (x : Watch). watching x l) (watch_of_node nodes number _ within) ∙ sym (front_keeps number starts (node_at nodes number).clause l) in
     rw (watches_set nodes number (moved nodes starts number l), nexts_set nodes number (moved nodes starts number l), ← w) (lists_put (watches_of nodes) (nexts_of nodes) starts others number a l known (linked_to number few))
 
 -- so it watches that literal, and waits no more
@@ -118,7 +134,8 @@ pub node_puts : (nodes : List Node) (starts : List Starts) (others : List ℕ) (
 node_puts nodes starts others number l vars spare within before last e =
     let s = same_from_push others before number last e in
     let w = watches_set nodes number (moved nodes starts number l) in
-    let g : watch_of number (moved nodes starts number l) ≡ watching (watch_at (watches_of nodes) number) l = sym (ap (λ (x : Watch). watching x l) (watch_of_node nodes number _ within)) in
+    let g : watch_of number (moved nodes starts number l) ≡ watching (watch_at (watches_of nodes) number) l =
+    front_keeps number starts (node_at nodes number).clause l ∙ sym (ap (λ (x : Watch). watching x l) (watch_of_node nodes number _ within)) in
     rw (w, ← s.0, ← s.1, g) refl
 
 -- both watches of a clause are added
@@ -129,6 +146,6 @@ pair_pushed nodes one two starts between clause first second even a b =
     let size : length one ≡ length nodes + 1 = rw a (grind (arith, common_steps)) in
     let t1 : twin_of (length nodes) ≡ suc (length (watches_of nodes)) = twin_even (length nodes) even ∙ ap suc (sym n) in
     let t2 : twin_of (length one) ≡ length (watches_of nodes) = ap twin_of size ∙ twin_odd (length nodes) even ∙ sym n in
-    let w1 = ap watches_of a ∙ watches_pushed nodes (at_front starts clause first) in
-    let w2 = ap watches_of b ∙ watches_pushed one (at_front between clause second) in
+    let w1 = ap watches_of a ∙ watches_pushed nodes (at_front starts clause first) ∙ ap (λ (w : Watch). watches_of nodes ++ w ∷ []) (front_keeps (length nodes) starts clause first) in
+    let w2 = ap watches_of b ∙ watches_pushed one (at_front between clause second) ∙ ap (λ (w : Watch). watches_of one ++ w ∷ []) (front_keeps (length one) between clause second) in
     w2 ∙ rw (w1, t1, t2) refl

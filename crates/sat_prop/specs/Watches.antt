@@ -1,5 +1,5 @@
 -- Clauses that are watched at literals (Moskewicz and others, "Chaff: engineering an efficient SAT solver", 2001): each watch stands in the list of its literal, linked by numbers, or waits.
-use Rattle.std.specs.Prelude.{◌≡◌, ℕ, ◌+◌, ◌-◌, ◌%◌, ◌<◌, ◌==◌, true, false, suc, Bool, List, [], ◌∷◌, ◌++◌, length, map, replicate, Option, Some, None, nat_eq, slice_index_or, slice_set, if◌then◌else◌}
+use Rattle.std.specs.Prelude.{◌≡◌, ℕ, ◌+◌, ◌-◌, ◌*◌, ◌/◌, ◌%◌, ◌<◌, ◌==◌, true, false, suc, Bool, List, [], ◌∷◌, ◌++◌, length, map, replicate, Option, Some, None, nat_eq, slice_index_or, slice_set, if◌then◌else◌}
 use Rattle.std.specs.List.{list_any, IsDistinct}
 use Rattle.prop_core.specs.declared.lit.Lit.{Lit}
 use Rattle.prop_core.specs.Trail.{no_literal}
@@ -25,9 +25,16 @@ watch_at watches number = slice_index_or watches number no_watch
 abbrev pub twin_of : ℕ → ℕ
 twin_of number = if number % 2 == 0 then number + 1 else number - 1
 
+-- A literal as a number: twice its variable, and one more where it is the variable itself.
+abbrev pub code_of : Lit → ℕ
+code_of l = if l.positive then 2 * l.var + 1 else 2 * l.var
+
+abbrev pub literal_of : ℕ → Lit
+literal_of code = record { var = code / 2; positive = code % 2 == 1 }
+
 -- the watch that is kept in the node of a number
 abbrev pub watch_of : ℕ → Node → Watch
-watch_of number node = record { clause = node.clause; lit = node.lit; twin = twin_of number }
+watch_of number node = record { clause = node.clause; lit = literal_of node.code; twin = twin_of number }
 
 abbrev pub watches_from : ℕ → List Node → List Watch
 watches_from number [] = []
@@ -45,7 +52,7 @@ abbrev pub nexts_of : List Node → List (Option ℕ)
 nexts_of nodes = map (λ n. as_link n.next) nodes
 
 abbrev pub no_node : Node
-no_node = record { clause = 0; lit = no_literal; next = NO_WATCH }
+no_node = record { clause = 0; code = 0; next = NO_WATCH }
 
 abbrev pub node_at : List Node → ℕ → Node
 node_at nodes number = slice_index_or nodes number no_node

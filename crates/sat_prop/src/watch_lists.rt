@@ -1,7 +1,7 @@
 ghost use Rattle.std.specs.Prelude.{◌≡◌, ℕ, ◌+◌, ◌-◌, ◌<◌, ◌≤◌, List, ◌++◌, ◌∷◌, [], length, max, slice_set, vec_len, vec_capacity, OnOk, OnErr, IfSome, IfNone};
-ghost use Rattle.sat_prop.specs.Watches.{Links, Drains, IsNext, IsOpened, Puts, as_link, begin_of, no_starts, twin_of, with_start, node_at, nexts_of, watch_at, with_pair};
+ghost use Rattle.sat_prop.specs.Watches.{Links, Drains, IsNext, IsOpened, Puts, as_link, begin_of, code_of, literal_of, no_starts, twin_of, with_start, node_at, nexts_of, watch_at, with_pair};
 
-use des_base::Memory;
+use des_base::{Memory, VAR_LIMIT};
 use prop_core::Lit;
 use std::alloc::Global;
 use std::marker::Model;
@@ -18,11 +18,11 @@ pub struct Watch {
 pub const NO_WATCH: u32 = 4_294_967_295;
 
 /// A watch as it is kept, and the number of the one that comes next in its list. Watches come in pairs, so the number of the other one is
-/// known from its own.
+/// known from its own. Its literal is kept as a number.
 #[derive(Clone, Copy)]
 pub struct Node {
     pub clause: u32,
-    pub lit: Lit,
+    pub code: u32,
     pub next: u32,
 }
 
@@ -46,6 +46,7 @@ pub struct WatchLists {
 
 impl Model for WatchLists {
     ghost use Rattle.std.specs.Prelude.{◌≡◌, ◌+◌, ◌*◌, ◌%◌, ◌≤◌, length, vec_len, vec_capacity};
+    ghost use Rattle.des_base.specs.declared.TheConstants.{VAR_LIMIT};
     ghost use Rattle.sat_prop.specs.declared.watch_lists.TheConstants.{NO_WATCH};
     ghost use Rattle.sat_prop.specs.Watches.{WatchState, AreWatchLists, watches_of, nexts_of};
 
@@ -55,6 +56,7 @@ impl Model for WatchLists {
 
     ghost invariant = { λ a. record {
       lists : AreWatchLists (watches_of a.nodes.items) (nexts_of a.nodes.items) a.starts.items a.waiting.items;
+      limit : length a.starts.items ≤ VAR_LIMIT;
       pairs : vec_len a.nodes % 2 ≡ 0;
       few : vec_len a.nodes + a.spare * 2 ≤ NO_WATCH;
       room_nodes : vec_len a.nodes + a.spare * 2 ≤ vec_capacity a.nodes;
@@ -77,6 +79,7 @@ impl WatchLists {
 
     /// Adds empty lists until there are those of this many variables.
     pub fn grow(&mut self, vars: u32) -> Result<(), Memory>
+        requires { vars ≤ VAR_LIMIT }
         ensures ok { OnOk result (self.new ≡ record self.old { vars = max self.old.vars vars }) }
         ensures err { OnErr result (self.new ≡ self.old) }
     {
@@ -122,7 +125,7 @@ impl WatchLists {
         let node = self.nodes[number as usize];
         Watch {
             clause: node.clause,
-            lit: node.lit,
+            lit: literal_of(node.code),
             twin: twin(number),
         }
     }
@@ -162,6 +165,28 @@ impl WatchLists {
 
 // How many watches there may be.
 const WATCH_LIMIT: usize = NO_WATCH as usize;
+
+// The number of a literal: twice its variable, and one more where it is the variable itself.
+fn code_of(lit: Lit) -> u32
+    requires { lit.var < VAR_LIMIT }
+    ensures { result ≡ code_of lit }
+{
+    if lit.positive {
+        2 * lit.var + 1
+    } else {
+        2 * lit.var
+    }
+}
+
+// The literal of a number.
+fn literal_of(code: u32) -> Lit
+    ensures { result ≡ literal_of code }
+{
+    Lit {
+        var: code / 2,
+        positive: code % 2 == 1,
+    }
+}
 
 // The number of the other watch of a pair.
 fn twin(number: u32) -> u32
@@ -232,27 +257,35 @@ fn drain(nodes: &[Node], first: u32, into: &mut Vec<u32>)
 // Adds a watch, in the list of its literal.
 fn push_node(nodes: &mut Vec<Node>, starts: &mut Vec<Starts>, clause: u32, lit: Lit)
     requires known { lit.var < length starts.old.items }
+    requires limit { length starts.old.items ≤ VAR_LIMIT }
     requires few { vec_len nodes.old < NO_WATCH }
     requires room { vec_len nodes.old < vec_capacity nodes.old }
-    ensures nodes { nodes.new.items ≡ nodes.old.items ++ record { clause = clause; lit = lit; next = begin_of starts.old.items lit } ∷ [] }
+    ensures nodes { nodes.new.items ≡ nodes.old.items ++ record { clause = clause; code = code_of lit; next = begin_of starts.old.items lit } ∷ [] }
     ensures starts { starts.new.items ≡ with_start starts.old.items lit (length nodes.old.items) }
     ensures room { vec_capacity nodes.old ≤ vec_capacity nodes.new }
 {
     let number = nodes.len() as u32;
     let next = start(starts.as_slice(), lit);
-    nodes.push(Node { clause, lit, next }).unwrap();
+    nodes
+        .push(Node {
+            clause,
+            code: code_of(lit),
+            next,
+        })
+        .unwrap();
     set_start(starts, lit, number);
 }
 
 // Puts a watch into the list of a literal, where it watches from now on.
 fn link(nodes: &mut Vec<Node>, starts: &mut Vec<Starts>, number: u32, lit: Lit)
     requires known { lit.var < length starts.old.items }
+    requires limit { length starts.old.items ≤ VAR_LIMIT }
     requires number { number < length nodes.old.items }
-    ensures nodes { nodes.new.items ≡ slice_set nodes.old.items number (record { clause = (node_at nodes.old.items number).clause; lit = lit; next = begin_of starts.old.items lit }) }
+    ensures nodes { nodes.new.items ≡ slice_set nodes.old.items number (record { clause = (node_at nodes.old.items number).clause; code = code_of lit; next = begin_of starts.old.items lit }) }
     ensures starts { starts.new.items ≡ with_start starts.old.items lit number }
     ensures room { vec_capacity nodes.new ≡ vec_capacity nodes.old }
 {
-    nodes[number as usize].lit = lit;
+    nodes[number as usize].code = code_of(lit);
     nodes[number as usize].next = start(starts.as_slice(), lit);
     set_start(starts, lit, number);
 }

@@ -13,7 +13,7 @@ use crate::stack::Stack;
 use crate::standing::Stands;
 use crate::trail::Propagated;
 use crate::watch_lists::WatchLists;
-use des_base::Memory;
+use des_base::{Memory, VAR_LIMIT};
 use prop_core::{ClauseId, Clauses, Lit};
 use std::alloc::Global;
 use std::marker::Model;
@@ -54,6 +54,7 @@ impl Watched {
 
     /// Sees to it that literals of so many variables can be watched.
     pub fn grow(&mut self, vars: u32) -> Result<(), Memory>
+        requires { vars ≤ VAR_LIMIT }
         ensures ok { OnOk result (self.new ≡ record self.old { lists = record self.old.lists { vars = max self.old.lists.vars vars } }) }
         ensures err { OnErr result (self.new ≡ self.old) }
     {

@@ -1,7 +1,6 @@
 use Rattle.std.proofs.Common.{◌≡◌, ◌+◌, ◌-◌, ◌<◌, ◌++◌, ◌∷◌, [], ℕ, Option, None, subst, length, get_or, arith}
 use Rattle.std.specs.Prelude.{vec_len, vec_capacity}
 use Rattle.std.proofs.lemmas.Grind.{common_steps}
-use Rattle.prop_core.specs.Trail.{no_literal}
 use Rattle.sat_prop.specs.Watches.{nexts_of, as_link}
 use Rattle.sat_prop.proofs.Nodes.{count_nexts, next_of_node, goes_on, ends}
 use Rattle.sat_prop.proofs.Draining.{IsDraining, draining_begins, draining_more, draining_ends, draining_room}
@@ -50,7 +49,7 @@ more-preserved c =
     let more : IsDraining (nexts_of c.args.nodes.now) (as_link c.args.first) (get_or (nexts_of c.args.nodes.now) c.more.next None) c.args.into.now.items (c.more.into.items ++ c.more.next ∷ []) (vec_capacity c.push.new.self - vec_len c.push.new.self) =
     draining_room _ _ _ _ _ _ _ (grind (arith, common_steps)) o.more in
     record {
-      draining = rw (e, ← next_of_node c.args.nodes.now c.more.next (record { clause = 0; lit = no_literal; next = 0 }) w) more;
+      draining = rw (e, ← next_of_node c.args.nodes.now c.more.next (record { clause = 0; code = 0; next = 0 }) w) more;
       capacity = let b = c.more.invariant.capacity in grind (arith, common_steps);
     }
 

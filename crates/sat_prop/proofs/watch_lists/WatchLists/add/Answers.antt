@@ -22,6 +22,7 @@ invariant_of-self c =
     let kept : length c.push_node.new.starts.items ≡ length c.self.inside.starts.items = rw one.starts (grind (arith, common_steps)) in
     record {
       lists = rw (two.nodes, two.starts) (node_pushed c.push_node.new.nodes.items c.push_node.new.starts.items c.self.inside.waiting.items c.args.clause c.args.second a (rw kept known2) (omega arith));
+      limit = let r = c.self.invariant.limit in let k : length c.push_node-2.new.starts.items ≡ length c.push_node.new.starts.items = rw two.starts (grind (arith, common_steps)) in omega arith;
       pairs = ap (λ k. k % 2) (l2 ∙ ap (λ k. k + 1) l1) ∙ pair_more (vec_len c.self.inside.nodes) c.self.invariant.pairs;
       few = omega arith;
       room_nodes = let r = c.self.invariant.room_nodes in let k = one.room in let m = two.room in omega arith;

@@ -6,6 +6,7 @@ use Rattle.sat_prop.proofs.watch_lists.WatchLists.new.Goals as goal
 pub invariant_of-result : goal.invariant_of-result
 invariant_of-result c = record {
   lists = rw (c.new.ensures.items, c.new-2.ensures.items, c.new-3.ensures.items) no_lists;
+  limit = rw c.new-2.ensures.items (grind (arith, common_steps));
   pairs = ap (λ n. n % 2) c.new.ensures.len;
   few = let l = c.new.ensures.len in grind (arith, common_steps);
   room_nodes = let l = c.new.ensures.len in grind (arith, common_steps);

@@ -28,6 +28,7 @@ invariant_of-self c =
     let all : c.drain.new.into.items ≡ c.self.inside.waiting.items ++ a.lists c.args.lit = d.2 ∙ ap (λ (xs : List ℕ). c.self.inside.waiting.items ++ xs) same in
     record {
       lists = rw (c.set_start.ensures, all) (lists_opened (watches_of c.self.inside.nodes.items) (nexts_of c.self.inside.nodes.items) c.self.inside.starts.items c.self.inside.waiting.items a c.args.lit known);
+      limit = let r = c.self.invariant.limit in let k : length c.set_start.new.starts.items ≡ length c.self.inside.starts.items = rw c.set_start.ensures (grind (arith, common_steps)) in omega arith;
       pairs = c.self.invariant.pairs;
       few = c.self.invariant.few;
       room_nodes = c.self.invariant.room_nodes;

@@ -28,6 +28,7 @@ invariant_of-self c =
     let small : c.unwrap-number.result < NO_WATCH = let r = c.self.invariant.few in let k = c.self.inside.nodes.ok.0 in omega arith in
     record {
       lists = rw (l.nodes, l.starts) (node_put c.self.inside.nodes.items c.self.inside.starts.items c.pop.new.self.items c.unwrap-number.result c.args.lit a known within small);
+      limit = let r = c.self.invariant.limit in let k : length c.link.new.starts.items ≡ length c.self.inside.starts.items = rw l.starts (grind (arith, common_steps)) in omega arith;
       pairs = ap (λ k. k % 2) n ∙ c.self.invariant.pairs;
       few = let r = c.self.invariant.few in omega arith;
       room_nodes = let r = c.self.invariant.room_nodes in let k = l.room in omega arith;
