@@ -19,6 +19,7 @@ use Rattle.proof_ledger.specs.Book.{BookEntry, axioms_of, clauses_of, IsValidBoo
 use Rattle.prop_core.specs.VariableNames.{Name}
 use Rattle.prop_core.specs.declared.lit.Lit.{Lit}
 use Rattle.replay.specs.QuestionSize.{question_size}
+use Rattle.run_decode.specs.QuestionAxioms.{BuiltQuestion}
 use Rattle.sat_order.specs.Rank.{OrderState}
 use Rattle.sat_solve.specs.Searching.{HasAxiomVars}
 
@@ -91,10 +92,11 @@ pub record StaysSame (before now : Log) (old new : List BookEntry) : Type 0 wher
   pub log : now ≡ before
   pub book : new ≡ old
 
--- The answer of the present log, with what shows it in the valid book: entries that were put since the question was opened.
+-- The answer of the present log, with what shows it in the valid book: entries that were put since the question was opened, as it was built so far.
 pub record IsToldBy (net : Net) (log : Log) (n budget : ℕ) (old new : List BookEntry) (found : Found) : Type 0 where
   pub names : List (ℕ × Name)
-  pub answered : IsAnswered names net log n budget old new found
+  pub first : BuiltQuestion
+  pub answered : IsAnswered names first net log n budget old new found
   pub valid : IsValidBook new
 
 -- ---- what is always so of the book

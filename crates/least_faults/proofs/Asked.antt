@@ -1,5 +1,5 @@
 -- What a question comes to: what it leaves in the book, and what its answer means.
-use Rattle.std.proofs.Common.{◌≡◌, ◌≢◌, ◌∙◌, ℕ, ◌+◌, ◌<◌, ◌≤◌, ◌⊎◌, inl, inr, Bool, true, false, List, [], ◌∷◌, ◌++◌, length, Option, None, Some, IfSome, IfNone, map, refl, sym, ap, subst, arith, Contains, count_by, IsTrue, append-nil, append_assoc}
+use Rattle.std.proofs.Common.{◌≡◌, ◌≢◌, ◌∙◌, ℕ, ◌+◌, ◌<◌, ◌≤◌, ◌⊎◌, inl, inr, Bool, true, false, List, [], ◌∷◌, ◌++◌, length, max, Option, None, Some, IfSome, IfNone, map, refl, sym, ap, subst, arith, Contains, count_by, IsTrue, append-nil, append_assoc}
 use Rattle.std.specs.Prelude.{⊤}
 use Rattle.std.proofs.lemmas.List.{append_cancel_left}
 use Rattle.std.specs.List.{list_any, list_all}
@@ -20,6 +20,7 @@ use Rattle.least_faults.specs.declared.asking.Asked.TheVariants.{Explained, Refu
 use Rattle.least_faults.specs.declared.parts.Parts.{Parts}
 use Rattle.least_faults.specs.Answers.{IsExplanation}
 use Rattle.least_faults.specs.Asking.{AreAssumptions, bound_part, IsSearching, ArePut, HasAskedBy}
+use Rattle.least_faults.specs.Columns.{built_within, columns_for}
 use Rattle.least_faults.specs.Evidence.{is_final}
 use Rattle.least_faults.specs.Growing.{AddsAxioms, KeepsQuestion}
 use Rattle.least_faults.specs.Parts.{AreParts, AreReady}
@@ -34,6 +35,7 @@ use Rattle.run_decode.proofs.Decided.{refuted_is_decided}
 use Rattle.run_decode.specs.Decided.{Entails}
 use Rattle.run_decode.specs.Faithful.{IsWithin, IsFaithful}
 use Rattle.run_decode.specs.Decoding.{IsTrueRun}
+use Rattle.run_decode.specs.QuestionAxioms.{BuiltQuestion}
 use Rattle.sat_order.specs.Rank.{KeepsRanks}
 use Rattle.least_faults.proofs.Ranking.{still_ranked}
 use Rattle.sat_solve.specs.Searching.{HasAxiomVars, IsSearched, HasPut, IsRefuted, IsSpent}
@@ -131,7 +133,8 @@ true_run steps code counter vars axioms bound assumed value parts assumptions al
 
 module _ (steps : CodedSteps) (code : CodedLog) (counter : CounterState) (vars : ℕ) (net : Net) (log : Log) (mid : List BookEntry) (parts : AreParts steps code counter vars (axioms_of mid))
     (of_net : steps.net ≡ net) (network : IsNetwork net) (valid : IsValidLog log) (same : code.log ≡ without_names log) (bound : Option ℕ) (assumed : List Lit) (assumptions : AreAssumptions code counter bound assumed)
-    (old new : List BookEntry) (before after : ℕ) (adds : AddsAxioms old mid) (searched : IsSearched mid new before after) (known : HasAxiomVars mid) where
+    (old new : List BookEntry) (before after : ℕ) (adds : AddsAxioms old mid) (searched : IsSearched mid new before after) (known : HasAxiomVars mid) (begun : BuiltQuestion) (at_first : begun.axioms ≡ axioms_of old)
+    (wide : length counter.columns ≡ max (length begun.counter.columns) (columns_for bound)) (listed : axioms_of mid ≡ (built_within begun bound).axioms) where
   now_axioms : axioms_of new ≡ axioms_of mid
   now_axioms = ap axioms_of searched.whole ∙ same_axioms mid searched.since searched.derived
 
@@ -159,13 +162,14 @@ module _ (steps : CodedSteps) (code : CodedLog) (counter : CounterState) (vars :
     unbounded = if_none bound (list_all is_learnt (map axiomatic adds.axioms ++ searched.since) ≡ true) (asked ≢ Refuted → list_all is_learnt (map axiomatic adds.axioms ++ searched.since) ≡ true) (λ p not. p) (alone bound none all_learnt);
   }
 
-  pub asked_spent : IfNone bound (adds.axioms ≡ []) → HasPut mid new solver.Spent → IsSpent new assumed after → HasAskedBy code counter net log steps.steps bound old new before after Spent
+  pub asked_spent : IfNone bound (adds.axioms ≡ []) → HasPut mid new solver.Spent → IsSpent new assumed after → HasAskedBy code counter begun net log steps.steps bound old new before after Spent
   asked_spent none put spent = record {
     since = map axiomatic adds.axioms ++ searched.since;
     whole = both_whole old mid new before after adds searched;
     unmarked = both_unmarked old mid new before after adds searched;
     paid = both_paid old mid new before after adds searched;
     fresh = fresh_after old mid new before after adds searched known;
+    columns = wide;
     put = put_learnt Spent none (subst (λ xs. list_all is_learnt xs ≡ true) (same_since put.since put.whole) put.put);
     means = record { nothing = spent.nothing; assumed = assumed; assumptions = assumptions; clashes = spent.clashes };
   }
@@ -192,13 +196,14 @@ module _ (steps : CodedSteps) (code : CodedLog) (counter : CounterState) (vars :
   some_true value (l ∷ inputs) more = omega arith
 
   pub asked_explained : (value : ℕ → Bool) (best : Best) → IfNone bound (adds.axioms ≡ []) → HasPut mid new solver.Sat → AllClausesTrue value (axioms_of mid) → AllLiteralsTrue value assumed →
-      IsExplanation net log steps.steps best → best.faults ≡ true_count value counter.inputs → HasAskedBy code counter net log steps.steps bound old new before after (Explained best)
+      IsExplanation net log steps.steps best → best.faults ≡ true_count value counter.inputs → HasAskedBy code counter begun net log steps.steps bound old new before after (Explained best)
   asked_explained value best none put axioms literals given count = record {
     since = map axiomatic adds.axioms ++ searched.since;
     whole = both_whole old mid new before after adds searched;
     unmarked = both_unmarked old mid new before after adds searched;
     paid = both_paid old mid new before after adds searched;
     fresh = fresh_after old mid new before after adds searched known;
+    columns = wide;
     put = put_learnt (Explained best) none (subst (λ xs. list_all is_learnt xs ≡ true) (same_since put.since put.whole) put.put);
     means = record {
       given = given;
@@ -212,13 +217,14 @@ module _ (steps : CodedSteps) (code : CodedLog) (counter : CounterState) (vars :
   refused : Refuted ≢ Refuted → ⊥
   refused not = not refl
 
-  pub asked_refuted : (number : ℕ) → HasPut mid new (solver.Unsat number) → IsRefuted new assumed number → IsValidBook new → HasAskedBy code counter net log steps.steps bound old new before after Refuted
+  pub asked_refuted : (number : ℕ) → HasPut mid new (solver.Unsat number) → IsRefuted new assumed number → IsValidBook new → HasAskedBy code counter begun net log steps.steps bound old new before after Refuted
   asked_refuted number put refuted whole = record {
     since = map axiomatic adds.axioms ++ searched.since;
     whole = both_whole old mid new before after adds searched;
     unmarked = both_unmarked old mid new before after adds searched;
     paid = both_paid old mid new before after adds searched;
     fresh = fresh_after old mid new before after adds searched known;
+    columns = wide;
     put = record {
       finals = λ clause hints in'. (assumed, assumptions, negates clause hints in');
       none = λ not. absurd (refused not);
@@ -237,13 +243,17 @@ module _ (steps : CodedSteps) (code : CodedLog) (counter : CounterState) (vars :
           last = refl;
           negates = last_negates;
         };
-        faithful = subst (λ axioms. IsFaithful axioms assumed net log steps.steps bound) (sym (axioms_with_learnt old mid (map axiomatic adds.axioms) put.put.before adds.more put.put.all_learnt)) faithful;
+        listed = before_it ∙ listed;
+        faithful = subst (λ axioms. IsFaithful axioms assumed net log steps.steps bound) (sym before_it) faithful;
       };
       decided = refuted_is_decided net log steps.steps bound (axioms_of mid) assumed put.put.clause faithful
           (subst (λ axioms. Entails axioms put.put.clause) now_axioms (final_entailed new put.put.clause put.put.hints whole there)) last_negates;
     };
   }
     where
+      before_it : begun.axioms ++ axioms_of (map axiomatic adds.axioms ++ put.put.before) ≡ axioms_of mid
+      before_it = ap (λ cs. cs ++ axioms_of (map axiomatic adds.axioms ++ put.put.before)) at_first ∙ axioms_with_learnt old mid (map axiomatic adds.axioms) put.put.before adds.more put.put.all_learnt
+
       faithful : IsFaithful (axioms_of mid) assumed net log steps.steps bound
       faithful = subst (λ net'. IsFaithful (axioms_of mid) assumed net' log steps.steps bound) of_net
           (poses steps code counter vars (axioms_of mid) bound assumed parts assumptions log (subst IsNetwork (sym of_net) network) valid same).faithful

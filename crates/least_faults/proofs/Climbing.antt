@@ -19,6 +19,7 @@ use Rattle.least_faults.specs.declared.asking.Asked.TheVariants as asked
 use Rattle.least_faults.specs.Answers.{HasConflict, IsExplanation, IsLeastFound, IsAbsentFound, IsManyFound, IsUndecidedFound}
 use Rattle.least_faults.specs.Ascending.{FinalsAreBelow, IsRefutedBelow, HasComeToBy, HasFound}
 use Rattle.least_faults.specs.Asking.{AreAssumptions, IsSearching, HasAskedBy, IsRefusal, IsStopped}
+use Rattle.least_faults.specs.Columns.{built_within}
 use Rattle.least_faults.specs.Evidence.{is_final, IsEvidence, IsPosed, IsRefutation}
 use Rattle.least_faults.specs.Growing.{KeepsColumns}
 use Rattle.least_faults.specs.Parts.{AreParts}
@@ -31,6 +32,7 @@ use Rattle.prop_core.specs.VariableNames.{Name}
 use Rattle.prop_core.specs.declared.lit.Lit.{Lit}
 use Rattle.replay.specs.Explanation.{IsExplained, NeedsFaults}
 use Rattle.run_decode.specs.Drawn.{IsInstance}
+use Rattle.run_decode.specs.QuestionAxioms.{BuiltQuestion}
 use Rattle.run_decode.specs.WholeNaming.{whole_names}
 use Rattle.std.proofs.lemmas.List.Elements.{Contains-append_cases as append_cases, Contains-append_right as append_right}
 use Rattle.step_encode.specs.Coded.{CodedSteps}
@@ -50,8 +52,8 @@ explained_not best is = cc
 pub spent_not : asked.Spent ≢ asked.Refuted
 spent_not is = cc
 
-pub come_to_none : (code : CodedLog) (counter : CounterState) (net : Net) (log : Log) (n : ℕ) (book : List BookEntry) (left : ℕ) → HasComeToBy code counter net log n 0 book book left left
-come_to_none code counter net log n book left = record {
+pub come_to_none : (code : CodedLog) (counter : CounterState) (begun : BuiltQuestion) (net : Net) (log : Log) (n : ℕ) (book : List BookEntry) (left : ℕ) → HasComeToBy code counter begun net log n 0 book book left left
+come_to_none code counter begun net log n book left = record {
   since = [];
   whole = sym (append-nil book);
   unmarked = λ number. refl;
@@ -78,27 +80,28 @@ finals_same code old new k since more keeps none finals clause hints in' = by (a
     by (inl before) = let found = finals clause hints before in (found.0, found.1, found.2, assumptions_stay code old new (Some found.0) found.2 keeps found.3, found.4)
     by (inr now) = absurd (no_final_in more clause hints none now)
 
-pub come_further : (code : CodedLog) (old new : CounterState) (net : Net) (log : Log) (n k : ℕ) (first mid last : List BookEntry) (budget before after : ℕ) → KeepsColumns old new →
-    HasComeToBy code old net log n k first mid budget before → HasAskedBy code new net log n (Some k) mid last before after asked.Refuted → HasComeToBy code new net log n (suc k) first last budget after
-come_further code old new net log n k first mid last budget before after keeps come asked' = record {
+pub come_further : (code : CodedLog) (old new : CounterState) (begun now : BuiltQuestion) (net : Net) (log : Log) (n k : ℕ) (first mid last : List BookEntry) (budget before after : ℕ) → KeepsColumns old new →
+    begun.axioms ≡ axioms_of first → now.axioms ≡ axioms_of mid → (built_within now (Some k)).axioms ≡ (built_within begun (Some k)).axioms →
+    HasComeToBy code old begun net log n k first mid budget before → HasAskedBy code new now net log n (Some k) mid last before after asked.Refuted → HasComeToBy code new begun net log n (suc k) first last budget after
+come_further code old new begun now net log n k first mid last budget before after keeps at_first at_mid listed come asked' = record {
   since = come.since ++ asked'.since;
   whole = asked'.whole ∙ ap (λ b. b ++ asked'.since) come.whole ∙ append_assoc first come.since asked'.since;
   unmarked = λ number. counted_more (is_mark number) come.since asked'.since ∙ (let one = come.unmarked number in let two = asked'.unmarked number in omega (arith, one, two));
   paid = (let count = counted_more is_learnt come.since asked'.since in omega (arith, count, come.paid, asked'.paid));
   fresh = fresh_both first mid come.since asked'.since come.whole come.fresh asked'.fresh;
   finals = finals_further code old new k come.since asked'.since keeps come.finals asked'.put.finals;
-  below = λ j is. (let same : k ≡ j = omega (arith, is) in subst (λ i. IsRefutedBelow code new net log n i (axioms_of first) (come.since ++ asked'.since)) same (record {
+  below = λ j is. (let same : k ≡ j = omega (arith, is) in subst (λ i. IsRefutedBelow code new net log n i begun (come.since ++ asked'.since)) same (record {
     assumed = asked'.means.assumed;
     assumptions = asked'.means.assumptions;
-    refuted = last_earlier first mid come.since asked'.since net log n (Some k) asked'.means.assumed come.whole asked'.means.refuted;
+    refuted = last_earlier begun now first mid come.since asked'.since net log n (Some k) asked'.means.assumed at_first at_mid listed come.whole asked'.means.refuted;
   }));
   needs = asked'.means.decided.above;
 }
 
 -- the bounds below k stay refuted where nothing more is
-pub come_on : (code : CodedLog) (old new : CounterState) (net : Net) (log : Log) (n k : ℕ) (first mid last : List BookEntry) (budget before after : ℕ) (what : Asked) → KeepsColumns old new → what ≢ asked.Refuted →
-    HasComeToBy code old net log n k first mid budget before → HasAskedBy code new net log n (Some k) mid last before after what → HasComeToBy code new net log n k first last budget after
-come_on code old new net log n k first mid last budget before after what keeps not come asked' = record {
+pub come_on : (code : CodedLog) (old new : CounterState) (begun now : BuiltQuestion) (net : Net) (log : Log) (n k : ℕ) (first mid last : List BookEntry) (budget before after : ℕ) (what : Asked) → KeepsColumns old new → what ≢ asked.Refuted →
+    HasComeToBy code old begun net log n k first mid budget before → HasAskedBy code new now net log n (Some k) mid last before after what → HasComeToBy code new begun net log n k first last budget after
+come_on code old new begun now net log n k first mid last budget before after what keeps not come asked' = record {
   since = come.since ++ asked'.since;
   whole = asked'.whole ∙ ap (λ b. b ++ asked'.since) come.whole ∙ append_assoc first come.since asked'.since;
   unmarked = λ number. counted_more (is_mark number) come.since asked'.since ∙ (let one = come.unmarked number in let two = asked'.unmarked number in omega (arith, one, two));
@@ -108,13 +111,13 @@ come_on code old new net log n k first mid last budget before after what keeps n
   below = λ j is. (let found = come.below j is in record {
     assumed = found.assumed;
     assumptions = assumptions_stay code old new (Some j) found.assumed keeps found.assumptions;
-    refuted = last_later (axioms_of first) come.since asked'.since net log n (Some j) found.assumed (asked'.put.none not) found.refuted;
+    refuted = last_later begun come.since asked'.since net log n (Some j) found.assumed (asked'.put.none not) found.refuted;
   });
   needs = come.needs;
 }
 
-pub searched_so_far : (code : CodedLog) (counter : CounterState) (net : Net) (log : Log) (n k : ℕ) (first last : List BookEntry) (budget left : ℕ) → HasComeToBy code counter net log n k first last budget left → IsSearching first last budget left
-searched_so_far code counter net log n k first last budget left come = record { since = come.since; whole = come.whole; unmarked = come.unmarked; paid = come.paid }
+pub searched_so_far : (code : CodedLog) (counter : CounterState) (begun : BuiltQuestion) (net : Net) (log : Log) (n k : ℕ) (first last : List BookEntry) (budget left : ℕ) → HasComeToBy code counter begun net log n k first last budget left → IsSearching first last budget left
+searched_so_far code counter begun net log n k first last budget left come = record { since = come.since; whole = come.whole; unmarked = come.unmarked; paid = come.paid }
 
 pub searching_further : (first mid last : List BookEntry) (budget before after : ℕ) → IsSearching first mid budget before → IsSearching mid last before after → IsSearching first last budget after
 searching_further first mid last budget before after one two = record {
@@ -130,25 +133,26 @@ paid_within count left budget paid = omega (arith, paid)
 -- ---- what is found
 
 module _ (steps : CodedSteps) (code : CodedLog) (counter : CounterState) (vars : ℕ) (log : Log) (first book since : List BookEntry) (is : book ≡ first ++ since) (parts : AreParts steps code counter vars (axioms_of book))
-    (network : IsNetwork steps.net) (valid : IsValidLog log) (same : code.log ≡ without_names log) where
+    (network : IsNetwork steps.net) (valid : IsValidLog log) (same : code.log ≡ without_names log) (begun : BuiltQuestion) (at_first : begun.axioms ≡ axioms_of first) where
   -- the axioms before an entry are the first ones of all
-  axioms_before : (earlier later : List BookEntry) → since ≡ earlier ++ later → axioms_of book ≡ (axioms_of first ++ axioms_of earlier) ++ axioms_of later
+  axioms_before : (earlier later : List BookEntry) → since ≡ earlier ++ later → axioms_of book ≡ (begun.axioms ++ axioms_of earlier) ++ axioms_of later
   axioms_before earlier later whole =
-      ap axioms_of (is ∙ ap (λ b. first ++ b) whole ∙ sym (append_assoc first earlier later)) ∙ filter_map-append axiom_of (first ++ earlier) later ∙ ap (λ cs. cs ++ axioms_of later) (filter_map-append axiom_of first earlier)
+      ap axioms_of (is ∙ ap (λ b. first ++ b) whole ∙ sym (append_assoc first earlier later)) ∙ filter_map-append axiom_of (first ++ earlier) later ∙ ap (λ cs. cs ++ axioms_of later) (filter_map-append axiom_of first earlier ∙ ap (λ cs. cs ++ axioms_of earlier) (sym at_first))
 
-  evidence : (bound : Option ℕ) (assumed : List Lit) → AreAssumptions code counter bound assumed → IsRefutation (axioms_of first) since steps.net log steps.steps bound assumed →
-      IsEvidence (whole_names steps code counter) (axioms_of first) since steps.net log steps.steps bound
+  evidence : (bound : Option ℕ) (assumed : List Lit) → AreAssumptions code counter bound assumed → IsRefutation begun since steps.net log steps.steps bound assumed →
+      IsEvidence (whole_names steps code counter) begun since steps.net log steps.steps bound
   evidence bound assumed assumptions refutation = record {
     assumed = assumed;
     refuted = refutation.refuted;
+    listed = refutation.listed;
     posed_before = record {
       faithful = refutation.faithful;
       once = posed.once;
-      instances = (all_split (IsInstance steps.net log steps.steps names) (axioms_of first ++ axioms_of refutation.refuted.earlier) (axioms_of later)
+      instances = (all_split (IsInstance steps.net log steps.steps names) (begun.axioms ++ axioms_of refutation.refuted.earlier) (axioms_of later)
           (subst (AllByRecursion (IsInstance steps.net log steps.steps names)) (axioms_before refutation.refuted.earlier later refutation.refuted.whole) posed.instances)).0;
       assumes = posed.assumes;
     };
-    posed = subst (λ cs. IsPosed names cs assumed steps.net log steps.steps bound) (ap axioms_of is ∙ filter_map-append axiom_of first since) posed;
+    posed = subst (λ cs. IsPosed names cs assumed steps.net log steps.steps bound) (ap axioms_of is ∙ filter_map-append axiom_of first since ∙ ap (λ cs. cs ++ axioms_of since) (sym at_first)) posed;
   }
     where
       names : List (ℕ × Name)
@@ -161,8 +165,8 @@ module _ (steps : CodedSteps) (code : CodedLog) (counter : CounterState) (vars :
       posed = poses steps code counter vars (axioms_of book) bound assumed parts assumptions log network valid same
 
   -- with evidence below k, an explanation within k is least
-  pub least_found : (k : ℕ) (best : Best) → k ≤ 255 → ((j : ℕ) → k ≡ suc j → IsRefutedBelow code counter steps.net log steps.steps j (axioms_of first) since) → NeedsFaults steps.net log steps.steps k → IsExplanation steps.net log steps.steps best → best.faults ≤ k →
-      IsLeastFound (whole_names steps code counter) (axioms_of first) since steps.net log steps.steps best
+  pub least_found : (k : ℕ) (best : Best) → k ≤ 255 → ((j : ℕ) → k ≡ suc j → IsRefutedBelow code counter steps.net log steps.steps j begun since) → NeedsFaults steps.net log steps.steps k → IsExplanation steps.net log steps.steps best → best.faults ≤ k →
+      IsLeastFound (whole_names steps code counter) begun since steps.net log steps.steps best
   least_found k best small below needs given within =
       let more = at_least steps.net log steps.steps k best needs given in
       let is : k ≡ best.faults = omega (arith, more, within) in record {
@@ -172,8 +176,8 @@ module _ (steps : CodedSteps) (code : CodedLog) (counter : CounterState) (vars :
         evidence = λ b faults. (let found = below b (is ∙ faults) in evidence (Some b) found.assumed found.assumptions found.refuted);
       }
 
-  pub many_found : (best : Best) → ((j : ℕ) → 256 ≡ suc j → IsRefutedBelow code counter steps.net log steps.steps j (axioms_of first) since) → NeedsFaults steps.net log steps.steps 256 → IsExplanation steps.net log steps.steps best →
-      IsManyFound (whole_names steps code counter) (axioms_of first) since steps.net log steps.steps best
+  pub many_found : (best : Best) → ((j : ℕ) → 256 ≡ suc j → IsRefutedBelow code counter steps.net log steps.steps j begun since) → NeedsFaults steps.net log steps.steps 256 → IsExplanation steps.net log steps.steps best →
+      IsManyFound (whole_names steps code counter) begun since steps.net log steps.steps best
   many_found best below needs given = record {
     given = given;
     above = (let more = at_least steps.net log steps.steps 256 best needs given in omega (arith, more));
@@ -182,8 +186,8 @@ module _ (steps : CodedSteps) (code : CodedLog) (counter : CounterState) (vars :
   }
 
   pub undecided_found : (k budget : ℕ) (best : Best) → IsValidBook book → count_by is_learnt since ≡ budget → FinalsAreBelow code counter k since →
-      ((j : ℕ) → k ≡ suc j → IsRefutedBelow code counter steps.net log steps.steps j (axioms_of first) since) → NeedsFaults steps.net log steps.steps k → IsExplanation steps.net log steps.steps best → k < best.faults →
-      IsUndecidedFound (whole_names steps code counter) (axioms_of first) since steps.net log steps.steps budget k (Some best)
+      ((j : ℕ) → k ≡ suc j → IsRefutedBelow code counter steps.net log steps.steps j begun since) → NeedsFaults steps.net log steps.steps k → IsExplanation steps.net log steps.steps best → k < best.faults →
+      IsUndecidedFound (whole_names steps code counter) begun since steps.net log steps.steps budget k (Some best)
   undecided_found k budget best whole spent finals below needs given more = record {
     spent = spent;
     above = needs;
@@ -198,12 +202,12 @@ module _ (steps : CodedSteps) (code : CodedLog) (counter : CounterState) (vars :
     unknown = tt;
   }
 
-  pub absent_found : IsRefusal code counter steps.net log steps.steps None (axioms_of first) since → IsAbsentFound (whole_names steps code counter) (axioms_of first) since steps.net log steps.steps
+  pub absent_found : IsRefusal code counter steps.net log steps.steps None begun since → IsAbsentFound (whole_names steps code counter) begun since steps.net log steps.steps
   absent_found refusal = record { absent = refusal.decided; evidence = evidence None refusal.assumed refusal.assumptions refusal.refuted }
 
   -- where nothing is known, and learnt entries alone were put
   pub nothing_found : (budget : ℕ) → count_by is_learnt since ≡ budget → list_all is_learnt since ≡ true →
-      IsUndecidedFound (whole_names steps code counter) (axioms_of first) since steps.net log steps.steps budget 0 None
+      IsUndecidedFound (whole_names steps code counter) begun since steps.net log steps.steps budget 0 None
   nothing_found budget spent all_learnt = record {
     spent = spent;
     above = λ word order explains. omega arith;
@@ -216,15 +220,15 @@ module _ (steps : CodedSteps) (code : CodedLog) (counter : CounterState) (vars :
 -- ---- what the search answers
 
 module _ (steps : CodedSteps) (code : CodedLog) (counter : CounterState) (vars : ℕ) (net : Net) (log : Log) (first book : List BookEntry) (parts : AreParts steps code counter vars (axioms_of book))
-    (of_net : steps.net ≡ net) (network : IsNetwork net) (valid : IsValidLog log) (same : code.log ≡ without_names log) (budget : ℕ) where
+    (of_net : steps.net ≡ net) (network : IsNetwork net) (valid : IsValidLog log) (same : code.log ≡ without_names log) (budget : ℕ) (begun : BuiltQuestion) (at_first : begun.axioms ≡ axioms_of first) where
   own : IsNetwork steps.net
   own = subst IsNetwork (sym of_net) network
 
-  found_as : (answer : Found) → HasFound (whole_names steps code counter) steps.net log steps.steps budget first book answer → HasFound (whole_names steps code counter) net log steps.steps budget first book answer
-  found_as answer = subst (λ net'. HasFound (whole_names steps code counter) net' log steps.steps budget first book answer) of_net
+  found_as : (answer : Found) → HasFound (whole_names steps code counter) begun steps.net log steps.steps budget first book answer → HasFound (whole_names steps code counter) begun net log steps.steps budget first book answer
+  found_as answer = subst (λ net'. HasFound (whole_names steps code counter) begun net' log steps.steps budget first book answer) of_net
 
-  back : (k left : ℕ) → HasComeToBy code counter net log steps.steps k first book budget left → HasComeToBy code counter steps.net log steps.steps k first book budget left
-  back k left = subst (λ net'. HasComeToBy code counter net' log steps.steps k first book budget left) (sym of_net)
+  back : (k left : ℕ) → HasComeToBy code counter begun net log steps.steps k first book budget left → HasComeToBy code counter begun steps.net log steps.steps k first book budget left
+  back k left = subst (λ net'. HasComeToBy code counter begun net' log steps.steps k first book budget left) (sym of_net)
 
   given_back : (best : Best) → IsExplanation net log steps.steps best → IsExplanation steps.net log steps.steps best
   given_back best = subst (λ net'. IsExplanation net' log steps.steps best) (sym of_net)
@@ -240,8 +244,8 @@ module _ (steps : CodedSteps) (code : CodedLog) (counter : CounterState) (vars :
   nothing_left : (count left : ℕ) → count + left ≡ budget → left ≡ 0 → count ≡ budget
   nothing_left count left paid none = omega (arith, paid, none)
 
-  pub answers_least : (k left : ℕ) (best : Best) → k ≤ 255 → HasComeToBy code counter net log steps.steps k first book budget left → IsExplanation net log steps.steps best → best.faults ≤ k →
-      HasFound (whole_names steps code counter) net log steps.steps budget first book (Explained best)
+  pub answers_least : (k left : ℕ) (best : Best) → k ≤ 255 → HasComeToBy code counter begun net log steps.steps k first book budget left → IsExplanation net log steps.steps best → best.faults ≤ k →
+      HasFound (whole_names steps code counter) begun net log steps.steps budget first book (Explained best)
   answers_least k left best small come given within =
       let here = back k left come in
       found_as (Explained best) (record {
@@ -251,11 +255,11 @@ module _ (steps : CodedSteps) (code : CodedLog) (counter : CounterState) (vars :
         within = paid_within (count_by is_learnt here.since) left budget here.paid;
         fresh = here.fresh;
         conflict = tt;
-        found = least_found steps code counter vars log first book here.since here.whole parts own valid same k best small here.below here.needs (given_back best given) within;
+        found = least_found steps code counter vars log first book here.since here.whole parts own valid same begun at_first k best small here.below here.needs (given_back best given) within;
       })
 
-  pub answers_many : (left : ℕ) (best : Best) → HasComeToBy code counter net log steps.steps 256 first book budget left → IsExplanation net log steps.steps best →
-      HasFound (whole_names steps code counter) net log steps.steps budget first book (Many best)
+  pub answers_many : (left : ℕ) (best : Best) → HasComeToBy code counter begun net log steps.steps 256 first book budget left → IsExplanation net log steps.steps best →
+      HasFound (whole_names steps code counter) begun net log steps.steps budget first book (Many best)
   answers_many left best come given =
       let here = back 256 left come in
       found_as (Many best) (record {
@@ -265,11 +269,11 @@ module _ (steps : CodedSteps) (code : CodedLog) (counter : CounterState) (vars :
         within = paid_within (count_by is_learnt here.since) left budget here.paid;
         fresh = here.fresh;
         conflict = tt;
-        found = many_found steps code counter vars log first book here.since here.whole parts own valid same best here.below here.needs (given_back best given);
+        found = many_found steps code counter vars log first book here.since here.whole parts own valid same begun at_first best here.below here.needs (given_back best given);
       })
 
-  pub answers_undecided : (k : ℕ) (best : Best) → IsValidBook book → HasComeToBy code counter net log steps.steps k first book budget 0 → IsStopped code counter (Some k) book 0 → IsExplanation net log steps.steps best → k < best.faults →
-      HasFound (whole_names steps code counter) net log steps.steps budget first book (Undecided k (Some best))
+  pub answers_undecided : (k : ℕ) (best : Best) → IsValidBook book → HasComeToBy code counter begun net log steps.steps k first book budget 0 → IsStopped code counter (Some k) book 0 → IsExplanation net log steps.steps best → k < best.faults →
+      HasFound (whole_names steps code counter) begun net log steps.steps budget first book (Undecided k (Some best))
   answers_undecided k best whole come stopped given more =
       let here = back k 0 come in
       found_as (Undecided k (Some best)) (record {
@@ -279,15 +283,15 @@ module _ (steps : CodedSteps) (code : CodedLog) (counter : CounterState) (vars :
         within = paid_within (count_by is_learnt here.since) 0 budget here.paid;
         fresh = here.fresh;
         conflict = at_conflict (Some k) 0 stopped;
-        found = undecided_found steps code counter vars log first book here.since here.whole parts own valid same k budget best whole (omega (arith, here.paid)) here.finals here.below here.needs (given_back best given) more;
+        found = undecided_found steps code counter vars log first book here.since here.whole parts own valid same begun at_first k budget best whole (omega (arith, here.paid)) here.finals here.below here.needs (given_back best given) more;
       })
 
-  pub answers_absent : (left : ℕ) → HasAskedBy code counter net log steps.steps None first book budget left asked.Refuted → HasFound (whole_names steps code counter) net log steps.steps budget first book Absent
+  pub answers_absent : (left : ℕ) → HasAskedBy code counter begun net log steps.steps None first book budget left asked.Refuted → HasFound (whole_names steps code counter) begun net log steps.steps budget first book Absent
   answers_absent left asked' =
-      let here = subst (λ net'. HasAskedBy code counter net' log steps.steps None first book budget left asked.Refuted) (sym of_net) asked' in
-      found_as Absent (record { since = here.since; whole = here.whole; unmarked = here.unmarked; within = paid_within (count_by is_learnt here.since) left budget here.paid; fresh = here.fresh; conflict = tt; found = absent_found steps code counter vars log first book here.since here.whole parts own valid same here.means })
+      let here = subst (λ net'. HasAskedBy code counter begun net' log steps.steps None first book budget left asked.Refuted) (sym of_net) asked' in
+      found_as Absent (record { since = here.since; whole = here.whole; unmarked = here.unmarked; within = paid_within (count_by is_learnt here.since) left budget here.paid; fresh = here.fresh; conflict = tt; found = absent_found steps code counter vars log first book here.since here.whole parts own valid same begun at_first here.means })
 
-  pub answers_nothing : (left : ℕ) → HasAskedBy code counter net log steps.steps None first book budget left asked.Spent → HasFound (whole_names steps code counter) net log steps.steps budget first book (Undecided 0 None)
+  pub answers_nothing : (left : ℕ) → HasAskedBy code counter begun net log steps.steps None first book budget left asked.Spent → HasFound (whole_names steps code counter) begun net log steps.steps budget first book (Undecided 0 None)
   answers_nothing left asked' =
       found_as (Undecided 0 None) (record {
         since = asked'.since;
@@ -296,5 +300,5 @@ module _ (steps : CodedSteps) (code : CodedLog) (counter : CounterState) (vars :
         within = paid_within (count_by is_learnt asked'.since) left budget asked'.paid;
         fresh = asked'.fresh;
         conflict = at_conflict None left asked'.means;
-        found = nothing_found steps code counter vars log first book asked'.since asked'.whole parts own valid same budget (nothing_left (count_by is_learnt asked'.since) left asked'.paid asked'.means.nothing) (asked'.put.unbounded spent_not);
+        found = nothing_found steps code counter vars log first book asked'.since asked'.whole parts own valid same begun at_first budget (nothing_left (count_by is_learnt asked'.since) left asked'.paid asked'.means.nothing) (asked'.put.unbounded spent_not);
       })

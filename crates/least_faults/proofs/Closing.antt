@@ -6,20 +6,21 @@ use Rattle.std.specs.List.{list_all}
 use Rattle.des_net.specs.Network.{Net}
 use Rattle.least_faults.proofs.Freshness.{fresh_both, known_same}
 use Rattle.least_faults.proofs.Putting.{counted_more, learnt_no_final, no_final_in, learnt_no_axioms}
-use Rattle.least_faults.proofs.Staying.{kept_by_axioms}
+use Rattle.least_faults.proofs.Staying.{kept_by_axioms, with_axioms}
 use Rattle.least_faults.specs.declared.answer.Best.{Best}
 use Rattle.least_faults.specs.declared.answer.Found.{Found}
 use Rattle.least_faults.specs.declared.answer.Found.TheVariants.{Explained, Absent, Many, Undecided}
 use Rattle.least_faults.specs.Answers.{asked_last, HasConflictFor, HaveLearntFresh, IsFound, IsAnswered}
 use Rattle.least_faults.specs.Ascending.{HasFound}
 use Rattle.least_faults.specs.Evidence.{HasFinal, IsEvidence, IsPosed}
-use Rattle.least_faults.specs.Parts.{AreParts, AreReady}
+use Rattle.least_faults.specs.Parts.{AreParts, AreReady, built_of}
 use Rattle.log_order.specs.Log.{Log}
 use Rattle.proof_ledger.specs.Book.{BookEntry, final, mark, clause_of, clauses_of, axiom_of, axioms_of, is_mark}
 use Rattle.proof_ledger.specs.Fresh.{is_learnt}
 use Rattle.prop_core.specs.Clauses.{Clause}
 use Rattle.prop_core.specs.Trail.{Clashes}
 use Rattle.replay.specs.QuestionSize.{variable_bound}
+use Rattle.run_decode.specs.QuestionAxioms.{BuiltQuestion}
 use Rattle.prop_core.specs.VariableNames.{Name}
 use Rattle.prop_core.specs.declared.lit.Lit.{Lit}
 use Rattle.least_faults.specs.declared.parts.Parts.{Parts}
@@ -30,7 +31,7 @@ use Rattle.least_faults.specs.Growing.{HasGrownWithin, KeepsQuestion}
 same_front : (first : List Clause) (front entries : List BookEntry) → list_all is_learnt front ≡ true → first ++ axioms_of entries ≡ first ++ axioms_of (front ++ entries)
 same_front first front entries all_learnt = ap (λ cs. first ++ cs) (sym (filter_map-append axiom_of front entries ∙ ap (λ cs. cs ++ axioms_of entries) (learnt_no_axioms front all_learnt)))
 
-evidence_later : (names : List (ℕ × Name)) (first : List Clause) (front since : List BookEntry) (net : Net) (log : Log) (n : ℕ) (bound : Option ℕ) → list_all is_learnt front ≡ true → IsEvidence names first since net log n bound →
+evidence_later : (names : List (ℕ × Name)) (first : BuiltQuestion) (front since : List BookEntry) (net : Net) (log : Log) (n : ℕ) (bound : Option ℕ) → list_all is_learnt front ≡ true → IsEvidence names first since net log n bound →
     IsEvidence names first (front ++ since) net log n bound
 evidence_later names first front since net log n bound all_learnt shown = record {
   assumed = shown.assumed;
@@ -43,8 +44,9 @@ evidence_later names first front since net log n bound all_learnt shown = record
     last = shown.refuted.last;
     negates = shown.refuted.negates;
   };
-  posed_before = subst (λ cs. IsPosed names cs shown.assumed net log n bound) (same_front first front shown.refuted.earlier all_learnt) shown.posed_before;
-  posed = subst (λ cs. IsPosed names cs shown.assumed net log n bound) (same_front first front since all_learnt) shown.posed;
+  listed = sym (same_front first.axioms front shown.refuted.earlier all_learnt) ∙ shown.listed;
+  posed_before = subst (λ cs. IsPosed names cs shown.assumed net log n bound) (same_front first.axioms front shown.refuted.earlier all_learnt) shown.posed_before;
+  posed = subst (λ cs. IsPosed names cs shown.assumed net log n bound) (same_front first.axioms front since all_learnt) shown.posed;
 }
 
 final_later : (front since : List BookEntry) (assumed : List Lit) → list_all is_learnt front ≡ true → HasFinal (front ++ since) assumed → HasFinal since assumed
@@ -55,7 +57,7 @@ final_later front since assumed all_learnt has = record { clause = has.clause; h
     by (inr here) = here
 
 -- what was found holds too where learnt entries came before
-is_found_later : (names : List (ℕ × Name)) (first : List Clause) (front since : List BookEntry) (net : Net) (log : Log) (n budget left : ℕ) (answer : Found) → list_all is_learnt front ≡ true → count_by is_learnt front + left ≡ budget →
+is_found_later : (names : List (ℕ × Name)) (first : BuiltQuestion) (front since : List BookEntry) (net : Net) (log : Log) (n budget left : ℕ) (answer : Found) → list_all is_learnt front ≡ true → count_by is_learnt front + left ≡ budget →
     IsFound names first since net log n left answer → IsFound names first (front ++ since) net log n budget answer
 is_found_later names first front since net log n budget left (Explained best) all_learnt paid is =
     record { given = is.given; few = is.few; least = is.least; evidence = λ b faults. evidence_later names first front since net log n (Some b) all_learnt (is.evidence b faults) }
@@ -75,21 +77,20 @@ is_found_later names first front since net log n budget left (Undecided lo best)
     none None known = (known.0, list_all-append is_learnt front since ∙ ap (λ b. b && list_all is_learnt since) all_learnt ∙ known.1)
     none (Some run) known = tt
 
-pub found_later : (names : List (ℕ × Name)) (net : Net) (log : Log) (n budget left : ℕ) (old mid new front : List BookEntry) (answer : Found) → mid ≡ old ++ front → ((number : ℕ) → count_by (is_mark number) front ≡ 0) → list_all is_learnt front ≡ true →
-    count_by is_learnt front + left ≡ budget → HasFound names net log n left mid new answer → HaveLearntFresh old front → HasFound names net log n budget old new answer
-found_later names net log n budget left old mid new front answer whole unmarked all_learnt paid found fresh = record {
+pub found_later : (names : List (ℕ × Name)) (begun now : BuiltQuestion) (net : Net) (log : Log) (n budget left : ℕ) (old mid new front : List BookEntry) (answer : Found) → now ≡ begun → mid ≡ old ++ front → ((number : ℕ) → count_by (is_mark number) front ≡ 0) → list_all is_learnt front ≡ true →
+    count_by is_learnt front + left ≡ budget → HasFound names now net log n left mid new answer → HaveLearntFresh old front → HasFound names begun net log n budget old new answer
+found_later names begun now net log n budget left old mid new front answer same whole unmarked all_learnt paid found fresh = record {
   since = front ++ found.since;
   whole = found.whole ∙ ap (λ b. b ++ found.since) whole ∙ append_assoc old front found.since;
   unmarked = λ number. counted_more (is_mark number) front found.since ∙ (let one = unmarked number in let two = found.unmarked number in omega (arith, one, two));
   within = within (count_by is_learnt front) (count_by is_learnt found.since) (count_by is_learnt (front ++ found.since)) (counted_more is_learnt front found.since) found.within refl;
   fresh = fresh_both old mid front found.since whole fresh found.fresh;
   conflict = found.conflict;
-  found = is_found_later names (axioms_of old) front found.since net log n budget left answer all_learnt paid
-      (subst (λ cs. IsFound names cs found.since net log n left answer) (ap axioms_of whole ∙ filter_map-append axiom_of old front ∙ ap (λ cs. axioms_of old ++ cs) (learnt_no_axioms front all_learnt) ∙ append-nil (axioms_of old)) found.found);
+  found = is_found_later names begun front found.since net log n budget left answer all_learnt paid (subst (λ (first : BuiltQuestion). IsFound names first found.since net log n left answer) same found.found);
 }
   where
     within : (one two all : ℕ) → all ≡ one + two → two ≤ left → one ≡ count_by is_learnt front → all ≤ budget
-    within one two all is less same = omega (arith, is, less, same, paid)
+    within one two all is less count = omega (arith, is, less, count, paid)
 
 pub ok_weaker : {A B : Type 0} (r : Result A B) (P Q : A → Type 0) → ((a : A) → P a → Q a) → IfOk r P → IfOk r Q
 ok_weaker (Ok a) P Q f p = f a p
@@ -111,6 +112,10 @@ marked_ready may gives parts number book new is ready = record {
   enough = ready.enough;
   ranked = ready.ranked;
 }
+
+-- a mark changes nothing of what is built
+pub opened_same : {R : Type 0} (parts : Parts R) (book opened : List BookEntry) → opened ≡ book ++ mark 0 ∷ [] → built_of parts opened ≡ built_of parts book
+opened_same parts book opened begins = ap (with_axioms parts) (ap axioms_of begins ∙ marked_axioms book 0)
 
 pub kept_opened : {R : Type 0} (old new : Parts R) (book opened searched : List BookEntry) → opened ≡ book ++ mark 0 ∷ [] → KeepsQuestion old new opened searched → KeepsQuestion old new book searched
 kept_opened old new book opened searched begins = kept_by_axioms old new book opened searched searched (sym (ap axioms_of begins ∙ marked_axioms book 0)) refl
@@ -149,9 +154,10 @@ conflict_closed names book new number net log n (Undecided lo best) is has = rec
 }
 
 -- a search between marks is an answer
-pub answered : (names : List (ℕ × Name)) (net : Net) (log : Log) (n budget : ℕ) (old opened searched new : List BookEntry) (answer : Found) → opened ≡ old ++ mark 0 ∷ [] → new ≡ searched ++ mark 1 ∷ [] →
-    length names ≤ variable_bound net log n → ((assumed : List Lit) × IsPosed names (axioms_of searched) assumed net log n None) → HasFound names net log n budget opened searched answer → IsAnswered names net log n budget old new answer
-answered names net log n budget old opened searched new answer begins ends few asks found = record {
+pub answered : (names : List (ℕ × Name)) (begun now : BuiltQuestion) (net : Net) (log : Log) (n budget : ℕ) (old opened searched new : List BookEntry) (answer : Found) → begun.axioms ≡ axioms_of old → now ≡ begun → opened ≡ old ++ mark 0 ∷ [] → new ≡ searched ++ mark 1 ∷ [] →
+    length names ≤ variable_bound net log n → ((assumed : List Lit) × IsPosed names (axioms_of searched) assumed net log n None) → HasFound names now net log n budget opened searched answer → IsAnswered names begun net log n budget old new answer
+answered names begun now net log n budget old opened searched new answer at_first same begins ends few asks found = record {
+  begun = at_first;
   since = found.since;
   whole = ends ∙ ap (λ b. b ++ mark 1 ∷ []) (found.whole ∙ ap (λ b. b ++ found.since) begins ∙ append_assoc old (mark 0 ∷ []) found.since);
   unmarked = found.unmarked;
@@ -160,5 +166,5 @@ answered names net log n budget old opened searched new answer begins ends few a
   few = few;
   conflict = conflict_closed names searched new 1 net log n answer ends found.conflict;
   asks = (asks.0, subst (λ axioms. IsPosed names axioms asks.0 net log n None) (sym (ap axioms_of ends ∙ marked_axioms searched 1)) asks.1);
-  found = subst (λ first. IsFound names first found.since net log n budget answer) (ap axioms_of begins ∙ marked_axioms old 0) found.found;
+  found = subst (λ (first : BuiltQuestion). IsFound names first found.since net log n budget answer) same found.found;
 }

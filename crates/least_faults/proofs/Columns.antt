@@ -27,10 +27,10 @@ use Rattle.sat_solve.specs.Solving.{SolverState}
 
 -- ---- columns that are added to a counter
 
-pub keeps_none : (counter : CounterState) → KeepsColumns counter counter
+abbrev pub keeps_none : (counter : CounterState) → KeepsColumns counter counter
 keeps_none counter = record { inputs = refl; columns = []; more = sym (append-nil counter.columns) }
 
-pub keeps_both : (old mid new : CounterState) → KeepsColumns old mid → KeepsColumns mid new → KeepsColumns old new
+abbrev pub keeps_both : (old mid new : CounterState) → KeepsColumns old mid → KeepsColumns mid new → KeepsColumns old new
 keeps_both old mid new first second = record {
   inputs = second.inputs ∙ first.inputs;
   columns = first.columns ++ second.columns;

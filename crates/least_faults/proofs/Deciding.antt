@@ -66,7 +66,7 @@ marked_axioms old since =
     ∙ sym (filter_map-append axiom_of (old ++ mark 0 ∷ []) since ∙ ap (λ (axioms : List Clause). axioms ++ axioms_of since) (filter_map-append axiom_of old (mark 0 ∷ []) ∙ append-nil (axioms_of old)))
 
 pub undecided_is_small : UndecidedIsSmall
-undecided_is_small names net log n budget lo best old new answered =
+undecided_is_small names first net log n budget lo best old new answered =
     let since = answered.since in
     let same = ap axioms_of answered.whole ∙ marked_axioms old since in
     let known = λ (var : ℕ) (there : occurs var ((old ++ mark 0 ∷ []) ++ since) ≡ true).

@@ -3,7 +3,6 @@ use Rattle.std.proofs.Common.{◌≡◌, ◌∙◌, ℕ, suc, ◌+◌, ◌≤◌
 use Rattle.std.proofs.lemmas.Grind.{fold-append}
 use Rattle.std.proofs.lemmas.List.{map-append}
 use Rattle.card_counter.proofs.ListLemmas.{take_more}
-use Rattle.card_counter.proofs.States.{one_more_column}
 use Rattle.card_counter.specs.CounterState.{CounterState, with_column, without_columns, next_clauses}
 use Rattle.des_base.specs.declared.TheConstants.{VAR_LIMIT}
 use Rattle.des_net.specs.Network.{Net}
@@ -24,7 +23,6 @@ use Rattle.prop_core.specs.declared.lit.Lit.{Lit}
 use Rattle.run_decode.proofs.Built.{question_begins}
 use Rattle.run_decode.specs.QuestionAxioms.{column_built, question_built, steps_built}
 use Rattle.run_decode.specs.WholeNaming.{AreInputs}
-use Rattle.std.specs.List.{range_with_len}
 use Rattle.step_encode.specs.Coded.{CodedSteps, code_names as step_names, code_grid, variable_count, AppendsSteps}
 
 -- ---- a log
@@ -113,14 +111,10 @@ question_begun net log n steps code grid made vars none stepped written inputs c
     (subst (λ (s : CodedSteps). AreInputs s code inputs) is are)
 
 -- a column more
-pub column_determined : (net : Net) (log : Log) (n : ℕ) (steps : CodedSteps) (code : CodedLog) (old new : CounterState) (vars then : ℕ) (book mid entries : List BookEntry) (clauses : List Clause) →
+pub column_determined : (steps : CodedSteps) (code : CodedLog) (old new : CounterState) (vars then : ℕ) (book mid entries : List BookEntry) (clauses : List Clause) →
     new ≡ with_column old vars → then ≡ vars + length old.inputs → mid ≡ book → clauses ≡ next_clauses old vars → entries ≡ mid ++ map axiomatic clauses →
-    record { steps = steps; code = code; counter = old; vars = vars; axioms = axioms_of book } ≡ question_built net log n (length old.columns) →
-    record { steps = steps; code = code; counter = new; vars = then; axioms = axioms_of entries } ≡ question_built net log n (length new.columns)
-column_determined net log n steps code old new vars then book mid entries clauses grown count same written pushed built =
-    (λ i. record { steps = steps; code = code; counter = grown i; vars = count i; axioms = axioms i })
-    ∙ ap column_built built
-    ∙ ap (λ columns. question_built net log n columns) (sym (ap (λ (c : CounterState). length c.columns) grown ∙ one_more_column old.columns (range_with_len vars (length old.inputs))))
+    record { steps = steps; code = code; counter = new; vars = then; axioms = axioms_of entries } ≡ column_built (record { steps = steps; code = code; counter = old; vars = vars; axioms = axioms_of book })
+column_determined steps code old new vars then book mid entries clauses grown count same written pushed = λ i. record { steps = steps; code = code; counter = grown i; vars = count i; axioms = axioms i }
   where
     axioms : axioms_of entries ≡ axioms_of book ++ next_clauses old vars
     axioms = ap axioms_of (pushed ∙ ap (λ (front : List BookEntry). front ++ map axiomatic clauses) same) ∙ axioms_added book clauses ∙ ap (λ cs. axioms_of book ++ cs) written

@@ -8,6 +8,7 @@ pub mod FewClauses
 pub mod Observed
 pub mod AddedClauses
 pub mod Bounded
+pub mod ColumnsBuilt
 pub mod Columns
 pub mod Drafts
 pub mod Reserving

@@ -5,6 +5,7 @@ use Rattle.std.proofs.lemmas.List.Folds.{list_any-append}
 use Rattle.std.proofs.lemmas.List.Sums.{sum_by-append}
 use Rattle.std.specs.List.{list_any, list_all}
 use Rattle.des_base.proofs.Elements.{cons_cases, none_in_nil}
+use Rattle.least_faults.specs.Columns.{built_within}
 use Rattle.least_faults.specs.Evidence.{is_final, IsRefutation}
 use Rattle.proof_ledger.specs.Book.{BookEntry, axiomatic, learnt, final, mark, clause_of, axiom_of, axioms_of, is_mark}
 use Rattle.proof_ledger.specs.Fresh.{is_learnt}
@@ -14,6 +15,7 @@ use Rattle.sat_solve.specs.Searching.{is_derived, IsClosedByFinal}
 use Rattle.des_net.specs.Network.{Net}
 use Rattle.log_order.specs.Log.{Log}
 use Rattle.run_decode.specs.Faithful.{IsFaithful}
+use Rattle.run_decode.specs.QuestionAxioms.{BuiltQuestion}
 
 pub counted_more : {X : Type 0} (p : X → Bool) (xs ys : List X) → count_by p (xs ++ ys) ≡ count_by p xs + count_by p ys
 counted_more p xs ys = sum_by-append (λ x. cond (p x) 1 0) xs ys
@@ -95,7 +97,7 @@ none_joined front since h k = list_any-append is_final front since ∙ ap (λ b.
 
 -- ---- the last final entry
 
-pub last_later : (first : List Clause) (since more : List BookEntry) (net : Net) (log : Log) (n : ℕ) (bound : Option ℕ) (assumed : List Lit) → list_any is_final more ≡ false → IsRefutation first since net log n bound assumed →
+pub last_later : (first : BuiltQuestion) (since more : List BookEntry) (net : Net) (log : Log) (n : ℕ) (bound : Option ℕ) (assumed : List Lit) → list_any is_final more ≡ false → IsRefutation first since net log n bound assumed →
     IsRefutation first (since ++ more) net log n bound assumed
 last_later first since more net log n bound assumed none last = record {
   refuted = record {
@@ -107,12 +109,14 @@ last_later first since more net log n bound assumed none last = record {
     last = none_joined last.refuted.later more last.refuted.last none;
     negates = last.refuted.negates;
   };
+  listed = last.listed;
   faithful = last.faithful;
 }
 
-pub last_earlier : (first mid front since : List BookEntry) (net : Net) (log : Log) (n : ℕ) (bound : Option ℕ) (assumed : List Lit) → mid ≡ first ++ front → IsRefutation (axioms_of mid) since net log n bound assumed →
-    IsRefutation (axioms_of first) (front ++ since) net log n bound assumed
-last_earlier first mid front since net log n bound assumed begun last = record {
+-- the same since an earlier moment, from which to this one the question got columns that the bound needs, and nothing else
+pub last_earlier : (begun now : BuiltQuestion) (first mid front since : List BookEntry) (net : Net) (log : Log) (n : ℕ) (bound : Option ℕ) (assumed : List Lit) → begun.axioms ≡ axioms_of first → now.axioms ≡ axioms_of mid →
+    (built_within now bound).axioms ≡ (built_within begun bound).axioms → mid ≡ first ++ front → IsRefutation now since net log n bound assumed → IsRefutation begun (front ++ since) net log n bound assumed
+last_earlier begun now first mid front since net log n bound assumed at_first at_mid same whole last = record {
   refuted = record {
     earlier = front ++ last.refuted.earlier;
     clause = last.refuted.clause;
@@ -122,8 +126,12 @@ last_earlier first mid front since net log n bound assumed begun last = record {
     last = last.refuted.last;
     negates = last.refuted.negates;
   };
-  faithful = subst (λ axioms. IsFaithful axioms assumed net log n bound) (axioms_further first mid front last.refuted.earlier begun) last.faithful;
+  listed = sym further ∙ last.listed ∙ same;
+  faithful = subst (λ axioms. IsFaithful axioms assumed net log n bound) further last.faithful;
 }
+  where
+    further : now.axioms ++ axioms_of last.refuted.earlier ≡ begun.axioms ++ axioms_of (front ++ last.refuted.earlier)
+    further = ap (λ cs. cs ++ axioms_of last.refuted.earlier) at_mid ∙ axioms_further first mid front last.refuted.earlier whole ∙ ap (λ cs. cs ++ axioms_of (front ++ last.refuted.earlier)) (sym at_first)
 
 final_is : (c d : Clause) (hs gs : List ℕ) → final c hs ≡ final d gs → c ≡ d
 final_is c d hs gs h = some_is (ap clause_of h)

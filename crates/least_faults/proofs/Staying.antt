@@ -1,9 +1,10 @@
 -- What stays as it is while a question is asked: the code of its steps and of its log, what they belong to, and what is known of the log.
-use Rattle.std.proofs.Common.{◌≡◌, ◌≢◌, ◌∙◌, ℕ, suc, List, length, Option, Some, refl, sym, ap, subst}
+use Rattle.std.proofs.Common.{◌≡◌, ◌≢◌, ◌∙◌, ℕ, suc, ◌+◌, ◌-◌, List, [], length, max, Option, None, Some, refl, sym, ap, arith, subst, append-nil, length-append}
 use Rattle.card_counter.specs.CounterState.{CounterState}
 use Rattle.des_net.specs.Network.{Net}
 use Rattle.least_faults.proofs.Climbing.{come_on, come_further, searched_so_far, searching_further}
 use Rattle.least_faults.proofs.Columns.{keeps_none, keeps_both}
+use Rattle.least_faults.proofs.ColumnsBuilt.{columns_both, question_columns, within_further}
 use Rattle.least_faults.specs.declared.answer.Best.{Best}
 use Rattle.least_faults.specs.declared.asking.Asked.{Asked}
 use Rattle.least_faults.specs.declared.asking.Asked.TheVariants.{Refuted}
@@ -11,8 +12,9 @@ use Rattle.least_faults.specs.declared.parts.Parts.{Parts}
 use Rattle.least_faults.specs.Answers.{IsExplanation}
 use Rattle.least_faults.specs.Ascending.{HasComeTo, HasComeToBy}
 use Rattle.least_faults.specs.Asking.{HasAsked, IsSearching}
-use Rattle.least_faults.specs.Growing.{KeepsColumns, KeepsQuestion}
-use Rattle.least_faults.specs.Parts.{BelongTo}
+use Rattle.least_faults.specs.Columns.{columns_built, columns_for, built_within}
+use Rattle.least_faults.specs.Growing.{KeepsQuestion}
+use Rattle.least_faults.specs.Parts.{BelongTo, IsBuilt, built_of}
 use Rattle.log_encode.specs.Drafted.{LogCodeState}
 use Rattle.log_order.specs.Log.{Log}
 use Rattle.proof_ledger.specs.Book.{BookEntry, axioms_of}
@@ -22,16 +24,23 @@ use Rattle.run_decode.specs.QuestionAxioms.{BuiltQuestion, question_built}
 use Rattle.sat_solve.specs.Solving.{SolverState}
 use Rattle.step_encode.specs.Coded.{CodedSteps}
 
-pub question_same : {R : Type 0} (parts : Parts R) (book : List BookEntry) → KeepsQuestion parts parts book book
-question_same parts book = record { step = refl; code = refl; counter = keeps_none parts.counter; rank = refl; built = λ net log n built. built }
+-- the columns that were added are counted
+columns_kept : {R : Type 0} {book entries : List BookEntry} (old new : Parts R) (keeps : KeepsQuestion old new book entries) → length new.counter.columns ≡ length old.counter.columns + length keeps.counter.columns
+columns_kept old new keeps = ap length keeps.counter.more ∙ length-append old.counter.columns keeps.counter.columns
 
-pub question_both : {R : Type 0} {first then last : List BookEntry} (old mid new : Parts R) → KeepsQuestion old mid first then → KeepsQuestion mid new then last → KeepsQuestion old new first last
-question_both old mid new first second = record {
+pub question_same : {R : Type 0} (parts : Parts R) (book : List BookEntry) → KeepsQuestion parts parts book book
+question_same parts book = record { step = refl; code = refl; counter = keeps_none parts.counter; rank = refl; built = refl }
+
+pub question_both : {R : Type 0} {book then entries : List BookEntry} (old mid new : Parts R) → KeepsQuestion old mid book then → KeepsQuestion mid new then entries → KeepsQuestion old new book entries
+question_both {R} {book} {then} {entries} old mid new first second = record {
   step = second.step ∙ first.step;
   code = second.code ∙ first.code;
   counter = keeps_both old.counter mid.counter new.counter first.counter second.counter;
   rank = second.rank ∙ first.rank;
-  built = λ net log n built. second.built net log n (first.built net log n built);
+  built = second.built
+      ∙ ap (λ (question : BuiltQuestion). columns_built question (length second.counter.columns)) first.built
+      ∙ columns_both (built_of old book) (length first.counter.columns) (length second.counter.columns)
+      ∙ ap (columns_built (built_of old book)) (sym (length-append first.counter.columns second.counter.columns));
 }
 
 -- parts and book that are as before, but for what a solver learnt and reserved
@@ -40,13 +49,13 @@ pub question_kept : {R : Type 0} (parts : Parts R) (counter : CounterState) (var
 question_kept parts counter vars solver book entries same count rank axioms = record {
   step = refl;
   code = refl;
-  counter = subst (KeepsColumns parts.counter) (sym same) (keeps_none parts.counter);
+  counter = record { inputs = ap (λ (c : CounterState). c.inputs) same; columns = []; more = ap (λ (c : CounterState). c.columns) same ∙ sym (append-nil parts.counter.columns) };
   rank = rank;
-  built = λ net log n built. record { determined = (λ i. record { steps = parts.step; code = parts.code.code; counter = same i; vars = count i; axioms = axioms i }) ∙ built.determined ∙ ap (λ (c : CounterState). question_built net log n (length c.columns)) (sym same) };
+  built = λ i. record { steps = parts.step; code = parts.code.code; counter = same i; vars = count i; axioms = axioms i };
 }
 
 -- what is built with these axioms
-abbrev with_axioms : {R : Type 0} → Parts R → List Clause → BuiltQuestion
+abbrev pub with_axioms : {R : Type 0} → Parts R → List Clause → BuiltQuestion
 with_axioms parts axioms = record { steps = parts.step; code = parts.code.code; counter = parts.counter; vars = parts.vars; axioms = axioms }
 
 -- a book that has the same axioms
@@ -56,10 +65,34 @@ kept_by_axioms old new first book last entries one two keeps = record {
   code = keeps.code;
   counter = keeps.counter;
   rank = keeps.rank;
-  built = λ net log n built. record {
-    determined = ap (with_axioms new) two ∙ (keeps.built net log n (record { determined = ap (with_axioms old) (sym one) ∙ built.determined })).determined;
-  };
+  built = ap (with_axioms new) two ∙ keeps.built ∙ ap (λ (axioms : List Clause). columns_built (with_axioms old axioms) (length keeps.counter.columns)) (sym one);
 }
+
+-- ---- what is built
+
+-- Parts and axioms that network, log, n and the number of columns determined are still those that they determine.
+pub built_still : {R : Type 0} {book entries : List BookEntry} (net : Net) (log : Log) (n : ℕ) (old new : Parts R) → KeepsQuestion old new book entries → IsBuilt net log n old book → IsBuilt net log n new entries
+built_still net log n old new keeps built = record {
+  determined = keeps.built
+      ∙ ap (λ (question : BuiltQuestion). columns_built question (length keeps.counter.columns)) built.determined
+      ∙ question_columns net log n (length old.counter.columns) (length keeps.counter.columns)
+      ∙ ap (question_built net log n) (sym (columns_kept old new keeps));
+}
+
+-- With the columns that the bound needs, and no more, it is what it was within the bound.
+pub built_for : {R : Type 0} {book entries : List BookEntry} (old new : Parts R) (bound : Option ℕ) → KeepsQuestion old new book entries → length new.counter.columns ≡ max (length old.counter.columns) (columns_for bound) →
+    built_of new entries ≡ built_within (built_of old book) bound
+built_for {R} {book} old new bound keeps wide = keeps.built ∙ ap (columns_built (built_of old book)) (rest (length old.counter.columns) (length new.counter.columns) (length keeps.counter.columns) (columns_kept old new keeps) wide)
+  where
+    rest : (before after more : ℕ) → after ≡ before + more → after ≡ max before (columns_for bound) → more ≡ columns_for bound - before
+    rest before after more all most = omega (arith, all, most)
+
+-- without a bound nothing is added
+pub built_same : {R : Type 0} {book entries : List BookEntry} (old new : Parts R) → KeepsQuestion old new book entries → length new.counter.columns ≡ max (length old.counter.columns) (columns_for None) → built_of new entries ≡ built_of old book
+built_same {R} {book} old new keeps wide = built_for old new None keeps wide ∙ ap (columns_built (built_of old book)) (none (length old.counter.columns))
+  where
+    none : (before : ℕ) → columns_for None - before ≡ 0
+    none before = omega arith
 
 pub belong_still : {R : Type 0} {book entries : List BookEntry} (net : Net) (log : Log) (old new : Parts R) → KeepsQuestion old new book entries → BelongTo net log old → BelongTo net log new
 belong_still net log old new keeps belong =
@@ -70,32 +103,35 @@ pub given_still : {R : Type 0} {book entries : List BookEntry} (net : Net) (log 
 given_still net log old new best keeps = subst (λ (s : CodedSteps). IsExplanation net log s.steps best) (sym keeps.step)
 
 -- the answer to a question is this one
-pub asked_as : {R : Type 0} (parts : Parts R) (net : Net) (log : Log) (bound : Option ℕ) (old new : List BookEntry) (before after : ℕ) (answer other : Asked) → answer ≡ other →
-    HasAsked parts net log bound old new before after answer → HasAsked parts net log bound old new before after other
-asked_as parts net log bound old new before after answer other is = subst (HasAsked parts net log bound old new before after) is
+pub asked_as : {R : Type 0} (parts : Parts R) (begun : BuiltQuestion) (net : Net) (log : Log) (bound : Option ℕ) (old new : List BookEntry) (before after : ℕ) (answer other : Asked) → answer ≡ other →
+    HasAsked parts begun net log bound old new before after answer → HasAsked parts begun net log bound old new before after other
+asked_as parts begun net log bound old new before after answer other is = subst (HasAsked parts begun net log bound old new before after) is
 
 -- ---- from bound to bound
 
 -- by the counter alone the parts differ
-come_by_counter : {R : Type 0} {book entries : List BookEntry} (old new : Parts R) (net : Net) (log : Log) (k : ℕ) (first last : List BookEntry) (budget left : ℕ) → KeepsQuestion old new book entries →
-    HasComeTo old net log k first last budget left → HasComeToBy new.code.code old.counter net log new.step.steps k first last budget left
-come_by_counter old new net log k first last budget left keeps come =
-    subst (λ (s : CodedSteps). HasComeToBy new.code.code old.counter net log s.steps k first last budget left) (sym keeps.step)
-    (subst (λ (c : LogCodeState). HasComeToBy c.code old.counter net log old.step.steps k first last budget left) (sym keeps.code) come)
+come_by_counter : {R : Type 0} {book entries : List BookEntry} (old new : Parts R) (begun : BuiltQuestion) (net : Net) (log : Log) (k : ℕ) (first last : List BookEntry) (budget left : ℕ) → KeepsQuestion old new book entries →
+    HasComeTo old begun net log k first last budget left → HasComeToBy new.code.code old.counter begun net log new.step.steps k first last budget left
+come_by_counter old new begun net log k first last budget left keeps come =
+    subst (λ (s : CodedSteps). HasComeToBy new.code.code old.counter begun net log s.steps k first last budget left) (sym keeps.step)
+    (subst (λ (c : LogCodeState). HasComeToBy c.code old.counter begun net log old.step.steps k first last budget left) (sym keeps.code) come)
 
 -- a bound is refuted
-pub comes_further : {R : Type 0} {book entries : List BookEntry} (old new : Parts R) (net : Net) (log : Log) (k : ℕ) (first mid last : List BookEntry) (budget before after : ℕ) → KeepsQuestion old new book entries →
-    HasComeTo old net log k first mid budget before → HasAsked new net log (Some k) mid last before after Refuted → HasComeTo new net log (suc k) first last budget after
-comes_further old new net log k first mid last budget before after keeps come =
-    come_further new.code.code old.counter new.counter net log new.step.steps k first mid last budget before after keeps.counter (come_by_counter old new net log k first mid budget before keeps come)
+pub comes_further : {R : Type 0} (begin old new : Parts R) (net : Net) (log : Log) (k : ℕ) (first mid last : List BookEntry) (budget before after : ℕ) → KeepsQuestion begin old first mid → KeepsQuestion old new mid last →
+    length old.counter.columns ≡ max (length begin.counter.columns) k → HasComeTo old (built_of begin first) net log k first mid budget before → HasAsked new (built_of old mid) net log (Some k) mid last before after Refuted →
+    HasComeTo new (built_of begin first) net log (suc k) first last budget after
+comes_further begin old new net log k first mid last budget before after kept keeps wide come =
+    come_further new.code.code old.counter new.counter (built_of begin first) (built_of old mid) net log new.step.steps k first mid last budget before after keeps.counter refl refl
+    (ap (λ (question : BuiltQuestion). question.axioms) (within_further (built_of begin first) (built_of old mid) (length kept.counter.columns) k kept.built wide))
+    (come_by_counter old new (built_of begin first) net log k first mid budget before keeps come)
 
 -- none is
-pub comes_on : {R : Type 0} {book entries : List BookEntry} (old new : Parts R) (net : Net) (log : Log) (k : ℕ) (first mid last : List BookEntry) (budget before after : ℕ) (what : Asked) → KeepsQuestion old new book entries → what ≢ Refuted →
-    HasComeTo old net log k first mid budget before → HasAsked new net log (Some k) mid last before after what → HasComeTo new net log k first last budget after
-comes_on old new net log k first mid last budget before after what keeps not come =
-    come_on new.code.code old.counter new.counter net log new.step.steps k first mid last budget before after what keeps.counter not (come_by_counter old new net log k first mid budget before keeps come)
+pub comes_on : {R : Type 0} {book entries : List BookEntry} (old new : Parts R) (begun now : BuiltQuestion) (net : Net) (log : Log) (k : ℕ) (first mid last : List BookEntry) (budget before after : ℕ) (what : Asked) → KeepsQuestion old new book entries → what ≢ Refuted →
+    HasComeTo old begun net log k first mid budget before → HasAsked new now net log (Some k) mid last before after what → HasComeTo new begun net log k first last budget after
+comes_on old new begun now net log k first mid last budget before after what keeps not come =
+    come_on new.code.code old.counter new.counter begun now net log new.step.steps k first mid last budget before after what keeps.counter not (come_by_counter old new begun net log k first mid budget before keeps come)
 
 -- whatever it comes to, the search is still under way
-pub searching_on : {R : Type 0} (parts : Parts R) (net : Net) (log : Log) (k : ℕ) (first mid last : List BookEntry) (budget before after : ℕ) → HasComeTo parts net log k first mid budget before → IsSearching mid last before after → IsSearching first last budget after
-searching_on parts net log k first mid last budget before after come =
-    searching_further first mid last budget before after (searched_so_far parts.code.code parts.counter net log parts.step.steps k first mid budget before come)
+pub searching_on : {R : Type 0} (parts : Parts R) (begun : BuiltQuestion) (net : Net) (log : Log) (k : ℕ) (first mid last : List BookEntry) (budget before after : ℕ) → HasComeTo parts begun net log k first mid budget before → IsSearching mid last before after → IsSearching first last budget after
+searching_on parts begun net log k first mid last budget before after come =
+    searching_further first mid last budget before after (searched_so_far parts.code.code parts.counter begun net log parts.step.steps k first mid budget before come)

@@ -9,7 +9,6 @@ use Rattle.least_faults.specs.Evidence.{HasFinal, IsEvidence, IsPosed}
 use Rattle.log_order.specs.Log.{Log}
 use Rattle.proof_ledger.specs.Book.{BookEntry, mark, axioms_of, clauses_of, is_mark}
 use Rattle.proof_ledger.specs.Fresh.{AreFresh, is_learnt}
-use Rattle.prop_core.specs.Clauses.{Clause}
 use Rattle.prop_core.specs.Trail.{Clashes}
 use Rattle.prop_core.specs.VariableNames.{Name, ReadsAs}
 use Rattle.prop_core.specs.declared.lit.Lit.{Lit}
@@ -19,6 +18,7 @@ use Rattle.replay.specs.QuestionSize.{variable_bound}
 use Rattle.replay.specs.Traced.{word_of, step_faults}
 use Rattle.replay.specs.declared.run.RunStep.{RunStep}
 use Rattle.run_decode.specs.Drawn.{assumption_literals}
+use Rattle.run_decode.specs.QuestionAxioms.{BuiltQuestion}
 
 -- the entry of a run is a fault: a fault event, or a false alarm
 abbrev pub is_fault_entry : Net → RunStep → Bool
@@ -30,29 +30,29 @@ pub record IsExplanation (net : Net) (log : Log) (n : ℕ) (best : Best) : Type 
   pub explains : Explains net log n (word_of best.run) (order_of log best.run)
   pub faults : faults_of net (word_of best.run) (order_of log best.run) ≡ best.faults
 
--- ---- the answers, with what the entries since the question was opened show, where these axioms stood first
+-- ---- the answers, with what the entries since the question was opened show, where it was built so first
 
 -- no explanation has fewer faults, which the book shows
-pub record IsLeastFound (names : List (ℕ × Name)) (first : List Clause) (since : List BookEntry) (net : Net) (log : Log) (n : ℕ) (best : Best) : Type 0 where
+pub record IsLeastFound (names : List (ℕ × Name)) (first : BuiltQuestion) (since : List BookEntry) (net : Net) (log : Log) (n : ℕ) (best : Best) : Type 0 where
   pub given : IsExplanation net log n best
   pub few : best.faults ≤ 255
   pub least : IsLeast net log n best.faults
   pub evidence : (b : ℕ) → best.faults ≡ suc b → IsEvidence names first since net log n (Some b)
 
 -- nothing explains the log
-pub record IsAbsentFound (names : List (ℕ × Name)) (first : List Clause) (since : List BookEntry) (net : Net) (log : Log) (n : ℕ) : Type 0 where
+pub record IsAbsentFound (names : List (ℕ × Name)) (first : BuiltQuestion) (since : List BookEntry) (net : Net) (log : Log) (n : ℕ) : Type 0 where
   pub absent : IsAbsent net log n
   pub evidence : IsEvidence names first since net log n None
 
 -- all that explains the log has more than 255 faults
-pub record IsManyFound (names : List (ℕ × Name)) (first : List Clause) (since : List BookEntry) (net : Net) (log : Log) (n : ℕ) (best : Best) : Type 0 where
+pub record IsManyFound (names : List (ℕ × Name)) (first : BuiltQuestion) (since : List BookEntry) (net : Net) (log : Log) (n : ℕ) (best : Best) : Type 0 where
   pub given : IsExplanation net log n best
   pub above : 255 < best.faults
   pub many : IsMany net log n
   pub evidence : IsEvidence names first since net log n (Some 255)
 
 -- The budget was spent on learnt entries. All explanations have at least lo faults, and lo is one more than the greatest bound that a final entry refutes, or 0; an explanation that is known has more. Where none is known, nothing but learnt entries was put.
-pub record IsUndecidedFound (names : List (ℕ × Name)) (first : List Clause) (since : List BookEntry) (net : Net) (log : Log) (n budget lo : ℕ) (best : Option Best) : Type 0 where
+pub record IsUndecidedFound (names : List (ℕ × Name)) (first : BuiltQuestion) (since : List BookEntry) (net : Net) (log : Log) (n budget lo : ℕ) (best : Option Best) : Type 0 where
   pub spent : count_by is_learnt since ≡ budget
   pub above : NeedsFaults net log n lo
   pub evidence : (b : ℕ) → lo ≡ suc b → IsEvidence names first since net log n (Some b)
@@ -60,7 +60,7 @@ pub record IsUndecidedFound (names : List (ℕ × Name)) (first : List Clause) (
   pub given : IfSome best (λ run. IsExplanation net log n run × (lo < run.faults))
   pub unknown : IfNone best ((lo ≡ 0) × (list_all is_learnt since ≡ true))
 
-abbrev pub IsFound : List (ℕ × Name) → List Clause → List BookEntry → Net → Log → ℕ → ℕ → Found → Type 0
+abbrev pub IsFound : List (ℕ × Name) → BuiltQuestion → List BookEntry → Net → Log → ℕ → ℕ → Found → Type 0
 IsFound names first since net log n budget (Explained best) = IsLeastFound names first since net log n best
 IsFound names first since net log n budget Absent = IsAbsentFound names first since net log n
 IsFound names first since net log n budget (Many best) = IsManyFound names first since net log n best
@@ -90,8 +90,9 @@ HasConflictFor names book net log n Absent = ⊤
 HasConflictFor names book net log n (Many best) = ⊤
 HasConflictFor names book net log n (Undecided lo best) = HasConflict names book net log n (asked_last lo best)
 
--- The question was opened by a mark 0 and closed by a mark 1, and the entries between show what was found. At most as many clauses as the budget says were learnt, each of them fresh. The axioms of the whole book pose the question without a bound, by these names and under some assumptions; the names are no more than network, log and n allow.
-pub record IsAnswered (names : List (ℕ × Name)) (net : Net) (log : Log) (n budget : ℕ) (old new : List BookEntry) (answer : Found) : Type 0 where
+-- The axioms of the book were those of the question as it was built first. It was opened by a mark 0 and closed by a mark 1, and the entries between show what was found. At most as many clauses as the budget says were learnt, each of them fresh. The axioms of the whole book pose the question without a bound, by these names and under some assumptions; the names are no more than network, log and n allow.
+pub record IsAnswered (names : List (ℕ × Name)) (first : BuiltQuestion) (net : Net) (log : Log) (n budget : ℕ) (old new : List BookEntry) (answer : Found) : Type 0 where
+  pub begun : first.axioms ≡ axioms_of old
   pub since : List BookEntry
   pub whole : new ≡ old ++ mark 0 ∷ since ++ mark 1 ∷ []
   pub unmarked : (number : ℕ) → count_by (is_mark number) since ≡ 0
@@ -99,5 +100,5 @@ pub record IsAnswered (names : List (ℕ × Name)) (net : Net) (log : Log) (n bu
   pub fresh : HaveLearntFresh (old ++ mark 0 ∷ []) since
   pub few : length names ≤ variable_bound net log n
   pub asks : (assumed : List Lit) × IsPosed names (axioms_of new) assumed net log n None
-  pub found : IsFound names (axioms_of old) since net log n budget answer
+  pub found : IsFound names first since net log n budget answer
   pub conflict : HasConflictFor names new net log n answer

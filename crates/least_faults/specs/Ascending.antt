@@ -9,12 +9,13 @@ use Rattle.least_faults.specs.Asking.{AreAssumptions}
 use Rattle.least_faults.specs.Evidence.{IsRefutation}
 use Rattle.log_encode.specs.CodedLog.{CodedLog}
 use Rattle.log_order.specs.Log.{Log}
-use Rattle.proof_ledger.specs.Book.{BookEntry, final, axioms_of, is_mark}
+use Rattle.proof_ledger.specs.Book.{BookEntry, final, is_mark}
 use Rattle.proof_ledger.specs.Fresh.{is_learnt}
 use Rattle.prop_core.specs.Clauses.{Clause, NegatesOnly}
 use Rattle.prop_core.specs.VariableNames.{Name}
 use Rattle.prop_core.specs.declared.lit.Lit.{Lit}
 use Rattle.replay.specs.Explanation.{NeedsFaults}
+use Rattle.run_decode.specs.QuestionAxioms.{BuiltQuestion}
 
 -- each final entry refutes a bound below this one
 abbrev pub FinalsAreBelow : CodedLog → CounterState → ℕ → List BookEntry → Type 0
@@ -22,32 +23,32 @@ FinalsAreBelow code counter k since = (clause : Clause) (hints : List ℕ) → C
     (j : ℕ) × (j < k) × (assumed : List Lit) × AreAssumptions code counter (Some j) assumed × NegatesOnly assumed clause
 
 -- the bound before is refuted, by the last final entry
-pub record IsRefutedBelow (code : CodedLog) (counter : CounterState) (net : Net) (log : Log) (n k : ℕ) (first : List Clause) (since : List BookEntry) : Type 0 where
+pub record IsRefutedBelow (code : CodedLog) (counter : CounterState) (net : Net) (log : Log) (n k : ℕ) (first : BuiltQuestion) (since : List BookEntry) : Type 0 where
   pub assumed : List Lit
   pub assumptions : AreAssumptions code counter (Some k) assumed
   pub refuted : IsRefutation first since net log n (Some k) assumed
 
--- The bounds below k are refuted, by entries since then.
-pub record HasComeToBy (code : CodedLog) (counter : CounterState) (net : Net) (log : Log) (n k : ℕ) (old new : List BookEntry) (budget_old budget_new : ℕ) : Type 0 where
+-- The bounds below k are refuted, by entries since then, when the question was built so.
+pub record HasComeToBy (code : CodedLog) (counter : CounterState) (first : BuiltQuestion) (net : Net) (log : Log) (n k : ℕ) (old new : List BookEntry) (budget_old budget_new : ℕ) : Type 0 where
   pub since : List BookEntry
   pub whole : new ≡ old ++ since
   pub unmarked : (number : ℕ) → count_by (is_mark number) since ≡ 0
   pub paid : count_by is_learnt since + budget_new ≡ budget_old
   pub fresh : HaveLearntFresh old since
   pub finals : FinalsAreBelow code counter k since
-  pub below : (j : ℕ) → k ≡ suc j → IsRefutedBelow code counter net log n j (axioms_of old) since
+  pub below : (j : ℕ) → k ≡ suc j → IsRefutedBelow code counter net log n j first since
   pub needs : NeedsFaults net log n k
 
 -- the same of the parts of a question
-abbrev pub HasComeTo : {R : Type 0} → Parts R → Net → Log → ℕ → List BookEntry → List BookEntry → ℕ → ℕ → Type 0
-HasComeTo parts net log k old new budget_old budget_new = HasComeToBy parts.code.code parts.counter net log parts.step.steps k old new budget_old budget_new
+abbrev pub HasComeTo : {R : Type 0} → Parts R → BuiltQuestion → Net → Log → ℕ → List BookEntry → List BookEntry → ℕ → ℕ → Type 0
+HasComeTo parts first net log k old new budget_old budget_new = HasComeToBy parts.code.code parts.counter first net log parts.step.steps k old new budget_old budget_new
 
 -- The entries that were put show what was found, and no more clauses were learnt than the budget says, each of them fresh.
-pub record HasFound (names : List (ℕ × Name)) (net : Net) (log : Log) (n budget : ℕ) (old new : List BookEntry) (answer : Found) : Type 0 where
+pub record HasFound (names : List (ℕ × Name)) (first : BuiltQuestion) (net : Net) (log : Log) (n budget : ℕ) (old new : List BookEntry) (answer : Found) : Type 0 where
   pub since : List BookEntry
   pub whole : new ≡ old ++ since
   pub unmarked : (number : ℕ) → count_by (is_mark number) since ≡ 0
   pub within : count_by is_learnt since ≤ budget
   pub fresh : HaveLearntFresh old since
-  pub found : IsFound names (axioms_of old) since net log n budget answer
+  pub found : IsFound names first since net log n budget answer
   pub conflict : HasConflictFor names new net log n answer

@@ -8,11 +8,12 @@ use Rattle.least_faults.specs.declared.asking.Asked.{Asked}
 use Rattle.least_faults.specs.declared.asking.Asked.TheVariants.{Explained, Refuted, Spent}
 use Rattle.least_faults.specs.declared.parts.Parts.{Parts}
 use Rattle.least_faults.specs.Answers.{HaveLearntFresh, IsExplanation}
+use Rattle.least_faults.specs.Columns.{columns_for}
 use Rattle.least_faults.specs.Evidence.{IsPosed, is_final, IsRefutation}
 use Rattle.log_clauses.specs.LogClauses.{guard_literals}
 use Rattle.log_encode.specs.CodedLog.{CodedLog, read_names, without_names}
 use Rattle.log_order.specs.Log.{Log, IsValidLog}
-use Rattle.proof_ledger.specs.Book.{BookEntry, final, axioms_of, clauses_of, is_mark}
+use Rattle.proof_ledger.specs.Book.{BookEntry, final, clauses_of, is_mark}
 use Rattle.proof_ledger.specs.Fresh.{is_learnt}
 use Rattle.prop_core.specs.Clauses.{Clause, NegatesOnly}
 use Rattle.prop_core.specs.Trail.{Clashes}
@@ -20,6 +21,7 @@ use Rattle.prop_core.specs.VariableNames.{ReadsAs}
 use Rattle.prop_core.specs.declared.lit.Lit.{Lit}
 use Rattle.run_decode.specs.Decided.{Decides}
 use Rattle.run_decode.specs.Faithful.{IsWithin}
+use Rattle.run_decode.specs.QuestionAxioms.{BuiltQuestion}
 use Rattle.run_decode.specs.WholeNaming.{whole_names}
 use Rattle.step_encode.specs.Coded.{CodedSteps}
 
@@ -71,7 +73,7 @@ pub record ArePut (code : CodedLog) (counter : CounterState) (bound : Option ℕ
 -- ---- what was answered
 
 -- the last final entry refutes the question, which decides it
-pub record IsRefusal (code : CodedLog) (counter : CounterState) (net : Net) (log : Log) (n : ℕ) (bound : Option ℕ) (first : List Clause) (since : List BookEntry) : Type 0 where
+pub record IsRefusal (code : CodedLog) (counter : CounterState) (net : Net) (log : Log) (n : ℕ) (bound : Option ℕ) (first : BuiltQuestion) (since : List BookEntry) : Type 0 where
   pub assumed : List Lit
   pub assumptions : AreAssumptions code counter bound assumed
   pub refuted : IsRefutation first since net log n bound assumed
@@ -90,21 +92,22 @@ pub record IsStopped (code : CodedLog) (counter : CounterState) (bound : Option 
   pub assumptions : AreAssumptions code counter bound assumed
   pub clashes : Clashes (clauses_of book) assumed
 
-abbrev pub Means : CodedLog → CounterState → Net → Log → ℕ → Option ℕ → List Clause → List BookEntry → List BookEntry → ℕ → Asked → Type 0
+abbrev pub Means : CodedLog → CounterState → Net → Log → ℕ → Option ℕ → BuiltQuestion → List BookEntry → List BookEntry → ℕ → Asked → Type 0
 Means code counter net log n bound first since book budget (Explained best) = IsWitness counter net log n bound best
 Means code counter net log n bound first since book budget Refuted = IsRefusal code counter net log n bound first since
 Means code counter net log n bound first since book budget Spent = IsStopped code counter bound book budget
 
--- all of it
-pub record HasAskedBy (code : CodedLog) (counter : CounterState) (net : Net) (log : Log) (n : ℕ) (bound : Option ℕ) (old new : List BookEntry) (budget_old budget_new : ℕ) (asked : Asked) : Type 0 where
+-- all of it, where the question was built so first: the counter has got the columns that the bound needs
+pub record HasAskedBy (code : CodedLog) (counter : CounterState) (first : BuiltQuestion) (net : Net) (log : Log) (n : ℕ) (bound : Option ℕ) (old new : List BookEntry) (budget_old budget_new : ℕ) (asked : Asked) : Type 0 where
   pub since : List BookEntry
   pub whole : new ≡ old ++ since
   pub unmarked : (number : ℕ) → count_by (is_mark number) since ≡ 0
   pub paid : count_by is_learnt since + budget_new ≡ budget_old
   pub fresh : HaveLearntFresh old since
+  pub columns : length counter.columns ≡ max (length first.counter.columns) (columns_for bound)
   pub put : ArePut code counter bound since asked
-  pub means : Means code counter net log n bound (axioms_of old) since new budget_new asked
+  pub means : Means code counter net log n bound first since new budget_new asked
 
 -- all of it, of the parts of a question
-abbrev pub HasAsked : {R : Type 0} → Parts R → Net → Log → Option ℕ → List BookEntry → List BookEntry → ℕ → ℕ → Asked → Type 0
-HasAsked parts net log bound old new budget_old budget_new asked = HasAskedBy parts.code.code parts.counter net log parts.step.steps bound old new budget_old budget_new asked
+abbrev pub HasAsked : {R : Type 0} → Parts R → BuiltQuestion → Net → Log → Option ℕ → List BookEntry → List BookEntry → ℕ → ℕ → Asked → Type 0
+HasAsked parts first net log bound old new budget_old budget_new asked = HasAskedBy parts.code.code parts.counter first net log parts.step.steps bound old new budget_old budget_new asked

@@ -8,7 +8,8 @@ use Rattle.log_order.specs.Log.{Log}
 use Rattle.proof_ledger.specs.Book.{BookEntry}
 use Rattle.prop_core.specs.VariableNames.{Name}
 use Rattle.replay.specs.QuestionSize.{variable_bound}
+use Rattle.run_decode.specs.QuestionAxioms.{BuiltQuestion}
 
 -- Where it is undecided, the budget is below 3 to the bound on the question's variables.
 abbrev pub UndecidedIsSmall : Type 0
-UndecidedIsSmall = (names : List (ℕ × Name)) (net : Net) (log : Log) (n budget lo : ℕ) (best : Option Best) (old new : List BookEntry) → IsAnswered names net log n budget old new (Undecided lo best) → budget < 3 ^ variable_bound net log n
+UndecidedIsSmall = (names : List (ℕ × Name)) (first : BuiltQuestion) (net : Net) (log : Log) (n budget lo : ℕ) (best : Option Best) (old new : List BookEntry) → IsAnswered names first net log n budget old new (Undecided lo best) → budget < 3 ^ variable_bound net log n

@@ -2,6 +2,7 @@
 use Rattle.std.specs.Prelude.{◌≡◌, ℕ, Bool, true, false, List, ◌∷◌, ◌++◌, Option, Contains}
 use Rattle.std.specs.List.{AllByRecursion, list_any}
 use Rattle.des_net.specs.Network.{Net}
+use Rattle.least_faults.specs.Columns.{built_within}
 use Rattle.log_order.specs.Log.{Log}
 use Rattle.proof_ledger.specs.Book.{BookEntry, axiomatic, learnt, final, mark, axioms_of}
 use Rattle.prop_core.specs.Clauses.{Clause, NegatesOnly}
@@ -9,6 +10,7 @@ use Rattle.prop_core.specs.VariableNames.{Name, HasEachOnce, ReadsAs}
 use Rattle.prop_core.specs.declared.lit.Lit.{Lit}
 use Rattle.run_decode.specs.Drawn.{IsInstance, assumption_literals}
 use Rattle.run_decode.specs.Faithful.{IsFaithful}
+use Rattle.run_decode.specs.QuestionAxioms.{BuiltQuestion}
 
 -- By these names clauses and assumptions ask which explanations there are within the bound: they are faithful, each clause is of a family, and what is assumed are, as a set, the guards and the bound.
 pub record IsPosed (names : List (ℕ × Name)) (clauses : List Clause) (assumed : List Lit) (net : Net) (log : Log) (n : ℕ) (bound : Option ℕ) : Type 0 where
@@ -40,14 +42,17 @@ pub record HasLastFinal (entries : List BookEntry) (assumed : List Lit) : Type 0
   pub last : list_any is_final later ≡ false
   pub negates : NegatesOnly assumed clause
 
--- The last of these final entries has, and with the axioms before it, the first ones and those of these entries, what is assumed is faithful to the question within the bound.
-pub record IsRefutation (first : List Clause) (entries : List BookEntry) (net : Net) (log : Log) (n : ℕ) (bound : Option ℕ) (assumed : List Lit) : Type 0 where
+-- The last of these final entries has. The axioms before it, the first ones and those of these entries, are as a list those of the question that was built first, with the columns that the bound needs. With them what is assumed is faithful to the question within the bound.
+pub record IsRefutation (first : BuiltQuestion) (entries : List BookEntry) (net : Net) (log : Log) (n : ℕ) (bound : Option ℕ) (assumed : List Lit) : Type 0 where
   pub refuted : HasLastFinal entries assumed
-  pub faithful : IsFaithful (first ++ axioms_of refuted.earlier) assumed net log n bound
+  pub listed : first.axioms ++ axioms_of refuted.earlier ≡ (built_within first bound).axioms
+  pub faithful : IsFaithful (first.axioms ++ axioms_of refuted.earlier) assumed net log n bound
 
 -- The last of these final entries refutes the question within the bound. The axioms before it pose that question: those that the book had first, and those of these entries. So do all.
-pub record IsEvidence (names : List (ℕ × Name)) (first : List Clause) (entries : List BookEntry) (net : Net) (log : Log) (n : ℕ) (bound : Option ℕ) : Type 0 where
+-- As a list they are those of the question that was built first, with the columns that the bound needs.
+pub record IsEvidence (names : List (ℕ × Name)) (first : BuiltQuestion) (entries : List BookEntry) (net : Net) (log : Log) (n : ℕ) (bound : Option ℕ) : Type 0 where
   pub assumed : List Lit
   pub refuted : HasLastFinal entries assumed
-  pub posed_before : IsPosed names (first ++ axioms_of refuted.earlier) assumed net log n bound
-  pub posed : IsPosed names (first ++ axioms_of entries) assumed net log n bound
+  pub listed : first.axioms ++ axioms_of refuted.earlier ≡ (built_within first bound).axioms
+  pub posed_before : IsPosed names (first.axioms ++ axioms_of refuted.earlier) assumed net log n bound
+  pub posed : IsPosed names (first.axioms ++ axioms_of entries) assumed net log n bound

@@ -1,10 +1,9 @@
 -- How a question and its book grow together.
-use Rattle.std.specs.Prelude.{◌≡◌, ◌≤◌, ℕ, List, ◌++◌, map, count_by}
+use Rattle.std.specs.Prelude.{◌≡◌, ◌≤◌, ℕ, List, ◌++◌, length, map, count_by}
 use Rattle.card_counter.specs.CounterState.{CounterState}
-use Rattle.des_net.specs.Network.{Net}
 use Rattle.least_faults.specs.declared.parts.Parts.{Parts}
-use Rattle.least_faults.specs.Parts.{IsBuilt}
-use Rattle.log_order.specs.Log.{Log}
+use Rattle.least_faults.specs.Columns.{columns_built}
+use Rattle.least_faults.specs.Parts.{built_of}
 use Rattle.proof_ledger.specs.Book.{BookEntry, axiomatic}
 use Rattle.proof_ledger.specs.Fresh.{is_learnt}
 use Rattle.prop_core.specs.Clauses.{Clause}
@@ -15,13 +14,13 @@ pub record KeepsColumns (old new : CounterState) : Type 0 where
   pub columns : List (List ℕ)
   pub more : new.columns ≡ old.columns ++ columns
 
--- The question stays: the code of its steps and of its log, and what ranks its variables. The counter perhaps has further columns. Parts and axioms that network, log, n and the number of columns determined are still those that they determine.
+-- The question stays: the code of its steps and of its log, and what ranks its variables. The counter perhaps has further columns, and parts and axioms are what was built before, with these columns.
 pub record KeepsQuestion {R : Type 0} (old new : Parts R) (old_book new_book : List BookEntry) : Type 0 where
   pub step : new.step ≡ old.step
   pub code : new.code ≡ old.code
   pub counter : KeepsColumns old.counter new.counter
   pub rank : new.solver.order.rank ≡ old.solver.order.rank
-  pub built : (net : Net) (log : Log) (n : ℕ) → IsBuilt net log n old old_book → IsBuilt net log n new new_book
+  pub built : built_of new new_book ≡ columns_built (built_of old old_book) (length counter.columns)
 
 -- the book got axioms, and nothing else
 pub record AddsAxioms (old new : List BookEntry) : Type 0 where

@@ -1,5 +1,6 @@
 pub mod LogVariables
 pub mod Bounds
+pub mod Columns
 pub mod LogCoding
 pub mod Parts
 pub mod Growing

@@ -1,18 +1,19 @@
-use Rattle.std.proofs.Common.{◌≡◌, ℕ, Bool, List, Option, sym, subst}
+use Rattle.std.proofs.Common.{◌≡◌, ℕ, Bool, List, Option, refl, sym, ap, subst}
 use Rattle.des_net.specs.Network.{Net, IsNetwork}
 use Rattle.least_faults.proofs.Asked.{asked_refuted, asked_spent, asked_explained, begun_true, kept_after, ready_after, searching_axioms, searching_both, true_run, none_added}
 use Rattle.least_faults.proofs.Assuming.{assumed_below, compatible, below_more}
 use Rattle.least_faults.proofs.Posing.{poses}
-use Rattle.least_faults.proofs.Staying.{belong_still}
+use Rattle.least_faults.proofs.Staying.{belong_still, built_for}
 use Rattle.least_faults.proofs.asking.ask.Goals as goal
 use Rattle.least_faults.specs.Asking.{AreAssumptions}
 use Rattle.least_faults.specs.Evidence.{IsPosed}
-use Rattle.least_faults.specs.Parts.{AreReady, BelongTo, names_of}
+use Rattle.least_faults.specs.Parts.{AreReady, BelongTo, built_of, names_of}
 use Rattle.least_faults.specs.declared.parts.Parts.{Parts}
 use Rattle.log_order.specs.Log.{Log, IsValidLog}
 use Rattle.proof_ledger.specs.Book.{BookEntry, axioms_of}
 use Rattle.prop_core.specs.Clauses.{HasValues, value_in}
 use Rattle.prop_core.specs.declared.lit.Lit.{Lit}
+use Rattle.run_decode.specs.QuestionAxioms.{BuiltQuestion}
 use Rattle.sat_solve.specs.Searching.{IsAnswer, IsModel, HasPut}
 use Rattle.sat_solve.specs.declared.answer.Answer.{Answer}
 use Rattle.sat_solve.specs.Solving.{AreCompatible}
@@ -48,7 +49,8 @@ returns-in-Unsat-clause-asked g c =
     asked_refuted parts.step parts.code.code parts.counter parts.vars c.args.question.net.now c.args.question.log.now c.assumptions.new.book.entries c.assumptions.ensures.ready.coded
     belong.of_steps c.is_built.ensures.network c.is_whole.ensures.whole.valid
     belong.same_log c.args.within c.in_ok-assumed.assumed.items c.in_ok-assumed.ensures.assumed
-    c.args.book.now.entries c.solve.new.book.entries c.args.budget.now c.solve.new.budget c.assumptions.ensures.axioms c.solve.ensures.searched c.assumptions.ensures.ready.known c.in-Unsat.field-0
+    c.args.book.now.entries c.solve.new.book.entries c.args.budget.now c.solve.new.budget c.assumptions.ensures.axioms c.solve.ensures.searched c.assumptions.ensures.ready.known
+    (built_of c.args.parts.now c.args.book.now.entries) refl c.in_ok-assumed.ensures.columns (ap (λ (question : BuiltQuestion). question.axioms) (built_for c.args.parts.now parts c.args.within c.assumptions.ensures.kept c.in_ok-assumed.ensures.columns)) c.in-Unsat.field-0
     (subst (HasPut c.assumptions.new.book.entries c.solve.new.book.entries) c.in-Unsat.is c.in_ok-answer.ensures.put)
     (subst (λ xs. IsAnswer c.solve.new.self.assignment c.solve.new.book.entries xs c.solve.new.budget (Answer.Unsat c.in-Unsat.field-0)) c.as_slice.ensures.value
     (subst (IsAnswer c.solve.new.self.assignment c.solve.new.book.entries c.as_slice.result.now c.solve.new.budget) c.in-Unsat.is c.in_ok-answer.ensures.answer))
@@ -62,6 +64,7 @@ returns-in-Spent-clause-asked g c =
     belong.of_steps c.is_built.ensures.network c.is_whole.ensures.whole.valid
     belong.same_log c.args.within c.in_ok-assumed.assumed.items c.in_ok-assumed.ensures.assumed
     c.args.book.now.entries c.solve.new.book.entries c.args.budget.now c.solve.new.budget c.assumptions.ensures.axioms c.solve.ensures.searched c.assumptions.ensures.ready.known
+    (built_of c.args.parts.now c.args.book.now.entries) refl c.in_ok-assumed.ensures.columns (ap (λ (question : BuiltQuestion). question.axioms) (built_for c.args.parts.now parts c.args.within c.assumptions.ensures.kept c.in_ok-assumed.ensures.columns))
     (none_added c.args.within c.args.book.now.entries c.assumptions.new.book.entries c.assumptions.ensures.axioms c.assumptions.ensures.none)
     (subst (HasPut c.assumptions.new.book.entries c.solve.new.book.entries) c.in-Spent.is c.in_ok-answer.ensures.put)
     (subst (λ xs. IsAnswer c.solve.new.self.assignment c.solve.new.book.entries xs c.solve.new.budget Answer.Spent) c.as_slice.ensures.value
@@ -88,7 +91,8 @@ returns-clause-asked g c =
     asked_explained parts.step parts.code.code parts.counter parts.vars c.args.question.net.now c.args.question.log.now c.assumptions.new.book.entries c.assumptions.ensures.ready.coded
     belong.of_steps c.is_built.ensures.network c.is_whole.ensures.whole.valid
     belong.same_log c.args.within c.in_ok-assumed.assumed.items c.in_ok-assumed.ensures.assumed
-    c.args.book.now.entries c.solve.new.book.entries c.args.budget.now c.solve.new.budget c.assumptions.ensures.axioms c.solve.ensures.searched c.assumptions.ensures.ready.known (value_in values) c.in_ok-found_run-in-Sat.field-0
+    c.args.book.now.entries c.solve.new.book.entries c.args.budget.now c.solve.new.budget c.assumptions.ensures.axioms c.solve.ensures.searched c.assumptions.ensures.ready.known
+    (built_of c.args.parts.now c.args.book.now.entries) refl c.in_ok-assumed.ensures.columns (ap (λ (question : BuiltQuestion). question.axioms) (built_for c.args.parts.now parts c.args.within c.assumptions.ensures.kept c.in_ok-assumed.ensures.columns)) (value_in values) c.in_ok-found_run-in-Sat.field-0
     (none_added c.args.within c.args.book.now.entries c.assumptions.new.book.entries c.assumptions.ensures.axioms c.assumptions.ensures.none)
     (subst (HasPut c.assumptions.new.book.entries c.solve.new.book.entries) c.in-Sat.is c.in_ok-answer.ensures.put)
     (begun_true (value_in values) c.assumptions.new.book.entries c.solve.new.book.entries c.args.budget.now c.solve.new.budget c.solve.ensures.searched holds.clauses) holds.assumptions c.in_ok-found_run-in-Sat.ensures.given c.in_ok-found_run-in-Sat.ensures.faults

@@ -1,16 +1,20 @@
-use Rattle.std.proofs.Common.{arith, length, sym, subst}
+use Rattle.std.proofs.Common.{◌≡◌, ℕ, None, arith, length, max, sym, subst}
 use Rattle.least_faults.proofs.Assuming.{with_bound, without_bound}
 use Rattle.least_faults.proofs.AxiomLists.{adds_none}
 use Rattle.least_faults.proofs.Staying.{question_same}
 use Rattle.least_faults.proofs.asking.assumptions.Goals as goal
 use Rattle.least_faults.proofs.asking.assumptions.Goals.{in-Some+in_ok-bound+in_ok-push, in_default}
 use Rattle.least_faults.specs.Asking.{AreAssumptions}
+use Rattle.least_faults.specs.Columns.{columns_for}
 use Rattle.least_faults.specs.Growing.{AddsAxioms, KeepsQuestion}
 use Rattle.least_faults.specs.Parts.{AreReady}
 use Rattle.least_faults.specs.declared.parts.Parts.{Parts}
 use Rattle.log_clauses.specs.LogClauses.{guard_literals}
 use Rattle.log_encode.specs.CodedLog.{read_names}
 use Rattle.prop_core.specs.VariableNames.{ReadsAs}
+
+pub returns-in_err-extend_from_slice-clause-kept : goal.returns-in_err-extend_from_slice-clause-kept
+returns-in_err-extend_from_slice-clause-kept g c = question_same c.args.parts.now c.args.book.now.entries
 
 pub returns-clause-ready : goal.returns-clause-ready
 returns-clause-ready g c = elim c.match-within.branch [
@@ -37,6 +41,19 @@ returns-clause-axioms g c = elim c.match-within.branch [
   | in-Some+in_ok-bound+in_ok-push w ↦ subst (λ b. AddsAxioms c.args.book.now.entries b.entries) (sym w.book-is) w.bound.ensures.axioms
   | in_default w ↦ subst (λ b. AddsAxioms c.args.book.now.entries b.entries) (sym w.book-is) (adds_none c.args.book.now.entries)
 ]
+
+pub returns-clause-columns : goal.returns-clause-columns
+returns-clause-columns g c = elim c.match-within.branch [
+  | in-Some+in_ok-bound+in_ok-push w ↦
+      subst (λ (p : Parts g.row.R.Denot). length p.counter.columns ≡ max (length c.args.parts.now.counter.columns) (columns_for c.args.within)) (sym w.parts-is)
+      (subst (λ within. length w.bound.new.parts.counter.columns ≡ max (length c.args.parts.now.counter.columns) (columns_for within)) (sym w.in-Some.is) w.in_ok-bound.ensures.literal.columns)
+  | in_default w ↦
+      subst (λ (p : Parts g.row.R.Denot). length p.counter.columns ≡ max (length c.args.parts.now.counter.columns) (columns_for c.args.within)) (sym w.parts-is)
+      (subst (λ within. length c.args.parts.now.counter.columns ≡ max (length c.args.parts.now.counter.columns) (columns_for within)) (sym w.in_default.is) (none (length c.args.parts.now.counter.columns)))
+]
+  where
+    none : (before : ℕ) → before ≡ max before (columns_for None)
+    none before = omega arith
 
 pub returns-clause-assumed : goal.returns-clause-assumed
 returns-clause-assumed g c = elim c.match-within.branch [

@@ -1,4 +1,5 @@
 use Rattle.std.proofs.Common.{ap, append-nil, arith, length, ◌∙◌, [], ◌∷◌, refl, subst, sym}
+use Rattle.card_counter.specs.CounterState.{CounterState}
 use Rattle.least_faults.proofs.Bounded.{column_fits}
 use Rattle.least_faults.proofs.Columns.{column_added, few_written, more_values, written_alone, reserved_ready}
 use Rattle.least_faults.proofs.Freshness.{known_after}
@@ -9,7 +10,6 @@ use Rattle.prop_core.specs.ClauseStore.{ClauseStore}
 use Rattle.sat_solve.specs.Solving.{SolverState}
 use Rattle.least_faults.proofs.bounding.add_column.Goals as goal
 use Rattle.std.specs.List.{range_with_len}
-use Rattle.least_faults.specs.Growing.{KeepsColumns}
 use Rattle.sat_order.specs.Rank.{IsRanked}
 
 pub add_column-requires-clause-within : goal.add_column-requires-clause-within
@@ -76,13 +76,15 @@ returns-clause-kept g c =
     record {
       step = refl;
       code = refl;
-      counter = subst (KeepsColumns old.counter) (sym c.in_ok-add_column.ensures.column.counter) (record { inputs = refl; columns = range_with_len old.vars (length old.counter.inputs) ∷ []; more = refl });
-      rank = ap (λ (s : SolverState _). s.order.rank) c.adopt.ensures.value ∙ c.reserve-2.ensures.rank;
-      built = λ net log n built. record {
-        determined = column_determined net log n old.step old.code.code old.counter c.add_column.new.self old.vars c.add_column.new.vars c.args.book.now.entries c.reserve.new.self.entries c.push_axioms.new.book.entries c.add_column.new.out.clauses
-            c.in_ok-add_column.ensures.column.counter c.in_ok-add_column.ensures.column.vars c.reserve.ensures.same
-            (written_alone c.new-clauses.result.clauses c.add_column.new.out.clauses _ (ap (λ (store : ClauseStore). store.clauses) c.new-clauses.ensures) c.in_ok-add_column.ensures.column.clauses) c.push_axioms.ensures built.determined;
+      counter = record {
+        inputs = ap (λ (counter : CounterState). counter.inputs) c.in_ok-add_column.ensures.column.counter;
+        columns = range_with_len old.vars (length old.counter.inputs) ∷ [];
+        more = ap (λ (counter : CounterState). counter.columns) c.in_ok-add_column.ensures.column.counter;
       };
+      rank = ap (λ (s : SolverState _). s.order.rank) c.adopt.ensures.value ∙ c.reserve-2.ensures.rank;
+      built = column_determined old.step old.code.code old.counter c.add_column.new.self old.vars c.add_column.new.vars c.args.book.now.entries c.reserve.new.self.entries c.push_axioms.new.book.entries c.add_column.new.out.clauses
+          c.in_ok-add_column.ensures.column.counter c.in_ok-add_column.ensures.column.vars c.reserve.ensures.same
+          (written_alone c.new-clauses.result.clauses c.add_column.new.out.clauses _ (ap (λ (store : ClauseStore). store.clauses) c.new-clauses.ensures) c.in_ok-add_column.ensures.column.clauses) c.push_axioms.ensures;
     }
 
 pub returns-in_err-reserve-clause-kept : goal.returns-in_err-reserve-clause-kept

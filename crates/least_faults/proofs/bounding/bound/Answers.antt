@@ -37,6 +37,9 @@ loop-preserved g c =
       upto = omega (arith, test);
     }
 
+pub returns-in_err-add_column-clause-kept : goal.returns-in_err-add_column-clause-kept
+returns-in_err-add_column-clause-kept g c = question_both c.args.parts.now c.loop.parts c.add_column.new.parts c.loop.invariant.kept c.add_column.ensures.kept
+
 pub returns-clause-literal : goal.returns-clause-literal
 returns-clause-literal g c =
     let parts = c.loop.parts in
