@@ -31,7 +31,6 @@ const DIVISOR: u64 = 1_073_741_824;
 #[derive(Drop)]
 pub struct Activity {
     activities: Vec<u64>,
-    ranks: Vec<u64>,
     conflicts: Vec<u32>,
     places: Vec<u32>,
     heap: Vec<u32>,
@@ -45,7 +44,6 @@ impl Activity {
     pub fn new(alloc: Global) -> Activity {
         Activity {
             activities: Vec::new(alloc),
-            ranks: Vec::new(alloc),
             conflicts: Vec::new(alloc),
             places: Vec::new(alloc),
             heap: Vec::new(alloc),
@@ -59,20 +57,10 @@ impl Activity {
     pub fn widen(&mut self, vars: u32) -> Result<(), Memory> {
         let count = self.heap.len().max(vars as usize);
         self.activities.resize(count, 0)?;
-        self.ranks.resize(count, 0)?;
         self.conflicts.resize(count, 0)?;
         self.places.resize(count, ABSENT)?;
         self.heap.resize(count, 0)?;
         Ok(())
-    }
-
-    // Takes note of the ranks, which don't change for a variable that is known.
-    pub fn keep_ranks(&mut self, ranks: &[u64]) {
-        for var in 0..ranks.len() {
-            if let Some(rank) = self.ranks.get_mut(var) {
-                *rank = ranks[var];
-            }
-        }
     }
 
     // How many variables the heap holds.
@@ -81,7 +69,7 @@ impl Activity {
     }
 
     // Takes the first variable from the heap.
-    pub fn take(&mut self) -> Option<u32> {
+    pub fn take(&mut self, ranks: &[u64]) -> Option<u32> {
         if self.held == 0 {
             return None;
         }
@@ -90,20 +78,20 @@ impl Activity {
         let last = number_at(&self.heap, self.held);
         set_number(&mut self.places, first, ABSENT);
         if self.held > 0 {
-            self.sink(last);
+            self.sink(last, ranks);
         }
         Some(first)
     }
 
     // Puts a variable back that was ever active.
-    pub fn put_back(&mut self, var: u32) {
+    pub fn put_back(&mut self, var: u32, ranks: &[u64]) {
         if amount_at(&self.activities, var) > 0 {
-            self.insert(var);
+            self.insert(var, ranks);
         }
     }
 
     // A variable takes part in the present conflict. It counts once.
-    pub fn bump(&mut self, var: u32) {
+    pub fn bump(&mut self, var: u32, ranks: &[u64]) {
         if number_at(&self.conflicts, var) == self.conflict {
             return;
         }
@@ -112,9 +100,9 @@ impl Activity {
         set_amount(&mut self.activities, var, activity);
         let place = number_at(&self.places, var);
         if place == ABSENT {
-            self.insert(var);
+            self.insert(var, ranks);
         } else {
-            self.rise(place, var);
+            self.rise(place, var, ranks);
         }
     }
 
@@ -136,17 +124,17 @@ impl Activity {
     }
 
     // Puts a known variable into the heap that it doesn't hold.
-    fn insert(&mut self, var: u32) {
+    fn insert(&mut self, var: u32, ranks: &[u64]) {
         let known = (var as usize) < self.places.len();
         if known && number_at(&self.places, var) == ABSENT {
             let place = self.held;
             self.held = self.held.saturating_add(1);
-            self.rise(place, var);
+            self.rise(place, var, ranks);
         }
     }
 
     // Puts a variable at a place of the heap, or above it where it comes before those that stand there.
-    fn rise(&mut self, from: u32, var: u32) {
+    fn rise(&mut self, from: u32, var: u32, ranks: &[u64]) {
         let mut place = from;
         for _ in 0..DEPTH {
             if place == 0 {
@@ -154,7 +142,7 @@ impl Activity {
             }
             let parent = (place - 1) / 2;
             let above = number_at(&self.heap, parent);
-            if !self.is_before(var, above) {
+            if !self.is_before(var, above, ranks) {
                 break;
             }
             self.put(place, above);
@@ -164,16 +152,16 @@ impl Activity {
     }
 
     // Puts a variable at the top of the heap, or below it where others come before it.
-    fn sink(&mut self, var: u32) {
+    fn sink(&mut self, var: u32, ranks: &[u64]) {
         let mut place = 0_u32;
         for _ in 0..DEPTH {
             let left = place.saturating_mul(2).saturating_add(1);
             if left >= self.held {
                 break;
             }
-            let child = self.first_child(left);
+            let child = self.first_child(left, ranks);
             let below = number_at(&self.heap, child);
-            if !self.is_before(below, var) {
+            if !self.is_before(below, var, ranks) {
                 break;
             }
             self.put(place, below);
@@ -183,12 +171,12 @@ impl Activity {
     }
 
     // Of a place and the next the one whose variable comes first.
-    fn first_child(&self, left: u32) -> u32 {
+    fn first_child(&self, left: u32, ranks: &[u64]) -> u32 {
         let right = left.saturating_add(1);
         if right < self.held {
             let on_left = number_at(&self.heap, left);
             let on_right = number_at(&self.heap, right);
-            if self.is_before(on_right, on_left) {
+            if self.is_before(on_right, on_left, ranks) {
                 return right;
             }
         }
@@ -196,14 +184,14 @@ impl Activity {
     }
 
     // Whether a variable is more active than another, or of greater rank, or smaller.
-    fn is_before(&self, var: u32, other: u32) -> bool {
+    fn is_before(&self, var: u32, other: u32, ranks: &[u64]) -> bool {
         let own = amount_at(&self.activities, var);
         let others = amount_at(&self.activities, other);
         if own != others {
             return own > others;
         }
-        let rank = amount_at(&self.ranks, var);
-        let other_rank = amount_at(&self.ranks, other);
+        let rank = amount_at(ranks, var);
+        let other_rank = amount_at(ranks, other);
         rank > other_rank || (rank == other_rank && var < other)
     }
 

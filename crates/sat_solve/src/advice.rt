@@ -41,11 +41,6 @@ impl Advice {
         self.activity.widen(vars)
     }
 
-    // Takes note of the ranks of the variables.
-    pub fn keep_ranks(&mut self, ranks: &[u64]) {
-        self.activity.keep_ranks(ranks);
-    }
-
     // How a variable last stood.
     pub fn phase(&self, var: u32) -> bool {
         match self.phases.get(var as usize) {
@@ -60,23 +55,23 @@ impl Advice {
     }
 
     // Takes the next suggestion.
-    pub fn suggest(&mut self) -> Option<u32> {
-        self.activity.take()
+    pub fn suggest(&mut self, ranks: &[u64]) -> Option<u32> {
+        self.activity.take(ranks)
     }
 
     // Keeps how a literal stood that is taken back, and suggests its variable again.
-    pub fn release(&mut self, lit: Lit) {
+    pub fn release(&mut self, lit: Lit, ranks: &[u64]) {
         if let Some(phase) = self.phases.get_mut(lit.var as usize) {
             *phase = lit.positive;
         }
-        self.activity.put_back(lit.var);
+        self.activity.put_back(lit.var, ranks);
     }
 
     // Takes note of a clause that was learnt, where the trail still stands as at the conflict.
-    pub fn note(&mut self, trail: &Trail, clauses: &Clauses, learnt: &Learnt) {
+    pub fn note(&mut self, trail: &Trail, clauses: &Clauses, learnt: &Learnt, ranks: &[u64]) {
         let hints = learnt.hints.as_slice();
         for place in hints.len().saturating_sub(learnt.from_conflict)..hints.len() {
-            self.bump(clauses, hints[place]);
+            self.bump(clauses, hints[place], ranks);
         }
         self.activity.end_conflict();
         let levels = self.levels.count(trail, learnt.clause.as_slice());
@@ -84,10 +79,10 @@ impl Advice {
     }
 
     // The variables of a clause take part in the present conflict.
-    fn bump(&mut self, clauses: &Clauses, id: ClauseId) {
+    fn bump(&mut self, clauses: &Clauses, id: ClauseId, ranks: &[u64]) {
         if id.0 > 0 && id.0 <= clauses.len() {
             for lit in clauses.clause(id) {
-                self.activity.bump(lit.var);
+                self.activity.bump(lit.var, ranks);
             }
         }
     }

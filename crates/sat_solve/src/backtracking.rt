@@ -87,7 +87,7 @@ fn release<R: Fn(u32) -> u64>(trail: &Trail, order: &mut Order<R>, advice: &mut 
 {
     let lit = trail.literal(place);
     order.put_back(lit.var);
-    advice.release(lit);
+    advice.release(lit, order.ranks());
 }
 
 // The level to go on from after a conflict: the present one, or at times that of the assumptions.

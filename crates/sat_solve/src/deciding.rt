@@ -19,20 +19,24 @@ pub fn pick<R: Fn(u32) -> u64>(
     ensures some { IfSome result (IsPicked trail.now.literals order.old.waiting order.new.waiting) }
     ensures none { IfNone result (AreClosed trail.now.literals (length order.old.waiting)) }
 {
-    if let Some(var) = first_suggested(trail, advice, order.vars()) {
+    if let Some(var) = first_suggested(trail, advice, order) {
         return Some(var);
     }
     first_waiting(trail, order)
 }
 
 // Takes the first suggestion that is known and open. Those that come before it are suggested no longer.
-fn first_suggested(trail: &Trail, advice: &mut Advice, vars: u32) -> Option<u32>
-    ensures known { IfSome result (λ var. var < vars) }
+fn first_suggested<R: Fn(u32) -> u64>(
+    trail: &Trail,
+    advice: &mut Advice,
+    order: &Order<R>,
+) -> Option<u32>
+    ensures known { IfSome result (λ var. var < length order.now.waiting) }
     ensures undecided { IfSome result (λ var. is_open trail.now.literals (record { var = var; positive = false }) ≡ true) }
 {
     for _ in 0..advice.suggestions() {
-        if let Some(var) = advice.suggest() {
-            if var < vars && trail.value(var).is_none() {
+        if let Some(var) = advice.suggest(order.ranks()) {
+            if var < order.vars() && trail.value(var).is_none() {
                 return Some(var);
             }
         }

@@ -9,8 +9,8 @@ use std::alloc::Global;
 // Of each level it keeps the number of the clause that it was counted for last.
 #[derive(Drop)]
 pub struct Levels {
-    counted: Vec<u64>,
-    clause: u64,
+    counted: Vec<u32>,
+    clause: u32,
 }
 
 impl Levels {

@@ -133,7 +133,13 @@ impl<R: Fn(u32) -> u64> Search<R> {
         let learnt = self.learner.analyse(&self.trail, book.clauses(), conflict)?;
         let id = book.put_learnt(learnt.clause.as_slice(), learnt.hints.as_slice())?;
         *budget -= 1;
-        note(&self.trail, &mut self.advice, book, &learnt);
+        note(
+            &self.trail,
+            &mut self.advice,
+            book,
+            &learnt,
+            self.order.ranks(),
+        );
         self.backtrack(learnt.level);
         self.trail.attach(book.clauses(), id);
         Ok(())
@@ -172,6 +178,6 @@ impl<R: Fn(u32) -> u64> Search<R> {
 }
 
 // Takes note of a clause that was learnt.
-fn note(trail: &Trail, advice: &mut Advice, book: &Ledger, learnt: &Learnt) {
-    advice.note(trail, book.clauses(), learnt);
+fn note(trail: &Trail, advice: &mut Advice, book: &Ledger, learnt: &Learnt, ranks: &[u64]) {
+    advice.note(trail, book.clauses(), learnt, ranks);
 }

@@ -91,7 +91,6 @@ impl<R: Fn(u32) -> u64> Solver<R> {
         self.search.learner.grow(vars)?;
         self.assignment.grow(vars)?;
         self.search.order.grow(vars)?;
-        self.search.advice.keep_ranks(self.search.order.ranks());
         self.search.vars = self.search.vars.max(vars);
         self.search.spare = self.search.spare.max(clauses);
         Ok(())
