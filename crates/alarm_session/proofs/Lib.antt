@@ -4,3 +4,4 @@ pub mod Keeping
 pub mod Drafting
 pub mod Joining
 pub mod Telling
+pub mod Rowing

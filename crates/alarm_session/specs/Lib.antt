@@ -1,3 +1,4 @@
 pub mod Labelled
 pub mod Refusals
 pub mod Session
+pub mod Rows

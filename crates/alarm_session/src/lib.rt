@@ -14,10 +14,12 @@ mod adding;
 mod asking;
 mod kept;
 mod refusal;
+mod rows;
 mod session;
 mod size;
 mod whole;
 
 pub use refusal::SessionRefusal;
+pub use rows::Told;
 pub use session::Session;
 pub use size::question_size;

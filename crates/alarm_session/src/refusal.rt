@@ -1,6 +1,6 @@
 // Why a session refuses an addition.
 ghost use Rattle.std.specs.Prelude.{◌≡◌};
-ghost use Rattle.alarm_session.specs.Refusals.{refusal_of};
+ghost use Rattle.alarm_session.specs.Refusals.{refusal_number, refusal_of};
 ghost use Rattle.alarm_session.specs.declared.refusal.SessionRefusal.TheVariants.{Memory as NoMemory};
 
 use des_base::Memory;
@@ -23,6 +23,23 @@ pub enum SessionRefusal {
     TooLarge { size: u64 },
     /// Memory ran out.
     Memory,
+}
+
+impl SessionRefusal {
+    /// The number by which it is told. A row is refused by the lowest that holds of it: 1 to 5, or 8. That of want of memory is 9.
+    pub fn number(self) -> u32
+        ensures { result ≡ refusal_number self }
+    {
+        match self {
+            SessionRefusal::Double => 1,
+            SessionRefusal::Unknown => 2,
+            SessionRefusal::Cycle => 3,
+            SessionRefusal::NoLabels => 4,
+            SessionRefusal::Limit => 5,
+            SessionRefusal::TooLarge { .. } => 8,
+            SessionRefusal::Memory => 9,
+        }
+    }
 }
 
 impl From<Memory> for SessionRefusal {

@@ -1,6 +1,7 @@
 // A session: a log that grows, and questions about it, over one book.
 ghost use Rattle.std.specs.Prelude.{◌≡◌, ◌≤◌, [], false, length, true, IfOk, OnErr, OnOk};
 ghost use Rattle.alarm_session.specs.Refusals.{Answers, alarm_answer, before_answer, is_new_pair, large_refusal, log_with, numbers_of};
+ghost use Rattle.alarm_session.specs.Rows.{IsLeftUndone, IsRowTold, after_row};
 ghost use Rattle.alarm_session.specs.Session.{Becomes, BeginsAs, IsSessionBook, IsToldBy, KeepsSetting, StaysSame};
 ghost use Rattle.des_base.specs.declared.TheConstants.{MOST_STEPS};
 ghost use Rattle.indep.specs.StoredTest.{IsTest};
@@ -14,11 +15,13 @@ use crate::adding::{put_alarm, put_before};
 use crate::asking::{ask_kept, begin};
 use crate::kept::{Kept, Setting};
 use crate::refusal::SessionRefusal;
+use crate::rows::{Told, carry_out_kept};
 use crate::whole::is_session_book;
 use des_base::{Memory, Name};
 use des_net::Network;
 use indep::Indep;
 use least_faults::Found;
+use log_csv::Row;
 use log_order::AlarmLog;
 use proof_ledger::Ledger;
 use sat_order::Order;
@@ -158,6 +161,25 @@ impl<'a, T: Fn(u32, u32) -> bool, R: Fn(u32) -> u64> Session<'a, T, R> {
             alloc: self.alloc,
         };
         ask_kept(setting, &mut self.kept, budget)
+    }
+
+    /// Carries out a row of a script: adds what it says, or asks what explains the log so far.
+    ///
+    /// After want of memory the session goes on.
+    pub fn carry_out(&mut self, row: &Row, budget: u64) -> Result<Told, Memory>
+        requires ranked { IsRanked R.pre R.post self.old.order }
+        ensures ranked { IsRanked R.pre R.post self.new.order }
+        ensures kept { KeepsSetting self.old self.new }
+        ensures told { IfOk result (IsRowTold self.old.net self.old.steps budget self.old.log row.now self.old.book self.new.book) }
+        ensures log { OnOk result (self.new.log ≡ after_row self.old.net self.old.steps self.old.log row.now) }
+        ensures undone { OnErr result (IsLeftUndone budget self.old.log row.now self.new.log self.old.book self.new.book) }
+    {
+        let setting = Setting {
+            net: self.net,
+            steps: self.steps,
+            alloc: self.alloc,
+        };
+        carry_out_kept(setting, row, &mut self.kept, budget)
     }
 
     /// The log so far.

@@ -1,0 +1,94 @@
+// The rows of a script: what each of them tells, and how it is carried out.
+ghost use Rattle.std.specs.Prelude.{◌≡◌, IfOk, OnOk, OnErr};
+ghost use Rattle.alarm_session.specs.Refusals.{Answers};
+ghost use Rattle.alarm_session.specs.Rows.{IsLeftUndone, IsRowTold, after_row, row_refusal, told_by, with_row};
+ghost use Rattle.alarm_session.specs.Session.{Becomes, IsRankedKept, StaysSame};
+
+use crate::adding::{put_alarm, put_before};
+use crate::asking::ask_kept;
+use crate::kept::{Kept, Setting};
+use crate::refusal::SessionRefusal;
+use crate::whole::is_session_book;
+use des_base::Memory;
+use least_faults::Found;
+use log_csv::Row;
+
+/// What a row of a script tells.
+#[derive(Drop)]
+pub enum Told {
+    /// The addition was made.
+    Made,
+    /// The addition was refused for this, which isn't want of memory.
+    Refused(SessionRefusal),
+    /// This was found of the log so far.
+    Answered(Found),
+}
+
+// Carries out a row of a script: adds what it says, or asks.
+pub fn carry_out_kept<R: Fn(u32) -> u64>(
+    setting: Setting<'_>,
+    row: &Row,
+    kept: &mut Kept<R>,
+    budget: u64,
+) -> Result<Told, Memory>
+    requires kept { IsRankedKept R.pre R.post setting.net.now setting.steps kept.old }
+    ensures kept { IsRankedKept R.pre R.post setting.entry.net.now setting.entry.steps kept.new }
+    ensures rank { kept.new.parts.solver.order.rank ≡ kept.old.parts.solver.order.rank }
+    ensures told { IfOk result (IsRowTold setting.entry.net.now setting.entry.steps budget kept.old.log row.now kept.old.book.entries kept.new.book.entries) }
+    ensures log { OnOk result (kept.new.log ≡ after_row setting.entry.net.now setting.entry.steps kept.old.log row.now) }
+    ensures undone { OnErr result (IsLeftUndone budget kept.old.log row.now kept.new.log kept.old.book.entries kept.new.book.entries) }
+{
+    match row {
+        Row::Ask => {
+            let found = ask_kept(setting, kept, budget)?;
+            is_session_book(setting, kept);
+            Ok(Told::Answered(found))
+        }
+        _ => {
+            let answer = put_row(setting, row, kept);
+            is_session_book(setting, kept);
+            told_by(answer)
+        }
+    }
+}
+
+// Adds what a row says; a question adds nothing.
+fn put_row<R: Fn(u32) -> u64>(
+    setting: Setting<'_>,
+    row: &Row,
+    kept: &mut Kept<R>,
+) -> Result<(), SessionRefusal>
+    requires kept { IsRankedKept R.pre R.post setting.net.now setting.steps kept.old }
+    ensures kept { IsRankedKept R.pre R.post setting.entry.net.now setting.entry.steps kept.new }
+    ensures rank { kept.new.parts.solver.order.rank ≡ kept.old.parts.solver.order.rank }
+    ensures refused { Answers result (row_refusal setting.entry.net.now setting.entry.steps kept.old.log row.now) }
+    ensures added { OnOk result (Becomes setting.entry.net.now setting.entry.steps kept.old.log (with_row kept.old.log row.now) kept.new.log kept.old.book.entries kept.new.book.entries) }
+    ensures same { OnErr result (StaysSame kept.old.log kept.new.log kept.old.book.entries kept.new.book.entries) }
+{
+    match row {
+        Row::Alarm { id, labels } => {
+            put_alarm(setting, id.copy()?, labels.as_slice(), false, kept)?;
+            Ok(())
+        }
+        Row::Maybe { id, labels } => {
+            put_alarm(setting, id.copy()?, labels.as_slice(), true, kept)?;
+            Ok(())
+        }
+        Row::Before { first, second } => {
+            put_before(setting, first, second, kept)?;
+            Ok(())
+        }
+        Row::Ask => Ok(()),
+    }
+}
+
+// What an addition tells that was made or refused.
+fn told_by(answer: Result<(), SessionRefusal>) -> Result<Told, Memory>
+    ensures { result ≡ told_by answer }
+{
+    match answer {
+        Ok(()) => Ok(Told::Made),
+        Err(SessionRefusal::Memory) => Err(Memory),
+        Err(refusal) => Ok(Told::Refused(refusal)),
+    }
+}
