@@ -9,7 +9,7 @@ use Rattle.replay.specs.declared.run.RunStep.{RunStep}
 use Rattle.replay.specs.declared.run.RunStep.TheVariants.{Happens, Dropped}
 use Rattle.replay.specs.declared.replaying.Replayed.TheVariants.{Missing, Order}
 use Rattle.replay.specs.declared.tracing.Traced.TheVariants.{Stuck}
-use Rattle.report.specs.Replies.{text_of_traced, text_of_replayed, text_of_checked, text_of_run, text_of_found}
+use Rattle.report.specs.Replies.{text_of_traced, text_of_replayed, text_of_checked, text_of_refused, text_of_run, text_of_found}
 
 pub third_event_stuck : text_of_traced (Stuck 3) ≡ codes "REJECTED STUCK 3\n"
 unfolding digits
@@ -24,6 +24,10 @@ alarms_turned = refl
 pub no_empty_clause : text_of_checked (Rejected 0 4) ≡ codes "REJECTED 0 4\n"
 unfolding digits
 no_empty_clause = refl
+
+pub cycle_refused : text_of_refused 3 ≡ codes "REFUSED 3\n"
+unfolding digits
+cycle_refused = refl
 
 pub nothing_happened : text_of_run pump [] ≡ codes "run 0\n"
 unfolding digits

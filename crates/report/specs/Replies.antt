@@ -51,6 +51,10 @@ abbrev pub text_of_checked : Checked → List ℕ
 text_of_checked Verified = codes "VERIFIED\n"
 text_of_checked (Rejected line kind) = placed (codes "REJECTED ") line kind
 
+-- by the number of the refusal
+abbrev pub text_of_refused : ℕ → List ℕ
+text_of_refused number = numbered (codes "REFUSED ") number
+
 -- ---- runs
 
 -- a space and the name of an alarm, where there is one

@@ -9,6 +9,7 @@
 mod checked;
 mod found;
 mod pieces;
+mod refused;
 mod replayed;
 mod run;
 mod theorems;
@@ -16,6 +17,7 @@ mod traced;
 
 pub use checked::print_checked;
 pub use found::print_found;
+pub use refused::print_refused;
 pub use replayed::print_replayed;
 pub use run::print_run;
 pub use theorems::{replies_fit, replies_read_back, runs_read_back};
