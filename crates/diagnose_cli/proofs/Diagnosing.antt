@@ -8,12 +8,12 @@ use Rattle.least_faults.specs.declared.answer.Found.{Found}
 use Rattle.least_faults.specs.declared.parts.Parts.{Parts}
 use Rattle.least_faults.specs.Answers.{IsAnswered}
 use Rattle.least_faults.specs.Growing.{AddsAxioms}
-use Rattle.least_faults.specs.Parts.{IsBuilt}
+use Rattle.least_faults.specs.Parts.{IsBuilt, built_of}
 use Rattle.log_order.specs.Adding.{IsLog}
 use Rattle.log_order.specs.Log.{Log}
 use Rattle.proof_ledger.specs.Book.{BookEntry, axiomatic, axioms_of, IsValidBook}
 use Rattle.prop_core.specs.VariableNames.{Name}
-use Rattle.run_decode.specs.QuestionAxioms.{BuiltQuestion, question_axioms}
+use Rattle.run_decode.specs.QuestionAxioms.{BuiltQuestion, question_axioms, question_built}
 use Rattle.diagnose_cli.specs.Commands.{AnswersQuestion}
 use Rattle.diagnose_cli.specs.Diagnosed.{IsDiagnosed}
 use Rattle.diagnose_cli.proofs.RepliesReplay.{run_replays}
@@ -35,21 +35,26 @@ axioms_begin net log n parts old book empty adds none built = is ∙ ap (λ axio
     all : axioms_of book ≡ adds.axioms
     all = ap axioms_of is ∙ axioms_added [] adds.axioms
 
+-- which are the question without columns
+pub question_begins : {R : Type 0} (net : Net) (log : Log) (n : ℕ) (parts : Parts R) (book : List BookEntry) → parts.counter.columns ≡ [] → IsBuilt net log n parts book → built_of parts book ≡ question_built net log n 0
+question_begins net log n parts book none built = built.determined ∙ ap (λ (columns : List (List ℕ)). question_built net log n (length columns)) none
+
 -- what was found then, by parts that are still those that were built
-pub diagnosed_by : {R : Type 0} (names : List (ℕ × Name)) (net : Net) (log : Log) (n steps budget : ℕ) (parts : Parts R) (built new : List BookEntry) (found : Found) → built ≡ map axiomatic (question_axioms net log n 0) → IsBuilt net log n parts new → steps ≡ n
-    → IsAnswered names net log steps budget built new found → IsValidBook new → IsDiagnosed net log n budget new found
-diagnosed_by names net log n steps budget parts built new found begun determined same answered valid = record {
+pub diagnosed_by : {R : Type 0} (names : List (ℕ × Name)) (first : BuiltQuestion) (net : Net) (log : Log) (n steps budget : ℕ) (parts : Parts R) (built new : List BookEntry) (found : Found) → first ≡ question_built net log n 0 → built ≡ map axiomatic (question_axioms net log n 0) → IsBuilt net log n parts new → steps ≡ n
+    → IsAnswered names first net log steps budget built new found → IsValidBook new → IsDiagnosed net log n budget new found
+diagnosed_by names first net log n steps budget parts built new found is_first begun determined same answered valid = record {
   names = names;
-  answered = subst (λ (o : List BookEntry). IsAnswered names net log n budget o new found) begun (subst (λ (k : ℕ). IsAnswered names net log k budget built new found) same answered);
+  answered = subst (λ (q : BuiltQuestion). IsAnswered names q net log n budget (map axiomatic (question_axioms net log n 0)) new found) is_first
+      (subst (λ (o : List BookEntry). IsAnswered names first net log n budget o new found) begun (subst (λ (k : ℕ). IsAnswered names first net log k budget built new found) same answered));
   columns = length parts.counter.columns;
   axioms = ap (λ (q : BuiltQuestion). q.axioms) determined.determined;
   valid = valid;
 }
 
 -- and its run replays
-pub answers_question : {R : Type 0} (names : List (ℕ × Name)) (net : Net) (log : Log) (n steps budget : ℕ) (parts : Parts R) (built new : List BookEntry) (found : Found) → built ≡ map axiomatic (question_axioms net log n 0) → IsBuilt net log n parts new → steps ≡ n
-    → IsNetwork net → IsDraft net → IsLog log → n ≤ 1000 → IsValidBook new → IsAnswered names net log steps budget built new found → AnswersQuestion net log n budget new found
-answers_question names net log n steps budget parts built new found begun determined same network whole log_whole few valid answered = record {
-  diagnosed = diagnosed_by names net log n steps budget parts built new found begun determined same answered valid;
+pub answers_question : {R : Type 0} (names : List (ℕ × Name)) (first : BuiltQuestion) (net : Net) (log : Log) (n steps budget : ℕ) (parts : Parts R) (built new : List BookEntry) (found : Found) → first ≡ question_built net log n 0 → built ≡ map axiomatic (question_axioms net log n 0) → IsBuilt net log n parts new → steps ≡ n
+    → IsNetwork net → IsDraft net → IsLog log → n ≤ 1000 → IsValidBook new → IsAnswered names first net log steps budget built new found → AnswersQuestion net log n budget new found
+answers_question names first net log n steps budget parts built new found is_first begun determined same network whole log_whole few valid answered = record {
+  diagnosed = diagnosed_by names first net log n steps budget parts built new found is_first begun determined same answered valid;
   replays = run_replays _ _ answered.since net log steps budget found n network whole log_whole few (sym same) answered.found;
 }

@@ -11,9 +11,10 @@ use Rattle.least_faults.proofs.AxiomLists.{axioms_added, clauses_added, adds_bot
 use Rattle.least_faults.proofs.Assuming.{assumed_below, with_bound, without_bound}
 use Rattle.least_faults.proofs.Below.{axioms_below}
 use Rattle.least_faults.proofs.Posing.{poses}
-use Rattle.least_faults.proofs.Staying.{belong_still}
+use Rattle.least_faults.proofs.Staying.{belong_still, built_still}
 use Rattle.least_faults.specs.declared.parts.Parts.{Parts}
 use Rattle.least_faults.specs.Asking.{AreAssumptions}
+use Rattle.least_faults.specs.Columns.{columns_for}
 use Rattle.least_faults.specs.Evidence.{IsPosed}
 use Rattle.least_faults.specs.Growing.{AddsAxioms, KeepsQuestion}
 use Rattle.least_faults.specs.Parts.{AreParts, AreReady, BelongTo, IsBuilt, built_of, names_of}
@@ -41,7 +42,7 @@ use Rattle.run_decode.specs.Question.{Asks, HasColumn, IsNamedQuestion}
 use Rattle.run_decode.specs.QuestionAxioms.{BuiltQuestion, question_built}
 use Rattle.run_decode.specs.WholeNaming.{whole_names}
 use Rattle.step_encode.specs.Coded.{CodedSteps}
-use Rattle.diagnose_cli.specs.Formula.{AreAssumed, IsFormulaOf, IsSatisfiable, assumed_by, bound_within, columns_for, counted_bound, question_assumed, question_formula, question_within}
+use Rattle.diagnose_cli.specs.Formula.{AreAssumed, IsFormulaOf, IsSatisfiable, assumed_by, bound_within, counted_bound, question_assumed, question_formula, question_within}
 
 -- ---- what makes it true
 
@@ -207,7 +208,7 @@ module _ {R : Type 0} (may : R → ℕ → Type 0) (gives : R → ℕ → ℕ �
   columns_are = let none = ap (λ (columns : List (List ℕ)). length columns) a.none in let more = a.assumes.columns in let all : length parts.counter.columns ≡ columns_for counted = omega (arith, none, more) in all ∙ ap columns_for counted_is
 
   question_is : built_of parts book ≡ question_within net log n bound
-  question_is = (a.keeps.built net log n a.begun).determined ∙ ap (question_built net log n) columns_are
+  question_is = (built_still net log n old parts a.keeps a.begun).determined ∙ ap (question_built net log n) columns_are
 
   assumed_is : assumed ≡ question_assumed net log n bound
   assumed_is = a.assumes.listed ∙ ap (assumed_by parts.code.code parts.counter) counted_is ∙ ap (λ (q : BuiltQuestion). assumed_by q.code q.counter (bound_within net log n bound)) question_is

@@ -1,20 +1,23 @@
 -- The refutation that a search leaves in its book: what it assumes, and what it refutes.
 use Rattle.std.proofs.Common.{◌≡◌, ◌∙◌, ◌⊎◌, inl, inr, ℕ, zero, suc, ◌+◌, ◌-◌, ◌<◌, Bool, true, false, List, [], ◌∷◌, ◌++◌, length, map, nat_eq, Option, Some, None, IfSome, Result, Ok, Err, IfOk, refl, sym, ap, subst, append-nil, append_assoc, arith, Contains, slice_index_or, option_map}
 use Rattle.std.specs.Prelude.{IsTrue, ◌||◌, if◌then◌else◌}
-use Rattle.std.specs.List.{list_any, range_with_len}
+use Rattle.std.specs.List.{flat_map, list_any, range_with_len}
 use Rattle.std.proofs.lemmas.Bool.Decides.{nat_tests}
 use Rattle.std.proofs.lemmas.List.Elements.{filter_map-append, Contains-append_cases, Contains-append_right}
 use Rattle.std.proofs.lemmas.List.Folds.{list_any-append}
 use Rattle.card_counter.proofs.NameLemmas.{counter_names_stand}
-use Rattle.card_counter.specs.CounterState.{CounterState, bound_literal, counter_names, negative, var_at, with_column}
+use Rattle.card_counter.specs.CounterState.{CounterState, bound_literal, column_before, counter_names, input_at, negative, next_clauses, place_clauses, var_at, with_column}
 use Rattle.des_base.proofs.Elements.{all_at, all_from, cons_cases, here_first, map_from, map_has, none_in_nil}
+use Rattle.des_base.specs.Lists.{numbers_below}
 use Rattle.des_net.specs.Network.{Net, IsNetwork}
 use Rattle.least_faults.proofs.AxiomLists.{axioms_added}
+use Rattle.least_faults.proofs.ColumnsBuilt.{question_within_bound}
 use Rattle.least_faults.specs.declared.answer.Found.{Found}
 use Rattle.least_faults.specs.declared.answer.Found.TheVariants.{Explained, Absent, Many, Undecided}
 use Rattle.least_faults.specs.declared.parts.Parts.{Parts}
 use Rattle.least_faults.specs.Answers.{IsAnswered}
 use Rattle.least_faults.specs.Asking.{bound_part}
+use Rattle.least_faults.specs.Columns.{columns_for}
 use Rattle.least_faults.specs.Evidence.{HasLastFinal, IsEvidence, IsPosed, is_final}
 use Rattle.least_faults.specs.Parts.{AreReady, BelongTo, IsBuilt, names_of}
 use Rattle.log_clauses.proofs.Codes.{IsReadOf, named_entry, read_of}
@@ -25,7 +28,7 @@ use Rattle.proof_ledger.specs.Checking.{check_proof}
 use Rattle.proof_ledger.specs.declared.checker.ProofStep.{ProofStep}
 use Rattle.proof_ledger.specs.declared.checker.Checked.TheVariants.{Verified}
 use Rattle.proof_text.proofs.Fronts.{front_ends}
-use Rattle.proof_text.specs.Refutation.{EndsIn, front_to, refuted_formula, refutation_steps}
+use Rattle.proof_text.specs.Refutation.{EndsIn, front_to, refuted_formula, refutation_steps, units}
 use Rattle.prop_core.proofs.Listed.{clause_written}
 use Rattle.prop_core.specs.Clauses.{Clause, NegatesOnly, negation, literal_true, AllLiteralsTrue}
 use Rattle.prop_core.specs.Listings.{literal_by}
@@ -36,11 +39,11 @@ use Rattle.run_decode.proofs.Nameless.{nameless_inputs}
 use Rattle.run_decode.proofs.RunNames.{is_step, log_entry, step_entry}
 use Rattle.run_decode.proofs.WholeNames.{together_one_naming}
 use Rattle.run_decode.specs.Drawn.{assumption_literals, at_most, fault_inputs}
-use Rattle.run_decode.specs.QuestionAxioms.{BuiltQuestion, question_built}
+use Rattle.run_decode.specs.QuestionAxioms.{BuiltQuestion, question_axioms, question_built}
 use Rattle.run_decode.specs.WholeNaming.{AreCodedTogether, whole_names}
 use Rattle.log_clauses.specs.LogClauses.{guard_literals}
 use Rattle.step_encode.specs.Coded.{CodedSteps, code_names as step_names}
-use Rattle.diagnose_cli.specs.Formula.{AreAssumed, assumed_by, bound_within, columns_for, counted_bound, question_assumed, question_within}
+use Rattle.diagnose_cli.specs.Formula.{AreAssumed, assumed_by, bound_within, counted_bound, question_assumed, question_formula, question_within}
 use Rattle.diagnose_cli.specs.Proof.{HasColumn, HasEvidence, HasEvidenceFor, IsLastFinal, IsRefuted}
 use Rattle.diagnose_cli.proofs.Formulas.{posed_by}
 use Rattle.diagnose_cli.proofs.LastFinals.{has_final, last_found}
@@ -239,6 +242,27 @@ assumed_same net log n bound parts book assumed built column listed = listed ∙
         ∙ ap (λ (ls : List Lit). map (literal_by (read_names (question_within net log n bound).code)) (guard_literals (question_within net log n bound).code.net (question_within net log n bound).code.log) ++ ls)
         (bound_same net log n columns (bound_within net log n bound) there)
 
+-- ---- the axioms with the columns for a bound are those of the formula
+
+-- a column of no inputs says nothing
+none_in_column : (counter : CounterState) (first : ℕ) → length counter.inputs ≡ 0 → next_clauses counter first ≡ []
+none_in_column counter first none =
+    ap (λ (count : ℕ). flat_map (λ i. place_clauses (input_at counter.inputs i) (column_before counter.columns (length counter.columns)) (range_with_len first (length counter.inputs)) i) (numbers_below count)) none
+
+columns_alone : (net : Net) (log : Log) (n columns : ℕ) → length (question_built net log n 0).counter.inputs ≡ 0 → question_axioms net log n columns ≡ question_axioms net log n 0
+columns_alone net log n zero none = refl
+columns_alone net log n (suc columns) none =
+    let before = question_built net log n columns in
+    ap (λ (cs : List Clause). before.axioms ++ cs) (none_in_column before.counter before.vars (ap length (inputs_same net log n columns) ∙ none)) ∙ append-nil before.axioms ∙ columns_alone net log n columns none
+
+-- so it doesn't matter whether the bound is counted
+within_counted : (net : Net) (log : Log) (n : ℕ) (bound : Option ℕ) → question_axioms net log n (columns_for bound) ≡ (question_within net log n bound).axioms
+within_counted net log n bound = by (nat_eq (length (question_built net log n 0).counter.inputs) 0) refl
+  where
+    by : (none : Bool) → nat_eq (length (question_built net log n 0).counter.inputs) 0 ≡ none → question_axioms net log n (columns_for bound) ≡ question_axioms net log n (columns_for (if none then None else bound))
+    by true none = columns_alone net log n (columns_for bound) (grind (arith, nat_tests))
+    by false some = refl
+
 -- ---- all of it
 
 module _ {R : Type 0} (may : R → ℕ → Type 0) (gives : R → ℕ → ℕ → Type 0) (net : Net) (log : Log) (parts : Parts R) (book : List BookEntry) (bound : Option ℕ) (belong : BelongTo net log parts) (ready : AreReady may gives parts book)
@@ -266,16 +290,19 @@ module _ {R : Type 0} (may : R → ℕ → Type 0) (gives : R → ℕ → ℕ �
     abbrev refuted : HasLastFinal e.since e.evidence.assumed
     refuted = e.evidence.refuted
 
+    abbrev first : List Clause
+    first = question_axioms net log parts.step.steps 0
+
     abbrev before : List BookEntry
-    before = map axiomatic e.first ++ mark 0 ∷ refuted.earlier
+    before = map axiomatic first ++ mark 0 ∷ refuted.earlier
 
     split : book ≡ before ++ final refuted.clause refuted.hints ∷ (refuted.later ++ mark 1 ∷ [])
     split =
         e.whole
-        ∙ append_assoc (map axiomatic e.first) (mark 0 ∷ e.since) (mark 1 ∷ [])
-        ∙ ap (λ (es : List BookEntry). map axiomatic e.first ++ mark 0 ∷ es)
+        ∙ append_assoc (map axiomatic first) (mark 0 ∷ e.since) (mark 1 ∷ [])
+        ∙ ap (λ (es : List BookEntry). map axiomatic first ++ mark 0 ∷ es)
         (ap (λ (es : List BookEntry). es ++ mark 1 ∷ []) refuted.whole ∙ append_assoc refuted.earlier (final refuted.clause refuted.hints ∷ refuted.later) (mark 1 ∷ []))
-        ∙ sym (append_assoc (map axiomatic e.first) (mark 0 ∷ refuted.earlier) (final refuted.clause refuted.hints ∷ (refuted.later ++ mark 1 ∷ [])))
+        ∙ sym (append_assoc (map axiomatic first) (mark 0 ∷ refuted.earlier) (final refuted.clause refuted.hints ∷ (refuted.later ++ mark 1 ∷ [])))
 
     none_later : list_any is_final (refuted.later ++ mark 1 ∷ []) ≡ false
     none_later = list_any-append is_final refuted.later (mark 1 ∷ []) ∙ by (list_any is_final refuted.later) refuted.last
@@ -299,8 +326,8 @@ module _ {R : Type 0} (may : R → ℕ → Type 0) (gives : R → ℕ → ℕ �
     unfolding ends_in
     front_is last found = front_ends book assumed last (ends_in last found)
 
-    axioms_before : axioms_of before ≡ e.first ++ axioms_of refuted.earlier
-    axioms_before = filter_map-append axiom_of (map axiomatic e.first) (mark 0 ∷ refuted.earlier) ∙ ap (λ (cs : List Clause). cs ++ axioms_of refuted.earlier) (axioms_added [] e.first)
+    axioms_before : axioms_of before ≡ first ++ axioms_of refuted.earlier
+    axioms_before = filter_map-append axiom_of (map axiomatic first) (mark 0 ∷ refuted.earlier) ∙ ap (λ (cs : List Clause). cs ++ axioms_of refuted.earlier) (axioms_added [] first)
 
     pub is_refuted : (last : ℕ) (steps : List ProofStep) → IsLastFinal book last → IsBuilt net log parts.step.steps parts book → steps ≡ refutation_steps (front_to last book) assumed → check_proof (refuted_formula (front_to last book) assumed) steps ≡ Verified →
         IsRefuted net log parts.step.steps bound book steps
@@ -310,39 +337,43 @@ module _ {R : Type 0} (may : R → ℕ → Type 0) (gives : R → ℕ → ℕ �
       names = names;
       posed = subst (λ (xs : List Lit). IsPosed names (axioms_of (front_to last book)) xs net log parts.step.steps bound) is
           (subst (λ (cs : List Clause). IsPosed names cs assumed net log parts.step.steps bound) (sym front)
-          (posed_alike names (e.first ++ axioms_of refuted.earlier) (axioms_of book) e.evidence.assumed assumed net log parts.step.steps bound e.evidence.posed_before posed));
+          (posed_alike names (first ++ axioms_of refuted.earlier) (axioms_of book) e.evidence.assumed assumed net log parts.step.steps bound e.evidence.posed_before posed));
+      listed = listed;
       steps_are = subst (λ (xs : List Lit). steps ≡ refutation_steps (front_to last book) xs) is steps_are;
-      verified = subst (λ (xs : List Lit). check_proof (refuted_formula (front_to last book) xs) steps ≡ Verified) is verified;
+      verified = subst (λ (cs : List Clause). check_proof (cs ++ units (question_assumed net log parts.step.steps bound)) steps ≡ Verified) listed
+          (subst (λ (xs : List Lit). check_proof (refuted_formula (front_to last book) xs) steps ≡ Verified) is verified);
     }
       where
-        front : axioms_of (front_to last book) ≡ e.first ++ axioms_of refuted.earlier
+        front : axioms_of (front_to last book) ≡ first ++ axioms_of refuted.earlier
         front =
             let same = last_found book before refuted.clause refuted.hints (refuted.later ++ mark 1 ∷ []) last found split none_later in
             ap axioms_of (front_is last found) ∙ filter_map-append axiom_of found.before (final found.clause found.hints ∷ []) ∙ append-nil (axioms_of found.before) ∙ ap axioms_of same.earlier ∙ axioms_before
+
+        listed : axioms_of (front_to last book) ≡ (question_within net log parts.step.steps bound).axioms
+        listed =
+            front ∙ e.evidence.listed ∙ ap (λ (question : BuiltQuestion). question.axioms) (question_within_bound net log parts.step.steps bound)
+            ∙ within_counted net log parts.step.steps bound
 
         is : assumed ≡ question_assumed net log parts.step.steps bound
         is = assumed_same net log parts.step.steps bound parts book assumed built has_column assumes.listed
 
 -- ---- what was found
 
-evidence_within : {R : Type 0} (net : Net) (log : Log) (parts : Parts R) (first : List Clause) (since book : List BookEntry) (bound : Option ℕ) → book ≡ map axiomatic first ++ mark 0 ∷ since ++ mark 1 ∷ [] →
-    IsEvidence (names_of parts) (axioms_of (map axiomatic first)) since net log parts.step.steps bound → HasEvidence net log parts book bound
-evidence_within net log parts first since book bound whole evidence = record {
-  first = first;
-  since = since;
-  whole = whole;
-  evidence = subst (λ (cs : List Clause). IsEvidence (names_of parts) cs since net log parts.step.steps bound) (axioms_added [] first) evidence;
-}
+evidence_within : {R : Type 0} (net : Net) (log : Log) (parts : Parts R) (since book : List BookEntry) (bound : Option ℕ) → book ≡ map axiomatic (question_axioms net log parts.step.steps 0) ++ mark 0 ∷ since ++ mark 1 ∷ [] →
+    IsEvidence (names_of parts) (question_built net log parts.step.steps 0) since net log parts.step.steps bound → HasEvidence net log parts book bound
+evidence_within net log parts since book bound whole evidence = record { since = since; whole = whole; evidence = evidence }
 
 -- the book has evidence for the bound that it refutes
-pub evidence_for : {R : Type 0} (net : Net) (log : Log) (parts : Parts R) (budget : ℕ) (first : List Clause) (old book : List BookEntry) (found : Found) → old ≡ map axiomatic first → IsAnswered (names_of parts) net log parts.step.steps budget old book found →
-    HasEvidenceFor net log parts book found
-evidence_for net log parts budget first old book found begun answered = by found (subst (λ (o : List BookEntry). IsAnswered (names_of parts) net log parts.step.steps budget o book found) begun answered)
+pub evidence_for : {R : Type 0} (net : Net) (log : Log) (n : ℕ) (parts : Parts R) (budget : ℕ) (begun : BuiltQuestion) (old book : List BookEntry) (found : Found) → parts.step.steps ≡ n → begun ≡ question_built net log n 0 →
+    old ≡ map axiomatic (question_axioms net log n 0) → IsAnswered (names_of parts) begun net log parts.step.steps budget old book found → HasEvidenceFor net log parts book found
+evidence_for net log n parts budget begun old book found steps is_first is_old answered =
+    by found (subst (λ (q : BuiltQuestion). IsAnswered (names_of parts) q net log parts.step.steps budget (map axiomatic (question_axioms net log parts.step.steps 0)) book found) (is_first ∙ ap (λ k. question_built net log k 0) (sym steps))
+    (subst (λ (o : List BookEntry). IsAnswered (names_of parts) begun net log parts.step.steps budget o book found) (is_old ∙ ap (λ k. map axiomatic (question_axioms net log k 0)) (sym steps)) answered))
   where
-    by : (f : Found) → IsAnswered (names_of parts) net log parts.step.steps budget (map axiomatic first) book f → HasEvidenceFor net log parts book f
-    by (Explained best) a = (a.found.few, λ k is. evidence_within net log parts first a.since book (Some k) a.whole (a.found.evidence k is))
-    by Absent a = evidence_within net log parts first a.since book None a.whole a.found.evidence
-    by (Many best) a = evidence_within net log parts first a.since book (Some 255) a.whole a.found.evidence
+    by : (f : Found) → IsAnswered (names_of parts) (question_built net log parts.step.steps 0) net log parts.step.steps budget (map axiomatic (question_axioms net log parts.step.steps 0)) book f → HasEvidenceFor net log parts book f
+    by (Explained best) a = (a.found.few, λ k is. evidence_within net log parts a.since book (Some k) a.whole (a.found.evidence k is))
+    by Absent a = evidence_within net log parts a.since book None a.whole a.found.evidence
+    by (Many best) a = evidence_within net log parts a.since book (Some 255) a.whole a.found.evidence
     by (Undecided lo best) a = tt
 
 pub ok_both : {A B : Type 0} (r : Result A B) (P Q S : A → Type 0) → ((a : A) → P a → Q a → S a) → IfOk r P → IfOk r Q → IfOk r S

@@ -11,12 +11,12 @@ use Rattle.least_faults.proofs.KnownEvents.{run_known}
 use Rattle.log_order.specs.Adding.{IsLog}
 use Rattle.log_order.specs.Log.{Log}
 use Rattle.proof_ledger.specs.Book.{BookEntry}
-use Rattle.prop_core.specs.Clauses.{Clause}
 use Rattle.prop_core.specs.VariableNames.{Name}
 use Rattle.replay.specs.Replayed.{IsAccepted}
 use Rattle.replay.specs.Traced.{word_of}
 use Rattle.replay.specs.declared.run.RunStep.{RunStep}
 use Rattle.report.specs.Replies.{text_of_found}
+use Rattle.run_decode.specs.QuestionAxioms.{BuiltQuestion}
 use Rattle.diagnose_cli.specs.Commands.{Replays, RunReplays}
 use Rattle.report.specs.ReadBack.{IsPrintable, IsRunText}
 use Rattle.diagnose_cli.proofs.MatchedNames.{printable}
@@ -45,8 +45,8 @@ replays net log n best reply given read short = record {
   accepted = subst (λ (steps : List RunStep). IsAccepted net log steps n best.faults) (sym read.value) (accepted net log n best given);
 }
 
-module _ (names : List (ℕ × Name)) (axioms : List Clause) (since : List BookEntry) (net : Net) (log : Log) (n budget : ℕ) where
-  found_replays : (found : Found) → IsNetwork net → IsDraft net → IsLog log → n ≤ 1000 → IsFound names axioms since net log n budget found → RunReplays net log n found
+module _ (names : List (ℕ × Name)) (first : BuiltQuestion) (since : List BookEntry) (net : Net) (log : Log) (n budget : ℕ) where
+  found_replays : (found : Found) → IsNetwork net → IsDraft net → IsLog log → n ≤ 1000 → IsFound names first since net log n budget found → RunReplays net log n found
   found_replays (Explained best) network whole log_whole few h =
       let fine = printable_run net log n best network whole log_whole few h.given in
       replays net log n best (text_of_found net n (Explained best)) h.given (replies_read_back net n (Explained best) whole fine) (replies_fit net n (Explained best) whole fine)
@@ -60,6 +60,6 @@ module _ (names : List (ℕ × Name)) (axioms : List Clause) (since : List BookE
       replays net log n best (text_of_found net n (Undecided lo (Some best))) h.given.0 (replies_read_back net n (Undecided lo (Some best)) whole fine) (replies_fit net n (Undecided lo (Some best)) whole fine)
 
   -- where the question was asked within as many steps
-  pub run_replays : (found : Found) (steps : ℕ) → IsNetwork net → IsDraft net → IsLog log → steps ≤ 1000 → steps ≡ n → IsFound names axioms since net log n budget found → RunReplays net log steps found
+  pub run_replays : (found : Found) (steps : ℕ) → IsNetwork net → IsDraft net → IsLog log → steps ≤ 1000 → steps ≡ n → IsFound names first since net log n budget found → RunReplays net log steps found
   run_replays found steps network whole log_whole few same h =
       subst (λ (k : ℕ). RunReplays net log k found) (sym same) (found_replays found network whole log_whole (omega (arith, few, same)) h)

@@ -22,7 +22,7 @@ use Rattle.prop_core.specs.Clauses.{Clause}
 use Rattle.replay.specs.Explanation.{IsAbsent}
 use Rattle.replay.specs.QuestionSize.{variable_bound}
 use Rattle.report.specs.Replies.{text_of_found}
-use Rattle.run_decode.specs.QuestionAxioms.{question_axioms}
+use Rattle.run_decode.specs.QuestionAxioms.{question_axioms, question_built}
 use Rattle.diagnose_cli.specs.declared.command.Command.TheVariants.{Check, Diagnose}
 use Rattle.diagnose_cli.specs.declared.ending.Kind.{Kind}
 use Rattle.diagnose_cli.specs.Endings.{status_of_kind}
@@ -132,7 +132,7 @@ undecided_small net alarms steps budget book (Explained best) is holds enough = 
 undecided_small net alarms steps budget book Absent is holds enough = absurd (omega arith)
 undecided_small net alarms steps budget book (Many best) is holds enough = absurd (omega arith)
 undecided_small net alarms steps budget book (Undecided lo best) is holds enough =
-    let small = undecided_is_small holds.names net alarms steps budget lo best (map axiomatic (question_axioms net alarms steps 0)) book holds.answered in
+    let small = undecided_is_small holds.names (question_built net alarms steps 0) net alarms steps budget lo best (map axiomatic (question_axioms net alarms steps 0)) book holds.answered in
     omega (arith, small, enough)
 
 module _ (o : Outcome) (ends : Ends o) where

@@ -1,9 +1,10 @@
 -- A question as a formula of its own: network, log, n and the bound determine it, and some assignment makes it true just where something explains the log within the bound.
-use Rattle.std.specs.Prelude.{◌≡◌, ◌↔◌, ℕ, ◌+◌, Bool, All, List, ◌++◌, length, map, max, nat_eq, Option, None, Some, if◌then◌else◌}
+use Rattle.std.specs.Prelude.{◌≡◌, ◌↔◌, ℕ, Bool, All, List, ◌++◌, length, map, max, nat_eq, Option, None, Some, if◌then◌else◌}
 use Rattle.card_counter.specs.CounterState.{CounterState}
 use Rattle.des_net.specs.Network.{Net}
 use Rattle.least_faults.specs.declared.parts.Parts.{Parts}
 use Rattle.least_faults.specs.Asking.{AreAssumptions, bound_part}
+use Rattle.least_faults.specs.Columns.{columns_for}
 use Rattle.least_faults.specs.Evidence.{IsPosed}
 use Rattle.log_clauses.specs.LogClauses.{guard_literals}
 use Rattle.log_encode.specs.CodedLog.{CodedLog, read_names}
@@ -27,11 +28,6 @@ counted_bound counter bound = if nat_eq (length counter.inputs) 0 then None else
 -- the bound, where there is a fault to count
 abbrev pub bound_within : Net → Log → ℕ → Option ℕ → Option ℕ
 bound_within net log n bound = counted_bound (question_built net log n 0).counter bound
-
--- at most k faults are told by the column after k others
-abbrev pub columns_for : Option ℕ → ℕ
-columns_for None = 0
-columns_for (Some k) = k + 1
 
 -- the question, built with the columns that the bound needs
 abbrev pub question_within : Net → Log → ℕ → Option ℕ → BuiltQuestion

@@ -13,10 +13,11 @@ use Rattle.proof_ledger.specs.Book.{BookEntry, axiomatic, final, mark, axioms_of
 use Rattle.proof_ledger.specs.Checking.{check_proof}
 use Rattle.proof_ledger.specs.declared.checker.ProofStep.{ProofStep}
 use Rattle.proof_ledger.specs.declared.checker.Checked.TheVariants.{Verified}
-use Rattle.proof_text.specs.Refutation.{EndsIn, front_to, refuted_formula, refutation_steps}
+use Rattle.proof_text.specs.Refutation.{EndsIn, front_to, refutation_steps}
 use Rattle.prop_core.specs.Clauses.{Clause}
 use Rattle.prop_core.specs.VariableNames.{Name}
-use Rattle.diagnose_cli.specs.Formula.{counted_bound, question_assumed}
+use Rattle.run_decode.specs.QuestionAxioms.{question_axioms, question_built}
+use Rattle.diagnose_cli.specs.Formula.{counted_bound, question_assumed, question_formula, question_within}
 
 -- the word with which `cnf` is asked for the bound
 abbrev pub bound_word : Option ℕ → List ℕ
@@ -28,14 +29,15 @@ abbrev pub proof_head : Option ℕ → List ℕ
 proof_head bound = codes "c cnf " ++ bound_word bound ++ 10 ∷ []
 
 -- The steps are the refutation that the book holds up to a final clause, of negations of what the question assumes within the bound. With this the axioms
--- before that clause pose the question within the bound, and of the formula that has these axioms and a unit clause for each assumption the steps are verified.
+-- before that clause pose the question within the bound. They are, in their order, those of the formula of the question within the bound, and of that formula the steps are verified.
 pub record IsRefuted (net : Net) (log : Log) (n : ℕ) (bound : Option ℕ) (book : List BookEntry) (steps : List ProofStep) : Type 0 where
   pub last : ℕ
   pub ends : EndsIn book (question_assumed net log n bound) last
   pub names : List (ℕ × Name)
   pub posed : IsPosed names (axioms_of (front_to last book)) (question_assumed net log n bound) net log n bound
+  pub listed : axioms_of (front_to last book) ≡ (question_within net log n bound).axioms
   pub steps_are : steps ≡ refutation_steps (front_to last book) (question_assumed net log n bound)
-  pub verified : check_proof (refuted_formula (front_to last book) (question_assumed net log n bound)) steps ≡ Verified
+  pub verified : check_proof (question_formula net log n bound).clauses steps ≡ Verified
 
 -- ---- as it is found
 
@@ -53,12 +55,11 @@ pub record IsLastFinal (book : List BookEntry) (last : ℕ) : Type 0 where
 abbrev pub HasColumn : CounterState → Option ℕ → Type 0
 HasColumn counter bound = IfSome (counted_bound counter bound) (λ k. k < length counter.columns)
 
--- behind its first axioms the book has evidence for the bound, between two marks
+-- behind the axioms of the question without columns the book has evidence for the bound, between two marks
 pub record HasEvidence {R : Type 0} (net : Net) (log : Log) (parts : Parts R) (book : List BookEntry) (bound : Option ℕ) : Type 0 where
-  pub first : List Clause
   pub since : List BookEntry
-  pub whole : book ≡ map axiomatic first ++ mark 0 ∷ since ++ mark 1 ∷ []
-  pub evidence : IsEvidence (names_of parts) first since net log parts.step.steps bound
+  pub whole : book ≡ map axiomatic (question_axioms net log parts.step.steps 0) ++ mark 0 ∷ since ++ mark 1 ∷ []
+  pub evidence : IsEvidence (names_of parts) (question_built net log parts.step.steps 0) since net log parts.step.steps bound
 
 -- for the bound that what was found refutes: one less than the least number, none where nothing explains, and 255 where more are needed
 abbrev pub HasEvidenceFor : {R : Type 0} → Net → Log → Parts R → List BookEntry → Found → Type 0

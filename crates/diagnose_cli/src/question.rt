@@ -111,6 +111,7 @@ fn search<R: Fn(u32) -> u64>(
     requires ready { AreReady R.pre R.post parts book.old.entries }
     requires axioms { book.old.entries ≡ map axiomatic (question_axioms case.now.net case.now.log limits.steps 0) }
     requires determined { IsBuilt case.now.net case.now.log limits.steps parts book.old.entries }
+    requires columns { parts.counter.columns ≡ [] }
     requires steps { parts.step.steps ≡ limits.steps }
     requires few { parts.step.steps ≤ MOST_STEPS }
     ensures { IfOk result (AnswersQuestion case.now.net case.now.log limits.steps limits.budget book.new.entries) }
