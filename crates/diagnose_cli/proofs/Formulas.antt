@@ -1,36 +1,31 @@
 -- The formula of a question whose parts are built: what it asks, its variables, and what makes it true.
-use Rattle.std.proofs.Common.{◌≡◌, ◌∙◌, ◌↔◌, ℕ, ◌+◌, ◌<◌, Bool, true, false, List, [], ◌∷◌, ◌++◌, length, map, max, nat_eq, Option, Some, None, All, refl, sym, ap, subst, append-nil, arith}
+use Rattle.std.proofs.Common.{◌≡◌, ◌∙◌, ◌↔◌, ℕ, ◌<◌, Bool, true, false, List, [], ◌∷◌, ◌++◌, length, map, nat_eq, Option, Some, None, All, refl, sym, ap, subst, append-nil, arith}
 use Rattle.std.specs.Prelude.{IsTrue, ◌||◌, if◌then◌else◌}
 use Rattle.std.proofs.lemmas.Bool.Decides.{nat_tests}
 use Rattle.std.specs.List.{AllByRecursion}
 use Rattle.std.proofs.lemmas.List.Elements.{All-from_recursion, All-head, All-tail, All-cons, All-nil}
-use Rattle.card_counter.specs.CounterState.{CounterState, bound_literal}
+use Rattle.card_counter.specs.CounterState.{CounterState}
 use Rattle.des_base.proofs.Elements.{all_append, all_split, all_from}
 use Rattle.des_net.specs.Network.{Net, IsNetwork}
 use Rattle.least_faults.proofs.AxiomLists.{axioms_added, clauses_added, adds_both}
-use Rattle.least_faults.proofs.Assuming.{assumed_below, with_bound, without_bound}
+use Rattle.least_faults.proofs.Assuming.{assumed_below}
 use Rattle.least_faults.proofs.Below.{axioms_below}
 use Rattle.least_faults.proofs.Posing.{poses}
 use Rattle.least_faults.proofs.Staying.{belong_still, built_still}
 use Rattle.least_faults.specs.declared.parts.Parts.{Parts}
-use Rattle.least_faults.specs.Asking.{AreAssumptions}
+use Rattle.least_faults.specs.Asking.{AreAssumed, AreAssumptions, assumed_by}
 use Rattle.least_faults.specs.Columns.{columns_for}
 use Rattle.least_faults.specs.Evidence.{IsPosed}
 use Rattle.least_faults.specs.Growing.{AddsAxioms, KeepsQuestion}
 use Rattle.least_faults.specs.Parts.{AreParts, AreReady, BelongTo, IsBuilt, built_of, names_of}
 use Rattle.log_clauses.proofs.Lists.{all_at}
 use Rattle.log_clauses.specs.LogClauses.{guard_literals}
-use Rattle.log_encode.proofs.CodeLemmas.{beside}
-use Rattle.log_encode.specs.CodedLog.{CodedLog, IsCodedLog, read_names, without_names}
-use Rattle.log_encode.specs.Drafted.{LogCodeState}
+use Rattle.log_encode.specs.CodedLog.{CodedLog, without_names}
 use Rattle.log_order.specs.Log.{Log, IsValidLog}
 use Rattle.proof_ledger.specs.Book.{BookEntry, axiomatic, axioms_of, clauses_of}
 use Rattle.proof_text.specs.CnfText.{Formula, formula}
 use Rattle.proof_text.specs.Refutation.{units}
-use Rattle.prop_core.proofs.FamilyLemmas.{reads_whole}
-use Rattle.prop_core.proofs.Listed.{clause_written}
 use Rattle.prop_core.specs.Clauses.{Clause, HasValues, literal_true, clause_true, AllClausesTrue, AllLiteralsTrue}
-use Rattle.prop_core.specs.Listings.{literal_by}
 use Rattle.prop_core.specs.VariableNames.{Name, NamedLiteral, ReadsAs, named_clause}
 use Rattle.prop_core.specs.declared.lit.Lit.{Lit}
 use Rattle.run_decode.proofs.Nameless.{alarm_names_dont_matter}
@@ -42,7 +37,7 @@ use Rattle.run_decode.specs.Question.{Asks, HasColumn, IsNamedQuestion}
 use Rattle.run_decode.specs.QuestionAxioms.{BuiltQuestion, question_built}
 use Rattle.run_decode.specs.WholeNaming.{whole_names}
 use Rattle.step_encode.specs.Coded.{CodedSteps}
-use Rattle.diagnose_cli.specs.Formula.{AreAssumed, IsFormulaOf, IsSatisfiable, assumed_by, bound_within, counted_bound, question_assumed, question_formula, question_within}
+use Rattle.diagnose_cli.specs.Formula.{IsFormulaOf, IsSatisfiable, bound_within, counted_bound, question_assumed, question_formula, question_within}
 
 -- ---- what makes it true
 
@@ -146,30 +141,6 @@ module _ (steps : CodedSteps) (code : CodedLog) (counter : CounterState) (vars :
       by : (none : Bool) → nat_eq (length counter.inputs) 0 ≡ none → AreAssumptions code counter (if none then None else bound) assumed → IsPosed (whole_names steps code counter) axioms assumed steps.net log steps.steps bound
       by true none assumptions = uncounted (grind (arith, nat_tests)) assumptions
       by false some assumptions = poses steps code counter vars axioms bound assumed parts assumptions log network valid same
-
--- ---- what is assumed
-
-guards_listed : (code : CodedLog) (guards : List Lit) → IsCodedLog code → named_clause (read_names code) guards ≡ Some (guard_literals code.net code.log) → guards ≡ map (literal_by (read_names code)) (guard_literals code.net code.log)
-guards_listed code guards whole listed = clause_written (read_names code) (beside code whole).once guards (guard_literals code.net code.log) listed
-
-pub assumed_alone : {R : Type 0} (parts : Parts R) (guards assumed : List Lit) → IsCodedLog parts.code.code → named_clause (read_names parts.code.code) guards ≡ Some (guard_literals parts.code.code.net parts.code.code.log) → assumed ≡ guards →
-    AreAssumed parts.counter parts None assumed
-assumed_alone parts guards assumed whole listed is = record {
-  listed = is ∙ guards_listed parts.code.code guards whole listed ∙ sym (append-nil (map (literal_by (read_names parts.code.code)) (guard_literals parts.code.code.net parts.code.code.log)));
-  assumptions = without_bound parts.code.code parts.counter guards assumed (reads_whole (read_names parts.code.code) guards (guard_literals parts.code.code.net parts.code.code.log) listed) is;
-  columns = omega arith;
-}
-
-pub assumed_bound : {R : Type 0} (old new : Parts R) (k : ℕ) (guards : List Lit) (literal : Lit) (assumed : List Lit) → IsCodedLog old.code.code → named_clause (read_names old.code.code) guards ≡ Some (guard_literals old.code.code.net old.code.code.log) →
-    new.code ≡ old.code → length new.counter.columns ≡ max (length old.counter.columns) (k + 1) → literal ≡ bound_literal new.counter k → assumed ≡ guards ++ literal ∷ [] → AreAssumed old.counter new (Some k) assumed
-assumed_bound old new k guards literal assumed whole listed same columns literal_is is = record {
-  listed = is ∙ ap (λ (l : Lit). guards ++ l ∷ []) literal_is ∙ ap (λ (gs : List Lit). gs ++ bound_literal new.counter k ∷ []) (guards_listed new.code.code guards (subst (λ (c : LogCodeState). IsCodedLog c.code) (sym same) whole) here);
-  assumptions = with_bound new.code.code new.counter k (length old.counter.columns) guards literal assumed (reads_whole (read_names new.code.code) guards (guard_literals new.code.code.net new.code.code.log) here) columns literal_is is;
-  columns = columns;
-}
-  where
-    here : named_clause (read_names new.code.code) guards ≡ Some (guard_literals new.code.code.net new.code.code.log)
-    here = subst (λ (c : LogCodeState). named_clause (read_names c.code) guards ≡ Some (guard_literals c.code.net c.code.log)) (sym same) listed
 
 -- ---- the book
 

@@ -20,6 +20,7 @@ pub mod Diagnosing
 pub mod Formulas
 pub mod LastFinals
 pub mod Refutations
+pub mod ProofsReadBack
 pub mod CaseAnswers
 pub mod Taking
 pub mod GenerateAnswers

@@ -1,36 +1,37 @@
 -- The refutation that a search leaves in its book: what it assumes, and what it refutes.
 use Rattle.std.proofs.Common.{◌≡◌, ◌∙◌, ◌⊎◌, inl, inr, ℕ, zero, suc, ◌+◌, ◌-◌, ◌<◌, Bool, true, false, List, [], ◌∷◌, ◌++◌, length, map, nat_eq, Option, Some, None, IfSome, Result, Ok, Err, IfOk, refl, sym, ap, subst, append-nil, append_assoc, arith, Contains, slice_index_or, option_map}
-use Rattle.std.specs.Prelude.{IsTrue, ◌||◌, if◌then◌else◌}
-use Rattle.std.specs.List.{flat_map, list_any, range_with_len}
+use Rattle.std.specs.Prelude.{All, IsTrue, ◌||◌, if◌then◌else◌}
+use Rattle.std.specs.List.{AllByRecursion, flat_map, list_any, range_with_len}
 use Rattle.std.proofs.lemmas.Bool.Decides.{nat_tests}
-use Rattle.std.proofs.lemmas.List.Elements.{filter_map-append, Contains-append_cases, Contains-append_right}
+use Rattle.std.proofs.lemmas.List.Elements.{All-contains, All-from_recursion, filter_map-append, Contains-append_cases, Contains-append_right}
 use Rattle.std.proofs.lemmas.List.Folds.{list_any-append}
 use Rattle.card_counter.proofs.NameLemmas.{counter_names_stand}
 use Rattle.card_counter.specs.CounterState.{CounterState, bound_literal, column_before, counter_names, input_at, negative, next_clauses, place_clauses, var_at, with_column}
-use Rattle.des_base.proofs.Elements.{all_at, all_from, cons_cases, here_first, map_from, map_has, none_in_nil}
+use Rattle.des_base.proofs.Elements.{all_at, all_from, cons_cases, here_first, map_from, map_has, none_in_nil, take_whole}
 use Rattle.des_base.specs.Lists.{numbers_below}
 use Rattle.des_net.specs.Network.{Net, IsNetwork}
-use Rattle.least_faults.proofs.AxiomLists.{axioms_added}
+use Rattle.least_faults.proofs.AxiomLists.{axioms_added, clauses_added}
 use Rattle.least_faults.proofs.ColumnsBuilt.{question_within_bound}
 use Rattle.least_faults.specs.declared.answer.Found.{Found}
 use Rattle.least_faults.specs.declared.answer.Found.TheVariants.{Explained, Absent, Many, Undecided}
 use Rattle.least_faults.specs.declared.parts.Parts.{Parts}
 use Rattle.least_faults.specs.Answers.{IsAnswered}
-use Rattle.least_faults.specs.Asking.{bound_part}
-use Rattle.least_faults.specs.Columns.{columns_for}
+use Rattle.least_faults.specs.Asking.{AreAssumed, assumed_by, bound_part}
+use Rattle.least_faults.specs.Columns.{built_within, columns_for}
 use Rattle.least_faults.specs.Evidence.{HasLastFinal, IsEvidence, IsPosed, is_final}
 use Rattle.least_faults.specs.Parts.{AreReady, BelongTo, IsBuilt, names_of}
 use Rattle.log_clauses.proofs.Codes.{IsReadOf, named_entry, read_of}
 use Rattle.log_encode.specs.CodedLog.{CodedLog, code_names as log_names, read_names, without_names}
 use Rattle.log_order.specs.Log.{Log, IsValidLog}
-use Rattle.proof_ledger.specs.Book.{BookEntry, axiomatic, final, mark, axiom_of, axioms_of}
+use Rattle.proof_ledger.specs.Book.{BookEntry, axiomatic, final, mark, axiom_of, axioms_of, clause_of, clauses_of}
 use Rattle.proof_ledger.specs.Checking.{check_proof}
 use Rattle.proof_ledger.specs.declared.checker.ProofStep.{ProofStep}
 use Rattle.proof_ledger.specs.declared.checker.Checked.TheVariants.{Verified}
 use Rattle.proof_text.proofs.Fronts.{front_ends}
+use Rattle.proof_text.proofs.Readable.{can_be_printed}
 use Rattle.proof_text.specs.Refutation.{EndsIn, front_to, refuted_formula, refutation_steps, units}
 use Rattle.prop_core.proofs.Listed.{clause_written}
-use Rattle.prop_core.specs.Clauses.{Clause, NegatesOnly, negation, literal_true, AllLiteralsTrue}
+use Rattle.prop_core.specs.Clauses.{Clause, HasValues, NegatesOnly, negation, literal_true, AllLiteralsTrue}
 use Rattle.prop_core.specs.Listings.{literal_by}
 use Rattle.prop_core.specs.VariableNames.{Name, NamedLiteral, HasEachOnce, ReadsAs, name_of, named_clause, named_literal, no, reaches}
 use Rattle.prop_core.specs.declared.lit.Lit.{Lit}
@@ -43,7 +44,7 @@ use Rattle.run_decode.specs.QuestionAxioms.{BuiltQuestion, question_axioms, ques
 use Rattle.run_decode.specs.WholeNaming.{AreCodedTogether, whole_names}
 use Rattle.log_clauses.specs.LogClauses.{guard_literals}
 use Rattle.step_encode.specs.Coded.{CodedSteps, code_names as step_names}
-use Rattle.diagnose_cli.specs.Formula.{AreAssumed, assumed_by, bound_within, counted_bound, question_assumed, question_formula, question_within}
+use Rattle.diagnose_cli.specs.Formula.{bound_within, counted_bound, question_assumed, question_within}
 use Rattle.diagnose_cli.specs.Proof.{HasColumn, HasEvidence, HasEvidenceFor, IsLastFinal, IsRefuted}
 use Rattle.diagnose_cli.proofs.Formulas.{posed_by}
 use Rattle.diagnose_cli.proofs.LastFinals.{has_final, last_found}
@@ -65,6 +66,9 @@ negates_alike xs ys (l ∷ clause) alike h = (alike (negation l) h.0, negates_al
 
 true_alike : (value : ℕ → Bool) (xs ys : List Lit) → ((l : Lit) → Contains ys l → Contains xs l) → AllLiteralsTrue value xs → AllLiteralsTrue value ys
 true_alike value xs ys alike h = all_from (λ l. IsTrue (literal_true value l)) ys (λ l in'. all_at (λ l'. IsTrue (literal_true value l')) xs l h (alike l in'))
+
+known_alike : (n : ℕ) (xs ys : List Lit) → ((l : Lit) → Contains ys l → Contains xs l) → HasValues n xs → HasValues n ys
+known_alike n xs ys alike h = All-from_recursion (λ (l : Lit). l.var < n) ys (all_from (λ (l : Lit). l.var < n) ys (λ l in'. All-contains (λ (l' : Lit). l'.var < n) xs l h (alike l in')))
 
 -- what one list poses, the other does
 posed_alike : (names : List (ℕ × Name)) (clauses all : List Clause) (xs ys : List Lit) (net : Net) (log : Log) (n : ℕ) (bound : Option ℕ) → IsPosed names clauses xs net log n bound → IsPosed names all ys net log n bound → IsPosed names clauses ys net log n bound
@@ -255,12 +259,23 @@ columns_alone net log n (suc columns) none =
     let before = question_built net log n columns in
     ap (λ (cs : List Clause). before.axioms ++ cs) (none_in_column before.counter before.vars (ap length (inputs_same net log n columns) ∙ none)) ∙ append-nil before.axioms ∙ columns_alone net log n columns none
 
+vars_alone : (net : Net) (log : Log) (n columns : ℕ) → length (question_built net log n 0).counter.inputs ≡ 0 → (question_built net log n columns).vars ≡ (question_built net log n 0).vars
+vars_alone net log n zero none = refl
+vars_alone net log n (suc columns) none = omega (arith, vars_alone net log n columns none, ap length (inputs_same net log n columns), none)
+
 -- so it doesn't matter whether the bound is counted
 within_counted : (net : Net) (log : Log) (n : ℕ) (bound : Option ℕ) → question_axioms net log n (columns_for bound) ≡ (question_within net log n bound).axioms
 within_counted net log n bound = by (nat_eq (length (question_built net log n 0).counter.inputs) 0) refl
   where
     by : (none : Bool) → nat_eq (length (question_built net log n 0).counter.inputs) 0 ≡ none → question_axioms net log n (columns_for bound) ≡ question_axioms net log n (columns_for (if none then None else bound))
     by true none = columns_alone net log n (columns_for bound) (grind (arith, nat_tests))
+    by false some = refl
+
+vars_counted : (net : Net) (log : Log) (n : ℕ) (bound : Option ℕ) → (question_built net log n (columns_for bound)).vars ≡ (question_within net log n bound).vars
+vars_counted net log n bound = by (nat_eq (length (question_built net log n 0).counter.inputs) 0) refl
+  where
+    by : (none : Bool) → nat_eq (length (question_built net log n 0).counter.inputs) 0 ≡ none → (question_built net log n (columns_for bound)).vars ≡ (question_built net log n (columns_for (if none then None else bound))).vars
+    by true none = vars_alone net log n (columns_for bound) (grind (arith, nat_tests))
     by false some = refl
 
 -- ---- all of it
@@ -342,8 +357,37 @@ module _ {R : Type 0} (may : R → ℕ → Type 0) (gives : R → ℕ → ℕ �
       steps_are = subst (λ (xs : List Lit). steps ≡ refutation_steps (front_to last book) xs) is steps_are;
       verified = subst (λ (cs : List Clause). check_proof (cs ++ units (question_assumed net log parts.step.steps bound)) steps ≡ Verified) listed
           (subst (λ (xs : List Lit). check_proof (refuted_formula (front_to last book) xs) steps ≡ Verified) is verified);
+      printable = can_be_printed most (front_to last book) (front_to last book) (length (front_to last book)) (question_assumed net log parts.step.steps bound) ((question_within net log parts.step.steps bound).axioms ++ units (question_assumed net log parts.step.steps bound)) steps
+          known (subst (HasValues most) is assumed_known) (take_whole (front_to last book)) (ap (λ (cs : List Clause). cs ++ units (question_assumed net log parts.step.steps bound)) (sym listed))
+          (subst (λ (xs : List Lit). steps ≡ refutation_steps (front_to last book) xs) is steps_are);
     }
       where
+        most : ℕ
+        most = (question_within net log parts.step.steps bound).vars
+
+        vars_are : (built_within (question_built net log parts.step.steps 0) bound).vars ≡ most
+        vars_are = ap (λ (question : BuiltQuestion). question.vars) (question_within_bound net log parts.step.steps bound) ∙ vars_counted net log parts.step.steps bound
+
+        assumed_known : HasValues most assumed
+        assumed_known = known_alike most e.evidence.assumed assumed (same_literals names assumed e.evidence.assumed (assumption_literals net log parts.step.steps bound) posed.once posed.assumes e.evidence.posed.assumes)
+            (subst (λ n. HasValues n e.evidence.assumed) vars_are e.evidence.known_assumed)
+
+        front_clauses : clauses_of (front_to last book) ≡ clauses_of (before ++ final refuted.clause refuted.hints ∷ [])
+        front_clauses =
+            let same = last_found book before refuted.clause refuted.hints (refuted.later ++ mark 1 ∷ []) last found split none_later in
+            ap clauses_of (front_is last found) ∙ filter_map-append clause_of found.before (final found.clause found.hints ∷ []) ∙ (λ i. clauses_of (same.earlier i) ++ same.same i ∷ [])
+            ∙ sym (filter_map-append clause_of before (final refuted.clause refuted.hints ∷ []))
+
+        clauses_before : clauses_of (before ++ final refuted.clause refuted.hints ∷ []) ≡ first ++ clauses_of (refuted.earlier ++ final refuted.clause refuted.hints ∷ [])
+        clauses_before =
+            ap clauses_of (append_assoc (map axiomatic first) (mark 0 ∷ refuted.earlier) (final refuted.clause refuted.hints ∷ []))
+            ∙ filter_map-append clause_of (map axiomatic first) (mark 0 ∷ (refuted.earlier ++ final refuted.clause refuted.hints ∷ []))
+            ∙ ap (λ (cs : List Clause). cs ++ clauses_of (refuted.earlier ++ final refuted.clause refuted.hints ∷ [])) (clauses_added [] first)
+
+        known : All (HasValues most) (clauses_of (front_to last book))
+        known = All-from_recursion (HasValues most) (clauses_of (front_to last book))
+            (subst (AllByRecursion (HasValues most)) (sym (front_clauses ∙ clauses_before)) (subst (λ n. AllByRecursion (HasValues n) (first ++ clauses_of (refuted.earlier ++ final refuted.clause refuted.hints ∷ []))) vars_are e.evidence.known))
+
         front : axioms_of (front_to last book) ≡ first ++ axioms_of refuted.earlier
         front =
             let same = last_found book before refuted.clause refuted.hints (refuted.later ++ mark 1 ∷ []) last found split none_later in

@@ -43,8 +43,8 @@ use Rattle.diagnose_cli.specs.declared.ending.Kind.TheVariants.{Done, Rejected, 
 use Rattle.diagnose_cli.specs.Transcripts.{Ending, IsWhole}
 use Rattle.diagnose_cli.specs.Files.{Loads, IsText, StopsIn, WithFile}
 use Rattle.diagnose_cli.specs.Diagnosed.{IsDiagnosed}
-use Rattle.diagnose_cli.specs.Formula.{IsFormulaOf}
-use Rattle.diagnose_cli.specs.Proof.{IsRefuted, proof_head}
+use Rattle.diagnose_cli.specs.Formula.{IsFormulaOf, question_formula}
+use Rattle.diagnose_cli.specs.Proof.{IsCheckedText, IsRefuted, proof_head}
 
 -- this many words, of which the first is the name
 abbrev pub calls : List (List ℕ) → List ℕ → ℕ → Bool
@@ -288,11 +288,12 @@ pub record SaysFormula (net : Net) (alarms : AlarmLog) (n : ℕ) (bound : Option
 abbrev pub reply_of_proof : Option ℕ → List ProofStep → Kind × List ℕ
 reply_of_proof bound steps = (Done, proof_head bound ++ steps_text steps)
 
--- the reply has the refutation of the question within the bound that the book holds
+-- The reply has the refutation of the question within the bound that the book holds. Where the formula that `cnf` prints keeps the limits of such a file, `check` verifies the text of the reply over it.
 pub record TellsRefutation (net : Net) (alarms : AlarmLog) (n : ℕ) (bound : Option ℕ) (book : List BookEntry) (reply : Kind × List ℕ) : Type 0 where
   pub steps : List ProofStep
   pub refuted : IsRefuted net alarms n bound book steps
   pub is : reply ≡ reply_of_proof bound steps
+  pub again : KeepsLimits (question_formula net alarms n bound) → IsCheckedText (question_formula net alarms n bound) reply.1
 
 -- Without faults there is nothing to refute.
 abbrev pub TellsBelow : Net → AlarmLog → ℕ → ℕ → List BookEntry → (Kind × List ℕ) → Type 0

@@ -1,19 +1,15 @@
 -- A question as a formula of its own: network, log, n and the bound determine it, and some assignment makes it true just where something explains the log within the bound.
-use Rattle.std.specs.Prelude.{◌≡◌, ◌↔◌, ℕ, Bool, All, List, ◌++◌, length, map, max, nat_eq, Option, None, Some, if◌then◌else◌}
+use Rattle.std.specs.Prelude.{◌≡◌, ◌↔◌, ℕ, Bool, All, List, ◌++◌, length, map, nat_eq, Option, None, if◌then◌else◌}
 use Rattle.card_counter.specs.CounterState.{CounterState}
 use Rattle.des_net.specs.Network.{Net}
-use Rattle.least_faults.specs.declared.parts.Parts.{Parts}
-use Rattle.least_faults.specs.Asking.{AreAssumptions, bound_part}
+use Rattle.least_faults.specs.Asking.{assumed_by}
 use Rattle.least_faults.specs.Columns.{columns_for}
 use Rattle.least_faults.specs.Evidence.{IsPosed}
-use Rattle.log_clauses.specs.LogClauses.{guard_literals}
-use Rattle.log_encode.specs.CodedLog.{CodedLog, read_names}
 use Rattle.log_order.specs.Log.{Log}
 use Rattle.proof_ledger.specs.Book.{BookEntry, axiomatic, axioms_of}
 use Rattle.proof_text.specs.CnfText.{Formula, formula}
 use Rattle.proof_text.specs.Refutation.{units}
 use Rattle.prop_core.specs.Clauses.{Clause, HasValues, AllClausesTrue}
-use Rattle.prop_core.specs.Listings.{literal_by}
 use Rattle.prop_core.specs.VariableNames.{Name}
 use Rattle.prop_core.specs.declared.lit.Lit.{Lit}
 use Rattle.run_decode.specs.Faithful.{IsExplainedWithin}
@@ -34,9 +30,6 @@ abbrev pub question_within : Net → Log → ℕ → Option ℕ → BuiltQuestio
 question_within net log n bound = question_built net log n (columns_for (bound_within net log n bound))
 
 -- the guards of the log, and then the counter's literal for the bound
-abbrev pub assumed_by : CodedLog → CounterState → Option ℕ → List Lit
-assumed_by code counter bound = map (literal_by (read_names code)) (guard_literals code.net code.log) ++ bound_part counter bound
-
 abbrev pub question_assumed : Net → Log → ℕ → Option ℕ → List Lit
 question_assumed net log n bound = assumed_by (question_within net log n bound).code (question_within net log n bound).counter (bound_within net log n bound)
 
@@ -59,11 +52,3 @@ pub record IsFormulaOf (net : Net) (log : Log) (n : ℕ) (bound : Option ℕ) (b
   pub alone : book ≡ map axiomatic (question_within net log n bound).axioms
   pub names : List (ℕ × Name)
   pub posed : IsPosed names (axioms_of book) (question_assumed net log n bound) net log n bound
-
--- ---- as it is built
-
--- These are the assumptions for a bound that is counted, in their order, and the counter has got the columns that the bound needs.
-pub record AreAssumed {R : Type 0} (before : CounterState) (parts : Parts R) (bound : Option ℕ) (assumed : List Lit) : Type 0 where
-  pub listed : assumed ≡ assumed_by parts.code.code parts.counter bound
-  pub assumptions : AreAssumptions parts.code.code parts.counter bound assumed
-  pub columns : length parts.counter.columns ≡ max (length before.columns) (columns_for bound)

@@ -13,7 +13,9 @@ use Rattle.proof_ledger.specs.Book.{BookEntry, axiomatic, final, mark, axioms_of
 use Rattle.proof_ledger.specs.Checking.{check_proof}
 use Rattle.proof_ledger.specs.declared.checker.ProofStep.{ProofStep}
 use Rattle.proof_ledger.specs.declared.checker.Checked.TheVariants.{Verified}
-use Rattle.proof_text.specs.Refutation.{EndsIn, front_to, refutation_steps}
+use Rattle.proof_text.specs.CnfText.{Formula}
+use Rattle.proof_text.specs.LratText.{first_lrat_fault, proof_of}
+use Rattle.proof_text.specs.Refutation.{CanBePrinted, EndsIn, front_to, refutation_steps}
 use Rattle.prop_core.specs.Clauses.{Clause}
 use Rattle.prop_core.specs.VariableNames.{Name}
 use Rattle.run_decode.specs.QuestionAxioms.{question_axioms, question_built}
@@ -29,7 +31,7 @@ abbrev pub proof_head : Option ℕ → List ℕ
 proof_head bound = codes "c cnf " ++ bound_word bound ++ 10 ∷ []
 
 -- The steps are the refutation that the book holds up to a final clause, of negations of what the question assumes within the bound. With this the axioms
--- before that clause pose the question within the bound. They are, in their order, those of the formula of the question within the bound, and of that formula the steps are verified.
+-- before that clause pose the question within the bound. They are, in their order, those of the formula of the question within the bound, and of that formula the steps are verified. Both can be printed.
 pub record IsRefuted (net : Net) (log : Log) (n : ℕ) (bound : Option ℕ) (book : List BookEntry) (steps : List ProofStep) : Type 0 where
   pub last : ℕ
   pub ends : EndsIn book (question_assumed net log n bound) last
@@ -38,6 +40,12 @@ pub record IsRefuted (net : Net) (log : Log) (n : ℕ) (bound : Option ℕ) (boo
   pub listed : axioms_of (front_to last book) ≡ (question_within net log n bound).axioms
   pub steps_are : steps ≡ refutation_steps (front_to last book) (question_assumed net log n bound)
   pub verified : check_proof (question_formula net log n bound).clauses steps ≡ Verified
+  pub printable : CanBePrinted (question_formula net log n bound).vars (question_formula net log n bound).clauses steps
+
+-- As a proof for this formula the text has no fault, and its steps are verified.
+pub record IsCheckedText (f : Formula) (text : List ℕ) : Type 0 where
+  pub well : first_lrat_fault f.vars (length f.clauses) text ≡ None
+  pub verified : check_proof f.clauses (proof_of text) ≡ Verified
 
 -- ---- as it is found
 

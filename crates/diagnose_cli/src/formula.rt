@@ -1,10 +1,10 @@
 // A question as a formula: its axioms, and a unit clause for each assumption.
-ghost use Rattle.std.specs.Prelude.{◌≡◌, ◌++◌, [], IfOk, IfSome, OnOk};
-ghost use Rattle.diagnose_cli.specs.Formula.{AreAssumed, IsFormulaOf, counted_bound};
+ghost use Rattle.std.specs.Prelude.{◌≡◌, ◌++◌, [], IfOk, IfSome};
+ghost use Rattle.diagnose_cli.specs.Formula.{IsFormulaOf, counted_bound};
 ghost use Rattle.indep.specs.StoredTest.{IsTest};
 ghost use Rattle.least_faults.specs.Asking.{IsBoundable};
 ghost use Rattle.least_faults.specs.Building.{IsUnused};
-ghost use Rattle.least_faults.specs.Growing.{AddsAxioms, KeepsQuestion};
+ghost use Rattle.least_faults.specs.Growing.{AddsAxioms};
 ghost use Rattle.least_faults.specs.Parts.{AreReady, BelongTo, IsBuilt, IsWithinLimits};
 ghost use Rattle.proof_ledger.specs.Book.{clauses_of};
 ghost use Rattle.proof_text.specs.CnfText.{formula};
@@ -14,7 +14,7 @@ use crate::question::Case;
 use card_counter::Counter;
 use des_base::{EventId, Memory};
 use indep::{Indep, Table};
-use least_faults::{Parts, bound, build};
+use least_faults::{Parts, assumptions, build};
 use proof_ledger::Ledger;
 use proof_text::Cnf;
 use prop_core::{Clauses, Lit};
@@ -126,28 +126,6 @@ pub fn counted(counter: &Counter, bound: Option<u8>) -> Option<u32>
     }
     let k = bound?;
     Some(u32::from(k))
-}
-
-// What is assumed: the guards of the log, and the literal for the bound.
-fn assumptions<R: Fn(u32) -> u64>(
-    alloc: Global,
-    within: Option<u32>,
-    parts: &mut Parts<R>,
-    book: &mut Ledger,
-) -> Result<Vec<Lit>, Memory>
-    requires ready { AreReady R.pre R.post parts.old book.old.entries }
-    requires boundable { IfSome within (IsBoundable parts.old.counter) }
-    ensures ready { OnOk result (AreReady R.pre R.post parts.new book.new.entries) }
-    ensures kept { OnOk result (KeepsQuestion parts.old parts.new book.old.entries book.new.entries) }
-    ensures axioms { OnOk result (AddsAxioms book.old.entries book.new.entries) }
-    ensures assumed { IfOk result (λ assumed. AreAssumed parts.old.counter parts.new within assumed.items) }
-{
-    let mut assumed = Vec::new(alloc);
-    assumed.extend_from_slice(parts.code.guards())?;
-    if let Some(k) = within {
-        assumed.push(bound(alloc, parts, book, k)?)?;
-    }
-    Ok(assumed)
 }
 
 // The clauses of the book, and then a unit clause for each assumption.

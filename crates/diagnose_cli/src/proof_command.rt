@@ -11,6 +11,7 @@ ghost use Rattle.least_faults.specs.Parts.{AreReady, BelongTo, IsBuilt, IsWithin
 ghost use Rattle.log_csv.specs.LogText.{log_of};
 ghost use Rattle.model_text.specs.ModelFaults.{network_of};
 ghost use Rattle.proof_ledger.specs.Book.{axiomatic};
+ghost use Rattle.proof_text.specs.PrintedText.{ReadsBack, steps_text};
 ghost use Rattle.proof_text.specs.ProofNumbers.{NumbersAscend, HasNoZero};
 ghost use Rattle.report.specs.Replies.{EventsKnown};
 ghost use Rattle.run_decode.specs.QuestionAxioms.{question_axioms};
@@ -232,7 +233,8 @@ fn refuted<R: Fn(u32) -> u64>(
 fn reply_of_proof(alloc: Global, bound: Option<u8>, proof: &Proof) -> Result<Reply, Memory>
     requires ascend { NumbersAscend 0 proof.now }
     requires above { All HasNoZero proof.now }
-    ensures { IfOk result (λ reply. reply ≡ reply_of_proof bound proof.now) }
+    ensures reply { IfOk result (λ reply. reply ≡ reply_of_proof bound proof.now) }
+    ensures reads_back { IfOk result (λ reply. ReadsBack proof.now (steps_text proof.now)) }
 {
     let mut text = Vec::new(alloc);
     push_head(bound, &mut text)?;

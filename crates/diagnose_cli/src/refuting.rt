@@ -1,8 +1,9 @@
 // The refutation that a search leaves in its book, as a proof of its own.
 ghost use Rattle.std.specs.Prelude.{◌≡◌, true, All, IfOk};
 ghost use Rattle.std.specs.List.{list_any};
-ghost use Rattle.diagnose_cli.specs.Formula.{AreAssumed, counted_bound};
+ghost use Rattle.diagnose_cli.specs.Formula.{counted_bound};
 ghost use Rattle.diagnose_cli.specs.Proof.{HasColumn, HasEvidence, IsLastFinal, IsRefuted};
+ghost use Rattle.least_faults.specs.Asking.{AreAssumed};
 ghost use Rattle.least_faults.specs.Evidence.{is_final};
 ghost use Rattle.proof_text.specs.ProofNumbers.{NumbersAscend, HasNoZero};
 ghost use Rattle.least_faults.specs.Parts.{AreReady, BelongTo, IsBuilt};

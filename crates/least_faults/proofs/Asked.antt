@@ -2,15 +2,17 @@
 use Rattle.std.proofs.Common.{◌≡◌, ◌≢◌, ◌∙◌, ℕ, ◌+◌, ◌<◌, ◌≤◌, ◌⊎◌, inl, inr, Bool, true, false, List, [], ◌∷◌, ◌++◌, length, max, Option, None, Some, IfSome, IfNone, map, refl, sym, ap, subst, arith, Contains, count_by, IsTrue, append-nil, append_assoc}
 use Rattle.std.specs.Prelude.{⊤}
 use Rattle.std.proofs.lemmas.List.{append_cancel_left}
-use Rattle.std.specs.List.{list_any, list_all}
+use Rattle.std.specs.List.{AllByRecursion, list_any, list_all}
 use Rattle.card_counter.proofs.Exact.{counter_is_exact}
 use Rattle.card_counter.specs.Counting.{true_count}
 use Rattle.card_counter.specs.CounterState.{CounterState, counter_clauses, bound_literal}
-use Rattle.des_base.proofs.Elements.{here_first, all_from as all_of}
+use Rattle.des_base.proofs.Elements.{all_append, all_split, here_first, all_from as all_of}
 use Rattle.des_net.specs.Network.{Net, IsNetwork}
-use Rattle.least_faults.proofs.Assuming.{negates_only}
+use Rattle.least_faults.proofs.Assuming.{assumed_below, negates_only}
+use Rattle.least_faults.proofs.Below.{axioms_below}
 use Rattle.least_faults.proofs.Entailing.{final_entailed}
 use Rattle.least_faults.proofs.Freshness.{fresh_after}
+use Rattle.least_faults.proofs.KnownVariables.{book_below, known_back}
 use Rattle.least_faults.proofs.Posing.{poses}
 use Rattle.least_faults.proofs.Putting.{counted_more, none_learnt, none_marked, none_final, derived_unmarked, same_axioms, learnt_no_final, no_final_in, none_joined, only_final, same_last, axioms_with_learnt}
 use Rattle.least_faults.proofs.Staying.{question_both, question_kept}
@@ -21,7 +23,7 @@ use Rattle.least_faults.specs.declared.parts.Parts.{Parts}
 use Rattle.least_faults.specs.Answers.{IsExplanation}
 use Rattle.least_faults.specs.Asking.{AreAssumptions, bound_part, IsSearching, ArePut, HasAskedBy}
 use Rattle.least_faults.specs.Columns.{built_within, columns_for}
-use Rattle.least_faults.specs.Evidence.{is_final}
+use Rattle.least_faults.specs.Evidence.{IsPosed, is_final}
 use Rattle.least_faults.specs.Growing.{AddsAxioms, KeepsQuestion}
 use Rattle.least_faults.specs.Parts.{AreParts, AreReady}
 use Rattle.log_clauses.proofs.Lists.{all_at}
@@ -29,7 +31,7 @@ use Rattle.log_encode.specs.CodedLog.{CodedLog, without_names}
 use Rattle.log_order.specs.Log.{Log, IsValidLog}
 use Rattle.proof_ledger.specs.Book.{BookEntry, axiomatic, learnt, final, mark, axioms_of, clauses_of, is_mark, IsValidBook}
 use Rattle.proof_ledger.specs.Fresh.{is_learnt}
-use Rattle.prop_core.specs.Clauses.{Clause, clause_true, literal_true, AllClausesTrue, AllLiteralsTrue, NegatesOnly}
+use Rattle.prop_core.specs.Clauses.{Clause, HasValues, clause_true, literal_true, AllClausesTrue, AllLiteralsTrue, NegatesOnly}
 use Rattle.prop_core.specs.declared.lit.Lit.{Lit}
 use Rattle.run_decode.proofs.Decided.{refuted_is_decided}
 use Rattle.run_decode.specs.Decided.{Entails}
@@ -42,6 +44,7 @@ use Rattle.sat_solve.specs.Searching.{HasAxiomVars, IsSearched, HasPut, IsRefute
 use Rattle.sat_solve.specs.Solving.{SolverState}
 use Rattle.sat_solve.specs.declared.answer.Answer.TheVariants as solver
 use Rattle.std.proofs.lemmas.List.Elements.{Contains-append_cases as append_cases, Contains-append_left as append_left, Contains-append_right as append_right}
+use Rattle.run_decode.specs.WholeNaming.{whole_names}
 use Rattle.step_encode.specs.Coded.{CodedSteps}
 
 -- ---- what is put
@@ -134,9 +137,17 @@ true_run steps code counter vars axioms bound assumed value parts assumptions al
 module _ (steps : CodedSteps) (code : CodedLog) (counter : CounterState) (vars : ℕ) (net : Net) (log : Log) (mid : List BookEntry) (parts : AreParts steps code counter vars (axioms_of mid))
     (of_net : steps.net ≡ net) (network : IsNetwork net) (valid : IsValidLog log) (same : code.log ≡ without_names log) (bound : Option ℕ) (assumed : List Lit) (assumptions : AreAssumptions code counter bound assumed)
     (old new : List BookEntry) (before after : ℕ) (adds : AddsAxioms old mid) (searched : IsSearched mid new before after) (known : HasAxiomVars mid) (begun : BuiltQuestion) (at_first : begun.axioms ≡ axioms_of old)
-    (wide : length counter.columns ≡ max (length begun.counter.columns) (columns_for bound)) (listed : axioms_of mid ≡ (built_within begun bound).axioms) where
+    (wide : length counter.columns ≡ max (length begun.counter.columns) (columns_for bound)) (listed : axioms_of mid ≡ (built_within begun bound).axioms)
+    (counted : vars ≡ (built_within begun bound).vars) where
   now_axioms : axioms_of new ≡ axioms_of mid
   now_axioms = ap axioms_of searched.whole ∙ same_axioms mid searched.since searched.derived
+
+  -- the variables are those of the question with the columns for the bound
+  axioms_known : AllByRecursion (HasValues (built_within begun bound).vars) (axioms_of mid)
+  axioms_known = subst (λ n. AllByRecursion (HasValues n) (axioms_of mid)) counted (axioms_below steps code counter vars (axioms_of mid) parts)
+
+  all_known : AllByRecursion (HasValues (built_within begun bound).vars) (clauses_of new)
+  all_known = book_below (built_within begun bound).vars new (subst (AllByRecursion (HasValues (built_within begun bound).vars)) (sym now_axioms) axioms_known) (searched.known known)
 
   -- the entries that a search put are those that its answer says
   same_since : (since : List BookEntry) → new ≡ mid ++ since → since ≡ searched.since
@@ -170,6 +181,7 @@ module _ (steps : CodedSteps) (code : CodedLog) (counter : CounterState) (vars :
     paid = both_paid old mid new before after adds searched;
     fresh = fresh_after old mid new before after adds searched known;
     columns = wide;
+    known = all_known;
     put = put_learnt Spent none (subst (λ xs. list_all is_learnt xs ≡ true) (same_since put.since put.whole) put.put);
     means = record { nothing = spent.nothing; assumed = assumed; assumptions = assumptions; clashes = spent.clashes };
   }
@@ -204,6 +216,7 @@ module _ (steps : CodedSteps) (code : CodedLog) (counter : CounterState) (vars :
     paid = both_paid old mid new before after adds searched;
     fresh = fresh_after old mid new before after adds searched known;
     columns = wide;
+    known = all_known;
     put = put_learnt (Explained best) none (subst (λ xs. list_all is_learnt xs ≡ true) (same_since put.since put.whole) put.put);
     means = record {
       given = given;
@@ -225,6 +238,7 @@ module _ (steps : CodedSteps) (code : CodedLog) (counter : CounterState) (vars :
     paid = both_paid old mid new before after adds searched;
     fresh = fresh_after old mid new before after adds searched known;
     columns = wide;
+    known = all_known;
     put = record {
       finals = λ clause hints in'. (assumed, assumptions, negates clause hints in');
       none = λ not. absurd (refused not);
@@ -239,11 +253,15 @@ module _ (steps : CodedSteps) (code : CodedLog) (counter : CounterState) (vars :
           clause = put.put.clause;
           hints = put.put.hints;
           later = [];
-          whole = ap (λ xs. map axiomatic adds.axioms ++ xs) (sym same_put ∙ put.put.whole) ∙ sym (append_assoc (map axiomatic adds.axioms) put.put.before (final put.put.clause put.put.hints ∷ []));
+          whole = closes;
           last = refl;
           negates = last_negates;
         };
         listed = before_it ∙ listed;
+        known = all_append (HasValues most) begun.axioms (clauses_of (earlier ++ final put.put.clause put.put.hints ∷ []))
+            (all_split (HasValues most) begun.axioms (axioms_of earlier) (subst (AllByRecursion (HasValues most)) (sym before_it) axioms_known)).0
+            (known_back most old (earlier ++ final put.put.clause put.put.hints ∷ []) (subst (λ es. AllByRecursion (HasValues most) (clauses_of es)) (both_whole old mid new before after adds searched ∙ ap (λ es. old ++ es) closes) all_known));
+        known_assumed = subst (λ n. HasValues n assumed) counted (assumed_below steps code counter vars (axioms_of mid) (axioms_of mid) assumed steps.net log steps.steps bound parts posed);
         faithful = subst (λ axioms. IsFaithful axioms assumed net log steps.steps bound) (sym before_it) faithful;
       };
       decided = refuted_is_decided net log steps.steps bound (axioms_of mid) assumed put.put.clause faithful
@@ -251,12 +269,24 @@ module _ (steps : CodedSteps) (code : CodedLog) (counter : CounterState) (vars :
     };
   }
     where
+      most : ℕ
+      most = (built_within begun bound).vars
+
+      earlier : List BookEntry
+      earlier = map axiomatic adds.axioms ++ put.put.before
+
+      closes : map axiomatic adds.axioms ++ searched.since ≡ earlier ++ final put.put.clause put.put.hints ∷ []
+      closes = ap (λ xs. map axiomatic adds.axioms ++ xs) (sym (same_since put.since put.whole) ∙ put.put.whole) ∙ sym (append_assoc (map axiomatic adds.axioms) put.put.before (final put.put.clause put.put.hints ∷ []))
+
       before_it : begun.axioms ++ axioms_of (map axiomatic adds.axioms ++ put.put.before) ≡ axioms_of mid
       before_it = ap (λ cs. cs ++ axioms_of (map axiomatic adds.axioms ++ put.put.before)) at_first ∙ axioms_with_learnt old mid (map axiomatic adds.axioms) put.put.before adds.more put.put.all_learnt
 
+      posed : IsPosed (whole_names steps code counter) (axioms_of mid) assumed steps.net log steps.steps bound
+      posed = poses steps code counter vars (axioms_of mid) bound assumed parts assumptions log (subst IsNetwork (sym of_net) network) valid same
+
       faithful : IsFaithful (axioms_of mid) assumed net log steps.steps bound
       faithful = subst (λ net'. IsFaithful (axioms_of mid) assumed net' log steps.steps bound) of_net
-          (poses steps code counter vars (axioms_of mid) bound assumed parts assumptions log (subst IsNetwork (sym of_net) network) valid same).faithful
+          posed.faithful
 
       same_put : put.since ≡ searched.since
       same_put = same_since put.since put.whole

@@ -1,23 +1,29 @@
 -- What a question assumes: variables that were made, no contradiction, and the same where the counter gets a column.
-use Rattle.std.proofs.Common.{◌≡◌, ◌≢◌, ◌∙◌, ℕ, ◌+◌, ◌<◌, ◌≤◌, true, false, ◌⊎◌, inl, inr, List, [], ◌∷◌, ◌++◌, length, max, Option, None, Some, slice_index_or, refl, sym, ap, arith, Contains, zero, suc, ◌-◌, append-nil, length-append}
+use Rattle.std.proofs.Common.{◌≡◌, ◌≢◌, ◌∙◌, ℕ, ◌+◌, ◌<◌, ◌≤◌, true, false, ◌⊎◌, inl, inr, List, [], ◌∷◌, ◌++◌, length, map, max, Option, None, Some, slice_index_or, refl, sym, ap, subst, arith, Contains, zero, suc, ◌-◌, append-nil, length-append}
 use Rattle.std.specs.List.{list_all}
 use Rattle.card_counter.specs.CounterState.{CounterState, column_at, var_at, bound_literal, negative}
 use Rattle.des_base.proofs.BoolLemmas.{otherwise as as_false, either as or_cases, both}
 use Rattle.des_base.proofs.Elements.{here_first, here_later}
 use Rattle.des_base.specs.Lists.{EachPair}
 use Rattle.least_faults.proofs.Below.{read_below, names_below}
-use Rattle.least_faults.specs.Asking.{AreAssumptions}
+use Rattle.least_faults.specs.Asking.{AreAssumed, AreAssumptions}
 use Rattle.least_faults.specs.Evidence.{IsPosed}
 use Rattle.least_faults.specs.Growing.{KeepsColumns}
 use Rattle.least_faults.specs.Parts.{AreParts}
+use Rattle.least_faults.specs.declared.parts.Parts.{Parts}
 use Rattle.des_net.specs.Network.{Net}
 use Rattle.log_clauses.proofs.Lists.{all_at}
 use Rattle.log_clauses.specs.LogClauses.{guard_literals}
-use Rattle.log_encode.specs.CodedLog.{CodedLog, read_names}
+use Rattle.log_encode.proofs.CodeLemmas.{beside}
+use Rattle.log_encode.specs.CodedLog.{CodedLog, IsCodedLog, read_names}
+use Rattle.log_encode.specs.Drafted.{LogCodeState}
 use Rattle.log_order.specs.Log.{Log}
+use Rattle.prop_core.proofs.FamilyLemmas.{reads_whole}
+use Rattle.prop_core.proofs.Listed.{clause_written}
 use Rattle.prop_core.proofs.Literals.{same_is, not_self, negation_twice}
 use Rattle.prop_core.specs.Clauses.{Clause, HasValues, is_true, is_false, negation, same_literal, NegatesOnly}
-use Rattle.prop_core.specs.VariableNames.{ReadsAs}
+use Rattle.prop_core.specs.Listings.{literal_by}
+use Rattle.prop_core.specs.VariableNames.{ReadsAs, named_clause}
 use Rattle.prop_core.specs.declared.lit.Lit.{Lit}
 use Rattle.run_decode.specs.WholeNaming.{whole_names}
 use Rattle.sat_solve.specs.Solving.{AreCompatible}
@@ -76,6 +82,30 @@ pub with_bound : (code : CodedLog) (counter : CounterState) (k columns : ℕ) (g
     length counter.columns ≡ max columns (k + 1) → literal ≡ bound_literal counter k → assumed ≡ guards ++ literal ∷ [] → AreAssumptions code counter (Some k) assumed
 with_bound code counter k columns guards literal assumed read there is whole =
     record { guards = guards; read = read; whole = whole ∙ ap (λ l. guards ++ l ∷ []) is; column = omega (arith, there) }
+
+-- ---- both in their order
+
+guards_listed : (code : CodedLog) (guards : List Lit) → IsCodedLog code → named_clause (read_names code) guards ≡ Some (guard_literals code.net code.log) → guards ≡ map (literal_by (read_names code)) (guard_literals code.net code.log)
+guards_listed code guards whole listed = clause_written (read_names code) (beside code whole).once guards (guard_literals code.net code.log) listed
+
+pub assumed_alone : {R : Type 0} (parts : Parts R) (guards assumed : List Lit) → IsCodedLog parts.code.code → named_clause (read_names parts.code.code) guards ≡ Some (guard_literals parts.code.code.net parts.code.code.log) → assumed ≡ guards →
+    AreAssumed parts.counter parts None assumed
+assumed_alone parts guards assumed whole listed is = record {
+  listed = is ∙ guards_listed parts.code.code guards whole listed ∙ sym (append-nil (map (literal_by (read_names parts.code.code)) (guard_literals parts.code.code.net parts.code.code.log)));
+  assumptions = without_bound parts.code.code parts.counter guards assumed (reads_whole (read_names parts.code.code) guards (guard_literals parts.code.code.net parts.code.code.log) listed) is;
+  columns = omega arith;
+}
+
+pub assumed_bound : {R : Type 0} (old new : Parts R) (k : ℕ) (guards : List Lit) (literal : Lit) (assumed : List Lit) → IsCodedLog old.code.code → named_clause (read_names old.code.code) guards ≡ Some (guard_literals old.code.code.net old.code.code.log) →
+    new.code ≡ old.code → length new.counter.columns ≡ max (length old.counter.columns) (k + 1) → literal ≡ bound_literal new.counter k → assumed ≡ guards ++ literal ∷ [] → AreAssumed old.counter new (Some k) assumed
+assumed_bound old new k guards literal assumed whole listed same columns literal_is is = record {
+  listed = is ∙ ap (λ (l : Lit). guards ++ l ∷ []) literal_is ∙ ap (λ (gs : List Lit). gs ++ bound_literal new.counter k ∷ []) (guards_listed new.code.code guards (subst (λ (c : LogCodeState). IsCodedLog c.code) (sym same) whole) here);
+  assumptions = with_bound new.code.code new.counter k (length old.counter.columns) guards literal assumed (reads_whole (read_names new.code.code) guards (guard_literals new.code.code.net new.code.code.log) here) columns literal_is is;
+  columns = columns;
+}
+  where
+    here : named_clause (read_names new.code.code) guards ≡ Some (guard_literals new.code.code.net new.code.code.log)
+    here = subst (λ (c : LogCodeState). named_clause (read_names c.code) guards ≡ Some (guard_literals c.code.net c.code.log)) (sym same) listed
 
 -- ---- where the counter gets a column
 

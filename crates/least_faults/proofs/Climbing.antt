@@ -8,6 +8,7 @@ use Rattle.des_net.specs.Network.{Net, IsNetwork}
 use Rattle.least_faults.proofs.Assuming.{assumptions_stay}
 use Rattle.least_faults.proofs.Entailing.{final_entailed}
 use Rattle.least_faults.proofs.Freshness.{fresh_none, fresh_both}
+use Rattle.least_faults.proofs.KnownVariables.{known_back, known_front}
 use Rattle.least_faults.proofs.Posing.{poses}
 use Rattle.least_faults.proofs.Putting.{counted_more, no_final_in, learnt_no_final, last_later, last_earlier}
 use Rattle.least_faults.proofs.Telling.{tells_bound}
@@ -25,9 +26,9 @@ use Rattle.least_faults.specs.Growing.{KeepsColumns}
 use Rattle.least_faults.specs.Parts.{AreParts}
 use Rattle.log_encode.specs.CodedLog.{CodedLog, without_names}
 use Rattle.log_order.specs.Log.{Log, IsValidLog}
-use Rattle.proof_ledger.specs.Book.{BookEntry, final, axiom_of, axioms_of, is_mark, IsValidBook}
+use Rattle.proof_ledger.specs.Book.{BookEntry, final, axiom_of, axioms_of, clauses_of, is_mark, IsValidBook}
 use Rattle.proof_ledger.specs.Fresh.{is_learnt}
-use Rattle.prop_core.specs.Clauses.{Clause, NegatesOnly}
+use Rattle.prop_core.specs.Clauses.{Clause, HasValues, NegatesOnly}
 use Rattle.prop_core.specs.VariableNames.{Name}
 use Rattle.prop_core.specs.declared.lit.Lit.{Lit}
 use Rattle.replay.specs.Explanation.{IsExplained, NeedsFaults}
@@ -81,9 +82,9 @@ finals_same code old new k since more keeps none finals clause hints in' = by (a
     by (inr now) = absurd (no_final_in more clause hints none now)
 
 pub come_further : (code : CodedLog) (old new : CounterState) (begun now : BuiltQuestion) (net : Net) (log : Log) (n k : ℕ) (first mid last : List BookEntry) (budget before after : ℕ) → KeepsColumns old new →
-    begun.axioms ≡ axioms_of first → now.axioms ≡ axioms_of mid → (built_within now (Some k)).axioms ≡ (built_within begun (Some k)).axioms →
+    begun.axioms ≡ axioms_of first → now.axioms ≡ axioms_of mid → built_within now (Some k) ≡ built_within begun (Some k) →
     HasComeToBy code old begun net log n k first mid budget before → HasAskedBy code new now net log n (Some k) mid last before after asked.Refuted → HasComeToBy code new begun net log n (suc k) first last budget after
-come_further code old new begun now net log n k first mid last budget before after keeps at_first at_mid listed come asked' = record {
+come_further code old new begun now net log n k first mid last budget before after keeps at_first at_mid same_within come asked' = record {
   since = come.since ++ asked'.since;
   whole = asked'.whole ∙ ap (λ b. b ++ asked'.since) come.whole ∙ append_assoc first come.since asked'.since;
   unmarked = λ number. counted_more (is_mark number) come.since asked'.since ∙ (let one = come.unmarked number in let two = asked'.unmarked number in omega (arith, one, two));
@@ -93,10 +94,15 @@ come_further code old new begun now net log n k first mid last budget before aft
   below = λ j is. (let same : k ≡ j = omega (arith, is) in subst (λ i. IsRefutedBelow code new net log n i begun (come.since ++ asked'.since)) same (record {
     assumed = asked'.means.assumed;
     assumptions = asked'.means.assumptions;
-    refuted = last_earlier begun now first mid come.since asked'.since net log n (Some k) asked'.means.assumed at_first at_mid listed come.whole asked'.means.refuted;
+    refuted = last_earlier begun now first mid come.since asked'.since net log n (Some k) asked'.means.assumed at_first at_mid same_within front_known come.whole asked'.means.refuted;
   }));
   needs = asked'.means.decided.above;
 }
+  where
+    front_known : AllByRecursion (HasValues (built_within now (Some k)).vars) (clauses_of come.since)
+    front_known = known_back (built_within now (Some k)).vars first come.since
+        (subst (λ es. AllByRecursion (HasValues (built_within now (Some k)).vars) (clauses_of es)) come.whole
+        (known_front (built_within now (Some k)).vars mid asked'.since (subst (λ es. AllByRecursion (HasValues (built_within now (Some k)).vars) (clauses_of es)) asked'.whole asked'.known)))
 
 -- the bounds below k stay refuted where nothing more is
 pub come_on : (code : CodedLog) (old new : CounterState) (begun now : BuiltQuestion) (net : Net) (log : Log) (n k : ℕ) (first mid last : List BookEntry) (budget before after : ℕ) (what : Asked) → KeepsColumns old new → what ≢ asked.Refuted →
@@ -145,6 +151,8 @@ module _ (steps : CodedSteps) (code : CodedLog) (counter : CounterState) (vars :
     assumed = assumed;
     refuted = refutation.refuted;
     listed = refutation.listed;
+    known = refutation.known;
+    known_assumed = refutation.known_assumed;
     posed_before = record {
       faithful = refutation.faithful;
       once = posed.once;

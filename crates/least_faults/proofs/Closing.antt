@@ -1,10 +1,14 @@
 -- From the entries of a search to those of a whole answer: what came before, and the marks.
-use Rattle.std.proofs.Common.{◌≡◌, ◌∙◌, ℕ, ◌+◌, true, ◌&&◌, ◌⊎◌, inl, inr, List, [], ◌∷◌, ◌++◌, length, Option, None, Some, IfNone, sym, ap, subst, arith, Contains, count_by, append-nil, append_assoc, Result, Ok, Err, IfOk, ◌≤◌, refl}
+use Rattle.std.proofs.Common.{◌≡◌, ◌∙◌, ℕ, ◌+◌, ◌-◌, true, ◌&&◌, ◌⊎◌, inl, inr, List, [], ◌∷◌, ◌++◌, length, Option, None, Some, IfNone, sym, ap, subst, arith, Contains, count_by, append-nil, append_assoc, Result, Ok, Err, IfOk, ◌≤◌, refl}
 use Rattle.std.proofs.lemmas.List.Elements.{filter_map-append, Contains-append_cases as append_cases}
 use Rattle.std.proofs.lemmas.List.Folds.{list_all-append}
-use Rattle.std.specs.List.{list_all}
+use Rattle.std.specs.List.{AllByRecursion, list_all}
+use Rattle.des_base.proofs.Elements.{all_append, all_change, all_split}
 use Rattle.des_net.specs.Network.{Net}
+use Rattle.least_faults.proofs.Assuming.{below_more}
+use Rattle.least_faults.proofs.ColumnsBuilt.{vars_grow, within_none}
 use Rattle.least_faults.proofs.Freshness.{fresh_both, known_same}
+use Rattle.least_faults.proofs.KnownVariables.{known_back, known_joined}
 use Rattle.least_faults.proofs.Putting.{counted_more, learnt_no_final, no_final_in, learnt_no_axioms}
 use Rattle.least_faults.proofs.Staying.{kept_by_axioms, with_axioms}
 use Rattle.least_faults.specs.declared.answer.Best.{Best}
@@ -12,12 +16,13 @@ use Rattle.least_faults.specs.declared.answer.Found.{Found}
 use Rattle.least_faults.specs.declared.answer.Found.TheVariants.{Explained, Absent, Many, Undecided}
 use Rattle.least_faults.specs.Answers.{asked_last, HasConflictFor, HaveLearntFresh, IsFound, IsAnswered}
 use Rattle.least_faults.specs.Ascending.{HasFound}
+use Rattle.least_faults.specs.Columns.{built_within, columns_for}
 use Rattle.least_faults.specs.Evidence.{HasFinal, IsEvidence, IsPosed}
 use Rattle.least_faults.specs.Parts.{AreParts, AreReady, built_of}
 use Rattle.log_order.specs.Log.{Log}
 use Rattle.proof_ledger.specs.Book.{BookEntry, final, mark, clause_of, clauses_of, axiom_of, axioms_of, is_mark}
 use Rattle.proof_ledger.specs.Fresh.{is_learnt}
-use Rattle.prop_core.specs.Clauses.{Clause}
+use Rattle.prop_core.specs.Clauses.{Clause, HasValues}
 use Rattle.prop_core.specs.Trail.{Clashes}
 use Rattle.replay.specs.QuestionSize.{variable_bound}
 use Rattle.run_decode.specs.QuestionAxioms.{BuiltQuestion}
@@ -31,9 +36,9 @@ use Rattle.least_faults.specs.Growing.{HasGrownWithin, KeepsQuestion}
 same_front : (first : List Clause) (front entries : List BookEntry) → list_all is_learnt front ≡ true → first ++ axioms_of entries ≡ first ++ axioms_of (front ++ entries)
 same_front first front entries all_learnt = ap (λ cs. first ++ cs) (sym (filter_map-append axiom_of front entries ∙ ap (λ cs. cs ++ axioms_of entries) (learnt_no_axioms front all_learnt)))
 
-evidence_later : (names : List (ℕ × Name)) (first : BuiltQuestion) (front since : List BookEntry) (net : Net) (log : Log) (n : ℕ) (bound : Option ℕ) → list_all is_learnt front ≡ true → IsEvidence names first since net log n bound →
+evidence_later : (names : List (ℕ × Name)) (first : BuiltQuestion) (front since : List BookEntry) (net : Net) (log : Log) (n : ℕ) (bound : Option ℕ) → list_all is_learnt front ≡ true → AllByRecursion (HasValues first.vars) (clauses_of front) → IsEvidence names first since net log n bound →
     IsEvidence names first (front ++ since) net log n bound
-evidence_later names first front since net log n bound all_learnt shown = record {
+evidence_later names first front since net log n bound all_learnt front_known shown = record {
   assumed = shown.assumed;
   refuted = record {
     earlier = front ++ shown.refuted.earlier;
@@ -45,9 +50,24 @@ evidence_later names first front since net log n bound all_learnt shown = record
     negates = shown.refuted.negates;
   };
   listed = sym (same_front first.axioms front shown.refuted.earlier all_learnt) ∙ shown.listed;
+  known = all_append (HasValues most) first.axioms (clauses_of ((front ++ shown.refuted.earlier) ++ last)) both_known.0
+      (subst (λ es. AllByRecursion (HasValues most) (clauses_of es)) (sym (append_assoc front shown.refuted.earlier last)) (known_joined most front (shown.refuted.earlier ++ last) grown both_known.1));
+  known_assumed = shown.known_assumed;
   posed_before = subst (λ cs. IsPosed names cs shown.assumed net log n bound) (same_front first.axioms front shown.refuted.earlier all_learnt) shown.posed_before;
   posed = subst (λ cs. IsPosed names cs shown.assumed net log n bound) (same_front first.axioms front since all_learnt) shown.posed;
 }
+  where
+    most : ℕ
+    most = (built_within first bound).vars
+
+    last : List BookEntry
+    last = final shown.refuted.clause shown.refuted.hints ∷ []
+
+    both_known : AllByRecursion (HasValues most) first.axioms × AllByRecursion (HasValues most) (clauses_of (shown.refuted.earlier ++ last))
+    both_known = all_split (HasValues most) first.axioms (clauses_of (shown.refuted.earlier ++ last)) shown.known
+
+    grown : AllByRecursion (HasValues most) (clauses_of front)
+    grown = all_change (HasValues first.vars) (HasValues most) (clauses_of front) (λ clause low. below_more first.vars most clause (vars_grow first (columns_for bound - length first.counter.columns)) low) front_known
 
 final_later : (front since : List BookEntry) (assumed : List Lit) → list_all is_learnt front ≡ true → HasFinal (front ++ since) assumed → HasFinal since assumed
 final_later front since assumed all_learnt has = record { clause = has.clause; hints = has.hints; there = by (append_cases front since (final has.clause has.hints) has.there); negates = has.negates }
@@ -57,38 +77,42 @@ final_later front since assumed all_learnt has = record { clause = has.clause; h
     by (inr here) = here
 
 -- what was found holds too where learnt entries came before
-is_found_later : (names : List (ℕ × Name)) (first : BuiltQuestion) (front since : List BookEntry) (net : Net) (log : Log) (n budget left : ℕ) (answer : Found) → list_all is_learnt front ≡ true → count_by is_learnt front + left ≡ budget →
+is_found_later : (names : List (ℕ × Name)) (first : BuiltQuestion) (front since : List BookEntry) (net : Net) (log : Log) (n budget left : ℕ) (answer : Found) → list_all is_learnt front ≡ true → AllByRecursion (HasValues first.vars) (clauses_of front) → count_by is_learnt front + left ≡ budget →
     IsFound names first since net log n left answer → IsFound names first (front ++ since) net log n budget answer
-is_found_later names first front since net log n budget left (Explained best) all_learnt paid is =
-    record { given = is.given; few = is.few; least = is.least; evidence = λ b faults. evidence_later names first front since net log n (Some b) all_learnt (is.evidence b faults) }
-is_found_later names first front since net log n budget left Absent all_learnt paid is = record { absent = is.absent; evidence = evidence_later names first front since net log n None all_learnt is.evidence }
-is_found_later names first front since net log n budget left (Many best) all_learnt paid is =
-    record { given = is.given; above = is.above; many = is.many; evidence = evidence_later names first front since net log n (Some 255) all_learnt is.evidence }
-is_found_later names first front since net log n budget left (Undecided lo best) all_learnt paid is = record {
+is_found_later names first front since net log n budget left (Explained best) all_learnt known paid is =
+    record { given = is.given; few = is.few; least = is.least; evidence = λ b faults. evidence_later names first front since net log n (Some b) all_learnt known (is.evidence b faults) }
+is_found_later names first front since net log n budget left Absent all_learnt known paid is = record { absent = is.absent; evidence = evidence_later names first front since net log n None all_learnt known is.evidence }
+is_found_later names first front since net log n budget left (Many best) all_learnt known paid is =
+    record { given = is.given; above = is.above; many = is.many; evidence = evidence_later names first front since net log n (Some 255) all_learnt known is.evidence }
+is_found_later names first front since net log n budget left (Undecided lo best) all_learnt known paid is = record {
   spent = counted_more is_learnt front since ∙ (let rest = is.spent in omega (arith, rest, paid));
   above = is.above;
-  evidence = λ b faults. evidence_later names first front since net log n (Some b) all_learnt (is.evidence b faults);
+  evidence = λ b faults. evidence_later names first front since net log n (Some b) all_learnt known (is.evidence b faults);
   greatest = λ b assumed reads has. is.greatest b assumed reads (final_later front since assumed all_learnt has);
   given = is.given;
   unknown = none best is.unknown;
 }
   where
     none : (o : Option Best) → IfNone o ((lo ≡ 0) × (list_all is_learnt since ≡ true)) → IfNone o ((lo ≡ 0) × (list_all is_learnt (front ++ since) ≡ true))
-    none None known = (known.0, list_all-append is_learnt front since ∙ ap (λ b. b && list_all is_learnt since) all_learnt ∙ known.1)
-    none (Some run) known = tt
+    none None alone = (alone.0, list_all-append is_learnt front since ∙ ap (λ b. b && list_all is_learnt since) all_learnt ∙ alone.1)
+    none (Some run) alone = tt
 
-pub found_later : (names : List (ℕ × Name)) (begun now : BuiltQuestion) (net : Net) (log : Log) (n budget left : ℕ) (old mid new front : List BookEntry) (answer : Found) → now ≡ begun → mid ≡ old ++ front → ((number : ℕ) → count_by (is_mark number) front ≡ 0) → list_all is_learnt front ≡ true →
+pub found_later : (names : List (ℕ × Name)) (begun now : BuiltQuestion) (net : Net) (log : Log) (n budget left : ℕ) (old mid new front : List BookEntry) (answer : Found) → now ≡ begun → AllByRecursion (HasValues (built_within begun None).vars) (clauses_of mid) → mid ≡ old ++ front → ((number : ℕ) → count_by (is_mark number) front ≡ 0) → list_all is_learnt front ≡ true →
     count_by is_learnt front + left ≡ budget → HasFound names now net log n left mid new answer → HaveLearntFresh old front → HasFound names begun net log n budget old new answer
-found_later names begun now net log n budget left old mid new front answer same whole unmarked all_learnt paid found fresh = record {
+found_later names begun now net log n budget left old mid new front answer same mid_known whole unmarked all_learnt paid found fresh = record {
   since = front ++ found.since;
   whole = found.whole ∙ ap (λ b. b ++ found.since) whole ∙ append_assoc old front found.since;
   unmarked = λ number. counted_more (is_mark number) front found.since ∙ (let one = unmarked number in let two = found.unmarked number in omega (arith, one, two));
   within = within (count_by is_learnt front) (count_by is_learnt found.since) (count_by is_learnt (front ++ found.since)) (counted_more is_learnt front found.since) found.within refl;
   fresh = fresh_both old mid front found.since whole fresh found.fresh;
   conflict = found.conflict;
-  found = is_found_later names begun front found.since net log n budget left answer all_learnt paid (subst (λ (first : BuiltQuestion). IsFound names first found.since net log n left answer) same found.found);
+  found = is_found_later names begun front found.since net log n budget left answer all_learnt front_known paid (subst (λ (first : BuiltQuestion). IsFound names first found.since net log n left answer) same found.found);
 }
   where
+    front_known : AllByRecursion (HasValues begun.vars) (clauses_of front)
+    front_known = known_back begun.vars old front
+        (subst (λ es. AllByRecursion (HasValues begun.vars) (clauses_of es)) whole (subst (λ (question : BuiltQuestion). AllByRecursion (HasValues question.vars) (clauses_of mid)) (within_none begun) mid_known))
+
     within : (one two all : ℕ) → all ≡ one + two → two ≤ left → one ≡ count_by is_learnt front → all ≤ budget
     within one two all is less count = omega (arith, is, less, count, paid)
 

@@ -1,5 +1,5 @@
 -- A question with columns after columns.
-use Rattle.std.proofs.Common.{◌≡◌, ◌∙◌, ℕ, zero, suc, ◌+◌, ◌-◌, [], ◌∷◌, length, max, Option, Some, refl, ap, arith, length-append}
+use Rattle.std.proofs.Common.{◌≡◌, ◌∙◌, ℕ, zero, suc, ◌+◌, ◌-◌, ◌≤◌, [], ◌∷◌, length, max, Option, None, Some, refl, ap, arith, length-append}
 use Rattle.std.specs.List.{range_with_len}
 use Rattle.des_net.specs.Network.{Net}
 use Rattle.least_faults.specs.Columns.{columns_built, columns_for, built_within}
@@ -25,6 +25,17 @@ columns_counted question (suc columns) =
 pub question_columns : (net : Net) (log : Log) (n a b : ℕ) → columns_built (question_built net log n a) b ≡ question_built net log n (a + b)
 question_columns net log n a zero = ap (question_built net log n) (none_more a)
 question_columns net log n a (suc b) = ap column_built (question_columns net log n a b) ∙ ap (question_built net log n) (one_more a b)
+
+pub vars_grow : (question : BuiltQuestion) (columns : ℕ) → question.vars ≤ (columns_built question columns).vars
+vars_grow question zero = omega arith
+vars_grow question (suc columns) = omega (arith, vars_grow question columns)
+
+-- without a bound nothing is needed
+pub within_none : (question : BuiltQuestion) → built_within question None ≡ question
+within_none question = ap (columns_built question) (none (length question.counter.columns))
+  where
+    none : (before : ℕ) → columns_for None - before ≡ 0
+    none before = omega arith
 
 -- a question without columns gets all that the bound needs
 pub question_within_bound : (net : Net) (log : Log) (n : ℕ) (bound : Option ℕ) → built_within (question_built net log n 0) bound ≡ question_built net log n (columns_for bound)

@@ -16,6 +16,7 @@ pub mod Determined
 pub mod Freshness
 pub mod Entailing
 pub mod KnownEvents
+pub mod KnownVariables
 pub mod FaultSteps
 pub mod Assuming
 pub mod Staying

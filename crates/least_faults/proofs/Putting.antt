@@ -3,13 +3,14 @@ use Rattle.std.proofs.Common.{◌≡◌, ◌∙◌, ℕ, ◌+◌, Bool, true, fa
 use Rattle.std.proofs.lemmas.List.Elements.{filter_map-append, Contains-append_cases as append_cases}
 use Rattle.std.proofs.lemmas.List.Folds.{list_any-append}
 use Rattle.std.proofs.lemmas.List.Sums.{sum_by-append}
-use Rattle.std.specs.List.{list_any, list_all}
-use Rattle.des_base.proofs.Elements.{cons_cases, none_in_nil}
+use Rattle.std.specs.List.{AllByRecursion, list_any, list_all}
+use Rattle.des_base.proofs.Elements.{all_append, all_split, cons_cases, none_in_nil}
+use Rattle.least_faults.proofs.KnownVariables.{known_joined}
 use Rattle.least_faults.specs.Columns.{built_within}
 use Rattle.least_faults.specs.Evidence.{is_final, IsRefutation}
-use Rattle.proof_ledger.specs.Book.{BookEntry, axiomatic, learnt, final, mark, clause_of, axiom_of, axioms_of, is_mark}
+use Rattle.proof_ledger.specs.Book.{BookEntry, axiomatic, learnt, final, mark, clause_of, axiom_of, axioms_of, clauses_of, is_mark}
 use Rattle.proof_ledger.specs.Fresh.{is_learnt}
-use Rattle.prop_core.specs.Clauses.{Clause}
+use Rattle.prop_core.specs.Clauses.{Clause, HasValues}
 use Rattle.prop_core.specs.declared.lit.Lit.{Lit}
 use Rattle.sat_solve.specs.Searching.{is_derived, IsClosedByFinal}
 use Rattle.des_net.specs.Network.{Net}
@@ -110,13 +111,15 @@ last_later first since more net log n bound assumed none last = record {
     negates = last.refuted.negates;
   };
   listed = last.listed;
+  known = last.known;
+  known_assumed = last.known_assumed;
   faithful = last.faithful;
 }
 
 -- the same since an earlier moment, from which to this one the question got columns that the bound needs, and nothing else
 pub last_earlier : (begun now : BuiltQuestion) (first mid front since : List BookEntry) (net : Net) (log : Log) (n : ℕ) (bound : Option ℕ) (assumed : List Lit) → begun.axioms ≡ axioms_of first → now.axioms ≡ axioms_of mid →
-    (built_within now bound).axioms ≡ (built_within begun bound).axioms → mid ≡ first ++ front → IsRefutation now since net log n bound assumed → IsRefutation begun (front ++ since) net log n bound assumed
-last_earlier begun now first mid front since net log n bound assumed at_first at_mid same whole last = record {
+    built_within now bound ≡ built_within begun bound → AllByRecursion (HasValues (built_within now bound).vars) (clauses_of front) → mid ≡ first ++ front → IsRefutation now since net log n bound assumed → IsRefutation begun (front ++ since) net log n bound assumed
+last_earlier begun now first mid front since net log n bound assumed at_first at_mid same front_known whole last = record {
   refuted = record {
     earlier = front ++ last.refuted.earlier;
     clause = last.refuted.clause;
@@ -126,10 +129,25 @@ last_earlier begun now first mid front since net log n bound assumed at_first at
     last = last.refuted.last;
     negates = last.refuted.negates;
   };
-  listed = sym further ∙ last.listed ∙ same;
+  listed = sym further ∙ last.listed ∙ ap (λ (question : BuiltQuestion). question.axioms) same;
+  known = subst (λ (question : BuiltQuestion). AllByRecursion (HasValues question.vars) (begun.axioms ++ clauses_of ((front ++ last.refuted.earlier) ++ final last.refuted.clause last.refuted.hints ∷ []))) same
+      (all_append (HasValues vars) begun.axioms (clauses_of ((front ++ last.refuted.earlier) ++ final last.refuted.clause last.refuted.hints ∷ [])) first_known
+      (subst (λ es. AllByRecursion (HasValues vars) (clauses_of es)) (sym (append_assoc front last.refuted.earlier (final last.refuted.clause last.refuted.hints ∷ [])))
+      (known_joined vars front (last.refuted.earlier ++ final last.refuted.clause last.refuted.hints ∷ []) front_known both_known.1)));
+  known_assumed = subst (λ (question : BuiltQuestion). HasValues question.vars assumed) same last.known_assumed;
   faithful = subst (λ axioms. IsFaithful axioms assumed net log n bound) further last.faithful;
 }
   where
+    vars : ℕ
+    vars = (built_within now bound).vars
+
+    both_known : AllByRecursion (HasValues vars) now.axioms × AllByRecursion (HasValues vars) (clauses_of (last.refuted.earlier ++ final last.refuted.clause last.refuted.hints ∷ []))
+    both_known = all_split (HasValues vars) now.axioms (clauses_of (last.refuted.earlier ++ final last.refuted.clause last.refuted.hints ∷ [])) last.known
+
+    first_known : AllByRecursion (HasValues vars) begun.axioms
+    first_known = (all_split (HasValues vars) begun.axioms (axioms_of front)
+        (subst (AllByRecursion (HasValues vars)) (at_mid ∙ ap axioms_of whole ∙ filter_map-append axiom_of first front ∙ ap (λ cs. cs ++ axioms_of front) (sym at_first)) both_known.0)).0
+
     further : now.axioms ++ axioms_of last.refuted.earlier ≡ begun.axioms ++ axioms_of (front ++ last.refuted.earlier)
     further = ap (λ cs. cs ++ axioms_of last.refuted.earlier) at_mid ∙ axioms_further first mid front last.refuted.earlier whole ∙ ap (λ cs. cs ++ axioms_of (front ++ last.refuted.earlier)) (sym at_first)
 

@@ -4,7 +4,7 @@ use Rattle.card_counter.specs.CounterState.{CounterState}
 use Rattle.des_net.specs.Network.{Net}
 use Rattle.least_faults.proofs.Climbing.{come_on, come_further, searched_so_far, searching_further}
 use Rattle.least_faults.proofs.Columns.{keeps_none, keeps_both}
-use Rattle.least_faults.proofs.ColumnsBuilt.{columns_both, question_columns, within_further}
+use Rattle.least_faults.proofs.ColumnsBuilt.{columns_both, question_columns, within_further, within_none}
 use Rattle.least_faults.specs.declared.answer.Best.{Best}
 use Rattle.least_faults.specs.declared.asking.Asked.{Asked}
 use Rattle.least_faults.specs.declared.asking.Asked.TheVariants.{Refuted}
@@ -89,10 +89,7 @@ built_for {R} {book} old new bound keeps wide = keeps.built ∙ ap (columns_buil
 
 -- without a bound nothing is added
 pub built_same : {R : Type 0} {book entries : List BookEntry} (old new : Parts R) → KeepsQuestion old new book entries → length new.counter.columns ≡ max (length old.counter.columns) (columns_for None) → built_of new entries ≡ built_of old book
-built_same {R} {book} old new keeps wide = built_for old new None keeps wide ∙ ap (columns_built (built_of old book)) (none (length old.counter.columns))
-  where
-    none : (before : ℕ) → columns_for None - before ≡ 0
-    none before = omega arith
+built_same {R} {book} old new keeps wide = built_for old new None keeps wide ∙ within_none (built_of old book)
 
 pub belong_still : {R : Type 0} {book entries : List BookEntry} (net : Net) (log : Log) (old new : Parts R) → KeepsQuestion old new book entries → BelongTo net log old → BelongTo net log new
 belong_still net log old new keeps belong =
@@ -122,7 +119,7 @@ pub comes_further : {R : Type 0} (begin old new : Parts R) (net : Net) (log : Lo
     HasComeTo new (built_of begin first) net log (suc k) first last budget after
 comes_further begin old new net log k first mid last budget before after kept keeps wide come =
     come_further new.code.code old.counter new.counter (built_of begin first) (built_of old mid) net log new.step.steps k first mid last budget before after keeps.counter refl refl
-    (ap (λ (question : BuiltQuestion). question.axioms) (within_further (built_of begin first) (built_of old mid) (length kept.counter.columns) k kept.built wide))
+    (within_further (built_of begin first) (built_of old mid) (length kept.counter.columns) k kept.built wide)
     (come_by_counter old new (built_of begin first) net log k first mid budget before keeps come)
 
 -- none is

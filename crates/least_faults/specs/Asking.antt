@@ -1,6 +1,6 @@
 -- One question of a search: what it assumes, what it leaves in the book, and what its answer means.
-use Rattle.std.specs.Prelude.{◌≡◌, ◌≢◌, ℕ, ◌+◌, ◌<◌, ◌≤◌, true, false, List, [], ◌∷◌, ◌++◌, length, max, Option, Some, None, IfSome, IfNone, Contains, count_by}
-use Rattle.std.specs.List.{list_all, list_any}
+use Rattle.std.specs.Prelude.{◌≡◌, ◌≢◌, ℕ, ◌+◌, ◌<◌, ◌≤◌, true, false, List, [], ◌∷◌, ◌++◌, length, map, max, Option, Some, None, IfSome, IfNone, Contains, count_by}
+use Rattle.std.specs.List.{AllByRecursion, list_all, list_any}
 use Rattle.card_counter.specs.CounterState.{CounterState, bound_literal}
 use Rattle.des_net.specs.Network.{Net, IsNetwork}
 use Rattle.least_faults.specs.declared.answer.Best.{Best}
@@ -8,14 +8,15 @@ use Rattle.least_faults.specs.declared.asking.Asked.{Asked}
 use Rattle.least_faults.specs.declared.asking.Asked.TheVariants.{Explained, Refuted, Spent}
 use Rattle.least_faults.specs.declared.parts.Parts.{Parts}
 use Rattle.least_faults.specs.Answers.{HaveLearntFresh, IsExplanation}
-use Rattle.least_faults.specs.Columns.{columns_for}
+use Rattle.least_faults.specs.Columns.{built_within, columns_for}
 use Rattle.least_faults.specs.Evidence.{IsPosed, is_final, IsRefutation}
 use Rattle.log_clauses.specs.LogClauses.{guard_literals}
 use Rattle.log_encode.specs.CodedLog.{CodedLog, read_names, without_names}
 use Rattle.log_order.specs.Log.{Log, IsValidLog}
 use Rattle.proof_ledger.specs.Book.{BookEntry, final, clauses_of, is_mark}
 use Rattle.proof_ledger.specs.Fresh.{is_learnt}
-use Rattle.prop_core.specs.Clauses.{Clause, NegatesOnly}
+use Rattle.prop_core.specs.Clauses.{Clause, HasValues, NegatesOnly}
+use Rattle.prop_core.specs.Listings.{literal_by}
 use Rattle.prop_core.specs.Trail.{Clashes}
 use Rattle.prop_core.specs.VariableNames.{ReadsAs}
 use Rattle.prop_core.specs.declared.lit.Lit.{Lit}
@@ -37,6 +38,16 @@ pub record AreAssumptions (code : CodedLog) (counter : CounterState) (bound : Op
   pub read : ReadsAs (read_names code) guards (guard_literals code.net code.log)
   pub whole : assumed ≡ guards ++ bound_part counter bound
   pub column : IfSome bound (λ k. k < length counter.columns)
+
+-- both in their order
+abbrev pub assumed_by : CodedLog → CounterState → Option ℕ → List Lit
+assumed_by code counter bound = map (literal_by (read_names code)) (guard_literals code.net code.log) ++ bound_part counter bound
+
+-- They are this list, and the counter has got the columns that the bound needs.
+pub record AreAssumed {R : Type 0} (before : CounterState) (parts : Parts R) (bound : Option ℕ) (assumed : List Lit) : Type 0 where
+  pub listed : assumed ≡ assumed_by parts.code.code parts.counter bound
+  pub assumptions : AreAssumptions parts.code.code parts.counter bound assumed
+  pub columns : length parts.counter.columns ≡ max (length before.columns) (columns_for bound)
 
 -- at most k faults can be asked for: there is something to count, and the bound is one of the columns that a counter may have
 pub record IsBoundable (counter : CounterState) (k : ℕ) : Type 0 where
@@ -97,7 +108,7 @@ Means code counter net log n bound first since book budget (Explained best) = Is
 Means code counter net log n bound first since book budget Refuted = IsRefusal code counter net log n bound first since
 Means code counter net log n bound first since book budget Spent = IsStopped code counter bound book budget
 
--- all of it, where the question was built so first: the counter has got the columns that the bound needs
+-- all of it, where the question was built so first: the counter has got the columns that the bound needs, and all clauses of the book are over the variables of the question with them
 pub record HasAskedBy (code : CodedLog) (counter : CounterState) (first : BuiltQuestion) (net : Net) (log : Log) (n : ℕ) (bound : Option ℕ) (old new : List BookEntry) (budget_old budget_new : ℕ) (asked : Asked) : Type 0 where
   pub since : List BookEntry
   pub whole : new ≡ old ++ since
@@ -105,6 +116,7 @@ pub record HasAskedBy (code : CodedLog) (counter : CounterState) (first : BuiltQ
   pub paid : count_by is_learnt since + budget_new ≡ budget_old
   pub fresh : HaveLearntFresh old since
   pub columns : length counter.columns ≡ max (length first.counter.columns) (columns_for bound)
+  pub known : AllByRecursion (HasValues (built_within first bound).vars) (clauses_of new)
   pub put : ArePut code counter bound since asked
   pub means : Means code counter net log n bound first since new budget_new asked
 

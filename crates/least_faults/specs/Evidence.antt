@@ -1,11 +1,11 @@
 -- What in a book shows that nothing explains a log within a bound on the faults.
-use Rattle.std.specs.Prelude.{◌≡◌, ℕ, Bool, true, false, List, ◌∷◌, ◌++◌, Option, Contains}
+use Rattle.std.specs.Prelude.{◌≡◌, ℕ, Bool, true, false, List, [], ◌∷◌, ◌++◌, Option, Contains}
 use Rattle.std.specs.List.{AllByRecursion, list_any}
 use Rattle.des_net.specs.Network.{Net}
 use Rattle.least_faults.specs.Columns.{built_within}
 use Rattle.log_order.specs.Log.{Log}
-use Rattle.proof_ledger.specs.Book.{BookEntry, axiomatic, learnt, final, mark, axioms_of}
-use Rattle.prop_core.specs.Clauses.{Clause, NegatesOnly}
+use Rattle.proof_ledger.specs.Book.{BookEntry, axiomatic, learnt, final, mark, axioms_of, clauses_of}
+use Rattle.prop_core.specs.Clauses.{Clause, HasValues, NegatesOnly}
 use Rattle.prop_core.specs.VariableNames.{Name, HasEachOnce, ReadsAs}
 use Rattle.prop_core.specs.declared.lit.Lit.{Lit}
 use Rattle.run_decode.specs.Drawn.{IsInstance, assumption_literals}
@@ -42,17 +42,21 @@ pub record HasLastFinal (entries : List BookEntry) (assumed : List Lit) : Type 0
   pub last : list_any is_final later ≡ false
   pub negates : NegatesOnly assumed clause
 
--- The last of these final entries has. The axioms before it, the first ones and those of these entries, are as a list those of the question that was built first, with the columns that the bound needs. With them what is assumed is faithful to the question within the bound.
+-- The last of these final entries has. The axioms before it, the first ones and those of these entries, are as a list those of the question that was built first, with the columns that the bound needs, and what is assumed and all clauses up to this one are over the variables of that question. With the axioms what is assumed is faithful to the question within the bound.
 pub record IsRefutation (first : BuiltQuestion) (entries : List BookEntry) (net : Net) (log : Log) (n : ℕ) (bound : Option ℕ) (assumed : List Lit) : Type 0 where
   pub refuted : HasLastFinal entries assumed
   pub listed : first.axioms ++ axioms_of refuted.earlier ≡ (built_within first bound).axioms
+  pub known : AllByRecursion (HasValues (built_within first bound).vars) (first.axioms ++ clauses_of (refuted.earlier ++ final refuted.clause refuted.hints ∷ []))
+  pub known_assumed : HasValues (built_within first bound).vars assumed
   pub faithful : IsFaithful (first.axioms ++ axioms_of refuted.earlier) assumed net log n bound
 
 -- The last of these final entries refutes the question within the bound. The axioms before it pose that question: those that the book had first, and those of these entries. So do all.
--- As a list they are those of the question that was built first, with the columns that the bound needs.
+-- As a list they are those of the question that was built first, with the columns that the bound needs, and what is assumed and all clauses up to that one are over the variables of that question.
 pub record IsEvidence (names : List (ℕ × Name)) (first : BuiltQuestion) (entries : List BookEntry) (net : Net) (log : Log) (n : ℕ) (bound : Option ℕ) : Type 0 where
   pub assumed : List Lit
   pub refuted : HasLastFinal entries assumed
   pub listed : first.axioms ++ axioms_of refuted.earlier ≡ (built_within first bound).axioms
+  pub known : AllByRecursion (HasValues (built_within first bound).vars) (first.axioms ++ clauses_of (refuted.earlier ++ final refuted.clause refuted.hints ∷ []))
+  pub known_assumed : HasValues (built_within first bound).vars assumed
   pub posed_before : IsPosed names (first.axioms ++ axioms_of refuted.earlier) assumed net log n bound
   pub posed : IsPosed names (first.axioms ++ axioms_of entries) assumed net log n bound

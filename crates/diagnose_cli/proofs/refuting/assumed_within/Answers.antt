@@ -1,7 +1,7 @@
 -- The guards, and then the literal for the bound.
 use Rattle.std.proofs.Common.{◌∙◌, ◌<◌, IfSome, arith, length, refl, sym, subst}
-use Rattle.diagnose_cli.specs.Formula.{AreAssumed}
-use Rattle.diagnose_cli.proofs.Formulas.{assumed_alone, assumed_bound}
+use Rattle.least_faults.proofs.Assuming.{assumed_alone, assumed_bound}
+use Rattle.least_faults.specs.Asking.{AreAssumed}
 use Rattle.diagnose_cli.proofs.refuting.assumed_within.Goals as goal
 use Rattle.diagnose_cli.proofs.refuting.assumed_within.Goals.{in-Some+in_ok-push, in_default}
 

@@ -28,7 +28,7 @@ solve-requires-clause-known g c =
     let parts = c.assumptions.new.parts in
     let belong = belong_still c.args.question.net.now c.args.question.log.now c.args.parts.now parts c.assumptions.ensures.kept c.requires.belong in
     let asks = posed _ _ parts c.assumptions.new.book.entries c.args.question.net.now c.args.question.log.now c.args.within c.in_ok-assumed.assumed.items c.assumptions.ensures.ready
-    c.in_ok-assumed.ensures.assumed belong c.is_built.ensures.network c.is_whole.ensures.whole.valid in
+    c.in_ok-assumed.ensures.assumed.assumptions belong c.is_built.ensures.network c.is_whole.ensures.whole.valid in
     subst (HasValues parts.solver.vars) (sym c.as_slice.ensures.value)
     (below_more parts.vars parts.solver.vars c.in_ok-assumed.assumed.items c.assumptions.ensures.ready.enough
     (assumed_below parts.step parts.code.code parts.counter parts.vars (axioms_of c.assumptions.new.book.entries) (axioms_of c.assumptions.new.book.entries) c.in_ok-assumed.assumed.items parts.step.net c.args.question.log.now parts.step.steps c.args.within
@@ -39,7 +39,7 @@ solve-requires-clause-compatible g c =
     let parts = c.assumptions.new.parts in
     let belong = belong_still c.args.question.net.now c.args.question.log.now c.args.parts.now parts c.assumptions.ensures.kept c.requires.belong in
     let asks = posed _ _ parts c.assumptions.new.book.entries c.args.question.net.now c.args.question.log.now c.args.within c.in_ok-assumed.assumed.items c.assumptions.ensures.ready
-    c.in_ok-assumed.ensures.assumed belong c.is_built.ensures.network c.is_whole.ensures.whole.valid in
+    c.in_ok-assumed.ensures.assumed.assumptions belong c.is_built.ensures.network c.is_whole.ensures.whole.valid in
     subst AreCompatible (sym c.as_slice.ensures.value) (compatible c.in_ok-assumed.assumed.items asks.faithful.consistent)
 
 pub returns-in-Unsat-clause-asked : goal.returns-in-Unsat-clause-asked
@@ -48,9 +48,10 @@ returns-in-Unsat-clause-asked g c =
     let belong = belong_still c.args.question.net.now c.args.question.log.now c.args.parts.now parts c.assumptions.ensures.kept c.requires.belong in
     asked_refuted parts.step parts.code.code parts.counter parts.vars c.args.question.net.now c.args.question.log.now c.assumptions.new.book.entries c.assumptions.ensures.ready.coded
     belong.of_steps c.is_built.ensures.network c.is_whole.ensures.whole.valid
-    belong.same_log c.args.within c.in_ok-assumed.assumed.items c.in_ok-assumed.ensures.assumed
+    belong.same_log c.args.within c.in_ok-assumed.assumed.items c.in_ok-assumed.ensures.assumed.assumptions
     c.args.book.now.entries c.solve.new.book.entries c.args.budget.now c.solve.new.budget c.assumptions.ensures.axioms c.solve.ensures.searched c.assumptions.ensures.ready.known
-    (built_of c.args.parts.now c.args.book.now.entries) refl c.in_ok-assumed.ensures.columns (ap (λ (question : BuiltQuestion). question.axioms) (built_for c.args.parts.now parts c.args.within c.assumptions.ensures.kept c.in_ok-assumed.ensures.columns)) c.in-Unsat.field-0
+    (built_of c.args.parts.now c.args.book.now.entries) refl c.in_ok-assumed.ensures.assumed.columns (ap (λ (question : BuiltQuestion). question.axioms) (built_for c.args.parts.now parts c.args.within c.assumptions.ensures.kept c.in_ok-assumed.ensures.assumed.columns))
+    (ap (λ (question : BuiltQuestion). question.vars) (built_for c.args.parts.now parts c.args.within c.assumptions.ensures.kept c.in_ok-assumed.ensures.assumed.columns)) c.in-Unsat.field-0
     (subst (HasPut c.assumptions.new.book.entries c.solve.new.book.entries) c.in-Unsat.is c.in_ok-answer.ensures.put)
     (subst (λ xs. IsAnswer c.solve.new.self.assignment c.solve.new.book.entries xs c.solve.new.budget (Answer.Unsat c.in-Unsat.field-0)) c.as_slice.ensures.value
     (subst (IsAnswer c.solve.new.self.assignment c.solve.new.book.entries c.as_slice.result.now c.solve.new.budget) c.in-Unsat.is c.in_ok-answer.ensures.answer))
@@ -62,9 +63,10 @@ returns-in-Spent-clause-asked g c =
     let belong = belong_still c.args.question.net.now c.args.question.log.now c.args.parts.now parts c.assumptions.ensures.kept c.requires.belong in
     asked_spent parts.step parts.code.code parts.counter parts.vars c.args.question.net.now c.args.question.log.now c.assumptions.new.book.entries c.assumptions.ensures.ready.coded
     belong.of_steps c.is_built.ensures.network c.is_whole.ensures.whole.valid
-    belong.same_log c.args.within c.in_ok-assumed.assumed.items c.in_ok-assumed.ensures.assumed
+    belong.same_log c.args.within c.in_ok-assumed.assumed.items c.in_ok-assumed.ensures.assumed.assumptions
     c.args.book.now.entries c.solve.new.book.entries c.args.budget.now c.solve.new.budget c.assumptions.ensures.axioms c.solve.ensures.searched c.assumptions.ensures.ready.known
-    (built_of c.args.parts.now c.args.book.now.entries) refl c.in_ok-assumed.ensures.columns (ap (λ (question : BuiltQuestion). question.axioms) (built_for c.args.parts.now parts c.args.within c.assumptions.ensures.kept c.in_ok-assumed.ensures.columns))
+    (built_of c.args.parts.now c.args.book.now.entries) refl c.in_ok-assumed.ensures.assumed.columns (ap (λ (question : BuiltQuestion). question.axioms) (built_for c.args.parts.now parts c.args.within c.assumptions.ensures.kept c.in_ok-assumed.ensures.assumed.columns))
+    (ap (λ (question : BuiltQuestion). question.vars) (built_for c.args.parts.now parts c.args.within c.assumptions.ensures.kept c.in_ok-assumed.ensures.assumed.columns))
     (none_added c.args.within c.args.book.now.entries c.assumptions.new.book.entries c.assumptions.ensures.axioms c.assumptions.ensures.none)
     (subst (HasPut c.assumptions.new.book.entries c.solve.new.book.entries) c.in-Spent.is c.in_ok-answer.ensures.put)
     (subst (λ xs. IsAnswer c.solve.new.self.assignment c.solve.new.book.entries xs c.solve.new.budget Answer.Spent) c.as_slice.ensures.value
@@ -79,7 +81,7 @@ found_run-requires-clause-true_there g c =
     let parts = c.assumptions.new.parts in
     let values = c.solve.new.self.assignment in
     let holds = model values c.solve.new.book.entries c.as_slice.result.now c.in_ok-assumed.assumed.items c.solve.new.budget c.in_ok-answer.answer c.in-Sat.is c.as_slice.ensures.value c.in_ok-answer.ensures.answer in
-    true_run parts.step parts.code.code parts.counter parts.vars (axioms_of c.assumptions.new.book.entries) c.args.within c.in_ok-assumed.assumed.items (value_in values) c.assumptions.ensures.ready.coded c.in_ok-assumed.ensures.assumed
+    true_run parts.step parts.code.code parts.counter parts.vars (axioms_of c.assumptions.new.book.entries) c.args.within c.in_ok-assumed.assumed.items (value_in values) c.assumptions.ensures.ready.coded c.in_ok-assumed.ensures.assumed.assumptions
     (begun_true (value_in values) c.assumptions.new.book.entries c.solve.new.book.entries c.args.budget.now c.solve.new.budget c.solve.ensures.searched holds.clauses) holds.assumptions
 
 pub returns-clause-asked : goal.returns-clause-asked
@@ -90,9 +92,10 @@ returns-clause-asked g c =
     let holds = model values c.solve.new.book.entries c.as_slice.result.now c.in_ok-assumed.assumed.items c.solve.new.budget c.in_ok-answer.answer c.in-Sat.is c.as_slice.ensures.value c.in_ok-answer.ensures.answer in
     asked_explained parts.step parts.code.code parts.counter parts.vars c.args.question.net.now c.args.question.log.now c.assumptions.new.book.entries c.assumptions.ensures.ready.coded
     belong.of_steps c.is_built.ensures.network c.is_whole.ensures.whole.valid
-    belong.same_log c.args.within c.in_ok-assumed.assumed.items c.in_ok-assumed.ensures.assumed
+    belong.same_log c.args.within c.in_ok-assumed.assumed.items c.in_ok-assumed.ensures.assumed.assumptions
     c.args.book.now.entries c.solve.new.book.entries c.args.budget.now c.solve.new.budget c.assumptions.ensures.axioms c.solve.ensures.searched c.assumptions.ensures.ready.known
-    (built_of c.args.parts.now c.args.book.now.entries) refl c.in_ok-assumed.ensures.columns (ap (λ (question : BuiltQuestion). question.axioms) (built_for c.args.parts.now parts c.args.within c.assumptions.ensures.kept c.in_ok-assumed.ensures.columns)) (value_in values) c.in_ok-found_run-in-Sat.field-0
+    (built_of c.args.parts.now c.args.book.now.entries) refl c.in_ok-assumed.ensures.assumed.columns (ap (λ (question : BuiltQuestion). question.axioms) (built_for c.args.parts.now parts c.args.within c.assumptions.ensures.kept c.in_ok-assumed.ensures.assumed.columns))
+    (ap (λ (question : BuiltQuestion). question.vars) (built_for c.args.parts.now parts c.args.within c.assumptions.ensures.kept c.in_ok-assumed.ensures.assumed.columns)) (value_in values) c.in_ok-found_run-in-Sat.field-0
     (none_added c.args.within c.args.book.now.entries c.assumptions.new.book.entries c.assumptions.ensures.axioms c.assumptions.ensures.none)
     (subst (HasPut c.assumptions.new.book.entries c.solve.new.book.entries) c.in-Sat.is c.in_ok-answer.ensures.put)
     (begun_true (value_in values) c.assumptions.new.book.entries c.solve.new.book.entries c.args.budget.now c.solve.new.budget c.solve.ensures.searched holds.clauses) holds.assumptions c.in_ok-found_run-in-Sat.ensures.given c.in_ok-found_run-in-Sat.ensures.faults

@@ -1,17 +1,13 @@
-use Rattle.std.proofs.Common.{◌≡◌, ℕ, None, arith, length, max, sym, subst}
-use Rattle.least_faults.proofs.Assuming.{with_bound, without_bound}
+use Rattle.std.proofs.Common.{arith, sym, subst}
+use Rattle.least_faults.proofs.Assuming.{assumed_alone, assumed_bound}
 use Rattle.least_faults.proofs.AxiomLists.{adds_none}
 use Rattle.least_faults.proofs.Staying.{question_same}
 use Rattle.least_faults.proofs.asking.assumptions.Goals as goal
 use Rattle.least_faults.proofs.asking.assumptions.Goals.{in-Some+in_ok-bound+in_ok-push, in_default}
-use Rattle.least_faults.specs.Asking.{AreAssumptions}
-use Rattle.least_faults.specs.Columns.{columns_for}
+use Rattle.least_faults.specs.Asking.{AreAssumed}
 use Rattle.least_faults.specs.Growing.{AddsAxioms, KeepsQuestion}
 use Rattle.least_faults.specs.Parts.{AreReady}
 use Rattle.least_faults.specs.declared.parts.Parts.{Parts}
-use Rattle.log_clauses.specs.LogClauses.{guard_literals}
-use Rattle.log_encode.specs.CodedLog.{read_names}
-use Rattle.prop_core.specs.VariableNames.{ReadsAs}
 
 pub returns-in_err-extend_from_slice-clause-kept : goal.returns-in_err-extend_from_slice-clause-kept
 returns-in_err-extend_from_slice-clause-kept g c = question_same c.args.parts.now c.args.book.now.entries
@@ -42,30 +38,16 @@ returns-clause-axioms g c = elim c.match-within.branch [
   | in_default w ↦ subst (λ b. AddsAxioms c.args.book.now.entries b.entries) (sym w.book-is) (adds_none c.args.book.now.entries)
 ]
 
-pub returns-clause-columns : goal.returns-clause-columns
-returns-clause-columns g c = elim c.match-within.branch [
-  | in-Some+in_ok-bound+in_ok-push w ↦
-      subst (λ (p : Parts g.row.R.Denot). length p.counter.columns ≡ max (length c.args.parts.now.counter.columns) (columns_for c.args.within)) (sym w.parts-is)
-      (subst (λ within. length w.bound.new.parts.counter.columns ≡ max (length c.args.parts.now.counter.columns) (columns_for within)) (sym w.in-Some.is) w.in_ok-bound.ensures.literal.columns)
-  | in_default w ↦
-      subst (λ (p : Parts g.row.R.Denot). length p.counter.columns ≡ max (length c.args.parts.now.counter.columns) (columns_for c.args.within)) (sym w.parts-is)
-      (subst (λ within. length c.args.parts.now.counter.columns ≡ max (length c.args.parts.now.counter.columns) (columns_for within)) (sym w.in_default.is) (none (length c.args.parts.now.counter.columns)))
-]
-  where
-    none : (before : ℕ) → before ≡ max before (columns_for None)
-    none before = omega arith
-
 pub returns-clause-assumed : goal.returns-clause-assumed
 returns-clause-assumed g c = elim c.match-within.branch [
   | in-Some+in_ok-bound+in_ok-push w ↦
-      subst (λ (p : Parts g.row.R.Denot). AreAssumptions p.code.code p.counter c.args.within c.match-within.assumed.items) (sym w.parts-is)
-      (subst (λ within. AreAssumptions w.bound.new.parts.code.code w.bound.new.parts.counter within c.match-within.assumed.items) (sym w.in-Some.is)
-      (with_bound w.bound.new.parts.code.code w.bound.new.parts.counter w.in-Some.k (length c.args.parts.now.counter.columns) c.guards.result.now w.in_ok-bound.field-0 c.match-within.assumed.items
-      (subst (λ code. ReadsAs (read_names code.code) c.guards.result.now (guard_literals code.code.net code.code.log)) (sym w.bound.ensures.kept.code) c.guards.ensures.guards)
+      subst (λ (p : Parts g.row.R.Denot). AreAssumed c.args.parts.now.counter p c.args.within c.match-within.assumed.items) (sym w.parts-is)
+      (subst (λ within. AreAssumed c.args.parts.now.counter w.bound.new.parts within c.match-within.assumed.items) (sym w.in-Some.is)
+      (assumed_bound c.args.parts.now w.bound.new.parts w.in-Some.k c.guards.result.now w.in_ok-bound.field-0 c.match-within.assumed.items c.guards.ensures.whole c.guards.ensures.listed w.bound.ensures.kept.code
       w.in_ok-bound.ensures.literal.columns w.in_ok-bound.ensures.literal.literal_is (grind (arith, w.assumed-is, w.in_ok-push.ensures.items, c.in_ok-extend_from_slice.ensures.items, c.new-assumed.ensures.items))))
   | in_default w ↦
-      subst (λ (p : Parts g.row.R.Denot). AreAssumptions p.code.code p.counter c.args.within c.match-within.assumed.items) (sym w.parts-is)
-      (subst (λ within. AreAssumptions c.args.parts.now.code.code c.args.parts.now.counter within c.match-within.assumed.items) (sym w.in_default.is)
-      (without_bound c.args.parts.now.code.code c.args.parts.now.counter c.guards.result.now c.match-within.assumed.items c.guards.ensures.guards
+      subst (λ (p : Parts g.row.R.Denot). AreAssumed c.args.parts.now.counter p c.args.within c.match-within.assumed.items) (sym w.parts-is)
+      (subst (λ within. AreAssumed c.args.parts.now.counter c.args.parts.now within c.match-within.assumed.items) (sym w.in_default.is)
+      (assumed_alone c.args.parts.now c.guards.result.now c.match-within.assumed.items c.guards.ensures.whole c.guards.ensures.listed
       (grind (arith, w.assumed-is, c.in_ok-extend_from_slice.ensures.items, c.new-assumed.ensures.items))))
 ]
