@@ -5,3 +5,4 @@ pub mod Drafting
 pub mod Joining
 pub mod Telling
 pub mod Rowing
+pub mod Vectors

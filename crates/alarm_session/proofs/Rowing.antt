@@ -1,6 +1,6 @@
 -- What rows tell: each by what its addition answers or what is found, and some by what one more tells.
-use Rattle.std.proofs.Common.{◌≡◌, ◌≢◌, ◌∙◌, ℕ, true, false, cond, List, [], ◌∷◌, ◌++◌, None, Some, Result, Ok, Err, IfOk, OnOk, OnErr, is_some, refl, sym, ap, subst, append-nil, append_assoc, arith, map}
-use Rattle.alarm_session.specs.Refusals.{Answers, alarm_answer, before_answer}
+use Rattle.std.proofs.Common.{◌≡◌, ◌≢◌, ◌∙◌, ℕ, Bool, true, false, not, cond, List, [], ◌∷◌, ◌++◌, Option, None, Some, Result, Ok, Err, IfOk, OnOk, OnErr, is_some, refl, sym, ap, subst, append-nil, append_assoc, arith, length, length-append, map}
+use Rattle.alarm_session.specs.Refusals.{Answers, alarm_answer, before_answer, is_new_pair, log_with, numbers_of}
 use Rattle.alarm_session.specs.Rows.{AreRowsTold, HasCarriedOut, IsLeftUndone, IsRowTold, after_row, log_after, row_refusal, told_by, with_row}
 use Rattle.alarm_session.specs.Session.{Becomes, IsSessionBook, IsToldBy, StaysSame}
 use Rattle.alarm_session.specs.declared.refusal.SessionRefusal.{SessionRefusal}
@@ -13,7 +13,8 @@ use Rattle.des_net.specs.Network.{Net}
 use Rattle.least_faults.specs.declared.answer.Found.{Found}
 use Rattle.log_csv.specs.declared.row.Row.{Row}
 use Rattle.log_csv.specs.declared.row.Row.TheVariants.{Alarm, Maybe, Before, Ask}
-use Rattle.log_order.specs.Log.{Log, no_log}
+use Rattle.log_order.specs.Adding.{with_alarm, with_texts}
+use Rattle.log_order.specs.Log.{Log, an_alarm, has_pair, no_log}
 use Rattle.proof_ledger.specs.Book.{BookEntry, axiomatic, mark}
 
 -- ---- what is wanted of a row, by what it says
@@ -30,6 +31,34 @@ module _ (net : Net) (n : ℕ) (log : Log) (row : Row) where
   pub before_wanted : (first second : List ℕ) → row ≡ Before first second → row_refusal net n log row ≡ before_answer net n log first second
   before_wanted first second is = ap (row_refusal net n log) is
 
+-- ---- what is in the log already
+
+longer : {X : Type 0} (xs : List X) (x : X) → xs ++ x ∷ [] ≡ xs → ⊥
+longer xs x same = let more = ap length same in omega (arith, more, length-append xs (x ∷ []))
+
+-- an alarm never is
+alarm_is_new : (log : Log) (id : List ℕ) (labels : List (List ℕ)) (doubtful : Bool) → with_alarm log id labels doubtful ≡ log → ⊥
+alarm_is_new log id labels doubtful same = longer log.alarms (an_alarm id (with_texts [] labels) doubtful) (ap (λ (l : Log). l.alarms) same)
+
+-- a pair is, where nothing is new
+pair_is_old : (log : Log) (numbers : Option (ℕ × ℕ)) → log_with log numbers ≡ log → is_new_pair log numbers ≡ false
+pair_is_old log None same = refl
+pair_is_old log (Some pair) same = by_test (has_pair log.pairs pair.0 pair.1) (ap (λ (l : Log). l.pairs) same)
+  where
+    by_test : (b : Bool) → cond b log.pairs (log.pairs ++ (pair.0, pair.1) ∷ []) ≡ log.pairs → not b ≡ false
+    by_test true same = refl
+    by_test false same = absurd (longer log.pairs (pair.0, pair.1) same)
+
+module _ (log now : Log) (row : Row) (old new : List BookEntry) where
+  pub alarm_again : (id : List ℕ) (labels : List (List ℕ)) → row ≡ Alarm id labels → with_row log row ≡ log → new ≡ old
+  alarm_again id labels is same = absurd (alarm_is_new log id labels false (sym (ap (with_row log) is) ∙ same))
+
+  pub maybe_again : (id : List ℕ) (labels : List (List ℕ)) → row ≡ Maybe id labels → with_row log row ≡ log → new ≡ old
+  maybe_again id labels is same = absurd (alarm_is_new log id labels true (sym (ap (with_row log) is) ∙ same))
+
+  pub before_again : (first second : List ℕ) (fresh : Bool) → row ≡ Before first second → fresh ≡ is_new_pair log (numbers_of log first second) → (fresh ≡ false → StaysSame log now old new) → with_row log row ≡ log → new ≡ old
+  before_again first second fresh is fresh_is kept same = (kept (fresh_is ∙ pair_is_old log (numbers_of log first second) (sym (ap (with_row log) is) ∙ same))).book
+
 -- ---- one row
 
 module _ (net : Net) (n budget : ℕ) (before now : Log) (row : Row) (old new : List BookEntry) where
@@ -39,9 +68,9 @@ module _ (net : Net) (n budget : ℕ) (before now : Log) (row : Row) (old new : 
   refused_log : (refusal : SessionRefusal) → row_refusal net n before row ≡ Some refusal → after_row net n before row ≡ before
   refused_log refusal some = ap (λ o. cond (is_some o) before (with_row before row)) some
 
-  made : row ≢ Ask → row_refusal net n before row ≡ None → Becomes net n before (with_row before row) now old new → IsSessionBook net now n new → IsRowTold net n budget before row old new Made
-  made addition none becomes book = record {
-    tells = record { addition = addition; accepted = none; few = becomes.few };
+  made : row ≢ Ask → row_refusal net n before row ≡ None → Becomes net n before (with_row before row) now old new → (with_row before row ≡ before → new ≡ old) → IsSessionBook net now n new → IsRowTold net n budget before row old new Made
+  made addition none becomes again book = record {
+    tells = record { addition = addition; accepted = none; few = becomes.few; again = again };
     book = subst (λ l. IsSessionBook net l n new) (becomes.log ∙ sym (accepted_log none)) book;
   }
 
@@ -52,20 +81,20 @@ module _ (net : Net) (n budget : ℕ) (before now : Log) (row : Row) (old new : 
   }
 
   -- an addition
-  by_answer : {X : Type 0} (answer : Result X SessionRefusal) → row ≢ Ask → Answers answer (row_refusal net n before row) → OnOk answer (Becomes net n before (with_row before row) now old new) → OnErr answer (StaysSame before now old new) →
-      IsSessionBook net now n new → IfOk (told_by answer) (IsRowTold net n budget before row old new)
-  by_answer (Ok x) addition is becomes same book = made addition is becomes book
-  by_answer (Err Double) addition is becomes same book = refused Double (λ h. cc) is same book
-  by_answer (Err Unknown) addition is becomes same book = refused Unknown (λ h. cc) is same book
-  by_answer (Err Cycle) addition is becomes same book = refused Cycle (λ h. cc) is same book
-  by_answer (Err NoLabels) addition is becomes same book = refused NoLabels (λ h. cc) is same book
-  by_answer (Err Limit) addition is becomes same book = refused Limit (λ h. cc) is same book
-  by_answer (Err (TooLarge size)) addition is becomes same book = refused (TooLarge size) (λ h. cc) is same book
-  by_answer (Err Memory) addition is becomes same book = tt
+  by_answer : {X : Type 0} (answer : Result X SessionRefusal) → row ≢ Ask → Answers answer (row_refusal net n before row) → OnOk answer (Becomes net n before (with_row before row) now old new) → OnOk answer (with_row before row ≡ before → new ≡ old) →
+      OnErr answer (StaysSame before now old new) → IsSessionBook net now n new → IfOk (told_by answer) (IsRowTold net n budget before row old new)
+  by_answer (Ok x) addition is becomes again same book = made addition is becomes again book
+  by_answer (Err Double) addition is becomes again same book = refused Double (λ h. cc) is same book
+  by_answer (Err Unknown) addition is becomes again same book = refused Unknown (λ h. cc) is same book
+  by_answer (Err Cycle) addition is becomes again same book = refused Cycle (λ h. cc) is same book
+  by_answer (Err NoLabels) addition is becomes again same book = refused NoLabels (λ h. cc) is same book
+  by_answer (Err Limit) addition is becomes again same book = refused Limit (λ h. cc) is same book
+  by_answer (Err (TooLarge size)) addition is becomes again same book = refused (TooLarge size) (λ h. cc) is same book
+  by_answer (Err Memory) addition is becomes again same book = tt
 
   pub addition_told : {X : Type 0} (answer : Result X SessionRefusal) (told : Result Told NoMemory) → told ≡ told_by answer → row ≢ Ask → Answers answer (row_refusal net n before row) →
-      OnOk answer (Becomes net n before (with_row before row) now old new) → OnErr answer (StaysSame before now old new) → IsSessionBook net now n new → IfOk told (IsRowTold net n budget before row old new)
-  addition_told answer told is addition answers becomes same book = subst (λ r. IfOk r (IsRowTold net n budget before row old new)) (sym is) (by_answer answer addition answers becomes same book)
+      OnOk answer (Becomes net n before (with_row before row) now old new) → OnOk answer (with_row before row ≡ before → new ≡ old) → OnErr answer (StaysSame before now old new) → IsSessionBook net now n new → IfOk told (IsRowTold net n budget before row old new)
+  addition_told answer told is addition answers becomes again same book = subst (λ r. IfOk r (IsRowTold net n budget before row old new)) (sym is) (by_answer answer addition answers becomes again same book)
 
   pub addition_log : {X : Type 0} (answer : Result X SessionRefusal) (told : Result Told NoMemory) → told ≡ told_by answer → Answers answer (row_refusal net n before row) →
       OnOk answer (Becomes net n before (with_row before row) now old new) → OnErr answer (StaysSame before now old new) → OnOk told (now ≡ after_row net n before row)

@@ -39,7 +39,7 @@ Answers (Err NoLabels) refusal = refusal ≡ Some NoLabels
 Answers (Err Limit) refusal = refusal ≡ Some Limit
 Answers (Err (TooLarge size)) refusal = refusal ≡ Some (TooLarge size)
 
--- the number by which a refusal is told; want of memory has one that no row is refused by
+-- the number by which a refusal is told; want of memory has none
 abbrev pub refusal_number : SessionRefusal → ℕ
 refusal_number Double = 1
 refusal_number Unknown = 2
@@ -47,7 +47,7 @@ refusal_number Cycle = 3
 refusal_number NoLabels = 4
 refusal_number Limit = 5
 refusal_number (TooLarge size) = 8
-refusal_number Memory = 9
+refusal_number Memory = 0
 
 -- ---- of an alarm
 

@@ -45,11 +45,12 @@ log_after net n log (row ∷ rows) = log_after net n (after_row net n log row) r
 
 -- ---- what a row tells
 
--- The row is an addition that nothing is against. It is made: a few axioms were put.
+-- The row is an addition that nothing is against. It is made: a few axioms were put, or nothing where it is in the log already.
 pub record IsMade (net : Net) (n : ℕ) (before : Log) (row : Row) (old new : List BookEntry) : Type 0 where
   pub addition : row ≢ Ask
   pub accepted : row_refusal net n before row ≡ None
   pub few : AddsFew net n before (with_row before row) old new
+  pub again : with_row before row ≡ before → new ≡ old
 
 -- The row is refused for this, which isn't want of memory, and the book is as it was.
 pub record IsRefused (net : Net) (n : ℕ) (before : Log) (row : Row) (old new : List BookEntry) (refusal : SessionRefusal) : Type 0 where

@@ -26,7 +26,7 @@ pub enum SessionRefusal {
 }
 
 impl SessionRefusal {
-    /// The number by which it is told. A row is refused by the lowest that holds of it: 1 to 5, or 8. That of want of memory is 9.
+    /// The number by which it is told. A row is refused by the lowest that holds of it: 1 to 5, or 8. Want of memory has 0.
     pub fn number(self) -> u32
         ensures { result ≡ refusal_number self }
     {
@@ -37,7 +37,7 @@ impl SessionRefusal {
             SessionRefusal::NoLabels => 4,
             SessionRefusal::Limit => 5,
             SessionRefusal::TooLarge { .. } => 8,
-            SessionRefusal::Memory => 9,
+            SessionRefusal::Memory => 0,
         }
     }
 }

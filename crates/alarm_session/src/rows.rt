@@ -63,6 +63,7 @@ fn put_row<R: Fn(u32) -> u64>(
     ensures rank { kept.new.parts.solver.order.rank ≡ kept.old.parts.solver.order.rank }
     ensures refused { Answers result (row_refusal setting.entry.net.now setting.entry.steps kept.old.log row.now) }
     ensures added { OnOk result (Becomes setting.entry.net.now setting.entry.steps kept.old.log (with_row kept.old.log row.now) kept.new.log kept.old.book.entries kept.new.book.entries) }
+    ensures again { OnOk result (with_row kept.old.log row.now ≡ kept.old.log → kept.new.book.entries ≡ kept.old.book.entries) }
     ensures same { OnErr result (StaysSame kept.old.log kept.new.log kept.old.book.entries kept.new.book.entries) }
 {
     match row {
