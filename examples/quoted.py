@@ -15,7 +15,7 @@ import textwrap
 
 HERE = os.path.dirname(os.path.abspath(__file__))
 PAGES = ["../docs/tutorial.md", "propulsion/README.md", "feeder/README.md", "ring/README.md", "grid/README.md"]
-COMMAND = re.compile(r"    rt run -- (trace|show|diagnose|replay|check|cnf|proof) ")
+COMMAND = re.compile(r"    rt run -- (trace|show|diagnose|replay|check|cnf|proof|session) ")
 
 
 def read(name):

@@ -14,7 +14,7 @@ use Rattle.diagnose_cli.specs.declared.stop.FaultyText.TheVariants.{Model, Log, 
 use Rattle.diagnose_cli.specs.Transcripts.{Ending, Transcript, IsWhole}
 use Rattle.diagnose_cli.specs.Endings.{HasStatus, status_of_stop, status_of_faulty, texts_of}
 use Rattle.diagnose_cli.specs.Files.{Loads, StopsAt, WithFile}
-use Rattle.diagnose_cli.specs.Commands.{FileKind, limit_of, fault_of_text, files_of, too_large, Says, Closes, InOrder, Answers, command_of}
+use Rattle.diagnose_cli.specs.Commands.{FileKind, limit_of, fault_of_text, files_of, too_large, Says, SaysInAll, Closes, InOrder, Answers, command_of}
 use Rattle.diagnose_cli.specs.Outcomes.{Outcome, Tells}
 use Rattle.diagnose_cli.specs.Rows.{AreRead, Reads}
 use Rattle.diagnose_cli.specs.Run.{Ends}
@@ -87,16 +87,30 @@ closed l words i (kind ∷ kinds) files (text ∷ texts) closes e answer read h 
     subst (λ (fs : List (List ℕ)). closes fs e) (append_assoc files (text ∷ []) texts)
     (closed l words (i + 1) kinds (files ++ text ∷ []) texts closes e answer read.1 rest)
 
--- so status and text tell a reply that the command may give
-pub row : (o : Outcome) (c : Command) (texts : List (List ℕ)) → Ends o → Reads o c texts → o.status ≢ 3 → o.status ≢ 9 → Tells o (Says c o.book texts)
-row o c texts ends reads three nine =
+-- it says what the command may
+pub said_in_all : (o : Outcome) (c : Command) (texts : List (List ℕ)) (ends : Ends o) → Reads o c texts → o.status ≢ 3 → o.status ≢ 9 → IsOkAnd ends.ending (SaysInAll c o.book texts)
+said_in_all o c texts ends reads three nine =
     let e = ends.ending in
     let answer : HasAnswer e = record {
       memory = λ p. nine (subst (λ (x : Ending). HasStatus x o.status) p ends.shown);
       load = λ j p. three (subst (λ (x : Ending). HasStatus x o.status) p ends.shown);
     } in
     let closes = closed o.loads o.words 1 (files_of c) [] texts (Closes c o.book) e answer reads.files (called o.loads o.words o.book (command_of o.words) c e reads.command (ends.due answer.memory)) in
-    told o (Says c o.book texts) e (asked (too_large c texts) e (IsWhole (Says c o.book texts)) reads.small closes) ends.shown ends.put
+    asked (too_large c texts) e (SaysInAll c o.book texts) reads.small closes
+
+-- the command has one reply
+abbrev pub HasOneReply : Command → Type 0
+HasOneReply c = (book : List BookEntry) (texts : List (List ℕ)) (t : Transcript) → SaysInAll c book texts t → IsWhole (Says c book texts) t
+
+ok_weaker : (e : Ending) (P Q : Transcript → Type 0) → ((t : Transcript) → P t → Q t) → IsOkAnd e P → IsOkAnd e Q
+ok_weaker (Ok t) P Q f h = f t h
+ok_weaker (Err stop) P Q f h = absurd h
+
+-- so status and text tell a reply that such a command may give
+pub row : (o : Outcome) (c : Command) (texts : List (List ℕ)) → HasOneReply c → Ends o → Reads o c texts → o.status ≢ 3 → o.status ≢ 9 → Tells o (Says c o.book texts)
+row o c texts one ends reads three nine =
+    let says = ok_weaker ends.ending (SaysInAll c o.book texts) (IsWhole (Says c o.book texts)) (one o.book texts) (said_in_all o c texts ends reads three nine) in
+    told o (Says c o.book texts) ends.ending says ends.shown ends.put
 
 -- ---- by the status, whatever is told of the files
 
@@ -161,18 +175,18 @@ over_files l words i (kind ∷ kinds) files closes t h =
           }
     ]
 
-said : (o : Outcome) (c : Command) (e : Ending) → (IsStopStatus o.status → ⊥) → Answers o.loads o.words c o.book e → HasStatus e o.status → Took o.before o.now (concat (texts_of e)) → SaidOver o c
-said o c (Ok t) answers h shown put =
+said : (o : Outcome) (c : Command) → HasOneReply c → (e : Ending) → (IsStopStatus o.status → ⊥) → Answers o.loads o.words c o.book e → HasStatus e o.status → Took o.before o.now (concat (texts_of e)) → SaidOver o c
+said o c one (Ok t) answers h shown put =
     let over = over_files o.loads o.words 1 (files_of c) [] (Closes c o.book) t h in
-    let says = within (too_large c over.texts) t (IsWhole (Says c o.book over.texts)) over.closed in
+    let says = one o.book over.texts t (within (too_large c over.texts) t (SaysInAll c o.book over.texts) over.closed) in
     record { texts = over.texts; held = over.held; tells = told o (Says c o.book over.texts) (Ok t) says shown put }
-said o c (Err stop) answers h shown put = absurd (answers (subst IsStopStatus (sym shown) (of_stop stop)))
+said o c one (Err stop) answers h shown put = absurd (answers (subst IsStopStatus (sym shown) (of_stop stop)))
 
-pub said_over : (o : Outcome) (c : Command) → Ends o → command_of o.words ≡ Some c → (IsStopStatus o.status → ⊥) → SaidOver o c
-said_over o c ends command answers =
+pub said_over : (o : Outcome) (c : Command) → HasOneReply c → Ends o → command_of o.words ≡ Some c → (IsStopStatus o.status → ⊥) → SaidOver o c
+said_over o c one ends command answers =
     let e = ends.ending in
     let memory : e ≢ Err Memory = λ p. answers (subst IsStopStatus (sym (subst (λ (x : Ending). HasStatus x o.status) p ends.shown)) (of_stop Memory)) in
-    said o c e answers (called o.loads o.words o.book (command_of o.words) c e command (ends.due memory)) ends.shown ends.put
+    said o c one e answers (called o.loads o.words o.book (command_of o.words) c e command (ends.due memory)) ends.shown ends.put
 
 -- what is told is held
 pub same_text : (o : Option (List ℕ)) (text held : List ℕ) → o ≡ Some text → IfSome o (λ there. there ≡ held) → text ≡ held

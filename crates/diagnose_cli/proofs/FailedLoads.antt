@@ -8,9 +8,9 @@ use Rattle.diagnose_cli.specs.declared.stop.FaultyText.TheVariants.{Model, Log, 
 use Rattle.diagnose_cli.specs.declared.ending.Kind.{Kind}
 use Rattle.diagnose_cli.specs.declared.ending.Kind.TheVariants.{Done, Rejected, Absent, Undecided, Many, Nothing}
 use Rattle.std.specs.List.{concat}
-use Rattle.diagnose_cli.specs.Transcripts.{Ending, Transcript, IsWhole, UnlessMemory}
+use Rattle.diagnose_cli.specs.Transcripts.{Ending, Transcript, UnlessMemory}
 use Rattle.diagnose_cli.specs.Endings.{HasStatus, status_of_kind, status_of_faulty, texts_of}
-use Rattle.diagnose_cli.specs.Commands.{FileKind, Says, fault_of_text, files_of, file_count, too_large, Closes, InOrder, Answers, Due, command_of}
+use Rattle.diagnose_cli.specs.Commands.{FileKind, SaysInAll, fault_of_text, files_of, file_count, too_large, Closes, InOrder, Answers, Due, command_of}
 use Rattle.diagnose_cli.specs.Outcomes.{Outcome}
 use Rattle.diagnose_cli.specs.Run.{Ends, RoseFor, LoadRow}
 
@@ -49,7 +49,7 @@ never_closes j (Some size) says h = cc
 rose_at : (o : Outcome) (j : ℕ) (called : Option Command) → MatchOption called (failed j ≡ Err Usage) (λ c. Answers o.loads o.words c o.book (failed j)) → IsSomeAnd called (λ c. (1 ≤ j) × (j ≤ file_count c)) × RoseFor o j
 rose_at o j None m = absurd (no_usage j m)
 rose_at o j (Some c) m =
-    let rose = rose_in_order o (file_count c) 1 (files_of c) [] (Closes c o.book) j (λ texts. never_closes j (too_large c texts) (IsWhole (Says c o.book texts))) (omega arith) (omega arith) m in
+    let rose = rose_in_order o (file_count c) 1 (files_of c) [] (Closes c o.book) j (λ texts. never_closes j (too_large c texts) (SaysInAll c o.book texts)) (omega arith) (omega arith) m in
     ((rose.first, rose.within), rose.rose)
 
 no_load_kind : (k : Kind) → 3 ≡ status_of_kind k → ⊥

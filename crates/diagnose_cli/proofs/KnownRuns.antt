@@ -13,7 +13,7 @@ use Rattle.report.specs.Replies.{EventsKnown}
 use Rattle.run_decode.specs.QuestionAxioms.{BuiltQuestion}
 use Rattle.diagnose_cli.specs.Diagnosed.{IsDiagnosed}
 
-known : (names : List (ℕ × Name)) (first : BuiltQuestion) (since : List BookEntry) (net : Net) (log : Log) (n budget : ℕ) (found : Found) → IsFound names first since net log n budget found → EventsKnown net found
+pub known : (names : List (ℕ × Name)) (first : BuiltQuestion) (since : List BookEntry) (net : Net) (log : Log) (n budget : ℕ) (found : Found) → IsFound names first since net log n budget found → EventsKnown net found
 known names first since net log n budget (Explained best) h = run_known net (word_of best.run) h.given.explains.run
 known names first since net log n budget Absent h = tt
 known names first since net log n budget (Many best) h = run_known net (word_of best.run) h.given.explains.run

@@ -6,6 +6,7 @@ pub mod Reading
 pub mod Answered
 pub mod UsageRows
 pub mod StatusRows
+pub mod SessionRows
 pub mod Once
 pub mod TraceAnswers
 pub mod ShowAnswers
@@ -25,3 +26,5 @@ pub mod CaseAnswers
 pub mod Taking
 pub mod GenerateAnswers
 pub mod BenchAnswers
+pub mod SessionAnswers
+pub mod SessionFronts

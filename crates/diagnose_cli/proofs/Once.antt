@@ -1,4 +1,4 @@
--- The run of a command that has one reply.
+-- The run of a command, which has one reply or several.
 use Rattle.std.proofs.Common.{◌≡◌, ◌≢◌, ◌∙◌, arith, ℕ, IfErr, List, [], ◌∷◌, ◌++◌, take, Option, Some, None, Result, Ok, Err, refl, sym, ap, subst, append-nil}
 use Rattle.std.specs.List.{concat}
 use Rattle.des_base.specs.Outside.{Took, TookFront}
@@ -13,13 +13,14 @@ use Rattle.diagnose_cli.specs.Transcripts.{Ending, UnlessMemory, TookCut, once}
 use Rattle.diagnose_cli.specs.Endings.{HasStatus, status_of_kind, status_of_stop, texts_of, text_of_stop}
 use Rattle.diagnose_cli.specs.Files.{Loads}
 use Rattle.diagnose_cli.specs.Commands.{Due, files_of}
-use Rattle.diagnose_cli.specs.Puts.{Puts}
+use Rattle.diagnose_cli.specs.Puts.{Puts, Speaks}
 use Rattle.diagnose_cli.specs.Outcomes.{Outcome, outcome}
 use Rattle.diagnose_cli.specs.Rows.{Row, RowAlone, CheckRows, DiagnoseRows}
-use Rattle.diagnose_cli.specs.Run.{Ends, CutOff, Ran, Does, SaysStop}
-use Rattle.diagnose_cli.proofs.Answered.{row}
+use Rattle.diagnose_cli.specs.Run.{Ends, IsDue, Ran, Does, SaysStop}
+use Rattle.diagnose_cli.proofs.Answered.{HasOneReply, row}
 use Rattle.diagnose_cli.proofs.Exact.{stop_row}
 use Rattle.diagnose_cli.proofs.FailedLoads.{load_row, no_load_failed}
+use Rattle.diagnose_cli.proofs.SessionRows.{session_row}
 use Rattle.diagnose_cli.proofs.StatusRows.{refuted, explained, absent, undecided, many, decided}
 use Rattle.diagnose_cli.proofs.UsageRows.{usage_row}
 
@@ -45,63 +46,67 @@ unfolding text_of_once
 one (Ok reply) = refl
 one (Err stop) = refl
 
-due_once : (l : Loads) (words : List (List ℕ)) (book : List BookEntry) (r : Result (Kind × List ℕ) Stop) → UnlessMemory r (Due l words book (once r)) → UnlessMemory (once r) (Due l words book (once r))
-due_once l words book (Ok reply) d = λ m. d (λ e. cc)
-due_once l words book (Err stop) d = λ m. d (λ e. m (ap_err stop e))
+due_once : (may : Ending → Type 0) (r : Result (Kind × List ℕ) Stop) → UnlessMemory r (may (once r)) → UnlessMemory (once r) (may (once r))
+due_once may (Ok reply) d = λ m. d (λ e. cc)
+due_once may (Err stop) d = λ m. d (λ e. m (ap_err stop e))
   where
     ap_err : (s : Stop) → ◌≡◌ {A = Result (Kind × List ℕ) Stop} (Err s) (Err Memory) → ◌≡◌ {A = Ending} (Err s) (Err Memory)
     ap_err s e = cc
 
--- ---- what the run of a command does that puts its one text
+-- ---- a command that puts its one text
 
-module _ (o : Outcome) (r : Result (Kind × List ℕ) Stop) (rose : Type 0) (due : UnlessMemory r (Due o.loads o.words o.book (once r))) (puts : Puts (once r) o.before o.now rose o.status) where
-  ends : o.status ≢ 4 → o.status ≢ 9 → Ends o
-  ends four nine = record { ending = once r; due = due_once o.loads o.words o.book r due; shown = puts.shown four nine; put = puts.whole four nine }
-
-  cut_off : o.status ≡ 4 → CutOff o
-  cut_off four = record {
+pub speaks_once : (may : Ending → Type 0) (r : Result (Kind × List ℕ) Stop) (before now : Option (List ℕ)) (rose : Type 0) (status : ℕ) → UnlessMemory r (may (once r)) → Puts (once r) before now rose status → Speaks may before now rose status
+speaks_once may r before now rose status due puts = record {
+  ends = λ four nine. record { ending = once r; due = due_once may r due; shown = puts.shown four nine; put = puts.whole four nine };
+  put_failed = puts.put_failed;
+  cut_off = λ four. record {
     ending = once r;
-    due = due_once o.loads o.words o.book r due;
+    due = due_once may r due;
     texts = [];
     next = text_of_once r;
     split = one r;
-    put = cut_first o.before o.now (text_of_once r) (subst (TookFront o.before o.now) (one_text (texts_of (once r)) (text_of_once r) (one r)) (puts.front four));
-  }
+    put = cut_first before now (text_of_once r) (subst (TookFront before now) (one_text (texts_of (once r)) (text_of_once r) (one r)) (puts.front four));
+  };
+  broke = λ nine. record { ending = Err Memory; due = λ m. absurd (m refl); put = puts.nothing nine };
+}
 
+-- ---- what the run of a command does that says what is due
+
+module _ (o : Outcome) (rose : Type 0) (speaks : Speaks (IsDue o) o.before o.now rose o.status) where
   ran : Ran o rose
   ran = record {
-    stops = λ whole. stop_row o (ends whole.put.written whole.put.memory) whole.loaded whole.put.memory;
-    usage = λ two. usage_row o (ends (λ four. omega (arith, two, four)) (λ nine. omega (arith, two, nine))) two;
-    ends = ends;
-    load_failed = λ three. load_row o (ends (λ four. omega (arith, three, four)) (λ nine. omega (arith, three, nine))) three;
-    put_failed = puts.put_failed;
-    cut_off = cut_off;
-    broke = λ nine. record { ending = Err Memory; due = λ m. absurd (m refl); put = puts.nothing nine };
+    stops = λ whole. stop_row o (speaks.ends whole.put.written whole.put.memory) whole.loaded whole.put.memory;
+    usage = λ two. usage_row o (speaks.ends (λ four. omega (arith, two, four)) (λ nine. omega (arith, two, nine))) two;
+    ends = speaks.ends;
+    load_failed = λ three. load_row o (speaks.ends (λ four. omega (arith, three, four)) (λ nine. omega (arith, three, nine))) three;
+    put_failed = speaks.put_failed;
+    cut_off = speaks.cut_off;
+    broke = speaks.broke;
   }
 
   -- by its files
-  row_of : (c : Command) (texts : List (List ℕ)) → Row o c texts
-  row_of c texts reads whole = row o c texts (ends whole.put.written whole.put.memory) reads whole.loaded whole.put.memory
+  row_of : (c : Command) (texts : List (List ℕ)) → HasOneReply c → Row o c texts
+  row_of c texts one reads whole = row o c texts one (speaks.ends whole.put.written whole.put.memory) reads whole.loaded whole.put.memory
 
   -- or without files
-  row_alone : (c : Command) → files_of c ≡ [] → RowAlone o c
-  row_alone c none reads put =
-      let e = ends put.written put.memory in
-      row o c [] e reads (no_load_failed o c e reads.command none) put.memory
+  row_alone : (c : Command) → HasOneReply c → files_of c ≡ [] → RowAlone o c
+  row_alone c one none reads put =
+      let e = speaks.ends put.written put.memory in
+      row o c [] one e reads (no_load_failed o c e reads.command none) put.memory
 
   -- an answer has neither of these statuses
   answered : (k : ℕ) → o.status ≡ k → k ≢ 4 → k ≢ 9 → Ends o
-  answered k is four nine = ends (λ p. four (sym is ∙ p)) (λ p. nine (sym is ∙ p))
+  answered k is four nine = speaks.ends (λ p. four (sym is ∙ p)) (λ p. nine (sym is ∙ p))
 
   checked : CheckRows o
   checked = record {
-    checked = λ formula proof. row_of Check (formula ∷ proof ∷ []);
+    checked = λ formula proof. row_of Check (formula ∷ proof ∷ []) (λ book texts t h. h);
     refuted = λ formula asks zero. refuted o (answered 0 zero (λ p. cc) (λ p. cc)) formula asks zero;
   }
 
   diagnosed : DiagnoseRows o
   diagnosed = record {
-    diagnosed = λ steps budget text alarms. row_of (Diagnose steps budget) (text ∷ alarms ∷ []);
+    diagnosed = λ steps budget text alarms. row_of (Diagnose steps budget) (text ∷ alarms ∷ []) (λ book texts t h. h);
     explained = λ steps budget text alarms asks is. explained o (answered 0 is (λ p. cc) (λ p. cc)) steps budget text alarms asks is;
     absent = λ steps budget text alarms asks is. absent o (answered 10 is (λ p. cc) (λ p. cc)) steps budget text alarms asks is;
     undecided = λ steps budget text alarms asks is. undecided o (answered 11 is (λ p. cc) (λ p. cc)) steps budget text alarms asks is;
@@ -112,22 +117,23 @@ module _ (o : Outcome) (r : Result (Kind × List ℕ) Stop) (rose : Type 0) (due
   does : Does o rose
   does = record {
     diagnosed = diagnosed;
-    replayed = λ steps text alarms events. row_of (Replay steps) (text ∷ alarms ∷ events ∷ []);
+    replayed = λ steps text alarms events. row_of (Replay steps) (text ∷ alarms ∷ events ∷ []) (λ book texts t h. h);
     checked = checked;
-    traced = λ text steps. row_of Trace (text ∷ steps ∷ []);
-    shown = λ text. row_of Show (text ∷ []);
+    traced = λ text steps. row_of Trace (text ∷ steps ∷ []) (λ book texts t h. h);
+    shown = λ text. row_of Show (text ∷ []) (λ book texts t h. h);
     printed = record {
-      formula = λ steps bound text alarms. row_of (PrintCnf steps bound) (text ∷ alarms ∷ []);
-      proof = λ steps budget text alarms. row_of (PrintProof steps budget) (text ∷ alarms ∷ []);
+      formula = λ steps bound text alarms. row_of (PrintCnf steps bound) (text ∷ alarms ∷ []) (λ book texts t h. h);
+      proof = λ steps budget text alarms. row_of (PrintProof steps budget) (text ∷ alarms ∷ []) (λ book texts t h. h);
     };
-    generated = record { model = λ units start. row_alone (GenerateModel units start) refl; log = λ units start. row_alone (GenerateLog units start) refl };
-    benched = λ units start steps budget. row_alone (Bench units start steps budget) refl;
+    generated = record { model = λ units start. row_alone (GenerateModel units start) (λ book texts t h. h) refl; log = λ units start. row_alone (GenerateLog units start) (λ book texts t h. h) refl };
+    benched = λ units start steps budget. row_alone (Bench units start steps budget) (λ book texts t h. h) refl;
+    carried_out = λ steps budget text lines reads whole. session_row o steps budget text lines (speaks.ends whole.put.written whole.put.memory) reads whole.loaded whole.put.memory;
     ran = ran;
   }
 
-pub done : (l : Loads) (words : List (List ℕ)) (before now : Option (List ℕ)) (book : List BookEntry) (status : ℕ) (r : Result (Kind × List ℕ) Stop) (rose : Type 0)
-    → UnlessMemory r (Due l words book (once r)) → Puts (once r) before now rose status → Does (outcome l words before now book status) rose
-done l words before now book status r rose due puts = does (outcome l words before now book status) r rose due puts
+pub done : (l : Loads) (words : List (List ℕ)) (before now : Option (List ℕ)) (book : List BookEntry) (status : ℕ) (rose : Type 0)
+    → Speaks (Due l words book) before now rose status → Does (outcome l words before now book status) rose
+done l words before now book status rose speaks = does (outcome l words before now book status) rose speaks
 
 -- ---- what a command leaves that stops
 

@@ -3,6 +3,8 @@ use Rattle.std.proofs.Common.{◌≡◌, ◌≢◌, ◌≤◌, inl, inr, ℕ, �
 use Rattle.des_base.specs.CommandWords.{word_at}
 use Rattle.des_net.specs.Network.{Net}
 use Rattle.log_csv.specs.LogText.{log_of}
+use Rattle.log_csv.specs.ScriptText.{script_of}
+use Rattle.log_csv.specs.declared.row.Row.{Row}
 use Rattle.log_order.specs.Log.{Log as AlarmLog}
 use Rattle.model_text.specs.ModelFaults.{network_of}
 use Rattle.proof_ledger.specs.Book.{BookEntry}
@@ -13,7 +15,7 @@ use Rattle.diagnose_cli.specs.declared.stop.Stop.TheVariants.{Usage, Faulty, Mem
 use Rattle.diagnose_cli.specs.declared.stop.FaultyText.{FaultyText}
 use Rattle.diagnose_cli.specs.Transcripts.{Ending, once, UnlessMemory}
 use Rattle.diagnose_cli.specs.Files.{Loads, Holds, IsText, IsReadAs, IsFaultOf, StopsAt, StopsIn}
-use Rattle.diagnose_cli.specs.Commands.{FileKind, model, log, limit_of, fault_of_text, fault_of_model, fault_of_log, IsCase, StopsInCase, InOrder, Answers, Due, command_of}
+use Rattle.diagnose_cli.specs.Commands.{FileKind, model, log, script, limit_of, fault_of_text, fault_of_model, fault_of_log, fault_of_script, IsCase, IsPlan, StopsInCase, StopsInPlan, InOrder, Answers, Due, command_of}
 use Rattle.diagnose_cli.proofs.Earlier.{stops_earlier}
 
 module _ (l : Loads) (words : List (List ℕ)) (i : ℕ) (kind : FileKind) (kinds : List FileKind) (files : List (List ℕ)) (closes : List (List ℕ) → Ending → Type 0) where
@@ -97,6 +99,22 @@ module _ (held now : List ℕ → Option (List ℕ)) (start before after : List 
     log_is = log_is;
   }
 
+  -- at the script, behind a model that is read
+  pub stops_at_script : (text : List ℕ) (stop : Stop) → IsText held (word_at words 1) (limit_of model) fault_of_model text → StopsIn (record { held = now; before = before; after = after }) 2 (word_at words 2) (limit_of script) fault_of_script stop → StopsInPlan (record { held = held; before = start; after = after }) words stop
+  stops_at_script text stop read h = inr (text, read, stops_in_earlier 2 (word_at words 2) (limit_of script) fault_of_script stop h)
+
+  -- model and script are read, one after the other
+  pub plan_read : (net : Net) (rows : List Row) → IsReadAs held (word_at words 1) (limit_of model) fault_of_model (λ text. net ≡ network_of text)
+      → IsReadAs now (word_at words 2) (limit_of script) fault_of_script (λ lines. rows ≡ script_of lines) → IsPlan held words net rows
+  plan_read net rows (text, model_read, net_is) (lines, script_read, rows_are) = record {
+    text = text;
+    lines = lines;
+    model_read = model_read;
+    script_read = subst (λ (f : List ℕ → Option (List ℕ)). IsText f (word_at words 2) (limit_of script) fault_of_script lines) same script_read;
+    net_is = net_is;
+    rows_are = rows_are;
+  }
+
 -- a command goes on with the others where it has read its first two files
 pub with_case : (l : Loads) (words : List (List ℕ)) (kinds : List FileKind) (closes : List (List ℕ) → Ending → Type 0) (net : Net) (alarms : AlarmLog) (e : Ending) (case : IsCase l.held words net alarms)
     → InOrder l words 3 kinds (case.text ∷ case.rows ∷ []) closes e → InOrder l words 1 (model ∷ log ∷ kinds) [] closes e
@@ -108,6 +126,19 @@ pub stops_in_case : (l : Loads) (words : List (List ℕ)) (kinds : List FileKind
 stops_in_case l words kinds closes stop h = elim h [
   | inl at ↦ stops_here l words 1 model (log ∷ kinds) [] closes stop at
   | inr b ↦ goes_on l words 1 model (log ∷ kinds) [] closes b.0 (Err stop) b.1 (stops_here l words 2 log kinds (b.0 ∷ []) closes stop b.2)
+]
+
+-- a session goes on where it has read both
+pub with_plan : (l : Loads) (words : List (List ℕ)) (closes : List (List ℕ) → Ending → Type 0) (net : Net) (rows : List Row) (e : Ending) (plan : IsPlan l.held words net rows) → closes (plan.text ∷ plan.lines ∷ []) e
+    → InOrder l words 1 (model ∷ script ∷ []) [] closes e
+with_plan l words closes net rows e plan rest =
+    goes_on l words 1 model (script ∷ []) [] closes plan.text e plan.model_read (goes_on l words 2 script [] (plan.text ∷ []) closes plan.lines e plan.script_read rest)
+
+-- it may stop at these two
+pub stops_in_plan : (l : Loads) (words : List (List ℕ)) (closes : List (List ℕ) → Ending → Type 0) (stop : Stop) → StopsInPlan l words stop → InOrder l words 1 (model ∷ script ∷ []) [] closes (Err stop)
+stops_in_plan l words closes stop h = elim h [
+  | inl at ↦ stops_here l words 1 model (script ∷ []) [] closes stop at
+  | inr b ↦ goes_on l words 1 model (script ∷ []) [] closes b.0 (Err stop) b.1 (stops_here l words 2 script [] (b.0 ∷ []) closes stop b.2)
 ]
 
 -- the same where it loads them later

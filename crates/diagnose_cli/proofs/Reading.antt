@@ -10,6 +10,8 @@ use Rattle.log_csv.specs.declared.fault.LogReadRefusal.{LogReadRefusal}
 use Rattle.log_csv.specs.declared.fault.LogReadRefusal.TheVariants.{Fault as LogFaulty, Memory as LogMemory}
 use Rattle.log_csv.specs.Faults.{IsDue as IsLogDue}
 use Rattle.log_csv.specs.LogText.{log_of, first_fault as first_log_fault}
+use Rattle.log_csv.specs.ScriptText.{first_script_fault, script_of}
+use Rattle.log_csv.specs.declared.row.Row.{Row}
 use Rattle.prop_core.specs.Clauses.{Clause}
 use Rattle.proof_ledger.specs.declared.checker.ProofStep.{ProofStep}
 use Rattle.proof_text.specs.declared.fault.TextRefusal.{TextRefusal}
@@ -26,7 +28,7 @@ use Rattle.diagnose_cli.specs.declared.stop.Stop.TheVariants.{Faulty, Memory}
 use Rattle.diagnose_cli.specs.declared.stop.FaultyText.{FaultyText}
 use Rattle.diagnose_cli.specs.declared.stop.FaultyText.TheVariants.{Model, Log, Run, Cnf, Lrat}
 use Rattle.diagnose_cli.specs.Refusals.{stop_of_model, stop_of_log, stop_of_run, stop_of_cnf, stop_of_lrat}
-use Rattle.diagnose_cli.specs.Commands.{fault_of_model, fault_of_log, fault_of_run, fault_of_cnf, fault_of_lrat}
+use Rattle.diagnose_cli.specs.Commands.{fault_of_model, fault_of_log, fault_of_script, fault_of_run, fault_of_cnf, fault_of_lrat}
 use Rattle.diagnose_cli.specs.Files.{Loads, Holds, IsText, IsReadAs, StopsIn}
 
 pub none_told : {X : Type 0} (f : X → FaultyText) (o : Option X) → o ≡ None → option_map f o ≡ None
@@ -76,6 +78,15 @@ log_stops l i name limit text LogMemory stop holds due is never = absurd (never 
 pub log_read : (held : List ℕ → Option (List ℕ)) (name : List ℕ) (limit : ℕ) (text : List ℕ) (log : AlarmLog) → Holds held name limit text → first_log_fault text ≡ None → log ≡ log_of text
     → IsReadAs held name limit fault_of_log (λ text. log ≡ log_of text)
 log_read held name limit text log holds well is = (text, is_well held name limit first_log_fault (λ f. Log f) text holds well, is)
+
+pub script_stops : (l : Loads) (i : ℕ) (name : List ℕ) (limit : ℕ) (text : List ℕ) (refusal : LogReadRefusal) (stop : Stop)
+    → Holds l.held name limit text → IsLogDue (first_script_fault text) refusal → stop ≡ stop_of_log refusal → stop ≢ Memory → StopsIn l i name limit fault_of_script stop
+script_stops l i name limit text (LogFaulty fault) stop holds due is never = by_fault l i name limit first_script_fault (λ f. Log f) text fault stop holds due is
+script_stops l i name limit text LogMemory stop holds due is never = absurd (never is)
+
+pub script_read : (held : List ℕ → Option (List ℕ)) (name : List ℕ) (limit : ℕ) (text : List ℕ) (rows : List Row) → Holds held name limit text → first_script_fault text ≡ None → rows ≡ script_of text
+    → IsReadAs held name limit fault_of_script (λ text. rows ≡ script_of text)
+script_read held name limit text rows holds well is = (text, is_well held name limit first_script_fault (λ f. Log f) text holds well, is)
 
 pub cnf_stops : (l : Loads) (i : ℕ) (name : List ℕ) (limit : ℕ) (text : List ℕ) (refusal : TextRefusal) (stop : Stop)
     → Holds l.held name limit text → IsTextDue (first_cnf_fault text) refusal → stop ≡ stop_of_cnf refusal → stop ≢ Memory → StopsIn l i name limit fault_of_cnf stop

@@ -52,7 +52,7 @@ of_checked o formula (text ∷ proof ∷ other ∷ texts) there zero held tells 
 
 pub refuted : (o : Outcome) → Ends o → (formula : List ℕ) → Asks o Check (formula ∷ []) → o.status ≡ 0 → IsUnsatisfiable (formula_of formula).clauses
 refuted o ends formula asks zero =
-    let over = said_over o Check ends asks.command (λ stop. omega (arith, zero, stop.low)) in
+    let over = said_over o Check (λ book texts t h. h) ends asks.command (λ stop. omega (arith, zero, stop.low)) in
     of_checked o formula over.texts asks.told.0 zero over.held over.tells
 
 -- ---- what is found of a log
@@ -83,7 +83,7 @@ over_texts o steps budget text alarms (model ∷ rows ∷ other ∷ texts) there
 
 found_told : (o : Outcome) (steps budget : ℕ) (text alarms : List ℕ) → Ends o → Asks o (Diagnose steps budget) (text ∷ alarms ∷ []) → (IsStopStatus o.status → ⊥) → TellsFound o (network_of text) (log_of alarms) steps budget
 found_told o steps budget text alarms ends asks answers =
-    let over = said_over o (Diagnose steps budget) ends asks.command answers in
+    let over = said_over o (Diagnose steps budget) (λ book texts t h. h) ends asks.command answers in
     of_reply o steps budget text alarms (over_texts o steps budget text alarms over.texts asks.told over.held over.tells)
 
 -- ---- by the status

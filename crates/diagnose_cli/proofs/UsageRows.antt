@@ -7,10 +7,10 @@ use Rattle.diagnose_cli.specs.declared.ending.Kind.TheVariants.{Done, Rejected, 
 use Rattle.diagnose_cli.specs.declared.stop.Stop.TheVariants.{Usage, Load, Faulty, Long, Large, Memory}
 use Rattle.diagnose_cli.specs.declared.stop.FaultyText.{FaultyText}
 use Rattle.diagnose_cli.specs.declared.stop.FaultyText.TheVariants.{Model, Log, Run, Cnf, Lrat}
-use Rattle.diagnose_cli.specs.Transcripts.{Ending, Transcript, IsWhole, UnlessMemory}
+use Rattle.diagnose_cli.specs.Transcripts.{Ending, Transcript, UnlessMemory}
 use Rattle.diagnose_cli.specs.Files.{Loads}
 use Rattle.diagnose_cli.specs.Endings.{HasStatus, status_of_kind, status_of_faulty}
-use Rattle.diagnose_cli.specs.Commands.{FileKind, Says, fault_of_text, files_of, too_large, Closes, InOrder, Answers, Due, command_of}
+use Rattle.diagnose_cli.specs.Commands.{FileKind, SaysInAll, fault_of_text, files_of, too_large, Closes, InOrder, Answers, Due, command_of}
 use Rattle.diagnose_cli.specs.Outcomes.{Outcome}
 use Rattle.diagnose_cli.specs.Run.{Ends}
 
@@ -36,7 +36,7 @@ never_closes (Some size) says h = cc
 
 no_command : (l : Loads) (words : List (List ℕ)) (book : List BookEntry) (o : Option Command) → MatchOption o (usage ≡ Err Usage) (λ c. Answers l words c book usage) → o ≡ None
 no_command l words book None h = refl
-no_command l words book (Some c) h = absurd (not_in_order l words 1 (files_of c) [] (Closes c book) (λ texts. never_closes (too_large c texts) (IsWhole (Says c book texts))) h)
+no_command l words book (Some c) h = absurd (not_in_order l words 1 (files_of c) [] (Closes c book) (λ texts. never_closes (too_large c texts) (SaysInAll c book texts)) h)
 
 not_kind : (k : Kind) → 2 ≡ status_of_kind k → ⊥
 not_kind Done p = cc

@@ -1,6 +1,10 @@
 -- The commands, the files that each one needs, and what it may say over them.
-use Rattle.std.specs.Prelude.{◌≡◌, ◌↔◌, ◌⊎◌, ℕ, zero, suc, ◌+◌, ◌-◌, ◌^◌, ◌≤◌, ⊤, List, [], ◌∷◌, ◌++◌, length, drop, take, codes, ◌==◌, Bool, ◌&&◌, nat_eq, nat_lt, nat_le, Option, Some, None, if◌then◌else◌, Err, IfSome, IsOkAnd, MatchOption, bytes_eq, option_map, option_and_then}
+use Rattle.std.specs.Prelude.{◌≡◌, ◌↔◌, ◌⊎◌, ℕ, zero, suc, ◌+◌, ◌-◌, ◌^◌, ◌≤◌, ⊤, List, [], ◌∷◌, ◌++◌, length, drop, take, codes, ◌==◌, Bool, true, false, ◌&&◌, nat_eq, nat_lt, nat_le, Option, Some, None, if◌then◌else◌, Err, IfSome, IsOkAnd, MatchOption, bytes_eq, option_map, option_and_then, flat_map}
 use Rattle.std.specs.List.{position_or_len}
+use Rattle.alarm_session.specs.Rows.{HasCarriedOut, after_row}
+use Rattle.alarm_session.specs.Refusals.{refusal_number}
+use Rattle.alarm_session.specs.declared.rows.Told.{Told}
+use Rattle.alarm_session.specs.declared.rows.Told.TheVariants.{Made, Refused, Answered}
 use Rattle.des_base.specs.CommandWords.{word_at}
 use Rattle.des_base.specs.Numbers.{number_up_to}
 use Rattle.des_net.specs.Network.{Net}
@@ -10,12 +14,15 @@ use Rattle.model_text.specs.PrintedModel.{model_text}
 use Rattle.model_text.specs.ReadBack.{ReadsBack}
 use Rattle.replay.specs.RunText.{run_of, first_fault as first_run_fault}
 use Rattle.least_faults.specs.declared.TheConstants.{MOST_SIZE}
+use Rattle.least_faults.specs.Growing.{AddsAxioms}
 use Rattle.least_faults.specs.declared.answer.Found.{Found}
 use Rattle.least_faults.specs.declared.answer.Found.TheVariants.{Explained, Absent as NotExplained, Many as ManyFaults, Undecided as NotDecided}
 use Rattle.log_order.specs.Adding.{names_of}
-use Rattle.log_order.specs.Log.{Log as AlarmLog}
+use Rattle.log_order.specs.Log.{Log as AlarmLog, no_log}
 use Rattle.log_csv.specs.LogText.{log_of, first_fault as first_log_fault}
 use Rattle.log_csv.specs.PrintedLog.{log_text}
+use Rattle.log_csv.specs.ScriptText.{first_script_fault, script_of}
+use Rattle.log_csv.specs.declared.row.Row.{Row}
 use Rattle.proof_ledger.specs.Book.{BookEntry}
 use Rattle.proof_ledger.specs.Checking.{check_proof}
 use Rattle.proof_ledger.specs.declared.checker.ProofStep.{ProofStep}
@@ -31,16 +38,16 @@ use Rattle.replay.specs.declared.replaying.Replayed.TheVariants.{Accepted, Stuck
 use Rattle.replay.specs.Traced.{IsTraced}
 use Rattle.replay.specs.declared.tracing.Traced.{Traced}
 use Rattle.replay.specs.declared.tracing.Traced.TheVariants.{Ran, Stuck}
-use Rattle.report.specs.Replies.{text_of_traced, text_of_replayed, text_of_checked, text_of_found, told_run, numbered}
+use Rattle.report.specs.Replies.{text_of_traced, text_of_replayed, text_of_checked, text_of_found, text_of_refused, told_run, numbered}
 use Rattle.diagnose_cli.specs.declared.command.Command.{Command}
-use Rattle.diagnose_cli.specs.declared.command.Command.TheVariants.{Trace, Show, Replay, Check, Diagnose, PrintCnf, PrintProof, GenerateModel, GenerateLog, Bench}
+use Rattle.diagnose_cli.specs.declared.command.Command.TheVariants.{Trace, Show, Replay, Check, Diagnose, PrintCnf, PrintProof, GenerateModel, GenerateLog, Bench, Session}
 use Rattle.diagnose_cli.specs.declared.stop.FaultyText.{FaultyText}
 use Rattle.diagnose_cli.specs.declared.stop.FaultyText.TheVariants.{Model, Log, Run, Cnf, Lrat}
 use Rattle.diagnose_cli.specs.declared.stop.Stop.{Stop}
 use Rattle.diagnose_cli.specs.declared.stop.Stop.TheVariants.{Usage, Faulty, Large}
 use Rattle.diagnose_cli.specs.declared.ending.Kind.{Kind}
 use Rattle.diagnose_cli.specs.declared.ending.Kind.TheVariants.{Done, Rejected, Absent, Undecided, Many, Nothing}
-use Rattle.diagnose_cli.specs.Transcripts.{Ending, IsWhole}
+use Rattle.diagnose_cli.specs.Transcripts.{Ending, Transcript, IsWhole}
 use Rattle.diagnose_cli.specs.Files.{Loads, IsText, StopsIn, WithFile}
 use Rattle.diagnose_cli.specs.Diagnosed.{IsDiagnosed}
 use Rattle.diagnose_cli.specs.Formula.{IsFormulaOf, question_formula}
@@ -100,6 +107,10 @@ bench_of units start steps budget =
     option_and_then (λ s.
     option_and_then (λ n. option_map (λ b. Bench z s n b) (number_up_to most_budget budget)) (number_up_to most_steps steps)) (number_up_to most_start start)) (units_of units)
 
+-- what they ask of `session`
+abbrev pub session_of : List ℕ → List ℕ → Option Command
+session_of steps budget = option_and_then (λ n. option_map (λ b. Session n b) (number_up_to most_budget budget)) (number_up_to most_steps steps)
+
 -- the command that the words call, if they call one
 abbrev pub command_of : List (List ℕ) → Option Command
 command_of words =
@@ -112,6 +123,7 @@ command_of words =
     else if calls words (codes "proof") 5 then proof_words_of (word_at words 3) (word_at words 4)
     else if calls words (codes "generate") 4 then generate_of (word_at words 1) (word_at words 2) (word_at words 3)
     else if calls words (codes "bench") 5 then bench_of (word_at words 1) (word_at words 2) (word_at words 3) (word_at words 4)
+    else if calls words (codes "session") 5 then session_of (word_at words 3) (word_at words 4)
     else None
 
 -- a question is asked for no more steps than that
@@ -120,6 +132,7 @@ HasFewSteps (Diagnose steps budget) = steps ≤ most_steps
 HasFewSteps (PrintCnf steps bound) = steps ≤ most_steps
 HasFewSteps (PrintProof steps budget) = steps ≤ most_steps
 HasFewSteps (Bench units start steps budget) = steps ≤ most_steps
+HasFewSteps (Session steps budget) = steps ≤ most_steps
 HasFewSteps _ = ⊤
 
 -- a plant is asked for with no more units than it may have
@@ -133,6 +146,7 @@ HasFewUnits _ = ⊤
 pub data FileKind : Type 0 where
   model : FileKind
   log : FileKind
+  script : FileKind
   run : FileKind
   cnf : FileKind
   lrat : FileKind
@@ -141,6 +155,7 @@ pub data FileKind : Type 0 where
 abbrev pub limit_of : FileKind → ℕ
 limit_of model = 16777216
 limit_of log = 16777216
+limit_of script = 16777216
 limit_of run = 536870912
 limit_of cnf = 536870912
 limit_of lrat = 536870912
@@ -155,6 +170,10 @@ fault_of_run net bytes = option_map (λ fault. Run fault) (first_run_fault net b
 abbrev pub fault_of_log : List ℕ → Option FaultyText
 fault_of_log bytes = option_map (λ fault. Log fault) (first_log_fault bytes)
 
+-- a script has the codes of a log that are about its shape
+abbrev pub fault_of_script : List ℕ → Option FaultyText
+fault_of_script bytes = option_map (λ fault. Log fault) (first_script_fault bytes)
+
 abbrev pub fault_of_cnf : List ℕ → Option FaultyText
 fault_of_cnf bytes = option_map (λ fault. Cnf fault) (first_cnf_fault bytes)
 
@@ -165,6 +184,7 @@ fault_of_lrat formula bytes = option_map (λ fault. Lrat fault) (first_lrat_faul
 abbrev pub fault_of_text : FileKind → List (List ℕ) → List ℕ → Option FaultyText
 fault_of_text model files bytes = fault_of_model bytes
 fault_of_text log files bytes = fault_of_log bytes
+fault_of_text script files bytes = fault_of_script bytes
 fault_of_text run [] bytes = None
 fault_of_text run (text ∷ files) bytes = fault_of_run (network_of text) bytes
 fault_of_text cnf files bytes = fault_of_cnf bytes
@@ -183,6 +203,7 @@ files_of (PrintProof steps budget) = model ∷ log ∷ []
 files_of (GenerateModel units start) = []
 files_of (GenerateLog units start) = []
 files_of (Bench units start steps budget) = []
+files_of (Session steps budget) = model ∷ script ∷ []
 
 abbrev pub kind_of_traced : Traced → Kind
 kind_of_traced (Ran faults) = Done
@@ -260,6 +281,46 @@ RunReplays net alarms n found = IfSome (told_run found) (λ best. Replays net al
 pub record AnswersQuestion (net : Net) (alarms : AlarmLog) (n budget : ℕ) (book : List BookEntry) (found : Found) : Type 0 where
   pub diagnosed : IsDiagnosed net alarms n budget book found
   pub replays : RunReplays net alarms n found
+
+-- ---- a session
+
+-- the replies to a row that told this: none where an addition was made
+abbrev pub replies_to : Net → ℕ → Told → List (List ℕ)
+replies_to net n Made = []
+replies_to net n (Refused refusal) = text_of_refused (refusal_number refusal) ∷ []
+replies_to net n (Answered found) = text_of_found net n found ∷ []
+
+-- a run that a row told replays against the log
+abbrev pub TellsReplaying : Net → AlarmLog → ℕ → Told → Type 0
+TellsReplaying net alarms n Made = ⊤
+TellsReplaying net alarms n (Refused refusal) = ⊤
+TellsReplaying net alarms n (Answered found) = RunReplays net alarms n found
+
+-- each run that rows told replays against the log of the rows before it
+abbrev pub RunsReplay : Net → ℕ → AlarmLog → List Row → List Told → Type 0
+RunsReplay net n alarms (row ∷ rows) (told ∷ others) = TellsReplaying net alarms n told × RunsReplay net n (after_row net n alarms row) rows others
+RunsReplay net n alarms _ _ = ⊤
+
+-- A session began with a book of axioms, carried out these rows one after another, and left this book. These are their replies, one after another.
+pub record HasReplies (net : Net) (n budget : ℕ) (rows : List Row) (left : List BookEntry) (texts : List (List ℕ)) : Type 0 where
+  pub begun : List BookEntry
+  pub begins : AddsAxioms [] begun
+  pub told : List Told
+  pub carried : HasCarriedOut net n budget rows begun left told
+  pub replays : RunsReplay net n no_log rows told
+  pub are : texts ≡ flat_map (replies_to net n) told
+
+-- What a session over these rows may say where it leaves this book: the replies to a front of them. It is done where that is all of them, and else the book may have more.
+pub record IsSession (net : Net) (n budget : ℕ) (rows : List Row) (book : List BookEntry) (told : Transcript) : Type 0 where
+  pub front : List Row
+  pub others : List Row
+  pub split : rows ≡ front ++ others
+  pub left : List BookEntry
+  pub since : List BookEntry
+  pub more : book ≡ left ++ since
+  pub replied : HasReplies net n budget front left told.texts
+  pub kind_is : IfSome told.done (λ kind. kind ≡ Done)
+  pub whole : IfSome told.done (λ kind. (others ≡ []) × (since ≡ []))
 
 -- the reply tells what is found
 pub record SaysFound (net : Net) (alarms : AlarmLog) (n budget : ℕ) (book : List BookEntry) (reply : Kind × List ℕ) : Type 0 where
@@ -352,21 +413,28 @@ Says (GenerateLog units start) book [] reply = reply ≡ reply_of_log (plant_log
 Says (Bench units start steps budget) book [] reply = SaysBenched units start steps budget book reply
 Says _ _ _ reply = ⊥
 
+-- the same of a command that has one reply, and of a session, which has a reply to each row
+abbrev pub SaysInAll : Command → List BookEntry → List (List ℕ) → Transcript → Type 0
+SaysInAll (Session steps budget) book (text ∷ lines ∷ []) told = IsSession (network_of text) steps budget (script_of lines) book told
+SaysInAll (Session steps budget) book _ told = ⊥
+SaysInAll c book files told = IsWhole (Says c book files) told
+
 -- the size, where it is above the limit
 abbrev pub above_limit : ℕ → Option ℕ
 above_limit size = if nat_lt MOST_SIZE size then Some size else None
 
--- the size of the question that a command asks over the bytes of its files, where it is above the limit
+-- the size of the question that a command asks over the bytes of its files, where it is above the limit: of a session that of the empty log
 abbrev pub too_large : Command → List (List ℕ) → Option ℕ
 too_large (Diagnose steps budget) (text ∷ alarms ∷ []) = above_limit (question_size (network_of text) (log_of alarms) steps)
 too_large (PrintCnf steps bound) (text ∷ alarms ∷ []) = above_limit (question_size (network_of text) (log_of alarms) steps)
 too_large (PrintProof steps budget) (text ∷ alarms ∷ []) = above_limit (question_size (network_of text) (log_of alarms) steps)
 too_large (Bench units start steps budget) [] = above_limit (question_size (plant_net units) (plant_log units start) steps)
+too_large (Session steps budget) (text ∷ lines ∷ []) = above_limit (question_size (network_of text) no_log steps)
 too_large _ _ = None
 
--- after its files a command stops by the size of its question, or gives a reply that it may
+-- after its files a command stops by the size of its question, or says what it may
 abbrev pub Closes : Command → List BookEntry → List (List ℕ) → Ending → Type 0
-Closes c book files e = MatchOption (too_large c files) (IsOkAnd e (IsWhole (Says c book files))) (λ size. e ≡ Err (Large size))
+Closes c book files e = MatchOption (too_large c files) (IsOkAnd e (SaysInAll c book files)) (λ size. e ≡ Err (Large size))
 
 -- the network of the model text and the log of the log text, which are the first two files of a command
 pub record IsCase (held : List ℕ → Option (List ℕ)) (words : List (List ℕ)) (net : Net) (alarms : AlarmLog) : Type 0 where
@@ -377,7 +445,22 @@ pub record IsCase (held : List ℕ → Option (List ℕ)) (words : List (List �
   pub net_is : net ≡ network_of text
   pub log_is : alarms ≡ log_of rows
 
--- why a command may stop at one of these two
+-- the same with the rows of a script in place of the log
+pub record IsPlan (held : List ℕ → Option (List ℕ)) (words : List (List ℕ)) (net : Net) (rows : List Row) : Type 0 where
+  pub text : List ℕ
+  pub lines : List ℕ
+  pub model_read : IsText held (word_at words 1) (limit_of model) fault_of_model text
+  pub script_read : IsText held (word_at words 2) (limit_of script) fault_of_script lines
+  pub net_is : net ≡ network_of text
+  pub rows_are : rows ≡ script_of lines
+
+-- why a command may stop at its model or its script
+abbrev pub StopsInPlan : Loads → List (List ℕ) → Stop → Type 0
+StopsInPlan l words stop =
+    StopsIn l 1 (word_at words 1) (limit_of model) fault_of_model stop
+    ⊎ ((text : List ℕ) × IsText l.held (word_at words 1) (limit_of model) fault_of_model text × StopsIn l 2 (word_at words 2) (limit_of script) fault_of_script stop)
+
+-- why a command may stop at its model or its log
 abbrev pub StopsInCase : Loads → List (List ℕ) → Stop → Type 0
 StopsInCase l words stop =
     StopsIn l 1 (word_at words 1) (limit_of model) fault_of_model stop
@@ -400,6 +483,11 @@ AnswersAfter l words c book files = InOrder l words (length files + 1) (drop (le
 -- what may be answered for these words with this book left, but for want of memory
 abbrev pub Due : Loads → List (List ℕ) → List BookEntry → Ending → Type 0
 Due l words book e = MatchOption (command_of words) (e ≡ Err Usage) (λ c. Answers l words c book e)
+
+-- the command has a reply for each of several rows
+abbrev pub is_session : Command → Bool
+is_session (Session steps budget) = true
+is_session _ = false
 
 -- how many files a command names
 abbrev pub file_count : Command → ℕ

@@ -9,5 +9,6 @@ pub mod Commands
 pub mod Outcomes
 pub mod Exact
 pub mod Puts
+pub mod Sessions
 pub mod Rows
 pub mod Run

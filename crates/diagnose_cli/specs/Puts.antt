@@ -1,14 +1,45 @@
--- What putting the text of an ending does.
-use Rattle.std.specs.Prelude.{◌≡◌, ◌≢◌, ℕ, List, [], Option}
+-- What putting the texts of an ending does.
+use Rattle.std.specs.Prelude.{◌≡◌, ◌≢◌, ℕ, List, [], ◌∷◌, ◌++◌, Option}
 use Rattle.std.specs.List.{concat}
 use Rattle.des_base.specs.Outside.{Took, TookFront}
-use Rattle.diagnose_cli.specs.Transcripts.{Ending}
+use Rattle.diagnose_cli.specs.Transcripts.{Ending, UnlessMemory, TookCut}
 use Rattle.diagnose_cli.specs.Endings.{HasStatus, texts_of}
 
--- by the status that is answered; rose says that the sink's count of faults rose
+-- those of one ending, by the status that is answered; rose says that the sink's count of faults rose
 pub record Puts (e : Ending) (before now : Option (List ℕ)) (rose : Type 0) (status : ℕ) : Type 0 where
   pub shown : status ≢ 4 → status ≢ 9 → HasStatus e status
   pub whole : status ≢ 4 → status ≢ 9 → Took before now (concat (texts_of e))
   pub nothing : status ≡ 9 → Took before now []
   pub front : status ≡ 4 → TookFront before now (concat (texts_of e))
   pub put_failed : status ≡ 4 → rose
+
+-- ---- of an ending that is due
+
+-- its texts were put, and its status is answered
+pub record Finishes (may : Ending → Type 0) (before now : Option (List ℕ)) (status : ℕ) : Type 0 where
+  pub ending : Ending
+  pub due : UnlessMemory ending (may ending)
+  pub shown : HasStatus ending status
+  pub put : Took before now (concat (texts_of ending))
+
+-- whole texts were put
+pub record BreaksOff (may : Ending → Type 0) (before now : Option (List ℕ)) : Type 0 where
+  pub ending : Ending
+  pub due : UnlessMemory ending (may ending)
+  pub put : Took before now (concat (texts_of ending))
+
+-- texts were put, but of the last one a front alone
+pub record IsCutOff (may : Ending → Type 0) (before now : Option (List ℕ)) : Type 0 where
+  pub ending : Ending
+  pub due : UnlessMemory ending (may ending)
+  pub texts : List (List ℕ)
+  pub next : List ℕ
+  pub split : texts_of ending ≡ texts ++ next ∷ []
+  pub put : TookCut before now texts next
+
+-- by the status that is answered
+pub record Speaks (may : Ending → Type 0) (before now : Option (List ℕ)) (rose : Type 0) (status : ℕ) : Type 0 where
+  pub ends : status ≢ 4 → status ≢ 9 → Finishes may before now status
+  pub put_failed : status ≡ 4 → rose
+  pub cut_off : status ≡ 4 → IsCutOff may before now
+  pub broke : status ≡ 9 → BreaksOff may before now

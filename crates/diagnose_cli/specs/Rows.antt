@@ -1,5 +1,6 @@
 -- What each command answers, by its words and the bytes that the shelf holds under the names of its files.
 use Rattle.std.specs.Prelude.{◌≡◌, ◌≢◌, ℕ, ◌+◌, ◌<◌, ◌≤◌, ◌^◌, ⊤, List, [], ◌∷◌, ◌++◌, length, Option, Some, None, IfSome}
+use Rattle.std.specs.List.{concat}
 use Rattle.des_base.specs.CommandWords.{word_at}
 use Rattle.des_base.specs.Outside.{Took}
 use Rattle.des_net.specs.Network.{Net}
@@ -7,6 +8,8 @@ use Rattle.least_faults.specs.Answers.{asked_last, HasConflict, IsExplanation}
 use Rattle.least_faults.specs.declared.answer.Best.{Best}
 use Rattle.least_faults.specs.declared.answer.Found.TheVariants.{Explained, Many, Undecided}
 use Rattle.log_csv.specs.LogText.{log_of}
+use Rattle.log_csv.specs.ScriptText.{script_of}
+use Rattle.log_csv.specs.declared.row.Row.{Row as ScriptRow}
 use Rattle.log_order.specs.Log.{Log}
 use Rattle.model_text.specs.ModelFaults.{network_of}
 use Rattle.proof_ledger.specs.Checking.{IsUnsatisfiable}
@@ -17,8 +20,8 @@ use Rattle.replay.specs.Explanation.{NeedsFaults, IsLeast, IsAbsent, IsMany}
 use Rattle.replay.specs.QuestionSize.{variable_bound}
 use Rattle.report.specs.Replies.{text_of_found}
 use Rattle.diagnose_cli.specs.declared.command.Command.{Command}
-use Rattle.diagnose_cli.specs.declared.command.Command.TheVariants.{Trace, Show, Replay, Check, Diagnose, PrintCnf, PrintProof, GenerateModel, GenerateLog, Bench}
-use Rattle.diagnose_cli.specs.Commands.{FileKind, limit_of, fault_of_text, files_of, too_large, command_of, Says}
+use Rattle.diagnose_cli.specs.declared.command.Command.TheVariants.{Trace, Show, Replay, Check, Diagnose, PrintCnf, PrintProof, GenerateModel, GenerateLog, Bench, Session}
+use Rattle.diagnose_cli.specs.Commands.{FileKind, HasReplies, limit_of, fault_of_text, files_of, too_large, command_of, Says}
 use Rattle.diagnose_cli.specs.Outcomes.{Outcome, IsPut, IsUnbroken, Tells}
 
 -- ---- the files of a command
@@ -87,6 +90,20 @@ pub record GenerateRows (o : Outcome) : Type 0 where
 
 abbrev pub BenchRow : Outcome → Type 0
 BenchRow o = (units start steps budget : ℕ) → RowAlone o (Bench units start steps budget)
+
+-- ---- what a session tells
+
+-- the status is 0, and what was taken are the replies to these rows, which left the book
+pub record TellsSession (o : Outcome) (net : Net) (n budget : ℕ) (rows : List ScriptRow) : Type 0 where
+  pub texts : List (List ℕ)
+  pub replied : HasReplies net n budget rows o.book texts
+  pub shown : o.status ≡ 0
+  pub put : Took o.before o.now (concat texts)
+
+-- where its files can be read
+abbrev pub SessionRow : Outcome → Type 0
+SessionRow o =
+    (steps budget : ℕ) (text lines : List ℕ) → Reads o (Session steps budget) (text ∷ lines ∷ []) → IsUnbroken o.status → TellsSession o (network_of text) steps budget (script_of lines)
 
 -- ---- what each status of `diagnose` tells
 

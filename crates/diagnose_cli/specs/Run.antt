@@ -1,41 +1,34 @@
 -- What the whole run does.
-use Rattle.std.specs.Prelude.{◌≡◌, ◌≢◌, ℕ, List, [], ◌∷◌, ◌++◌, ◌≤◌, codes, None, IfSome, IsSomeAnd, Bool, true, false}
-use Rattle.std.specs.List.{concat}
+use Rattle.std.specs.Prelude.{◌≡◌, ◌≢◌, ℕ, List, [], ◌≤◌, codes, None, IfSome, IsSomeAnd, Bool, true, false}
 use Rattle.des_base.specs.Outside.{Rose, Took}
 use Rattle.des_base.specs.CommandWords.{word_at}
-use Rattle.diagnose_cli.specs.Transcripts.{Ending, UnlessMemory, TookCut}
+use Rattle.diagnose_cli.specs.Transcripts.{Ending}
 use Rattle.report.specs.Replies.{numbered}
-use Rattle.diagnose_cli.specs.Endings.{HasStatus, texts_of}
 use Rattle.diagnose_cli.specs.declared.command.Command.{Command}
-use Rattle.diagnose_cli.specs.declared.command.Command.TheVariants.{Diagnose, PrintCnf, PrintProof, Bench}
+use Rattle.diagnose_cli.specs.declared.command.Command.TheVariants.{Diagnose, PrintCnf, PrintProof, Bench, Session}
 use Rattle.diagnose_cli.specs.Commands.{Due, command_of, file_count, files_of}
 use Rattle.diagnose_cli.specs.Outcomes.{Outcome, IsUnbroken}
 use Rattle.diagnose_cli.specs.Exact.{StopRow}
-use Rattle.diagnose_cli.specs.Rows.{TraceRow, ShowRow, ReplayRow, CheckRows, PrintedRows, GenerateRows, BenchRow, DiagnoseRows}
+use Rattle.diagnose_cli.specs.Puts.{Finishes, BreaksOff, IsCutOff}
+use Rattle.diagnose_cli.specs.Rows.{TraceRow, ShowRow, ReplayRow, CheckRows, PrintedRows, GenerateRows, BenchRow, DiagnoseRows, SessionRow}
 
 -- ---- how it ends
 
--- by an ending that is due for the words with the book that is left: its texts were put, and its status is answered
-pub record Ends (o : Outcome) : Type 0 where
-  pub ending : Ending
-  pub due : UnlessMemory ending (Due o.loads o.words o.book ending)
-  pub shown : HasStatus ending o.status
-  pub put : Took o.before o.now (concat (texts_of ending))
+-- what is due for the words with the book that is left
+abbrev pub IsDue : Outcome → Ending → Type 0
+IsDue o = Due o.loads o.words o.book
+
+-- by an ending that is due: its texts were put, and its status is answered
+abbrev pub Ends : Outcome → Type 0
+Ends o = Finishes (IsDue o) o.before o.now o.status
 
 -- whole texts that are due for the words were put
-pub record Broke (o : Outcome) : Type 0 where
-  pub ending : Ending
-  pub due : UnlessMemory ending (Due o.loads o.words o.book ending)
-  pub put : Took o.before o.now (concat (texts_of ending))
+abbrev pub Broke : Outcome → Type 0
+Broke o = BreaksOff (IsDue o) o.before o.now
 
 -- texts that are due for the words were put, but of the last one a front alone
-pub record CutOff (o : Outcome) : Type 0 where
-  pub ending : Ending
-  pub due : UnlessMemory ending (Due o.loads o.words o.book ending)
-  pub texts : List (List ℕ)
-  pub next : List ℕ
-  pub split : texts_of ending ≡ texts ++ next ∷ []
-  pub put : TookCut o.before o.now texts next
+abbrev pub CutOff : Outcome → Type 0
+CutOff o = IsCutOff (IsDue o) o.before o.now
 
 -- the count of the name of file i rose
 abbrev pub RoseFor : Outcome → ℕ → Type 0
@@ -70,6 +63,7 @@ is_question (Diagnose steps budget) = true
 is_question (PrintCnf steps bound) = true
 is_question (PrintProof steps budget) = true
 is_question (Bench units start steps budget) = true
+is_question (Session steps budget) = true
 is_question _ = false
 
 -- the words call no command that asks a question
@@ -103,4 +97,5 @@ pub record Does (o : Outcome) (rose : Type 0) : Type 0 where
   pub printed : PrintedRows o
   pub generated : GenerateRows o
   pub benched : BenchRow o
+  pub carried_out : SessionRow o
   pub ran : Ran o rose

@@ -1,7 +1,7 @@
 // The commands, and which one the words of a command line call.
 ghost use Rattle.std.specs.Prelude.{◌≡◌, ◌≤◌, length, IfSome, ◌<◌};
 ghost use Rattle.gen_plant.specs.Plant.{most_units};
-ghost use Rattle.diagnose_cli.specs.Commands.{calls, command_of, bound_of, cnf_of, proof_words_of, units_of, generate_of, bench_of, file_count, HasFewSteps, HasFewUnits};
+ghost use Rattle.diagnose_cli.specs.Commands.{calls, command_of, bound_of, cnf_of, proof_words_of, units_of, generate_of, bench_of, session_of, file_count, HasFewSteps, HasFewUnits};
 
 use des_base::{WordList, read_number};
 
@@ -43,6 +43,12 @@ pub enum Command {
     GenerateLog {
         units: u32,
         start: u64,
+    },
+    /// `session MODEL SCRIPT N BUDGET`: the rows of the script one after another, additions to a log and questions about it, each
+    /// with the whole budget.
+    Session {
+        steps: u32,
+        budget: u64,
     },
     /// `bench Z START N BUDGET`: what `diagnose` finds of that plant, summed up.
     Bench {
@@ -98,6 +104,8 @@ pub fn command_of(words: &WordList) -> Option<Command>
         generate_of(words.word(1), words.word(2), words.word(3))
     } else if is_call(words, "bench", 5) {
         bench_of(words.word(1), words.word(2), words.word(3), words.word(4))
+    } else if is_call(words, "session", 5) {
+        session_of(words.word(3), words.word(4))
     } else {
         None
     }
@@ -183,6 +191,20 @@ fn bench_of(units: &str, start: &str, steps: &str, budget: &str) -> Option<Comma
     Some(Command::Bench {
         units,
         start,
+        steps: steps as u32,
+        budget,
+    })
+}
+
+fn session_of(steps: &str, budget: &str) -> Option<Command>
+    ensures command { result ≡ session_of steps.now budget.now }
+    ensures files { IfSome result (λ c. file_count c ≡ 2) }
+    ensures steps { IfSome result HasFewSteps }
+    ensures units { IfSome result HasFewUnits }
+{
+    let steps = read_number(steps.as_bytes(), STEP_LIMIT)?;
+    let budget = read_number(budget.as_bytes(), u64::MAX)?;
+    Some(Command::Session {
         steps: steps as u32,
         budget,
     })

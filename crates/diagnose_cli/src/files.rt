@@ -3,18 +3,20 @@ ghost use Rattle.std.specs.Prelude.{◌≡◌, ◌≢◌, ℕ, ◌^◌, ◌<◌,
 ghost use Rattle.des_base.specs.CommandWords.{word_at};
 ghost use Rattle.model_text.specs.ModelFaults.{network_of};
 ghost use Rattle.log_csv.specs.LogText.{log_of};
+ghost use Rattle.log_csv.specs.ScriptText.{script_of};
 ghost use Rattle.proof_text.specs.CnfText.{formula, formula_of};
 ghost use Rattle.proof_text.specs.LratText.{proof_of};
 ghost use Rattle.replay.specs.RunText.{run_of};
 ghost use Rattle.replay.specs.Traced.{word_of};
-ghost use Rattle.diagnose_cli.specs.Commands.{IsCase, StopsInCase, fault_of_model, fault_of_log, fault_of_run, fault_of_cnf, fault_of_lrat};
+ghost use Rattle.diagnose_cli.specs.Commands.{IsCase, IsPlan, StopsInCase, StopsInPlan, fault_of_model, fault_of_log, fault_of_script, fault_of_run, fault_of_cnf, fault_of_lrat};
 ghost use Rattle.diagnose_cli.specs.Files.{loads, Fetches, IsReadAs, StopsIn};
 
 use crate::question::Case;
+use crate::session_rows::Plan;
 use crate::stop::{Stop, stop_of_cnf, stop_of_lrat};
 use des_base::{LoadFault, Shelf, WordList};
 use des_net::Network;
-use log_csv::read_log;
+use log_csv::{Script, read_log, read_script};
 use log_order::AlarmLog;
 use model_text::read_model;
 use proof_text::{Cnf, Proof, read_cnf, read_lrat};
@@ -87,6 +89,24 @@ pub fn fetch_log<F: Shelf>(
     Ok(read_log(alloc, text.as_slice())?)
 }
 
+/// The script in this place among the command's files.
+#[tactic(auto, using(crate::proofs::Reading::script_stops, crate::proofs::Reading::script_read))]
+pub fn fetch_script<F: Shelf>(
+    alloc: Global,
+    words: &WordList,
+    shelf: &mut F,
+    place: u32,
+) -> Result<Script, Stop>
+    requires { place < length words.now }
+    ensures script { IfOk result (λ script. IsReadAs (F.held shelf.old) (word_at words.now place) LOG_LIMIT fault_of_script (λ text. script ≡ script_of text)) }
+    ensures stop { IfErr result (λ stop. stop ≢ Stop.Memory → StopsIn (loads F.held F.faults shelf.old shelf.new) place (word_at words.now place) LOG_LIMIT fault_of_script stop) }
+    ensures kept { F.held shelf.new ≡ F.held shelf.old }
+    ensures never_falls { (n : List ℕ) → F.faults shelf.old n ≤ F.faults shelf.new n }
+{
+    let text = fetch(alloc, shelf, place, words.word(place as usize), LOG_LIMIT)?;
+    Ok(read_script(alloc, text.as_slice())?)
+}
+
 /// The model and the log, which are the first two files of a command.
 pub fn fetch_case<F: Shelf>(alloc: Global, words: &WordList, shelf: &mut F) -> Result<Case, Stop>
     requires { 2 < length words.now }
@@ -98,6 +118,17 @@ pub fn fetch_case<F: Shelf>(alloc: Global, words: &WordList, shelf: &mut F) -> R
     let net = fetch_model(alloc, words, shelf, 1)?;
     let log = fetch_log(alloc, words, shelf, 2)?;
     Ok(Case { net, log })
+}
+
+/// The model and the script, which are the two files of a session.
+pub fn fetch_plan<F: Shelf>(alloc: Global, words: &WordList, shelf: &mut F) -> Result<Plan, Stop>
+    requires { 2 < length words.now }
+    ensures read { IfOk result (λ plan. IsPlan (F.held shelf.old) words.now plan.net plan.script) }
+    ensures stop { IfErr result (λ stop. stop ≢ Stop.Memory → StopsInPlan (loads F.held F.faults shelf.old shelf.new) words.now stop) }
+{
+    let net = fetch_model(alloc, words, shelf, 1)?;
+    let script = fetch_script(alloc, words, shelf, 2)?;
+    Ok(Plan { net, script })
 }
 
 /// The formula in this place among the command's files.

@@ -21,6 +21,8 @@ mod question;
 mod refuting;
 mod replay_command;
 mod run;
+mod session_command;
+mod session_rows;
 mod show_command;
 mod stop;
 #[cfg(test)]

@@ -1,11 +1,12 @@
 // All that the program does, but for where its words, files and output come from.
-ghost use Rattle.std.specs.Prelude.{◌≡◌, ◌≢◌, [], IfErr};
+ghost use Rattle.std.specs.Prelude.{◌≡◌, ◌≢◌, ◌<◌, ◌≤◌, [], false, length, IfErr, IfNone, IfSome, Some};
 ghost use Rattle.des_base.specs.Outside.{Rose};
-ghost use Rattle.diagnose_cli.specs.Commands.{Due};
+ghost use Rattle.des_base.specs.declared.TheConstants.{MOST_STEPS};
+ghost use Rattle.diagnose_cli.specs.Commands.{Due, command_of, is_session};
 ghost use Rattle.diagnose_cli.specs.Files.{loads};
 ghost use Rattle.diagnose_cli.specs.Outcomes.{outcome};
-ghost use Rattle.diagnose_cli.specs.Rows.{TraceRow, ShowRow, ReplayRow, CheckRows, DiagnoseRows, PrintedRows, GenerateRows, BenchRow};
-ghost use Rattle.diagnose_cli.specs.Run.{Ran, AsksNone, LoadsNone, LeavesAlone};
+ghost use Rattle.diagnose_cli.specs.Rows.{TraceRow, ShowRow, ReplayRow, CheckRows, DiagnoseRows, PrintedRows, GenerateRows, BenchRow, SessionRow};
+ghost use Rattle.diagnose_cli.specs.Run.{AsksNone, Does, LeavesAlone, LoadsNone, Ran};
 ghost use Rattle.diagnose_cli.specs.Transcripts.{UnlessMemory, once};
 
 use crate::bench_command::bench_command;
@@ -19,6 +20,7 @@ use crate::generate_command::{generate_log_command, generate_model_command};
 use crate::proof_command::proof_command;
 use crate::question::Limits;
 use crate::replay_command::replay_command;
+use crate::session_command::session_command;
 use crate::show_command::show_command;
 use crate::stop::Stop;
 use crate::trace_command::trace_command;
@@ -48,21 +50,56 @@ pub fn run<F: Shelf, S: Sink>(
     ensures printed { PrintedRows (outcome (loads F.held F.faults shelf.old shelf.new) words.now (S.taken out.old) (S.taken out.new) book.new.entries result) }
     ensures generated { GenerateRows (outcome (loads F.held F.faults shelf.old shelf.new) words.now (S.taken out.old) (S.taken out.new) book.new.entries result) }
     ensures benched { BenchRow (outcome (loads F.held F.faults shelf.old shelf.new) words.now (S.taken out.old) (S.taken out.new) book.new.entries result) }
+    ensures carried_out { SessionRow (outcome (loads F.held F.faults shelf.old shelf.new) words.now (S.taken out.old) (S.taken out.new) book.new.entries result) }
     ensures ran { Ran (outcome (loads F.held F.faults shelf.old shelf.new) words.now (S.taken out.old) (S.taken out.new) book.new.entries result) (Rose (S.faults out.old) (S.faults out.new)) }
     ensures left_alone { LeavesAlone words.now result shelf.old shelf.new book.old book.new }
 {
-    let ending = answer(alloc, words, shelf, book);
-    put_once(alloc, ending, out)
+    respond(alloc, words, shelf, out, book)
 }
 
-// The one reply to a command.
+// Puts what the command that is called says.
+fn respond<F: Shelf, S: Sink>(
+    alloc: Global,
+    words: &WordList,
+    shelf: &mut F,
+    out: &mut S,
+    book: &mut Ledger,
+) -> u8
+    requires { book.old.entries ≡ [] }
+    ensures does { Does (outcome (loads F.held F.faults shelf.old shelf.new) words.now (S.taken out.old) (S.taken out.new) book.new.entries result) (Rose (S.faults out.old) (S.faults out.new)) }
+    ensures left_alone { LeavesAlone words.now result shelf.old shelf.new book.old book.new }
+{
+    match session_limits(words) {
+        Some(limits) => session_command(alloc, words, shelf, limits, out, book),
+        None => {
+            let ending = answer(alloc, words, shelf, book);
+            put_once(alloc, ending, out)
+        }
+    }
+}
+
+// What is asked of a session, where the words call one.
+fn session_limits(words: &WordList) -> Option<Limits>
+    ensures called { IfSome result (λ limits. command_of words.now ≡ Some (Command.Session limits.steps limits.budget)) }
+    ensures words { IfSome result (λ limits. 2 < length words.now) }
+    ensures steps { IfSome result (λ limits. limits.steps ≤ MOST_STEPS) }
+    ensures once { IfNone result (IfSome (command_of words.now) (λ c. is_session c ≡ false)) }
+{
+    match command_of(words) {
+        Some(Command::Session { steps, budget }) => Some(Limits { steps, budget }),
+        _ => None,
+    }
+}
+
+// The one reply to a command that is no session.
 fn answer<F: Shelf>(
     alloc: Global,
     words: &WordList,
     shelf: &mut F,
     book: &mut Ledger,
 ) -> Result<Reply, Stop>
-    requires { book.old.entries ≡ [] }
+    requires empty { book.old.entries ≡ [] }
+    requires once { IfSome (command_of words.now) (λ c. is_session c ≡ false) }
     ensures due { UnlessMemory result (Due (loads F.held F.faults shelf.old shelf.new) words.now book.new.entries (once result)) }
     ensures no_load { LoadsNone words.now → shelf.new ≡ shelf.old }
     ensures no_question { AsksNone words.now → book.new ≡ book.old }
@@ -95,5 +132,6 @@ fn answer<F: Shelf>(
                 budget,
             },
         ) => bench_command(alloc, units, start, Limits { steps, budget }, book),
+        Some(Command::Session { .. }) => unreachable!(),
     }
 }

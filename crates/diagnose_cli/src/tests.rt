@@ -8,14 +8,22 @@ use std::alloc::Global;
 use std::process::Abort;
 use std::test::Fail;
 
-// A valve that jams, unseen, which is a fault; then it trips.
-const FILES: [(&str, &str); 3] = [
+// A valve that jams, unseen, which is a fault; then it trips. Of another plant a later alarm tells that there was no fault.
+const FILES: [(&str, &str); 5] = [
     (
         "valve",
         "des 1\ncomponent p\nstate ok init\nstate bad\nstate off\ntrans ok jam bad\ntrans bad trip off\nevent jam fault : p.jam\nevent trip alarm T : p.trip\n",
     ),
     ("tripped", "alarm,a1,T\n"),
     ("both", "run 2\njam\ntrip a1\n"),
+    (
+        "excusing",
+        "des 1\ncomponent c\nstate s0 init\nstate s1\nstate s2\ntrans s0 y s1\ntrans s1 x s2\ntrans s0 f s1\nevent ey alarm B : c.y\nevent ex alarm A : c.x\nevent ef fault : c.f\n",
+    ),
+    (
+        "rows",
+        "alarm,a,A\nask\nalarm,b,B\nbefore,b,a\nask\nbefore,a,b\nask\n",
+    ),
 ];
 
 fn shelf_of_files(rt: &impl Abort, alloc: Global) -> MemShelf {
@@ -50,7 +58,7 @@ fn status_of(
 }
 
 // Words, the load that fails, the status and the text that is put.
-const LOADS: [(&str, u32, u8, &str); 6] = [
+const LOADS: [(&str, u32, u8, &str); 9] = [
     ("trace valve both", 3, 0, "RAN 1\n"),
     ("trace valve both", 2, 3, "LOAD 2\n"),
     ("trace valve both", 1, 3, "LOAD 1\n"),
@@ -62,6 +70,14 @@ const LOADS: [(&str, u32, u8, &str); 6] = [
     ),
     ("diagnose valve tripped 2 1000", 2, 3, "LOAD 2\n"),
     ("diagnose valve tripped 2 1000", 1, 3, "LOAD 1\n"),
+    (
+        "session excusing rows 2 1000",
+        3,
+        0,
+        "EXPLAINED 1\nrun 2\nef\nex a\nEXPLAINED 0\nrun 2\ney b\nex a\nREFUSED 3\nEXPLAINED 0\nrun 2\ney b\nex a\n",
+    ),
+    ("session excusing rows 2 1000", 2, 3, "LOAD 2\n"),
+    ("session excusing rows 2 1000", 1, 3, "LOAD 1\n"),
 ];
 
 #[test]
@@ -69,7 +85,7 @@ fn loads_fail(rt: HostRuntime) {
     for (line, call, wanted, text) in LOADS {
         let mut shelf = shelf_of_files(&rt, rt.alloc());
         let mut out = MemSink::new(rt.alloc());
-        assert!(rt; shelf.fail_call(call).is_ok() && out.reserve(100).is_ok());
+        assert!(rt; shelf.fail_call(call).is_ok() && out.reserve(200).is_ok());
         let status = status_of(&rt, rt.alloc(), line, &mut shelf, &mut out);
         assert!(rt;
             status == wanted && out.taken() == text.as_bytes(),
@@ -95,6 +111,42 @@ fn the_put_fails(rt: HostRuntime) {
         assert!(rt; out.fail_call(1).is_ok() && out.reserve(100).is_ok());
         let status = status_of(&rt, rt.alloc(), line, &mut shelf, &mut out);
         assert!(rt; status == 4 && out.taken().is_empty(), "{line}");
+    }
+}
+
+// The put of a session that fails, the status, and what was taken before.
+const PUTS: [(u32, u8, &str); 5] = [
+    (1, 4, ""),
+    (2, 4, "EXPLAINED 1\nrun 2\nef\nex a\n"),
+    (
+        3,
+        4,
+        "EXPLAINED 1\nrun 2\nef\nex a\nEXPLAINED 0\nrun 2\ney b\nex a\n",
+    ),
+    (
+        4,
+        4,
+        "EXPLAINED 1\nrun 2\nef\nex a\nEXPLAINED 0\nrun 2\ney b\nex a\nREFUSED 3\n",
+    ),
+    (
+        5,
+        0,
+        "EXPLAINED 1\nrun 2\nef\nex a\nEXPLAINED 0\nrun 2\ney b\nex a\nREFUSED 3\nEXPLAINED 0\nrun 2\ney b\nex a\n",
+    ),
+];
+
+#[test]
+fn the_put_of_a_reply_fails(rt: HostRuntime) {
+    for (call, wanted, text) in PUTS {
+        let mut shelf = shelf_of_files(&rt, rt.alloc());
+        let mut out = MemSink::new(rt.alloc());
+        assert!(rt; out.fail_call(call).is_ok() && out.reserve(200).is_ok());
+        let line = "session excusing rows 2 1000";
+        let status = status_of(&rt, rt.alloc(), line, &mut shelf, &mut out);
+        assert!(rt;
+            status == wanted && out.taken() == text.as_bytes(),
+            "{call}"
+        );
     }
 }
 

@@ -1,0 +1,71 @@
+-- Row by row.
+use Rattle.std.proofs.Common.{◌∙◌, ◌++◌, ◌∷◌, [], List, drop, take, arith, sym, ap, subst, append_assoc}
+use Rattle.std.specs.Prelude.{◌+◌}
+use Rattle.std.proofs.lemmas.List.{take_all, take_more, take-append-drop}
+use Rattle.alarm_session.specs.Session.{IsSessionBook}
+use Rattle.des_base.specs.Outside.{Rose}
+use Rattle.log_csv.specs.declared.row.Row.{Row}
+use Rattle.diagnose_cli.proofs.SessionFronts.{HasSaid, broken_off, nothing_said, said_more, same_setting, says_all}
+use Rattle.diagnose_cli.proofs.session_rows.tell_rows.Goals as goal
+
+pub loop-row-init : goal.loop-row-init
+loop-row-init g c =
+    let session = c.args.session.now in
+    let begins = c.requires.begins in
+    let asks = same_setting (λ m k. IsSessionBook m session.log k session.book) session.net c.args.net.now session.steps c.args.limits.steps begins.net_is begins.steps c.book-book.ensures.told in
+    record {
+      ranked = c.requires.ranked;
+      net = begins.net_is;
+      time = begins.steps;
+      rises = omega arith;
+      said = nothing_said c.args.net.now c.args.limits.steps c.args.limits.budget session.log session.book (g.S.Sink.taken c.args.out.now) begins.log begins.book asks;
+    }
+
+pub loop-row-preserved : goal.loop-row-preserved
+loop-row-preserved g c =
+    let rows = c.args.rows.now in
+    let i = c.loop-row.row-index in
+    let row = c.row-item.result in
+    let inv = c.loop-row.invariant in
+    let here = c.in_ok-tell_row.ensures in
+    let net = c.args.net.now in
+    let n = c.args.limits.steps in
+    let budget = c.args.limits.budget in
+    let old = c.loop-row.session in
+    let new = c.tell_row.new.session in
+    let longer = ap (λ (r : Row). take i rows ++ r ∷ []) c.row-item.is ∙ sym (take_more rows i row c.loop-row-test.true) in
+    record {
+      ranked = here.ranked;
+      net = here.kept.net ∙ inv.net;
+      time = here.kept.steps ∙ inv.time;
+      rises = omega (arith, inv.rises, here.never_falls);
+      said = subst (λ (rs : List Row). HasSaid net n budget rs new.log new.book (g.S.Sink.taken c.args.out.now) (g.S.Sink.taken c.tell_row.new.out)) longer
+          (said_more net n budget (take i rows) row old.log new.log old.book new.book (g.S.Sink.taken c.args.out.now) (g.S.Sink.taken c.loop-row.out) (g.S.Sink.taken c.tell_row.new.out) inv.said here.goes);
+    }
+
+pub returns-in_err-tell_row : goal.returns-in_err-tell_row
+returns-in_err-tell_row g c =
+    let rows = c.args.rows.now in
+    let i = c.loop-row.row-index in
+    let row = c.row-item.result in
+    let inv = c.loop-row.invariant in
+    let here = c.in_err-tell_row.ensures in
+    let old = c.loop-row.session in
+    let new = c.tell_row.new.session in
+    let longer = ap (λ (r : Row). take i rows ++ r ∷ []) c.row-item.is ∙ sym (take_more rows i row c.loop-row-test.true) in
+    let split = sym (take-append-drop (i + 1) rows) ∙ ap (λ (rs : List Row). rs ++ drop (i + 1) rows) (sym longer) ∙ append_assoc (take i rows) (row ∷ []) (drop (i + 1) rows) in
+    broken_off c.args.net.now c.args.limits.steps c.args.limits.budget rows (take i rows) (drop (i + 1) rows) row old.log new.log old.book new.book (g.S.Sink.taken c.args.out.now) (g.S.Sink.taken c.loop-row.out)
+    (g.S.Sink.taken c.tell_row.new.out) (g.S.Sink.faults c.args.out.now) (g.S.Sink.faults c.loop-row.out) (g.S.Sink.faults c.tell_row.new.out) _ _ c.from_residual.ensures.1 split inv.rises inv.said here.goes
+
+pub returns : goal.returns
+returns g c =
+    let rows = c.args.rows.now in
+    let i = c.loop-row.row-index in
+    let net = c.args.net.now in
+    let n = c.args.limits.steps in
+    let budget = c.args.limits.budget in
+    let session = c.loop-row.session in
+    let before = g.S.Sink.taken c.args.out.now in
+    let now = g.S.Sink.taken c.loop-row.out in
+    says_all net n budget rows session.log session.book before now (Rose (g.S.Sink.faults c.args.out.now) (g.S.Sink.faults c.loop-row.out))
+    (subst (λ (rs : List Row). HasSaid net n budget rs session.log session.book before now) (take_all i rows (omega (arith, c.loop-row-test.false))) c.loop-row.invariant.said)

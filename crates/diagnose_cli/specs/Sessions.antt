@@ -1,0 +1,78 @@
+-- How a session goes: the replies to its rows are put one after another, until the rows end, memory is wanting or a put fails.
+use Rattle.std.specs.Prelude.{◌≡◌, ⊤, ℕ, List, [], ◌∷◌, ◌++◌, Option, Result, Ok, Err, IsOkAnd}
+use Rattle.std.specs.List.{concat}
+use Rattle.alarm_session.specs.Rows.{IsRowTold, after_row}
+use Rattle.alarm_session.specs.declared.rows.Told.{Told}
+use Rattle.alarm_session.specs.declared.rows.Told.TheVariants.{Made, Refused, Answered}
+use Rattle.des_base.specs.Outside.{Took, TookFront}
+use Rattle.des_net.specs.Network.{Net}
+use Rattle.log_csv.specs.declared.row.Row.{Row}
+use Rattle.log_order.specs.Log.{Log}
+use Rattle.proof_ledger.specs.Book.{BookEntry}
+use Rattle.report.specs.Replies.{EventsKnown}
+use Rattle.diagnose_cli.specs.declared.session_rows.Broken.{Broken}
+use Rattle.diagnose_cli.specs.declared.session_rows.Broken.TheVariants.{Memory, Put}
+use Rattle.diagnose_cli.specs.Commands.{IsSession, TellsReplaying, replies_to}
+use Rattle.diagnose_cli.specs.Puts.{BreaksOff, Finishes, IsCutOff}
+use Rattle.diagnose_cli.specs.Transcripts.{Ending}
+
+-- ---- one row
+
+-- the events of a run that a row told are the network's
+abbrev pub TellsKnown : Net → Told → Type 0
+TellsKnown net Made = ⊤
+TellsKnown net (Refused refusal) = ⊤
+TellsKnown net (Answered found) = EventsKnown net found
+
+-- the only text of some is cut off: a front of it was taken
+pub record IsFrontTaken (texts : List (List ℕ)) (before now : Option (List ℕ)) : Type 0 where
+  pub next : List ℕ
+  pub only : texts ≡ next ∷ []
+  pub put : TookFront before now next
+
+-- All texts were taken, or none of them where memory was wanting, or there is one and its put failed. Here rose says that the sink's count of faults rose.
+abbrev pub PutsReplies : List (List ℕ) → Option (List ℕ) → Option (List ℕ) → Type 0 → Result (Unit {0}) Broken → Type 0
+PutsReplies texts before now rose (Ok done) = Took before now (concat texts)
+PutsReplies texts before now rose (Err Memory) = Took before now []
+PutsReplies texts before now rose (Err Put) = rose × IsFrontTaken texts before now
+
+-- The row was carried out, and what it told replays; the log is then this one.
+pub record IsCarriedOut (net : Net) (n budget : ℕ) (alarms : Log) (row : Row) (later : Log) (old new : List BookEntry) (told : Told) : Type 0 where
+  pub holds : IsRowTold net n budget alarms row old new told
+  pub replays : TellsReplaying net alarms n told
+  pub log : later ≡ after_row net n alarms row
+
+-- by how it went, with P of the replies where it was carried out
+pub record IsRowPut (net : Net) (n budget : ℕ) (alarms : Log) (row : Row) (later : Log) (old new : List BookEntry) (P : List (List ℕ) → Type 0) : Type 0 where
+  pub told : Told
+  pub carried : IsCarriedOut net n budget alarms row later old new told
+  pub put : P (replies_to net n told)
+
+-- the book has perhaps more, and nothing was put
+pub record IsRowLost (old new : List BookEntry) (before now : Option (List ℕ)) : Type 0 where
+  pub since : List BookEntry
+  pub more : new ≡ old ++ since
+  pub put : Took before now []
+
+abbrev pub RowGoes : Net → ℕ → ℕ → Log → Row → Log → List BookEntry → List BookEntry → Option (List ℕ) → Option (List ℕ) → Type 0 → Result (Unit {0}) Broken → Type 0
+RowGoes net n budget alarms row later old new before now rose (Ok done) = IsRowPut net n budget alarms row later old new (λ texts. Took before now (concat texts))
+RowGoes net n budget alarms row later old new before now rose (Err Memory) = IsRowLost old new before now
+RowGoes net n budget alarms row later old new before now rose (Err Put) = rose × IsRowPut net n budget alarms row later old new (λ texts. IsFrontTaken texts before now)
+
+-- ---- all rows
+
+-- what a session may say that leaves this book
+abbrev pub MaySay : Net → ℕ → ℕ → List Row → List BookEntry → Ending → Type 0
+MaySay net n budget rows book e = IsOkAnd e (IsSession net n budget rows book)
+
+-- by how it went
+abbrev pub Goes : (Ending → Type 0) → Option (List ℕ) → Option (List ℕ) → Type 0 → Result (Unit {0}) Broken → Type 0
+Goes may before now rose (Ok done) = Finishes may before now 0
+Goes may before now rose (Err Memory) = BreaksOff may before now
+Goes may before now rose (Err Put) = rose × IsCutOff may before now
+
+-- the status of a session
+abbrev pub status_of_session : Result (Unit {0}) Broken → ℕ
+status_of_session (Ok done) = 0
+status_of_session (Err Memory) = 9
+status_of_session (Err Put) = 4

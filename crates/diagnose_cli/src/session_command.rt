@@ -1,0 +1,153 @@
+// The command `session`: the rows of a script, additions to a log and questions about it, over one book.
+ghost use Rattle.std.specs.Prelude.{◌≡◌, ◌<◌, ◌≤◌, ℕ, List, [], ◌∷◌, length, Some};
+ghost use Rattle.des_base.specs.Outside.{Rose};
+ghost use Rattle.des_base.specs.declared.TheConstants.{MOST_STEPS};
+ghost use Rattle.diagnose_cli.specs.Commands.{Closes, Due, command_of};
+ghost use Rattle.diagnose_cli.specs.Files.{loads};
+ghost use Rattle.diagnose_cli.specs.Puts.{Speaks};
+ghost use Rattle.diagnose_cli.specs.Run.{SaysStop};
+ghost use Rattle.diagnose_cli.specs.Sessions.{Goes, MaySay, status_of_session};
+ghost use Rattle.indep.specs.StoredTest.{IsTest};
+ghost use Rattle.log_csv.specs.ScriptText.{script_of};
+ghost use Rattle.model_text.specs.ModelFaults.{network_of};
+ghost use Rattle.sat_order.specs.Rank.{IsRanked};
+
+use crate::command::Command;
+use crate::ending::put_once;
+use crate::files::fetch_plan;
+use crate::question::Limits;
+use crate::session_rows::{Broken, Plan, tell_rows};
+use crate::stop::Stop;
+use alarm_session::{Session, question_size};
+use des_base::{EventId, Shelf, Sink, WordList};
+use indep::{Indep, Table};
+use least_faults::MOST_SIZE;
+use log_order::AlarmLog;
+use proof_ledger::Ledger;
+use sat_order::Order;
+use std::alloc::Global;
+use std::mem;
+use step_encode::step_variables;
+
+/// Carries out the rows of a script, puts the reply to each before the next one is taken, and answers the exit status.
+pub fn session_command<F: Shelf, S: Sink>(
+    alloc: Global,
+    words: &WordList,
+    shelf: &mut F,
+    limits: Limits,
+    out: &mut S,
+    book: &mut Ledger,
+) -> u8
+    requires called { command_of words.now ≡ Some (Command.Session limits.steps limits.budget) }
+    requires words { 2 < length words.now }
+    requires steps { limits.steps ≤ MOST_STEPS }
+    requires empty { book.old.entries ≡ [] }
+    ensures speaks { Speaks (Due (loads F.held F.faults shelf.old shelf.new) words.now book.new.entries) (S.taken out.old) (S.taken out.new) (Rose (S.faults out.old) (S.faults out.new)) result }
+    ensures stopped { SaysStop result → book.new ≡ book.old }
+{
+    match fetch_plan(alloc, words, shelf) {
+        Ok(plan) => carry_out(alloc, &plan, limits, out, book),
+        Err(stop) => put_once(alloc, Err(stop), out),
+    }
+}
+
+// The same where model and script are read.
+fn carry_out<S: Sink>(
+    alloc: Global,
+    plan: &Plan,
+    limits: Limits,
+    out: &mut S,
+    book: &mut Ledger,
+) -> u8
+    requires steps { limits.steps ≤ MOST_STEPS }
+    requires empty { book.old.entries ≡ [] }
+    ensures speaks { (text lines : List ℕ) → plan.now.net ≡ network_of text → plan.now.script ≡ script_of lines → Speaks (Closes (Command.Session limits.steps limits.budget) book.new.entries (text ∷ lines ∷ [])) (S.taken out.old) (S.taken out.new) (Rose (S.faults out.old) (S.faults out.new)) result }
+    ensures stopped { SaysStop result → book.new ≡ book.old }
+{
+    let size = question_size(&plan.net, &AlarmLog::new(alloc), limits.steps);
+    if size > MOST_SIZE {
+        return put_once(alloc, Err(Stop::Large(size)), out);
+    }
+    status_of(carry_out_rows(alloc, plan, limits, out, book))
+}
+
+// The status of a session.
+fn status_of(said: Result<(), Broken>) -> u8
+    ensures { result ≡ status_of_session said }
+{
+    match said {
+        Ok(()) => 0,
+        Err(Broken::Memory) => 9,
+        Err(Broken::Put) => 4,
+    }
+}
+
+// Carries out the rows, with a table of the events that touch a common component.
+fn carry_out_rows<S: Sink>(
+    alloc: Global,
+    plan: &Plan,
+    limits: Limits,
+    out: &mut S,
+    book: &mut Ledger,
+) -> Result<(), Broken>
+    requires steps { limits.steps ≤ MOST_STEPS }
+    requires empty { book.old.entries ≡ [] }
+    ensures { Goes (MaySay plan.now.net limits.steps limits.budget plan.now.script book.new.entries) (S.taken out.old) (S.taken out.new) (Rose (S.faults out.old) (S.faults out.new)) result }
+{
+    let table = Table::new(alloc, &plan.net)?;
+    let test = Indep::new(&plan.net, |a: u32, b: u32| {
+        table.get(EventId(a), EventId(b))
+    });
+    carry_out_by_test(alloc, plan, limits, test, out, book)
+}
+
+// The same with a test that is given. What comes behind the variables of the steps is decided first.
+fn carry_out_by_test<T: Fn(u32, u32) -> bool, S: Sink>(
+    alloc: Global,
+    plan: &Plan,
+    limits: Limits,
+    test: Indep<T>,
+    out: &mut S,
+    book: &mut Ledger,
+) -> Result<(), Broken>
+    requires right { IsTest T.pre T.post test.test test.net }
+    requires net { test.net ≡ plan.now.net }
+    requires steps { limits.steps ≤ MOST_STEPS }
+    requires empty { book.old.entries ≡ [] }
+    ensures { Goes (MaySay plan.now.net limits.steps limits.budget plan.now.script book.new.entries) (S.taken out.old) (S.taken out.new) (Rose (S.faults out.old) (S.faults out.new)) result }
+{
+    let first = step_variables(alloc, &plan.net, limits.steps, &test)?;
+    let order = Order::new(alloc, |var: u32| u64::from(var >= first));
+    carry_out_by_order(alloc, plan, limits, test, order, out, book)
+}
+
+// The same with an order that is given too. The book is the session's, and put back.
+fn carry_out_by_order<T: Fn(u32, u32) -> bool, R: Fn(u32) -> u64, S: Sink>(
+    alloc: Global,
+    plan: &Plan,
+    limits: Limits,
+    test: Indep<T>,
+    order: Order<R>,
+    out: &mut S,
+    book: &mut Ledger,
+) -> Result<(), Broken>
+    requires right { IsTest T.pre T.post test.test test.net }
+    requires net { test.net ≡ plan.now.net }
+    requires ranked { IsRanked R.pre R.post order }
+    requires no_variables { order.waiting ≡ [] }
+    requires steps { limits.steps ≤ MOST_STEPS }
+    requires empty { book.old.entries ≡ [] }
+    ensures { Goes (MaySay plan.now.net limits.steps limits.budget plan.now.script book.new.entries) (S.taken out.old) (S.taken out.new) (Rose (S.faults out.old) (S.faults out.new)) result }
+{
+    let own = mem::replace(book, Ledger::new(alloc));
+    match Session::new(alloc, &plan.net, limits.steps, test, order, own) {
+        Ok(session) => {
+            let mut session = session;
+            let rows = plan.script.rows();
+            let said = tell_rows(alloc, &plan.net, rows, limits, &mut session, out);
+            *book = session.into_book();
+            said
+        }
+        Err(_) => Err(Broken::Memory),
+    }
+}

@@ -1,0 +1,145 @@
+// The rows of a script, carried out one after another, each with its reply.
+ghost use Rattle.std.specs.Prelude.{◌≡◌, ◌≤◌, IfOk, option_map};
+ghost use Rattle.std.specs.Option.{option_to_list};
+ghost use Rattle.alarm_session.specs.Session.{BeginsAs, KeepsSetting};
+ghost use Rattle.des_base.specs.Outside.{Rose};
+ghost use Rattle.des_base.specs.declared.TheConstants.{MOST_STEPS};
+ghost use Rattle.diagnose_cli.specs.Commands.{replies_to};
+ghost use Rattle.diagnose_cli.specs.Sessions.{Goes, MaySay, PutsReplies, RowGoes, TellsKnown};
+ghost use Rattle.diagnose_cli.specs.declared.session_rows.Broken.TheVariants.{Memory as NoMemory};
+ghost use Rattle.report.specs.Replies.{EventsKnown, text_of_found, text_of_refused};
+ghost use Rattle.sat_order.specs.Rank.{IsRanked};
+
+use crate::question::Limits;
+use alarm_session::{Session, Told};
+use des_base::{Memory, Sink};
+use des_net::Network;
+use least_faults::Found;
+use log_csv::{Row, Script};
+use report::{print_found, print_refused};
+use std::alloc::Global;
+
+/// A network, and the script that is carried out over it.
+#[derive(Drop)]
+pub struct Plan {
+    pub net: Network,
+    pub script: Script,
+}
+
+/// Why a session broke off.
+#[derive(Clone, Copy)]
+pub enum Broken {
+    /// Want of memory.
+    Memory,
+    /// A reply can't be put.
+    Put,
+}
+
+impl From<Memory> for Broken {
+    ghost from_gives = { λ _ e. e ≡ NoMemory };
+
+    fn from(_: Memory) -> Broken {
+        Broken::Memory
+    }
+}
+
+/// Carries out all rows, and puts the reply to each before the next one is taken.
+pub fn tell_rows<T: Fn(u32, u32) -> bool, R: Fn(u32) -> u64, S: Sink>(
+    alloc: Global,
+    net: &Network,
+    rows: &[Row],
+    limits: Limits,
+    session: &mut Session<'_, T, R>,
+    out: &mut S,
+) -> Result<(), Broken>
+    requires begins { BeginsAs net.now limits.steps session.old.order.rank session.old }
+    requires ranked { IsRanked R.pre R.post session.old.order }
+    requires steps { limits.steps ≤ MOST_STEPS }
+    ensures { Goes (MaySay net.now limits.steps limits.budget rows.now session.new.book) (S.taken out.old) (S.taken out.new) (Rose (S.faults out.old) (S.faults out.new)) result }
+{
+    // Its reader tells that the book asks about the empty log.
+    let _book = session.book();
+    for row in rows {
+        tell_row(alloc, net, limits, row, session, out)?;
+    }
+    Ok(())
+}
+
+// Carries out a row, and puts its reply.
+fn tell_row<T: Fn(u32, u32) -> bool, R: Fn(u32) -> u64, S: Sink>(
+    alloc: Global,
+    net: &Network,
+    limits: Limits,
+    row: &Row,
+    session: &mut Session<'_, T, R>,
+    out: &mut S,
+) -> Result<(), Broken>
+    requires ranked { IsRanked R.pre R.post session.old.order }
+    requires net { session.old.net ≡ net.now }
+    requires time { session.old.steps ≡ limits.steps }
+    requires steps { limits.steps ≤ MOST_STEPS }
+    ensures ranked { IsRanked R.pre R.post session.new.order }
+    ensures kept { KeepsSetting session.old session.new }
+    ensures never_falls { S.faults out.old ≤ S.faults out.new }
+    ensures goes { RowGoes net.now limits.steps limits.budget session.old.log row.now session.new.log session.old.book session.new.book (S.taken out.old) (S.taken out.new) (Rose (S.faults out.old) (S.faults out.new)) result }
+{
+    let told = session.carry_out(row, limits.budget)?;
+    session.log().is_whole();
+    net.is_built();
+    put_replies(alloc, net, limits.steps, &told, out)
+}
+
+// Puts the reply to a row that told this, where it has one.
+fn put_replies<S: Sink>(
+    alloc: Global,
+    net: &Network,
+    steps: u32,
+    told: &Told,
+    out: &mut S,
+) -> Result<(), Broken>
+    requires { TellsKnown net.now told.now }
+    ensures puts { PutsReplies (replies_to net.now steps told.now) (S.taken out.old) (S.taken out.new) (Rose (S.faults out.old) (S.faults out.new)) result }
+    ensures never_falls { S.faults out.old ≤ S.faults out.new }
+{
+    match reply_to(alloc, net, steps, told)? {
+        Some(text) => match out.put(text.as_slice()) {
+            Ok(()) => Ok(()),
+            Err(_) => Err(Broken::Put),
+        },
+        None => Ok(()),
+    }
+}
+
+// The reply to a row that told this: none where an addition was made.
+fn reply_to(
+    alloc: Global,
+    net: &Network,
+    steps: u32,
+    told: &Told,
+) -> Result<Option<Vec<u8>>, Memory>
+    requires { TellsKnown net.now told.now }
+    ensures { IfOk result (λ reply. replies_to net.now steps told.now ≡ option_to_list (option_map (λ text. text.items) reply)) }
+{
+    match told {
+        Told::Made => Ok(None),
+        Told::Refused(refusal) => Ok(Some(refusal_text(alloc, refusal.number())?)),
+        Told::Answered(found) => Ok(Some(found_text(alloc, net, steps, found)?)),
+    }
+}
+
+fn refusal_text(alloc: Global, number: u32) -> Result<Vec<u8>, Memory>
+    ensures { IfOk result (λ text. text.items ≡ text_of_refused number) }
+{
+    let mut text = Vec::new(alloc);
+    print_refused(number, &mut text)?;
+    Ok(text)
+}
+
+fn found_text(alloc: Global, net: &Network, steps: u32, found: &Found) -> Result<Vec<u8>, Memory>
+    requires { EventsKnown net.now found.now }
+    ensures { IfOk result (λ text. text.items ≡ text_of_found net.now steps found.now) }
+{
+    let mut text = Vec::new(alloc);
+    print_found(found, net, steps, &mut text)?;
+    Ok(text)
+}
