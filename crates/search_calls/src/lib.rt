@@ -20,6 +20,8 @@ mod ledger;
 #[cfg(test)]
 mod order;
 #[cfg(test)]
+mod pieces;
+#[cfg(test)]
 mod refutations;
 #[cfg(test)]
 mod solver;
