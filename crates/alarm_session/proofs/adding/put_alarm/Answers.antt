@@ -1,7 +1,10 @@
-use Rattle.std.proofs.Common.{[]}
+use Rattle.std.proofs.Common.{ℕ, [], Err, subst, sym}
 use Rattle.alarm_session.proofs.Joining.{becomes_with, kept_roomy, kept_with, own_draft, own_fits}
 use Rattle.alarm_session.proofs.Keeping.{alarm_codes}
+use Rattle.alarm_session.proofs.Refusing.{refused_by_log}
 use Rattle.alarm_session.proofs.adding.put_alarm.Goals as goal
+use Rattle.alarm_session.specs.Refusals.{Answers, alarm_answer}
+use Rattle.alarm_session.specs.declared.refusal.SessionRefusal.{SessionRefusal}
 use Rattle.log_clauses.specs.Additions.{alarm_added}
 use Rattle.log_encode.specs.CodedLog.{nameless}
 use Rattle.log_order.specs.Adding.{with_alarm, with_texts}
@@ -33,3 +36,8 @@ pub returns-in-Err-clause-kept : goal.returns-in-Err-clause-kept
 returns-in-Err-clause-kept g c =
     kept_roomy (goal.R-pre g) (goal.R-post g) c.args.setting.net.now c.args.setting.steps c.args.kept.now c.reserve_draft.new.parts c.reserve_draft.new.book c.add_to_log.new.log c.requires.kept.of_log c.reserve_draft.ensures.kept
     c.reserve_draft.ensures.ready c.in-Err.ensures.err
+
+pub returns-in-Err-clause-refused : goal.returns-in-Err-clause-refused
+returns-in-Err-clause-refused g c =
+    subst (λ (r : SessionRefusal). Answers {X = ℕ} (Err r) (alarm_answer c.args.setting.net.now c.args.setting.steps c.args.kept.now.log c.args.id c.args.labels.now c.args.doubtful)) (sym c.refusal_of.ensures)
+    (refused_by_log ℕ ℕ c.in-Err.refusal _ _ c.in-Err.ensures.refused)
