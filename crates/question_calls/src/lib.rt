@@ -7,6 +7,8 @@
 #[cfg(test)]
 mod asking;
 #[cfg(test)]
+mod large_sessions;
+#[cfg(test)]
 mod models;
 #[cfg(test)]
 mod questions;
