@@ -4,7 +4,7 @@ use Rattle.des_net.specs.Network.{Net}
 use Rattle.least_faults.specs.declared.TheConstants.{MOST_SIZE}
 use Rattle.log_csv.specs.ScriptText.{script_of}
 use Rattle.log_csv.specs.declared.row.Row.{Row}
-use Rattle.log_order.specs.Log.{Log, no_log}
+use Rattle.log_order.specs.Log.{no_log}
 use Rattle.model_text.specs.ModelFaults.{network_of}
 use Rattle.proof_ledger.specs.Book.{BookEntry}
 use Rattle.replay.specs.QuestionSize.{question_size}

@@ -1,5 +1,5 @@
 -- A session that has carried out some rows, and one row more.
-use Rattle.std.proofs.Common.{◌≡◌, ◌≤◌, ◌∙◌, ℕ, List, [], ◌∷◌, ◌++◌, Option, Some, None, Result, Ok, Err, IsErrAnd, drop, take, refl, sym, ap, subst, append-nil, append_assoc, arith}
+use Rattle.std.proofs.Common.{◌≡◌, ◌≤◌, ◌∙◌, ℕ, List, [], ◌∷◌, ◌++◌, Option, Some, None, Result, Ok, Err, IsErrAnd, take, refl, sym, ap, subst, append-nil, append_assoc, arith}
 use Rattle.std.specs.Prelude.{flat_map}
 use Rattle.std.specs.List.{concat}
 use Rattle.std.proofs.lemmas.Grind.{flat_map-append}
@@ -9,7 +9,6 @@ use Rattle.alarm_session.specs.Rows.{AreRowsTold, IsLeftUndone, IsRowTold, after
 use Rattle.alarm_session.specs.Session.{IsSessionBook}
 use Rattle.alarm_session.specs.declared.rows.Told.{Told}
 use Rattle.alarm_session.specs.declared.rows.Told.TheVariants.{Made, Refused, Answered}
-use Rattle.des_base.specs.Lists.{Extends}
 use Rattle.des_base.specs.Outside.{Rose, Took, TookFront}
 use Rattle.des_net.specs.Building.{IsDraft}
 use Rattle.des_net.specs.Network.{Net, IsNetwork}
@@ -22,9 +21,9 @@ use Rattle.diagnose_cli.specs.declared.ending.Kind.TheVariants.{Done}
 use Rattle.diagnose_cli.specs.declared.session_rows.Broken.{Broken}
 use Rattle.diagnose_cli.specs.declared.session_rows.Broken.TheVariants.{Memory, Put}
 use Rattle.diagnose_cli.specs.Commands.{HasReplies, IsSession, RunsReplay, TellsReplaying, replies_to}
-use Rattle.diagnose_cli.specs.Puts.{BreaksOff, Finishes, IsCutOff}
-use Rattle.diagnose_cli.specs.Sessions.{Goes, IsCarriedOut, IsFrontTaken, IsRowLost, IsRowPut, MaySay, PutsReplies, RowGoes, TellsKnown}
-use Rattle.diagnose_cli.specs.Transcripts.{Transcript, TookCut}
+use Rattle.diagnose_cli.specs.Puts.{Finishes}
+use Rattle.diagnose_cli.specs.Sessions.{Goes, IsCarriedOut, IsRowPut, MaySay, PutsReplies, RowGoes, TellsKnown}
+use Rattle.diagnose_cli.specs.Transcripts.{TookCut}
 use Rattle.diagnose_cli.proofs.KnownRuns.{known}
 use Rattle.diagnose_cli.proofs.Once.{nothing_taken}
 use Rattle.diagnose_cli.proofs.RepliesReplay.{run_replays}

@@ -2,7 +2,7 @@
 use Rattle.std.proofs.Common.{Err}
 use Rattle.diagnose_cli.specs.Commands.{Due}
 use Rattle.diagnose_cli.specs.Files.{loads}
-use Rattle.diagnose_cli.proofs.Once.{speaks_once, stop_left}
+use Rattle.diagnose_cli.proofs.Once.{speaks_once}
 use Rattle.diagnose_cli.proofs.SessionAnswers.{plan_speaks, plan_stops}
 use Rattle.diagnose_cli.proofs.session_command.session_command.Goals as goal
 
