@@ -15,74 +15,34 @@ time by a fault. The last are grids of 20 like components that reboot and tell t
 an upper bound of the answer.
 
 On 28 November 2026, on four shared processors of an Intel Xeon under heavy load, seconds of the processor for the whole `diagnose`, the least of
-three runs, and MiB at the peak; "before" has nodes of 32 bytes, hints and spans apart, and was run in turns with "now". MiniSat and CaDiCaL (1.5.3, its
-program) were run anew for each bound up to the answer, once, on the formulas that `cnf` prints. The programs are builds of the sources without
-proofs and without a compiler's checks, since the proved ones were not at hand. Ratios below 1.3 can't be told from noise. What is kept of a clause is told in
-docs/DECISIONS.md. The geometric mean of the last column is 1.0, and that of "now" to "before" 0.87. 200 units were run once, and seven alarms of one
-device not anew.
+three runs, and MiB at the peak; "before" is commit 4fcbdf7, with nodes of 16 bytes, lists of clauses that are given back as they are, and ranks twice.
+MiniSat (2.2.1) was run anew for each bound up to the answer on the formulas that `cnf` prints, and CaDiCaL's library (1.5.3) once for all of them, with the
+guards and the bound as assumptions; on 100 units MiniSat ran once. All were run in turns. The programs are builds of the sources without proofs and
+without a compiler's checks, by the same means for both. Ratios below 1.3 can't be told from noise. What is kept of a clause is told in
+docs/DECISIONS.md. The geometric mean is 0.56 to MiniSat, 1.2 to CaDiCaL's library, and 0.95 of "now" to "before".
 
-| Plant | Steps | before | now | MiB before | MiB now | MiniSat | CaDiCaL | now to MiniSat |
-|---|---|---|---|---|---|---|---|---|
-| 64 units | 16 | 0.12 | 0.10 | 20 | 14 | 2.6 | 0.88 | 0.04 |
-| 100 units | 26 | 0.77 | 0.69 | 74 | 43 | 17.5 | 4.4 | 0.04 |
-| 200 units, one step fewer than alarms | 48 | 2.0 | 1.7 | 210 | 116 | | | |
-| 200 units | 50 | 8.6 | 6.4 | 394 | 270 | | | |
-| 6 valves, 4 alarms | 5 | 0.42 | 0.36 | 15 | 15 | 0.22 | 0.28 | 1.6 |
-| 6 valves, 5 alarms | 4 | 1.6 | 1.4 | 15 | 15 | 0.37 | 0.33 | 3.6 |
-| 6 stations, 6 alarms | 8 | 0.51 | 0.50 | 15 | 15 | 0.13 | 0.28 | 3.8 |
-| 10 stations, 6 alarms | 6 | 0.32 | 0.30 | 15 | 15 | 0.13 | 0.38 | 2.3 |
-| mesh of 20 nodes | 10 | 0.27 | 0.23 | 15 | 15 | 0.47 | 0.20 | 0.5 |
-| mesh of 30 nodes | 12 | 2.8 | 2.5 | 37 | 29 | 1.5 | 3.0 | 1.7 |
-| 5 alarms of one device | 5 | 0.14 | 0.13 | 15 | 15 | 0.04 | 0.07 | 3.0 |
-| 6 alarms of one device | 6 | 4.0 | 2.9 | 15 | 15 | 0.42 | 0.36 | 7.0 |
+| Plant | Steps | before | now | MiB before | MiB now | MiniSat | CaDiCaL | now to MiniSat | now to CaDiCaL |
+|---|---|---|---|---|---|---|---|---|---|
+| 64 units | 16 | 0.06 | 0.05 | 13 | 10 | 1.98 | 0.06 | 0.03 | 0.9 |
+| 100 units | 26 | 0.31 | 0.29 | 44 | 31 | 15.6 | 0.31 | 0.02 | 1.0 |
+| 200 units, one step fewer than alarms | 48 | 0.75 | 0.75 | 116 | 100 | | | | |
+| 200 units | 50 | 3.65 | 3.45 | 270 | 193 | | | | |
+| 6 valves, 4 alarms | 5 | 0.20 | 0.20 | 10 | 10 | 0.19 | 0.30 | 1.07 | 0.7 |
+| 6 valves, 5 alarms | 4 | 0.79 | 0.66 | 10 | 10 | 0.39 | 0.28 | 1.69 | 2.4 |
+| 6 stations, 6 alarms | 8 | 0.27 | 0.25 | 10 | 10 | 0.12 | 0.21 | 2.09 | 1.2 |
+| 10 stations, 6 alarms | 6 | 0.14 | 0.15 | 10 | 10 | 0.14 | 0.17 | 1.14 | 0.9 |
+| mesh of 20 nodes | 10 | 0.11 | 0.09 | 10 | 10 | 0.44 | 0.05 | 0.21 | 2.0 |
+| mesh of 30 nodes | 12 | 1.36 | 1.18 | 29 | 24 | 1.61 | 2.81 | 0.73 | 0.4 |
+| 5 alarms of one device | 5 | 0.10 | 0.10 | 10 | 10 | 0.06 | 0.10 | 1.72 | 1.0 |
+| 6 alarms of one device | 6 | 2.19 | 2.13 | 12 | 12 | 0.41 | 0.35 | 5.15 | 6.0 |
 
-Earlier that day, in seconds of the processor, the least of up to three runs, and
-conflicts of the whole `diagnose`; MiniSat anew for each bound and CaDiCaL's library on the same ascending bounds, on the formulas that the
-program asks. Ours is a build of the sources without proofs and without a compiler's checks, as the proved one was not at hand; the two rows of six and
-seven alarms are from several runs. Ratios below 1.5 can't be told from noise. "Before" has watches and links apart. Memory was the same, 78 MiB for 100 units and 37 for the mesh of 30 nodes.
+The last row hangs on the load: in two other runs 1.27 seconds where MiniSat took 0.36 and CaDiCaL's library 0.30 (3.5 and 4.2), and 1.51, 0.35 and 0.30 (4.3 and
+5.1). Seven alarms of one device were answered in 144 seconds with 78 MiB, once; 50,000 conflicts of them took 10.6 seconds now and 12.7 before, once
+each. MiniSat takes 4.8 for all bounds, and CaDiCaL's library 3.4.
 
-| Plant | Steps | Conflicts | before | now | MiniSat | CaDiCaL | now to MiniSat | now to CaDiCaL |
-|---|---|---|---|---|---|---|---|---|
-| 64 units | 18 | 205 | 0.16 | 0.14 | 3.2 | 0.16 | 0.05 | 0.9 |
-| 100 units | 28 | 444 | 0.93 | 0.64 | 23 | 0.92 | 0.03 | 0.7 |
-| 6 valves, 4 alarms | 5 | 3,082 | 0.23 | 0.29 | 0.17 | 0.28 | 1.7 | 1.1 |
-| 6 valves, 5 alarms | 4 | 7,111 | 1.0 | 1.0 to 1.4 | 0.40 | 0.27 | 3.4 | 5.1 |
-| 6 stations, 6 alarms | 8 | 4,613 | 0.31 | 0.33 | 0.09 | 0.15 | 3.6 | 2.2 |
-| 10 stations, 6 alarms | 6 | 3,300 | 0.21 | 0.22 | 0.12 | 0.15 | 1.8 | 1.5 |
-| mesh of 20 nodes | 10 | 340 | 0.16 | 0.17 | 0.44 | 0.04 | 0.4 | 4.2 |
-| mesh of 30 nodes | 12 | 3,078 | 2.1 | 2.1 | 1.5 | 0.86 | 1.4 | 2.5 |
-| 5 alarms of one device | 5 | 3,181 | 0.12 | 0.10 | 0.04 | 0.08 | 2.3 | 1.3 |
-| 6 alarms of one device | 6 | 21,810 | 2.3 | 2.7 | 0.3 to 0.5 | 0.4 | 5 to 9 | 7 |
-| 7 alarms of one device | 7 | more than 50,000 | none in 40 | none in 100 | 4.4 | | | |
-
-On 28 November 2026, on four shared processors of an Intel Xeon under load, seconds of the processor for the whole `diagnose`, one run each, before
-and after both chains and restarts by levels came: 64, 100 and 200 units 0.04 and 0.06, 0.31 and 0.41, 3.3 and 3.7; six valves with four
-alarms in 5 steps 0.24 and 0.18, with five alarms 1.55 and 0.65; six stations in 8 steps 0.45 and 0.23, ten in 6 steps 0.32 and 0.15;
-meshes of 20 and 30 nodes 0.05 and 0.08, 0.83 and 1.25; five and six alarms of one device 0.09 and 0.08, 2.2 and 1.5, seven no answer
-within 12 and within 38.
-Grids: in their whole order 1 to 7 faults at most 0.4, 8, 9 and 10 faults 4.3, 1.2 and 13.8; in the order of each component alone 1 to
-4 faults at most 0.4, 5 faults 4.3, 6 and 7 no answer within 19. Each answer on a grid was the number of simulated faults. Neither the grids
-nor these seconds were compared with other solvers.
-
-On 27 November 2026, on four shared processors of an Intel Xeon under load, in seconds of the processor as ratios: the whole `diagnose` by the rank alone
-and by activity with Luby's restarts, to MiniSat run anew for each bound, and the latter to CaDiCaL's library on the same bounds, on formulas that a
-model of the encoding in C++ printed (one run each, so below 2 not much can be told from noise). Since then restarts follow the levels of learnt
-clauses, less is bumped, and values are read at once: what that gains in a model is told in docs/DECISIONS.md; this table wasn't made anew.
-
-| Plant | Steps | by the rank, to MiniSat | by activity, to MiniSat | by activity, to CaDiCaL |
-|---|---|---|---|---|
-| 40 units | 12 | 0.10 | 0.06 | 0.7 |
-| 64 units | 18 | 0.12 | 0.04 | 0.6 |
-| 100 units | 28 | 0.20 | 0.05 | 1.0 |
-| 200 units | 50 | 0.08 | 0.01 | 1.0 |
-| 6 valves, 4 alarms | 5 | 1.2 | 1.4 | 0.8 |
-| 6 valves, 5 alarms | 4 | 2.6 | 5.9 | 6.6 |
-| 6 stations, 6 alarms | 8 | 2.5 | 4.4 | 4.1 |
-| 10 stations, 6 alarms | 6 | 4.2 | 4.9 | 5.8 |
-| mesh of 20 nodes | 10 | 6.1 | 0.2 | 1.6 |
-| mesh of 30 nodes | 12 | more than 39 | 0.9 | 1.0 |
-| 5 alarms of one device | 5 | 1.3 | 1.9 | 1.8 |
-| 6 alarms of one device | 6 | 11 | 14 | 16 |
+Grids, one run each with an older search: in their whole order 1 to 7 faults at most 0.4 seconds, 8, 9 and 10 faults 4.3, 1.2 and 13.8; in the order of each
+component alone 1 to 4 faults at most 0.4, 5 faults 4.3, 6 and 7 no answer within 19. Each answer on a grid was the number of simulated faults. Neither the
+grids nor these seconds were compared with other solvers.
 """
 import os
 import shutil
