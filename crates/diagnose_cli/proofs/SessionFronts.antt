@@ -1,10 +1,10 @@
 -- A session that has carried out some rows, and one row more.
-use Rattle.std.proofs.Common.{◌≡◌, ◌≤◌, ◌∙◌, ℕ, List, [], ◌∷◌, ◌++◌, Option, Some, None, Result, Ok, Err, IsErrAnd, take, refl, sym, ap, subst, append-nil, append_assoc, arith}
+use Rattle.std.proofs.Common.{◌≡◌, ◌≤◌, ◌∙◌, inl, inr, ℕ, List, [], ◌∷◌, ◌++◌, Option, Some, None, Result, Ok, Err, IsErrAnd, take, refl, sym, ap, subst, append-nil, append_assoc, arith}
 use Rattle.std.specs.Prelude.{flat_map}
 use Rattle.std.specs.List.{concat}
 use Rattle.std.proofs.lemmas.Grind.{flat_map-append}
 use Rattle.std.proofs.lemmas.List.Folds.{concat-append}
-use Rattle.alarm_session.proofs.Rowing.{carried_out_more, log_after_more, nothing_carried_out, row_extends}
+use Rattle.alarm_session.proofs.Rowing.{carried_out_more, log_after_more, nothing_carried_out}
 use Rattle.alarm_session.specs.Rows.{AreRowsTold, IsLeftUndone, IsRowTold, after_row, log_after}
 use Rattle.alarm_session.specs.Session.{IsSessionBook}
 use Rattle.alarm_session.specs.declared.rows.Told.{Told}
@@ -20,7 +20,7 @@ use Rattle.proof_ledger.specs.Book.{BookEntry}
 use Rattle.diagnose_cli.specs.declared.ending.Kind.TheVariants.{Done}
 use Rattle.diagnose_cli.specs.declared.session_rows.Broken.{Broken}
 use Rattle.diagnose_cli.specs.declared.session_rows.Broken.TheVariants.{Memory, Put}
-use Rattle.diagnose_cli.specs.Commands.{HasReplies, IsSession, RunsReplay, TellsReplaying, replies_to}
+use Rattle.diagnose_cli.specs.Commands.{HasReplies, IsLeftBehind, IsSession, IsUntold, RunsReplay, TellsReplaying, replies_to}
 use Rattle.diagnose_cli.specs.Puts.{Finishes}
 use Rattle.diagnose_cli.specs.Sessions.{Goes, IsCarriedOut, IsRowPut, MaySay, PutsReplies, RowGoes, TellsKnown}
 use Rattle.diagnose_cli.specs.Transcripts.{TookCut}
@@ -77,14 +77,14 @@ module _ (net : Net) (n budget : ℕ) (alarms : Log) (row : Row) (old new : List
   pub row_goes : (told : Told) (later : Log) (before now : Option (List ℕ)) (rose : Type 0) (r : Result (Unit {0}) Broken) → IsCarriedOut net n budget alarms row later old new told → PutsReplies (replies_to net n told) before now rose r
       → RowGoes net n budget alarms row later old new before now rose r
   row_goes told later before now rose (Ok done) carried puts = record { told = told; carried = carried; put = puts }
-  row_goes told later before now rose (Err Memory) carried puts = let goes_on = row_extends net n budget alarms alarms row old new told carried.holds in record { since = goes_on.more; more = goes_on.is; put = puts }
+  row_goes told later before now rose (Err Memory) carried puts = record { untold = inl (told, carried.holds); put = puts }
   row_goes told later before now rose (Err Put) carried puts = (puts.0, record { told = told; carried = carried; put = puts.1 })
 
   -- where memory was wanting before it told anything
   pub row_lost : (later : Log) (taken : Option (List ℕ)) (rose : Type 0) (r : Result (Unit {0}) Broken) → IsErrAnd r (λ e. e ≡ Memory) → IsLeftUndone budget alarms row later old new → RowGoes net n budget alarms row later old new taken taken rose r
   row_lost later taken rose (Ok done) is undone = absurd is
   row_lost later taken rose (Err e) is undone =
-      subst (λ (x : Broken). RowGoes net n budget alarms row later old new taken taken rose (Err x)) (sym is) (record { since = undone.grown.since; more = undone.grown.whole; put = nothing_taken taken })
+      subst (λ (x : Broken). RowGoes net n budget alarms row later old new taken taken rose (Err x)) (sym is) (record { untold = inr (record { log = refl; grown = undone.grown; addition = undone.addition }); put = nothing_taken taken })
 
 -- ---- what some rows told, and one more
 
@@ -159,37 +159,40 @@ module _ (net : Net) (n budget : ℕ) where
       others = [];
       split = sym (append-nil rows);
       left = book;
-      since = [];
-      more = sym (append-nil book);
       replied = said.replied;
+      behind = refl;
       kind_is = refl;
-      whole = (refl, refl);
+      whole = refl;
     };
     shown = refl;
     put = said.put;
   }
 
   -- a front of them
-  front_said : (all front others : List Row) (left since book : List BookEntry) (texts : List (List ℕ)) → all ≡ front ++ others → book ≡ left ++ since → HasReplies net n budget front left texts
+  front_said : (all front others : List Row) (left book : List BookEntry) (texts : List (List ℕ)) → all ≡ front ++ others → IsLeftBehind net n budget (log_after net n no_log front) others left book → HasReplies net n budget front left texts
       → IsSession net n budget all book (record { texts = texts; done = None })
-  front_said all front others left since book texts split more replied = record {
+  front_said all front others left book texts split behind replied = record {
     front = front;
     others = others;
     split = split;
     left = left;
-    since = since;
-    more = more;
     replied = replied;
+    behind = behind;
     kind_is = tt;
     whole = tt;
   }
+
+  -- no row more was taken
+  nothing_behind : (alarms : Log) (others : List Row) (book : List BookEntry) → IsLeftBehind net n budget alarms others book book
+  nothing_behind alarms [] book = refl
+  nothing_behind alarms (row ∷ others) book = inl refl
 
   -- it breaks off at a row
   breaks_off : (all rows others : List Row) (row : Row) (alarms later : Log) (old new : List BookEntry) (before mid now : Option (List ℕ)) (start middle end : ℕ) → all ≡ rows ++ row ∷ others → start ≤ middle → (e : Broken)
       → HasSaid net n budget rows alarms old before mid → RowGoes net n budget alarms row later old new mid now (Rose middle end) (Err e) → Goes (MaySay net n budget all new) before now (Rose start end) (Err e)
   breaks_off all rows others row alarms later old new before mid now start middle end split rises Memory said goes = record {
     ending = Ok (record { texts = said.texts; done = None });
-    due = λ never. front_said all rows (row ∷ others) old goes.since new said.texts split goes.more said.replied;
+    due = λ never. front_said all rows (row ∷ others) old new said.texts split (inr (subst (λ (a : Log). IsUntold net n budget a row old new) said.log goes.untold)) said.replied;
     put = subst (Took before now) (append-nil (concat said.texts)) (took_more before mid now (concat said.texts) [] said.put goes.put);
   }
   breaks_off all rows others row alarms later old new before mid now start middle end split rises Put said goes =
@@ -199,7 +202,7 @@ module _ (net : Net) (n budget : ℕ) where
         rose_later start middle end rises goes.0,
         record {
           ending = Ok (record { texts = said.texts ++ next ∷ []; done = None });
-          due = λ never. front_said all (rows ++ row ∷ []) others new [] new (said.texts ++ next ∷ []) (split ∙ sym (append_assoc rows (row ∷ []) others)) (sym (append-nil new))
+          due = λ never. front_said all (rows ++ row ∷ []) others new new (said.texts ++ next ∷ []) (split ∙ sym (append_assoc rows (row ∷ []) others)) (nothing_behind (log_after net n no_log (rows ++ row ∷ [])) others new)
               (subst (λ (ts : List (List ℕ)). HasReplies net n budget (rows ++ row ∷ []) new (said.texts ++ ts)) here.put.only replied);
           texts = said.texts;
           next = next;

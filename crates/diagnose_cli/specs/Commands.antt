@@ -1,7 +1,7 @@
 -- The commands, the files that each one needs, and what it may say over them.
 use Rattle.std.specs.Prelude.{◌≡◌, ◌↔◌, ◌⊎◌, ℕ, zero, suc, ◌+◌, ◌-◌, ◌^◌, ◌≤◌, ⊤, List, [], ◌∷◌, ◌++◌, length, drop, take, codes, ◌==◌, Bool, true, false, ◌&&◌, nat_eq, nat_lt, nat_le, Option, Some, None, if◌then◌else◌, Err, IfSome, IsOkAnd, MatchOption, bytes_eq, option_map, option_and_then, flat_map}
 use Rattle.std.specs.List.{position_or_len}
-use Rattle.alarm_session.specs.Rows.{HasCarriedOut, after_row}
+use Rattle.alarm_session.specs.Rows.{HasCarriedOut, IsLeftUndone, IsRowTold, after_row, log_after}
 use Rattle.alarm_session.specs.Refusals.{refusal_number}
 use Rattle.alarm_session.specs.declared.rows.Told.{Told}
 use Rattle.alarm_session.specs.declared.rows.Told.TheVariants.{Made, Refused, Answered}
@@ -310,17 +310,25 @@ pub record HasReplies (net : Net) (n budget : ℕ) (rows : List Row) (left : Lis
   pub replays : RunsReplay net n no_log rows told
   pub are : texts ≡ flat_map (replies_to net n) told
 
--- What a session over these rows may say where it leaves this book: the replies to a front of them. It is done where that is all of them, and else the book may have more.
+-- A row whose reply isn't told was carried out, or memory was wanting before that.
+abbrev pub IsUntold : Net → ℕ → ℕ → AlarmLog → Row → List BookEntry → List BookEntry → Type 0
+IsUntold net n budget alarms row old new = ((told : Told) × IsRowTold net n budget alarms row old new told) ⊎ IsLeftUndone budget alarms row alarms old new
+
+-- Behind the rows whose replies are told, the book has what one more row put at most.
+abbrev pub IsLeftBehind : Net → ℕ → ℕ → AlarmLog → List Row → List BookEntry → List BookEntry → Type 0
+IsLeftBehind net n budget alarms [] left book = book ≡ left
+IsLeftBehind net n budget alarms (row ∷ others) left book = (book ≡ left) ⊎ IsUntold net n budget alarms row left book
+
+-- What a session over these rows may say where it leaves this book: the replies to a front of them. It is done where that is all of them, and else one more row was taken at most.
 pub record IsSession (net : Net) (n budget : ℕ) (rows : List Row) (book : List BookEntry) (told : Transcript) : Type 0 where
   pub front : List Row
   pub others : List Row
   pub split : rows ≡ front ++ others
   pub left : List BookEntry
-  pub since : List BookEntry
-  pub more : book ≡ left ++ since
   pub replied : HasReplies net n budget front left told.texts
+  pub behind : IsLeftBehind net n budget (log_after net n no_log front) others left book
   pub kind_is : IfSome told.done (λ kind. kind ≡ Done)
-  pub whole : IfSome told.done (λ kind. (others ≡ []) × (since ≡ []))
+  pub whole : IfSome told.done (λ kind. others ≡ [])
 
 -- the reply tells what is found
 pub record SaysFound (net : Net) (alarms : AlarmLog) (n budget : ℕ) (book : List BookEntry) (reply : Kind × List ℕ) : Type 0 where

@@ -1,5 +1,5 @@
 -- How a session goes: the replies to its rows are put one after another, until the rows end, memory is wanting or a put fails.
-use Rattle.std.specs.Prelude.{◌≡◌, ⊤, ℕ, List, [], ◌∷◌, ◌++◌, Option, Result, Ok, Err, IsOkAnd}
+use Rattle.std.specs.Prelude.{◌≡◌, ⊤, ℕ, List, [], ◌∷◌, Option, Result, Ok, Err, IsOkAnd}
 use Rattle.std.specs.List.{concat}
 use Rattle.alarm_session.specs.Rows.{IsRowTold, after_row}
 use Rattle.alarm_session.specs.declared.rows.Told.{Told}
@@ -12,7 +12,7 @@ use Rattle.proof_ledger.specs.Book.{BookEntry}
 use Rattle.report.specs.Replies.{EventsKnown}
 use Rattle.diagnose_cli.specs.declared.session_rows.Broken.{Broken}
 use Rattle.diagnose_cli.specs.declared.session_rows.Broken.TheVariants.{Memory, Put}
-use Rattle.diagnose_cli.specs.Commands.{IsSession, TellsReplaying, replies_to}
+use Rattle.diagnose_cli.specs.Commands.{IsSession, IsUntold, TellsReplaying, replies_to}
 use Rattle.diagnose_cli.specs.Puts.{BreaksOff, Finishes, IsCutOff}
 use Rattle.diagnose_cli.specs.Transcripts.{Ending}
 
@@ -48,15 +48,14 @@ pub record IsRowPut (net : Net) (n budget : ℕ) (alarms : Log) (row : Row) (lat
   pub carried : IsCarriedOut net n budget alarms row later old new told
   pub put : P (replies_to net n told)
 
--- the book has perhaps more, and nothing was put
-pub record IsRowLost (old new : List BookEntry) (before now : Option (List ℕ)) : Type 0 where
-  pub since : List BookEntry
-  pub more : new ≡ old ++ since
+-- nothing of the row was put
+pub record IsRowLost (net : Net) (n budget : ℕ) (alarms : Log) (row : Row) (old new : List BookEntry) (before now : Option (List ℕ)) : Type 0 where
+  pub untold : IsUntold net n budget alarms row old new
   pub put : Took before now []
 
 abbrev pub RowGoes : Net → ℕ → ℕ → Log → Row → Log → List BookEntry → List BookEntry → Option (List ℕ) → Option (List ℕ) → Type 0 → Result (Unit {0}) Broken → Type 0
 RowGoes net n budget alarms row later old new before now rose (Ok done) = IsRowPut net n budget alarms row later old new (λ texts. Took before now (concat texts))
-RowGoes net n budget alarms row later old new before now rose (Err Memory) = IsRowLost old new before now
+RowGoes net n budget alarms row later old new before now rose (Err Memory) = IsRowLost net n budget alarms row old new before now
 RowGoes net n budget alarms row later old new before now rose (Err Put) = rose × IsRowPut net n budget alarms row later old new (λ texts. IsFrontTaken texts before now)
 
 -- ---- all rows
