@@ -62,6 +62,8 @@ def questions(folder, count):
     """Each with its name, the files of its model and its log, and its steps."""
     for model in sorted(glob.glob(os.path.join(EXAMPLES, "*", "model.des"))):
         for log in sorted(glob.glob(os.path.join(os.path.dirname(model), "*.csv"))):
+            if os.path.basename(log) == "script.csv":
+                continue
             yield os.path.relpath(log, EXAMPLES), [model, log], STEPS
     for seed in range(count):
         files = [os.path.join(folder, file) for file in ["model.des", "log.csv"]]
