@@ -6,8 +6,24 @@ PROGRAM is the program as `rt run` builds it, crates/diagnose_cli/out/diagnose_c
 
 In the first the alarms of the generated plant come one at a time, each with its pairs to earlier ones, and a question is asked after each. Beside
 the session's seconds stands the sum of those of a new `diagnose` for each front of the log, and how long the first, the middle and the last
-answer was waited for. In the second, 500 alarms come before one question, beside the `diagnose` of the whole log: 25 valves that are shut and
-opened in turn, 20 alarms each in a known order, and alarms of one valve that come so one after another.
+answer was waited for. In the second, 500 alarms come before one question, beside the `diagnose` of the whole log: 25 and 50 valves that are
+shut and opened in turn, with 20 and 10 alarms each in a known order, within as many steps.
+
+On 28 November 2026, with the proved program, on four shared processors of an Intel Xeon under load, seconds by the clock, one run:
+
+| Plant | Steps | Alarms | session | sum of diagnose | ratio | waits: first, middle, last |
+|---|---|---|---|---|---|---|
+| 40 units | 10 | 9 | 0.03 | 0.26 | 0.10 | 0.016, 0.001, 0.002 |
+| 64 units | 16 | 15 | 0.22 | 1.27 | 0.18 | 0.056, 0.006, 0.014 |
+| 100 units | 26 | 25 | 1.38 | 7.27 | 0.19 | 0.169, 0.038, 0.073 |
+
+| Plant | Steps | Alarms | session | diagnose | ratio |
+|---|---|---|---|---|---|
+| 25 valves | 20 | 500 | 1.33 | 1.25 | 1.06 |
+| 50 valves | 10 | 500 | 0.53 | 0.52 | 1.01 |
+
+In an earlier run under heavier load the ratios of the first table were 0.10, 0.33 and 0.23, and that of 25 valves 0.94. The steps are those of the last question from the beginning, so each
+front of a log is asked within as many. That makes `diagnose` of a short front dearer than with as few steps as it needs.
 """
 import os
 import subprocess
@@ -95,7 +111,7 @@ def one_by_one(program, folder):
 def at_once(program, folder):
     print("\n| Plant | Steps | Alarms | session | diagnose | ratio |")
     print("|---|---|---|---|---|---|")
-    for name, steps, (model, log) in [("25 valves", "20", valves(25, 20)), ("one valve", "500", valves(1, 500))]:
+    for name, steps, (model, log) in [("25 valves", "20", valves(25, 20)), ("50 valves", "10", valves(50, 10))]:
         model = written(os.path.join(folder, "model.des"), model)
         script = written(os.path.join(folder, "script.csv"), log + ["ask"])
         log = written(os.path.join(folder, "log.csv"), log)
