@@ -36,6 +36,10 @@ docs/DECISIONS.md. The geometric mean is 0.56 to MiniSat, 1.2 to CaDiCaL's libra
 | 5 alarms of one device | 5 | 0.10 | 0.10 | 10 | 10 | 0.06 | 0.10 | 1.72 | 1.0 |
 | 6 alarms of one device | 6 | 2.19 | 2.13 | 12 | 12 | 0.41 | 0.35 | 5.15 | 6.0 |
 
+The proved program, under lighter load on the same day, in the order of these rows without the two of 200 units: 0.06, 0.24, 0.16, 0.59, 0.21, 0.14, 0.08, 0.84, 0.07 and 1.29
+seconds, where MiniSat took 1.86, (not run), 0.16, 0.35, 0.09, 0.12, 0.43, 1.36, 0.04 and 0.32 (the least of two). On 200 units it took 0.56 seconds and 100 MiB in 48 steps, and
+2.64 and 193 in 50. Six alarms of one device are the only row above 2.5 there too (4.1).
+
 The last row hangs on the load: in two other runs 1.27 seconds where MiniSat took 0.36 and CaDiCaL's library 0.30 (3.5 and 4.2), and 1.51, 0.35 and 0.30 (4.3 and
 5.1). Seven alarms of one device were answered in 144 seconds with 78 MiB, once; 50,000 conflicts of them took 10.6 seconds now and 12.7 before, once
 each. MiniSat takes 4.8 for all bounds, and CaDiCaL's library 3.4.
