@@ -24,5 +24,5 @@ pub use cnf_text::read_cnf;
 pub use fault::{TextFault, TextRefusal};
 pub use lrat_text::read_lrat;
 pub use print::{print_cnf, print_lrat};
-pub use proof::{Proof, Refutation};
-pub use refuting::{refutation, refutation_proof, refutations_check};
+pub use proof::Proof;
+pub use refuting::{refutation_proof, refutations_check};

@@ -1,7 +1,6 @@
 // A proof as a list of steps.
 ghost use Rattle.std.specs.Prelude.{◌≡◌, [], ◌∷◌, ◌++◌, OnOk, OnErr};
 
-use crate::cnf::Cnf;
 use des_base::Memory;
 use proof_ledger::ProofStep;
 use std::alloc::Global;
@@ -47,11 +46,4 @@ impl Proof {
     {
         self.steps.as_slice()
     }
-}
-
-/// A formula, and a proof that no assignment makes it true.
-#[derive(Drop)]
-pub struct Refutation {
-    pub cnf: Cnf,
-    pub proof: Proof,
 }

@@ -1,54 +1,22 @@
-//! The refutation that a book holds, made to stand by itself.
-ghost use Rattle.std.specs.Prelude.{◌≡◌, ◌+◌, ◌-◌, ◌<◌, ◌≤◌, ◌^◌, ◌++◌, ◌∷◌, [], All, length, map, take, drop, IfOk, OnOk};
+//! The refutation that a book holds, as a proof that stands by itself.
+ghost use Rattle.std.specs.Prelude.{◌≡◌, ◌+◌, ◌-◌, ◌<◌, ◌≤◌, ◌^◌, ◌++◌, ◌∷◌, [], All, length, map, take, IfOk, OnOk};
 ghost use Rattle.std.specs.List.{range_with_len};
-ghost use Rattle.prop_core.specs.Clauses.{HasValues};
 ghost use Rattle.proof_ledger.specs.Book.{axioms_of, clauses_of, IsValidBook};
 ghost use Rattle.proof_ledger.specs.Checking.{check_proof};
 ghost use Rattle.proof_ledger.specs.declared.checker.Checked.TheVariants.{Verified};
-ghost use Rattle.proof_text.specs.CnfText.{formula};
 ghost use Rattle.proof_text.specs.ProofNumbers.{NumbersAscend, HasNoZero};
-ghost use Rattle.proof_text.specs.Refutation.{CanBePrinted, EndsIn, front_to, is_numbered, units, refuted_formula, numbers_from, new_number, derived_of, derived_steps, steps_behind, refutation_steps, IsStepOf, RefutationsCheck};
+ghost use Rattle.proof_text.specs.Refutation.{EndsIn, front_to, is_numbered, refuted_formula, numbers_from, new_number, derived_of, derived_steps, steps_behind, refutation_steps, IsStepOf, RefutationsCheck};
 
-use crate::cnf::Cnf;
-use crate::proof::{Proof, Refutation};
+use crate::proof::Proof;
 use des_base::Memory;
 use proof_ledger::{Entry, Ledger, ProofStep};
-use prop_core::{ClauseId, Clauses, IdList, Lit, LitList};
+use prop_core::{ClauseId, IdList, Lit, LitList};
 use std::alloc::Global;
 
-/// The refutation that ends with a final clause of the book, given the assumptions of which it has negations alone.
+/// The proof that ends with a final clause of the book, given the assumptions of which it has negations alone.
 ///
-/// The formula has the axioms before that clause, and a clause for each assumption. The proof has the clauses that were derived
-/// up to it, numbered behind the formula, and then the empty clause. Marks and later entries aren't in it.
-pub fn refutation(
-    alloc: Global,
-    book: &Ledger,
-    vars: u32,
-    assumptions: &[Lit],
-    last: ClauseId,
-) -> Result<Refutation, Memory>
-    requires ends { EndsIn book.now.entries assumptions.now last }
-    requires clauses { All (HasValues vars) (clauses_of book.now.entries) }
-    requires assumptions { HasValues vars assumptions.now }
-    ensures formula { IfOk result (λ r. formula r.cnf.vars r.cnf.clauses.clauses ≡ formula vars (refuted_formula (front_to last book.now.entries) assumptions.now)) }
-    ensures proof { IfOk result (λ r. r.proof ≡ refutation_steps (front_to last book.now.entries) assumptions.now) }
-    ensures verified { IfOk result (λ r. check_proof r.cnf.clauses.clauses r.proof ≡ Verified) }
-    ensures printable { IfOk result (λ r. CanBePrinted vars r.cnf.clauses.clauses r.proof) }
-{
-    let count = entries_to(book, last);
-    let mut clauses = Clauses::new(alloc);
-    put_axioms(book, count, &mut clauses)?;
-    let axioms = clauses.len();
-    put_units(assumptions, &mut clauses)?;
-    let front = Front { alloc, book, count };
-    let proof = front.proof(axioms, clauses.len(), last)?;
-    Ok(Refutation {
-        cnf: Cnf { vars, clauses },
-        proof,
-    })
-}
-
-/// The proof of that refutation alone, for a formula that is made apart: of its clauses nothing but the count is needed.
+/// It goes with a formula that has the axioms before that clause, and then a clause for each assumption. It has the clauses that were
+/// derived up to it, numbered behind the formula, and then the empty clause. Marks and later entries aren't in it.
 pub fn refutation_proof(
     alloc: Global,
     book: &Ledger,
@@ -94,29 +62,6 @@ fn has_number(entry: Entry, number: ClauseId) -> bool
         Entry::Axiom(id) | Entry::Learnt(id) | Entry::Final(id) => id == number,
         Entry::Mark(_) => false,
     }
-}
-
-// Adds the axioms among the first so many entries.
-fn put_axioms(book: &Ledger, count: u64, out: &mut Clauses) -> Result<(), Memory>
-    requires { count ≤ length book.now.entries }
-    ensures { OnOk result (out.new.clauses ≡ out.old.clauses ++ axioms_of (take count book.now.entries)) }
-{
-    for place in 0..count {
-        if let Entry::Axiom(id) = book.entry(place) {
-            out.push(book.clauses().clause(id))?;
-        }
-    }
-    Ok(())
-}
-
-// Adds a clause for each assumption.
-fn put_units(assumptions: &[Lit], out: &mut Clauses) -> Result<(), Memory>
-    ensures { OnOk result (out.new.clauses ≡ out.old.clauses ++ units assumptions.now) }
-{
-    for lit in assumptions {
-        out.push(&[*lit])?;
-    }
-    Ok(())
 }
 
 // The entries of a book up to the final one.
