@@ -5,8 +5,8 @@ use Rattle.prop_core.specs.Clauses.{Clause}
 use Rattle.prop_core.specs.Derivation.{Standing, falsified, wide, standing, clause_numbered}
 use Rattle.prop_core.specs.Trail.{is_quiet}
 use Rattle.sat_prop.specs.TrailState.{TrailState, reason_at}
-use Rattle.sat_prop.specs.declared.trail.Propagated.{Propagated}
-use Rattle.sat_prop.specs.declared.trail.Propagated.TheVariants.{Quiet, Conflict}
+use Rattle.sat_prop.specs.declared.propagator.Propagated.{Propagated}
+use Rattle.sat_prop.specs.declared.propagator.Propagated.TheVariants.{Quiet, Conflict}
 
 -- how the clause of a number stands; of a number that has none nothing is to be done
 abbrev pub stands : List Lit → Option Clause → Standing

@@ -9,10 +9,11 @@
 //!   and others, "Chaff: engineering an efficient SAT solver", 2001). A clause without is *short*, and looked at at level 0 alone.
 #![tactic(auto)]
 
-mod stack;
+mod propagator;
 mod standing;
 mod trail;
 mod watch_lists;
 mod watched;
 
-pub use trail::{Propagated, Trail};
+pub use propagator::{Propagated, Propagator};
+pub use trail::Trail;

@@ -1,83 +1,108 @@
-ghost use Rattle.std.specs.Prelude.{◌≡◌, ℕ, ◌<◌, ◌≤◌, ◌^◌, [], length, max, true, false, Some, None, slice_get, OnOk, OnErr, IfSome};
-ghost use Rattle.prop_core.specs.Derivation.{clause_numbered};
-ghost use Rattle.prop_core.specs.Clauses.{is_open, HasValues};
+ghost use Rattle.std.specs.Prelude.{◌≡◌, ℕ, ◌<◌, ◌≤◌, ◌+◌, ◌-◌, ◌^◌, ◌++◌, ◌∷◌, [], List, length, max, take, true, false, Some, None, Contains, slice_get, slice_set, slice_index, vec_len, vec_capacity, OnOk, OnErr, IfSome};
+ghost use Rattle.prop_core.specs.declared.lit.Lit.{Lit};
+ghost use Rattle.prop_core.specs.Derivation.{clause_numbered, unit};
+ghost use Rattle.prop_core.specs.Clauses.{is_open, is_true, negation, HasValues};
 ghost use Rattle.prop_core.specs.Trail.{has_var};
-ghost use Rattle.sat_prop.specs.TrailState.{value_by, reason_at, StandsAt};
-ghost use Rattle.sat_prop.specs.Levels.{level_of, level_at, IsLastDecision};
-ghost use Rattle.sat_prop.specs.Quiet.{AreQuiet, JoinsQuietly, IsPropagated};
-ghost use Rattle.sat_prop.specs.Changes.{IsFront, with_literal, with_clause, Propagates, IsKeptUpTo};
-ghost use Rattle.sat_prop.specs.Kept.{IsTrailState};
+ghost use Rattle.sat_prop.specs.TrailState.{literal_at, value_by, reason_at, StandsAt};
+ghost use Rattle.sat_prop.specs.Levels.{level_of, level_at, IsCut, IsLastDecision};
+ghost use Rattle.sat_prop.specs.Quiet.{AreQuiet, JoinsQuietly, stands};
+ghost use Rattle.sat_prop.specs.Changes.{IsFront, with_literal, with_clause, IsKeptUpTo};
+ghost use Rattle.sat_prop.specs.Kept.{IsTrailState, AreValues, IsSeen};
 
-use crate::stack::Stack;
-use crate::watched::Watched;
+use crate::standing::Stands;
 use des_base::{Memory, VAR_LIMIT};
 use prop_core::{ClauseId, Clauses, Lit};
 use std::alloc::Global;
 use std::marker::Model;
-
-/// What propagation comes to.
-#[derive(Clone, Copy)]
-pub enum Propagated {
-    /// No attached clause is false or unit.
-    Quiet,
-    /// This attached clause is false.
-    Conflict(ClauseId),
-}
+use std::snapshot::Snapshot;
 
 /// Literals that are true, in their order, over clauses that are attached.
 ///
-/// Room for literals is taken by `grow` and room for clauses by `reserve_clauses`; no other call takes memory. A clause with
-/// two different literals is watched at two of them, and looked at again where one of these becomes false (Moskewicz and
-/// others, "Chaff: engineering an efficient SAT solver", 2001).
+/// Others read it alone. A `Propagator` has one, and changes it where it keeps the watches in step.
 #[derive(Drop)]
 pub struct Trail {
-    stack: Stack,
-    watched: Watched,
+    db: Snapshot<Clauses>,
+    attached: Vec<u32>,
+    spare: usize,
+    literals: Vec<Lit>,
+    reasons: Vec<Option<ClauseId>>,
+    levels: Vec<u32>,
+    starts: Vec<u32>,
+    places: Vec<u32>,
+    values: Vec<Option<bool>>,
 }
 
 impl Model for Trail {
+    ghost use Rattle.std.specs.Prelude.{◌+◌, ◌≤◌, length, vec_len, vec_capacity};
+    ghost use Rattle.des_base.specs.declared.TheConstants.{VAR_LIMIT};
     ghost use Rattle.sat_prop.specs.TrailState.{TrailState};
-    ghost use Rattle.sat_prop.specs.Watching.{AreWatched};
+    ghost use Rattle.sat_prop.specs.Kept.{IsTrailState, ArePlaces, AreValues, AreLevels, AreStarts};
 
     ghost Value = { TrailState };
 
-    ghost view = { λ a. a.stack };
+    ghost view = { λ a. record { clauses = a.db.value.clauses; attached = a.attached.items; literals = a.literals.items; reasons = a.reasons.items; vars = length a.places.items; spare = a.spare } };
 
-    ghost invariant = { λ a. AreWatched a.stack a.watched };
+    ghost invariant = { λ a. record {
+      state : IsTrailState (record { clauses = a.db.value.clauses; attached = a.attached.items; literals = a.literals.items; reasons = a.reasons.items; vars = length a.places.items; spare = a.spare });
+      places : ArePlaces (length a.places.items) a.literals.items a.places.items;
+      values : AreValues (length a.places.items) a.literals.items a.values.items;
+      levels : AreLevels a.reasons.items a.levels.items;
+      starts : AreStarts a.reasons.items a.starts.items;
+      limit : vec_len a.places ≤ VAR_LIMIT;
+      room_attached : vec_len a.attached + a.spare ≤ vec_capacity a.attached;
+      room_literals : vec_len a.places ≤ vec_capacity a.literals;
+      room_reasons : vec_len a.places ≤ vec_capacity a.reasons;
+      room_levels : vec_len a.places ≤ vec_capacity a.levels;
+      room_starts : vec_len a.places ≤ vec_capacity a.starts;
+    } };
 }
 
 impl Trail {
     /// Nothing is attached, and there are no variables.
-    pub fn new(alloc: Global) -> Trail
+    pub(crate) fn new(alloc: Global) -> Trail
         ensures { result ≡ record { clauses = []; attached = []; literals = []; reasons = []; vars = 0; spare = 0 } }
     {
         Trail {
-            stack: Stack::new(alloc),
-            watched: Watched::new(alloc),
+            db: Snapshot::of(&Clauses::new(alloc)),
+            attached: Vec::new(alloc),
+            spare: 0,
+            literals: Vec::new(alloc),
+            reasons: Vec::new(alloc),
+            levels: Vec::new(alloc),
+            starts: Vec::new(alloc),
+            places: Vec::new(alloc),
+            values: Vec::new(alloc),
         }
     }
 
     /// Adds variables until there are this many.
-    pub fn grow(&mut self, vars: u32) -> Result<(), Memory>
+    pub(crate) fn grow(&mut self, vars: u32) -> Result<(), Memory>
         requires { vars ≤ VAR_LIMIT }
         ensures ok { OnOk result (self.new ≡ record self.old { vars = max self.old.vars vars }) }
         ensures err { OnErr result (self.new ≡ self.old) }
     {
-        self.watched.grow(vars)?;
-        self.stack.grow(vars)
+        let count = self.places.len().max(vars as usize);
+        self.literals.reserve(count)?;
+        self.reasons.reserve(count)?;
+        self.levels.reserve(count)?;
+        self.starts.reserve(count)?;
+        widen(&mut self.values, count)?;
+        self.places.resize(count, 0)?;
+        Ok(())
     }
 
     /// Sees to it that there is room to attach this many more clauses.
-    pub fn reserve_clauses(&mut self, clauses: usize) -> Result<(), Memory>
+    pub(crate) fn reserve_clauses(&mut self, clauses: usize) -> Result<(), Memory>
         ensures ok { OnOk result (self.new ≡ record self.old { spare = max self.old.spare clauses }) }
         ensures err { OnErr result (self.new ≡ self.old) }
     {
-        self.watched.reserve(clauses)?;
-        self.stack.reserve_clauses(clauses)
+        self.attached.reserve(self.spare.max(clauses))?;
+        self.spare = self.spare.max(clauses);
+        Ok(())
     }
 
     /// Attaches a clause of the database, which may have grown since the last one was attached.
-    pub fn attach(&mut self, db: &Clauses, id: ClauseId)
+    pub(crate) fn attach(&mut self, db: &Clauses, id: ClauseId)
         requires room { 1 ≤ self.old.spare }
         requires grown { IsFront self.old.clauses db.now.clauses }
         requires from_one { 1 ≤ id }
@@ -86,44 +111,44 @@ impl Trail {
         requires quiet { JoinsQuietly self.old (clause_numbered db.now.clauses id) }
         ensures { self.new ≡ with_clause self.old db.now.clauses id }
     {
-        self.watched.attach(&self.stack, db, id);
-        self.stack.attach(db, id);
-    }
-
-    /// Makes true what attached clauses force, until nothing is forced or one is false.
-    pub fn propagate(&mut self, db: &Clauses) -> Propagated
-        requires { IsFront self.old.clauses db.now.clauses }
-        ensures grown { Propagates self.old self.new }
-        ensures outcome { IsPropagated self.new result }
-    {
-        self.watched.propagate(&mut self.stack, db)
+        self.attached.push(db.number(id)).unwrap();
+        self.spare -= 1;
+        self.db = Snapshot::of(db);
     }
 
     /// Makes an open literal true by decision, where no attached clause is false or unit.
-    pub fn decide(&mut self, lit: Lit)
+    pub(crate) fn decide(&mut self, lit: Lit)
         requires known { lit.var < self.old.vars }
         requires undecided { is_open self.old.literals lit ≡ true }
         requires quiet { AreQuiet self.old.clauses self.old.attached self.old.literals }
         ensures { self.new ≡ with_literal self.old lit None }
     {
-        self.stack.decide(lit);
+        self.starts.push(self.literals.len() as u32).unwrap();
+        set(&mut self.values, lit.var, Some(lit.positive));
+        set(&mut self.places, lit.var, self.literals.len() as u32);
+        append(&mut self.literals, lit);
+        append(&mut self.reasons, None);
+        append(&mut self.levels, self.starts.len() as u32);
     }
 
     /// Keeps the literals up to a level.
-    pub fn back_to(&mut self, level: u32)
+    pub(crate) fn back_to(&mut self, level: u32)
         requires { level ≤ level_of self.old.reasons }
         ensures { IsKeptUpTo self.old self.new level }
     {
-        let _literals = self.stack.literals();
-        self.stack.back_to(level);
-        self.watched.back_to(self.stack.len());
+        let kept = self.count_up_to(level);
+        forget(&mut self.values, &self.literals, kept);
+        self.literals.truncate(kept);
+        self.reasons.truncate(kept);
+        self.levels.truncate(kept);
+        self.starts.truncate(level as usize);
     }
 
     /// The present level: how many decisions stand.
     pub fn level(&self) -> u32
         ensures { result ≡ level_of self.now.reasons }
     {
-        self.stack.level()
+        self.starts.len() as u32
     }
 
     /// The level of a variable's literal.
@@ -131,14 +156,17 @@ impl Trail {
         requires { has_var var self.now.literals ≡ true }
         ensures { (place : ℕ) → StandsAt self.now.literals var place → result ≡ level_at self.now.reasons place }
     {
-        self.stack.level_of(var)
+        self.levels[self.place_of(var) as usize]
     }
 
     /// The value of a variable.
     pub fn value(&self, var: u32) -> Option<bool>
         ensures { result ≡ value_by self.now.literals var }
     {
-        self.stack.value(var)
+        if var as usize >= self.values.len() {
+            return None;
+        }
+        self.values[var as usize]
     }
 
     /// The clause that forced a variable's literal.
@@ -146,7 +174,10 @@ impl Trail {
         ensures stands { (place : ℕ) → StandsAt self.now.literals var place → result ≡ reason_at self.now.reasons place }
         ensures absent { has_var var self.now.literals ≡ false → result ≡ None }
     {
-        self.stack.reason(var)
+        match self.value(var) {
+            None => None,
+            Some(_) => self.reasons[self.place_of(var) as usize],
+        }
     }
 
     /// The place of a variable's literal.
@@ -154,14 +185,14 @@ impl Trail {
         requires { has_var var self.now.literals ≡ true }
         ensures { StandsAt self.now.literals var result }
     {
-        self.stack.place_of(var)
+        self.places[var as usize]
     }
 
     /// How many literals are true.
     pub fn len(&self) -> u32
         ensures { result ≡ length self.now.literals }
     {
-        self.stack.len()
+        self.literals.len() as u32
     }
 
     /// The literal at a place, from 0, in the order in which they became true.
@@ -169,7 +200,7 @@ impl Trail {
         requires { place < length self.now.literals }
         ensures { slice_get self.now.literals place ≡ Some result }
     {
-        self.stack.literal(place)
+        self.literals[place as usize]
     }
 
     /// The literals in their order.
@@ -180,14 +211,14 @@ impl Trail {
         ensures limit { self.now.vars ≤ VAR_LIMIT }
         ensures spare { self.now.spare < 2 ^ 63 }
     {
-        self.stack.literals()
+        &self.literals
     }
 
     /// Why each literal is true: the clause that forced it, or none where it was decided.
     pub fn reasons(&self) -> &[Option<ClauseId>]
         ensures { result.now ≡ self.now.reasons }
     {
-        self.stack.reasons()
+        &self.reasons
     }
 
     /// The place of the last decision.
@@ -195,6 +226,131 @@ impl Trail {
         requires { 0 < level_of self.now.reasons }
         ensures { IsLastDecision self.now.reasons result }
     {
-        self.stack.last_decision()
+        self.starts[self.starts.len() - 1]
     }
+
+    /// Whether a literal is among those up to a place.
+    pub(crate) fn holds_up_to(&self, lit: Lit, place: u32) -> bool
+        ensures { result ≡ is_true (take (place + 1) self.now.literals) lit }
+    {
+        let _literals = self.literals();
+        match self.value(lit.var) {
+            Some(value) => value == lit.positive && self.place_of(lit.var) <= place,
+            None => false,
+        }
+    }
+
+    /// A place before which no literal makes this one false: that of the one which does, if there is one.
+    pub(crate) fn falls(&self, lit: Lit) -> u32
+        ensures { (place : ℕ) → place < result → place < length self.now.literals → literal_at self.now.literals place ≡ negation lit → ⊥ }
+    {
+        let _literals = self.literals();
+        match self.value(lit.var) {
+            Some(value) => {
+                if value == lit.positive {
+                    u32::MAX
+                } else {
+                    self.place_of(lit.var)
+                }
+            }
+            None => u32::MAX,
+        }
+    }
+
+    // How many literals stand up to a level.
+    fn count_up_to(&self, level: u32) -> usize
+        requires { level ≤ level_of self.now.reasons }
+        ensures { IsCut self.now.reasons level result }
+    {
+        if (level as usize) < self.starts.len() {
+            self.starts[level as usize] as usize
+        } else {
+            self.literals.len()
+        }
+    }
+
+    /// How a clause stands.
+    pub(crate) fn standing(&self, clause: &[Lit]) -> Stands
+        ensures { IsSeen self.now.literals clause.now result }
+    {
+        let _literals = self.literals();
+        let mut candidate: Option<Lit> = None;
+        for lit in clause {
+            match self.value(lit.var) {
+                Some(value) => {
+                    if value == lit.positive {
+                        return Stands::Quiet;
+                    }
+                }
+                None => {
+                    if let Some(first) = candidate {
+                        if first != *lit {
+                            return Stands::Quiet;
+                        }
+                    }
+                    candidate = Some(*lit);
+                }
+            }
+        }
+        match candidate {
+            None => Stands::False,
+            Some(lit) => Stands::Unit(lit),
+        }
+    }
+
+    /// Makes a literal true that an attached clause forces.
+    pub(crate) fn force(&mut self, db: &Clauses, id: ClauseId, lit: Lit)
+        requires grown { IsFront self.old.clauses db.now.clauses }
+        requires attached { Contains self.old.attached id }
+        requires forced { stands self.old.literals (clause_numbered db.now.clauses id) ≡ unit lit }
+        ensures { self.new ≡ with_literal self.old lit (Some id) }
+    {
+        set(&mut self.values, lit.var, Some(lit.positive));
+        set(&mut self.places, lit.var, self.literals.len() as u32);
+        append(&mut self.literals, lit);
+        append(&mut self.reasons, Some(id));
+        append(&mut self.levels, self.starts.len() as u32);
+    }
+}
+
+// Sees to it that values of so many variables can be kept.
+fn widen(values: &mut Vec<Option<bool>>, count: usize) -> Result<(), Memory>
+    ensures kept { (vars : ℕ) (literals : List Lit) → HasValues vars literals → AreValues vars literals values.old.items → AreValues vars literals values.new.items }
+    ensures enough { OnOk result (count ≤ length values.new.items) }
+{
+    let room = values.len().max(count);
+    values.resize(room, None)?;
+    Ok(())
+}
+
+// Keeps what is known of a variable.
+fn set<T: Copy>(items: &mut Vec<T>, var: u32, item: T)
+    requires { var < length items.old.items }
+    ensures { items.new.items ≡ slice_set items.old.items var item }
+{
+    items[var as usize] = item;
+}
+
+// Takes the values of the literals from a place on back.
+fn forget(values: &mut Vec<Option<bool>>, literals: &[Lit], kept: usize)
+    requires kept { kept ≤ length literals.now }
+    requires known { HasValues (length values.old.items) literals.now }
+    requires open_before { (place : ℕ) → place < length literals.now → is_open (take place literals.now) (literal_at literals.now place) ≡ true }
+    requires values { AreValues (length values.old.items) literals.now values.old.items }
+    ensures { AreValues (length values.old.items) (take kept literals.now) values.new.items }
+{
+    let mut place = literals.len();
+    'down: while place > kept {
+        place -= 1;
+        set(values, literals[place].var, None);
+    }
+}
+
+// Puts an item behind the others, where there is room.
+fn append<T>(items: &mut Vec<T>, item: T)
+    requires room { vec_len items.old < vec_capacity items.old }
+    ensures items { items.new.items ≡ items.old.items ++ item ∷ [] }
+    ensures room { vec_capacity items.old ≤ vec_capacity items.new }
+{
+    items.push(item).unwrap();
 }

@@ -9,9 +9,9 @@ ghost use Rattle.sat_prop.specs.Changes.{IsFront, Propagates, with_clause, with_
 ghost use Rattle.sat_prop.specs.Watches.{IsNext, watch_at};
 ghost use Rattle.sat_prop.specs.Watching.{AreWatched, AreVisited, IsVisiting, Visits, AreTwo, IsJudged, IsReplacement, IsNarrow, no_watched};
 
-use crate::stack::Stack;
+use crate::propagator::Propagated;
 use crate::standing::Stands;
-use crate::trail::Propagated;
+use crate::trail::Trail;
 use crate::watch_lists::WatchLists;
 use des_base::{Memory, VAR_LIMIT};
 use prop_core::{ClauseId, Clauses, Lit};
@@ -78,20 +78,20 @@ impl Watched {
 
     /// Watches a clause that is to be attached, or keeps it among the short ones. What becomes false of the watched literals
     /// is looked at after this, again where need be.
-    pub fn attach(&mut self, stack: &Stack, db: &Clauses, id: ClauseId)
-        requires watched { AreWatched stack.now self.old }
-        requires room { 1 ≤ stack.now.spare }
-        requires grown { IsFront stack.now.clauses db.now.clauses }
+    pub fn attach(&mut self, trail: &Trail, db: &Clauses, id: ClauseId)
+        requires watched { AreWatched trail.now self.old }
+        requires room { 1 ≤ trail.now.spare }
+        requires grown { IsFront trail.now.clauses db.now.clauses }
         requires from_one { 1 ≤ id }
         requires in_range { id ≤ length db.now.clauses }
-        requires known { IfSome (clause_numbered db.now.clauses id) (HasValues stack.now.vars) }
-        ensures { AreWatched (with_clause stack.now db.now.clauses id) self.new }
+        requires known { IfSome (clause_numbered db.now.clauses id) (HasValues trail.now.vars) }
+        ensures { AreWatched (with_clause trail.now db.now.clauses id) self.new }
     {
-        let _literals = stack.literals();
-        match two_literals(stack, db.clause(id)) {
+        let _literals = trail.literals();
+        match two_literals(trail, db.clause(id)) {
             Some((first, second)) => {
                 self.lists.add(db.number(id), first, second);
-                let falls = stack.falls(first).min(stack.falls(second));
+                let falls = trail.falls(first).min(trail.falls(second));
                 self.seen = self.seen.min(falls);
             }
             None => {
@@ -109,23 +109,23 @@ impl Watched {
     }
 
     /// Makes true what attached clauses force, until nothing is forced or one is false.
-    pub fn propagate(&mut self, stack: &mut Stack, db: &Clauses) -> Propagated
-        requires watched { AreWatched stack.old self.old }
-        requires grown { IsFront stack.old.clauses db.now.clauses }
-        ensures watched { AreWatched stack.new self.new }
-        ensures grown { Propagates stack.old stack.new }
-        ensures outcome { IsPropagated stack.new result }
+    pub fn propagate(&mut self, trail: &mut Trail, db: &Clauses) -> Propagated
+        requires watched { AreWatched trail.old self.old }
+        requires grown { IsFront trail.old.clauses db.now.clauses }
+        ensures watched { AreWatched trail.new self.new }
+        ensures grown { Propagates trail.old trail.new }
+        ensures outcome { IsPropagated trail.new result }
     {
         'more: loop {
-            let before = stack.len();
-            if let Some(id) = self.visit_short(stack, db) {
+            let before = trail.len();
+            if let Some(id) = self.visit_short(trail, db) {
                 return Propagated::Conflict(id);
             }
-            if let Some(id) = self.visit_watched(stack, db) {
+            if let Some(id) = self.visit_watched(trail, db) {
                 return Propagated::Conflict(id);
             }
-            let _literals = stack.literals();
-            if stack.len() == before {
+            let _literals = trail.literals();
+            if trail.len() == before {
                 return Propagated::Quiet;
             }
         }
@@ -133,36 +133,36 @@ impl Watched {
 
     // Looks at the short clauses at level 0, and nowhere else: just before a decision they were neither false nor forced anything, so they
     // are true from there on. Answers one that is false.
-    fn visit_short(&self, stack: &mut Stack, db: &Clauses) -> Option<ClauseId>
-        requires watched { AreWatched stack.old self.now }
-        requires grown { IsFront stack.old.clauses db.now.clauses }
-        ensures watched { AreWatched stack.new self.now }
-        ensures grown { Propagates stack.old stack.new }
-        ensures conflict { IfSome result (IsConflict stack.new) }
-        ensures quiet { IfNone result (length stack.new.literals ≡ length stack.old.literals → AreQuiet stack.new.clauses self.now.short stack.new.literals) }
+    fn visit_short(&self, trail: &mut Trail, db: &Clauses) -> Option<ClauseId>
+        requires watched { AreWatched trail.old self.now }
+        requires grown { IsFront trail.old.clauses db.now.clauses }
+        ensures watched { AreWatched trail.new self.now }
+        ensures grown { Propagates trail.old trail.new }
+        ensures conflict { IfSome result (IsConflict trail.new) }
+        ensures quiet { IfNone result (length trail.new.literals ≡ length trail.old.literals → AreQuiet trail.new.clauses self.now.short trail.new.literals) }
     {
-        let _literals = stack.literals();
-        if stack.level() > 0 {
+        let _literals = trail.literals();
+        if trail.level() > 0 {
             return None;
         }
-        self.visit_each_short(stack, db)
+        self.visit_each_short(trail, db)
     }
 
     // Looks at each short clause, and makes true what it forces. Answers one that is false.
-    fn visit_each_short(&self, stack: &mut Stack, db: &Clauses) -> Option<ClauseId>
-        requires watched { AreWatched stack.old self.now }
-        requires grown { IsFront stack.old.clauses db.now.clauses }
-        ensures watched { AreWatched stack.new self.now }
-        ensures grown { Propagates stack.old stack.new }
-        ensures conflict { IfSome result (IsConflict stack.new) }
-        ensures quiet { IfNone result (length stack.new.literals ≡ length stack.old.literals → AreQuiet stack.new.clauses self.now.short stack.new.literals) }
+    fn visit_each_short(&self, trail: &mut Trail, db: &Clauses) -> Option<ClauseId>
+        requires watched { AreWatched trail.old self.now }
+        requires grown { IsFront trail.old.clauses db.now.clauses }
+        ensures watched { AreWatched trail.new self.now }
+        ensures grown { Propagates trail.old trail.new }
+        ensures conflict { IfSome result (IsConflict trail.new) }
+        ensures quiet { IfNone result (length trail.new.literals ≡ length trail.old.literals → AreQuiet trail.new.clauses self.now.short trail.new.literals) }
     {
         for place in 0..self.short.len() {
-            let _literals = stack.literals();
+            let _literals = trail.literals();
             let id = self.short[place];
-            match stack.standing(db.clause(id)) {
+            match trail.standing(db.clause(id)) {
                 Stands::False => return Some(id),
-                Stands::Unit(lit) => stack.force(db, id, lit),
+                Stands::Unit(lit) => trail.force(db, id, lit),
                 Stands::Quiet => {}
             }
         }
@@ -170,19 +170,19 @@ impl Watched {
     }
 
     // Looks at each literal that hasn't been looked at. Answers a clause that is false.
-    fn visit_watched(&mut self, stack: &mut Stack, db: &Clauses) -> Option<ClauseId>
-        requires watched { AreWatched stack.old self.old }
-        requires grown { IsFront stack.old.clauses db.now.clauses }
-        ensures watched { AreWatched stack.new self.new }
-        ensures grown { Propagates stack.old stack.new }
+    fn visit_watched(&mut self, trail: &mut Trail, db: &Clauses) -> Option<ClauseId>
+        requires watched { AreWatched trail.old self.old }
+        requires grown { IsFront trail.old.clauses db.now.clauses }
+        ensures watched { AreWatched trail.new self.new }
+        ensures grown { Propagates trail.old trail.new }
         ensures short { self.new.short ≡ self.old.short }
-        ensures conflict { IfSome result (IsConflict stack.new) }
-        ensures all { IfNone result (self.new.seen ≡ length stack.new.literals) }
+        ensures conflict { IfSome result (IsConflict trail.new) }
+        ensures all { IfNone result (self.new.seen ≡ length trail.new.literals) }
     {
-        'more: while self.seen < stack.len() {
-            let _literals = stack.literals();
-            let lit = stack.literal(self.seen).negated();
-            if let Some(id) = self.visit(stack, db, lit) {
+        'more: while self.seen < trail.len() {
+            let _literals = trail.literals();
+            let lit = trail.literal(self.seen).negated();
+            if let Some(id) = self.visit(trail, db, lit) {
                 return Some(id);
             }
             self.seen += 1;
@@ -191,16 +191,16 @@ impl Watched {
     }
 
     // Looks at each clause that watches the literal, which the first literal that hasn't been looked at makes false.
-    fn visit(&mut self, stack: &mut Stack, db: &Clauses, lit: Lit) -> Option<ClauseId>
-        requires visiting { IsVisiting stack.old self.old db.now.clauses lit }
-        ensures visits { Visits stack.old self.old stack.new self.new }
-        ensures conflict { IfSome result (IsConflict stack.new) }
-        ensures visited { IfNone result (AreWatched stack.new (record self.new { seen = self.new.seen + 1 })) }
+    fn visit(&mut self, trail: &mut Trail, db: &Clauses, lit: Lit) -> Option<ClauseId>
+        requires visiting { IsVisiting trail.old self.old db.now.clauses lit }
+        ensures visits { Visits trail.old self.old trail.new self.new }
+        ensures conflict { IfSome result (IsConflict trail.new) }
+        ensures visited { IfNone result (AreWatched trail.new (record self.new { seen = self.new.seen + 1 })) }
     {
-        let _literals = stack.literals();
+        let _literals = trail.literals();
         self.lists.open(lit);
         'more: while let Some(number) = self.lists.next() {
-            if let Some(id) = self.look(stack, db, number, lit) {
+            if let Some(id) = self.look(trail, db, number, lit) {
                 return Some(id);
             }
         }
@@ -208,18 +208,18 @@ impl Watched {
     }
 
     // Looks at the clause of the next watch that waits, and answers it where it is false.
-    fn look(&mut self, stack: &mut Stack, db: &Clauses, number: u32, lit: Lit) -> Option<ClauseId>
+    fn look(&mut self, trail: &mut Trail, db: &Clauses, number: u32, lit: Lit) -> Option<ClauseId>
         requires next { IsNext self.old.lists number }
-        requires visiting { IsVisiting stack.old self.old db.now.clauses lit }
-        requires visited { AreVisited stack.old self.old }
-        ensures visits { Visits stack.old self.old stack.new self.new }
-        ensures conflict { IfSome result (IsConflict stack.new) }
-        ensures visited { IfNone result (AreVisited stack.new self.new) }
+        requires visiting { IsVisiting trail.old self.old db.now.clauses lit }
+        requires visited { AreVisited trail.old self.old }
+        ensures visits { Visits trail.old self.old trail.new self.new }
+        ensures conflict { IfSome result (IsConflict trail.new) }
+        ensures visited { IfNone result (AreVisited trail.new self.new) }
         ensures fewer { IfNone result (length self.new.lists.waiting + 1 ≡ length self.old.lists.waiting) }
     {
         let watch = self.lists.watch(number);
-        let judged = self.judge(stack, db, number, lit);
-        let _literals = stack.literals();
+        let judged = self.judge(trail, db, number, lit);
+        let _literals = trail.literals();
         match judged {
             Judged::Stays => self.lists.put(watch.lit),
             Judged::Moves(found) => self.lists.put(found),
@@ -229,25 +229,25 @@ impl Watched {
     }
 
     // What becomes of a watch. The other literal of its clause is made true where all others are false.
-    fn judge(&self, stack: &mut Stack, db: &Clauses, number: u32, lit: Lit) -> Judged
+    fn judge(&self, trail: &mut Trail, db: &Clauses, number: u32, lit: Lit) -> Judged
         requires number { number < length self.now.lists.watches }
-        requires visiting { IsVisiting stack.old self.now db.now.clauses lit }
-        ensures watched { AreWatched stack.new self.now }
-        ensures grown { Propagates stack.old stack.new }
-        ensures visited { AreVisited stack.old self.now → AreVisited stack.new self.now }
-        ensures judged { IsJudged stack.new self.now number result }
+        requires visiting { IsVisiting trail.old self.now db.now.clauses lit }
+        ensures watched { AreWatched trail.new self.now }
+        ensures grown { Propagates trail.old trail.new }
+        ensures visited { AreVisited trail.old self.now → AreVisited trail.new self.now }
+        ensures judged { IsJudged trail.new self.now number result }
     {
         let watch = self.lists.watch(number);
         let other = self.lists.watch(watch.twin).lit;
-        if watch.lit != lit || stack.holds_up_to(other, self.seen) {
+        if watch.lit != lit || trail.holds_up_to(other, self.seen) {
             return Judged::Stays;
         }
-        let _literals = stack.literals();
+        let _literals = trail.literals();
         let id = ClauseId(watch.clause as u64);
-        match replacement(stack, db.clause(id), other, self.seen) {
+        match replacement(trail, db.clause(id), other, self.seen) {
             Some(found) => Judged::Moves(found),
             None => {
-                if make_true(stack, db, id, other) {
+                if make_true(trail, db, id, other) {
                     Judged::Stays
                 } else {
                     Judged::False
@@ -266,31 +266,31 @@ enum Judged {
 }
 
 // Sees to it that a literal is true that a clause forces if it is open. Answers whether it is; else the clause is false.
-fn make_true(stack: &mut Stack, db: &Clauses, id: ClauseId, lit: Lit) -> bool
-    requires grown { IsFront stack.old.clauses db.now.clauses }
-    requires attached { Contains stack.old.attached id }
-    requires forced { IfSome (clause_numbered db.now.clauses id) (λ clause. is_forced_by stack.old.literals lit clause ≡ true) }
-    ensures holds { result ≡ true → is_true stack.new.literals lit ≡ true }
-    ensures conflict { result ≡ false → IsConflict stack.new id }
-    ensures kept { (stack.new ≡ stack.old) ⊎ (stack.new ≡ with_literal stack.old lit (Some id)) }
+fn make_true(trail: &mut Trail, db: &Clauses, id: ClauseId, lit: Lit) -> bool
+    requires grown { IsFront trail.old.clauses db.now.clauses }
+    requires attached { Contains trail.old.attached id }
+    requires forced { IfSome (clause_numbered db.now.clauses id) (λ clause. is_forced_by trail.old.literals lit clause ≡ true) }
+    ensures holds { result ≡ true → is_true trail.new.literals lit ≡ true }
+    ensures conflict { result ≡ false → IsConflict trail.new id }
+    ensures kept { (trail.new ≡ trail.old) ⊎ (trail.new ≡ with_literal trail.old lit (Some id)) }
 {
-    let _literals = stack.literals();
-    match stack.value(lit.var) {
+    let _literals = trail.literals();
+    match trail.value(lit.var) {
         Some(value) => value == lit.positive,
         None => {
-            stack.force(db, id, lit);
+            trail.force(db, id, lit);
             true
         }
     }
 }
 
 // A literal of the clause, not the other one that is watched, that no literal up to a place makes false.
-fn replacement(stack: &Stack, clause: &[Lit], other: Lit, place: u32) -> Option<Lit>
-    ensures some { IfSome result (IsReplacement stack.now.literals clause.now other place) }
-    ensures none { IfNone result (list_all (λ l. same_literal other l || is_false (take (place + 1) stack.now.literals) l) clause.now ≡ true) }
+fn replacement(trail: &Trail, clause: &[Lit], other: Lit, place: u32) -> Option<Lit>
+    ensures some { IfSome result (IsReplacement trail.now.literals clause.now other place) }
+    ensures none { IfNone result (list_all (λ l. same_literal other l || is_false (take (place + 1) trail.now.literals) l) clause.now ≡ true) }
 {
     for lit in clause {
-        if *lit != other && !stack.holds_up_to(lit.negated(), place) {
+        if *lit != other && !trail.holds_up_to(lit.negated(), place) {
             return Some(*lit);
         }
     }
@@ -299,17 +299,17 @@ fn replacement(stack: &Stack, clause: &[Lit], other: Lit, place: u32) -> Option<
 
 // Two different literals of a clause, if it has two: rather such as aren't false, and else those that became false last, so that
 // little has to be looked at again.
-fn two_literals(stack: &Stack, clause: &[Lit]) -> Option<(Lit, Lit)>
+fn two_literals(trail: &Trail, clause: &[Lit]) -> Option<(Lit, Lit)>
     ensures two { IfSome result (λ two. AreTwo clause.now two.0 two.1) }
     ensures none { IfNone result (IsNarrow clause.now) }
 {
-    let first = latest(stack, clause, None)?;
-    let second = latest(stack, clause, Some(first))?;
+    let first = latest(trail, clause, None)?;
+    let second = latest(trail, clause, Some(first))?;
     Some((first, second))
 }
 
 // A literal of a clause that isn't false, or else the one that became false last. One literal may be left out.
-fn latest(stack: &Stack, clause: &[Lit], but: Option<Lit>) -> Option<Lit>
+fn latest(trail: &Trail, clause: &[Lit], but: Option<Lit>) -> Option<Lit>
     ensures among { IfSome result (λ l. list_any (same_literal l) clause.now ≡ true) }
     ensures other { IfSome result (λ l. IfSome but (λ b. same_literal b l ≡ false)) }
     ensures empty { IfNone result (IfNone but (clause.now ≡ [])) }
@@ -317,7 +317,7 @@ fn latest(stack: &Stack, clause: &[Lit], but: Option<Lit>) -> Option<Lit>
 {
     let mut best: Option<Lit> = None;
     for lit in clause {
-        if but != Some(*lit) && is_later(stack, best, *lit) {
+        if but != Some(*lit) && is_later(trail, best, *lit) {
             best = Some(*lit);
         }
     }
@@ -325,11 +325,11 @@ fn latest(stack: &Stack, clause: &[Lit], but: Option<Lit>) -> Option<Lit>
 }
 
 // Whether a literal became false later than the best so far.
-fn is_later(stack: &Stack, best: Option<Lit>, lit: Lit) -> bool
+fn is_later(trail: &Trail, best: Option<Lit>, lit: Lit) -> bool
     ensures { IfNone best (result ≡ true) }
 {
     match best {
-        Some(best) => stack.falls(best) < stack.falls(lit),
+        Some(best) => trail.falls(best) < trail.falls(lit),
         None => true,
     }
 }

@@ -113,12 +113,12 @@ rest_sound waiting vars spare t u values s k v = record {
 }
 
 -- a final clause ends a search, where it was put
-pub ended_put : {R E : Type 0} (r : Result ℕ E) (assumed : List Lit) (s : Search R) (t : TrailState) (old new : List BookEntry) (budget : ℕ) → AreOver s.order.waiting s.vars s.spare t old → WithRoom t s.trail → s.spare + 1 ≤ s.trail.spare → IfOk r (IsClosed assumed old new) → IfOk r (λ id. IsEnded assumed s old new budget (Unsat id))
+pub ended_put : {R E : Type 0} (r : Result ℕ E) (assumed : List Lit) (s : Search R) (t : TrailState) (old new : List BookEntry) (budget : ℕ) → AreOver s.order.waiting s.vars s.spare t old → WithRoom t s.propagator → s.spare + 1 ≤ s.propagator.spare → IfOk r (IsClosed assumed old new) → IfOk r (λ id. IsEnded assumed s old new budget (Unsat id))
 ended_put (Ok id) assumed s t old new budget o w room c = record {
-  sound = sound_roomier s.order.waiting s.vars s.spare t s.trail o.sound w;
+  sound = sound_roomier s.order.waiting s.vars s.spare t s.propagator o.sound w;
   put = put_closed assumed old new id c;
   found = refuted_from assumed old new id c;
-  unsettled = unattached_from s.spare t s.trail assumed old new id o.clauses (ap (λ (x : TrailState). x.clauses) w.same) c room;
+  unsettled = unattached_from s.spare t s.propagator assumed old new id o.clauses (ap (λ (x : TrailState). x.clauses) w.same) c room;
 }
 ended_put (Err e) assumed s t old new budget o w room c = tt
 

@@ -103,6 +103,6 @@ answer_from values assumed t book vars spare budget (Unsat number) ts s below u 
 answer_from values assumed t book vars spare budget Spent ts s below u f v = f
 
 -- what was found is an answer where the values of a model are kept
-pub answers_from : {R E : Type 0} (r : Result Answer E) (values : List Bool) (assumed : List Lit) (s : Search R) (old new : List BookEntry) (budget : ℕ) → IsTrailState s.trail → HasValues s.vars assumed → IfOk r (IsEnded assumed s old new budget) → (r ≡ Ok Sat → AreValues values s.trail.literals s.vars) → IfOk r (IsAnswer values new assumed budget)
-answers_from (Ok a) values assumed s old new budget ts below e v = answer_from values assumed s.trail new s.vars s.spare budget a ts e.sound.serving below e.unsettled e.found (λ q. v (ap Ok q))
+pub answers_from : {R E : Type 0} (r : Result Answer E) (values : List Bool) (assumed : List Lit) (s : Search R) (old new : List BookEntry) (budget : ℕ) → IsTrailState s.propagator → HasValues s.vars assumed → IfOk r (IsEnded assumed s old new budget) → (r ≡ Ok Sat → AreValues values s.propagator.literals s.vars) → IfOk r (IsAnswer values new assumed budget)
+answers_from (Ok a) values assumed s old new budget ts below e v = answer_from values assumed s.propagator new s.vars s.spare budget a ts e.sound.serving below e.unsettled e.found (λ q. v (ap Ok q))
 answers_from (Err error) values assumed s old new budget ts below e v = tt

@@ -88,7 +88,7 @@ pub record AreSound (waiting : List Bool) (vars spare : ℕ) (t : TrailState) : 
 
 -- a search is sound, whether it is under way or not
 abbrev pub IsSound : {R : Type 0} → Search R → Type 0
-IsSound s = AreSound s.order.waiting s.vars s.spare s.trail
+IsSound s = AreSound s.order.waiting s.vars s.spare s.propagator
 
 -- they are sound, and the trail's clauses are those of the book
 pub record AreOver (waiting : List Bool) (vars spare : ℕ) (t : TrailState) (book : List BookEntry) : Type 0 where
@@ -97,7 +97,7 @@ pub record AreOver (waiting : List Bool) (vars spare : ℕ) (t : TrailState) (bo
 
 -- a search is sound over a book
 abbrev pub IsOver : {R : Type 0} → Search R → List BookEntry → Type 0
-IsOver s book = AreOver s.order.waiting s.vars s.spare s.trail book
+IsOver s book = AreOver s.order.waiting s.vars s.spare s.propagator book
 
 -- they stand under assumptions, of which the first so many are true
 pub record AreUnderWay (assumed : List Lit) (taken : ℕ) (waiting : List Bool) (vars spare : ℕ) (t : TrailState) (book : List BookEntry) : Type 0 where
@@ -107,14 +107,14 @@ pub record AreUnderWay (assumed : List Lit) (taken : ℕ) (waiting : List Bool) 
 
 -- a search is under way over a book, under its assumptions
 abbrev pub IsUnderWay : {R : Type 0} → List Lit → Search R → List BookEntry → Type 0
-IsUnderWay assumed s book = AreUnderWay assumed s.taken s.order.waiting s.vars s.spare s.trail book
+IsUnderWay assumed s book = AreUnderWay assumed s.taken s.order.waiting s.vars s.spare s.propagator book
 
 -- the variables are as many as before and have the same ranks, and so has the room that is kept
 pub record KeepsVariables {R : Type 0} (old new : Search R) : Type 0 where
   pub order : KeepsRanks old.order new.order
   pub vars : new.vars ≡ old.vars
   pub spare : new.spare ≡ old.spare
-  pub known : new.trail.vars ≡ old.trail.vars
+  pub known : new.propagator.vars ≡ old.propagator.vars
 
 -- one literal more stands on the trail, and there is room for it
 pub record IsLonger (old new : TrailState) : Type 0 where
@@ -137,7 +137,7 @@ pub record AreAtRest (waiting : List Bool) (t : TrailState) (values : List Bool)
 
 -- between two searches
 abbrev pub IsAtRest : {R : Type 0} → Search R → List Bool → Type 0
-IsAtRest s values = AreAtRest s.order.waiting s.trail values s.vars s.spare
+IsAtRest s values = AreAtRest s.order.waiting s.propagator values s.vars s.spare
 
 -- what waited still waits
 abbrev pub KeepsWaiting : List Bool → List Bool → Type 0
@@ -236,5 +236,5 @@ pub record GoesOn {R : Type 0} (assumed : List Lit) (s : Search R) (old new : Li
 pub record IsEnded {R : Type 0} (assumed : List Lit) (s : Search R) (old new : List BookEntry) (budget : ℕ) (answer : Answer) : Type 0 where
   pub sound : IsSound s
   pub put : HasPut old new answer
-  pub found : IsFound assumed s.vars s.trail new budget answer
-  pub unsettled : IsUnsettled s.spare s.trail new answer
+  pub found : IsFound assumed s.vars s.propagator new budget answer
+  pub unsettled : IsUnsettled s.spare s.propagator new answer

@@ -20,15 +20,20 @@ impl<R: Fn(u32) -> u64> Search<R> {
     // Goes back to a level, and lets the variables wait that become open.
     pub fn backtrack(&mut self, level: u32)
         requires sound { IsSound self.old }
-        requires level { level ≤ level_of self.old.trail.reasons }
-        ensures trail { IsKeptUpTo self.old.trail self.new.trail level }
+        requires level { level ≤ level_of self.old.propagator.reasons }
+        ensures trail { IsKeptUpTo self.old.propagator self.new.propagator level }
         ensures sound { IsSound self.new }
         ensures kept { KeepsVariables self.old self.new }
         ensures taken { self.new.taken ≡ 0 }
     {
-        trail_state(&self.trail);
-        release_above(&self.trail, &mut self.order, &mut self.advice, level);
-        self.trail.back_to(level);
+        trail_state(&self.propagator);
+        release_above(
+            self.propagator.trail(),
+            &mut self.order,
+            &mut self.advice,
+            level,
+        );
+        self.propagator.back_to(level);
         self.taken = 0;
     }
 
@@ -39,8 +44,8 @@ impl<R: Fn(u32) -> u64> Search<R> {
         ensures kept { KeepsVariables self.old self.new }
         ensures under_way { (book : List BookEntry) → IsUnderWay assumptions.now self.old book → IsUnderWay assumptions.now self.new book }
     {
-        trail_state(&self.trail);
-        let level = next_level(&self.trail, &mut self.advice, assumptions);
+        trail_state(&self.propagator);
+        let level = next_level(self.propagator.trail(), &mut self.advice, assumptions);
         self.backtrack(level);
     }
 }

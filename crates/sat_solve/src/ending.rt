@@ -15,7 +15,7 @@ use crate::search::Search;
 use des_base::Memory;
 use proof_ledger::Ledger;
 use prop_core::{ClauseId, Lit};
-use sat_prop::Trail;
+use sat_prop::{Propagator, Trail};
 
 // Whether the literal is one of these.
 pub fn contains(literals: &[Lit], lit: Lit) -> bool
@@ -28,7 +28,7 @@ pub fn contains(literals: &[Lit], lit: Lit) -> bool
 pub fn makes_true(trail: &Trail, lit: Lit) -> bool
     ensures { result ≡ is_true trail.now.literals lit }
 {
-    trail_state(trail);
+    let _literals = trail.literals();
     match trail.value(lit.var) {
         Some(value) => value == lit.positive,
         None => false,
@@ -110,12 +110,12 @@ pub fn assumed_level(trail: &Trail, assumptions: &[Lit]) -> u32 {
 }
 
 // What is true of each trail.
-pub fn trail_state(trail: &Trail)
-    ensures state { IsTrailState trail.now }
-    ensures room { length trail.now.literals ≤ trail.now.vars }
-    ensures spare { trail.now.spare < 2 ^ 63 }
+pub fn trail_state(propagator: &Propagator)
+    ensures state { IsTrailState propagator.now }
+    ensures room { length propagator.now.literals ≤ propagator.now.vars }
+    ensures spare { propagator.now.spare < 2 ^ 63 }
 {
-    let _literals = trail.literals();
+    let _literals = propagator.trail().literals();
 }
 
 impl<R: Fn(u32) -> u64> Search<R> {
@@ -127,18 +127,18 @@ impl<R: Fn(u32) -> u64> Search<R> {
         assumptions: &[Lit],
     ) -> Result<ClauseId, Memory>
         requires over { IsOver self.old book.old.entries }
-        requires conflict { IsConflict self.old.trail conflict }
-        requires assumed { AreAssumed self.old.trail assumptions.now (length self.old.trail.literals) }
+        requires conflict { IsConflict self.old.propagator conflict }
+        requires assumed { AreAssumed self.old.propagator assumptions.now (length self.old.propagator.literals) }
         ensures kept { KeepsVariables self.old self.new }
         ensures searched { (budget : ℕ) → IsSearched book.old.entries book.new.entries budget budget }
         ensures ended { (budget : ℕ) → IfOk result (λ id. IsEnded assumptions.now self.new book.old.entries book.new.entries budget (Answer.Unsat id)) }
         ensures err { OnErr result (IsOver self.new book.new.entries) }
     {
-        trail_state(&self.trail);
-        self.trail.reserve_clauses(self.spare + 1)?;
+        trail_state(&self.propagator);
+        self.propagator.reserve_clauses(self.spare + 1)?;
         let learnt = self
             .learner
-            .analyse_final(&self.trail, book.clauses(), conflict)?;
+            .analyse_final(self.propagator.trail(), book.clauses(), conflict)?;
         book.put_final(learnt.clause.as_slice(), learnt.hints.as_slice())
     }
 
@@ -150,18 +150,18 @@ impl<R: Fn(u32) -> u64> Search<R> {
         assumptions: &[Lit],
     ) -> Result<ClauseId, Memory>
         requires under_way { IsUnderWay assumptions.now self.old book.old.entries }
-        requires next { IsNext self.old.trail.literals assumptions.now lit }
-        requires false_now { is_false self.old.trail.literals lit ≡ true }
+        requires next { IsNext self.old.propagator.literals assumptions.now lit }
+        requires false_now { is_false self.old.propagator.literals lit ≡ true }
         ensures kept { KeepsVariables self.old self.new }
         ensures searched { (budget : ℕ) → IsSearched book.old.entries book.new.entries budget budget }
         ensures ended { (budget : ℕ) → IfOk result (λ id. IsEnded assumptions.now self.new book.old.entries book.new.entries budget (Answer.Unsat id)) }
         ensures err { OnErr result (IsOver self.new book.new.entries) }
     {
-        trail_state(&self.trail);
-        self.trail.reserve_clauses(self.spare + 1)?;
+        trail_state(&self.propagator);
+        self.propagator.reserve_clauses(self.spare + 1)?;
         let learnt = self
             .learner
-            .analyse_failed(&self.trail, book.clauses(), lit)?;
+            .analyse_failed(self.propagator.trail(), book.clauses(), lit)?;
         book.put_final(learnt.clause.as_slice(), learnt.hints.as_slice())
     }
 }

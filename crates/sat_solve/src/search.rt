@@ -16,14 +16,14 @@ use proof_ledger::Ledger;
 use prop_core::{ClauseId, Lit};
 use sat_learn::{Learner, Learnt};
 use sat_order::Order;
-use sat_prop::{Propagated, Trail};
+use sat_prop::{Propagated, Propagator, Trail};
 
 // What a search keeps. Its functions are over a book, which has the clauses, assumptions, and a budget of conflicts.
 #[derive(Drop)]
 pub struct Search<R> {
     pub order: Order<R>,
     pub advice: Advice,
-    pub trail: Trail,
+    pub propagator: Propagator,
     pub learner: Learner,
     // So many assumptions are true, from the first on.
     pub taken: usize,
@@ -41,7 +41,7 @@ impl<R: Fn(u32) -> u64> Search<R> {
         budget: &mut u64,
     ) -> Result<Answer, Memory>
         requires over { IsOver self.old book.old.entries }
-        requires under { IsUnder assumptions.now self.old.vars self.old.trail }
+        requires under { IsUnder assumptions.now self.old.vars self.old.propagator }
         ensures searched { IsSearched book.old.entries book.new.entries budget.old budget.new }
         ensures kept { KeepsVariables self.old self.new }
         ensures ended { IfOk result (IsEnded assumptions.now self.new book.old.entries book.new.entries budget.new) }
@@ -66,13 +66,13 @@ impl<R: Fn(u32) -> u64> Search<R> {
         ensures searched { IsSearched book.old.entries book.new.entries budget.old budget.new }
         ensures kept { KeepsVariables self.old self.new }
         ensures goes_on { IfOk result (λ answer. IfNone answer (GoesOn assumptions.now self.new book.old.entries book.new.entries)) }
-        ensures less { IfOk result (λ answer. IfNone answer (to_do budget.new self.new.trail < to_do budget.old self.old.trail)) }
+        ensures less { IfOk result (λ answer. IfNone answer (to_do budget.new self.new.propagator < to_do budget.old self.old.propagator)) }
         ensures ended { IfOk result (λ answer. IfSome answer (IsEnded assumptions.now self.new book.old.entries book.new.entries budget.new)) }
         ensures err { OnErr result (IsOver self.new book.new.entries) }
     {
-        trail_state(&self.trail);
-        let found = self.trail.propagate(book.clauses());
-        trail_state(&self.trail);
+        trail_state(&self.propagator);
+        let found = self.propagator.propagate(book.clauses());
+        trail_state(&self.propagator);
         match found {
             Propagated::Conflict(id) => self.at_conflict(book, id, assumptions, budget),
             Propagated::Quiet => self.at_rest(book, assumptions),
@@ -88,7 +88,7 @@ impl<R: Fn(u32) -> u64> Search<R> {
         budget: &mut u64,
     ) -> Result<Option<Answer>, Memory>
         requires under_way { IsUnderWay assumptions.now self.old book.old.entries }
-        requires conflict { IsConflict self.old.trail conflict }
+        requires conflict { IsConflict self.old.propagator conflict }
         ensures searched { IsSearched book.old.entries book.new.entries budget.old budget.new }
         ensures kept { KeepsVariables self.old self.new }
         ensures goes_on { IfOk result (λ answer. IfNone answer (GoesOn assumptions.now self.new book.old.entries book.new.entries)) }
@@ -96,8 +96,8 @@ impl<R: Fn(u32) -> u64> Search<R> {
         ensures ended { IfOk result (λ answer. IfSome answer (IsEnded assumptions.now self.new book.old.entries book.new.entries budget.new)) }
         ensures err { OnErr result (IsOver self.new book.new.entries) }
     {
-        trail_state(&self.trail);
-        match further_decision(&self.trail, assumptions) {
+        trail_state(&self.propagator);
+        match further_decision(self.propagator.trail(), assumptions) {
             None => {
                 let last = self.refute(book, conflict, assumptions)?;
                 Ok(Some(Answer::Unsat(last)))
@@ -120,56 +120,60 @@ impl<R: Fn(u32) -> u64> Search<R> {
         budget: &mut u64,
     ) -> Result<(), Memory>
         requires under_way { IsUnderWay assumptions.now self.old book.old.entries }
-        requires conflict { IsConflict self.old.trail conflict }
-        requires decided { 0 < level_of self.old.trail.reasons }
+        requires conflict { IsConflict self.old.propagator conflict }
+        requires decided { 0 < level_of self.old.propagator.reasons }
         requires some { 0 < budget.old }
         ensures under_way { IsUnderWay assumptions.now self.new book.new.entries }
         ensures kept { KeepsVariables self.old self.new }
         ensures searched { IsSearched book.old.entries book.new.entries budget.old budget.new }
         ensures learnt { OnOk result (LearnsOne book.old.entries book.new.entries budget.old budget.new) }
     {
-        trail_state(&self.trail);
-        self.trail.reserve_clauses(self.spare + 1)?;
-        let learnt = self.learner.analyse(&self.trail, book.clauses(), conflict)?;
+        trail_state(&self.propagator);
+        self.propagator.reserve_clauses(self.spare + 1)?;
+        let learnt = self
+            .learner
+            .analyse(self.propagator.trail(), book.clauses(), conflict)?;
         let id = book.put_learnt(learnt.clause.as_slice(), learnt.hints.as_slice())?;
         *budget -= 1;
         note(
-            &self.trail,
+            self.propagator.trail(),
             &mut self.advice,
             book,
             &learnt,
             self.order.ranks(),
         );
         self.backtrack(learnt.level);
-        self.trail.attach(book.clauses(), id);
+        self.propagator.attach(book.clauses(), id);
         Ok(())
     }
 
     // What is done where propagation has nothing to do.
     fn at_rest(&mut self, book: &mut Ledger, assumptions: &[Lit]) -> Result<Option<Answer>, Memory>
         requires under_way { IsUnderWay assumptions.now self.old book.old.entries }
-        requires quiet { AreQuiet self.old.trail.clauses self.old.trail.attached self.old.trail.literals }
+        requires quiet { AreQuiet self.old.propagator.clauses self.old.propagator.attached self.old.propagator.literals }
         ensures searched { (budget : ℕ) → IsSearched book.old.entries book.new.entries budget budget }
         ensures kept { KeepsVariables self.old self.new }
         ensures goes_on { IfOk result (λ answer. IfNone answer (GoesOn assumptions.now self.new book.old.entries book.new.entries)) }
-        ensures decided { IfOk result (λ answer. IfNone answer (IsLonger self.old.trail self.new.trail)) }
+        ensures decided { IfOk result (λ answer. IfNone answer (IsLonger self.old.propagator self.new.propagator)) }
         ensures ended { (budget : ℕ) → IfOk result (λ answer. IfSome answer (IsEnded assumptions.now self.new book.old.entries book.new.entries budget)) }
         ensures err { OnErr result (IsOver self.new book.new.entries) }
     {
-        trail_state(&self.trail);
-        match next_assumption(&self.trail, assumptions, &mut self.taken) {
-            Some(lit) if makes_true(&self.trail, lit.negated()) => {
+        trail_state(&self.propagator);
+        let trail = self.propagator.trail();
+        match next_assumption(trail, assumptions, &mut self.taken) {
+            Some(lit) if makes_true(trail, lit.negated()) => {
                 let last = self.dismiss(book, lit, assumptions)?;
                 Ok(Some(Answer::Unsat(last)))
             }
             Some(lit) => {
-                self.trail.decide(lit);
+                self.propagator.decide(lit);
                 Ok(None)
             }
-            None => match pick(&self.trail, &mut self.order, &mut self.advice) {
+            None => match pick(trail, &mut self.order, &mut self.advice) {
                 None => Ok(Some(Answer::Sat)),
                 Some(var) => {
-                    self.trail.decide(Lit::new(var, self.advice.phase(var)));
+                    self.propagator
+                        .decide(Lit::new(var, self.advice.phase(var)));
                     Ok(None)
                 }
             },

@@ -20,12 +20,12 @@ impl<R: Fn(u32) -> u64> Search<R> {
         assignment: &mut Assignment,
     )
         requires sound { IsSound self.old }
-        requires unsettled { MatchResult found.now (IsUnsettled self.old.spare self.old.trail book.now.entries) (λ memory. self.old.trail.clauses ≡ clauses_of book.now.entries) }
+        requires unsettled { MatchResult found.now (IsUnsettled self.old.spare self.old.propagator book.now.entries) (λ memory. self.old.propagator.clauses ≡ clauses_of book.now.entries) }
         requires enough { self.old.vars ≤ length assignment.old }
         ensures rest { IsAtRest self.new assignment.new }
-        ensures clauses { self.new.trail.clauses ≡ clauses_of book.now.entries }
+        ensures clauses { self.new.propagator.clauses ≡ clauses_of book.now.entries }
         ensures kept { KeepsVariables self.old self.new }
-        ensures values { found.now ≡ Ok Answer.Sat → AreValues assignment.new self.old.trail.literals self.old.vars }
+        ensures values { found.now ≡ Ok Answer.Sat → AreValues assignment.new self.old.propagator.literals self.old.vars }
     {
         match found {
             Ok(answer) => self.conclude(book, *answer, assignment),
@@ -35,22 +35,22 @@ impl<R: Fn(u32) -> u64> Search<R> {
 
     fn conclude(&mut self, book: &Ledger, answer: Answer, assignment: &mut Assignment)
         requires sound { IsSound self.old }
-        requires unsettled { IsUnsettled self.old.spare self.old.trail book.now.entries answer }
+        requires unsettled { IsUnsettled self.old.spare self.old.propagator book.now.entries answer }
         requires enough { self.old.vars ≤ length assignment.old }
         ensures rest { IsAtRest self.new assignment.new }
-        ensures clauses { self.new.trail.clauses ≡ clauses_of book.now.entries }
+        ensures clauses { self.new.propagator.clauses ≡ clauses_of book.now.entries }
         ensures kept { KeepsVariables self.old self.new }
-        ensures values { answer ≡ Answer.Sat → AreValues assignment.new self.old.trail.literals self.old.vars }
+        ensures values { answer ≡ Answer.Sat → AreValues assignment.new self.old.propagator.literals self.old.vars }
     {
         match answer {
             Answer::Sat => {
-                keep_values(&self.trail, self.vars, assignment);
+                keep_values(self.propagator.trail(), self.vars, assignment);
                 self.backtrack(0);
             }
             Answer::Spent => self.backtrack(0),
             Answer::Unsat(id) => {
                 self.backtrack(0);
-                self.trail.attach(book.clauses(), id);
+                self.propagator.attach(book.clauses(), id);
             }
         }
     }

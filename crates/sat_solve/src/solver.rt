@@ -17,7 +17,7 @@ use proof_ledger::Ledger;
 use prop_core::{Assignment, ClauseId, Lit};
 use sat_learn::Learner;
 use sat_order::Order;
-use sat_prop::Trail;
+use sat_prop::Propagator;
 use std::alloc::Global;
 use std::marker::Model;
 
@@ -38,11 +38,11 @@ impl<R> Model for Solver<R> {
 
     ghost Value = { SolverState R };
 
-    ghost view = { λ a. record { order = a.search.order; adopted = a.search.trail.clauses; assignment = a.assignment; vars = a.search.vars; spare = a.search.spare } };
+    ghost view = { λ a. record { order = a.search.order; adopted = a.search.propagator.clauses; assignment = a.assignment; vars = a.search.vars; spare = a.search.spare } };
 
     ghost invariant = { λ a. record {
       rest : IsAtRest a.search a.assignment;
-      adopted : a.clauses ≡ length a.search.trail.clauses;
+      adopted : a.clauses ≡ length a.search.propagator.clauses;
     } };
 }
 
@@ -56,7 +56,7 @@ impl<R: Fn(u32) -> u64> Solver<R> {
             search: Search {
                 order,
                 advice: Advice::new(alloc),
-                trail: Trail::new(alloc),
+                propagator: Propagator::new(alloc),
                 learner: Learner::new(alloc),
                 taken: 0,
                 vars: 0,
@@ -85,9 +85,9 @@ impl<R: Fn(u32) -> u64> Solver<R> {
     {
         self.search.advice.widen(vars)?;
         self.search
-            .trail
+            .propagator
             .reserve_clauses(self.search.spare.max(clauses))?;
-        self.search.trail.grow(vars)?;
+        self.search.propagator.grow(vars)?;
         self.search.learner.grow(vars)?;
         self.assignment.grow(vars)?;
         self.search.order.grow(vars)?;
@@ -104,9 +104,9 @@ impl<R: Fn(u32) -> u64> Solver<R> {
         ensures value { self.new ≡ record self.old { adopted = clauses_of book.now.entries; spare = self.old.spare + length self.old.adopted - length (clauses_of book.now.entries) } }
     {
         let clauses = book.clauses();
-        trail_state(&self.search.trail);
+        trail_state(&self.search.propagator);
         for before in self.clauses..clauses.len() {
-            self.search.trail.attach(clauses, ClauseId(before + 1));
+            self.search.propagator.attach(clauses, ClauseId(before + 1));
         }
         self.search.spare -= (clauses.len() - self.clauses) as usize;
         self.clauses = clauses.len();
@@ -129,9 +129,9 @@ impl<R: Fn(u32) -> u64> Solver<R> {
         ensures adopted { self.new.adopted ≡ clauses_of book.new.entries }
         ensures kept { KeepsSize self.old self.new }
     {
-        trail_state(&self.search.trail);
+        trail_state(&self.search.propagator);
         let found = self.search.run(book, assumptions, budget);
-        trail_state(&self.search.trail);
+        trail_state(&self.search.propagator);
         self.search.settle(book, &found, &mut self.assignment);
         self.clauses = book.clauses().len();
         found

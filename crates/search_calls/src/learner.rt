@@ -7,19 +7,19 @@ ghost use Rattle.sat_prop.specs.Changes.{IsFront};
 use crate::ample::got;
 use prop_core::{ClauseId, Clauses, Lit};
 use sat_learn::{Learner, Learnt};
-use sat_prop::{Propagated, Trail};
+use sat_prop::{Propagated, Propagator, Trail};
 use std::alloc::Global;
 use std::process::Abort;
 
 // Decides that 1 is true where nothing is left to do.
-fn decide_one(trail: &mut Trail, db: &Clauses)
-    requires front { IsFront trail.old.clauses db.now.clauses }
-    requires known { 1 < trail.old.vars }
-    ensures clauses { trail.new.clauses ≡ trail.old.clauses }
+fn decide_one(propagator: &mut Propagator, db: &Clauses)
+    requires front { IsFront propagator.old.clauses db.now.clauses }
+    requires known { 1 < propagator.old.vars }
+    ensures clauses { propagator.new.clauses ≡ propagator.old.clauses }
 {
-    if let Propagated::Quiet = trail.propagate(db) {
-        if trail.value(1).is_none() {
-            trail.decide(Lit::new(1, true));
+    if let Propagated::Quiet = propagator.propagate(db) {
+        if propagator.trail().value(1).is_none() {
+            propagator.decide(Lit::new(1, true));
         }
     }
 }
@@ -32,44 +32,44 @@ fn is_not_one(learnt: &Learnt, hints: &[ClauseId]) -> bool {
 }
 
 // Attaches three clauses of three variables, where nothing is there yet.
-fn attach_three(rt: &impl Abort, trail: &mut Trail, db: &mut Clauses)
-    requires new { trail.old ≡ record { clauses = []; attached = []; literals = []; reasons = []; vars = 0; spare = 0 } }
+fn attach_three(rt: &impl Abort, propagator: &mut Propagator, db: &mut Clauses)
+    requires new { propagator.old ≡ record { clauses = []; attached = []; literals = []; reasons = []; vars = 0; spare = 0 } }
     requires empty { db.old.clauses ≡ [] }
-    ensures front { IsFront trail.new.clauses db.new.clauses }
-    ensures vars { trail.new.vars ≡ 3 }
+    ensures front { IsFront propagator.new.clauses db.new.clauses }
+    ensures vars { propagator.new.vars ≡ 3 }
 {
-    got(rt, trail.grow(3));
-    got(rt, trail.reserve_clauses(3));
+    got(rt, propagator.grow(3));
+    got(rt, propagator.reserve_clauses(3));
     got(rt, db.push(&[Lit::new(1, false), Lit::new(2, true)]));
     let all = [Lit::new(1, false), Lit::new(2, false), Lit::new(0, true)];
     got(rt, db.push(&all));
     got(rt, db.push(&[Lit::new(2, false), Lit::new(0, false)]));
-    trail.attach(db, ClauseId(1));
-    trail.attach(db, ClauseId(2));
-    trail.attach(db, ClauseId(3));
+    propagator.attach(db, ClauseId(1));
+    propagator.attach(db, ClauseId(2));
+    propagator.attach(db, ClauseId(3));
 }
 
 #[test]
 fn learns_and_closes(rt: HostRuntime) {
     let mut db = Clauses::new(rt.alloc());
-    let mut trail = Trail::new(rt.alloc());
-    attach_three(&rt, &mut trail, &mut db);
-    decide_one(&mut trail, &db);
-    assert!(rt; learns_both(rt.alloc(), &mut trail, &db));
+    let mut propagator = Propagator::new(rt.alloc());
+    attach_three(&rt, &mut propagator, &mut db);
+    decide_one(&mut propagator, &db);
+    assert!(rt; learns_both(rt.alloc(), &mut propagator, &db));
 }
 
 // Whether the third clause becomes false, and the negated decision is learnt and closes.
-fn learns_both(alloc: Global, trail: &mut Trail, db: &Clauses) -> bool
-    requires front { IsFront trail.old.clauses db.now.clauses }
+fn learns_both(alloc: Global, propagator: &mut Propagator, db: &Clauses) -> bool
+    requires front { IsFront propagator.old.clauses db.now.clauses }
 {
     let hints = [ClauseId(1), ClauseId(2), ClauseId(3)];
-    match trail.propagate(db) {
+    match propagator.propagate(db) {
         Propagated::Quiet => false,
         Propagated::Conflict(conflict) => {
             conflict == ClauseId(3)
-                && trail.level() > 0
-                && learns(alloc, trail, db, conflict, &hints)
-                && closes(alloc, trail, db, conflict, &hints)
+                && propagator.trail().level() > 0
+                && learns(alloc, propagator.trail(), db, conflict, &hints)
+                && closes(alloc, propagator.trail(), db, conflict, &hints)
         }
     }
 }

@@ -6,34 +6,34 @@ ghost use Rattle.sat_prop.specs.Changes.{IsFront};
 use crate::ample::got;
 use des_base::VAR_LIMIT;
 use prop_core::{ClauseId, Clauses, Lit};
-use sat_prop::{Propagated, Trail};
+use sat_prop::{Propagated, Propagator, Trail};
 use std::process::Abort;
 
 // Decides a literal where nothing is left to do, and says whether then nothing is left to do.
-fn rests_after(trail: &mut Trail, db: &Clauses, lit: Lit) -> bool
-    requires front { IsFront trail.old.clauses db.now.clauses }
-    requires known { lit.var < trail.old.vars }
-    ensures clauses { trail.new.clauses ≡ trail.old.clauses }
-    ensures vars { trail.new.vars ≡ trail.old.vars }
+fn rests_after(propagator: &mut Propagator, db: &Clauses, lit: Lit) -> bool
+    requires front { IsFront propagator.old.clauses db.now.clauses }
+    requires known { lit.var < propagator.old.vars }
+    ensures clauses { propagator.new.clauses ≡ propagator.old.clauses }
+    ensures vars { propagator.new.vars ≡ propagator.old.vars }
 {
-    if let Propagated::Quiet = trail.propagate(db) {
-        if trail.value(lit.var).is_none() {
-            trail.decide(lit);
+    if let Propagated::Quiet = propagator.propagate(db) {
+        if propagator.trail().value(lit.var).is_none() {
+            propagator.decide(lit);
         }
     }
-    matches!(trail.propagate(db), Propagated::Quiet)
+    matches!(propagator.propagate(db), Propagated::Quiet)
 }
 
 // Goes back to a level, if there is one, and says whether nothing is left to do there.
-fn rests_at(trail: &mut Trail, db: &Clauses, level: u32) -> bool
-    requires front { IsFront trail.old.clauses db.now.clauses }
-    ensures clauses { trail.new.clauses ≡ trail.old.clauses }
-    ensures vars { trail.new.vars ≡ trail.old.vars }
+fn rests_at(propagator: &mut Propagator, db: &Clauses, level: u32) -> bool
+    requires front { IsFront propagator.old.clauses db.now.clauses }
+    ensures clauses { propagator.new.clauses ≡ propagator.old.clauses }
+    ensures vars { propagator.new.vars ≡ propagator.old.vars }
 {
-    if level <= trail.level() {
-        trail.back_to(level);
+    if level <= propagator.trail().level() {
+        propagator.back_to(level);
     }
-    matches!(trail.propagate(db), Propagated::Quiet)
+    matches!(propagator.propagate(db), Propagated::Quiet)
 }
 
 // Whether the trail has the decision of 1 and what two clauses force by it.
@@ -64,56 +64,66 @@ fn are_on_one_level(trail: &Trail, count: u32) -> bool {
 // Makes so many variables and attaches two clauses, where nothing is there yet.
 fn attach_two(
     rt: &impl Abort,
-    trail: &mut Trail,
+    propagator: &mut Propagator,
     db: &mut Clauses,
     vars: u32,
     first: &[Lit],
     second: &[Lit],
 )
-    requires new { trail.old ≡ record { clauses = []; attached = []; literals = []; reasons = []; vars = 0; spare = 0 } }
+    requires new { propagator.old ≡ record { clauses = []; attached = []; literals = []; reasons = []; vars = 0; spare = 0 } }
     requires empty { db.old.clauses ≡ [] }
     requires limit { vars ≤ VAR_LIMIT }
     requires first { HasValues vars first.now }
     requires second { HasValues vars second.now }
-    ensures front { IsFront trail.new.clauses db.new.clauses }
-    ensures vars { trail.new.vars ≡ vars }
+    ensures front { IsFront propagator.new.clauses db.new.clauses }
+    ensures vars { propagator.new.vars ≡ vars }
 {
-    got(rt, trail.grow(vars));
-    got(rt, trail.reserve_clauses(2));
+    got(rt, propagator.grow(vars));
+    got(rt, propagator.reserve_clauses(2));
     got(rt, db.push(first));
     got(rt, db.push(second));
-    trail.attach(db, ClauseId(1));
-    trail.attach(db, ClauseId(2));
+    propagator.attach(db, ClauseId(1));
+    propagator.attach(db, ClauseId(2));
 }
 
 #[test]
 fn propagates_and_goes_back(rt: HostRuntime) {
     let mut db = Clauses::new(rt.alloc());
-    let mut trail = Trail::new(rt.alloc());
+    let mut propagator = Propagator::new(rt.alloc());
     let two = [Lit::new(1, false), Lit::new(2, true)];
     let repeated = [Lit::new(3, false), Lit::new(2, false), Lit::new(3, false)];
-    attach_two(&rt, &mut trail, &mut db, 5, &two, &repeated);
-    assert!(rt; rests_at(&mut trail, &db, 0));
-    assert!(rt; rests_after(&mut trail, &db, Lit::new(1, true)));
-    assert!(rt; are_forced(&trail, ClauseId(1), ClauseId(2)) && are_on_one_level(&trail, 3));
-    assert!(rt; trail.level() == 1 && trail.last_decision() == 0);
-    trail.back_to(0);
-    assert!(rt; trail.len() == 0);
+    attach_two(&rt, &mut propagator, &mut db, 5, &two, &repeated);
+    assert!(rt; rests_at(&mut propagator, &db, 0));
+    assert!(rt; rests_after(&mut propagator, &db, Lit::new(1, true)));
+    assert!(rt;
+        are_forced(propagator.trail(), ClauseId(1), ClauseId(2))
+            && are_on_one_level(propagator.trail(), 3)
+    );
+    assert!(rt; propagator.trail().level() == 1 && propagator.trail().last_decision() == 0);
+    propagator.back_to(0);
+    assert!(rt; propagator.trail().len() == 0);
 }
 
 #[test]
 fn finds_a_conflict(rt: HostRuntime) {
     let mut db = Clauses::new(rt.alloc());
-    let mut trail = Trail::new(rt.alloc());
+    let mut propagator = Propagator::new(rt.alloc());
     let yes = [Lit::new(0, true)];
-    attach_two(&rt, &mut trail, &mut db, 1, &yes, &[Lit::new(0, false)]);
-    assert!(rt; matches!(trail.propagate(&db), Propagated::Conflict(ClauseId(2))));
+    attach_two(
+        &rt,
+        &mut propagator,
+        &mut db,
+        1,
+        &yes,
+        &[Lit::new(0, false)],
+    );
+    assert!(rt; matches!(propagator.propagate(&db), Propagated::Conflict(ClauseId(2))));
 }
 
 #[test]
 fn looks_again_after_going_back(rt: HostRuntime) {
     let mut db = Clauses::new(rt.alloc());
-    let mut trail = Trail::new(rt.alloc());
+    let mut propagator = Propagator::new(rt.alloc());
     let three = [Lit::new(0, true), Lit::new(1, true), Lit::new(2, true)];
     let four = [
         Lit::new(2, false),
@@ -121,34 +131,44 @@ fn looks_again_after_going_back(rt: HostRuntime) {
         Lit::new(3, true),
         Lit::new(4, true),
     ];
-    attach_two(&rt, &mut trail, &mut db, 5, &three, &four);
-    looks_at_both(&rt, &mut trail, &db, ClauseId(1), ClauseId(2));
-    looks_again(&rt, &mut trail, &db, ClauseId(1));
+    attach_two(&rt, &mut propagator, &mut db, 5, &three, &four);
+    looks_at_both(&rt, &mut propagator, &db, ClauseId(1), ClauseId(2));
+    looks_again(&rt, &mut propagator, &db, ClauseId(1));
 }
 
 // Each literal of three that becomes false lets the last one be forced, whichever it is.
-fn looks_at_both(rt: &impl Abort, trail: &mut Trail, db: &Clauses, three: ClauseId, four: ClauseId)
-    requires front { IsFront trail.old.clauses db.now.clauses }
-    requires known { 4 < trail.old.vars }
-    ensures clauses { trail.new.clauses ≡ trail.old.clauses }
-    ensures vars { trail.new.vars ≡ trail.old.vars }
+fn looks_at_both(
+    rt: &impl Abort,
+    propagator: &mut Propagator,
+    db: &Clauses,
+    three: ClauseId,
+    four: ClauseId,
+)
+    requires front { IsFront propagator.old.clauses db.now.clauses }
+    requires known { 4 < propagator.old.vars }
+    ensures clauses { propagator.new.clauses ≡ propagator.old.clauses }
+    ensures vars { propagator.new.vars ≡ propagator.old.vars }
 {
-    assert!(rt; rests_after(trail, db, Lit::new(0, false)) && trail.len() == 1);
-    assert!(rt; rests_after(trail, db, Lit::new(1, false)));
-    assert!(rt; trail.reason(2) == Some(three));
-    assert!(rt; rests_after(trail, db, Lit::new(4, false)));
-    assert!(rt; trail.value(3) == Some(true) && trail.reason(3) == Some(four));
+    assert!(rt; rests_after(propagator, db, Lit::new(0, false)) && propagator.trail().len() == 1);
+    assert!(rt; rests_after(propagator, db, Lit::new(1, false)));
+    assert!(rt; propagator.trail().reason(2) == Some(three));
+    assert!(rt; rests_after(propagator, db, Lit::new(4, false)));
+    assert!(rt;
+        propagator.trail().value(3) == Some(true) && propagator.trail().reason(3) == Some(four)
+    );
 }
 
-fn looks_again(rt: &impl Abort, trail: &mut Trail, db: &Clauses, three: ClauseId)
-    requires front { IsFront trail.old.clauses db.now.clauses }
-    requires known { 4 < trail.old.vars }
+fn looks_again(rt: &impl Abort, propagator: &mut Propagator, db: &Clauses, three: ClauseId)
+    requires front { IsFront propagator.old.clauses db.now.clauses }
+    requires known { 4 < propagator.old.vars }
 {
-    assert!(rt; rests_at(trail, db, 1) && trail.len() == 1);
-    assert!(rt; rests_after(trail, db, Lit::new(2, false)));
-    assert!(rt; trail.reason(1) == Some(three) && trail.value(3).is_none());
-    assert!(rt; rests_at(trail, db, 0));
-    assert!(rt; rests_after(trail, db, Lit::new(1, false)));
-    assert!(rt; rests_after(trail, db, Lit::new(2, false)));
-    assert!(rt; trail.reason(0) == Some(three));
+    assert!(rt; rests_at(propagator, db, 1) && propagator.trail().len() == 1);
+    assert!(rt; rests_after(propagator, db, Lit::new(2, false)));
+    assert!(rt;
+        propagator.trail().reason(1) == Some(three) && propagator.trail().value(3).is_none()
+    );
+    assert!(rt; rests_at(propagator, db, 0));
+    assert!(rt; rests_after(propagator, db, Lit::new(1, false)));
+    assert!(rt; rests_after(propagator, db, Lit::new(2, false)));
+    assert!(rt; propagator.trail().reason(0) == Some(three));
 }

@@ -12,40 +12,40 @@ use Rattle.sat_prop.proofs.watched.Watched.attach.Goals as goal
 
 pub add-requires-clause-first : goal.add-requires-clause-first
 add-requires-clause-first c =
-    let wa = subst (λ (s : WatchedState). AreWatched c.args.stack.now s) (sym c.self.view_is) c.requires.watched in
-    let known = subst (λ (o : Option Clause). IfSome o (HasValues c.args.stack.now.vars)) c.clause.ensures c.requires.known in
-    let b = below_at c.args.stack.now.vars c.clause.result.now c.in-Some.first known c.in-Some.ensures.two.first_among in
+    let wa = subst (λ (s : WatchedState). AreWatched c.args.trail.now s) (sym c.self.view_is) c.requires.watched in
+    let known = subst (λ (o : Option Clause). IfSome o (HasValues c.args.trail.now.vars)) c.clause.ensures c.requires.known in
+    let b = below_at c.args.trail.now.vars c.clause.result.now c.in-Some.first known c.in-Some.ensures.two.first_among in
     let v = wa.vars in
     omega arith
 
 pub add-requires-clause-second : goal.add-requires-clause-second
 add-requires-clause-second c =
-    let wa = subst (λ (s : WatchedState). AreWatched c.args.stack.now s) (sym c.self.view_is) c.requires.watched in
-    let known = subst (λ (o : Option Clause). IfSome o (HasValues c.args.stack.now.vars)) c.clause.ensures c.requires.known in
-    let b = below_at c.args.stack.now.vars c.clause.result.now c.in-Some.second known c.in-Some.ensures.two.second_among in
+    let wa = subst (λ (s : WatchedState). AreWatched c.args.trail.now s) (sym c.self.view_is) c.requires.watched in
+    let known = subst (λ (o : Option Clause). IfSome o (HasValues c.args.trail.now.vars)) c.clause.ensures c.requires.known in
+    let b = below_at c.args.trail.now.vars c.clause.result.now c.in-Some.second known c.in-Some.ensures.two.second_among in
     let v = wa.vars in
     omega arith
 
 pub returns-in-Some : goal.returns-in-Some
 returns-in-Some c =
     let w : WatchedState = record { short = c.self.inside.short.items; spare = c.self.inside.spare; lists = c.self.inside.lists; seen = c.self.inside.seen } in
-    let wa : AreWatched c.args.stack.now w = subst (λ (s : WatchedState). AreWatched c.args.stack.now s) (sym c.self.view_is) c.requires.watched in
+    let wa : AreWatched c.args.trail.now w = subst (λ (s : WatchedState). AreWatched c.args.trail.now s) (sym c.self.view_is) c.requires.watched in
     let m = c.min-self-inside.ensures in
     let k = c.min-falls.ensures in
     let front = wa.front in
     let fewer : c.min-self-inside.result ≤ c.self.inside.seen = grind (arith, common_steps) in
     let first : c.min-self-inside.result ≤ c.falls.result = grind (arith, common_steps) in
     let second : c.min-self-inside.result ≤ c.falls-in-Some.result = grind (arith, common_steps) in
-    subst (λ (s : WatchState). AreWatched (with_clause c.args.stack.now c.args.db.now.clauses c.args.id) (record w { lists = s; seen = c.min-self-inside.result })) (sym (c.add.ensures ∙ ap (λ (n : ℕ). with_pair w.lists n c.in-Some.first c.in-Some.second) c.number.ensures))
-    (watch_attached c.args.stack.now w c.args.db.now.clauses c.args.id c.clause.result.now c.in-Some.first c.in-Some.second c.min-self-inside.result c.requires.grown c.requires.room wa c.clause.ensures c.in-Some.ensures.two fewer
+    subst (λ (s : WatchState). AreWatched (with_clause c.args.trail.now c.args.db.now.clauses c.args.id) (record w { lists = s; seen = c.min-self-inside.result })) (sym (c.add.ensures ∙ ap (λ (n : ℕ). with_pair w.lists n c.in-Some.first c.in-Some.second) c.number.ensures))
+    (watch_attached c.args.trail.now w c.args.db.now.clauses c.args.id c.clause.result.now c.in-Some.first c.in-Some.second c.min-self-inside.result c.requires.grown c.requires.room wa c.clause.ensures c.in-Some.ensures.two fewer
     (λ place h e. c.falls.ensures place (omega arith) (omega arith) e)
     (λ place h e. c.falls-in-Some.ensures place (omega arith) (omega arith) e))
 
 pub returns-in-None : goal.returns-in-None
 returns-in-None c =
     let w : WatchedState = record { short = c.self.inside.short.items; spare = c.self.inside.spare; lists = c.self.inside.lists; seen = c.self.inside.seen } in
-    let wa : AreWatched c.args.stack.now w = subst (λ (s : WatchedState). AreWatched c.args.stack.now s) (sym c.self.view_is) c.requires.watched in
+    let wa : AreWatched c.args.trail.now w = subst (λ (s : WatchedState). AreWatched c.args.trail.now s) (sym c.self.view_is) c.requires.watched in
     let u = c.unwrap.ensures in
     let e : c.push.new.self.items ≡ c.self.inside.short.items ++ c.args.id ∷ [] = let a = c.push.ensures.items in grind (arith, common_steps) in
-    subst (λ (xs : List ℕ). AreWatched (with_clause c.args.stack.now c.args.db.now.clauses c.args.id) (record w { short = xs; spare = c.self.inside.spare - 1 })) (sym e)
-    (short_attached c.args.stack.now w c.args.db.now.clauses c.args.id c.requires.grown c.requires.room wa (record { clause = c.clause.result.now; held = c.clause.ensures; narrow = c.in-None.ensures.none }))
+    subst (λ (xs : List ℕ). AreWatched (with_clause c.args.trail.now c.args.db.now.clauses c.args.id) (record w { short = xs; spare = c.self.inside.spare - 1 })) (sym e)
+    (short_attached c.args.trail.now w c.args.db.now.clauses c.args.id c.requires.grown c.requires.room wa (record { clause = c.clause.result.now; held = c.clause.ensures; narrow = c.in-None.ensures.none }))

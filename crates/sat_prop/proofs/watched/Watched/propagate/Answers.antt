@@ -9,27 +9,27 @@ pub returns-then-len-before-clause-outcome : goal.returns-then-len-before-clause
 returns-then-len-before-clause-outcome c =
     let one = c.visit_short.ensures in
     let two = c.visit_watched.ensures in
-    let a = front_length c.more.stack.literals c.visit_short.new.stack.literals one.grown.literals in
-    let b = front_length c.visit_short.new.stack.literals c.visit_watched.new.stack.literals two.grown.literals in
+    let a = front_length c.more.trail.literals c.visit_short.new.trail.literals one.grown.literals in
+    let b = front_length c.visit_short.new.trail.literals c.visit_watched.new.trail.literals two.grown.literals in
     let t = c.if-len-before.true in
     let n = c.len.ensures in
     let m = c.len-before.ensures in
     let q = c.in_default.ensures.quiet (omega arith) in
-    let same = same_front c.visit_short.new.stack.literals c.visit_watched.new.stack.literals two.grown.literals (omega arith) in
-    watched_quiet c.visit_watched.new.stack c.visit_watched.new.self (justified_consistent _ _ _ _ _ c.literals-literals.ensures.state.justified) two.watched c.in_default-visit_watched.ensures.all
+    let same = same_front c.visit_short.new.trail.literals c.visit_watched.new.trail.literals two.grown.literals (omega arith) in
+    watched_quiet c.visit_watched.new.trail c.visit_watched.new.self (justified_consistent _ _ _ _ _ c.literals-literals.ensures.state.justified) two.watched c.in_default-visit_watched.ensures.all
     (rw (two.grown.clauses, two.short, same) q)
 
 pub more-smaller : goal.more-smaller
 more-smaller c =
     let one = c.visit_short.ensures.grown in
     let two = c.visit_watched.ensures.grown in
-    let a = front_length c.more.stack.literals c.visit_short.new.stack.literals one.literals in
-    let b = front_length c.visit_short.new.stack.literals c.visit_watched.new.stack.literals two.literals in
+    let a = front_length c.more.trail.literals c.visit_short.new.trail.literals one.literals in
+    let b = front_length c.visit_short.new.trail.literals c.visit_watched.new.trail.literals two.literals in
     let f = c.if-len-before.false in
     let n = c.len.ensures in
     let m = c.len-before.ensures in
     let v = one.vars in
     let w = two.vars in
     let room = c.literals-literals.ensures.room in
-    let longer : length c.more.stack.literals ≡ length c.visit_watched.new.stack.literals → ⊥ = λ e. f (n ∙ sym e ∙ sym m) in
+    let longer : length c.more.trail.literals ≡ length c.visit_watched.new.trail.literals → ⊥ = λ e. f (n ∙ sym e ∙ sym m) in
     grind arith

@@ -5,9 +5,9 @@ use Rattle.sat_prop.proofs.watched.Watched.propagate.Given as goal
 
 abbrev pub invariant-more : goal.invariant-more
 invariant-more l = record {
-  watched : AreWatched l.stack l.self;
-  grown : Propagates l.fn.stack l.stack;
+  watched : AreWatched l.trail l.self;
+  grown : Propagates l.fn.trail l.trail;
 }
 
 abbrev pub decreases-more : goal.decreases-more
-decreases-more l = l.stack.vars - length l.stack.literals
+decreases-more l = l.trail.vars - length l.trail.literals

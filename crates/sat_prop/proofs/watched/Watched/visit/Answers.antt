@@ -11,38 +11,38 @@ use Rattle.sat_prop.proofs.watched.Watched.visit.Goals as goal
 
 pub open-requires : goal.open-requires
 open-requires c =
-    let wa = subst (λ (s : WatchedState). AreWatched c.args.stack.now s) (sym c.self.view_is) c.requires.visiting.watched in
-    let within = subst (λ (s : WatchedState). s.seen < length c.args.stack.now.literals) (sym c.self.view_is) c.requires.visiting.within in
-    let falls = subst (λ (s : WatchedState). literal_at c.args.stack.now.literals s.seen ≡ negation c.args.lit) (sym c.self.view_is) c.requires.visiting.falls in
-    let k = at_known c.args.stack.now c.self.inside.seen c.literals-literals.ensures.state within in
-    let e : (literal_at c.args.stack.now.literals c.self.inside.seen).var ≡ c.args.lit.var = ap (λ (l : Lit). l.var) falls in
+    let wa = subst (λ (s : WatchedState). AreWatched c.args.trail.now s) (sym c.self.view_is) c.requires.visiting.watched in
+    let within = subst (λ (s : WatchedState). s.seen < length c.args.trail.now.literals) (sym c.self.view_is) c.requires.visiting.within in
+    let falls = subst (λ (s : WatchedState). literal_at c.args.trail.now.literals s.seen ≡ negation c.args.lit) (sym c.self.view_is) c.requires.visiting.falls in
+    let k = at_known c.args.trail.now c.self.inside.seen c.literals-literals.ensures.state within in
+    let e : (literal_at c.args.trail.now.literals c.self.inside.seen).var ≡ c.args.lit.var = ap (λ (l : Lit). l.var) falls in
     let v = wa.vars in
     omega arith
 
 pub more-init : goal.more-init
 more-init c =
     let w : WatchedState = record { short = c.self.inside.short.items; spare = c.self.inside.spare; lists = c.self.inside.lists; seen = c.self.inside.seen } in
-    let wa : AreWatched c.args.stack.now w = subst (λ (s : WatchedState). AreWatched c.args.stack.now s) (sym c.self.view_is) c.requires.visiting.watched in
-    let falls = subst (λ (s : WatchedState). literal_at c.args.stack.now.literals s.seen ≡ negation c.args.lit) (sym c.self.view_is) c.requires.visiting.falls in
+    let wa : AreWatched c.args.trail.now w = subst (λ (s : WatchedState). AreWatched c.args.trail.now s) (sym c.self.view_is) c.requires.visiting.watched in
+    let falls = subst (λ (s : WatchedState). literal_at c.args.trail.now.literals s.seen ≡ negation c.args.lit) (sym c.self.view_is) c.requires.visiting.falls in
     let o = c.open.ensures in
-    let a = watched_waits c.args.stack.now w c.open.new.self wa o.watches o.vars o.spare in
+    let a = watched_waits c.args.trail.now w c.open.new.self wa o.watches o.vars o.spare in
     record {
       visits = record {
         watched = a;
-        grown = record { clauses = refl; attached = refl; vars = refl; spare = refl; literals = front_itself c.args.stack.now.literals; reasons = front_itself c.args.stack.now.reasons; level = refl };
+        grown = record { clauses = refl; attached = refl; vars = refl; spare = refl; literals = front_itself c.args.trail.now.literals; reasons = front_itself c.args.trail.now.reasons; level = refl };
         short = ap (λ (s : WatchedState). s.short) c.self.view_is;
         seen = ap (λ (s : WatchedState). s.seen) c.self.view_is;
       };
-      visited = visited_begins c.args.stack.now (record w { lists = c.open.new.self }) c.args.lit a falls
+      visited = visited_begins c.args.trail.now (record w { lists = c.open.new.self }) c.args.lit a falls
           (λ n h e. o.waits n (subst (λ (ws : List Watch). n < length ws) o.watches h) (ap (λ (ws : List Watch). (watch_at ws n).lit) (sym o.watches) ∙ e));
     }
 
 pub look-requires-clause-visiting : goal.look-requires-clause-visiting
-look-requires-clause-visiting c = visiting_still c.args.stack.now c.more.stack c.args.self.now c.more.self c.args.db.now.clauses c.args.lit c.requires.visiting c.more.invariant.visits
+look-requires-clause-visiting c = visiting_still c.args.trail.now c.more.trail c.args.self.now c.more.self c.args.db.now.clauses c.args.lit c.requires.visiting c.more.invariant.visits
 
 pub returns-clause-visited : goal.returns-clause-visited
 returns-clause-visited c =
     let i = c.more.invariant in
     let none = ap (λ (s : WatchedState). s.lists.waiting) (sym c.self-in-more.view_is) ∙ c.in_default.ensures.none in
-    let v = visiting_still c.args.stack.now c.more.stack c.args.self.now c.more.self c.args.db.now.clauses c.args.lit c.requires.visiting i.visits in
-    visited_ends c.more.stack c.more.self v.watched i.visited none v.within
+    let v = visiting_still c.args.trail.now c.more.trail c.args.self.now c.more.self c.args.db.now.clauses c.args.lit c.requires.visiting i.visits in
+    visited_ends c.more.trail c.more.self v.watched i.visited none v.within

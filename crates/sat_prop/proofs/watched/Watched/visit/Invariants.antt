@@ -4,8 +4,8 @@ use Rattle.sat_prop.proofs.watched.Watched.visit.Given as goal
 
 abbrev pub invariant-more : goal.invariant-more
 invariant-more l = record {
-  visits : Visits l.fn.stack l.fn.self l.stack l.self;
-  visited : AreVisited l.stack l.self;
+  visits : Visits l.fn.trail l.fn.self l.trail l.self;
+  visited : AreVisited l.trail l.self;
 }
 
 abbrev pub decreases-more : goal.decreases-more

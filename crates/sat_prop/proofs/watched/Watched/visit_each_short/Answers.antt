@@ -22,7 +22,7 @@ clause-requires-clause-from_one c =
     let at : get_or c.self.inside.short.items c.loop-place.place 0 ≡ c.index-id.result.now = let e = c.index-id.ensures in let t = c.loop-place-test.true in let n = c.len-place-end.ensures in grind (arith, common_steps) in
     let w : c.loop-place.place < length c.self.inside.short.items = let t = c.loop-place-test.true in let n = c.len-place-end.ensures in grind (arith, common_steps) in
     let member = subst (λ (s : WatchedState). Contains s.short c.index-id.result.now) c.self.view_is (subst (λ (k : ℕ). Contains c.self.inside.short.items k) at (contains_at c.self.inside.short.items c.loop-place.place w)) in
-    (found c.loop-place.stack c.args.db.now.clauses c.index-id.result.now c.literals-literals.ensures.state front (i.watched.short c.index-id.result.now member)).from_one
+    (found c.loop-place.trail c.args.db.now.clauses c.index-id.result.now c.literals-literals.ensures.state front (i.watched.short c.index-id.result.now member)).from_one
 
 pub clause-requires-clause-in_range : goal.clause-requires-clause-in_range
 clause-requires-clause-in_range c =
@@ -31,7 +31,7 @@ clause-requires-clause-in_range c =
     let at : get_or c.self.inside.short.items c.loop-place.place 0 ≡ c.index-id.result.now = let e = c.index-id.ensures in let t = c.loop-place-test.true in let n = c.len-place-end.ensures in grind (arith, common_steps) in
     let w : c.loop-place.place < length c.self.inside.short.items = let t = c.loop-place-test.true in let n = c.len-place-end.ensures in grind (arith, common_steps) in
     let member = subst (λ (s : WatchedState). Contains s.short c.index-id.result.now) c.self.view_is (subst (λ (k : ℕ). Contains c.self.inside.short.items k) at (contains_at c.self.inside.short.items c.loop-place.place w)) in
-    (found c.loop-place.stack c.args.db.now.clauses c.index-id.result.now c.literals-literals.ensures.state front (i.watched.short c.index-id.result.now member)).in_range
+    (found c.loop-place.trail c.args.db.now.clauses c.index-id.result.now c.literals-literals.ensures.state front (i.watched.short c.index-id.result.now member)).in_range
 
 pub returns-in-False-clause-conflict : goal.returns-in-False-clause-conflict
 returns-in-False-clause-conflict c =
@@ -40,10 +40,10 @@ returns-in-False-clause-conflict c =
     let at : get_or c.self.inside.short.items c.loop-place.place 0 ≡ c.index-id.result.now = let e = c.index-id.ensures in let t = c.loop-place-test.true in let n = c.len-place-end.ensures in grind (arith, common_steps) in
     let w : c.loop-place.place < length c.self.inside.short.items = let t = c.loop-place-test.true in let n = c.len-place-end.ensures in grind (arith, common_steps) in
     let member = subst (λ (s : WatchedState). Contains s.short c.index-id.result.now) c.self.view_is (subst (λ (k : ℕ). Contains c.self.inside.short.items k) at (contains_at c.self.inside.short.items c.loop-place.place w)) in
-    let f = found c.loop-place.stack c.args.db.now.clauses c.index-id.result.now c.literals-literals.ensures.state front (i.watched.short c.index-id.result.now member) in
+    let f = found c.loop-place.trail c.args.db.now.clauses c.index-id.result.now c.literals-literals.ensures.state front (i.watched.short c.index-id.result.now member) in
     record {
       joined = i.watched.short c.index-id.result.now member;
-      false_now = read_stands c.loop-place.stack.clauses c.args.db.now.clauses c.loop-place.stack.vars c.index-id.result.now c.loop-place.stack.literals c.clause.result.now falsified front f.known c.clause.ensures c.in-False.ensures;
+      false_now = read_stands c.loop-place.trail.clauses c.args.db.now.clauses c.loop-place.trail.vars c.index-id.result.now c.loop-place.trail.literals c.clause.result.now falsified front f.known c.clause.ensures c.in-False.ensures;
     }
 
 pub loop-place-preserved : goal.loop-place-preserved
@@ -53,23 +53,23 @@ loop-place-preserved c =
     let at : get_or c.self.inside.short.items c.loop-place.place 0 ≡ c.index-id.result.now = let e = c.index-id.ensures in let t = c.loop-place-test.true in let n = c.len-place-end.ensures in grind (arith, common_steps) in
     let w : c.loop-place.place < length c.self.inside.short.items = let t = c.loop-place-test.true in let n = c.len-place-end.ensures in grind (arith, common_steps) in
     let member = subst (λ (s : WatchedState). Contains s.short c.index-id.result.now) c.self.view_is (subst (λ (k : ℕ). Contains c.self.inside.short.items k) at (contains_at c.self.inside.short.items c.loop-place.place w)) in
-    let f = found c.loop-place.stack c.args.db.now.clauses c.index-id.result.now c.literals-literals.ensures.state front (i.watched.short c.index-id.result.now member) in
+    let f = found c.loop-place.trail c.args.db.now.clauses c.index-id.result.now c.literals-literals.ensures.state front (i.watched.short c.index-id.result.now member) in
     elim c.match-standing.branch [
       | in-Unit w ↦
-          let e = w.stack-is ∙ w.force.ensures in
-          let more = longer_by_one c.args.stack.now c.loop-place.stack _ w.in-Unit.lit c.index-id.result.now i.grown e in
+          let e = w.trail-is ∙ w.force.ensures in
+          let more = longer_by_one c.args.trail.now c.loop-place.trail _ w.in-Unit.lit c.index-id.result.now i.grown e in
           record {
-            watched = rw e (watched_more c.loop-place.stack c.args.self.now w.in-Unit.lit (Some c.index-id.result.now) i.watched);
-            grown = propagates_more c.args.stack.now c.loop-place.stack _ w.in-Unit.lit c.index-id.result.now i.grown e;
+            watched = rw e (watched_more c.loop-place.trail c.args.self.now w.in-Unit.lit (Some c.index-id.result.now) i.watched);
+            grown = propagates_more c.args.trail.now c.loop-place.trail _ w.in-Unit.lit c.index-id.result.now i.grown e;
             quiet = λ t. absurd (omega arith);
           }
       | in-Quiet w ↦
-          let q = read_quiet c.loop-place.stack.clauses c.args.db.now.clauses c.loop-place.stack.vars c.index-id.result.now c.loop-place.stack.literals c.clause.result.now front f.known c.clause.ensures w.in-Quiet.ensures in
+          let q = read_quiet c.loop-place.trail.clauses c.args.db.now.clauses c.loop-place.trail.vars c.index-id.result.now c.loop-place.trail.literals c.clause.result.now front f.known c.clause.ensures w.in-Quiet.ensures in
           let id_is : c.index-id.result.now ≡ get_or c.args.self.now.short c.loop-place.place 0 = sym at ∙ ap (λ (s : WatchedState). get_or s.short c.loop-place.place 0) c.self.view_is in
           record {
-            watched = rw w.stack-is i.watched;
-            grown = rw w.stack-is i.grown;
-            quiet = λ t. subst (λ (s : TrailState). AreQuietBelow s.clauses c.args.self.now.short s.literals (c.loop-place.place + 1)) (sym w.stack-is)
-                (quiet_next c.loop-place.stack.clauses c.args.self.now.short c.loop-place.stack.literals c.loop-place.place c.index-id.result.now id_is (i.quiet (ap (λ (s : TrailState). length s.literals) (sym w.stack-is) ∙ t)) q);
+            watched = rw w.trail-is i.watched;
+            grown = rw w.trail-is i.grown;
+            quiet = λ t. subst (λ (s : TrailState). AreQuietBelow s.clauses c.args.self.now.short s.literals (c.loop-place.place + 1)) (sym w.trail-is)
+                (quiet_next c.loop-place.trail.clauses c.args.self.now.short c.loop-place.trail.literals c.loop-place.place c.index-id.result.now id_is (i.quiet (ap (λ (s : TrailState). length s.literals) (sym w.trail-is) ∙ t)) q);
           }
     ]

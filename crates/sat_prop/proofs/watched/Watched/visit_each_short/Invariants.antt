@@ -6,7 +6,7 @@ use Rattle.sat_prop.proofs.watched.Watched.visit_each_short.Given as goal
 
 abbrev pub invariant-loop-place : goal.invariant-loop-place
 invariant-loop-place l = record {
-  watched : AreWatched l.stack l.self;
-  grown : Propagates l.fn.stack l.stack;
-  quiet : length l.stack.literals ≡ length l.fn.stack.literals → AreQuietBelow l.stack.clauses l.self.short l.stack.literals l.place;
+  watched : AreWatched l.trail l.self;
+  grown : Propagates l.fn.trail l.trail;
+  quiet : length l.trail.literals ≡ length l.fn.trail.literals → AreQuietBelow l.trail.clauses l.self.short l.trail.literals l.place;
 }

@@ -5,10 +5,10 @@ use Rattle.sat_prop.proofs.watched.Watched.visit_watched.Given as goal
 
 abbrev pub invariant-more : goal.invariant-more
 invariant-more l = record {
-  watched : AreWatched l.stack l.self;
-  grown : Propagates l.fn.stack l.stack;
+  watched : AreWatched l.trail l.self;
+  grown : Propagates l.fn.trail l.trail;
   short : l.self.short ≡ l.fn.self.short;
 }
 
 abbrev pub decreases-more : goal.decreases-more
-decreases-more l = l.stack.vars - l.self.seen
+decreases-more l = l.trail.vars - l.self.seen

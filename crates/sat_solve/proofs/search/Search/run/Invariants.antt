@@ -11,4 +11,4 @@ invariant-more g l = record {
 }
 
 abbrev pub decreases-more : goal.decreases-more
-decreases-more g l = to_do l.budget l.self.trail
+decreases-more g l = to_do l.budget l.self.propagator

@@ -4,7 +4,7 @@ use Rattle.sat_solve.proofs.solver.Solver.adopt.Given as goal
 
 abbrev pub invariant-loop-before : goal.invariant-loop-before
 invariant-loop-before g l = record {
-  adopting : IsAdopting l.initial.self-inside.search.trail l.self-inside.search.trail l.clauses.clauses l.before;
+  adopting : IsAdopting l.initial.self-inside.search.propagator l.self-inside.search.propagator l.clauses.clauses l.before;
   order : l.self-inside.search.order ≡ l.initial.self-inside.search.order;
   assignment : l.self-inside.assignment ≡ l.initial.self-inside.assignment;
   clauses : l.self-inside.clauses ≡ l.initial.self-inside.clauses;

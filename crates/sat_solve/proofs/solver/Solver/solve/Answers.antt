@@ -9,7 +9,7 @@ pub run-found-requires-clause-under : goal.run-found-requires-clause-under
 run-found-requires-clause-under g c =
     let s = c.self.inside.search in
     let same : c.args.self.now.vars ≡ s.vars = sym (ap (λ (x : SolverState _). x.vars) c.self.view_is) in
-    under_none c.args.assumptions.now s.vars s.trail c.self.invariant.rest.level c.trail_state.ensures.state.justified.same
+    under_none c.args.assumptions.now s.vars s.propagator c.self.invariant.rest.level c.trail_state.ensures.state.justified.same
     (subst (λ (n : ℕ). HasValues n c.args.assumptions.now) same c.requires.known) c.requires.compatible
 
 pub returns-clause-answer : goal.returns-clause-answer
