@@ -25,3 +25,4 @@ pub mod WholeRoom
 pub mod FewNames
 pub mod NamingVectors
 pub mod Built
+pub mod BuiltVectors

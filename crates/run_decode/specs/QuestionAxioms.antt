@@ -1,15 +1,17 @@
 -- A question as it is built: network, log, n and the number of columns determine its parts, and its axioms as a list, whatever test and rank are stored.
-use Rattle.std.specs.Prelude.{◌≡◌, ℕ, zero, suc, ◌+◌, List, [], ◌++◌, map, length}
+use Rattle.std.specs.Prelude.{◌≡◌, ℕ, zero, suc, ◌+◌, if◌then◌else◌, List, [], ◌++◌, map, length}
 use Rattle.card_counter.specs.CounterState.{CounterState, without_columns, with_column, next_clauses}
 use Rattle.des_net.specs.Network.{Net}
+use Rattle.log_clauses.specs.Additions.{Addition, alarm_added, pair_added}
+use Rattle.log_clauses.specs.Drafts.{added_list}
 use Rattle.log_encode.specs.BuiltLog.{BuiltLog, built_log}
-use Rattle.log_encode.specs.CodedLog.{CodedLog, code_names as log_names, false_literals, without_names, IsCodedLog}
+use Rattle.log_encode.specs.CodedLog.{CodedLog, code_names as log_names, read_names, code_after, addition_width, false_literals, without_names, IsCodedLog}
 use Rattle.log_order.specs.Log.{Log}
 use Rattle.prop_core.specs.Clauses.{Clause}
 use Rattle.prop_core.specs.Listings.{literal_by, written_by}
 use Rattle.prop_core.specs.declared.lit.Lit.{Lit}
 use Rattle.run_clauses.specs.StepCodes.{StepsBelow}
-use Rattle.run_decode.specs.WholeNaming.{AreInputs}
+use Rattle.run_decode.specs.WholeNaming.{AreInputs, counter_after, counted_after}
 use Rattle.step_encode.specs.Coded.{CodedSteps, code_names as step_names, code_grid, variable_count, AppendsSteps}
 use Rattle.step_encode.specs.FaultInputs.{fault_literals}
 
@@ -57,6 +59,31 @@ question_built net log n (suc columns) = column_built (question_built net log n 
 -- the axioms of a question whose counter has so many columns
 abbrev pub question_axioms : Net → Log → ℕ → ℕ → List Clause
 question_axioms net log n columns = (question_built net log n columns).axioms
+
+-- ---- with an addition to its log
+
+-- how many variables the counter gets with it: for a doubtful alarm one in each column
+abbrev pub cells_after : CounterState → Addition → ℕ
+cells_after counter (alarm_added new) = if new.doubtful then length counter.columns else 0
+cells_after counter (pair_added i j) = 0
+
+-- The clauses of an addition on the next variables: those that the log gets, in the order of their listing, and then what the counter says of its new input.
+abbrev pub added_axioms : BuiltQuestion → Addition → List Clause
+added_axioms question addition =
+    written_by (read_names (code_after question.code addition question.vars)) (added_list question.code.net question.code.log question.code.grid.steps addition)
+    ++ counted_after question.code question.counter addition question.vars
+
+abbrev pub added_built : BuiltQuestion → Addition → BuiltQuestion
+added_built question addition = record question {
+  code = code_after question.code addition question.vars;
+  counter = counter_after question.code question.counter addition question.vars;
+  vars = question.vars + addition_width question.code addition + cells_after question.counter addition;
+  axioms = question.axioms ++ added_axioms question addition;
+}
+
+-- the same question, whatever further inputs its counter has room for
+abbrev pub roomless : BuiltQuestion → BuiltQuestion
+roomless question = record question { counter = record { inputs = question.counter.inputs; columns = question.counter.columns; spare_inputs = 0 } }
 
 -- ---- laws
 
