@@ -1,21 +1,24 @@
 -- What a session keeps once an addition is made, and where it isn't.
-use Rattle.std.proofs.Common.{◌≡◌, ◌∙◌, ℕ, ◌≤◌, sym, ap, subst}
-use Rattle.alarm_session.proofs.Keeping.{Codes, belong_roomy, belong_with, few_with, time_roomy, time_with}
-use Rattle.alarm_session.specs.Session.{Becomes, IsDraftedFor, IsFor, IsRankedKept}
+use Rattle.std.proofs.Common.{◌≡◌, ◌∙◌, ℕ, ◌≤◌, true, false, cond, Option, None, Some, Result, Ok, Err, OnErr, refl, sym, ap, subst}
+use Rattle.alarm_session.proofs.Keeping.{Codes, adds_none, belong_roomy, belong_with, few_with, old_pair, paired, time_roomy, time_with}
+use Rattle.alarm_session.specs.Additions.{built_on, pair_addition}
+use Rattle.alarm_session.specs.Session.{Becomes, IsDraftedFor, IsFor, IsRankedKept, Stage, stage_of}
 use Rattle.alarm_session.specs.declared.kept.Drafted.{Drafted}
 use Rattle.alarm_session.specs.declared.kept.Kept.{Kept}
 use Rattle.des_base.specs.declared.TheConstants.{VAR_LIMIT}
 use Rattle.des_net.specs.Network.{Net}
+use Rattle.least_faults.proofs.Roomless.{addition_roomless, room_roomless}
 use Rattle.least_faults.specs.Adding.{AddsFew, HasAddition, KeepsAllButRoom}
 use Rattle.least_faults.specs.Bounds.{question_variables}
-use Rattle.least_faults.specs.Parts.{AreParts, AreReady, IsWithinLimits}
+use Rattle.least_faults.specs.Parts.{AreParts, AreReady, IsWithinLimits, built_of}
 use Rattle.least_faults.specs.declared.parts.Parts.{Parts}
-use Rattle.log_clauses.specs.Additions.{Addition, with_addition}
+use Rattle.log_clauses.specs.Additions.{Addition, pair_added, with_addition}
 use Rattle.log_encode.specs.Drafted.{DraftState, IsDraftOf}
-use Rattle.log_order.specs.Log.{Log}
+use Rattle.log_order.specs.Log.{Log, has_pair}
 use Rattle.proof_ledger.specs.Book.{axioms_of}
 use Rattle.proof_ledger.specs.Kept.{LedgerState}
 use Rattle.replay.specs.QuestionSize.{question_size}
+use Rattle.run_decode.specs.QuestionAxioms.{BuiltQuestion, added_built, roomless}
 
 -- ---- what a draft asks for
 
@@ -29,7 +32,7 @@ module _ {R : Type 0} (net : Net) (n : ℕ) (kept : Kept R) (addition : Addition
   -- ---- it is made
 
   module _ (of_log : IsFor net n kept) (codes : Codes kept.parts.code.code.log addition new) (mid now : Parts R) (mid_book now_book : LedgerState) (room : KeepsAllButRoom kept.parts mid kept.book.entries mid_book.entries)
-      (draft : DraftState) (same : draft ≡ drafted.draft) (joined : HasAddition draft mid now mid_book.entries now_book.entries) (log : Log) (made : log ≡ new) where
+      (draft : DraftState) (same : draft ≡ drafted.draft) (joined : HasAddition draft.addition mid now mid_book.entries now_book.entries) (log : Log) (made : log ≡ new) where
     own_codes : Codes kept.parts.code.code.log draft.addition log
     own_codes =
         subst (λ (a : Addition). Codes kept.parts.code.code.log a log) (sym (ap (λ (d : DraftState). d.addition) same ∙ is.draft.adds))
@@ -46,10 +49,20 @@ module _ {R : Type 0} (net : Net) (n : ℕ) (kept : Kept R) (addition : Addition
       ready = ready;
     }
 
+    -- the question is built further by it
+    built_further : roomless (built_of now now_book.entries) ≡ added_built (roomless (built_of kept.parts kept.book.entries)) addition
+    built_further =
+        ap roomless joined.built
+        ∙ addition_roomless (built_of mid mid_book.entries) draft.addition
+        ∙ ap (λ (q : BuiltQuestion). added_built q draft.addition) (room_roomless kept.parts mid kept.book.entries mid_book.entries room)
+        ∙ ap (λ (a : Addition). added_built (roomless (built_of kept.parts kept.book.entries)) a) (ap (λ (d : DraftState). d.addition) same ∙ is.draft.adds)
+
     pub becomes_with : (may : R → ℕ → Type 0) (gives : R → ℕ → ℕ → Type 0) → AreReady may gives now now_book.entries → AreParts kept.parts.step kept.parts.code.code kept.parts.counter kept.parts.vars (axioms_of kept.book.entries) →
-        AddsFew mid.code.code.net mid.code.code.grid.steps mid.code.code.log now.code.code.log mid_book.entries now_book.entries → Becomes net n kept.log new log kept.book.entries now_book.entries
-    becomes_with may gives ready coded few = record {
+        AddsFew mid.code.code.net mid.code.code.grid.steps mid.code.code.log now.code.code.log mid_book.entries now_book.entries → (size : ℕ) →
+        Becomes net n new (Some addition) (stage_of kept) (stage_of (record { log = log; size = size; parts = now; book = now_book }))
+    becomes_with may gives ready coded few size = record {
       log = made;
+      built = built_further;
       few = subst (λ l. AddsFew net n kept.log l kept.book.entries now_book.entries) made
           (few_with net n kept.log log kept.parts mid now kept.book.entries mid_book.entries now_book.entries of_log.belong of_log.time room draft joined ready.coded own_codes few coded);
     }
@@ -68,3 +81,35 @@ kept_roomy may gives net n kept mid mid_book log of_log room ready same =
       };
       ready = ready;
     })
+
+-- however much room there is, the session has come no further
+pub stage_roomy : {R : Type 0} (kept : Kept R) (mid : Parts R) (mid_book : LedgerState) (log : Log) (size : ℕ) → KeepsAllButRoom kept.parts mid kept.book.entries mid_book.entries → log ≡ kept.log →
+    stage_of (record { log = log; size = size; parts = mid; book = mid_book }) ≡ stage_of kept
+stage_roomy kept mid mid_book log size room same =
+    let built = room_roomless kept.parts mid kept.book.entries mid_book.entries room in
+    let book = room.book in
+    λ i. record { log = same i; built = built i; book = book i }
+
+-- whatever is told of it
+pub on_err : {X E : Type 0} (r : Result X E) (P : Type 0) → P → OnErr r P
+on_err (Ok x) P p = tt
+on_err (Err e) P p = p
+
+-- ---- a pair
+
+-- that is new adds itself
+pub becomes_pair : (net : Net) (n : ℕ) (log : Log) (i j : ℕ) (old new : Stage) → has_pair log.pairs i j ≡ false → Becomes net n (paired log i j) (Some (pair_added i j)) old new → Becomes net n (paired log i j) (pair_addition log (Some (i, j))) old new
+becomes_pair net n log i j old new none becomes =
+    let some : Some (pair_added i j) ≡ pair_addition log (Some (i, j)) = sym (ap (λ b. cond b None (Some (pair_added i j))) none) in
+    subst (λ (added : Option Addition). Becomes net n (paired log i j) added old new) some becomes
+
+-- and one that is there adds nothing
+pub becomes_again : (net : Net) (n : ℕ) (stage : Stage) (i j : ℕ) → has_pair stage.log.pairs i j ≡ true → Becomes net n (paired stage.log i j) (pair_addition stage.log (Some (i, j))) stage stage
+becomes_again net n stage i j there =
+    let none : None ≡ pair_addition stage.log (Some (i, j)) = sym (ap (λ b. cond b None (Some (pair_added i j))) there) in
+    let same = old_pair stage.log i j there in
+    record {
+      log = sym same;
+      built = ap (built_on stage.built) none;
+      few = subst (λ l. AddsFew net n stage.log l stage.book stage.book) (sym same) (adds_none net n stage.log stage.book stage.book refl);
+    }

@@ -15,7 +15,7 @@ use Rattle.least_faults.specs.Parts.{AreParts, BelongTo, IsWithinLimits}
 use Rattle.least_faults.specs.declared.parts.Parts.{Parts}
 use Rattle.log_clauses.specs.Additions.{Addition, alarm_added, pair_added, with_addition}
 use Rattle.log_encode.proofs.WrittenLemmas.{count_same}
-use Rattle.log_encode.specs.CodedLog.{CodedLog, addition_width, nameless, without_names}
+use Rattle.log_encode.specs.CodedLog.{CodedLog, addition_width, code_after, nameless, without_names}
 use Rattle.log_encode.specs.Drafted.{DraftState}
 use Rattle.log_order.specs.Adding.{before_refusal, with_pair}
 use Rattle.log_order.specs.Log.{Log, Alarm, a_log, an_alarm, has_pair}
@@ -24,6 +24,7 @@ use Rattle.proof_ledger.specs.Book.{BookEntry, axiomatic, axioms_of}
 use Rattle.prop_core.specs.Clauses.{Clause}
 use Rattle.prop_core.specs.declared.grid.Grid.{Grid}
 use Rattle.replay.specs.QuestionSize.{question_size}
+use Rattle.run_decode.specs.QuestionAxioms.{BuiltQuestion}
 use Rattle.step_encode.specs.Coded.{CodedSteps}
 
 -- ---- a log with an addition, and the coded one
@@ -101,16 +102,22 @@ pub adds_none : (net : Net) (n : ℕ) (log : Log) (old new : List BookEntry) →
 adds_none net n log old new same = record { axioms = []; more = same ∙ sym (append-nil old); few = omega arith }
 
 module _ {R : Type 0} (net : Net) (n : ℕ) (log new : Log) (old mid now : Parts R) (old_book mid_book now_book : List BookEntry) (belong : BelongTo net log old) (time : old.step.steps ≡ n) (room : KeepsAllButRoom old mid old_book mid_book) where
-  module _ (draft : DraftState) (joined : HasAddition draft mid now mid_book now_book) (beside : AreParts now.step now.code.code now.counter now.vars (axioms_of now_book)) (codes : Codes old.code.code.log draft.addition new) where
+  module _ (draft : DraftState) (joined : HasAddition draft.addition mid now mid_book now_book) (beside : AreParts now.step now.code.code now.counter now.vars (axioms_of now_book)) (codes : Codes old.code.code.log draft.addition new) where
+    same_steps : now.step ≡ mid.step
+    same_steps = ap (λ (q : BuiltQuestion). q.steps) joined.built
+
+    longer_code : now.code.code ≡ code_after mid.code.code draft.addition mid.vars
+    longer_code = ap (λ (q : BuiltQuestion). q.code) joined.built
+
     pub belong_with : BelongTo net new now
     belong_with = record {
-      of_steps = ap (λ (s : CodedSteps). s.net) (joined.step ∙ room.step) ∙ belong.of_steps;
+      of_steps = ap (λ (s : CodedSteps). s.net) (same_steps ∙ room.step) ∙ belong.of_steps;
       beside = beside.together.beside;
-      same_log = ap (λ (k : CodedLog). k.log) joined.code ∙ ap (λ (k : CodedLog). with_addition k.log draft.addition) room.code ∙ sym codes;
+      same_log = ap (λ (k : CodedLog). k.log) longer_code ∙ ap (λ (k : CodedLog). with_addition k.log draft.addition) room.code ∙ sym codes;
     }
 
     pub time_with : now.step.steps ≡ n
-    time_with = ap (λ (s : CodedSteps). s.steps) (joined.step ∙ room.step) ∙ time
+    time_with = ap (λ (s : CodedSteps). s.steps) (same_steps ∙ room.step) ∙ time
 
     -- few axioms are added, by the sizes of the logs with names
     pub few_with : AddsFew mid.code.code.net mid.code.code.grid.steps mid.code.code.log now.code.code.log mid_book now_book → AreParts old.step old.code.code old.counter old.vars (axioms_of old_book) → AddsFew net n log new old_book now_book
@@ -118,7 +125,7 @@ module _ {R : Type 0} (net : Net) (n : ℕ) (log new : Log) (old mid now : Parts
         let of_net : mid.code.code.net ≡ net = ap (λ (k : CodedLog). k.net) room.code ∙ coded.together.beside.net ∙ belong.of_steps in
         let of_time : mid.code.code.grid.steps ≡ n = ap (λ (k : CodedLog). k.grid.steps) room.code ∙ ap (λ (grid : Grid). grid.steps) coded.together.beside.grid ∙ time in
         let before : mid.code.code.log ≡ without_names log = ap (λ (k : CodedLog). k.log) room.code ∙ belong.same_log in
-        let after : now.code.code.log ≡ without_names new = ap (λ (k : CodedLog). k.log) joined.code ∙ ap (λ (k : CodedLog). with_addition k.log draft.addition) room.code ∙ sym codes in
+        let after : now.code.code.log ≡ without_names new = ap (λ (k : CodedLog). k.log) longer_code ∙ ap (λ (k : CodedLog). with_addition k.log draft.addition) room.code ∙ sym codes in
         let size_before = sized mid.code.code.net mid.code.code.grid.steps mid.code.code.log log of_net of_time before in
         let size_after = sized mid.code.code.net mid.code.code.grid.steps now.code.code.log new of_net of_time after in
         let most = few.few in

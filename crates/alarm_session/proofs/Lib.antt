@@ -1,6 +1,7 @@
 pub mod Sizes
 pub mod Refusing
 pub mod Keeping
+pub mod Stages
 pub mod Drafting
 pub mod Joining
 pub mod Telling

@@ -1,8 +1,10 @@
 -- What rows tell: each by what its addition answers or what is found, and some by what one more tells.
 use Rattle.std.proofs.Common.{◌≡◌, ◌≢◌, ◌∙◌, ℕ, Bool, true, false, not, cond, List, [], ◌∷◌, ◌++◌, Option, None, Some, Result, Ok, Err, IfOk, OnOk, OnErr, is_some, refl, sym, ap, subst, append-nil, append_assoc, arith, length, length-append, map}
+use Rattle.alarm_session.proofs.Keeping.{adds_none}
+use Rattle.alarm_session.specs.Additions.{built_on}
 use Rattle.alarm_session.specs.Refusals.{Answers, alarm_answer, before_answer, is_new_pair, log_with, numbers_of}
-use Rattle.alarm_session.specs.Rows.{AreRowsTold, HasCarriedOut, IsLeftUndone, IsRowTold, after_row, log_after, row_refusal, told_by, with_row}
-use Rattle.alarm_session.specs.Session.{Becomes, IsSessionBook, IsToldBy, StaysSame}
+use Rattle.alarm_session.specs.Rows.{AreRowsTold, HasCarriedOut, IsLeftUndone, IsRowTold, after_row, built_after, built_with_row, log_after, row_addition, row_refusal, rows_built, told_by, with_row}
+use Rattle.alarm_session.specs.Session.{Becomes, GoesOn, IsSessionBook, IsToldBy, Stage, first_stage}
 use Rattle.alarm_session.specs.declared.refusal.SessionRefusal.{SessionRefusal}
 use Rattle.alarm_session.specs.declared.refusal.SessionRefusal.TheVariants.{Double, Unknown, Cycle, NoLabels, Limit, TooLarge, Memory}
 use Rattle.alarm_session.specs.declared.rows.Told.{Told}
@@ -14,8 +16,9 @@ use Rattle.least_faults.specs.declared.answer.Found.{Found}
 use Rattle.log_csv.specs.declared.row.Row.{Row}
 use Rattle.log_csv.specs.declared.row.Row.TheVariants.{Alarm, Maybe, Before, Ask}
 use Rattle.log_order.specs.Adding.{with_alarm, with_texts}
-use Rattle.log_order.specs.Log.{Log, an_alarm, has_pair, no_log}
-use Rattle.proof_ledger.specs.Book.{BookEntry, axiomatic, mark}
+use Rattle.log_order.specs.Log.{Log, an_alarm, has_pair}
+use Rattle.proof_ledger.specs.Book.{axiomatic, mark}
+use Rattle.run_decode.specs.QuestionAxioms.{BuiltQuestion}
 
 -- ---- what is wanted of a row, by what it says
 
@@ -49,40 +52,64 @@ pair_is_old log (Some pair) same = by_test (has_pair log.pairs pair.0 pair.1) (a
     by_test true same = refl
     by_test false same = absurd (longer log.pairs (pair.0, pair.1) same)
 
-module _ (log now : Log) (row : Row) (old new : List BookEntry) where
+module _ (log : Log) (row : Row) (old new : Stage) where
   pub alarm_again : (id : List ℕ) (labels : List (List ℕ)) → row ≡ Alarm id labels → with_row log row ≡ log → new ≡ old
   alarm_again id labels is same = absurd (alarm_is_new log id labels false (sym (ap (with_row log) is) ∙ same))
 
   pub maybe_again : (id : List ℕ) (labels : List (List ℕ)) → row ≡ Maybe id labels → with_row log row ≡ log → new ≡ old
   maybe_again id labels is same = absurd (alarm_is_new log id labels true (sym (ap (with_row log) is) ∙ same))
 
-  pub before_again : (first second : List ℕ) (fresh : Bool) → row ≡ Before first second → fresh ≡ is_new_pair log (numbers_of log first second) → (fresh ≡ false → StaysSame log now old new) → with_row log row ≡ log → new ≡ old
-  before_again first second fresh is fresh_is kept same = (kept (fresh_is ∙ pair_is_old log (numbers_of log first second) (sym (ap (with_row log) is) ∙ same))).book
+  pub before_again : (first second : List ℕ) (fresh : Bool) → row ≡ Before first second → fresh ≡ is_new_pair log (numbers_of log first second) → (fresh ≡ false → new ≡ old) → with_row log row ≡ log → new ≡ old
+  before_again first second fresh is fresh_is kept same = kept (fresh_is ∙ pair_is_old log (numbers_of log first second) (sym (ap (with_row log) is) ∙ same))
 
 -- ---- one row
 
-module _ (net : Net) (n budget : ℕ) (before now : Log) (row : Row) (old new : List BookEntry) where
-  accepted_log : row_refusal net n before row ≡ None → after_row net n before row ≡ with_row before row
-  accepted_log none = ap (λ o. cond (is_some o) before (with_row before row)) none
+-- where a row doesn't ask, its question is built further with what it adds
+adds_built : (log : Log) (question : BuiltQuestion) (row : Row) (columns : ℕ) → row ≢ Ask → built_on question (row_addition log row) ≡ built_with_row log question row columns
+adds_built log question (Alarm id labels) columns addition = refl
+adds_built log question (Maybe id labels) columns addition = refl
+adds_built log question (Before first second) columns addition = refl
+adds_built log question Ask columns addition = absurd (addition refl)
 
-  refused_log : (refusal : SessionRefusal) → row_refusal net n before row ≡ Some refusal → after_row net n before row ≡ before
-  refused_log refusal some = ap (λ o. cond (is_some o) before (with_row before row)) some
+module _ (net : Net) (n budget : ℕ) (old : Stage) (row : Row) (new : Stage) where
+  -- the row is accepted, or refused
+  accepted_log : row_refusal net n old.log row ≡ None → after_row net n old.log row ≡ with_row old.log row
+  accepted_log none = ap (λ o. cond (is_some o) old.log (with_row old.log row)) none
 
-  made : row ≢ Ask → row_refusal net n before row ≡ None → Becomes net n before (with_row before row) now old new → (with_row before row ≡ before → new ≡ old) → IsSessionBook net now n new → IsRowTold net n budget before row old new Made
+  refused_log : (refusal : SessionRefusal) → row_refusal net n old.log row ≡ Some refusal → after_row net n old.log row ≡ old.log
+  refused_log refusal some = ap (λ o. cond (is_some o) old.log (with_row old.log row)) some
+
+  accepted_built : (columns : ℕ) → row_refusal net n old.log row ≡ None → built_after net n old.log old.built row columns ≡ built_with_row old.log old.built row columns
+  accepted_built columns none = ap (λ o. cond (is_some o) old.built (built_with_row old.log old.built row columns)) none
+
+  refused_built : (columns : ℕ) (refusal : SessionRefusal) → row_refusal net n old.log row ≡ Some refusal → built_after net n old.log old.built row columns ≡ old.built
+  refused_built columns refusal some = ap (λ o. cond (is_some o) old.built (built_with_row old.log old.built row columns)) some
+
+  -- what it comes to
+  abbrev RowBecomes : Type 0
+  RowBecomes = Becomes net n (with_row old.log row) (row_addition old.log row) old new
+
+  made : row ≢ Ask → row_refusal net n old.log row ≡ None → RowBecomes → (with_row old.log row ≡ old.log → new ≡ old) → IsSessionBook net n new → IsRowTold net n budget old row new Made
   made addition none becomes again book = record {
     tells = record { addition = addition; accepted = none; few = becomes.few; again = again };
-    book = subst (λ l. IsSessionBook net l n new) (becomes.log ∙ sym (accepted_log none)) book;
+    log = becomes.log ∙ sym (accepted_log none);
+    columns = 0;
+    built = becomes.built ∙ adds_built old.log old.built row 0 addition ∙ sym (accepted_built 0 none);
+    book = book;
   }
 
-  refused : (refusal : SessionRefusal) → refusal ≢ Memory → row_refusal net n before row ≡ Some refusal → StaysSame before now old new → IsSessionBook net now n new → IsRowTold net n budget before row old new (Refused refusal)
+  refused : (refusal : SessionRefusal) → refusal ≢ Memory → row_refusal net n old.log row ≡ Some refusal → new ≡ old → IsSessionBook net n new → IsRowTold net n budget old row new (Refused refusal)
   refused refusal known some same book = record {
-    tells = record { why = some; known = known; book = same.book };
-    book = subst (λ l. IsSessionBook net l n new) (same.log ∙ sym (refused_log refusal some)) book;
+    tells = record { why = some; known = known; same = same };
+    log = ap (λ (s : Stage). s.log) same ∙ sym (refused_log refusal some);
+    columns = 0;
+    built = ap (λ (s : Stage). s.built) same ∙ sym (refused_built 0 refusal some);
+    book = book;
   }
 
   -- an addition
-  by_answer : {X : Type 0} (answer : Result X SessionRefusal) → row ≢ Ask → Answers answer (row_refusal net n before row) → OnOk answer (Becomes net n before (with_row before row) now old new) → OnOk answer (with_row before row ≡ before → new ≡ old) →
-      OnErr answer (StaysSame before now old new) → IsSessionBook net now n new → IfOk (told_by answer) (IsRowTold net n budget before row old new)
+  by_answer : {X : Type 0} (answer : Result X SessionRefusal) → row ≢ Ask → Answers answer (row_refusal net n old.log row) → OnOk answer RowBecomes → OnOk answer (with_row old.log row ≡ old.log → new ≡ old) →
+      OnErr answer (new ≡ old) → IsSessionBook net n new → IfOk (told_by answer) (IsRowTold net n budget old row new)
   by_answer (Ok x) addition is becomes again same book = made addition is becomes again book
   by_answer (Err Double) addition is becomes again same book = refused Double (λ h. cc) is same book
   by_answer (Err Unknown) addition is becomes again same book = refused Unknown (λ h. cc) is same book
@@ -92,36 +119,25 @@ module _ (net : Net) (n budget : ℕ) (before now : Log) (row : Row) (old new : 
   by_answer (Err (TooLarge size)) addition is becomes again same book = refused (TooLarge size) (λ h. cc) is same book
   by_answer (Err Memory) addition is becomes again same book = tt
 
-  pub addition_told : {X : Type 0} (answer : Result X SessionRefusal) (told : Result Told NoMemory) → told ≡ told_by answer → row ≢ Ask → Answers answer (row_refusal net n before row) →
-      OnOk answer (Becomes net n before (with_row before row) now old new) → OnOk answer (with_row before row ≡ before → new ≡ old) → OnErr answer (StaysSame before now old new) → IsSessionBook net now n new → IfOk told (IsRowTold net n budget before row old new)
-  addition_told answer told is addition answers becomes again same book = subst (λ r. IfOk r (IsRowTold net n budget before row old new)) (sym is) (by_answer answer addition answers becomes again same book)
+  pub addition_told : {X : Type 0} (answer : Result X SessionRefusal) (told : Result Told NoMemory) → told ≡ told_by answer → row ≢ Ask → Answers answer (row_refusal net n old.log row) →
+      OnOk answer (Becomes net n (with_row old.log row) (row_addition old.log row) old new) → OnOk answer (with_row old.log row ≡ old.log → new ≡ old) → OnErr answer (new ≡ old) → IsSessionBook net n new → IfOk told (IsRowTold net n budget old row new)
+  addition_told answer told is addition answers becomes again same book = subst (λ r. IfOk r (IsRowTold net n budget old row new)) (sym is) (by_answer answer addition answers becomes again same book)
 
-  pub addition_log : {X : Type 0} (answer : Result X SessionRefusal) (told : Result Told NoMemory) → told ≡ told_by answer → Answers answer (row_refusal net n before row) →
-      OnOk answer (Becomes net n before (with_row before row) now old new) → OnErr answer (StaysSame before now old new) → OnOk told (now ≡ after_row net n before row)
-  addition_log answer told is answers becomes same = subst (λ r. OnOk r (now ≡ after_row net n before row)) (sym is) (by_cases answer answers becomes same)
-    where
-      by_cases : {X : Type 0} (answer : Result X SessionRefusal) → Answers answer (row_refusal net n before row) → OnOk answer (Becomes net n before (with_row before row) now old new) → OnErr answer (StaysSame before now old new) →
-          OnOk (told_by answer) (now ≡ after_row net n before row)
-      by_cases (Ok x) is becomes same = becomes.log ∙ sym (accepted_log is)
-      by_cases (Err Double) is becomes same = same.log ∙ sym (refused_log Double is)
-      by_cases (Err Unknown) is becomes same = same.log ∙ sym (refused_log Unknown is)
-      by_cases (Err Cycle) is becomes same = same.log ∙ sym (refused_log Cycle is)
-      by_cases (Err NoLabels) is becomes same = same.log ∙ sym (refused_log NoLabels is)
-      by_cases (Err Limit) is becomes same = same.log ∙ sym (refused_log Limit is)
-      by_cases (Err (TooLarge size)) is becomes same = same.log ∙ sym (refused_log (TooLarge size) is)
-      by_cases (Err Memory) is becomes same = tt
-
-  left : StaysSame before now old new → IsLeftUndone budget before row now old new
+  left : new ≡ old → IsLeftUndone budget old row new
   left same = record {
-    log = same.log;
-    grown = record { since = []; whole = same.book ∙ sym (append-nil old); within = omega arith };
-    addition = λ is. same.book;
+    goes_on = record {
+      log = ap (λ (s : Stage). s.log) same;
+      columns = 0;
+      built = ap (λ (s : Stage). s.built) same;
+      grown = record { since = []; whole = ap (λ (s : Stage). s.book) same ∙ sym (append-nil old.book); within = omega arith };
+    };
+    addition = λ is. same;
   }
 
-  pub addition_undone : {X : Type 0} (answer : Result X SessionRefusal) (told : Result Told NoMemory) → told ≡ told_by answer → OnErr answer (StaysSame before now old new) → OnErr told (IsLeftUndone budget before row now old new)
-  addition_undone answer told is same = subst (λ r. OnErr r (IsLeftUndone budget before row now old new)) (sym is) (by_cases answer same)
+  pub addition_undone : {X : Type 0} (answer : Result X SessionRefusal) (told : Result Told NoMemory) → told ≡ told_by answer → OnErr answer (new ≡ old) → OnErr told (IsLeftUndone budget old row new)
+  addition_undone answer told is same = subst (λ r. OnErr r (IsLeftUndone budget old row new)) (sym is) (by_cases answer same)
     where
-      by_cases : {X : Type 0} (answer : Result X SessionRefusal) → OnErr answer (StaysSame before now old new) → OnErr (told_by answer) (IsLeftUndone budget before row now old new)
+      by_cases : {X : Type 0} (answer : Result X SessionRefusal) → OnErr answer (new ≡ old) → OnErr (told_by answer) (IsLeftUndone budget old row new)
       by_cases (Ok x) same = tt
       by_cases (Err Double) same = tt
       by_cases (Err Unknown) same = tt
@@ -132,28 +148,29 @@ module _ (net : Net) (n budget : ℕ) (before now : Log) (row : Row) (old new : 
       by_cases (Err Memory) same = left same
 
   -- a question
-  pub nothing_added : row ≡ Ask → Becomes net n before (with_row before row) before old old
-  nothing_added ask = subst (λ l. Becomes net n before l before old old) (sym (ap (with_row before) ask)) (record {
-    log = refl;
-    few = record { axioms = []; more = sym (append-nil old); few = omega arith };
-  })
-
-  pub question_log : row ≡ Ask → now ≡ before → now ≡ after_row net n before row
-  question_log ask same = same ∙ sym (ap (after_row net n before) ask)
-
-  pub question_told : (found : Found) → row ≡ Ask → now ≡ before → IsToldBy net before n budget old new found → IsSessionBook net now n new → IsRowTold net n budget before row old new (Answered found)
-  question_told found ask same told book = record {
+  pub question_told : (found : Found) → row ≡ Ask → GoesOn budget old new → IsToldBy net n budget old new found → IsSessionBook net n new → IsRowTold net n budget old row new (Answered found)
+  question_told found ask goes told book = record {
     tells = record { question = ask; told = told };
-    book = subst (λ l. IsSessionBook net l n new) (question_log ask same) book;
+    log = goes.log ∙ sym (ap (after_row net n old.log) ask);
+    columns = goes.columns;
+    built = goes.built ∙ sym (ap (λ r. built_after net n old.log old.built r goes.columns) ask);
+    book = book;
   }
 
+  pub question_undone : row ≡ Ask → GoesOn budget old new → IsLeftUndone budget old row new
+  question_undone ask goes = record { goes_on = goes; addition = λ other. absurd (other ask) }
+
   -- the book goes on
-  pub row_extends : (told : Told) → IsRowTold net n budget before row old new told → Extends old new
+  pub row_extends : (told : Told) → IsRowTold net n budget old row new told → Extends old.book new.book
   row_extends Made is = record { more = map axiomatic is.tells.few.axioms; is = is.tells.few.more }
-  row_extends (Refused refusal) is = record { more = []; is = is.tells.book ∙ sym (append-nil old) }
+  row_extends (Refused refusal) is = record { more = []; is = ap (λ (s : Stage). s.book) is.tells.same ∙ sym (append-nil old.book) }
   row_extends (Answered found) is =
       let since = is.tells.told.answered.since in
-      record { more = (mark 0 ∷ since) ++ mark 1 ∷ []; is = is.tells.told.answered.whole ∙ append_assoc old (mark 0 ∷ since) (mark 1 ∷ []) }
+      record { more = (mark 0 ∷ since) ++ mark 1 ∷ []; is = is.tells.told.answered.whole ∙ append_assoc old.book (mark 0 ∷ since) (mark 1 ∷ []) }
+
+-- a question adds nothing
+pub nothing_added : (net : Net) (n : ℕ) (stage : Stage) (row : Row) → row ≡ Ask → Becomes net n (with_row stage.log row) (row_addition stage.log row) stage stage
+nothing_added net n stage row ask = subst (λ r. Becomes net n (with_row stage.log r) (row_addition stage.log r) stage stage) (sym ask) (record { log = refl; built = refl; few = adds_none net n stage.log stage.book stage.book refl })
 
 -- ---- all rows
 
@@ -164,35 +181,50 @@ module _ (net : Net) (n budget : ℕ) where
   log_after_more before (first ∷ rows) row = log_after_more (after_row net n before first) rows row
 
   -- what is told with one more row
-  pub rows_told_more : (before : Log) (rows : List Row) (row : Row) (old mid new : List BookEntry) (told : List Told) (here : Told) → AreRowsTold net n budget before rows old mid told →
-      IsRowTold net n budget (log_after net n before rows) row mid new here → AreRowsTold net n budget before (rows ++ row ∷ []) old new (told ++ here ∷ [])
-  rows_told_more before [] row old mid new told here are is = (new, here, [], subst (λ b. IsRowTold net n budget before row b new here) are.0 is, (refl, refl), ap (λ t. t ++ here ∷ []) are.1)
-  rows_told_more before (first ∷ rows) row old mid new told here are is =
-      (are.0, are.1, are.2 ++ here ∷ [], are.3, rows_told_more (after_row net n before first) rows row are.0 mid new are.2 here are.4 is, ap (λ t. t ++ here ∷ []) are.5)
+  pub rows_told_more : (old : Stage) (rows : List Row) (row : Row) (mid new : Stage) (told : List Told) (here : Told) → AreRowsTold net n budget old rows mid told →
+      IsRowTold net n budget mid row new here → AreRowsTold net n budget old (rows ++ row ∷ []) new (told ++ here ∷ [])
+  rows_told_more old [] row mid new told here are is = (new, here, [], subst (λ s. IsRowTold net n budget s row new here) are.0 is, (refl, refl), ap (λ t. t ++ here ∷ []) are.1)
+  rows_told_more old (first ∷ rows) row mid new told here are is =
+      (are.0, are.1, are.2 ++ here ∷ [], are.3, rows_told_more are.0 rows row mid new are.2 here are.4 is, ap (λ t. t ++ here ∷ []) are.5)
+
+  -- the log is that of the rows, and the question is built of them
+  pub rows_log : (old : Stage) (rows : List Row) (new : Stage) (told : List Told) → AreRowsTold net n budget old rows new told → new.log ≡ log_after net n old.log rows
+  rows_log old [] new told are = ap (λ (s : Stage). s.log) are.0
+  rows_log old (row ∷ rows) new told are = rows_log are.0 rows new are.2 are.4 ∙ ap (λ l. log_after net n l rows) are.3.log
+
+  pub rows_are_built : (old : Stage) (rows : List Row) (new : Stage) (told : List Told) → AreRowsTold net n budget old rows new told → (columns : List ℕ) × (new.built ≡ rows_built net n old.log old.built rows columns)
+  rows_are_built old [] new told are = ([], ap (λ (s : Stage). s.built) are.0)
+  rows_are_built old (row ∷ rows) new told are =
+      let rest = rows_are_built are.0 rows new are.2 are.4 in (
+        are.3.columns ∷ rest.0,
+        rest.1
+            ∙ ap (λ l. rows_built net n l are.0.built rows rest.0) are.3.log
+            ∙ ap (λ q. rows_built net n (after_row net n old.log row) q rows rest.0) are.3.built,
+      )
 
   -- the book of the end has that of the beginning as its front
-  pub rows_extend : (before : Log) (rows : List Row) (old new : List BookEntry) (told : List Told) → AreRowsTold net n budget before rows old new told → Extends old new
-  rows_extend before [] old new told are = record { more = []; is = are.0 ∙ sym (append-nil old) }
-  rows_extend before (row ∷ rows) old new told are =
-      let here = row_extends net n budget before before row old are.0 are.1 are.3 in
-      let rest = rows_extend (after_row net n before row) rows are.0 new are.2 are.4 in
-      record { more = here.more ++ rest.more; is = rest.is ∙ ap (λ b. b ++ rest.more) here.is ∙ append_assoc old here.more rest.more }
+  pub rows_extend : (old : Stage) (rows : List Row) (new : Stage) (told : List Told) → AreRowsTold net n budget old rows new told → Extends old.book new.book
+  rows_extend old [] new told are = record { more = []; is = ap (λ (s : Stage). s.book) are.0 ∙ sym (append-nil old.book) }
+  rows_extend old (row ∷ rows) new told are =
+      let here = row_extends net n budget old row are.0 are.1 are.3 in
+      let rest = rows_extend are.0 rows new are.2 are.4 in
+      record { more = here.more ++ rest.more; is = rest.is ∙ ap (λ b. b ++ rest.more) here.is ∙ append_assoc old.book here.more rest.more }
 
   -- ---- a session
 
-  pub nothing_carried_out : (begun : List BookEntry) → IsSessionBook net no_log n begun → HasCarriedOut net n budget [] begun begun []
-  nothing_carried_out begun book = record {
-    each = (refl, refl);
-    front = record { more = []; is = sym (append-nil begun) };
+  carried_out : (rows : List Row) (left : Stage) (told : List Told) → AreRowsTold net n budget (first_stage net n) rows left told → IsSessionBook net n left → HasCarriedOut net n budget rows left told
+  carried_out rows left told each book = record {
+    each = each;
+    log = rows_log (first_stage net n) rows left told each;
+    columns = (rows_are_built (first_stage net n) rows left told each).0;
+    built = (rows_are_built (first_stage net n) rows left told each).1;
+    front = rows_extend (first_stage net n) rows left told each;
     book = book;
   }
 
-  pub carried_out_more : (rows : List Row) (row : Row) (begun mid left : List BookEntry) (told : List Told) (here : Told) → HasCarriedOut net n budget rows begun mid told →
-      IsRowTold net n budget (log_after net n no_log rows) row mid left here → HasCarriedOut net n budget (rows ++ row ∷ []) begun left (told ++ here ∷ [])
-  carried_out_more rows row begun mid left told here has is =
-      let each = rows_told_more no_log rows row begun mid left told here has.each is in
-      record {
-        each = each;
-        front = rows_extend no_log (rows ++ row ∷ []) begun left (told ++ here ∷ []) each;
-        book = subst (λ l. IsSessionBook net l n left) (sym (log_after_more no_log rows row)) is.book;
-      }
+  pub nothing_carried_out : (begun : Stage) → begun ≡ first_stage net n → IsSessionBook net n begun → HasCarriedOut net n budget [] begun []
+  nothing_carried_out begun is book = carried_out [] begun [] (is, refl) book
+
+  pub carried_out_more : (rows : List Row) (row : Row) (mid left : Stage) (told : List Told) (here : Told) → HasCarriedOut net n budget rows mid told → IsRowTold net n budget mid row left here →
+      HasCarriedOut net n budget (rows ++ row ∷ []) left (told ++ here ∷ [])
+  carried_out_more rows row mid left told here has is = carried_out (rows ++ row ∷ []) left (told ++ here ∷ []) (rows_told_more (first_stage net n) rows row mid left told here has.each is) is.book

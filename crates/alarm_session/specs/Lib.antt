@@ -1,4 +1,5 @@
 pub mod Labelled
 pub mod Refusals
+pub mod Additions
 pub mod Session
 pub mod Rows

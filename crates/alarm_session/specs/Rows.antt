@@ -1,7 +1,8 @@
 -- The rows of a script, carried out one after another by a session over one book.
-use Rattle.std.specs.Prelude.{◌≡◌, ◌≢◌, ℕ, List, [], ◌∷◌, Option, Some, None, Result, Ok, Err, is_some, true, false, if◌then◌else◌}
+use Rattle.std.specs.Prelude.{◌≡◌, ◌≢◌, ℕ, List, [], ◌∷◌, drop, slice_index_or, Option, Some, None, Result, Ok, Err, is_some, true, false, if◌then◌else◌}
+use Rattle.alarm_session.specs.Additions.{alarm_addition, built_on, pair_addition}
 use Rattle.alarm_session.specs.Refusals.{alarm_answer, before_answer, log_with, numbers_of}
-use Rattle.alarm_session.specs.Session.{IsSessionBook, IsToldBy}
+use Rattle.alarm_session.specs.Session.{GoesOn, IsSessionBook, IsToldBy, Stage, first_stage}
 use Rattle.alarm_session.specs.declared.refusal.SessionRefusal.{SessionRefusal}
 use Rattle.alarm_session.specs.declared.refusal.SessionRefusal.TheVariants.{Double, Unknown, Cycle, NoLabels, Limit, TooLarge, Memory}
 use Rattle.alarm_session.specs.declared.rows.Told.{Told}
@@ -10,13 +11,14 @@ use Rattle.des_base.specs.Lists.{Extends}
 use Rattle.des_base.specs.declared.memory.Memory.{Memory as NoMemory}
 use Rattle.des_net.specs.Network.{Net}
 use Rattle.least_faults.specs.Adding.{AddsFew}
-use Rattle.least_faults.specs.Growing.{HasGrownWithin}
+use Rattle.least_faults.specs.Columns.{columns_built}
 use Rattle.least_faults.specs.declared.answer.Found.{Found}
+use Rattle.log_clauses.specs.Additions.{Addition}
 use Rattle.log_csv.specs.declared.row.Row.{Row}
 use Rattle.log_csv.specs.declared.row.Row.TheVariants.{Alarm, Maybe, Before, Ask}
 use Rattle.log_order.specs.Adding.{with_alarm}
 use Rattle.log_order.specs.Log.{Log, no_log}
-use Rattle.proof_ledger.specs.Book.{BookEntry}
+use Rattle.run_decode.specs.QuestionAxioms.{BuiltQuestion, question_built}
 
 -- ---- the log of some rows
 
@@ -43,40 +45,71 @@ abbrev pub log_after : Net → ℕ → Log → List Row → Log
 log_after net n log [] = log
 log_after net n log (row ∷ rows) = log_after net n (after_row net n log row) rows
 
+-- ---- the question of some rows, as it is built
+
+-- what a row that is accepted adds; a question adds nothing
+abbrev pub row_addition : Log → Row → Option Addition
+row_addition log (Alarm id labels) = Some (alarm_addition labels false)
+row_addition log (Maybe id labels) = Some (alarm_addition labels true)
+row_addition log (Before first second) = pair_addition log (numbers_of log first second)
+row_addition log Ask = None
+
+-- with a row that is accepted: with what it adds, and where it asks with so many columns more
+abbrev pub built_with_row : Log → BuiltQuestion → Row → ℕ → BuiltQuestion
+built_with_row log question (Alarm id labels) columns = built_on question (row_addition log (Alarm id labels))
+built_with_row log question (Maybe id labels) columns = built_on question (row_addition log (Maybe id labels))
+built_with_row log question (Before first second) columns = built_on question (row_addition log (Before first second))
+built_with_row log question Ask columns = columns_built question columns
+
+-- after a row, which is the same where the row is refused,
+abbrev pub built_after : Net → ℕ → Log → BuiltQuestion → Row → ℕ → BuiltQuestion
+built_after net n log question row columns = if is_some (row_refusal net n log row) then question else built_with_row log question row columns
+
+-- and after these rows, one after another, with one number of columns for each
+abbrev pub rows_built : Net → ℕ → Log → BuiltQuestion → List Row → List ℕ → BuiltQuestion
+rows_built net n log question [] columns = question
+rows_built net n log question (row ∷ rows) columns = rows_built net n (after_row net n log row) (built_after net n log question row (slice_index_or columns 0 0)) rows (drop 1 columns)
+
+-- The question of a script: network, n, its rows, and how many columns each question added determine it.
+abbrev pub script_built : Net → ℕ → List Row → List ℕ → BuiltQuestion
+script_built net n rows columns = rows_built net n no_log (question_built net no_log n 0) rows columns
+
 -- ---- what a row tells
 
 -- The row is an addition that nothing is against. It is made: a few axioms were put, or nothing where it is in the log already.
-pub record IsMade (net : Net) (n : ℕ) (before : Log) (row : Row) (old new : List BookEntry) : Type 0 where
+pub record IsMade (net : Net) (n : ℕ) (old : Stage) (row : Row) (new : Stage) : Type 0 where
   pub addition : row ≢ Ask
-  pub accepted : row_refusal net n before row ≡ None
-  pub few : AddsFew net n before (with_row before row) old new
-  pub again : with_row before row ≡ before → new ≡ old
+  pub accepted : row_refusal net n old.log row ≡ None
+  pub few : AddsFew net n old.log (with_row old.log row) old.book new.book
+  pub again : with_row old.log row ≡ old.log → new ≡ old
 
--- The row is refused for this, which isn't want of memory, and the book is as it was.
-pub record IsRefused (net : Net) (n : ℕ) (before : Log) (row : Row) (old new : List BookEntry) (refusal : SessionRefusal) : Type 0 where
-  pub why : row_refusal net n before row ≡ Some refusal
+-- The row is refused for this, which isn't want of memory, and all is as it was.
+pub record IsRefused (net : Net) (n : ℕ) (old : Stage) (row : Row) (new : Stage) (refusal : SessionRefusal) : Type 0 where
+  pub why : row_refusal net n old.log row ≡ Some refusal
   pub known : refusal ≢ Memory
-  pub book : new ≡ old
+  pub same : new ≡ old
 
 -- The row is a question, and this was found of the log as it stands, with the whole budget.
-pub record IsAsked (net : Net) (n budget : ℕ) (before : Log) (row : Row) (old new : List BookEntry) (found : Found) : Type 0 where
+pub record IsAsked (net : Net) (n budget : ℕ) (old : Stage) (row : Row) (new : Stage) (found : Found) : Type 0 where
   pub question : row ≡ Ask
-  pub told : IsToldBy net before n budget old new found
+  pub told : IsToldBy net n budget old new found
 
-abbrev pub Tells : Net → ℕ → ℕ → Log → Row → List BookEntry → List BookEntry → Told → Type 0
-Tells net n budget before row old new Made = IsMade net n before row old new
-Tells net n budget before row old new (Refused refusal) = IsRefused net n before row old new refusal
-Tells net n budget before row old new (Answered found) = IsAsked net n budget before row old new found
+abbrev pub Tells : Net → ℕ → ℕ → Stage → Row → Stage → Told → Type 0
+Tells net n budget old row new Made = IsMade net n old row new
+Tells net n budget old row new (Refused refusal) = IsRefused net n old row new refusal
+Tells net n budget old row new (Answered found) = IsAsked net n budget old row new found
 
--- What a row told on the log before it. The book is valid and lean, and asks what explains the log after it.
-pub record IsRowTold (net : Net) (n budget : ℕ) (before : Log) (row : Row) (old new : List BookEntry) (told : Told) : Type 0 where
-  pub tells : Tells net n budget before row old new told
-  pub book : IsSessionBook net (after_row net n before row) n new
+-- What a row told, and how far the session has come with it: log and question are those after the row, the question with so many columns more where the row asks. The book has its axioms, is valid and lean, and asks what explains the log.
+pub record IsRowTold (net : Net) (n budget : ℕ) (old : Stage) (row : Row) (new : Stage) (told : Told) : Type 0 where
+  pub tells : Tells net n budget old row new told
+  pub log : new.log ≡ after_row net n old.log row
+  pub columns : ℕ
+  pub built : new.built ≡ built_after net n old.log old.built row columns
+  pub book : IsSessionBook net n new
 
--- Memory was wanting. The log is as it was, and the book got no more than a search puts that learns as many clauses as the budget says; by an addition it got nothing.
-pub record IsLeftUndone (budget : ℕ) (before : Log) (row : Row) (now : Log) (old new : List BookEntry) : Type 0 where
-  pub log : now ≡ before
-  pub grown : HasGrownWithin budget old new
+-- Memory was wanting. The log is as it was, and question and book got no more than by a search that learns as many clauses as the budget says; by an addition they got nothing.
+pub record IsLeftUndone (budget : ℕ) (old : Stage) (row : Row) (new : Stage) : Type 0 where
+  pub goes_on : GoesOn budget old new
   pub addition : row ≢ Ask → new ≡ old
 
 -- what an addition tells that was made, or refused so; want of memory isn't told
@@ -92,15 +125,18 @@ told_by (Err Memory) = Err (record {})
 
 -- ---- what all rows tell
 
--- The rows told these one after another, each on the log after those before it, and took the book from the one to the other.
-abbrev pub AreRowsTold : Net → ℕ → ℕ → Log → List Row → List BookEntry → List BookEntry → List Told → Type 0
-AreRowsTold net n budget before [] old new told = (new ≡ old) × (told ≡ [])
-AreRowsTold net n budget before (row ∷ rows) old new told =
-    (mid : List BookEntry) × (here : Told) × (rest : List Told) × IsRowTold net n budget before row old mid here
-    × AreRowsTold net n budget (after_row net n before row) rows mid new rest × (told ≡ here ∷ rest)
+-- The rows told these one after another, each where the session had come to by those before it.
+abbrev pub AreRowsTold : Net → ℕ → ℕ → Stage → List Row → Stage → List Told → Type 0
+AreRowsTold net n budget old [] new told = (new ≡ old) × (told ≡ [])
+AreRowsTold net n budget old (row ∷ rows) new told =
+    (mid : Stage) × (here : Told) × (rest : List Told) × IsRowTold net n budget old row mid here × AreRowsTold net n budget mid rows new rest × (told ≡ here ∷ rest)
 
--- A session that began with this book carried out these rows, which told these. The book that it left goes on from the first; it is valid and lean, and asks what explains the log of all the rows.
-pub record HasCarriedOut (net : Net) (n budget : ℕ) (rows : List Row) (begun left : List BookEntry) (told : List Told) : Type 0 where
-  pub each : AreRowsTold net n budget no_log rows begun left told
-  pub front : Extends begun left
-  pub book : IsSessionBook net (log_after net n no_log rows) n left
+-- A session carried out these rows from its beginning, which told these, and came so far. Its log is that of all the rows, and its question is the one that network, n, rows and numbers of columns determine.
+-- The book goes on from the axioms of the empty log's question. It has the axioms of the question that it came to, as a list, is valid and lean, and asks what explains the log.
+pub record HasCarriedOut (net : Net) (n budget : ℕ) (rows : List Row) (left : Stage) (told : List Told) : Type 0 where
+  pub each : AreRowsTold net n budget (first_stage net n) rows left told
+  pub log : left.log ≡ log_after net n no_log rows
+  pub columns : List ℕ
+  pub built : left.built ≡ script_built net n rows columns
+  pub front : Extends (first_stage net n).book left.book
+  pub book : IsSessionBook net n left

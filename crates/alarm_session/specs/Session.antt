@@ -1,5 +1,6 @@
 -- A session: a log that grows, and questions about it, over one book.
-use Rattle.std.specs.Prelude.{◌≡◌, ℕ, ◌+◌, ◌*◌, ◌≤◌, List, [], length, None}
+use Rattle.std.specs.Prelude.{◌≡◌, ℕ, ◌+◌, ◌*◌, ◌≤◌, List, length, map, Option, None}
+use Rattle.alarm_session.specs.Additions.{built_on}
 use Rattle.alarm_session.specs.declared.kept.Kept.{Kept}
 use Rattle.alarm_session.specs.declared.kept.Drafted.{Drafted}
 use Rattle.des_base.specs.declared.TheConstants.{VAR_LIMIT}
@@ -8,30 +9,44 @@ use Rattle.des_net.specs.QuestionSize.{component_sizes}
 use Rattle.least_faults.specs.Adding.{AddsFew}
 use Rattle.least_faults.specs.Answers.{IsAnswered}
 use Rattle.least_faults.specs.Bounds.{question_variables}
+use Rattle.least_faults.specs.Columns.{columns_built}
 use Rattle.least_faults.specs.Evidence.{IsPosed}
-use Rattle.least_faults.specs.Growing.{AddsAxioms}
-use Rattle.least_faults.specs.Parts.{AreParts, AreReady, BelongTo, IsWithinLimits}
+use Rattle.least_faults.specs.Growing.{HasGrownWithin}
+use Rattle.least_faults.specs.Parts.{AreParts, AreReady, BelongTo, IsWithinLimits, built_of}
 use Rattle.least_faults.specs.declared.answer.Found.{Found}
 use Rattle.log_clauses.specs.Additions.{Addition, with_addition}
 use Rattle.log_encode.specs.Drafted.{IsDraftOf}
 use Rattle.log_order.specs.Log.{Log, no_log}
-use Rattle.proof_ledger.specs.Book.{BookEntry, axioms_of, clauses_of, IsValidBook}
+use Rattle.proof_ledger.specs.Book.{BookEntry, axiomatic, axioms_of, clauses_of, IsValidBook}
 use Rattle.prop_core.specs.VariableNames.{Name}
 use Rattle.prop_core.specs.declared.lit.Lit.{Lit}
 use Rattle.replay.specs.QuestionSize.{question_size}
-use Rattle.run_decode.specs.QuestionAxioms.{BuiltQuestion}
+use Rattle.run_decode.specs.QuestionAxioms.{BuiltQuestion, question_axioms, question_built, roomless}
 use Rattle.sat_order.specs.Rank.{OrderState}
 use Rattle.sat_solve.specs.Searching.{HasAxiomVars}
 
--- the network, the number of steps, the log so far, the book, and the order of the variables
+-- how far a session has come: the log so far, its question as it is built, and the book
+pub record Stage : Type 0 where
+  pub log : Log
+  pub built : BuiltQuestion
+  pub book : List BookEntry
+
+-- with an empty log, the question of that without columns, and its axioms alone in the book
+abbrev pub first_stage : Net → ℕ → Stage
+first_stage net n = record { log = no_log; built = question_built net no_log n 0; book = map axiomatic (question_axioms net no_log n 0) }
+
+-- the network, the number of steps, how far it has come, and the order of the variables
 pub record SessionState (R : Type 0) : Type 0 where
   pub net : Net
   pub steps : ℕ
-  pub log : Log
-  pub book : List BookEntry
+  pub stage : Stage
   pub order : OrderState R
 
 -- ---- what is kept
+
+-- what is built doesn't depend on the room that was made in it
+abbrev pub stage_of : {R : Type 0} → Kept R → Stage
+stage_of kept = record { log = kept.log; built = roomless (built_of kept.parts kept.book.entries); book = kept.book.entries }
 
 -- The log is within the limits, its size is known, and the parts are coded for it.
 pub record IsFor {R : Type 0} (net : Net) (n : ℕ) (kept : Kept R) : Type 0 where
@@ -60,11 +75,10 @@ pub record IsDraftedFor {R : Type 0} (net : Net) (n : ℕ) (kept : Kept R) (addi
   pub size : drafted.size ≡ question_size net new n
   pub limits : IsWithinLimits net new n
 
--- It is of the empty log, by this rank, and the book has nothing but axioms.
+-- It has come to nothing yet, and ranks by this.
 pub record HasBegun {R : Type 0} (net : Net) (n : ℕ) (rank : R) (kept : Kept R) : Type 0 where
-  pub log : kept.log ≡ no_log
+  pub stage : stage_of kept ≡ first_stage net n
   pub rank_is : kept.parts.solver.order.rank ≡ rank
-  pub book : AddsAxioms [] kept.book.entries
 
 -- ---- what each call leaves
 
@@ -72,9 +86,8 @@ pub record HasBegun {R : Type 0} (net : Net) (n : ℕ) (rank : R) (kept : Kept R
 pub record BeginsAs {R : Type 0} (net : Net) (n : ℕ) (rank : R) (session : SessionState R) : Type 0 where
   pub net_is : session.net ≡ net
   pub steps : session.steps ≡ n
-  pub log : session.log ≡ no_log
+  pub stage : session.stage ≡ first_stage net n
   pub rank_is : session.order.rank ≡ rank
-  pub book : AddsAxioms [] session.book
 
 -- It is about the same network and as many steps, and ranks by what ranked before.
 pub record KeepsSetting {R : Type 0} (old new : SessionState R) : Type 0 where
@@ -82,22 +95,24 @@ pub record KeepsSetting {R : Type 0} (old new : SessionState R) : Type 0 where
   pub steps : new.steps ≡ old.steps
   pub rank : new.order.rank ≡ old.order.rank
 
--- The log became this one, and few axioms were added, and nothing else.
-pub record Becomes (net : Net) (n : ℕ) (before wanted now : Log) (old new : List BookEntry) : Type 0 where
-  pub log : now ≡ wanted
-  pub few : AddsFew net n before wanted old new
+-- The log became this one, its question is built further with what was added, and few axioms were put into the book, and nothing else.
+pub record Becomes (net : Net) (n : ℕ) (wanted : Log) (added : Option Addition) (old new : Stage) : Type 0 where
+  pub log : new.log ≡ wanted
+  pub built : new.built ≡ built_on old.built added
+  pub few : AddsFew net n old.log wanted old.book new.book
 
--- log and book stay as they were
-pub record StaysSame (before now : Log) (old new : List BookEntry) : Type 0 where
-  pub log : now ≡ before
-  pub book : new ≡ old
+-- The log stays, its question perhaps gets further columns, and the book got entries, with no more learnt clauses than the budget says.
+pub record GoesOn (budget : ℕ) (old new : Stage) : Type 0 where
+  pub log : new.log ≡ old.log
+  pub columns : ℕ
+  pub built : new.built ≡ columns_built old.built columns
+  pub grown : HasGrownWithin budget old.book new.book
 
--- The answer of the present log, with what shows it in the valid book: entries that were put since the question was opened, as it was built so far.
-pub record IsToldBy (net : Net) (log : Log) (n budget : ℕ) (old new : List BookEntry) (found : Found) : Type 0 where
+-- The answer of the log so far, with what shows it in the valid book: entries that were put since the question was opened, as it was built so far.
+pub record IsToldBy (net : Net) (n budget : ℕ) (old new : Stage) (found : Found) : Type 0 where
   pub names : List (ℕ × Name)
-  pub first : BuiltQuestion
-  pub answered : IsAnswered names first net log n budget old new found
-  pub valid : IsValidBook new
+  pub answered : IsAnswered names old.built net old.log n budget old.book new.book found
+  pub valid : IsValidBook new.book
 
 -- ---- what is always so of the book
 
@@ -111,8 +126,9 @@ pub record Poses (net : Net) (log : Log) (n : ℕ) (book : List BookEntry) : Typ
 abbrev pub IsLean : List BookEntry → Net → Log → ℕ → Type 0
 IsLean book net log n = length (axioms_of book) ≤ 12 * (question_size net log n + component_sizes net + length log.alarms + length log.pairs) + 512
 
--- what a session's book tells
-pub record IsSessionBook (net : Net) (log : Log) (n : ℕ) (book : List BookEntry) : Type 0 where
-  pub poses : Poses net log n book
-  pub lean : IsLean book net log n
-  pub valid : IsValidBook book
+-- What a session's book tells. Its axioms are, as a list, those of the question as it is built.
+pub record IsSessionBook (net : Net) (n : ℕ) (stage : Stage) : Type 0 where
+  pub axioms : axioms_of stage.book ≡ stage.built.axioms
+  pub poses : Poses net stage.log n stage.book
+  pub lean : IsLean stage.book net stage.log n
+  pub valid : IsValidBook stage.book

@@ -1,12 +1,12 @@
 // Additions to the log of a session: what can be refused first, and then all of it.
-ghost use Rattle.std.specs.Prelude.{◌≡◌, ◌≤◌, ◌+◌, false, length, not, IfOk, OnOk, OnErr, None, Some, [], true};
+ghost use Rattle.std.specs.Prelude.{◌≡◌, false, length, IfOk, OnOk, OnErr, None, Some, true};
+ghost use Rattle.alarm_session.specs.Additions.{alarm_addition, pair_addition};
 ghost use Rattle.alarm_session.specs.Refusals.{Answers, alarm_answer, before_answer, is_new_pair, log_with, numbers_of, refusal_of_pair, refusal_with};
-ghost use Rattle.alarm_session.specs.Session.{Becomes, IsDraftedFor, IsFor, IsRankedKept, StaysSame};
+ghost use Rattle.alarm_session.specs.Session.{Becomes, IsDraftedFor, IsFor, IsRankedKept, stage_of};
 ghost use Rattle.least_faults.specs.Parts.{AreParts};
 ghost use Rattle.least_faults.specs.declared.TheConstants.{MOST_SIZE};
-ghost use Rattle.log_clauses.specs.Additions.{alarm_added, pair_added};
-ghost use Rattle.log_encode.specs.CodedLog.{nameless};
-ghost use Rattle.log_order.specs.Adding.{Answers as LogAnswers, alarm_refusal, with_alarm, with_texts};
+ghost use Rattle.log_clauses.specs.Additions.{pair_added};
+ghost use Rattle.log_order.specs.Adding.{Answers as LogAnswers, alarm_refusal, with_alarm};
 ghost use Rattle.log_order.specs.Log.{has_pair};
 ghost use Rattle.proof_ledger.specs.Book.{axioms_of};
 ghost use Rattle.replay.specs.QuestionSize.{question_size};
@@ -31,8 +31,8 @@ pub fn put_alarm<R: Fn(u32) -> u64>(
     ensures rank { kept.new.parts.solver.order.rank ≡ kept.old.parts.solver.order.rank }
     ensures refused { Answers result (alarm_answer setting.entry.net.now setting.entry.steps kept.old.log id labels.now doubtful) }
     ensures number { IfOk result (λ alarm. alarm ≡ length kept.old.log.alarms) }
-    ensures added { OnOk result (Becomes setting.entry.net.now setting.entry.steps kept.old.log (with_alarm kept.old.log id labels.now doubtful) kept.new.log kept.old.book.entries kept.new.book.entries) }
-    ensures same { OnErr result (StaysSame kept.old.log kept.new.log kept.old.book.entries kept.new.book.entries) }
+    ensures added { OnOk result (Becomes setting.entry.net.now setting.entry.steps (with_alarm kept.old.log id labels.now doubtful) (Some (alarm_addition labels.now doubtful)) (stage_of kept.old) (stage_of kept.new)) }
+    ensures same { OnErr result (stage_of kept.new ≡ stage_of kept.old) }
 {
     let drafted = draft_alarm(setting, &id, labels, doubtful, kept)?;
     let reserved = reserve_draft(
@@ -63,7 +63,7 @@ fn draft_alarm<R: Fn(u32) -> u64>(
     requires of_log { IsFor setting.net.now setting.steps kept.now }
     requires coded { AreParts kept.now.parts.step kept.now.parts.code.code kept.now.parts.counter kept.now.parts.vars (axioms_of kept.now.book.entries) }
     ensures refused { Answers result (alarm_answer setting.entry.net.now setting.entry.steps kept.now.log id.now labels.now doubtful) }
-    ensures drafted { IfOk result (IsDraftedFor setting.entry.net.now setting.entry.steps kept.now (alarm_added (nameless (with_texts [] labels.now) doubtful)) (with_alarm kept.now.log id.now labels.now doubtful)) }
+    ensures drafted { IfOk result (IsDraftedFor setting.entry.net.now setting.entry.steps kept.now (alarm_addition labels.now doubtful) (with_alarm kept.now.log id.now labels.now doubtful)) }
 {
     setting.net.is_built();
     kept.log.is_whole();
@@ -114,9 +114,9 @@ pub fn put_before<R: Fn(u32) -> u64>(
     ensures rank { kept.new.parts.solver.order.rank ≡ kept.old.parts.solver.order.rank }
     ensures refused { Answers result (before_answer setting.entry.net.now setting.entry.steps kept.old.log first.now second.now) }
     ensures new { IfOk result (λ new. new ≡ is_new_pair kept.old.log (numbers_of kept.old.log first.now second.now)) }
-    ensures added { OnOk result (Becomes setting.entry.net.now setting.entry.steps kept.old.log (log_with kept.old.log (numbers_of kept.old.log first.now second.now)) kept.new.log kept.old.book.entries kept.new.book.entries) }
-    ensures again { IfOk result (λ new. new ≡ false → StaysSame kept.old.log kept.new.log kept.old.book.entries kept.new.book.entries) }
-    ensures same { OnErr result (StaysSame kept.old.log kept.new.log kept.old.book.entries kept.new.book.entries) }
+    ensures added { OnOk result (Becomes setting.entry.net.now setting.entry.steps (log_with kept.old.log (numbers_of kept.old.log first.now second.now)) (pair_addition kept.old.log (numbers_of kept.old.log first.now second.now)) (stage_of kept.old) (stage_of kept.new)) }
+    ensures again { IfOk result (λ new. new ≡ false → stage_of kept.new ≡ stage_of kept.old) }
+    ensures same { OnErr result (stage_of kept.new ≡ stage_of kept.old) }
 {
     match numbers_of(&kept.log, first, second) {
         Some((first, second)) => put_pair(setting, first, second, kept),
@@ -146,9 +146,9 @@ fn put_pair<R: Fn(u32) -> u64>(
     ensures rank { kept.new.parts.solver.order.rank ≡ kept.old.parts.solver.order.rank }
     ensures refused { Answers result (refusal_with (refusal_of_pair kept.old.log (Some (first, second))) (question_size setting.entry.net.now (log_with kept.old.log (Some (first, second))) setting.entry.steps)) }
     ensures new { IfOk result (λ new. new ≡ is_new_pair kept.old.log (Some (first, second))) }
-    ensures added { OnOk result (Becomes setting.entry.net.now setting.entry.steps kept.old.log (log_with kept.old.log (Some (first, second))) kept.new.log kept.old.book.entries kept.new.book.entries) }
-    ensures same { OnErr result (StaysSame kept.old.log kept.new.log kept.old.book.entries kept.new.book.entries) }
-    ensures again { IfOk result (λ new. new ≡ false → StaysSame kept.old.log kept.new.log kept.old.book.entries kept.new.book.entries) }
+    ensures added { OnOk result (Becomes setting.entry.net.now setting.entry.steps (log_with kept.old.log (Some (first, second))) (pair_addition kept.old.log (Some (first, second))) (stage_of kept.old) (stage_of kept.new)) }
+    ensures same { OnErr result (stage_of kept.new ≡ stage_of kept.old) }
+    ensures again { IfOk result (λ new. new ≡ false → stage_of kept.new ≡ stage_of kept.old) }
 {
     if let Err(refusal) = kept.log.test_before(first, second) {
         return Err(refusal_of(refusal));
@@ -173,8 +173,8 @@ fn put_new_pair<R: Fn(u32) -> u64>(
     ensures rank { kept.new.parts.solver.order.rank ≡ kept.old.parts.solver.order.rank }
     ensures refused { Answers result (refusal_with (refusal_of_pair kept.old.log (Some (first, second))) (question_size setting.entry.net.now (log_with kept.old.log (Some (first, second))) setting.entry.steps)) }
     ensures new { IfOk result (λ new. new ≡ true) }
-    ensures added { OnOk result (Becomes setting.entry.net.now setting.entry.steps kept.old.log (log_with kept.old.log (Some (first, second))) kept.new.log kept.old.book.entries kept.new.book.entries) }
-    ensures same { OnErr result (StaysSame kept.old.log kept.new.log kept.old.book.entries kept.new.book.entries) }
+    ensures added { OnOk result (Becomes setting.entry.net.now setting.entry.steps (log_with kept.old.log (Some (first, second))) (pair_addition kept.old.log (Some (first, second))) (stage_of kept.old) (stage_of kept.new)) }
+    ensures same { OnErr result (stage_of kept.new ≡ stage_of kept.old) }
 {
     let drafted = draft_pair(setting, first, second, kept)?;
     let reserved = reserve_draft(

@@ -1,10 +1,9 @@
 // A session begins, and questions are asked of what it keeps.
 ghost use Rattle.std.specs.Prelude.{◌≡◌, ◌≤◌, [], IfOk};
 ghost use Rattle.alarm_session.specs.Refusals.{Answers, large_refusal};
-ghost use Rattle.alarm_session.specs.Session.{HasBegun, IsRankedKept, IsToldBy};
+ghost use Rattle.alarm_session.specs.Session.{GoesOn, HasBegun, IsRankedKept, IsToldBy, stage_of};
 ghost use Rattle.des_base.specs.declared.TheConstants.{MOST_STEPS};
 ghost use Rattle.indep.specs.StoredTest.{IsTest};
-ghost use Rattle.least_faults.specs.Growing.{HasGrownWithin};
 ghost use Rattle.log_order.specs.Log.{no_log};
 ghost use Rattle.replay.specs.QuestionSize.{question_size};
 ghost use Rattle.sat_order.specs.Rank.{IsRanked};
@@ -72,9 +71,8 @@ pub fn ask_kept<R: Fn(u32) -> u64>(
     requires kept { IsRankedKept R.pre R.post setting.net.now setting.steps kept.old }
     ensures kept { IsRankedKept R.pre R.post setting.entry.net.now setting.entry.steps kept.new }
     ensures rank { kept.new.parts.solver.order.rank ≡ kept.old.parts.solver.order.rank }
-    ensures log { kept.new.log ≡ kept.old.log }
-    ensures grown { HasGrownWithin budget kept.old.book.entries kept.new.book.entries }
-    ensures told { IfOk result (IsToldBy setting.entry.net.now kept.old.log setting.entry.steps budget kept.old.book.entries kept.new.book.entries) }
+    ensures goes_on { GoesOn budget (stage_of kept.old) (stage_of kept.new) }
+    ensures told { IfOk result (IsToldBy setting.entry.net.now setting.entry.steps budget (stage_of kept.old) (stage_of kept.new)) }
 {
     let found = least(
         setting.alloc,

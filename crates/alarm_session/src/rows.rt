@@ -1,8 +1,8 @@
 // The rows of a script: what each of them tells, and how it is carried out.
 ghost use Rattle.std.specs.Prelude.{◌≡◌, IfOk, OnOk, OnErr};
 ghost use Rattle.alarm_session.specs.Refusals.{Answers};
-ghost use Rattle.alarm_session.specs.Rows.{IsLeftUndone, IsRowTold, after_row, row_refusal, told_by, with_row};
-ghost use Rattle.alarm_session.specs.Session.{Becomes, IsRankedKept, StaysSame};
+ghost use Rattle.alarm_session.specs.Rows.{IsLeftUndone, IsRowTold, row_addition, row_refusal, told_by, with_row};
+ghost use Rattle.alarm_session.specs.Session.{Becomes, IsRankedKept, stage_of};
 
 use crate::adding::{put_alarm, put_before};
 use crate::asking::ask_kept;
@@ -34,9 +34,8 @@ pub fn carry_out_kept<R: Fn(u32) -> u64>(
     requires kept { IsRankedKept R.pre R.post setting.net.now setting.steps kept.old }
     ensures kept { IsRankedKept R.pre R.post setting.entry.net.now setting.entry.steps kept.new }
     ensures rank { kept.new.parts.solver.order.rank ≡ kept.old.parts.solver.order.rank }
-    ensures told { IfOk result (IsRowTold setting.entry.net.now setting.entry.steps budget kept.old.log row.now kept.old.book.entries kept.new.book.entries) }
-    ensures log { OnOk result (kept.new.log ≡ after_row setting.entry.net.now setting.entry.steps kept.old.log row.now) }
-    ensures undone { OnErr result (IsLeftUndone budget kept.old.log row.now kept.new.log kept.old.book.entries kept.new.book.entries) }
+    ensures told { IfOk result (IsRowTold setting.entry.net.now setting.entry.steps budget (stage_of kept.old) row.now (stage_of kept.new)) }
+    ensures undone { OnErr result (IsLeftUndone budget (stage_of kept.old) row.now (stage_of kept.new)) }
 {
     match row {
         Row::Ask => {
@@ -62,9 +61,9 @@ fn put_row<R: Fn(u32) -> u64>(
     ensures kept { IsRankedKept R.pre R.post setting.entry.net.now setting.entry.steps kept.new }
     ensures rank { kept.new.parts.solver.order.rank ≡ kept.old.parts.solver.order.rank }
     ensures refused { Answers result (row_refusal setting.entry.net.now setting.entry.steps kept.old.log row.now) }
-    ensures added { OnOk result (Becomes setting.entry.net.now setting.entry.steps kept.old.log (with_row kept.old.log row.now) kept.new.log kept.old.book.entries kept.new.book.entries) }
-    ensures again { OnOk result (with_row kept.old.log row.now ≡ kept.old.log → kept.new.book.entries ≡ kept.old.book.entries) }
-    ensures same { OnErr result (StaysSame kept.old.log kept.new.log kept.old.book.entries kept.new.book.entries) }
+    ensures added { OnOk result (Becomes setting.entry.net.now setting.entry.steps (with_row kept.old.log row.now) (row_addition kept.old.log row.now) (stage_of kept.old) (stage_of kept.new)) }
+    ensures again { OnOk result (with_row kept.old.log row.now ≡ kept.old.log → stage_of kept.new ≡ stage_of kept.old) }
+    ensures same { OnErr result (stage_of kept.new ≡ stage_of kept.old) }
 {
     match row {
         Row::Alarm { id, labels } => {

@@ -1,11 +1,11 @@
 // A session: a log that grows, and questions about it, over one book.
-ghost use Rattle.std.specs.Prelude.{◌≡◌, ◌≤◌, [], false, length, true, IfOk, OnErr, OnOk};
+ghost use Rattle.std.specs.Prelude.{◌≡◌, ◌≤◌, Some, [], false, length, true, IfOk, OnErr, OnOk};
+ghost use Rattle.alarm_session.specs.Additions.{alarm_addition, pair_addition};
 ghost use Rattle.alarm_session.specs.Refusals.{Answers, alarm_answer, before_answer, is_new_pair, large_refusal, log_with, numbers_of};
-ghost use Rattle.alarm_session.specs.Rows.{IsLeftUndone, IsRowTold, after_row};
-ghost use Rattle.alarm_session.specs.Session.{Becomes, BeginsAs, IsSessionBook, IsToldBy, KeepsSetting, StaysSame};
+ghost use Rattle.alarm_session.specs.Rows.{IsLeftUndone, IsRowTold};
+ghost use Rattle.alarm_session.specs.Session.{Becomes, BeginsAs, GoesOn, IsSessionBook, IsToldBy, KeepsSetting};
 ghost use Rattle.des_base.specs.declared.TheConstants.{MOST_STEPS};
 ghost use Rattle.indep.specs.StoredTest.{IsTest};
-ghost use Rattle.least_faults.specs.Growing.{HasGrownWithin};
 ghost use Rattle.log_order.specs.Adding.{with_alarm};
 ghost use Rattle.log_order.specs.Log.{no_log};
 ghost use Rattle.replay.specs.QuestionSize.{question_size};
@@ -42,11 +42,11 @@ pub struct Session<'a, T, R> {
 }
 
 impl<'a, T, R> Model for Session<'a, T, R> {
-    ghost use Rattle.alarm_session.specs.Session.{SessionState, IsKept};
+    ghost use Rattle.alarm_session.specs.Session.{SessionState, IsKept, stage_of};
 
     ghost Value = { SessionState R };
 
-    ghost view = { λ a. record { net = a.net.now; steps = a.steps; log = a.kept.log; book = a.kept.book.entries; order = a.kept.parts.solver.order } };
+    ghost view = { λ a. record { net = a.net.now; steps = a.steps; stage = stage_of a.kept; order = a.kept.parts.solver.order } };
 
     ghost invariant = { λ a. IsKept a.net.now a.steps a.kept };
 }
@@ -93,10 +93,10 @@ impl<'a, T: Fn(u32, u32) -> bool, R: Fn(u32) -> u64> Session<'a, T, R> {
         requires ranked { IsRanked R.pre R.post self.old.order }
         ensures ranked { IsRanked R.pre R.post self.new.order }
         ensures kept { KeepsSetting self.old self.new }
-        ensures refused { Answers result (alarm_answer self.old.net self.old.steps self.old.log id labels.now false) }
-        ensures number { IfOk result (λ alarm. alarm ≡ length self.old.log.alarms) }
-        ensures added { OnOk result (Becomes self.old.net self.old.steps self.old.log (with_alarm self.old.log id labels.now false) self.new.log self.old.book self.new.book) }
-        ensures same { OnErr result (StaysSame self.old.log self.new.log self.old.book self.new.book) }
+        ensures refused { Answers result (alarm_answer self.old.net self.old.steps self.old.stage.log id labels.now false) }
+        ensures number { IfOk result (λ alarm. alarm ≡ length self.old.stage.log.alarms) }
+        ensures added { OnOk result (Becomes self.old.net self.old.steps (with_alarm self.old.stage.log id labels.now false) (Some (alarm_addition labels.now false)) self.old.stage self.new.stage) }
+        ensures same { OnErr result (self.new.stage ≡ self.old.stage) }
     {
         let setting = Setting {
             net: self.net,
@@ -111,10 +111,10 @@ impl<'a, T: Fn(u32, u32) -> bool, R: Fn(u32) -> u64> Session<'a, T, R> {
         requires ranked { IsRanked R.pre R.post self.old.order }
         ensures ranked { IsRanked R.pre R.post self.new.order }
         ensures kept { KeepsSetting self.old self.new }
-        ensures refused { Answers result (alarm_answer self.old.net self.old.steps self.old.log id labels.now true) }
-        ensures number { IfOk result (λ alarm. alarm ≡ length self.old.log.alarms) }
-        ensures added { OnOk result (Becomes self.old.net self.old.steps self.old.log (with_alarm self.old.log id labels.now true) self.new.log self.old.book self.new.book) }
-        ensures same { OnErr result (StaysSame self.old.log self.new.log self.old.book self.new.book) }
+        ensures refused { Answers result (alarm_answer self.old.net self.old.steps self.old.stage.log id labels.now true) }
+        ensures number { IfOk result (λ alarm. alarm ≡ length self.old.stage.log.alarms) }
+        ensures added { OnOk result (Becomes self.old.net self.old.steps (with_alarm self.old.stage.log id labels.now true) (Some (alarm_addition labels.now true)) self.old.stage self.new.stage) }
+        ensures same { OnErr result (self.new.stage ≡ self.old.stage) }
     {
         let setting = Setting {
             net: self.net,
@@ -130,11 +130,11 @@ impl<'a, T: Fn(u32, u32) -> bool, R: Fn(u32) -> u64> Session<'a, T, R> {
         requires ranked { IsRanked R.pre R.post self.old.order }
         ensures ranked { IsRanked R.pre R.post self.new.order }
         ensures kept { KeepsSetting self.old self.new }
-        ensures refused { Answers result (before_answer self.old.net self.old.steps self.old.log first.now second.now) }
-        ensures new { IfOk result (λ new. new ≡ is_new_pair self.old.log (numbers_of self.old.log first.now second.now)) }
-        ensures added { OnOk result (Becomes self.old.net self.old.steps self.old.log (log_with self.old.log (numbers_of self.old.log first.now second.now)) self.new.log self.old.book self.new.book) }
-        ensures again { IfOk result (λ new. new ≡ false → StaysSame self.old.log self.new.log self.old.book self.new.book) }
-        ensures same { OnErr result (StaysSame self.old.log self.new.log self.old.book self.new.book) }
+        ensures refused { Answers result (before_answer self.old.net self.old.steps self.old.stage.log first.now second.now) }
+        ensures new { IfOk result (λ new. new ≡ is_new_pair self.old.stage.log (numbers_of self.old.stage.log first.now second.now)) }
+        ensures added { OnOk result (Becomes self.old.net self.old.steps (log_with self.old.stage.log (numbers_of self.old.stage.log first.now second.now)) (pair_addition self.old.stage.log (numbers_of self.old.stage.log first.now second.now)) self.old.stage self.new.stage) }
+        ensures again { IfOk result (λ new. new ≡ false → self.new.stage ≡ self.old.stage) }
+        ensures same { OnErr result (self.new.stage ≡ self.old.stage) }
     {
         let setting = Setting {
             net: self.net,
@@ -151,9 +151,8 @@ impl<'a, T: Fn(u32, u32) -> bool, R: Fn(u32) -> u64> Session<'a, T, R> {
         requires ranked { IsRanked R.pre R.post self.old.order }
         ensures ranked { IsRanked R.pre R.post self.new.order }
         ensures kept { KeepsSetting self.old self.new }
-        ensures log { self.new.log ≡ self.old.log }
-        ensures grown { HasGrownWithin budget self.old.book self.new.book }
-        ensures told { IfOk result (IsToldBy self.old.net self.old.log self.old.steps budget self.old.book self.new.book) }
+        ensures goes_on { GoesOn budget self.old.stage self.new.stage }
+        ensures told { IfOk result (IsToldBy self.old.net self.old.steps budget self.old.stage self.new.stage) }
     {
         let setting = Setting {
             net: self.net,
@@ -170,9 +169,8 @@ impl<'a, T: Fn(u32, u32) -> bool, R: Fn(u32) -> u64> Session<'a, T, R> {
         requires ranked { IsRanked R.pre R.post self.old.order }
         ensures ranked { IsRanked R.pre R.post self.new.order }
         ensures kept { KeepsSetting self.old self.new }
-        ensures told { IfOk result (IsRowTold self.old.net self.old.steps budget self.old.log row.now self.old.book self.new.book) }
-        ensures log { OnOk result (self.new.log ≡ after_row self.old.net self.old.steps self.old.log row.now) }
-        ensures undone { OnErr result (IsLeftUndone budget self.old.log row.now self.new.log self.old.book self.new.book) }
+        ensures told { IfOk result (IsRowTold self.old.net self.old.steps budget self.old.stage row.now self.new.stage) }
+        ensures undone { OnErr result (IsLeftUndone budget self.old.stage row.now self.new.stage) }
     {
         let setting = Setting {
             net: self.net,
@@ -184,16 +182,16 @@ impl<'a, T: Fn(u32, u32) -> bool, R: Fn(u32) -> u64> Session<'a, T, R> {
 
     /// The log so far.
     pub fn log(&self) -> &AlarmLog
-        ensures { result.now ≡ self.now.log }
+        ensures { result.now ≡ self.now.stage.log }
     {
         &self.kept.log
     }
 
-    /// The book so far. It is valid, and has each clause about once, however many questions were asked; its axioms pose the
-    /// question of the log.
+    /// The book so far. Its axioms are those of the question as it is built, in their order, and pose the question of the log. It
+    /// is valid, and has each clause about once, however many questions were asked.
     pub fn book(&self) -> &Ledger
-        ensures book { result.now.entries ≡ self.now.book }
-        ensures told { IsSessionBook self.now.net self.now.log self.now.steps self.now.book }
+        ensures book { result.now.entries ≡ self.now.stage.book }
+        ensures told { IsSessionBook self.now.net self.now.steps self.now.stage }
     {
         let setting = Setting {
             net: self.net,
@@ -206,7 +204,7 @@ impl<'a, T: Fn(u32, u32) -> bool, R: Fn(u32) -> u64> Session<'a, T, R> {
 
     /// The book as it stands.
     pub fn into_book(self) -> Ledger
-        ensures { result.entries ≡ self.entry.book }
+        ensures { result.entries ≡ self.entry.stage.book }
     {
         let Session {
             alloc: _,

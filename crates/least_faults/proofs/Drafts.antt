@@ -25,17 +25,21 @@ use Rattle.log_clauses.specs.Drafts.{added_clauses, added_list}
 use Rattle.log_clauses.specs.LogClauses.{log_clause}
 use Rattle.log_clauses.specs.LogNames.{alarm_names, false_names, match_chains}
 use Rattle.log_clauses.specs.Drafts.{taken_events}
+use Rattle.log_encode.proofs.CodeLemmas.{beside}
 use Rattle.log_encode.specs.CodedLog.{CodedLog, addition_width, code_after, read_names}
 use Rattle.log_encode.specs.Drafted.{DraftState, IsDraftOf}
 use Rattle.log_order.specs.Log.{Alarm}
 use Rattle.proof_ledger.specs.Book.{BookEntry, axiomatic, axioms_of, clauses_of}
+use Rattle.prop_core.proofs.Listed.{listed_are_written}
 use Rattle.prop_core.specs.Clauses.{Clause, HasValues}
+use Rattle.prop_core.specs.Listings.{written_by}
 use Rattle.prop_core.specs.VariableNames.{named_clause}
 use Rattle.prop_core.specs.declared.grid.Grid.{Grid}
 use Rattle.prop_core.specs.declared.lit.Lit.{Lit}
 use Rattle.replay.specs.QuestionSize.{question_size}
 use Rattle.run_decode.proofs.WholeClauses.{clauses_grow}
 use Rattle.run_decode.proofs.WholeNames.{together_grow}
+use Rattle.run_decode.specs.QuestionAxioms.{added_axioms, added_built, cells_after}
 use Rattle.run_decode.specs.WholeNaming.{AreClausesOf, AreCodedTogether, counter_after, counted_after, false_input}
 use Rattle.sat_prop.specs.Changes.{IsFront}
 use Rattle.step_encode.specs.Coded.{CodedSteps}
@@ -84,6 +88,15 @@ counted_is code counter (alarm_added new) first = by new.doubtful refl
     by true h = append-nil (input_clauses counter (last_literal next) next) ∙ ap (λ l. input_clauses counter l next) (last_is code new first h)
     by false h = refl
 
+-- one variable in each column for the input
+cells_are : (counter : CounterState) (addition : Addition) → input_count (is_doubted addition) * length counter.columns ≡ cells_after counter addition
+cells_are counter (pair_added i j) = omega arith
+cells_are counter (alarm_added new) = by new.doubtful
+  where
+    by : (b : Bool) → input_count b * length counter.columns ≡ (if b then length counter.columns else 0)
+    by true = omega arith
+    by false = omega arith
+
 -- one input has at most 2 clauses in each column, and 5 literals in them
 few_of_one : (counter : CounterState) (input : Lit) (first : ℕ) → AreFew (2 * length counter.columns) (5 * length counter.columns) (input_clauses counter input first)
 few_of_one counter input first =
@@ -126,6 +139,14 @@ module _ (steps : CodedSteps) (code : CodedLog) (counter : CounterState) (vars :
       let width = is.width in
       let few = width_fits steps code counter vars axioms parts.bounded draft.addition parts.together.beside.net time fits in
       omega (arith, width, few)
+
+  -- its clauses are those of the listing
+  pub draft_written : draft.clauses ≡ written_by (read_names (code_after code draft.addition vars)) (added_list code.net code.log code.grid.steps draft.addition)
+  draft_written =
+      let fit = variables_fit in
+      let width = is.width in
+      let grown = (together_grow steps code counter vars parts.together parts.above parts.made).by_addition draft.addition (omega (arith, fit, width)) in
+      listed_are_written (read_names (code_after code draft.addition vars)) (added_list code.net code.log code.grid.steps draft.addition) draft.clauses (beside (code_after code draft.addition vars) grown.beside.logged).once is.listed
 
   -- as many clauses as are listed
   pub draft_size : length draft.clauses ≡ length (added_clauses code.net code.log code.grid.steps draft.addition)
@@ -171,7 +192,7 @@ module _ (steps : CodedSteps) (code : CodedLog) (counter : CounterState) (vars :
         count true = refl
         count false = refl
 
-    end_is : end ≡ vars + addition_width code draft.addition + input_count (is_doubted draft.addition) * length counter.columns
+    pub end_is : end ≡ vars + addition_width code draft.addition + input_count (is_doubted draft.addition) * length counter.columns
     end_is = as_said.vars ∙ ap (λ k. vars + addition_width code draft.addition + k * length counter.columns) (count (is_doubted draft.addition))
       where
         count : (b : Bool) → length (new_inputs b (vars + addition_width code draft.addition)) ≡ input_count b
@@ -255,6 +276,17 @@ module _ (steps : CodedSteps) (code longer : CodedLog) (counter : CounterState) 
 
     pub clauses_listed : all ≡ draft.clauses ++ counted_after code counter draft.addition vars
     clauses_listed = clauses_joined steps code counter vars (axioms_of book) parts draft is fits doubtful doubt now end written all same adds_here
+
+    -- the clauses that the question gets, and all that is built of it
+    pub clauses_built : all ≡ added_axioms (record { steps = steps; code = code; counter = counter; vars = vars; axioms = axioms_of book }) draft.addition
+    clauses_built = clauses_listed ∙ ap (λ (cs : List Clause). cs ++ counted_after code counter draft.addition vars) (draft_written steps code counter vars (axioms_of book) parts draft is fits)
+
+    pub built_added : (entries : List BookEntry) → entries ≡ book ++ map axiomatic all →
+        record { steps = steps; code = longer; counter = now; vars = end; axioms = axioms_of entries } ≡ added_built (record { steps = steps; code = code; counter = counter; vars = vars; axioms = axioms_of book }) draft.addition
+    built_added entries put =
+        let count = end_is steps code counter vars (axioms_of book) parts draft is fits doubtful doubt now end written all same adds_here ∙ ap (λ k. vars + addition_width code draft.addition + k) (cells_are counter draft.addition) in
+        let axioms = ap axioms_of put ∙ axioms_added book all ∙ ap (λ (cs : List Clause). axioms_of book ++ cs) clauses_built in
+        λ i. record { steps = steps; code = code_joined i; counter = counter_added i; vars = count i; axioms = axioms i }
 
     pub few_added : AreFew (2 * (input_count doubtful * length counter.columns) + length draft.clauses) (5 * (input_count doubtful * length counter.columns) + sum_by length draft.clauses) all
     few_added = few_joined steps code counter vars (axioms_of book) parts draft is fits doubtful doubt now end written all same adds_here

@@ -28,3 +28,4 @@ pub mod Closing
 pub mod FreshCount
 pub mod Deciding
 pub mod Ranking
+pub mod Roomless

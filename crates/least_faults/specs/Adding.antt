@@ -5,10 +5,10 @@ use Rattle.card_counter.specs.Growing.{HasRoom}
 use Rattle.des_base.specs.declared.TheConstants.{VAR_LIMIT}
 use Rattle.des_net.specs.Network.{Net}
 use Rattle.least_faults.specs.Bounds.{question_variables}
+use Rattle.least_faults.specs.Parts.{built_of}
 use Rattle.least_faults.specs.declared.adding.Reserved.{Reserved}
 use Rattle.least_faults.specs.declared.parts.Parts.{Parts}
 use Rattle.log_clauses.specs.Additions.{Addition, alarm_added, pair_added, with_addition}
-use Rattle.log_encode.specs.CodedLog.{code_after}
 use Rattle.log_encode.specs.Drafted.{DraftState, IsDraftOf, HasRoomFor}
 use Rattle.log_order.specs.Log.{Log}
 use Rattle.proof_ledger.specs.Book.{BookEntry, axiomatic}
@@ -16,7 +16,7 @@ use Rattle.proof_ledger.specs.Kept.{LedgerState}
 use Rattle.prop_core.specs.Clauses.{Clause}
 use Rattle.prop_core.specs.declared.lit.Lit.{Lit}
 use Rattle.replay.specs.QuestionSize.{question_size}
-use Rattle.run_decode.specs.WholeNaming.{counter_after, counted_after}
+use Rattle.run_decode.specs.QuestionAxioms.{added_axioms, added_built}
 
 -- ---- what the counter gets
 
@@ -71,13 +71,11 @@ pub record KeepsAllButRoom {R : Type 0} (old new : Parts R) (old_book new_book :
 
 -- ---- what there is with it
 
--- The code of the log has the addition of the draft, and the counter has the input that comes with it. The book got the clauses of the draft as axioms, and then what the counter says of its input. All else is as it was.
-pub record HasAddition {R : Type 0} (draft : DraftState) (old new : Parts R) (old_book new_book : List BookEntry) : Type 0 where
-  pub step : new.step ≡ old.step
-  pub code : new.code.code ≡ code_after old.code.code draft.addition old.vars
-  pub counter : new.counter ≡ counter_after old.code.code old.counter draft.addition old.vars
+-- Parts and axioms are what was built before, with this addition. Its axioms are all that the book got, and what ranks is as it was.
+pub record HasAddition {R : Type 0} (addition : Addition) (old new : Parts R) (old_book new_book : List BookEntry) : Type 0 where
+  pub built : built_of new new_book ≡ added_built (built_of old old_book) addition
+  pub put : new_book ≡ old_book ++ map axiomatic (added_axioms (built_of old old_book) addition)
   pub rank : new.solver.order.rank ≡ old.solver.order.rank
-  pub axioms : new_book ≡ old_book ++ map axiomatic (draft.clauses ++ counted_after old.code.code old.counter draft.addition old.vars)
 
 -- Axioms were added, and nothing else: at most 12 for each unit by which the size of the question grew, and 12.
 pub record AddsFew (net : Net) (n : ℕ) (before now : Log) (old new : List BookEntry) : Type 0 where

@@ -129,7 +129,7 @@ pub fn add_draft<R: Fn(u32) -> u64>(reserved: Reserved, parts: &mut Parts<R>, bo
     requires ready { AreReady R.pre R.post parts.old book.old.entries }
     requires reserved { IsReserved parts.old book.old reserved }
     ensures ready { AreReady R.pre R.post parts.new book.new.entries }
-    ensures added { HasAddition reserved.draft parts.old parts.new book.old.entries book.new.entries }
+    ensures added { HasAddition reserved.draft.addition parts.old parts.new book.old.entries book.new.entries }
     ensures few { AddsFew parts.old.code.code.net parts.old.code.code.grid.steps parts.old.code.code.log parts.new.code.code.log book.old.entries book.new.entries }
 {
     let Reserved {

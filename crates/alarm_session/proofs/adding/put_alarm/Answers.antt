@@ -1,12 +1,11 @@
-use Rattle.std.proofs.Common.{ℕ, [], Err, subst, sym}
-use Rattle.alarm_session.proofs.Joining.{becomes_with, kept_roomy, kept_with, own_draft, own_fits}
+use Rattle.std.proofs.Common.{ℕ, [], Err, refl, subst, sym}
+use Rattle.alarm_session.proofs.Joining.{becomes_with, kept_roomy, kept_with, on_err, own_draft, own_fits, stage_roomy}
 use Rattle.alarm_session.proofs.Keeping.{alarm_codes}
 use Rattle.alarm_session.proofs.Refusing.{refused_by_log}
 use Rattle.alarm_session.proofs.adding.put_alarm.Goals as goal
+use Rattle.alarm_session.specs.Additions.{alarm_addition}
 use Rattle.alarm_session.specs.Refusals.{Answers, alarm_answer}
 use Rattle.alarm_session.specs.declared.refusal.SessionRefusal.{SessionRefusal}
-use Rattle.log_clauses.specs.Additions.{alarm_added}
-use Rattle.log_encode.specs.CodedLog.{nameless}
 use Rattle.log_order.specs.Adding.{with_alarm, with_texts}
 
 pub reserve_draft-requires-clause-drafted : goal.reserve_draft-requires-clause-drafted
@@ -19,7 +18,7 @@ pub returns-in-Ok-clause-kept : goal.returns-in-Ok-clause-kept
 returns-in-Ok-clause-kept g c =
     let kept = c.args.kept.now in
     let labels = with_texts [] c.args.labels.now in
-    kept_with c.args.setting.net.now c.args.setting.steps kept (alarm_added (nameless labels c.args.doubtful)) (with_alarm kept.log c.args.id c.args.labels.now c.args.doubtful) c.in_ok-drafted.drafted c.in_ok-drafted.ensures.drafted
+    kept_with c.args.setting.net.now c.args.setting.steps kept (alarm_addition c.args.labels.now c.args.doubtful) (with_alarm kept.log c.args.id c.args.labels.now c.args.doubtful) c.in_ok-drafted.drafted c.in_ok-drafted.ensures.drafted
     c.requires.kept.of_log (alarm_codes kept.log kept.parts.code.code.log c.args.id labels c.args.doubtful c.requires.kept.of_log.belong.same_log) c.reserve_draft.new.parts c.add_draft.new.parts c.reserve_draft.new.book c.add_draft.new.book
     c.reserve_draft.ensures.kept c.in_ok-reserved.reserved.draft c.in_ok-reserved.ensures.draft c.add_draft.ensures.added c.add_to_log.new.log c.in-Ok.ensures.ok (goal.R-pre g) (goal.R-post g) c.add_draft.ensures.ready
 
@@ -27,10 +26,17 @@ pub returns-in-Ok-clause-added : goal.returns-in-Ok-clause-added
 returns-in-Ok-clause-added g c =
     let kept = c.args.kept.now in
     let labels = with_texts [] c.args.labels.now in
-    becomes_with c.args.setting.net.now c.args.setting.steps kept (alarm_added (nameless labels c.args.doubtful)) (with_alarm kept.log c.args.id c.args.labels.now c.args.doubtful) c.in_ok-drafted.drafted c.in_ok-drafted.ensures.drafted
+    becomes_with c.args.setting.net.now c.args.setting.steps kept (alarm_addition c.args.labels.now c.args.doubtful) (with_alarm kept.log c.args.id c.args.labels.now c.args.doubtful) c.in_ok-drafted.drafted c.in_ok-drafted.ensures.drafted
     c.requires.kept.of_log (alarm_codes kept.log kept.parts.code.code.log c.args.id labels c.args.doubtful c.requires.kept.of_log.belong.same_log) c.reserve_draft.new.parts c.add_draft.new.parts c.reserve_draft.new.book c.add_draft.new.book
     c.reserve_draft.ensures.kept c.in_ok-reserved.reserved.draft c.in_ok-reserved.ensures.draft c.add_draft.ensures.added c.add_to_log.new.log c.in-Ok.ensures.ok (goal.R-pre g) (goal.R-post g) c.add_draft.ensures.ready
-    c.requires.kept.ready.coded c.add_draft.ensures.few
+    c.requires.kept.ready.coded c.add_draft.ensures.few c.in_ok-drafted.drafted.size
+
+pub returns-in_err-reserved-clause-same : goal.returns-in_err-reserved-clause-same
+returns-in_err-reserved-clause-same g c =
+    on_err _ _ (stage_roomy c.args.kept.now c.reserve_draft.new.parts c.reserve_draft.new.book c.args.kept.now.log c.args.kept.now.size c.reserve_draft.ensures.kept refl)
+
+pub returns-in-Err-clause-same : goal.returns-in-Err-clause-same
+returns-in-Err-clause-same g c = stage_roomy c.args.kept.now c.reserve_draft.new.parts c.reserve_draft.new.book c.add_to_log.new.log c.args.kept.now.size c.reserve_draft.ensures.kept c.in-Err.ensures.err
 
 pub returns-in-Err-clause-kept : goal.returns-in-Err-clause-kept
 returns-in-Err-clause-kept g c =

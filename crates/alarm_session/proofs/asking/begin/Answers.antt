@@ -1,10 +1,21 @@
-use Rattle.std.proofs.Common.{None, ap, arith, refl}
+use Rattle.std.proofs.Common.{◌∙◌, None, ap, arith, refl}
 use Rattle.alarm_session.proofs.Refusing.{accepted}
+use Rattle.alarm_session.proofs.Stages.{stage_begun}
 use Rattle.alarm_session.proofs.asking.begin.Goals as goal
 use Rattle.log_order.specs.Log.{no_log}
 use Rattle.replay.specs.QuestionSize.{question_size}
+use Rattle.sat_solve.specs.Solving.{SolverState}
 
 pub returns-in-Ok-clause-refused : goal.returns-in-Ok-clause-refused
 returns-in-Ok-clause-refused g c =
     let log = ap (λ l. question_size c.args.setting.net.now l c.args.setting.steps) c.new-log.ensures in
     accepted None (question_size c.args.setting.net.now no_log c.args.setting.steps) refl (omega (arith, c.question_size-size.ensures.size, log, c.if-size-gt-MOST_SIZE.false))
+
+pub returns-in-Ok-clause-begun : goal.returns-in-Ok-clause-begun
+returns-in-Ok-clause-begun g c =
+    let built = c.in-Ok.ensures.built in
+    record {
+      stage = stage_begun c.args.setting.net.now c.args.setting.steps (record { log = c.new-log.result; size = c.question_size-size.result; parts = c.in-Ok.parts; book = c.build.new.book }) c.args.book.entries
+          c.new-log.ensures c.requires.empty c.build.ensures.axioms built.columns built.built;
+      rank_is = built.rank ∙ ap (λ (s : SolverState _). s.order.rank) c.new-solver.ensures;
+    }

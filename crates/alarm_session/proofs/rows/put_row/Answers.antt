@@ -2,6 +2,7 @@ use Rattle.std.proofs.Common.{rules, ◌∙◌, false, true, subst, sym}
 use Rattle.alarm_session.proofs.Rowing.{alarm_again, alarm_wanted, before_again, before_wanted, maybe_again, maybe_wanted, nothing_added}
 use Rattle.alarm_session.proofs.rows.put_row.Goals as goal
 use Rattle.alarm_session.specs.Refusals.{Answers, alarm_answer, before_answer}
+use Rattle.alarm_session.specs.Session.{stage_of}
 
 pub returns-in_err-put_alarm-in-Alarm-clause-refused : goal.returns-in_err-put_alarm-in-Alarm-clause-refused
 returns-in_err-put_alarm-in-Alarm-clause-refused g c =
@@ -47,17 +48,17 @@ returns-in_ok-put_before-in-Before-clause-refused g c =
     ∙ c.in_ok-put_before-in-Before.ensures.refused
 
 pub returns-in-Ask-clause-added : goal.returns-in-Ask-clause-added
-returns-in-Ask-clause-added g c = nothing_added c.args.setting.net.now c.args.setting.steps 0 c.args.kept.now.log c.args.kept.now.log c.args.row.now c.args.kept.now.book.entries c.args.kept.now.book.entries c.in-Ask.is
+returns-in-Ask-clause-added g c = nothing_added c.args.setting.net.now c.args.setting.steps (stage_of c.args.kept.now) c.args.row.now c.in-Ask.is
 
 pub returns-in_ok-put_alarm-in-Alarm-clause-again : goal.returns-in_ok-put_alarm-in-Alarm-clause-again
 returns-in_ok-put_alarm-in-Alarm-clause-again g c =
-    alarm_again c.args.kept.now.log c.put_alarm.new.kept.log c.args.row.now c.args.kept.now.book.entries c.put_alarm.new.kept.book.entries c.in-Alarm.id c.in-Alarm.labels c.in-Alarm.is
+    alarm_again c.args.kept.now.log c.args.row.now (stage_of c.args.kept.now) (stage_of c.put_alarm.new.kept) c.in-Alarm.id c.in-Alarm.labels c.in-Alarm.is
 
 pub returns-in_ok-put_alarm-in-Maybe-clause-again : goal.returns-in_ok-put_alarm-in-Maybe-clause-again
 returns-in_ok-put_alarm-in-Maybe-clause-again g c =
-    maybe_again c.args.kept.now.log c.put_alarm-in-Maybe.new.kept.log c.args.row.now c.args.kept.now.book.entries c.put_alarm-in-Maybe.new.kept.book.entries c.in-Maybe.id c.in-Maybe.labels c.in-Maybe.is
+    maybe_again c.args.kept.now.log c.args.row.now (stage_of c.args.kept.now) (stage_of c.put_alarm-in-Maybe.new.kept) c.in-Maybe.id c.in-Maybe.labels c.in-Maybe.is
 
 pub returns-in_ok-put_before-in-Before-clause-again : goal.returns-in_ok-put_before-in-Before-clause-again
 returns-in_ok-put_before-in-Before-clause-again g c =
-    before_again c.args.kept.now.log c.put_before.new.kept.log c.args.row.now c.args.kept.now.book.entries c.put_before.new.kept.book.entries c.in-Before.first c.in-Before.second c.in_ok-put_before-in-Before.field-0 c.in-Before.is
+    before_again c.args.kept.now.log c.args.row.now (stage_of c.args.kept.now) (stage_of c.put_before.new.kept) c.in-Before.first c.in-Before.second c.in_ok-put_before-in-Before.field-0 c.in-Before.is
     c.in_ok-put_before-in-Before.ensures.new c.in_ok-put_before-in-Before.ensures.again

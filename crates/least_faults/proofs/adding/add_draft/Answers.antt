@@ -1,6 +1,6 @@
-use Rattle.std.proofs.Common.{◌≡◌, ◌∙◌, ◌+◌, ◌*◌, ◌++◌, List, map, length, ap, arith, refl, subst, sym}
+use Rattle.std.proofs.Common.{◌≡◌, ◌∙◌, ◌+◌, ◌*◌, ◌++◌, List, map, length, ap, arith, subst, sym}
 use Rattle.card_counter.proofs.States.{made_later}
-use Rattle.least_faults.proofs.Drafts.{axioms_few, clauses_listed, code_joined, counter_added, draft_added, few_added, inputs_may_count, variables_fit}
+use Rattle.least_faults.proofs.Drafts.{axioms_few, built_added, clauses_built, draft_added, few_added, inputs_may_count, variables_fit}
 use Rattle.least_faults.proofs.Freshness.{known_after}
 use Rattle.least_faults.proofs.adding.add_draft.Goals as goal
 use Rattle.least_faults.specs.Adding.{input_count}
@@ -79,18 +79,15 @@ returns-clause-added g c =
     let old = c.args.parts.now in
     let count : c.fresh.new.self ≡ old.vars + c.args.reserved.draft.vars = omega (arith, c.fresh.ensures.count, c.vars.ensures) in
     record {
-      step = refl;
-      code = code_joined old.step old.code.code c.commit.new.self.code old.counter old.vars c.fresh.new.self c.args.book.now.entries c.requires.ready.coded c.args.reserved.draft c.requires.reserved.drafted c.requires.reserved.fits
-          count c.commit.ensures c.args.reserved.doubtful c.requires.reserved.doubted;
-      counter = counter_added old.step old.code.code c.commit.new.self.code old.counter old.vars c.fresh.new.self c.args.book.now.entries c.requires.ready.coded c.args.reserved.draft c.requires.reserved.drafted c.requires.reserved.fits
+      built = built_added old.step old.code.code c.commit.new.self.code old.counter old.vars c.fresh.new.self c.args.book.now.entries c.requires.ready.coded c.args.reserved.draft c.requires.reserved.drafted c.requires.reserved.fits
           count c.commit.ensures c.args.reserved.doubtful c.requires.reserved.doubted c.count_false.new.counter c.count_false.new.vars c.args.reserved.clauses.clauses c.count_false.new.clauses.clauses
-          c.requires.reserved.written c.count_false.ensures;
-      rank = ap (λ (s : SolverState _). s.order.rank) c.adopt.ensures.value;
-      axioms = c.push_axioms.ensures
+          c.requires.reserved.written c.count_false.ensures c.push_axioms.new.book.entries c.push_axioms.ensures;
+      put = c.push_axioms.ensures
           ∙ ap (λ (cs : List Clause). c.args.book.now.entries ++ map axiomatic cs)
-          (clauses_listed old.step old.code.code c.commit.new.self.code old.counter old.vars c.fresh.new.self c.args.book.now.entries c.requires.ready.coded c.args.reserved.draft c.requires.reserved.drafted c.requires.reserved.fits
+          (clauses_built old.step old.code.code c.commit.new.self.code old.counter old.vars c.fresh.new.self c.args.book.now.entries c.requires.ready.coded c.args.reserved.draft c.requires.reserved.drafted c.requires.reserved.fits
           count c.commit.ensures c.args.reserved.doubtful c.requires.reserved.doubted c.count_false.new.counter c.count_false.new.vars c.args.reserved.clauses.clauses c.count_false.new.clauses.clauses
           c.requires.reserved.written c.count_false.ensures);
+      rank = ap (λ (s : SolverState _). s.order.rank) c.adopt.ensures.value;
     }
 
 pub returns-clause-few : goal.returns-clause-few

@@ -4,4 +4,4 @@ use Rattle.alarm_session.specs.Refusals.{Answers, alarm_answer}
 use Rattle.alarm_session.specs.Session.{SessionState}
 
 pub returns-clause-refused : goal.returns-clause-refused
-returns-clause-refused g c = subst (λ (s : SessionState _). Answers c.put_alarm.result (alarm_answer s.net s.steps s.log c.args.id c.args.labels.now true)) c.self.view_is c.put_alarm.ensures.refused
+returns-clause-refused g c = subst (λ (s : SessionState _). Answers c.put_alarm.result (alarm_answer s.net s.steps s.stage.log c.args.id c.args.labels.now true)) c.self.view_is c.put_alarm.ensures.refused
