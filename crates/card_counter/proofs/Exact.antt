@@ -13,8 +13,9 @@ use Rattle.card_counter.proofs.ListLemmas.{flat_each, flat_from}
 use Rattle.card_counter.proofs.Counts.{count_cons, Reaches, reached, counting}
 use Rattle.card_counter.proofs.NameLemmas.{no_name, counter_names_stand}
 use Rattle.card_counter.specs.CounterClauses.{CountClause, counts_on, counts_up, opposite, count_clause, IsCountClause, IsOfColumns, IsNamedCount}
-use Rattle.card_counter.specs.CounterState.{CounterState, IsPlace, IsCounter, variable, column_at, column_before, positive, Reached, always, never, told_by, reached_in, reached_before, under, place_clauses, input_at, no_input, column_clauses, counter_clauses, bound_literal, counter_names}
+use Rattle.card_counter.specs.CounterState.{CounterState, IsPlace, IsCounter, variable, column_at, column_before, positive, Reached, always, never, told_by, reached_in, reached_before, under, place_clauses, input_at, column_clauses, counter_clauses, bound_literal, counter_names}
 use Rattle.card_counter.specs.Counting.{true_count, AgreeOutside, Extends, CounterIsExact, is_count, counted, NamedCountIsExact}
+use Rattle.prop_core.specs.Trail.{no_literal}
 
 -- ---- clauses with premises
 
@@ -139,14 +140,14 @@ module _ (state : CounterState) (value : ℕ → Bool) where
     counted_said : (i j : ℕ) → IsPlace state i j → Said (under (reached_before (column_before state.columns j) i) (negation (input_at state.inputs i) ∷ positive (variable state i j) ∷ []))
     counted_said i zero place = under_said value always (negation (input_at state.inputs i) ∷ positive (variable state i 0) ∷ []) (λ is.
         with_literal_false (value (input_at state.inputs i).var) (input_at state.inputs i).positive (literal_true value (positive (variable state i 0)) || false) (λ input.
-        alone_back (value (variable state i 0)) (counts i 0 place ∙ rules.counted i 0 (input_at state.inputs i) (slice_get-get_or state.inputs i no_input place.input) place.column input (inl refl))))
+        alone_back (value (variable state i 0)) (counts i 0 place ∙ rules.counted i 0 (input_at state.inputs i) (slice_get-get_or state.inputs i no_literal place.input) place.column input (inl refl))))
     counted_said zero (suc j) place = tt
     counted_said (suc i) (suc j) place =
         let before : IsPlace state i j = record { input = omega (arith, place.input); column = omega (arith, place.column) } in
         under_said value (told_by (variable state i j)) (negation (input_at state.inputs (suc i)) ∷ positive (variable state (suc i) (suc j)) ∷ []) (λ is.
         with_literal_false (value (input_at state.inputs (suc i)).var) (input_at state.inputs (suc i)).positive (literal_true value (positive (variable state (suc i) (suc j))) || false) (λ input.
         alone_back (value (variable state (suc i) (suc j))) (counts (suc i) (suc j) place
-        ∙ rules.counted (suc i) (suc j) (input_at state.inputs (suc i)) (slice_get-get_or state.inputs (suc i) no_input place.input) place.column input (inr (omega arith, sym (counts i j before) ∙ is)))))
+        ∙ rules.counted (suc i) (suc j) (input_at state.inputs (suc i)) (slice_get-get_or state.inputs (suc i) no_literal place.input) place.column input (inr (omega arith, sym (counts i j before) ∙ is)))))
 
     pub all_said : Said (counter_clauses state)
     all_said = flat_from (λ clause. IsTrue (clause_true value clause)) (λ k. column_clauses state.inputs (column_before state.columns k) (column_at state.columns k)) (length state.columns) (λ j h.

@@ -8,7 +8,8 @@ use Rattle.prop_core.specs.declared.lit.Lit.{Lit}
 use Rattle.prop_core.specs.Clauses.{Clause, negation}
 use Rattle.card_counter.proofs.ListLemmas.{flat_contains, flat_of}
 use Rattle.card_counter.proofs.States.{made_later}
-use Rattle.card_counter.specs.CounterState.{CounterState, IsPlace, IsCounter, IsMade, reached_in, reached_before, told_by, under, positive, variable, var_at, column_at, column_before, input_at, no_input, place_clauses, column_clauses, counter_clauses, longer, with_input, input_clauses, IsFull, IsOutside, InputsGrow, InputsAddClauses}
+use Rattle.card_counter.specs.CounterState.{CounterState, IsPlace, IsCounter, IsMade, reached_in, reached_before, told_by, under, positive, variable, var_at, column_at, column_before, input_at, place_clauses, column_clauses, counter_clauses, longer, with_input, input_clauses, IsFull, IsOutside, InputsGrow, InputsAddClauses}
+use Rattle.prop_core.specs.Trail.{no_literal}
 
 -- ---- longer columns
 
@@ -58,7 +59,7 @@ module _ (state : CounterState) (input : Lit) (first : ℕ) (full : IsFull state
   before_same (suc j) i inside h = reached_same j i inside (omega arith)
 
   input_same : (i : ℕ) → i < length state.inputs → input_at (state.inputs ++ input ∷ []) i ≡ input_at state.inputs i
-  input_same i h = get_or-append state.inputs (input ∷ []) no_input i h
+  input_same i h = get_or-append state.inputs (input ∷ []) no_literal i h
 
   place_same : (j i : ℕ) → i < length state.inputs → j < length state.columns →
       place_clauses (input_at (state.inputs ++ input ∷ []) i) (column_before (longer first state.columns) j) (column_at (longer first state.columns) j) i
@@ -74,7 +75,7 @@ module _ (state : CounterState) (input : Lit) (first : ℕ) (full : IsFull state
   new_at j i = place_clauses (input_at (state.inputs ++ input ∷ []) i) (column_before (longer first state.columns) j) (column_at (longer first state.columns) j) i
 
   last_input : input_at (state.inputs ++ input ∷ []) (length state.inputs) ≡ input
-  last_input = get_or-append_seam state.inputs input [] no_input
+  last_input = get_or-append_seam state.inputs input [] no_literal
 
   last_same : (j : ℕ) → new_at j (length state.inputs) ≡ place_clauses input (column_before (longer first state.columns) j) (column_at (longer first state.columns) j) (length state.inputs)
   last_same j = ap (λ l. place_clauses l (column_before (longer first state.columns) j) (column_at (longer first state.columns) j) (length state.inputs)) last_input

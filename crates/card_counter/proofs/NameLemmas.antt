@@ -5,8 +5,9 @@ use Rattle.std.proofs.lemmas.Bool.{ne_eqb, eq-eqb}
 use Rattle.des_base.proofs.Elements.{all_at}
 use Rattle.prop_core.specs.VariableNames.{Name, reaches, HasEachOnce, name_of}
 use Rattle.card_counter.proofs.ListLemmas.{flat_contains, flat_of, map_contains, map_of, pairs_flat, pairs_map}
-use Rattle.card_counter.specs.CounterState.{CounterState, IsPlace, IsCounter, variable, numbers_below, counter_names}
+use Rattle.card_counter.specs.CounterState.{CounterState, IsPlace, IsCounter, variable, counter_names}
 use Rattle.card_counter.specs.Counting.{CounterNamesStand}
+use Rattle.des_base.specs.Lists.{numbers_below}
 
 -- the name of a variable that stands among the names
 pub named_by_entry : (names : List (ℕ × Name)) → HasEachOnce names → (var : ℕ) (name : Name) → Contains names (var, name) → name_of names var ≡ Some name

@@ -8,8 +8,10 @@ use Rattle.prop_core.specs.Clauses.{Clause, negation}
 use Rattle.card_counter.proofs.Inputs.{longer_size}
 use Rattle.card_counter.proofs.ListLemmas.{flat_next}
 use Rattle.card_counter.proofs.States.{at_end, before_front, one_more_column}
-use Rattle.card_counter.specs.CounterState.{CounterState, positive, negative, variable, column_at, column_before, column_clauses, place_clauses, input_at, no_input, kept_at, counted_at, clauses_of_column, clauses_of_input, numbers_below, with_column, next_clauses, longer, with_input, input_clauses}
+use Rattle.card_counter.specs.CounterState.{CounterState, positive, negative, variable, column_at, column_before, column_clauses, place_clauses, input_at, kept_at, counted_at, clauses_of_column, clauses_of_input, with_column, next_clauses, longer, with_input, input_clauses}
 use Rattle.card_counter.specs.Growing.{HasRoom, AddsWithin}
+use Rattle.des_base.specs.Lists.{numbers_below}
+use Rattle.prop_core.specs.Trail.{no_literal}
 
 -- ---- case by case
 
@@ -99,5 +101,5 @@ last_input old input first =
     let size = length-append old.inputs (input ∷ []) in
     let last : length (old.inputs ++ input ∷ []) - 1 ≡ length old.inputs = omega (arith, size) in
     ap (λ k. flat_map (λ j. place_clauses (input_at (old.inputs ++ input ∷ []) k) (column_before (longer first old.columns) j) (column_at (longer first old.columns) j) k) (numbers_below (length (longer first old.columns)))) last
-    ∙ ap (λ l. flat_map (λ j. place_clauses l (column_before (longer first old.columns) j) (column_at (longer first old.columns) j) (length old.inputs)) (numbers_below (length (longer first old.columns)))) (get_or-append_seam old.inputs input [] no_input)
+    ∙ ap (λ l. flat_map (λ j. place_clauses l (column_before (longer first old.columns) j) (column_at (longer first old.columns) j) (length old.inputs)) (numbers_below (length (longer first old.columns)))) (get_or-append_seam old.inputs input [] no_literal)
     ∙ ap (λ n. flat_map (λ j. place_clauses input (column_before (longer first old.columns) j) (column_at (longer first old.columns) j) (length old.inputs)) (numbers_below n)) (longer_size first old.columns)

@@ -4,7 +4,7 @@ use Rattle.std.specs.List.{range_with_len, AllByRecursion}
 use Rattle.std.proofs.Math.ListN.{get_or-append}
 use Rattle.std.proofs.lemmas.List.{drop_all, drop-append-le, get_or-append_right, get_or-map, get_or-drop, length-drop, map-append}
 use Rattle.std.proofs.lemmas.List.FromFn.{get_or-range_with_len, length-range_with_len}
-use Rattle.des_base.proofs.Elements.{all_change}
+use Rattle.des_base.proofs.Elements.{all_change, all_push}
 use Rattle.des_base.specs.declared.TheConstants.{VAR_LIMIT}
 use Rattle.prop_core.specs.declared.lit.Lit.{Lit}
 use Rattle.prop_core.specs.Clauses.{Clause}
@@ -92,10 +92,6 @@ columns_put rows j (c ∷ columns) column =
 new_column : (rows : List ℕ) (j : ℕ) (column : Column) → length rows ≤ column.count → column_of rows j column ≡ range_with_len column.first column.count
 new_column rows j column h = ap (λ xs. range_with_len column.first column.count ++ map (λ first. first + j) xs) (drop_all column.count rows h) ∙ append-nil (range_with_len column.first column.count)
 
-all_put : {X : Type 0} (P : X → Type 0) (xs : List X) (x : X) → AllByRecursion P xs → P x → AllByRecursion P (xs ++ x ∷ [])
-all_put P [] x all last = (last, tt)
-all_put P (y ∷ xs) x all last = (all.0, all_put P xs x all.1 last)
-
 -- what is known where the column was added: the state before, and the fields after
 pub record IsAdded (old : CounterState) (vars : ℕ) (inputs : List Lit) (rows : List ℕ) (columns later : List Column) (spare : ℕ) (column : Column) : Type 0 where
   pub view : counter_of inputs rows columns spare ≡ old
@@ -141,7 +137,7 @@ module _ (old : CounterState) (vars : ℕ) (inputs : List Lit) (rows : List ℕ)
   added_laid = record {
     each = added.laid.each;
     counts = subst (AllByRecursion (λ (c : Column). c.count ≤ length rows)) (sym added.pushed)
-        (all_put (λ (c : Column). c.count ≤ length rows) columns column added.laid.counts (omega (arith, added.size, added.laid.each)));
+        (all_push (λ (c : Column). c.count ≤ length rows) columns column added.laid.counts (omega (arith, added.size, added.laid.each)));
     small = small;
     few = omega (arith, later_size, columns_same, added.few);
   }

@@ -10,8 +10,9 @@ use Rattle.prop_core.specs.declared.lit.Lit.{Lit}
 use Rattle.prop_core.specs.Clauses.{Clause, HasValues}
 use Rattle.prop_core.specs.VariableNames.{Name, reaches}
 use Rattle.card_counter.proofs.ListLemmas.{flat_same, flat_next, map_same}
-use Rattle.card_counter.specs.CounterState.{CounterState, IsPlace, IsCounter, IsMade, variable, var_at, column_at, column_before, column_clauses, without_columns, with_column, next_clauses, ColumnsAddClauses, numbers_below, next_names, ColumnsAddNames, with_room}
+use Rattle.card_counter.specs.CounterState.{CounterState, IsPlace, IsCounter, IsMade, variable, var_at, column_at, column_before, column_clauses, without_columns, with_column, next_clauses, ColumnsAddClauses, next_names, ColumnsAddNames, with_room}
 use Rattle.card_counter.specs.Growing.{MayCount}
+use Rattle.des_base.specs.Lists.{numbers_below}
 
 pub one_more_column : {X : Type 0} (xs : List X) (x : X) → length (xs ++ x ∷ []) ≡ suc (length xs)
 one_more_column xs x = omega (arith, length-append xs (x ∷ []))

@@ -1,12 +1,12 @@
 -- At most one of a list of literals is true, and the clauses that say so: one for each pair of at most four, and a chain over more.
 use Rattle.std.specs.Prelude.{◌≡◌, ◌↔◌, ◌⊎◌, ◌+◌, ◌-◌, ◌<◌, ◌≤◌, ℕ, suc, Bool, List, [], ◌∷◌, ◌++◌, map, flat_map, length, Some, IsTrue, nat_le, nat_lt, if◌then◌else◌}
 use Rattle.des_base.specs.ChainCount.{chain_count}
-use Rattle.des_base.specs.Lists.{EachPair}
+use Rattle.des_base.specs.Lists.{EachPair, numbers_below}
 use Rattle.prop_core.specs.declared.lit.Lit.{Lit}
 use Rattle.prop_core.specs.Clauses.{Clause, negation, literal_true, AllClausesTrue, HasValues}
 use Rattle.prop_core.specs.NamedClauses.{IsCode}
 use Rattle.prop_core.specs.VariableNames.{Name, Exclusion, some_of_first, yes, name_of, named_clause}
-use Rattle.card_counter.specs.CounterState.{positive, negative, input_at, numbers_below}
+use Rattle.card_counter.specs.CounterState.{positive, negative, input_at}
 use Rattle.card_counter.specs.Exclusions.{IsNamedExclusion, named_exclusion}
 use Rattle.prop_core.specs.Listings.{IsListed}
 

@@ -1,8 +1,10 @@
 -- A counter: its inputs, the variables of its columns, and its clauses.
 use Rattle.std.specs.Prelude.{◌≡◌, ◌≢◌, ◌↔◌, ◌⊎◌, ℕ, zero, suc, ◌+◌, ◌-◌, ◌<◌, max, true, false, List, [], ◌∷◌, ◌++◌, map, flat_map, length, Option, None, Some, slice_index_or, Contains}
 use Rattle.std.specs.List.{range_with_len}
+use Rattle.des_base.specs.Lists.{numbers_below}
 use Rattle.prop_core.specs.declared.lit.Lit.{Lit}
 use Rattle.prop_core.specs.Clauses.{Clause, negation, HasValues}
+use Rattle.prop_core.specs.Trail.{no_literal}
 use Rattle.prop_core.specs.VariableNames.{Name, reaches}
 
 -- the inputs, for each column its variables, one for each input, and for how many more inputs there is room
@@ -14,9 +16,6 @@ pub record CounterState : Type 0 where
 -- with no columns, and no room
 abbrev pub without_columns : List Lit → CounterState
 without_columns inputs = record { inputs = inputs; columns = []; spare_inputs = 0 }
-
-abbrev pub numbers_below : ℕ → List ℕ
-numbers_below n = range_with_len 0 n
 
 abbrev pub column_at : List (List ℕ) → ℕ → List ℕ
 column_at columns j = slice_index_or columns j []
@@ -86,11 +85,8 @@ counted_clauses input before column i = under (reached_before before i) (negatio
 abbrev pub place_clauses : Lit → Option (List ℕ) → List ℕ → ℕ → List Clause
 place_clauses input before column i = kept_clauses column i ++ counted_clauses input before column i
 
-abbrev pub no_input : Lit
-no_input = record { var = 0; positive = false }
-
 abbrev pub input_at : List Lit → ℕ → Lit
-input_at inputs i = slice_index_or inputs i no_input
+input_at inputs i = slice_index_or inputs i no_literal
 
 -- the clauses of a column, input by input
 abbrev pub column_clauses : List Lit → Option (List ℕ) → List ℕ → List Clause

@@ -10,7 +10,7 @@ use Rattle.des_net.specs.Network.{Net, IsNetwork}
 use Rattle.least_faults.proofs.AxiomLists.{axioms_added, clauses_added, adds_both}
 use Rattle.least_faults.proofs.Assuming.{assumed_below}
 use Rattle.least_faults.proofs.Below.{axioms_below}
-use Rattle.least_faults.proofs.Posing.{poses}
+use Rattle.least_faults.proofs.Posing.{poses, asks_poses}
 use Rattle.least_faults.proofs.Staying.{belong_still, built_still}
 use Rattle.least_faults.specs.declared.parts.Parts.{Parts}
 use Rattle.least_faults.specs.Asking.{AreAssumed, AreAssumptions, assumed_by}
@@ -86,18 +86,6 @@ clauses_below vars clauses assumed below h =
     All-from_recursion (HasValues vars) (clauses ++ units assumed) (all_append (HasValues vars) clauses (units assumed) below (units_below vars assumed h))
 
 -- ---- what it asks
-
--- what asks a question poses it
-asks_poses : (net : Net) (log : Log) (n : ℕ) (bound : Option ℕ) (names : List (ℕ × Name)) (clauses : List Clause) (assumed : List Lit) →
-    IsNetwork net → IsValidLog log → Asks net log n bound names clauses assumed → IsPosed names clauses assumed net log n bound
-asks_poses net log n bound names clauses assumed network valid asks = record {
-  faithful = question_is_faithful net log n bound names clauses assumed network valid asks;
-  once = asks.question.once;
-  instances = all_from (IsInstance net log n names) clauses (λ clause here.
-      let found = all_at (λ c. (named : List NamedLiteral) × IsNamedQuestion net log n asks.columns named × ReadsAs names c named) clauses asks.question.code.only clause here in
-      (found.0, instances_of net log n asks.columns found.0 found.1, found.2));
-  assumes = asks.assumes;
-}
 
 no_inputs_read : (names : List (ℕ × Name)) (inputs : List Lit) (named : List NamedLiteral) → length inputs ≡ 0 → named_clause names inputs ≡ Some named → named ≡ []
 no_inputs_read names [] named none read = cc

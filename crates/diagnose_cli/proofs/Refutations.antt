@@ -48,6 +48,7 @@ use Rattle.diagnose_cli.specs.Formula.{bound_within, counted_bound, question_ass
 use Rattle.diagnose_cli.specs.Proof.{HasColumn, HasEvidence, HasEvidenceFor, IsLastFinal, IsRefuted}
 use Rattle.diagnose_cli.proofs.Formulas.{posed_by}
 use Rattle.diagnose_cli.proofs.LastFinals.{has_final, last_found}
+use Rattle.std.proofs.Math.ListN.{get_or-append}
 
 -- ---- what reads as the same literals is the same
 
@@ -193,15 +194,10 @@ inputs_same : (net : Net) (log : Log) (n columns : ℕ) → (question_built net 
 inputs_same net log n zero = refl
 inputs_same net log n (suc columns) = inputs_same net log n columns
 
-index_front : {X : Type 0} (xs ys : List X) (k : ℕ) (d : X) → k < length xs → slice_index_or (xs ++ ys) k d ≡ slice_index_or xs k d
-index_front [] ys k d less = absurd (omega (arith, less))
-index_front (x ∷ xs) ys zero d less = refl
-index_front (x ∷ xs) ys (suc k) d less = index_front xs ys k d (omega (arith, less))
-
 -- a column more leaves the literals of those before
 literal_stays : (counter : CounterState) (first k : ℕ) → k < length counter.columns → bound_literal (with_column counter first) k ≡ bound_literal counter k
 literal_stays counter first k less =
-    ap (λ (column : List ℕ). negative (var_at column (length counter.inputs - 1))) (index_front counter.columns (range_with_len first (length counter.inputs) ∷ []) k [] less)
+    ap (λ (column : List ℕ). negative (var_at column (length counter.inputs - 1))) (get_or-append counter.columns (range_with_len first (length counter.inputs) ∷ []) [] k less)
 
 literal_same : (net : Net) (log : Log) (n k more columns : ℕ) → columns ≡ more + (k + 1) → bound_literal (question_built net log n columns).counter k ≡ bound_literal (question_built net log n (k + 1)).counter k
 literal_same net log n k zero columns is =

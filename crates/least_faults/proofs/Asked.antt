@@ -14,7 +14,7 @@ use Rattle.least_faults.proofs.Entailing.{final_entailed}
 use Rattle.least_faults.proofs.Freshness.{fresh_after}
 use Rattle.least_faults.proofs.KnownVariables.{book_below, known_back}
 use Rattle.least_faults.proofs.Posing.{poses}
-use Rattle.least_faults.proofs.Putting.{counted_more, none_learnt, none_marked, none_final, derived_unmarked, same_axioms, learnt_no_final, no_final_in, none_joined, only_final, same_last, axioms_with_learnt}
+use Rattle.least_faults.proofs.Putting.{none_learnt, none_marked, none_final, derived_unmarked, same_axioms, learnt_no_final, no_final_in, none_joined, only_final, same_last, axioms_with_learnt}
 use Rattle.least_faults.proofs.Staying.{question_both, question_kept}
 use Rattle.least_faults.specs.declared.answer.Best.{Best}
 use Rattle.least_faults.specs.declared.asking.Asked.{Asked}
@@ -44,6 +44,7 @@ use Rattle.sat_solve.specs.Searching.{HasAxiomVars, IsSearched, HasPut, IsRefute
 use Rattle.sat_solve.specs.Solving.{SolverState}
 use Rattle.sat_solve.specs.declared.answer.Answer.TheVariants as solver
 use Rattle.std.proofs.lemmas.List.Elements.{Contains-append_cases as append_cases, Contains-append_left as append_left, Contains-append_right as append_right}
+use Rattle.run_decode.proofs.Faults.{count_append}
 use Rattle.run_decode.specs.WholeNaming.{whole_names}
 use Rattle.step_encode.specs.Coded.{CodedSteps}
 
@@ -62,14 +63,14 @@ both_whole old mid new before after adds searched = searched.whole ∙ ap (λ b.
 
 both_unmarked : (old mid new : List BookEntry) (before after : ℕ) → (adds : AddsAxioms old mid) → (searched : IsSearched mid new before after) → (number : ℕ) → count_by (is_mark number) (map axiomatic adds.axioms ++ searched.since) ≡ 0
 both_unmarked old mid new before after adds searched number =
-    let count = counted_more (is_mark number) (map axiomatic adds.axioms) searched.since in
+    let count = count_append (is_mark number) (map axiomatic adds.axioms) searched.since in
     let one = none_marked number adds.axioms in
     let two = derived_unmarked number searched.since searched.derived in
     omega (arith, count, one, two)
 
 both_paid : (old mid new : List BookEntry) (before after : ℕ) → (adds : AddsAxioms old mid) → (searched : IsSearched mid new before after) → count_by is_learnt (map axiomatic adds.axioms ++ searched.since) + after ≡ before
 both_paid old mid new before after adds searched =
-    let count = counted_more is_learnt (map axiomatic adds.axioms) searched.since in
+    let count = count_append is_learnt (map axiomatic adds.axioms) searched.since in
     let none = none_learnt adds.axioms in
     omega (arith, count, none, searched.number, searched.paid)
 

@@ -27,6 +27,7 @@ use Rattle.prop_core.specs.VariableNames.{ReadsAs, named_clause}
 use Rattle.prop_core.specs.declared.lit.Lit.{Lit}
 use Rattle.run_decode.specs.WholeNaming.{whole_names}
 use Rattle.sat_solve.specs.Solving.{AreCompatible}
+use Rattle.std.proofs.Math.ListN.{get_or-append}
 use Rattle.step_encode.specs.Coded.{CodedSteps}
 
 pub assumed_below : (steps : CodedSteps) (code : CodedLog) (counter : CounterState) (vars : ℕ) (axioms clauses : List Clause) (assumed : List Lit) (net : Net) (log : Log) (n : ℕ) (bound : Option ℕ) →
@@ -109,16 +110,11 @@ assumed_bound old new k guards literal assumed whole listed same columns literal
 
 -- ---- where the counter gets a column
 
-index_front : {X : Type 0} (xs ys : List X) (k : ℕ) (d : X) → k < length xs → slice_index_or (xs ++ ys) k d ≡ slice_index_or xs k d
-index_front [] ys k d less = absurd (omega (arith, less))
-index_front (x ∷ xs) ys zero d less = refl
-index_front (x ∷ xs) ys (suc k) d less = index_front xs ys k d (omega (arith, less))
-
 bound_stays : (old new : CounterState) (k : ℕ) → KeepsColumns old new → k < length old.columns → bound_literal new k ≡ bound_literal old k
 bound_stays old new k keeps less =
     ap (λ (inputs : List Lit). negative (var_at (column_at new.columns k) (length inputs - 1))) keeps.inputs
     ∙ ap (λ (columns : List (List ℕ)). negative (var_at (column_at columns k) (length old.inputs - 1))) keeps.more
-    ∙ ap (λ (column : List ℕ). negative (var_at column (length old.inputs - 1))) (index_front old.columns keeps.columns k [] less)
+    ∙ ap (λ (column : List ℕ). negative (var_at column (length old.inputs - 1))) (get_or-append old.columns keeps.columns [] k less)
 
 pub assumptions_stay : (code : CodedLog) (old new : CounterState) (bound : Option ℕ) (assumed : List Lit) → KeepsColumns old new → AreAssumptions code old bound assumed → AreAssumptions code new bound assumed
 assumptions_stay code old new None assumed keeps assumptions = record { guards = assumptions.guards; read = assumptions.read; whole = assumptions.whole; column = tt }

@@ -10,7 +10,7 @@ use Rattle.least_faults.proofs.Entailing.{final_entailed}
 use Rattle.least_faults.proofs.Freshness.{fresh_none, fresh_both}
 use Rattle.least_faults.proofs.KnownVariables.{known_back, known_front}
 use Rattle.least_faults.proofs.Posing.{poses}
-use Rattle.least_faults.proofs.Putting.{counted_more, no_final_in, learnt_no_final, last_later, last_earlier}
+use Rattle.least_faults.proofs.Putting.{no_final_in, learnt_no_final, last_later, last_earlier}
 use Rattle.least_faults.proofs.Telling.{tells_bound}
 use Rattle.least_faults.specs.declared.answer.Best.{Best}
 use Rattle.least_faults.specs.declared.answer.Found.{Found}
@@ -36,6 +36,7 @@ use Rattle.run_decode.specs.Drawn.{IsInstance}
 use Rattle.run_decode.specs.QuestionAxioms.{BuiltQuestion}
 use Rattle.run_decode.specs.WholeNaming.{whole_names}
 use Rattle.std.proofs.lemmas.List.Elements.{Contains-append_cases as append_cases, Contains-append_right as append_right}
+use Rattle.run_decode.proofs.Faults.{count_append}
 use Rattle.step_encode.specs.Coded.{CodedSteps}
 
 pub as_explained : (net : Net) (log : Log) (n : ℕ) (best : Best) → IsExplanation net log n best → IsExplained net log n best.faults
@@ -87,8 +88,8 @@ pub come_further : (code : CodedLog) (old new : CounterState) (begun now : Built
 come_further code old new begun now net log n k first mid last budget before after keeps at_first at_mid same_within come asked' = record {
   since = come.since ++ asked'.since;
   whole = asked'.whole ∙ ap (λ b. b ++ asked'.since) come.whole ∙ append_assoc first come.since asked'.since;
-  unmarked = λ number. counted_more (is_mark number) come.since asked'.since ∙ (let one = come.unmarked number in let two = asked'.unmarked number in omega (arith, one, two));
-  paid = (let count = counted_more is_learnt come.since asked'.since in omega (arith, count, come.paid, asked'.paid));
+  unmarked = λ number. count_append (is_mark number) come.since asked'.since ∙ (let one = come.unmarked number in let two = asked'.unmarked number in omega (arith, one, two));
+  paid = (let count = count_append is_learnt come.since asked'.since in omega (arith, count, come.paid, asked'.paid));
   fresh = fresh_both first mid come.since asked'.since come.whole come.fresh asked'.fresh;
   finals = finals_further code old new k come.since asked'.since keeps come.finals asked'.put.finals;
   below = λ j is. (let same : k ≡ j = omega (arith, is) in subst (λ i. IsRefutedBelow code new net log n i begun (come.since ++ asked'.since)) same (record {
@@ -110,8 +111,8 @@ pub come_on : (code : CodedLog) (old new : CounterState) (begun now : BuiltQuest
 come_on code old new begun now net log n k first mid last budget before after what keeps not come asked' = record {
   since = come.since ++ asked'.since;
   whole = asked'.whole ∙ ap (λ b. b ++ asked'.since) come.whole ∙ append_assoc first come.since asked'.since;
-  unmarked = λ number. counted_more (is_mark number) come.since asked'.since ∙ (let one = come.unmarked number in let two = asked'.unmarked number in omega (arith, one, two));
-  paid = (let count = counted_more is_learnt come.since asked'.since in omega (arith, count, come.paid, asked'.paid));
+  unmarked = λ number. count_append (is_mark number) come.since asked'.since ∙ (let one = come.unmarked number in let two = asked'.unmarked number in omega (arith, one, two));
+  paid = (let count = count_append is_learnt come.since asked'.since in omega (arith, count, come.paid, asked'.paid));
   fresh = fresh_both first mid come.since asked'.since come.whole come.fresh asked'.fresh;
   finals = finals_same code old new k come.since asked'.since keeps (asked'.put.none not) come.finals;
   below = λ j is. (let found = come.below j is in record {
@@ -129,8 +130,8 @@ pub searching_further : (first mid last : List BookEntry) (budget before after :
 searching_further first mid last budget before after one two = record {
   since = one.since ++ two.since;
   whole = two.whole ∙ ap (λ b. b ++ two.since) one.whole ∙ append_assoc first one.since two.since;
-  unmarked = λ number. counted_more (is_mark number) one.since two.since ∙ (let a = one.unmarked number in let b = two.unmarked number in omega (arith, a, b));
-  paid = (let count = counted_more is_learnt one.since two.since in omega (arith, count, one.paid, two.paid));
+  unmarked = λ number. count_append (is_mark number) one.since two.since ∙ (let a = one.unmarked number in let b = two.unmarked number in omega (arith, a, b));
+  paid = (let count = count_append is_learnt one.since two.since in omega (arith, count, one.paid, two.paid));
 }
 
 paid_within : (count left budget : ℕ) → count + left ≡ budget → count ≤ budget

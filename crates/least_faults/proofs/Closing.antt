@@ -9,7 +9,7 @@ use Rattle.least_faults.proofs.Assuming.{below_more}
 use Rattle.least_faults.proofs.ColumnsBuilt.{vars_grow, within_none}
 use Rattle.least_faults.proofs.Freshness.{fresh_both, known_same}
 use Rattle.least_faults.proofs.KnownVariables.{known_back, known_joined}
-use Rattle.least_faults.proofs.Putting.{counted_more, learnt_no_final, no_final_in, learnt_no_axioms}
+use Rattle.least_faults.proofs.Putting.{learnt_no_final, no_final_in, learnt_no_axioms}
 use Rattle.least_faults.proofs.Staying.{kept_by_axioms, with_axioms}
 use Rattle.least_faults.specs.declared.answer.Best.{Best}
 use Rattle.least_faults.specs.declared.answer.Found.{Found}
@@ -31,6 +31,7 @@ use Rattle.prop_core.specs.declared.lit.Lit.{Lit}
 use Rattle.least_faults.specs.declared.parts.Parts.{Parts}
 use Rattle.least_faults.specs.Asking.{IsSearching}
 use Rattle.least_faults.specs.Growing.{HasGrownWithin, KeepsQuestion}
+use Rattle.run_decode.proofs.Faults.{count_append}
 
 -- the axioms are the same where learnt entries came before
 same_front : (first : List Clause) (front entries : List BookEntry) → list_all is_learnt front ≡ true → first ++ axioms_of entries ≡ first ++ axioms_of (front ++ entries)
@@ -85,7 +86,7 @@ is_found_later names first front since net log n budget left Absent all_learnt k
 is_found_later names first front since net log n budget left (Many best) all_learnt known paid is =
     record { given = is.given; above = is.above; many = is.many; evidence = evidence_later names first front since net log n (Some 255) all_learnt known is.evidence }
 is_found_later names first front since net log n budget left (Undecided lo best) all_learnt known paid is = record {
-  spent = counted_more is_learnt front since ∙ (let rest = is.spent in omega (arith, rest, paid));
+  spent = count_append is_learnt front since ∙ (let rest = is.spent in omega (arith, rest, paid));
   above = is.above;
   evidence = λ b faults. evidence_later names first front since net log n (Some b) all_learnt known (is.evidence b faults);
   greatest = λ b assumed reads has. is.greatest b assumed reads (final_later front since assumed all_learnt has);
@@ -102,8 +103,8 @@ pub found_later : (names : List (ℕ × Name)) (begun now : BuiltQuestion) (net 
 found_later names begun now net log n budget left old mid new front answer same mid_known whole unmarked all_learnt paid found fresh = record {
   since = front ++ found.since;
   whole = found.whole ∙ ap (λ b. b ++ found.since) whole ∙ append_assoc old front found.since;
-  unmarked = λ number. counted_more (is_mark number) front found.since ∙ (let one = unmarked number in let two = found.unmarked number in omega (arith, one, two));
-  within = within (count_by is_learnt front) (count_by is_learnt found.since) (count_by is_learnt (front ++ found.since)) (counted_more is_learnt front found.since) found.within refl;
+  unmarked = λ number. count_append (is_mark number) front found.since ∙ (let one = unmarked number in let two = found.unmarked number in omega (arith, one, two));
+  within = within (count_by is_learnt front) (count_by is_learnt found.since) (count_by is_learnt (front ++ found.since)) (count_append is_learnt front found.since) found.within refl;
   fresh = fresh_both old mid front found.since whole fresh found.fresh;
   conflict = found.conflict;
   found = is_found_later names begun front found.since net log n budget left answer all_learnt front_known paid (subst (λ (first : BuiltQuestion). IsFound names first found.since net log n left answer) same found.found);
@@ -156,14 +157,14 @@ pub grown_opened : (budget left : ℕ) (old opened searched : List BookEntry) �
 grown_opened budget left old opened searched begins searching = record {
   since = mark 0 ∷ searching.since;
   whole = searching.whole ∙ ap (λ b. b ++ searching.since) begins ∙ append_assoc old (mark 0 ∷ []) searching.since;
-  within = (let paid = searching.paid in let one = counted_more is_learnt (mark 0 ∷ []) searching.since in omega (arith, paid, one));
+  within = (let paid = searching.paid in let one = count_append is_learnt (mark 0 ∷ []) searching.since in omega (arith, paid, one));
 }
 
 pub grown_closed : (budget : ℕ) (old searched new : List BookEntry) → new ≡ searched ++ mark 1 ∷ [] → HasGrownWithin budget old searched → HasGrownWithin budget old new
 grown_closed budget old searched new ends grown = record {
   since = grown.since ++ mark 1 ∷ [];
   whole = ends ∙ ap (λ b. b ++ mark 1 ∷ []) grown.whole ∙ append_assoc old grown.since (mark 1 ∷ []);
-  within = (let less = grown.within in let more = counted_more is_learnt grown.since (mark 1 ∷ []) in omega (arith, less, more));
+  within = (let less = grown.within in let more = count_append is_learnt grown.since (mark 1 ∷ []) in omega (arith, less, more));
 }
 
 -- a conflict stays one

@@ -8,9 +8,10 @@ use Rattle.std.proofs.lemmas.List.Sums.{sum_by-append}
 use Rattle.std.specs.List.{AllByRecursion}
 use Rattle.card_counter.proofs.Adding.{columns_stay, many_inputs_add}
 use Rattle.card_counter.proofs.States.{later_may_count}
-use Rattle.card_counter.specs.CounterState.{CounterState, IsMade, column_at, column_before, input_clauses, longer, numbers_below, place_clauses, with_input, with_inputs, inputs_clauses}
+use Rattle.card_counter.specs.CounterState.{CounterState, IsMade, column_at, column_before, input_clauses, longer, place_clauses, with_input, with_inputs, inputs_clauses}
 use Rattle.card_counter.specs.Growing.{AddsInputs, MayCount}
 use Rattle.des_base.proofs.Elements.{all_split, all_change}
+use Rattle.des_base.specs.Lists.{numbers_below}
 use Rattle.des_base.specs.declared.TheConstants.{VAR_LIMIT}
 use Rattle.least_faults.proofs.AddedClauses.{size_grows}
 use Rattle.least_faults.proofs.AxiomLists.{axioms_added, clauses_added}

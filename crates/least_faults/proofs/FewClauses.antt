@@ -4,9 +4,10 @@ use Rattle.std.specs.List.{sum_by}
 use Rattle.std.proofs.Math.Nat.{mul-suc}
 use Rattle.std.proofs.lemmas.List.FromFn.{length-range_with_len}
 use Rattle.std.proofs.lemmas.List.Sums.{sum_by-append}
-use Rattle.card_counter.specs.CounterState.{CounterState, Reached, always, never, told_by, reached_in, reached_before, under, place_clauses, input_at, column_before, numbers_below, next_clauses}
+use Rattle.card_counter.specs.CounterState.{CounterState, Reached, always, never, told_by, reached_in, reached_before, under, place_clauses, input_at, column_before, next_clauses}
 use Rattle.prop_core.specs.Clauses.{Clause}
 use Rattle.std.specs.List.{range_with_len}
+use Rattle.des_base.specs.Lists.{numbers_below}
 use Rattle.prop_core.specs.declared.lit.Lit.{Lit}
 
 -- there are at most so many clauses, with so many literals together

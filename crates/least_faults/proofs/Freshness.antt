@@ -3,13 +3,14 @@ use Rattle.std.proofs.Common.{◌≡◌, ◌∙◌, ℕ, Bool, true, false, ◌|
 use Rattle.std.proofs.lemmas.List.Folds.{list_any-append}
 use Rattle.std.specs.List.{list_any}
 use Rattle.least_faults.proofs.AxiomLists.{axioms_added, clauses_added}
-use Rattle.least_faults.proofs.Putting.{counted_more, none_learnt}
+use Rattle.least_faults.proofs.Putting.{none_learnt}
 use Rattle.least_faults.specs.Answers.{HaveLearntFresh}
 use Rattle.least_faults.specs.Growing.{AddsAxioms}
 use Rattle.proof_ledger.specs.Book.{BookEntry, axiomatic, mark, axioms_of, clauses_of, EachAfter}
 use Rattle.proof_ledger.specs.Fresh.{AreFresh, is_learnt, IfLearnt, IsFreshClause}
 use Rattle.prop_core.specs.Clauses.{Clause}
 use Rattle.prop_core.specs.Trail.{has_var}
+use Rattle.run_decode.proofs.Faults.{count_append}
 use Rattle.sat_solve.specs.Searching.{HasAxiomVars, IsSearched}
 
 -- ---- fresh clauses
@@ -37,8 +38,8 @@ learnt_between axioms since =
     let closing : count_by is_learnt (mark 1 ∷ []) ≡ 0 = refl in
     omega (
       arith,
-      counted_more is_learnt (map axiomatic axioms ++ mark 0 ∷ since) (mark 1 ∷ []),
-      counted_more is_learnt (map axiomatic axioms) (mark 0 ∷ since),
+      count_append is_learnt (map axiomatic axioms ++ mark 0 ∷ since) (mark 1 ∷ []),
+      count_append is_learnt (map axiomatic axioms) (mark 0 ∷ since),
       none_learnt axioms,
       opened,
       closing,

@@ -13,6 +13,7 @@ use Rattle.des_net.specs.declared.parts.Part.{Part}
 use Rattle.des_net.specs.Network.{Net, IsNetwork, IsEvent, IsPart, has_part, parts_of, touches, event_at, no_event, label_of}
 use Rattle.des_net.specs.QuestionSize.{component_sizes, observable_count, state_number, touching_count}
 use Rattle.run_clauses.proofs.Lists.{in_numbers}
+use Rattle.run_decode.proofs.SmallPieces.{first_of, first_there, first_known}
 
 -- ---- sums
 
@@ -33,21 +34,6 @@ one_within f (y ∷ xs) x in' = by (cons_cases y xs x in') (one_within f xs x)
     by (inr there) later = omega (arith, sum_by-cons f y xs, later there)
 
 -- ---- events
-
--- the component of the first part
-first_of : List Part → ℕ
-first_of [] = 0
-first_of (part ∷ parts) = part.comp
-
-first_there : (parts : List Part) → 0 < length parts → has_part parts (first_of parts) ≡ true
-unfolding first_of
-first_there [] h = absurd (omega arith)
-first_there (part ∷ parts) h = or_left (part.comp == part.comp) (has_part parts part.comp) (eq-eqb part.comp part.comp refl)
-
-first_known : (m : ℕ) (parts : List Part) → 0 < length parts → AllByRecursion (λ part. part.comp < m) parts → first_of parts < m
-unfolding first_of
-first_known m [] h known = absurd (omega arith)
-first_known m (part ∷ parts) h known = known.0
 
 bit : Bool → ℕ
 bit b = cond b 1 0

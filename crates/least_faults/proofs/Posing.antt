@@ -26,7 +26,7 @@ use Rattle.log_clauses.specs.LogClauses.{guard_literals}
 use Rattle.proof_ledger.specs.Book.{BookEntry, axioms_of}
 
 -- what asks a question poses it by the same names
-asks_poses : (net : Net) (log : Log) (n : ℕ) (bound : Option ℕ) (names : List (ℕ × Name)) (clauses : List Clause) (assumed : List Lit) →
+pub asks_poses : (net : Net) (log : Log) (n : ℕ) (bound : Option ℕ) (names : List (ℕ × Name)) (clauses : List Clause) (assumed : List Lit) →
     IsNetwork net → IsValidLog log → Asks net log n bound names clauses assumed → IsPosed names clauses assumed net log n bound
 asks_poses net log n bound names clauses assumed network valid asks = record {
   faithful = question_is_faithful net log n bound names clauses assumed network valid asks;

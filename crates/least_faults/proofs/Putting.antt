@@ -18,9 +18,6 @@ use Rattle.log_order.specs.Log.{Log}
 use Rattle.run_decode.specs.Faithful.{IsFaithful}
 use Rattle.run_decode.specs.QuestionAxioms.{BuiltQuestion}
 
-pub counted_more : {X : Type 0} (p : X → Bool) (xs ys : List X) → count_by p (xs ++ ys) ≡ count_by p xs + count_by p ys
-counted_more p xs ys = sum_by-append (λ x. cond (p x) 1 0) xs ys
-
 -- ---- axioms
 
 pub none_learnt : (clauses : List Clause) → count_by is_learnt (map axiomatic clauses) ≡ 0

@@ -6,6 +6,7 @@ use Rattle.std.specs.List.{range_with_len}
 use Rattle.std.proofs.lemmas.List.Elements.{filter_map-append}
 use Rattle.std.proofs.lemmas.Bool.{eqb-true, eq-eqb}
 use Rattle.std.proofs.lemmas.Option.{slice_get_within}
+use Rattle.des_base.proofs.Elements.{take_whole}
 use Rattle.prop_core.specs.declared.lit.Lit.{Lit}
 use Rattle.prop_core.specs.Clauses.{Clause}
 use Rattle.prop_core.specs.Derivation.{clause_numbered}
@@ -116,10 +117,6 @@ front_ends book assumed last ends =
     let n : last ≡ suc (length (clauses_of ends.before)) = omega (arith, ends.numbered) in
     ap (λ k. front_to k book) n ∙ ap (front_to (suc (length (clauses_of ends.before)))) ends.whole ∙ ends_after ends.before ends.later ends.clause ends.hints
 
-take_all : {X : Type 0} (xs : List X) → take (length xs) xs ≡ xs
-take_all [] = refl
-take_all (x ∷ xs) = ap (λ ys. x ∷ ys) (take_all xs)
-
 -- the entries go on where the entry has another number
 pub goes_on : (book : List BookEntry) (place last : ℕ) (entry : Entry) → IsEntryAt book place entry → is_numbered last entry ≡ false → length (clauses_of (take place book)) < last → length (clauses_of (take (place + 1) book)) < last
 goes_on book place last entry at not below = by s.e s.there s.seen
@@ -171,7 +168,7 @@ ends_here book place last entry at same = by s.e s.there s.seen
 
 -- the front is all
 pub ends_never : (book : List BookEntry) (last : ℕ) → length (clauses_of (take (length book) book)) < last → take (length book) book ≡ front_to last book
-ends_never book last h = take_all book ∙ sym (front_all book last (subst (λ (es : List BookEntry). length (clauses_of es) < last) (take_all book) h))
+ends_never book last h = take_whole book ∙ sym (front_all book last (subst (λ (es : List BookEntry). length (clauses_of es) < last) (take_whole book) h))
 
 -- ---- the axioms
 

@@ -11,7 +11,7 @@ use Rattle.std.proofs.lemmas.Bool.{eqb-true, eq-eqb}
 use Rattle.prop_core.specs.declared.lit.Lit.{Lit}
 use Rattle.prop_core.specs.Clauses.{Clause, negation, same_literal, is_true, is_false, NegatesOnly}
 use Rattle.prop_core.specs.Derivation.{Standing, falsified, satisfied, unit, wide, standing, after_standing, after_hint, two_open, hints_end, follow, Derivation, derives, fails, ended, derive, clause_numbered}
-use Rattle.prop_core.proofs.Following.{follow-falsified, follow-satisfied, follow-unit}
+use Rattle.prop_core.proofs.Following.{follow-falsified, follow-satisfied, follow-unit, follow_ended}
 use Rattle.proof_ledger.specs.Book.{BookEntry, axiomatic, learnt, final, mark, axiom_of, clause_of, axioms_of, clauses_of, EachAfter, IsDerived, IsValidBook}
 use Rattle.proof_ledger.specs.Checking.{with_clause, is_empty, answered, holds, after_add, after_step, check_from, check_proof}
 use Rattle.proof_ledger.specs.declared.checker.ProofStep.{ProofStep}
@@ -78,9 +78,6 @@ renumbered xs ns more cs (suc i) c h is =
     subst (λ j. IsAt xs (slice_index_or (ns ++ more) j 1) c) (sym one) (number_at xs ns more cs i c h (sym (numbered cs i) ∙ is))
 
 -- ---- hints by other numbers
-
-follow_ended : (held : ℕ → Option Clause) (taken : List Lit) (at hint : ℕ) (hints : List ℕ) (result : Derivation) → after_hint taken at (held hint) ≡ ended result → follow held taken at (hint ∷ hints) ≡ result
-follow_ended held taken at hint hints result e = rw (e, follow) refl
 
 failed : (a b : ℕ) (d : Derivation) → d ≡ fails a b → d ≡ derives → ⊥
 failed a b d is other = cc

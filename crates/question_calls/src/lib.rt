@@ -15,6 +15,8 @@ mod questions;
 #[cfg(test)]
 mod replies;
 #[cfg(test)]
+mod session_calls;
+#[cfg(test)]
 mod sessions;
 #[cfg(test)]
 mod shown;

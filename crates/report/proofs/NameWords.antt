@@ -5,6 +5,7 @@ use Rattle.std.proofs.lemmas.Slice.Eq.{bytes_eq-Decides}
 use Rattle.std.specs.Prelude.{◌==◌, bytes_eq, codes, option_map, slice_index_or}
 use Rattle.std.specs.List.{list_all, AllByRecursion}
 use Rattle.des_base.proofs.BoolLemmas.{both, otherwise}
+use Rattle.des_base.proofs.PlaceLemmas.{text_turned, text_itself}
 use Rattle.des_base.proofs.PrintedLines.{IsNameText}
 use Rattle.des_base.specs.CountedLines.{is_blank, is_counted}
 use Rattle.des_base.specs.Names.{AreDistinct, IsName, is_name_byte, is_name_text, place_of}
@@ -29,12 +30,6 @@ name_counts [] rest h = let some : 0 < length {A = ℕ} [] = h.some in absurd (o
 name_counts (c ∷ cs) rest h = first_counts c (cs ++ rest) (both (is_name_byte c) (list_all is_name_byte cs) h.bytes).0
 
 -- ---- places
-
-text_turned : (x y : List ℕ) → bytes_eq x y ≡ false → bytes_eq y x ≡ false
-text_turned x y h = otherwise (bytes_eq y x) (λ e. let alike : bytes_eq x y ≡ true = (bytes_eq-Decides x y).1 (sym ((bytes_eq-Decides y x).0 e)) in cc)
-
-text_itself : (x : List ℕ) → bytes_eq x x ≡ true
-text_itself x = (bytes_eq-Decides x x).1 refl
 
 absent_step : (b : Bool) (o : Option ℕ) → cond b (Some 0) (option_map suc o) ≡ None → (b ≡ false) × (o ≡ None)
 absent_step true o h = cc

@@ -19,7 +19,7 @@ use Rattle.run_decode.specs.DecodedRuns.{FaultsAreInputs}
 use Rattle.run_decode.specs.Drawn.{dropped_names}
 use Rattle.step_encode.specs.FaultInputs.{fault_events, fault_names}
 
-count_append : {X : Type 0} (p : X → Bool) (xs ys : List X) → count_by p (xs ++ ys) ≡ count_by p xs + count_by p ys
+pub count_append : {X : Type 0} (p : X → Bool) (xs ys : List X) → count_by p (xs ++ ys) ≡ count_by p xs + count_by p ys
 count_append p xs ys = sum_by-append (λ x. cond (p x) 1 0) xs ys
 
 -- ---- one step

@@ -16,16 +16,16 @@ use Rattle.log_clauses.proofs.Lists.{all_at}
 use Rattle.run_clauses.proofs.Lists.{in_numbers}
 
 -- the component of the first part
-first_of : List Part → ℕ
+pub first_of : List Part → ℕ
 first_of [] = 0
 first_of (part ∷ parts) = part.comp
 
-first_there : (parts : List Part) → 0 < length parts → has_part parts (first_of parts) ≡ true
+pub first_there : (parts : List Part) → 0 < length parts → has_part parts (first_of parts) ≡ true
 unfolding first_of
 first_there [] h = absurd (omega arith)
 first_there (part ∷ parts) h = or_left (part.comp == part.comp) (has_part parts part.comp) (eq-eqb part.comp part.comp refl)
 
-first_known : (m : ℕ) (parts : List Part) → 0 < length parts → AllByRecursion (λ part. part.comp < m) parts → first_of parts < m
+pub first_known : (m : ℕ) (parts : List Part) → 0 < length parts → AllByRecursion (λ part. part.comp < m) parts → first_of parts < m
 unfolding first_of
 first_known m [] h known = absurd (omega arith)
 first_known m (part ∷ parts) h known = known.0

@@ -5,12 +5,13 @@ use Rattle.card_counter.proofs.Inputs.{inputs_add_clauses}
 use Rattle.des_base.proofs.Elements.{none_in_nil}
 use Rattle.log_clauses.specs.Additions.{Addition, alarm_added, pair_added}
 use Rattle.prop_core.specs.declared.lit.Lit.{Lit}
-use Rattle.card_counter.specs.CounterState.{CounterState, column_clauses, column_before, column_at, numbers_below, counter_clauses, next_clauses, input_clauses, with_input, IsFull}
+use Rattle.card_counter.specs.CounterState.{CounterState, column_clauses, column_before, column_at, counter_clauses, next_clauses, input_clauses, with_input, IsFull}
 use Rattle.log_encode.proofs.WrittenLemmas.{written_grows}
 use Rattle.log_encode.specs.CodedLog.{CodedLog, code_after, addition_width}
 use Rattle.prop_core.specs.Clauses.{Clause}
 use Rattle.run_decode.specs.WholeNaming.{AreClausesOf, ClausesBegin, ClausesGrow, counter_after, counted_after, false_input}
 use Rattle.std.proofs.lemmas.List.Elements.{Contains-append_cases, Contains-append_left, Contains-append_right}
+use Rattle.des_base.specs.Lists.{numbers_below}
 use Rattle.step_encode.specs.Coded.{CodedSteps}
 
 no_clauses : (counter : CounterState) → counter.columns ≡ [] → counter_clauses counter ≡ []
