@@ -39,7 +39,7 @@ Answers (Err NoLabels) refusal = refusal ≡ Some NoLabels
 Answers (Err Limit) refusal = refusal ≡ Some Limit
 Answers (Err (TooLarge size)) refusal = refusal ≡ Some (TooLarge size)
 
--- the number by which a refusal is told; want of memory has none
+-- the number by which a refusal is told; want of memory, which isn't told, has 0
 abbrev pub refusal_number : SessionRefusal → ℕ
 refusal_number Double = 1
 refusal_number Unknown = 2

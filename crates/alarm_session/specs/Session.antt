@@ -122,7 +122,7 @@ pub record Poses (net : Net) (log : Log) (n : ℕ) (book : List BookEntry) : Typ
   pub assumed : List Lit
   pub posed : IsPosed names (axioms_of book) assumed net log n None
 
--- The book has each clause of its question about once: at most 12 axioms for each unit of the size, of the sizes of the components, and for each alarm and each pair, and 512.
+-- The book is lean, so that no question was written again: at most 12 axioms for each unit of the size, of the sizes of the components, and for each alarm and each pair, and 512.
 abbrev pub IsLean : List BookEntry → Net → Log → ℕ → Type 0
 IsLean book net log n = length (axioms_of book) ≤ 12 * (question_size net log n + component_sizes net + length log.alarms + length log.pairs) + 512
 

@@ -188,7 +188,7 @@ impl<'a, T: Fn(u32, u32) -> bool, R: Fn(u32) -> u64> Session<'a, T, R> {
     }
 
     /// The book so far. Its axioms are those of the question as it is built, in their order, and pose the question of the log. It
-    /// is valid, and has each clause about once, however many questions were asked.
+    /// is valid, and lean: the number of its axioms is bounded by the size of that question, however often it was asked.
     pub fn book(&self) -> &Ledger
         ensures book { result.now.entries ≡ self.now.stage.book }
         ensures told { IsSessionBook self.now.net self.now.steps self.now.stage }

@@ -90,7 +90,7 @@ HasConflictFor names book net log n Absent = ⊤
 HasConflictFor names book net log n (Many best) = ⊤
 HasConflictFor names book net log n (Undecided lo best) = HasConflict names book net log n (asked_last lo best)
 
--- The axioms of the book were those of the question as it was built first. It was opened by a mark 0 and closed by a mark 1, and the entries between show what was found. At most as many clauses as the budget says were learnt, each of them fresh. The axioms of the whole book pose the question without a bound, by these names and under some assumptions; the names are no more than network, log and n allow.
+-- The axioms of the book were those of the question as it was built first. The question was opened by a mark 0 and closed by a mark 1, and the entries between show what was found. At most as many clauses as the budget says were learnt, each of them fresh. The axioms of the whole book pose the question without a bound, by these names and under some assumptions; the names are no more than network, log and n allow.
 pub record IsAnswered (names : List (ℕ × Name)) (first : BuiltQuestion) (net : Net) (log : Log) (n budget : ℕ) (old new : List BookEntry) (answer : Found) : Type 0 where
   pub begun : first.axioms ≡ axioms_of old
   pub since : List BookEntry

@@ -39,11 +39,11 @@ pub record AreAssumptions (code : CodedLog) (counter : CounterState) (bound : Op
   pub whole : assumed ≡ guards ++ bound_part counter bound
   pub column : IfSome bound (λ k. k < length counter.columns)
 
--- both in their order
+-- guards and bound as literals, in their order
 abbrev pub assumed_by : CodedLog → CounterState → Option ℕ → List Lit
 assumed_by code counter bound = map (literal_by (read_names code)) (guard_literals code.net code.log) ++ bound_part counter bound
 
--- They are this list, and the counter has got the columns that the bound needs.
+-- What is assumed is this list, and the counter has got the columns that the bound needs.
 pub record AreAssumed {R : Type 0} (before : CounterState) (parts : Parts R) (bound : Option ℕ) (assumed : List Lit) : Type 0 where
   pub listed : assumed ≡ assumed_by parts.code.code parts.counter bound
   pub assumptions : AreAssumptions parts.code.code parts.counter bound assumed
@@ -108,7 +108,7 @@ Means code counter net log n bound first since book budget (Explained best) = Is
 Means code counter net log n bound first since book budget Refuted = IsRefusal code counter net log n bound first since
 Means code counter net log n bound first since book budget Spent = IsStopped code counter bound book budget
 
--- all of it, where the question was built so first: the counter has got the columns that the bound needs, and all clauses of the book are over the variables of the question with them
+-- What a question to the solver left, where it was built so first: the counter has got the columns that the bound needs, and all clauses of the book are over the variables of the question with them
 pub record HasAskedBy (code : CodedLog) (counter : CounterState) (first : BuiltQuestion) (net : Net) (log : Log) (n : ℕ) (bound : Option ℕ) (old new : List BookEntry) (budget_old budget_new : ℕ) (asked : Asked) : Type 0 where
   pub since : List BookEntry
   pub whole : new ≡ old ++ since
@@ -120,6 +120,6 @@ pub record HasAskedBy (code : CodedLog) (counter : CounterState) (first : BuiltQ
   pub put : ArePut code counter bound since asked
   pub means : Means code counter net log n bound first since new budget_new asked
 
--- all of it, of the parts of a question
+-- the same of the parts of a question
 abbrev pub HasAsked : {R : Type 0} → Parts R → BuiltQuestion → Net → Log → Option ℕ → List BookEntry → List BookEntry → ℕ → ℕ → Asked → Type 0
 HasAsked parts first net log bound old new budget_old budget_new asked = HasAskedBy parts.code.code parts.counter first net log parts.step.steps bound old new budget_old budget_new asked

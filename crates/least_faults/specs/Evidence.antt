@@ -32,7 +32,7 @@ pub record HasFinal (entries : List BookEntry) (assumed : List Lit) : Type 0 whe
   pub there : Contains entries (final clause hints)
   pub negates : NegatesOnly assumed clause
 
--- the last final entry has
+-- the last final entry has no literals but negations of assumptions
 pub record HasLastFinal (entries : List BookEntry) (assumed : List Lit) : Type 0 where
   pub earlier : List BookEntry
   pub clause : Clause
@@ -42,7 +42,7 @@ pub record HasLastFinal (entries : List BookEntry) (assumed : List Lit) : Type 0
   pub last : list_any is_final later ≡ false
   pub negates : NegatesOnly assumed clause
 
--- The last of these final entries has. The axioms before it, the first ones and those of these entries, are as a list those of the question that was built first, with the columns that the bound needs, and what is assumed and all clauses up to this one are over the variables of that question. With the axioms what is assumed is faithful to the question within the bound.
+-- The last of these final entries has no literals but negations of assumptions. The axioms before it, the first ones and those of these entries, are as a list those of the question that was built first, with the columns that the bound needs, and what is assumed and all clauses up to this one are over the variables of that question. With the axioms what is assumed is faithful to the question within the bound.
 pub record IsRefutation (first : BuiltQuestion) (entries : List BookEntry) (net : Net) (log : Log) (n : ℕ) (bound : Option ℕ) (assumed : List Lit) : Type 0 where
   pub refuted : HasLastFinal entries assumed
   pub listed : first.axioms ++ axioms_of refuted.earlier ≡ (built_within first bound).axioms
