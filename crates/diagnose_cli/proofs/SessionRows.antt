@@ -1,14 +1,12 @@
 -- What the whole run of a session tells.
 use Rattle.std.proofs.Common.{◌≡◌, ◌≢◌, ◌∙◌, ℕ, List, [], ◌∷◌, ◌++◌, Option, Some, None, Ok, Err, IfSome, IsOkAnd, IsSomeAnd, sym, ap, subst, append-nil}
 use Rattle.std.specs.List.{concat}
-use Rattle.alarm_session.specs.Rows.{log_after}
+use Rattle.alarm_session.specs.Session.{Stage}
 use Rattle.des_base.specs.Outside.{Took}
 use Rattle.des_net.specs.Network.{Net}
 use Rattle.log_csv.specs.ScriptText.{script_of}
 use Rattle.log_csv.specs.declared.row.Row.{Row}
-use Rattle.log_order.specs.Log.{Log, no_log}
 use Rattle.model_text.specs.ModelFaults.{network_of}
-use Rattle.proof_ledger.specs.Book.{BookEntry}
 use Rattle.diagnose_cli.specs.declared.command.Command.TheVariants.{Session}
 use Rattle.diagnose_cli.specs.declared.ending.Kind.{Kind}
 use Rattle.diagnose_cli.specs.declared.ending.Kind.TheVariants.{Done}
@@ -33,17 +31,18 @@ none_else : {X : Type 0} (all front others : List X) → all ≡ front ++ others
 none_else all front others split none = sym (split ∙ ap (λ xs. front ++ xs) none ∙ append-nil front)
 
 -- behind all rows there is nothing
-none_behind : (net : Net) (n budget : ℕ) (alarms : Log) (others : List Row) (left book : List BookEntry) → IsLeftBehind net n budget alarms others left book → others ≡ [] → left ≡ book
-none_behind net n budget alarms [] left book behind none = sym behind
-none_behind net n budget alarms (row ∷ others) left book behind none = cc
+none_behind : (net : Net) (n budget : ℕ) (others : List Row) (left end : Stage) → IsLeftBehind net n budget others left end → others ≡ [] → end ≡ left
+none_behind net n budget [] left end behind none = behind
+none_behind net n budget (row ∷ others) left end behind none = cc
 
 session_told : (o : Outcome) (net : Net) (n budget : ℕ) (rows : List Row) (e : Ending) → IsOkAnd e (IsSession net n budget rows o.book) → HasStatus e o.status → Took o.before o.now (concat (texts_of e)) → TellsSession o net n budget rows
 session_told o net n budget rows (Ok t) h shown put =
     let all = done_holds t.done o.status (h.others ≡ []) shown h.whole in
     record {
+      left = h.left;
       texts = t.texts;
-      replied = subst (λ (rs : List Row). HasReplies net n budget rs o.book t.texts) (none_else rows h.front h.others h.split all)
-          (subst (λ (b : List BookEntry). HasReplies net n budget h.front b t.texts) (none_behind net n budget (log_after net n no_log h.front) h.others h.left o.book h.behind all) h.replied);
+      replied = subst (λ (rs : List Row). HasReplies net n budget rs h.left t.texts) (none_else rows h.front h.others h.split all) h.replied;
+      book = sym h.book_is ∙ ap (λ (s : Stage). s.book) (none_behind net n budget h.others h.left h.end h.behind all);
       shown = done_status t.done o.status shown h.kind_is;
       put = put;
     }

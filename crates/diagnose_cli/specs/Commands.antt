@@ -1,7 +1,8 @@
 -- The commands, the files that each one needs, and what it may say over them.
 use Rattle.std.specs.Prelude.{◌≡◌, ◌↔◌, ◌⊎◌, ℕ, zero, suc, ◌+◌, ◌-◌, ◌^◌, ◌≤◌, ⊤, List, [], ◌∷◌, ◌++◌, length, drop, take, codes, ◌==◌, Bool, true, false, ◌&&◌, nat_eq, nat_lt, nat_le, Option, Some, None, if◌then◌else◌, Err, IfSome, IsOkAnd, MatchOption, bytes_eq, option_map, option_and_then, flat_map}
 use Rattle.std.specs.List.{position_or_len}
-use Rattle.alarm_session.specs.Rows.{HasCarriedOut, IsLeftUndone, IsRowTold, after_row, log_after}
+use Rattle.alarm_session.specs.Rows.{HasCarriedOut, IsLeftUndone, IsRowTold, after_row}
+use Rattle.alarm_session.specs.Session.{Stage}
 use Rattle.alarm_session.specs.Refusals.{refusal_number}
 use Rattle.alarm_session.specs.declared.rows.Told.{Told}
 use Rattle.alarm_session.specs.declared.rows.Told.TheVariants.{Made, Refused, Answered}
@@ -14,7 +15,6 @@ use Rattle.model_text.specs.PrintedModel.{model_text}
 use Rattle.model_text.specs.ReadBack.{ReadsBack}
 use Rattle.replay.specs.RunText.{run_of, first_fault as first_run_fault}
 use Rattle.least_faults.specs.declared.TheConstants.{MOST_SIZE}
-use Rattle.least_faults.specs.Growing.{AddsAxioms}
 use Rattle.least_faults.specs.declared.answer.Found.{Found}
 use Rattle.least_faults.specs.declared.answer.Found.TheVariants.{Explained, Absent as NotExplained, Many as ManyFaults, Undecided as NotDecided}
 use Rattle.log_order.specs.Adding.{names_of}
@@ -301,32 +301,32 @@ abbrev pub RunsReplay : Net → ℕ → AlarmLog → List Row → List Told → 
 RunsReplay net n alarms (row ∷ rows) (told ∷ others) = TellsReplaying net alarms n told × RunsReplay net n (after_row net n alarms row) rows others
 RunsReplay net n alarms _ _ = ⊤
 
--- A session began with a book of axioms, carried out these rows one after another, and left this book. These are their replies, one after another.
-pub record HasReplies (net : Net) (n budget : ℕ) (rows : List Row) (left : List BookEntry) (texts : List (List ℕ)) : Type 0 where
-  pub begun : List BookEntry
-  pub begins : AddsAxioms [] begun
+-- A session carried out these rows one after another, and came so far. These are their replies, one after another.
+pub record HasReplies (net : Net) (n budget : ℕ) (rows : List Row) (left : Stage) (texts : List (List ℕ)) : Type 0 where
   pub told : List Told
-  pub carried : HasCarriedOut net n budget rows begun left told
+  pub carried : HasCarriedOut net n budget rows left told
   pub replays : RunsReplay net n no_log rows told
   pub are : texts ≡ flat_map (replies_to net n) told
 
 -- A row whose reply isn't told was carried out, or memory was wanting before that.
-abbrev pub IsUntold : Net → ℕ → ℕ → AlarmLog → Row → List BookEntry → List BookEntry → Type 0
-IsUntold net n budget alarms row old new = ((told : Told) × IsRowTold net n budget alarms row old new told) ⊎ IsLeftUndone budget alarms row alarms old new
+abbrev pub IsUntold : Net → ℕ → ℕ → Row → Stage → Stage → Type 0
+IsUntold net n budget row old new = ((told : Told) × IsRowTold net n budget old row new told) ⊎ IsLeftUndone budget old row new
 
--- Behind the rows whose replies are told, the book has what one more row put at most.
-abbrev pub IsLeftBehind : Net → ℕ → ℕ → AlarmLog → List Row → List BookEntry → List BookEntry → Type 0
-IsLeftBehind net n budget alarms [] left book = book ≡ left
-IsLeftBehind net n budget alarms (row ∷ others) left book = (book ≡ left) ⊎ IsUntold net n budget alarms row left book
+-- Behind the rows whose replies are told, it came as far as one more row at most.
+abbrev pub IsLeftBehind : Net → ℕ → ℕ → List Row → Stage → Stage → Type 0
+IsLeftBehind net n budget [] left end = end ≡ left
+IsLeftBehind net n budget (row ∷ others) left end = (end ≡ left) ⊎ IsUntold net n budget row left end
 
 -- What a session over these rows may say where it leaves this book: the replies to a front of them. It is done where that is all of them, and else one more row was taken at most.
 pub record IsSession (net : Net) (n budget : ℕ) (rows : List Row) (book : List BookEntry) (told : Transcript) : Type 0 where
   pub front : List Row
   pub others : List Row
   pub split : rows ≡ front ++ others
-  pub left : List BookEntry
+  pub left : Stage
   pub replied : HasReplies net n budget front left told.texts
-  pub behind : IsLeftBehind net n budget (log_after net n no_log front) others left book
+  pub end : Stage
+  pub behind : IsLeftBehind net n budget others left end
+  pub book_is : end.book ≡ book
   pub kind_is : IfSome told.done (λ kind. kind ≡ Done)
   pub whole : IfSome told.done (λ kind. others ≡ [])
 

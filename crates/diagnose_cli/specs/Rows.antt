@@ -1,6 +1,7 @@
 -- What each command answers, by its words and the bytes that the shelf holds under the names of its files.
 use Rattle.std.specs.Prelude.{◌≡◌, ◌≢◌, ℕ, ◌+◌, ◌<◌, ◌≤◌, ◌^◌, ⊤, List, [], ◌∷◌, ◌++◌, length, Option, Some, None, IfSome}
 use Rattle.std.specs.List.{concat}
+use Rattle.alarm_session.specs.Session.{Stage}
 use Rattle.des_base.specs.CommandWords.{word_at}
 use Rattle.des_base.specs.Outside.{Took}
 use Rattle.des_net.specs.Network.{Net}
@@ -93,10 +94,12 @@ BenchRow o = (units start steps budget : ℕ) → RowAlone o (Bench units start 
 
 -- ---- what a session tells
 
--- the status is 0, and what was taken are the replies to these rows, which left the book
+-- the status is 0, and what was taken are the replies to these rows; the book is the one that they came to
 pub record TellsSession (o : Outcome) (net : Net) (n budget : ℕ) (rows : List ScriptRow) : Type 0 where
+  pub left : Stage
   pub texts : List (List ℕ)
-  pub replied : HasReplies net n budget rows o.book texts
+  pub replied : HasReplies net n budget rows left texts
+  pub book : o.book ≡ left.book
   pub shown : o.status ≡ 0
   pub put : Took o.before o.now (concat texts)
 

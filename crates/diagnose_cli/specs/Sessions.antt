@@ -1,13 +1,13 @@
 -- How a session goes: the replies to its rows are put one after another, until the rows end, memory is wanting or a put fails.
 use Rattle.std.specs.Prelude.{◌≡◌, ⊤, ℕ, List, [], ◌∷◌, Option, Result, Ok, Err, IsOkAnd}
 use Rattle.std.specs.List.{concat}
-use Rattle.alarm_session.specs.Rows.{IsRowTold, after_row}
+use Rattle.alarm_session.specs.Rows.{IsRowTold}
+use Rattle.alarm_session.specs.Session.{Stage}
 use Rattle.alarm_session.specs.declared.rows.Told.{Told}
 use Rattle.alarm_session.specs.declared.rows.Told.TheVariants.{Made, Refused, Answered}
 use Rattle.des_base.specs.Outside.{Took, TookFront}
 use Rattle.des_net.specs.Network.{Net}
 use Rattle.log_csv.specs.declared.row.Row.{Row}
-use Rattle.log_order.specs.Log.{Log}
 use Rattle.proof_ledger.specs.Book.{BookEntry}
 use Rattle.report.specs.Replies.{EventsKnown}
 use Rattle.diagnose_cli.specs.declared.session_rows.Broken.{Broken}
@@ -36,27 +36,26 @@ PutsReplies texts before now rose (Ok done) = Took before now (concat texts)
 PutsReplies texts before now rose (Err Memory) = Took before now []
 PutsReplies texts before now rose (Err Put) = rose × IsFrontTaken texts before now
 
--- The row was carried out, and what it told replays; the log is then this one.
-pub record IsCarriedOut (net : Net) (n budget : ℕ) (alarms : Log) (row : Row) (later : Log) (old new : List BookEntry) (told : Told) : Type 0 where
-  pub holds : IsRowTold net n budget alarms row old new told
-  pub replays : TellsReplaying net alarms n told
-  pub log : later ≡ after_row net n alarms row
+-- The row was carried out, and what it told replays.
+pub record IsCarriedOut (net : Net) (n budget : ℕ) (old : Stage) (row : Row) (new : Stage) (told : Told) : Type 0 where
+  pub holds : IsRowTold net n budget old row new told
+  pub replays : TellsReplaying net old.log n told
 
 -- by how it went, with P of the replies where it was carried out
-pub record IsRowPut (net : Net) (n budget : ℕ) (alarms : Log) (row : Row) (later : Log) (old new : List BookEntry) (P : List (List ℕ) → Type 0) : Type 0 where
+pub record IsRowPut (net : Net) (n budget : ℕ) (old : Stage) (row : Row) (new : Stage) (P : List (List ℕ) → Type 0) : Type 0 where
   pub told : Told
-  pub carried : IsCarriedOut net n budget alarms row later old new told
+  pub carried : IsCarriedOut net n budget old row new told
   pub put : P (replies_to net n told)
 
 -- nothing of the row was put
-pub record IsRowLost (net : Net) (n budget : ℕ) (alarms : Log) (row : Row) (old new : List BookEntry) (before now : Option (List ℕ)) : Type 0 where
-  pub untold : IsUntold net n budget alarms row old new
+pub record IsRowLost (net : Net) (n budget : ℕ) (old : Stage) (row : Row) (new : Stage) (before now : Option (List ℕ)) : Type 0 where
+  pub untold : IsUntold net n budget row old new
   pub put : Took before now []
 
-abbrev pub RowGoes : Net → ℕ → ℕ → Log → Row → Log → List BookEntry → List BookEntry → Option (List ℕ) → Option (List ℕ) → Type 0 → Result (Unit {0}) Broken → Type 0
-RowGoes net n budget alarms row later old new before now rose (Ok done) = IsRowPut net n budget alarms row later old new (λ texts. Took before now (concat texts))
-RowGoes net n budget alarms row later old new before now rose (Err Memory) = IsRowLost net n budget alarms row old new before now
-RowGoes net n budget alarms row later old new before now rose (Err Put) = rose × IsRowPut net n budget alarms row later old new (λ texts. IsFrontTaken texts before now)
+abbrev pub RowGoes : Net → ℕ → ℕ → Stage → Row → Stage → Option (List ℕ) → Option (List ℕ) → Type 0 → Result (Unit {0}) Broken → Type 0
+RowGoes net n budget old row new before now rose (Ok done) = IsRowPut net n budget old row new (λ texts. Took before now (concat texts))
+RowGoes net n budget old row new before now rose (Err Memory) = IsRowLost net n budget old row new before now
+RowGoes net n budget old row new before now rose (Err Put) = rose × IsRowPut net n budget old row new (λ texts. IsFrontTaken texts before now)
 
 -- ---- all rows
 

@@ -55,7 +55,7 @@ pub fn tell_rows<T: Fn(u32, u32) -> bool, R: Fn(u32) -> u64, S: Sink>(
     requires begins { BeginsAs net.now limits.steps session.old.order.rank session.old }
     requires ranked { IsRanked R.pre R.post session.old.order }
     requires steps { limits.steps ≤ MOST_STEPS }
-    ensures { Goes (MaySay net.now limits.steps limits.budget rows.now session.new.book) (S.taken out.old) (S.taken out.new) (Rose (S.faults out.old) (S.faults out.new)) result }
+    ensures { Goes (MaySay net.now limits.steps limits.budget rows.now session.new.stage.book) (S.taken out.old) (S.taken out.new) (Rose (S.faults out.old) (S.faults out.new)) result }
 {
     // Its reader tells that the book asks about the empty log.
     let _book = session.book();
@@ -81,7 +81,7 @@ fn tell_row<T: Fn(u32, u32) -> bool, R: Fn(u32) -> u64, S: Sink>(
     ensures ranked { IsRanked R.pre R.post session.new.order }
     ensures kept { KeepsSetting session.old session.new }
     ensures never_falls { S.faults out.old ≤ S.faults out.new }
-    ensures goes { RowGoes net.now limits.steps limits.budget session.old.log row.now session.new.log session.old.book session.new.book (S.taken out.old) (S.taken out.new) (Rose (S.faults out.old) (S.faults out.new)) result }
+    ensures goes { RowGoes net.now limits.steps limits.budget session.old.stage row.now session.new.stage (S.taken out.old) (S.taken out.new) (Rose (S.faults out.old) (S.faults out.new)) result }
 {
     let told = session.carry_out(row, limits.budget)?;
     session.log().is_whole();

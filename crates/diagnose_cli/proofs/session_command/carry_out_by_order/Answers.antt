@@ -17,7 +17,7 @@ returns-in-Ok g c =
     let rose = Rose (g.S.Sink.faults c.args.out.now) (g.S.Sink.faults c.tell_rows-said.new.out) in
     let said = c.tell_rows-said.result in
     subst (λ (book : List BookEntry). Goes (MaySay net n budget c.args.plan.now.script book) before now rose said) (sym c.into_book.ensures)
-    (subst (λ (rows : List Row). Goes (MaySay net n budget rows c.tell_rows-said.new.session.book) before now rose said) c.rows-rows.ensures c.tell_rows-said.ensures)
+    (subst (λ (rows : List Row). Goes (MaySay net n budget rows c.tell_rows-said.new.session.stage.book) before now rose said) c.rows-rows.ensures c.tell_rows-said.ensures)
 
 pub returns-in-Err : goal.returns-in-Err
 returns-in-Err g c = broke_before _ _

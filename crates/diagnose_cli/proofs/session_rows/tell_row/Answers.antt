@@ -1,35 +1,34 @@
 -- By what the row told, and what became of its reply.
-use Rattle.std.proofs.Common.{◌≡◌, subst}
-use Rattle.alarm_session.specs.Rows.{IsRowTold, after_row}
+use Rattle.std.proofs.Common.{subst}
+use Rattle.alarm_session.specs.Rows.{IsRowTold}
 use Rattle.log_order.specs.Adding.{IsLog}
 use Rattle.diagnose_cli.proofs.SessionFronts.{carried, row_goes, row_known, row_lost, same_setting}
 use Rattle.diagnose_cli.proofs.session_rows.tell_row.Goals as goal
 
 pub returns-in_err-told-clause-goes : goal.returns-in_err-told-clause-goes
 returns-in_err-told-clause-goes g c =
-    row_lost c.args.net.now c.args.limits.steps c.args.limits.budget c.args.session.now.log c.args.row.now c.args.session.now.book c.carry_out.new.self.book c.carry_out.new.self.log _ _ _ c.from_residual.ensures.1
-    c.in_err-told.ensures.undone
+    row_lost c.args.net.now c.args.limits.steps c.args.limits.budget c.args.session.now.stage c.args.row.now c.carry_out.new.self.stage _ _ _ c.from_residual.ensures.1 c.in_err-told.ensures.undone
 
 pub put_replies-requires : goal.put_replies-requires
 put_replies-requires g c =
     let session = c.args.session.now in
+    let later = c.carry_out.new.self.stage in
     let net = c.args.net.now in
     let n = c.args.limits.steps in
     let budget = c.args.limits.budget in
     let told = c.in_ok-told.told in
-    row_known net n budget session.log c.args.row.now session.book c.carry_out.new.self.book told
-    (same_setting (λ m k. IsRowTold m k budget session.log c.args.row.now session.book c.carry_out.new.self.book told) session.net net session.steps n c.requires.net c.requires.time c.in_ok-told.ensures.told)
+    row_known net n budget session.stage c.args.row.now later told
+    (same_setting (λ m k. IsRowTold m k budget session.stage c.args.row.now later told) session.net net session.steps n c.requires.net c.requires.time c.in_ok-told.ensures.told)
 
 pub returns-clause-goes : goal.returns-clause-goes
 returns-clause-goes g c =
     let session = c.args.session.now in
-    let later = c.carry_out.new.self in
+    let later = c.carry_out.new.self.stage in
     let net = c.args.net.now in
     let n = c.args.limits.steps in
     let budget = c.args.limits.budget in
     let row = c.args.row.now in
     let told = c.in_ok-told.told in
-    let holds = same_setting (λ m k. IsRowTold m k budget session.log row session.book later.book told) session.net net session.steps n c.requires.net c.requires.time c.in_ok-told.ensures.told in
-    let log = same_setting (λ m k. later.log ≡ after_row m k session.log row) session.net net session.steps n c.requires.net c.requires.time c.in_ok-told.ensures.log in
-    row_goes net n budget session.log row session.book later.book told later.log _ _ _ c.put_replies.result
-    (carried net n budget session.log row session.book later.book told later.log c.is_built.ensures.network c.is_built.ensures.whole (subst IsLog c.log.ensures c.is_whole.ensures.whole) c.requires.steps log holds) c.put_replies.ensures.puts
+    let holds = same_setting (λ m k. IsRowTold m k budget session.stage row later told) session.net net session.steps n c.requires.net c.requires.time c.in_ok-told.ensures.told in
+    row_goes net n budget session.stage row later told _ _ _ c.put_replies.result
+    (carried net n budget session.stage row later told c.is_built.ensures.network c.is_built.ensures.whole (subst IsLog c.log.ensures c.is_whole.ensures.whole) c.requires.steps holds) c.put_replies.ensures.puts

@@ -12,13 +12,13 @@ pub loop-row-init : goal.loop-row-init
 loop-row-init g c =
     let session = c.args.session.now in
     let begins = c.requires.begins in
-    let asks = same_setting (λ m k. IsSessionBook m session.log k session.book) session.net c.args.net.now session.steps c.args.limits.steps begins.net_is begins.steps c.book-book.ensures.told in
+    let asks = same_setting (λ m k. IsSessionBook m k session.stage) session.net c.args.net.now session.steps c.args.limits.steps begins.net_is begins.steps c.book-book.ensures.told in
     record {
       ranked = c.requires.ranked;
       net = begins.net_is;
       time = begins.steps;
       rises = omega arith;
-      said = nothing_said c.args.net.now c.args.limits.steps c.args.limits.budget session.log session.book (g.S.Sink.taken c.args.out.now) begins.log begins.book asks;
+      said = nothing_said c.args.net.now c.args.limits.steps c.args.limits.budget session.stage (g.S.Sink.taken c.args.out.now) begins.stage asks;
     }
 
 pub loop-row-preserved : goal.loop-row-preserved
@@ -31,16 +31,16 @@ loop-row-preserved g c =
     let net = c.args.net.now in
     let n = c.args.limits.steps in
     let budget = c.args.limits.budget in
-    let old = c.loop-row.session in
-    let new = c.tell_row.new.session in
+    let old = c.loop-row.session.stage in
+    let new = c.tell_row.new.session.stage in
     let longer = ap (λ (r : Row). take i rows ++ r ∷ []) c.row-item.is ∙ sym (take_more rows i row c.loop-row-test.true) in
     record {
       ranked = here.ranked;
       net = here.kept.net ∙ inv.net;
       time = here.kept.steps ∙ inv.time;
       rises = omega (arith, inv.rises, here.never_falls);
-      said = subst (λ (rs : List Row). HasSaid net n budget rs new.log new.book (g.S.Sink.taken c.args.out.now) (g.S.Sink.taken c.tell_row.new.out)) longer
-          (said_more net n budget (take i rows) row old.log new.log old.book new.book (g.S.Sink.taken c.args.out.now) (g.S.Sink.taken c.loop-row.out) (g.S.Sink.taken c.tell_row.new.out) inv.said here.goes);
+      said = subst (λ (rs : List Row). HasSaid net n budget rs new (g.S.Sink.taken c.args.out.now) (g.S.Sink.taken c.tell_row.new.out)) longer
+          (said_more net n budget (take i rows) row old new (g.S.Sink.taken c.args.out.now) (g.S.Sink.taken c.loop-row.out) (g.S.Sink.taken c.tell_row.new.out) inv.said here.goes);
     }
 
 pub returns-in_err-tell_row : goal.returns-in_err-tell_row
@@ -50,11 +50,11 @@ returns-in_err-tell_row g c =
     let row = c.row-item.result in
     let inv = c.loop-row.invariant in
     let here = c.in_err-tell_row.ensures in
-    let old = c.loop-row.session in
-    let new = c.tell_row.new.session in
+    let old = c.loop-row.session.stage in
+    let new = c.tell_row.new.session.stage in
     let longer = ap (λ (r : Row). take i rows ++ r ∷ []) c.row-item.is ∙ sym (take_more rows i row c.loop-row-test.true) in
     let split = sym (take-append-drop (i + 1) rows) ∙ ap (λ (rs : List Row). rs ++ drop (i + 1) rows) (sym longer) ∙ append_assoc (take i rows) (row ∷ []) (drop (i + 1) rows) in
-    broken_off c.args.net.now c.args.limits.steps c.args.limits.budget rows (take i rows) (drop (i + 1) rows) row old.log new.log old.book new.book (g.S.Sink.taken c.args.out.now) (g.S.Sink.taken c.loop-row.out)
+    broken_off c.args.net.now c.args.limits.steps c.args.limits.budget rows (take i rows) (drop (i + 1) rows) row old new (g.S.Sink.taken c.args.out.now) (g.S.Sink.taken c.loop-row.out)
     (g.S.Sink.taken c.tell_row.new.out) (g.S.Sink.faults c.args.out.now) (g.S.Sink.faults c.loop-row.out) (g.S.Sink.faults c.tell_row.new.out) _ _ c.from_residual.ensures.1 split inv.rises inv.said here.goes
 
 pub returns : goal.returns
@@ -64,8 +64,8 @@ returns g c =
     let net = c.args.net.now in
     let n = c.args.limits.steps in
     let budget = c.args.limits.budget in
-    let session = c.loop-row.session in
+    let left = c.loop-row.session.stage in
     let before = g.S.Sink.taken c.args.out.now in
     let now = g.S.Sink.taken c.loop-row.out in
-    says_all net n budget rows session.log session.book before now (Rose (g.S.Sink.faults c.args.out.now) (g.S.Sink.faults c.loop-row.out))
-    (subst (λ (rs : List Row). HasSaid net n budget rs session.log session.book before now) (take_all i rows (omega (arith, c.loop-row-test.false))) c.loop-row.invariant.said)
+    says_all net n budget rows left before now (Rose (g.S.Sink.faults c.args.out.now) (g.S.Sink.faults c.loop-row.out))
+    (subst (λ (rs : List Row). HasSaid net n budget rs left before now) (take_all i rows (omega (arith, c.loop-row-test.false))) c.loop-row.invariant.said)

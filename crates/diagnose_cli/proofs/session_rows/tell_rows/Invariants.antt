@@ -10,5 +10,5 @@ invariant-loop-row g l = record {
   net : l.session.net ≡ l.net;
   time : l.session.steps ≡ l.limits.steps;
   rises : g.S.Sink.faults l.fn.out ≤ g.S.Sink.faults l.out;
-  said : HasSaid l.net l.limits.steps l.limits.budget (take l.row-index l.rows) l.session.log l.session.book (g.S.Sink.taken l.fn.out) (g.S.Sink.taken l.out);
+  said : HasSaid l.net l.limits.steps l.limits.budget (take l.row-index l.rows) l.session.stage (g.S.Sink.taken l.fn.out) (g.S.Sink.taken l.out);
 }
