@@ -1,16 +1,21 @@
 -- Refusals and logs of worked scripts.
 use Rattle.std.proofs.Common.{◌≡◌, ℕ, true, false, List, [], ◌∷◌, None, Some, refl}
 use Rattle.std.specs.Prelude.{codes}
+use Rattle.alarm_session.specs.Additions.{alarm_addition}
 use Rattle.alarm_session.specs.Refusals.{refusal_number, refusal_of}
-use Rattle.alarm_session.specs.Rows.{log_after, row_refusal}
+use Rattle.alarm_session.specs.Rows.{log_after, row_refusal, script_built}
 use Rattle.alarm_session.specs.declared.refusal.SessionRefusal.TheVariants.{Double, Unknown, Cycle, NoLabels, TooLarge}
 use Rattle.des_net.specs.Models.{masked, pump}
+use Rattle.least_faults.specs.Columns.{columns_built}
+use Rattle.log_clauses.specs.Additions.{pair_added}
 use Rattle.log_csv.specs.Reading.{code_of}
+use Rattle.log_csv.specs.declared.row.Row.{Row}
 use Rattle.log_csv.specs.declared.row.Row.TheVariants.{Alarm, Maybe, Before, Ask}
 use Rattle.log_order.specs.Adding.{alarm_refusal, before_refusal}
 use Rattle.log_order.specs.Log.{Log, a_log, an_alarm, no_log}
 use Rattle.log_order.specs.declared.refusal.LogRefusal.{LogRefusal}
 use Rattle.log_order.specs.declared.refusal.LogRefusal.TheVariants as of_log
+use Rattle.run_decode.specs.QuestionAxioms.{added_built, question_built}
 
 -- the refusals of a log have the numbers that they have in its text
 pub same_codes : (refusal : LogRefusal) → refusal_number (refusal_of refusal) ≡ code_of refusal
@@ -49,6 +54,32 @@ pair-again = refl
 
 pub pair-unknown : row_refusal masked 2 both (Before x (codes "z")) ≡ Some Unknown
 pair-unknown = refl
+
+-- ---- the question of a script, as it is built
+
+-- An alarm that is refused adds nothing, nor does a pair that is there; the questions add one column and then two.
+abbrev pub rows : List Row
+rows = Alarm x (codes "T" ∷ []) ∷ Ask ∷ Maybe y (codes "T" ∷ []) ∷ Maybe y (codes "T" ∷ []) ∷ Before y x ∷ Before y x ∷ Ask ∷ []
+
+pub script-built :
+    script_built pump 1 rows (0 ∷ 1 ∷ 0 ∷ 0 ∷ 0 ∷ 0 ∷ 2 ∷ [])
+    ≡ columns_built (added_built (added_built (columns_built (added_built (question_built pump no_log 1 0) (alarm_addition (codes "T" ∷ []) false)) 1) (alarm_addition (codes "T" ∷ []) true)) (pair_added 1 0)) 2
+unfolding alarm_refusal before_refusal
+script-built = refl
+
+-- where the numbers end, no columns are added
+pub script-short : script_built pump 1 rows (0 ∷ 1 ∷ []) ≡ script_built pump 1 rows (0 ∷ 1 ∷ 0 ∷ 0 ∷ 0 ∷ 0 ∷ 0 ∷ [])
+unfolding alarm_refusal before_refusal
+script-short = refl
+
+-- Columns before an addition and behind it make other questions.
+pub script-order : (script_built pump 1 (Maybe y (codes "T" ∷ []) ∷ Ask ∷ []) (0 ∷ 1 ∷ [])).counter.columns ≡ (20 ∷ 21 ∷ []) ∷ []
+unfolding alarm_refusal before_refusal
+script-order = refl
+
+pub script-order_back : (script_built pump 1 (Ask ∷ Maybe y (codes "T" ∷ []) ∷ []) (1 ∷ [])).counter.columns ≡ (14 ∷ 21 ∷ []) ∷ []
+unfolding alarm_refusal before_refusal
+script-order_back = refl
 
 -- ---- alarms that are refused
 
