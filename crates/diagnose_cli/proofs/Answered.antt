@@ -27,7 +27,7 @@ told o P (Ok t) (reply, says, is) shown put =
       reply = reply;
       says = says;
       shown = subst (λ (x : Transcript). HasStatus (Ok x) o.status) is shown;
-      put = subst (Took o.before o.now) (append-nil reply.1) (subst (λ (x : Transcript). Took o.before o.now (concat x.texts)) is put);
+      put = subst (Took o.before o.now) (append-nil reply.1) (subst (λ (x : Transcript). Took o.before o.now (concat (texts_of (Ok x)))) is put);
     }
 told o P (Err stop) says shown put = absurd says
 
@@ -95,7 +95,7 @@ said_in_all o c texts ends reads three nine =
       memory = λ p. nine (subst (λ (x : Ending). HasStatus x o.status) p ends.shown);
       load = λ j p. three (subst (λ (x : Ending). HasStatus x o.status) p ends.shown);
     } in
-    let closes = closed o.loads o.words 1 (files_of c) [] texts (Closes c o.book) e answer reads.files (called o.loads o.words o.book (command_of o.words) c e reads.command (ends.due answer.memory)) in
+    let closes = closed o.loads o.words 1 (files_of c) [] texts (Closes c o.book) e answer reads.files (called o.loads o.words o.book (command_of o.words) c e reads.command (ends.due.says answer.memory)) in
     asked (too_large c texts) e (SaysInAll c o.book texts) reads.small closes
 
 -- the command has one reply
@@ -186,7 +186,7 @@ pub said_over : (o : Outcome) (c : Command) → HasOneReply c → Ends o → com
 said_over o c one ends command answers =
     let e = ends.ending in
     let memory : e ≢ Err Memory = λ p. answers (subst IsStopStatus (sym (subst (λ (x : Ending). HasStatus x o.status) p ends.shown)) (of_stop Memory)) in
-    said o c one e answers (called o.loads o.words o.book (command_of o.words) c e command (ends.due memory)) ends.shown ends.put
+    said o c one e answers (called o.loads o.words o.book (command_of o.words) c e command (ends.due.says memory)) ends.shown ends.put
 
 -- what is told is held
 pub same_text : (o : Option (List ℕ)) (text held : List ℕ) → o ≡ Some text → IfSome o (λ there. there ≡ held) → text ≡ held

@@ -8,8 +8,8 @@ use Rattle.diagnose_cli.specs.declared.stop.FaultyText.TheVariants.{Model, Log, 
 use Rattle.diagnose_cli.specs.declared.ending.Kind.{Kind}
 use Rattle.diagnose_cli.specs.declared.ending.Kind.TheVariants.{Done, Rejected, Absent, Undecided, Many, Nothing}
 use Rattle.std.specs.List.{concat}
-use Rattle.diagnose_cli.specs.Transcripts.{Ending, Transcript, UnlessMemory}
-use Rattle.diagnose_cli.specs.Endings.{HasStatus, status_of_kind, status_of_faulty, texts_of}
+use Rattle.diagnose_cli.specs.Transcripts.{End, finished, cut, broken, Ending, Transcript, replies, whole, UnlessMemory}
+use Rattle.diagnose_cli.specs.Endings.{HasStatus, status_of_end, status_of_kind, status_of_faulty, texts_of}
 use Rattle.diagnose_cli.specs.Commands.{FileKind, SaysInAll, fault_of_text, files_of, file_count, too_large, Closes, InOrder, Answers, Due, command_of}
 use Rattle.diagnose_cli.specs.Outcomes.{Outcome}
 use Rattle.diagnose_cli.specs.Run.{Ends, RoseFor, LoadRow}
@@ -67,12 +67,14 @@ no_load_text (Run fault) p = cc
 no_load_text (Cnf fault) p = cc
 no_load_text (Lrat fault) p = cc
 
-no_load_done : (o : Option Kind) → IsSomeAnd o (λ kind. 3 ≡ status_of_kind kind) → ⊥
-no_load_done None p = absurd p
-no_load_done (Some k) p = no_load_kind k p
+no_load_end : (end : End) → 3 ≡ status_of_end end → ⊥
+no_load_end finished p = cc
+no_load_end cut p = cc
+no_load_end broken p = cc
 
 load_row_of : (o : Outcome) (e : Ending) → UnlessMemory e (Due o.loads o.words o.book e) → HasStatus e 3 → Took o.before o.now (concat (texts_of e)) → LoadRow o
-load_row_of o (Ok told) d p t = absurd (no_load_done told.done p)
+load_row_of o (Ok (whole reply)) d p t = absurd (no_load_kind reply.0 p)
+load_row_of o (Ok (replies texts end)) d p t = absurd (no_load_end end p)
 load_row_of o (Err Usage) d p t = absurd (omega arith)
 load_row_of o (Err (Load i)) d p t =
     let rose = rose_at o i (command_of o.words) (d (λ m. cc)) in
@@ -83,7 +85,7 @@ load_row_of o (Err (Large size)) d p t = absurd (omega arith)
 load_row_of o (Err Memory) d p t = absurd (omega arith)
 
 pub load_row : (o : Outcome) → Ends o → o.status ≡ 3 → LoadRow o
-load_row o e p = load_row_of o e.ending e.due (subst (HasStatus e.ending) p e.shown) e.put
+load_row o e p = load_row_of o e.ending e.due.says (subst (HasStatus e.ending) p e.shown) e.put
 
 -- a command without files has none that fails
 pub no_load_failed : (o : Outcome) (c : Command) → Ends o → command_of o.words ≡ Some c → files_of c ≡ [] → o.status ≢ 3

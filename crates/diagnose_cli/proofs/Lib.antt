@@ -28,3 +28,4 @@ pub mod GenerateAnswers
 pub mod BenchAnswers
 pub mod SessionAnswers
 pub mod SessionFronts
+pub mod SessionEnds

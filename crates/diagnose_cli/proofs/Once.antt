@@ -1,6 +1,7 @@
 -- The run of a command, which has one reply or several.
-use Rattle.std.proofs.Common.{◌≡◌, ◌≢◌, ◌∙◌, arith, ℕ, IfErr, List, [], ◌∷◌, ◌++◌, take, Option, Some, None, Result, Ok, Err, refl, sym, ap, subst, append-nil}
+use Rattle.std.proofs.Common.{◌≡◌, ◌≢◌, ◌⊎◌, ◌<◌, ◌∙◌, arith, inl, inr, ℕ, true, false, IfErr, IfSome, List, [], ◌∷◌, ◌++◌, take, Option, Some, None, Result, Ok, Err, refl, sym, ap, subst, append-nil}
 use Rattle.std.specs.List.{concat}
+use Rattle.std.proofs.lemmas.Bool.{cases_order}
 use Rattle.des_base.specs.Outside.{Took, TookFront}
 use Rattle.proof_ledger.specs.Book.{BookEntry}
 use Rattle.diagnose_cli.specs.declared.command.Command.{Command}
@@ -9,14 +10,14 @@ use Rattle.diagnose_cli.specs.declared.ending.Kind.{Kind}
 use Rattle.diagnose_cli.specs.declared.ending.Kind.TheVariants.{Done, Rejected, Absent, Undecided, Many, Nothing}
 use Rattle.diagnose_cli.specs.declared.stop.Stop.{Stop}
 use Rattle.diagnose_cli.specs.declared.stop.Stop.TheVariants.{Memory}
-use Rattle.diagnose_cli.specs.Transcripts.{Ending, UnlessMemory, TookCut, once}
+use Rattle.diagnose_cli.specs.Transcripts.{Ending, OrMemory, UnlessMemory, TookCut, once}
 use Rattle.diagnose_cli.specs.Endings.{HasStatus, status_of_kind, status_of_stop, texts_of, text_of_stop}
 use Rattle.diagnose_cli.specs.Files.{Loads}
-use Rattle.diagnose_cli.specs.Commands.{Due, files_of}
-use Rattle.diagnose_cli.specs.Puts.{Puts, Speaks}
+use Rattle.diagnose_cli.specs.Commands.{HasNotBegun, MayCome, command_of, files_of, is_session}
+use Rattle.diagnose_cli.specs.Puts.{EndsCut, Finishes, Puts, Speaks}
 use Rattle.diagnose_cli.specs.Outcomes.{Outcome, outcome}
 use Rattle.diagnose_cli.specs.Rows.{Row, RowAlone, CheckRows, DiagnoseRows}
-use Rattle.diagnose_cli.specs.Run.{Ends, IsDue, Ran, Does, SaysStop}
+use Rattle.diagnose_cli.specs.Run.{Ends, Ran, Does, SaysStop}
 use Rattle.diagnose_cli.proofs.Answered.{HasOneReply, row}
 use Rattle.diagnose_cli.proofs.Exact.{stop_row}
 use Rattle.diagnose_cli.proofs.FailedLoads.{load_row, no_load_failed}
@@ -46,72 +47,96 @@ unfolding text_of_once
 one (Ok reply) = refl
 one (Err stop) = refl
 
-due_once : (may : Ending → Type 0) (r : Result (Kind × List ℕ) Stop) → UnlessMemory r (may (once r)) → UnlessMemory (once r) (may (once r))
-due_once may (Ok reply) d = λ m. d (λ e. cc)
-due_once may (Err stop) d = λ m. d (λ e. m (ap_err stop e))
+due_once : (may : Ending → Type 0) (Q : Type 0) → Q → (r : Result (Kind × List ℕ) Stop) → UnlessMemory r (may (once r)) → OrMemory may Q (once r)
+due_once may Q q (Ok reply) d = record { says = λ m. d (λ e. cc); wanting = λ e. q }
+due_once may Q q (Err stop) d = record { says = λ m. d (λ e. m (ap_err stop e)); wanting = λ e. q }
   where
     ap_err : (s : Stop) → ◌≡◌ {A = Result (Kind × List ℕ) Stop} (Err s) (Err Memory) → ◌≡◌ {A = Ending} (Err s) (Err Memory)
     ap_err s e = cc
 
 -- ---- a command that puts its one text
 
-pub speaks_once : (may : Ending → Type 0) (r : Result (Kind × List ℕ) Stop) (before now : Option (List ℕ)) (rose : Type 0) (status : ℕ) → UnlessMemory r (may (once r)) → Puts (once r) before now rose status → Speaks may before now rose status
-speaks_once may r before now rose status due puts = record {
-  ends = λ four nine. record { ending = once r; due = due_once may r due; shown = puts.shown four nine; put = puts.whole four nine };
-  put_failed = puts.put_failed;
-  cut_off = λ four. record {
-    ending = once r;
-    due = due_once may r due;
-    texts = [];
-    next = text_of_once r;
-    split = one r;
-    put = cut_first before now (text_of_once r) (subst (TookFront before now) (one_text (texts_of (once r)) (text_of_once r) (one r)) (puts.front four));
-  };
-  broke = λ nine. record { ending = Err Memory; due = λ m. absurd (m refl); put = puts.nothing nine };
-}
+-- nothing was put for want of memory
+pub wants_memory : (may : Ending → Type 0) (Q : Type 0) → Q → (before now : Option (List ℕ)) (status : ℕ) → status ≡ 9 → Took before now [] → Finishes (OrMemory may Q) before now status
+wants_memory may Q q before now status nine put = record { ending = Err Memory; due = record { says = λ m. absurd (m refl); wanting = λ e. q }; shown = nine; put = put }
+
+cut_once : (r : Result (Kind × List ℕ) Stop) → EndsCut (once r)
+cut_once (Ok reply) = tt
+cut_once (Err stop) = tt
+
+module _ (may : Ending → Type 0) (Q : Type 0) (q : Q) (r : Result (Kind × List ℕ) Stop) (before now : Option (List ℕ)) (rose : Type 0) (status : ℕ) (due : UnlessMemory r (may (once r))) (puts : Puts (once r) before now rose status) where
+  put_whole : status ≢ 4 → status ≢ 9 → Finishes (OrMemory may Q) before now status
+  put_whole four nine = record { ending = once r; due = due_once may Q q r due; shown = puts.shown four nine; put = puts.whole four nine }
+
+  ends_once : (status ≡ 9) ⊎ ((status < 9) ⊎ (9 < status)) → status ≢ 4 → Finishes (OrMemory may Q) before now status
+  ends_once (inl nine) four = wants_memory may Q q before now status nine (puts.nothing nine)
+  ends_once (inr (inl lower)) four = put_whole four (λ nine. omega (arith, nine, lower))
+  ends_once (inr (inr higher)) four = put_whole four (λ nine. omega (arith, nine, higher))
+
+  pub speaks_once : Speaks (OrMemory may Q) before now rose status
+  speaks_once = record {
+    ends = ends_once (cases_order status 9);
+    put_failed = puts.put_failed;
+    cut_off = λ four. record {
+      ending = once r;
+      due = due_once may Q q r due;
+      last = cut_once r;
+      texts = [];
+      next = text_of_once r;
+      split = one r;
+      put = cut_first before now (text_of_once r) (subst (TookFront before now) (one_text (texts_of (once r)) (text_of_once r) (one r)) (puts.front four));
+    };
+  }
+
+-- which is no session
+pub no_session : (words : List (List ℕ)) (book : List BookEntry) → IfSome (command_of words) (λ c. is_session c ≡ false) → HasNotBegun words book
+no_session words book other = by (command_of words) other
+  where
+    by : (o : Option Command) → IfSome o (λ c. is_session c ≡ false) → IfSome o (λ c. is_session c ≡ true → book ≡ [])
+    by None other = tt
+    by (Some c) other = λ is. cc
 
 -- ---- what the run of a command does that says what is due
 
-module _ (o : Outcome) (rose : Type 0) (speaks : Speaks (IsDue o) o.before o.now rose o.status) where
+module _ (o : Outcome) (rose : Type 0) (speaks : Speaks (MayCome o.loads o.words o.book) o.before o.now rose o.status) where
   ran : Ran o rose
   ran = record {
-    stops = λ whole. stop_row o (speaks.ends whole.put.written whole.put.memory) whole.loaded whole.put.memory;
-    usage = λ two. usage_row o (speaks.ends (λ four. omega (arith, two, four)) (λ nine. omega (arith, two, nine))) two;
+    stops = λ whole. stop_row o (speaks.ends whole.put.written) whole.loaded whole.put.memory;
+    usage = λ two. usage_row o (speaks.ends (λ four. omega (arith, two, four))) two;
     ends = speaks.ends;
-    load_failed = λ three. load_row o (speaks.ends (λ four. omega (arith, three, four)) (λ nine. omega (arith, three, nine))) three;
+    load_failed = λ three. load_row o (speaks.ends (λ four. omega (arith, three, four))) three;
     put_failed = speaks.put_failed;
     cut_off = speaks.cut_off;
-    broke = speaks.broke;
   }
 
   -- by its files
   row_of : (c : Command) (texts : List (List ℕ)) → HasOneReply c → Row o c texts
-  row_of c texts one reads whole = row o c texts one (speaks.ends whole.put.written whole.put.memory) reads whole.loaded whole.put.memory
+  row_of c texts one reads whole = row o c texts one (speaks.ends whole.put.written) reads whole.loaded whole.put.memory
 
   -- or without files
   row_alone : (c : Command) → HasOneReply c → files_of c ≡ [] → RowAlone o c
   row_alone c one none reads put =
-      let e = speaks.ends put.written put.memory in
+      let e = speaks.ends put.written in
       row o c [] one e reads (no_load_failed o c e reads.command none) put.memory
 
-  -- an answer has neither of these statuses
-  answered : (k : ℕ) → o.status ≡ k → k ≢ 4 → k ≢ 9 → Ends o
-  answered k is four nine = speaks.ends (λ p. four (sym is ∙ p)) (λ p. nine (sym is ∙ p))
+  -- an answer hasn't this status
+  answered : (k : ℕ) → o.status ≡ k → k ≢ 4 → Ends o
+  answered k is four = speaks.ends (λ p. four (sym is ∙ p))
 
   checked : CheckRows o
   checked = record {
     checked = λ formula proof. row_of Check (formula ∷ proof ∷ []) (λ book texts t h. h);
-    refuted = λ formula asks zero. refuted o (answered 0 zero (λ p. cc) (λ p. cc)) formula asks zero;
+    refuted = λ formula asks zero. refuted o (answered 0 zero (λ p. cc)) formula asks zero;
   }
 
   diagnosed : DiagnoseRows o
   diagnosed = record {
     diagnosed = λ steps budget text alarms. row_of (Diagnose steps budget) (text ∷ alarms ∷ []) (λ book texts t h. h);
-    explained = λ steps budget text alarms asks is. explained o (answered 0 is (λ p. cc) (λ p. cc)) steps budget text alarms asks is;
-    absent = λ steps budget text alarms asks is. absent o (answered 10 is (λ p. cc) (λ p. cc)) steps budget text alarms asks is;
-    undecided = λ steps budget text alarms asks is. undecided o (answered 11 is (λ p. cc) (λ p. cc)) steps budget text alarms asks is;
-    many = λ steps budget text alarms asks is. many o (answered 12 is (λ p. cc) (λ p. cc)) steps budget text alarms asks is;
-    decided = λ steps budget text alarms asks enough is. decided o (answered 11 is (λ p. cc) (λ p. cc)) steps budget text alarms asks enough is;
+    explained = λ steps budget text alarms asks is. explained o (answered 0 is (λ p. cc)) steps budget text alarms asks is;
+    absent = λ steps budget text alarms asks is. absent o (answered 10 is (λ p. cc)) steps budget text alarms asks is;
+    undecided = λ steps budget text alarms asks is. undecided o (answered 11 is (λ p. cc)) steps budget text alarms asks is;
+    many = λ steps budget text alarms asks is. many o (answered 12 is (λ p. cc)) steps budget text alarms asks is;
+    decided = λ steps budget text alarms asks enough is. decided o (answered 11 is (λ p. cc)) steps budget text alarms asks enough is;
   }
 
   does : Does o rose
@@ -127,12 +152,12 @@ module _ (o : Outcome) (rose : Type 0) (speaks : Speaks (IsDue o) o.before o.now
     };
     generated = record { model = λ units start. row_alone (GenerateModel units start) (λ book texts t h. h) refl; log = λ units start. row_alone (GenerateLog units start) (λ book texts t h. h) refl };
     benched = λ units start steps budget. row_alone (Bench units start steps budget) (λ book texts t h. h) refl;
-    carried_out = λ steps budget text lines reads whole. session_row o steps budget text lines (speaks.ends whole.put.written whole.put.memory) reads whole.loaded whole.put.memory;
+    carried_out = λ steps budget text lines reads whole. session_row o steps budget text lines (speaks.ends whole.put.written) reads whole;
     ran = ran;
   }
 
 pub done : (l : Loads) (words : List (List ℕ)) (before now : Option (List ℕ)) (book : List BookEntry) (status : ℕ) (rose : Type 0)
-    → Speaks (Due l words book) before now rose status → Does (outcome l words before now book status) rose
+    → Speaks (MayCome l words book) before now rose status → Does (outcome l words before now book status) rose
 done l words before now book status rose speaks = does (outcome l words before now book status) rose speaks
 
 -- ---- what a command leaves that stops

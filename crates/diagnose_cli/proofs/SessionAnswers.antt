@@ -1,5 +1,5 @@
 -- How a session ends, by how its rows went.
-use Rattle.std.proofs.Common.{◌≡◌, ◌≢◌, ◌≤◌, ◌<◌, ◌∙◌, ℕ, List, [], ◌∷◌, Option, Some, None, Result, Ok, Err, IsErrAnd, IsOkAnd, MatchOption, refl, sym, ap, subst, arith}
+use Rattle.std.proofs.Common.{◌≡◌, ◌≢◌, ◌≤◌, ◌<◌, ◌∙◌, ℕ, List, [], ◌∷◌, Option, Some, None, Result, Ok, Err, IfSome, IsErrAnd, IsOkAnd, MatchOption, true, refl, sym, ap, subst, arith}
 use Rattle.des_net.specs.Network.{Net}
 use Rattle.least_faults.specs.declared.TheConstants.{MOST_SIZE}
 use Rattle.log_csv.specs.ScriptText.{script_of}
@@ -15,68 +15,55 @@ use Rattle.diagnose_cli.specs.declared.session_rows.Broken.TheVariants.{Memory, 
 use Rattle.diagnose_cli.specs.declared.ending.Kind.{Kind}
 use Rattle.diagnose_cli.specs.declared.stop.Stop.{Stop}
 use Rattle.diagnose_cli.specs.declared.stop.Stop.TheVariants.{Large, Usage, Memory as NoMemory}
-use Rattle.diagnose_cli.specs.Commands.{Answers, Closes, Due, IsPlan, IsSession, StopsInPlan, above_limit, command_of}
+use Rattle.diagnose_cli.specs.Commands.{Answers, Closes, Due, HasNotBegun, IsPlan, IsSession, MayCome, StopsInPlan, above_limit, command_of, is_session}
 use Rattle.diagnose_cli.specs.Files.{Loads}
-use Rattle.diagnose_cli.specs.Puts.{BreaksOff, Finishes, IsCutOff, Speaks}
+use Rattle.diagnose_cli.specs.Puts.{Finishes, IsCutOff, Speaks}
 use Rattle.diagnose_cli.specs.Run.{SaysStop}
-use Rattle.diagnose_cli.specs.Sessions.{Goes, MaySay, status_of_session}
-use Rattle.diagnose_cli.specs.Transcripts.{Ending, UnlessMemory, once}
+use Rattle.diagnose_cli.specs.Sessions.{MaySay, status_of_session}
+use Rattle.diagnose_cli.specs.Transcripts.{Ending, OrMemory, UnlessMemory, once}
 use Rattle.diagnose_cli.proofs.Limits.{within_limit, past_limit}
-use Rattle.diagnose_cli.proofs.Once.{nothing_taken}
+use Rattle.diagnose_cli.proofs.Once.{nothing_taken, wants_memory}
 use Rattle.diagnose_cli.proofs.Orders.{stops_in_plan, with_plan}
-
--- memory was wanting before anything was said
-pub broke_before : (may : Ending → Type 0) (taken : Option (List ℕ)) → BreaksOff may taken taken
-broke_before may taken = record { ending = Err NoMemory; due = λ never. absurd (never refl); put = nothing_taken taken }
-
-pub said_nothing : (may : Ending → Type 0) (taken : Option (List ℕ)) (rose : Type 0) (r : Result (Unit {0}) Broken) → IsErrAnd r (λ e. e ≡ Memory) → Goes may taken taken rose r
-said_nothing may taken rose (Ok done) is = absurd is
-said_nothing may taken rose (Err e) is =
-    subst (λ (x : Broken). Goes may taken taken rose (Err x)) (sym is) (broke_before may taken)
 
 -- ---- by its status
 
--- what holds of each ending that was due holds of it
+module _ (may : Ending → Type 0) (before now : Option (List ℕ)) (rose : Type 0) where
+  -- its texts were put
+  pub put_speaks : (status : ℕ) → status ≢ 4 → Finishes may before now status → Speaks may before now rose status
+  put_speaks status other h = record { ends = λ four. h; put_failed = λ four. absurd (other four); cut_off = λ four. absurd (other four) }
+
+  -- or of the last one a front
+  pub cut_speaks : rose → IsCutOff may before now → Speaks may before now rose 4
+  cut_speaks failed h = record { ends = λ four. absurd (four refl); put_failed = λ four. failed; cut_off = λ four. h }
+
+-- memory was wanting before anything was said
+pub broke_before : (may : Ending → Type 0) (Q : Type 0) → Q → (taken : Option (List ℕ)) (rose : Type 0) → Speaks (OrMemory may Q) taken taken rose 9
+broke_before may Q q taken rose = put_speaks (OrMemory may Q) taken taken rose 9 (λ four. omega (arith, four)) (wants_memory may Q q taken taken 9 refl (nothing_taken taken))
+
+pub said_nothing : (may : Ending → Type 0) (Q : Type 0) → Q → (taken : Option (List ℕ)) (rose : Type 0) (r : Result (Unit {0}) Broken) → IsErrAnd r (λ e. e ≡ Memory) → Speaks (OrMemory may Q) taken taken rose (status_of_session r)
+said_nothing may Q q taken rose (Ok done) is = absurd is
+said_nothing may Q q taken rose (Err e) is =
+    subst (λ (x : Broken). Speaks (OrMemory may Q) taken taken rose (status_of_session (Err x))) (sym is) (broke_before may Q q taken rose)
+
+-- what holds of each ending that may come holds of it
 module _ (may due : Ending → Type 0) (weaker : (e : Ending) → may e → due e) (before now : Option (List ℕ)) where
   finishes : (status : ℕ) → Finishes may before now status → Finishes due before now status
-  finishes status h = record { ending = h.ending; due = λ never. weaker h.ending (h.due never); shown = h.shown; put = h.put }
-
-  breaks : BreaksOff may before now → BreaksOff due before now
-  breaks h = record { ending = h.ending; due = λ never. weaker h.ending (h.due never); put = h.put }
+  finishes status h = record { ending = h.ending; due = weaker h.ending h.due; shown = h.shown; put = h.put }
 
   cuts : IsCutOff may before now → IsCutOff due before now
-  cuts h = record { ending = h.ending; due = λ never. weaker h.ending (h.due never); texts = h.texts; next = h.next; split = h.split; put = h.put }
+  cuts h = record { ending = h.ending; due = weaker h.ending h.due; last = h.last; texts = h.texts; next = h.next; split = h.split; put = h.put }
 
   pub speaks_weaker : (rose : Type 0) (status : ℕ) → Speaks may before now rose status → Speaks due before now rose status
   speaks_weaker rose status h = record {
-    ends = λ four nine. finishes status (h.ends four nine);
+    ends = λ four. finishes status (h.ends four);
     put_failed = h.put_failed;
     cut_off = λ four. cuts (h.cut_off four);
-    broke = λ nine. breaks (h.broke nine);
   }
 
--- how the rows went says it all
-goes_speaks : (may : Ending → Type 0) (before now : Option (List ℕ)) (rose : Type 0) (r : Result (Unit {0}) Broken) → Goes may before now rose r → Speaks may before now rose (status_of_session r)
-goes_speaks may before now rose (Ok done) goes = record {
-  ends = λ four nine. goes;
-  put_failed = λ four. absurd (omega (arith, four));
-  cut_off = λ four. absurd (omega (arith, four));
-  broke = λ nine. absurd (omega (arith, nine));
-}
-goes_speaks may before now rose (Err Memory) goes = record {
-  ends = λ four nine. absurd (nine refl);
-  put_failed = λ four. absurd (omega (arith, four));
-  cut_off = λ four. absurd (omega (arith, four));
-  broke = λ nine. goes;
-}
-goes_speaks may before now rose (Err Put) goes = record {
-  ends = λ four nine. absurd (four refl);
-  put_failed = λ four. goes.0;
-  cut_off = λ four. goes.1;
-  broke = λ nine. absurd (omega (arith, nine));
-}
+or_weaker : (may due : Ending → Type 0) (P Q : Type 0) → ((e : Ending) → may e → due e) → (P → Q) → (e : Ending) → OrMemory may P e → OrMemory due Q e
+or_weaker may due P Q weaker lost e h = record { says = λ never. weaker e (h.says never); wanting = λ is. lost (h.wanting is) }
 
--- and no stop has its status
+-- no stop has the status of a session
 pub no_stop : (r : Result (Unit {0}) Broken) (status : ℕ) → status ≡ status_of_session r → SaysStop status → ⊥
 no_stop (Ok done) status is stop = absurd (omega (arith, is, stop.low))
 no_stop (Err Memory) status is stop = absurd (omega (arith, is, stop.high))
@@ -96,29 +83,42 @@ module _ (steps budget : ℕ) (book : List BookEntry) (net : Net) (rows : List R
   empty_too_large k is above =
       closes_by (Some k) (Err (Large k)) (ap above_limit (sym (is ∙ ap (λ m. question_size m no_log steps) network)) ∙ past_limit k above) refl
 
-  may_say : (k : ℕ) → k ≡ question_size net no_log steps → k ≤ MOST_SIZE → (e : Ending) → MaySay net steps budget rows book e → Closes (Session steps budget) book (text ∷ lines ∷ []) e
+  -- what a session may say
+  abbrev Says : Net → List Row → Ending → Type 0
+  Says of_net of_rows e = IsOkAnd e (IsSession of_net steps budget of_rows book)
+
+  may_say : (k : ℕ) → k ≡ question_size net no_log steps → k ≤ MOST_SIZE → (e : Ending) → Says net rows e → Closes (Session steps budget) book (text ∷ lines ∷ []) e
   may_say k is small e says =
-      let of_net = subst (λ (m : Net). MaySay m steps budget rows book e) network says in
-      closes_by None e (within_limit size (subst (λ j. j ≤ MOST_SIZE) (is ∙ ap (λ m. question_size m no_log steps) network) small)) (subst (λ (rs : List Row). MaySay (network_of text) steps budget rs book e) script of_net)
+      let of_net = subst (λ (m : Net). Says m rows e) network says in
+      closes_by None e (within_limit size (subst (λ j. j ≤ MOST_SIZE) (is ∙ ap (λ m. question_size m no_log steps) network) small)) (subst (λ (rs : List Row). Says (network_of text) rs e) script of_net)
 
   pub session_speaks : (k : ℕ) (before now : Option (List ℕ)) (rose : Type 0) (r : Result (Unit {0}) Broken) (status : ℕ) → k ≡ question_size net no_log steps → k ≤ MOST_SIZE → status ≡ status_of_session r
-      → Goes (MaySay net steps budget rows book) before now rose r → Speaks (Closes (Session steps budget) book (text ∷ lines ∷ [])) before now rose status
-  session_speaks k before now rose r status is small shown goes =
-      subst (Speaks (Closes (Session steps budget) book (text ∷ lines ∷ [])) before now rose) (sym shown)
-      (speaks_weaker (MaySay net steps budget rows book) (Closes (Session steps budget) book (text ∷ lines ∷ [])) (may_say k is small) before now rose (status_of_session r)
-      (goes_speaks (MaySay net steps budget rows book) before now rose r goes))
+      → Speaks (MaySay net steps budget rows book) before now rose (status_of_session r) → Speaks (OrMemory (Closes (Session steps budget) book (text ∷ lines ∷ [])) (book ≡ [])) before now rose status
+  session_speaks k before now rose r status is small shown speaks =
+      let closes = Closes (Session steps budget) book (text ∷ lines ∷ []) in
+      subst (Speaks (OrMemory closes (book ≡ [])) before now rose) (sym shown)
+      (speaks_weaker (MaySay net steps budget rows book) (OrMemory closes (book ≡ [])) (or_weaker (Says net rows) closes (book ≡ []) (book ≡ []) (may_say k is small) (λ none. none)) before now rose (status_of_session r) speaks)
 
 -- ---- for the words that call it
 
 due_for : (l : Loads) (words : List (List ℕ)) (c : Command) (book : List BookEntry) (e : Ending) → command_of words ≡ Some c → Answers l words c book e → Due l words book e
 due_for l words c book e called h = subst (λ (o : Option Command). MatchOption o (e ≡ Err Usage) (λ d. Answers l words d book e)) (sym called) h
 
+pub not_begun : (words : List (List ℕ)) (book : List BookEntry) → book ≡ [] → HasNotBegun words book
+not_begun words book none = by (command_of words)
+  where
+    by : (o : Option Command) → IfSome o (λ c. is_session c ≡ true → book ≡ [])
+    by None = tt
+    by (Some c) = λ is. none
+
 module _ (l : Loads) (words : List (List ℕ)) (steps budget : ℕ) (book : List BookEntry) (called : command_of words ≡ Some (Session steps budget)) where
-  pub plan_speaks : (net : Net) (rows : List Row) (before now : Option (List ℕ)) (rose : Type 0) (status : ℕ) (plan : IsPlan l.held words net rows) → Speaks (Closes (Session steps budget) book (plan.text ∷ plan.lines ∷ [])) before now rose status
-      → Speaks (Due l words book) before now rose status
+  pub plan_speaks : (net : Net) (rows : List Row) (before now : Option (List ℕ)) (rose : Type 0) (status : ℕ) (plan : IsPlan l.held words net rows)
+      → Speaks (OrMemory (Closes (Session steps budget) book (plan.text ∷ plan.lines ∷ [])) (book ≡ [])) before now rose status → Speaks (MayCome l words book) before now rose status
   plan_speaks net rows before now rose status plan speaks =
-      speaks_weaker (Closes (Session steps budget) book (plan.text ∷ plan.lines ∷ [])) (Due l words book)
-      (λ e h. due_for l words (Session steps budget) book e called (with_plan l words (Closes (Session steps budget) book) net rows e plan h)) before now rose status speaks
+      let closes = Closes (Session steps budget) book (plan.text ∷ plan.lines ∷ []) in
+      speaks_weaker (OrMemory closes (book ≡ [])) (MayCome l words book)
+      (or_weaker closes (Due l words book) (book ≡ []) (HasNotBegun words book) (λ e h. due_for l words (Session steps budget) book e called (with_plan l words (Closes (Session steps budget) book) net rows e plan h)) (not_begun words book))
+      before now rose status speaks
 
   pub plan_stops : (stop : Stop) → (stop ≢ NoMemory → StopsInPlan l words stop) → UnlessMemory {T = Kind × List ℕ} (Err stop) (Due l words book (once (Err stop)))
   plan_stops stop h never =

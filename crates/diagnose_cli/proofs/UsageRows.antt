@@ -1,5 +1,5 @@
 -- `USAGE` is said of no command.
-use Rattle.std.proofs.Common.{◌≡◌, inl, inr, ℕ, ◌+◌, List, [], ◌∷◌, ◌++◌, Option, Some, None, Ok, Err, IsOkAnd, MatchOption, IsSomeAnd, refl, subst, arith}
+use Rattle.std.proofs.Common.{◌≡◌, inl, inr, ℕ, ◌+◌, List, [], ◌∷◌, ◌++◌, Option, Some, None, Ok, Err, IsOkAnd, MatchOption, refl, subst, arith}
 use Rattle.proof_ledger.specs.Book.{BookEntry}
 use Rattle.diagnose_cli.specs.declared.command.Command.{Command}
 use Rattle.diagnose_cli.specs.declared.ending.Kind.{Kind}
@@ -7,9 +7,9 @@ use Rattle.diagnose_cli.specs.declared.ending.Kind.TheVariants.{Done, Rejected, 
 use Rattle.diagnose_cli.specs.declared.stop.Stop.TheVariants.{Usage, Load, Faulty, Long, Large, Memory}
 use Rattle.diagnose_cli.specs.declared.stop.FaultyText.{FaultyText}
 use Rattle.diagnose_cli.specs.declared.stop.FaultyText.TheVariants.{Model, Log, Run, Cnf, Lrat}
-use Rattle.diagnose_cli.specs.Transcripts.{Ending, Transcript, UnlessMemory}
+use Rattle.diagnose_cli.specs.Transcripts.{End, finished, cut, broken, Ending, Transcript, replies, whole, UnlessMemory}
 use Rattle.diagnose_cli.specs.Files.{Loads}
-use Rattle.diagnose_cli.specs.Endings.{HasStatus, status_of_kind, status_of_faulty}
+use Rattle.diagnose_cli.specs.Endings.{HasStatus, status_of_end, status_of_kind, status_of_faulty}
 use Rattle.diagnose_cli.specs.Commands.{FileKind, SaysInAll, fault_of_text, files_of, too_large, Closes, InOrder, Answers, Due, command_of}
 use Rattle.diagnose_cli.specs.Outcomes.{Outcome}
 use Rattle.diagnose_cli.specs.Run.{Ends}
@@ -53,12 +53,14 @@ not_faulty (Run fault) p = cc
 not_faulty (Cnf fault) p = cc
 not_faulty (Lrat fault) p = cc
 
-not_done : (o : Option Kind) → IsSomeAnd o (λ kind. 2 ≡ status_of_kind kind) → ⊥
-not_done None p = absurd p
-not_done (Some k) p = not_kind k p
+not_end : (end : End) → 2 ≡ status_of_end end → ⊥
+not_end finished p = cc
+not_end cut p = cc
+not_end broken p = cc
 
 of_ending : (o : Outcome) (e : Ending) → UnlessMemory e (Due o.loads o.words o.book e) → HasStatus e 2 → command_of o.words ≡ None
-of_ending o (Ok told) d p = absurd (not_done told.done p)
+of_ending o (Ok (whole reply)) d p = absurd (not_kind reply.0 p)
+of_ending o (Ok (replies texts end)) d p = absurd (not_end end p)
 of_ending o (Err Usage) d p = no_command o.loads o.words o.book (command_of o.words) (d (λ m. cc))
 of_ending o (Err (Load i)) d p = absurd (omega arith)
 of_ending o (Err (Faulty text)) d p = absurd (not_faulty text p)
@@ -67,4 +69,4 @@ of_ending o (Err (Large size)) d p = absurd (omega arith)
 of_ending o (Err Memory) d p = absurd (omega arith)
 
 pub usage_row : (o : Outcome) → Ends o → o.status ≡ 2 → command_of o.words ≡ None
-usage_row o ends p = of_ending o ends.ending ends.due (subst (HasStatus ends.ending) p ends.shown)
+usage_row o ends p = of_ending o ends.ending ends.due.says (subst (HasStatus ends.ending) p ends.shown)

@@ -47,7 +47,7 @@ use Rattle.diagnose_cli.specs.declared.stop.Stop.{Stop}
 use Rattle.diagnose_cli.specs.declared.stop.Stop.TheVariants.{Usage, Faulty, Large}
 use Rattle.diagnose_cli.specs.declared.ending.Kind.{Kind}
 use Rattle.diagnose_cli.specs.declared.ending.Kind.TheVariants.{Done, Rejected, Absent, Undecided, Many, Nothing}
-use Rattle.diagnose_cli.specs.Transcripts.{Ending, Transcript, IsWhole}
+use Rattle.diagnose_cli.specs.Transcripts.{finished, cut, broken, Ending, IsWhole, OrMemory, Transcript, replies, whole}
 use Rattle.diagnose_cli.specs.Files.{Loads, IsText, StopsIn, WithFile}
 use Rattle.diagnose_cli.specs.Diagnosed.{IsDiagnosed}
 use Rattle.diagnose_cli.specs.Formula.{IsFormulaOf, question_formula}
@@ -308,27 +308,57 @@ pub record HasReplies (net : Net) (n budget : ℕ) (rows : List Row) (left : Sta
   pub replays : RunsReplay net n no_log rows told
   pub are : texts ≡ flat_map (replies_to net n) told
 
--- A row whose reply isn't told was carried out, or memory was wanting before that.
+-- The row was carried out, a run that it told replays, and this is its reply.
+pub record IsRowReplied (net : Net) (n budget : ℕ) (old : Stage) (row : Row) (new : Stage) (reply : List ℕ) : Type 0 where
+  pub told : Told
+  pub holds : IsRowTold net n budget old row new told
+  pub replays : TellsReplaying net old.log n told
+  pub is : replies_to net n told ≡ reply ∷ []
+
+-- The row has a reply that isn't told, since memory was wanting for its text; or memory was wanting before that, and the row is left undone.
 abbrev pub IsUntold : Net → ℕ → ℕ → Row → Stage → Stage → Type 0
-IsUntold net n budget row old new = ((told : Told) × IsRowTold net n budget old row new told) ⊎ IsLeftUndone budget old row new
+IsUntold net n budget row old new = ((reply : List ℕ) × IsRowReplied net n budget old row new reply) ⊎ IsLeftUndone budget old row new
 
--- Behind the rows whose replies are told, it came as far as one more row at most.
-abbrev pub IsLeftBehind : Net → ℕ → ℕ → List Row → Stage → Stage → Type 0
-IsLeftBehind net n budget [] left end = end ≡ left
-IsLeftBehind net n budget (row ∷ others) left end = (end ≡ left) ⊎ IsUntold net n budget row left end
-
--- What a session over these rows may say where it leaves this book: the replies to a front of them. It is done where that is all of them, and else one more row was taken at most.
-pub record IsSession (net : Net) (n budget : ℕ) (rows : List Row) (book : List BookEntry) (told : Transcript) : Type 0 where
+-- A session over these rows came to one of them: those before it brought it to this stage, and these are their replies.
+pub record ComesTo (net : Net) (n budget : ℕ) (rows : List Row) (row : Row) (left : Stage) (texts : List (List ℕ)) : Type 0 where
   pub front : List Row
   pub others : List Row
-  pub split : rows ≡ front ++ others
+  pub split : rows ≡ front ++ row ∷ others
+  pub replied : HasReplies net n budget front left texts
+
+-- All rows were carried out, and these are their replies. The book is the one that they came to.
+pub record IsFinished (net : Net) (n budget : ℕ) (rows : List Row) (book : List BookEntry) (texts : List (List ℕ)) : Type 0 where
   pub left : Stage
-  pub replied : HasReplies net n budget front left told.texts
+  pub replied : HasReplies net n budget rows left texts
+  pub book_is : book ≡ left.book
+
+-- The last text is the reply of the row that a session came to. This row was carried out as those before it, and no other: the book is the one that these came to.
+pub record IsCut (net : Net) (n budget : ℕ) (rows : List Row) (book : List BookEntry) (texts : List (List ℕ)) : Type 0 where
+  pub row : Row
+  pub left : Stage
   pub end : Stage
-  pub behind : IsLeftBehind net n budget others left end
-  pub book_is : end.book ≡ book
-  pub kind_is : IfSome told.done (λ kind. kind ≡ Done)
-  pub whole : IfSome told.done (λ kind. others ≡ [])
+  pub earlier : List (List ℕ)
+  pub last : List ℕ
+  pub comes : ComesTo net n budget rows row left earlier
+  pub replied : IsRowReplied net n budget left row end last
+  pub book_is : book ≡ end.book
+  pub are : texts ≡ earlier ++ last ∷ []
+
+-- Memory was wanting at the row that a session came to: behind what those before it left, the book has what this one put.
+pub record IsBroken (net : Net) (n budget : ℕ) (rows : List Row) (book : List BookEntry) (texts : List (List ℕ)) : Type 0 where
+  pub row : Row
+  pub left : Stage
+  pub end : Stage
+  pub comes : ComesTo net n budget rows row left texts
+  pub untold : IsUntold net n budget row left end
+  pub book_is : book ≡ end.book
+
+-- What a session over these rows may say where it leaves this book, by how it ends: the replies to all rows, or to those that it came to.
+abbrev pub IsSession : Net → ℕ → ℕ → List Row → List BookEntry → Transcript → Type 0
+IsSession net n budget rows book (whole reply) = ⊥
+IsSession net n budget rows book (replies texts finished) = IsFinished net n budget rows book texts
+IsSession net n budget rows book (replies texts cut) = IsCut net n budget rows book texts
+IsSession net n budget rows book (replies texts broken) = IsBroken net n budget rows book texts
 
 -- the reply tells what is found
 pub record SaysFound (net : Net) (alarms : AlarmLog) (n budget : ℕ) (book : List BookEntry) (reply : Kind × List ℕ) : Type 0 where
@@ -496,6 +526,14 @@ Due l words book e = MatchOption (command_of words) (e ≡ Err Usage) (λ c. Ans
 abbrev pub is_session : Command → Bool
 is_session (Session steps budget) = true
 is_session _ = false
+
+-- where the words call a session, it hasn't begun: the book is empty
+abbrev pub HasNotBegun : List (List ℕ) → List BookEntry → Type 0
+HasNotBegun words book = IfSome (command_of words) (λ c. is_session c ≡ true → book ≡ [])
+
+-- What may come for these words with this book left: what is due, or want of memory. Of a session that has begun it is what is due.
+abbrev pub MayCome : Loads → List (List ℕ) → List BookEntry → Ending → Type 0
+MayCome l words book = OrMemory (Due l words book) (HasNotBegun words book)
 
 -- how many files a command names
 abbrev pub file_count : Command → ℕ

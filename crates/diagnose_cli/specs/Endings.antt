@@ -1,5 +1,5 @@
 -- The status of an ending, and its texts.
-use Rattle.std.specs.Prelude.{◌≡◌, ℕ, List, [], ◌∷◌, codes, Ok, Err, IsSomeAnd}
+use Rattle.std.specs.Prelude.{◌≡◌, ℕ, List, [], ◌∷◌, codes, Ok, Err}
 use Rattle.diagnose_cli.specs.declared.stop.Stop.{Stop}
 use Rattle.diagnose_cli.specs.declared.stop.Stop.TheVariants.{Usage, Load, Faulty, Long, Large, Memory}
 use Rattle.diagnose_cli.specs.declared.stop.FaultyText.{FaultyText}
@@ -7,7 +7,7 @@ use Rattle.diagnose_cli.specs.declared.stop.FaultyText.TheVariants.{Model, Log, 
 use Rattle.diagnose_cli.specs.declared.ending.Kind.{Kind}
 use Rattle.diagnose_cli.specs.declared.ending.Kind.TheVariants.{Done, Rejected, Absent, Undecided, Many, Nothing}
 use Rattle.report.specs.Replies.{numbered, placed}
-use Rattle.diagnose_cli.specs.Transcripts.{Ending}
+use Rattle.diagnose_cli.specs.Transcripts.{End, finished, cut, broken, Ending, whole, replies}
 
 abbrev pub status_of_kind : Kind → ℕ
 status_of_kind Done = 0
@@ -32,9 +32,16 @@ status_of_stop (Long file) = 8
 status_of_stop (Large size) = 8
 status_of_stop Memory = 9
 
--- it is an end, and this is its status
+-- of a session
+abbrev pub status_of_end : End → ℕ
+status_of_end finished = 0
+status_of_end cut = 4
+status_of_end broken = 9
+
+-- the status of an ending
 abbrev pub HasStatus : Ending → ℕ → Type 0
-HasStatus (Ok told) status = IsSomeAnd told.done (λ kind. status ≡ status_of_kind kind)
+HasStatus (Ok (whole reply)) status = status ≡ status_of_kind reply.0
+HasStatus (Ok (replies texts end)) status = status ≡ status_of_end end
 HasStatus (Err stop) status = status ≡ status_of_stop stop
 
 abbrev pub text_of_faulty : FaultyText → List ℕ
@@ -53,5 +60,6 @@ text_of_stop (Large size) = numbered (codes "LARGE ") size
 text_of_stop Memory = []
 
 abbrev pub texts_of : Ending → List (List ℕ)
-texts_of (Ok told) = told.texts
+texts_of (Ok (whole reply)) = reply.1 ∷ []
+texts_of (Ok (replies texts end)) = texts
 texts_of (Err stop) = text_of_stop stop ∷ []

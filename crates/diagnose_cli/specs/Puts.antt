@@ -1,8 +1,8 @@
 -- What putting the texts of an ending does.
-use Rattle.std.specs.Prelude.{◌≡◌, ◌≢◌, ℕ, List, [], ◌∷◌, ◌++◌, Option}
+use Rattle.std.specs.Prelude.{◌≡◌, ◌≢◌, ℕ, ⊤, List, [], ◌∷◌, ◌++◌, Option, Ok}
 use Rattle.std.specs.List.{concat}
 use Rattle.des_base.specs.Outside.{Took, TookFront}
-use Rattle.diagnose_cli.specs.Transcripts.{Ending, UnlessMemory, TookCut}
+use Rattle.diagnose_cli.specs.Transcripts.{Ending, cut, replies, TookCut}
 use Rattle.diagnose_cli.specs.Endings.{HasStatus, texts_of}
 
 -- those of one ending, by the status that is answered; rose says that the sink's count of faults rose
@@ -13,25 +13,25 @@ pub record Puts (e : Ending) (before now : Option (List ℕ)) (rose : Type 0) (s
   pub front : status ≡ 4 → TookFront before now (concat (texts_of e))
   pub put_failed : status ≡ 4 → rose
 
--- ---- of an ending that is due
+-- ---- of an ending that may come
 
 -- its texts were put, and its status is answered
 pub record Finishes (may : Ending → Type 0) (before now : Option (List ℕ)) (status : ℕ) : Type 0 where
   pub ending : Ending
-  pub due : UnlessMemory ending (may ending)
+  pub due : may ending
   pub shown : HasStatus ending status
   pub put : Took before now (concat (texts_of ending))
 
--- whole texts were put
-pub record BreaksOff (may : Ending → Type 0) (before now : Option (List ℕ)) : Type 0 where
-  pub ending : Ending
-  pub due : UnlessMemory ending (may ending)
-  pub put : Took before now (concat (texts_of ending))
+-- Its last text is the one whose put fails. Only a session has several, and it says so itself.
+abbrev pub EndsCut : Ending → Type 0
+EndsCut (Ok (replies texts end)) = end ≡ cut
+EndsCut _ = ⊤
 
--- texts were put, but of the last one a front alone
+-- its texts were put, but of the last one a front alone
 pub record IsCutOff (may : Ending → Type 0) (before now : Option (List ℕ)) : Type 0 where
   pub ending : Ending
-  pub due : UnlessMemory ending (may ending)
+  pub due : may ending
+  pub last : EndsCut ending
   pub texts : List (List ℕ)
   pub next : List ℕ
   pub split : texts_of ending ≡ texts ++ next ∷ []
@@ -39,7 +39,6 @@ pub record IsCutOff (may : Ending → Type 0) (before now : Option (List ℕ)) :
 
 -- by the status that is answered
 pub record Speaks (may : Ending → Type 0) (before now : Option (List ℕ)) (rose : Type 0) (status : ℕ) : Type 0 where
-  pub ends : status ≢ 4 → status ≢ 9 → Finishes may before now status
+  pub ends : status ≢ 4 → Finishes may before now status
   pub put_failed : status ≡ 4 → rose
   pub cut_off : status ≡ 4 → IsCutOff may before now
-  pub broke : status ≡ 9 → BreaksOff may before now

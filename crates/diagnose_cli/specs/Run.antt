@@ -2,33 +2,24 @@
 use Rattle.std.specs.Prelude.{◌≡◌, ◌≢◌, ℕ, List, [], ◌≤◌, codes, None, IfSome, IsSomeAnd, Bool, true, false}
 use Rattle.des_base.specs.Outside.{Rose, Took}
 use Rattle.des_base.specs.CommandWords.{word_at}
-use Rattle.diagnose_cli.specs.Transcripts.{Ending}
 use Rattle.report.specs.Replies.{numbered}
 use Rattle.diagnose_cli.specs.declared.command.Command.{Command}
 use Rattle.diagnose_cli.specs.declared.command.Command.TheVariants.{Diagnose, PrintCnf, PrintProof, Bench, Session}
-use Rattle.diagnose_cli.specs.Commands.{Due, command_of, file_count, files_of}
+use Rattle.diagnose_cli.specs.Commands.{MayCome, command_of, file_count, files_of}
 use Rattle.diagnose_cli.specs.Outcomes.{Outcome, IsUnbroken}
 use Rattle.diagnose_cli.specs.Exact.{StopRow}
-use Rattle.diagnose_cli.specs.Puts.{Finishes, BreaksOff, IsCutOff}
+use Rattle.diagnose_cli.specs.Puts.{Finishes, IsCutOff}
 use Rattle.diagnose_cli.specs.Rows.{TraceRow, ShowRow, ReplayRow, CheckRows, PrintedRows, GenerateRows, BenchRow, DiagnoseRows, SessionRow}
 
 -- ---- how it ends
 
--- what is due for the words with the book that is left
-abbrev pub IsDue : Outcome → Ending → Type 0
-IsDue o = Due o.loads o.words o.book
-
--- by an ending that is due: its texts were put, and its status is answered
+-- by an ending that may come for the words with the book that is left: its texts were put, and its status is answered
 abbrev pub Ends : Outcome → Type 0
-Ends o = Finishes (IsDue o) o.before o.now o.status
+Ends o = Finishes (MayCome o.loads o.words o.book) o.before o.now o.status
 
--- whole texts that are due for the words were put
-abbrev pub Broke : Outcome → Type 0
-Broke o = BreaksOff (IsDue o) o.before o.now
-
--- texts that are due for the words were put, but of the last one a front alone
+-- by one whose last text can't be put: the others were put, and of this a front
 abbrev pub CutOff : Outcome → Type 0
-CutOff o = IsCutOff (IsDue o) o.before o.now
+CutOff o = IsCutOff (MayCome o.loads o.words o.book) o.before o.now
 
 -- the count of the name of file i rose
 abbrev pub RoseFor : Outcome → ℕ → Type 0
@@ -49,11 +40,10 @@ pub record LoadRow (o : Outcome) : Type 0 where
 pub record Ran (o : Outcome) (rose : Type 0) : Type 0 where
   pub stops : IsUnbroken o.status → StopRow o
   pub usage : o.status ≡ 2 → command_of o.words ≡ None
-  pub ends : o.status ≢ 4 → o.status ≢ 9 → Ends o
+  pub ends : o.status ≢ 4 → Ends o
   pub load_failed : o.status ≡ 3 → LoadRow o
   pub put_failed : o.status ≡ 4 → rose
   pub cut_off : o.status ≡ 4 → CutOff o
-  pub broke : o.status ≡ 9 → Broke o
 
 -- ---- what isn't asked for
 

@@ -13,8 +13,7 @@ use Rattle.report.specs.Replies.{EventsKnown}
 use Rattle.diagnose_cli.specs.declared.session_rows.Broken.{Broken}
 use Rattle.diagnose_cli.specs.declared.session_rows.Broken.TheVariants.{Memory, Put}
 use Rattle.diagnose_cli.specs.Commands.{IsSession, IsUntold, TellsReplaying, replies_to}
-use Rattle.diagnose_cli.specs.Puts.{BreaksOff, Finishes, IsCutOff}
-use Rattle.diagnose_cli.specs.Transcripts.{Ending}
+use Rattle.diagnose_cli.specs.Transcripts.{Ending, OrMemory}
 
 -- ---- one row
 
@@ -24,16 +23,22 @@ TellsKnown net Made = ⊤
 TellsKnown net (Refused refusal) = ⊤
 TellsKnown net (Answered found) = EventsKnown net found
 
+-- nothing was taken, though there is a text
+pub record IsNoneTaken (texts : List (List ℕ)) (before now : Option (List ℕ)) : Type 0 where
+  pub next : List ℕ
+  pub only : texts ≡ next ∷ []
+  pub put : Took before now []
+
 -- the only text of some is cut off: a front of it was taken
 pub record IsFrontTaken (texts : List (List ℕ)) (before now : Option (List ℕ)) : Type 0 where
   pub next : List ℕ
   pub only : texts ≡ next ∷ []
   pub put : TookFront before now next
 
--- All texts were taken, or none of them where memory was wanting, or there is one and its put failed. Here rose says that the sink's count of faults rose.
+-- All texts were taken, or there is one for which memory was wanting, or whose put failed. Here rose says that the sink's count of faults rose.
 abbrev pub PutsReplies : List (List ℕ) → Option (List ℕ) → Option (List ℕ) → Type 0 → Result (Unit {0}) Broken → Type 0
 PutsReplies texts before now rose (Ok done) = Took before now (concat texts)
-PutsReplies texts before now rose (Err Memory) = Took before now []
+PutsReplies texts before now rose (Err Memory) = IsNoneTaken texts before now
 PutsReplies texts before now rose (Err Put) = rose × IsFrontTaken texts before now
 
 -- The row was carried out, and what it told replays.
@@ -59,17 +64,11 @@ RowGoes net n budget old row new before now rose (Err Put) = rose × IsRowPut ne
 
 -- ---- all rows
 
--- what a session may say that leaves this book
+-- What a session may come to that leaves this book. Where memory is wanting before it has begun, the book is empty.
 abbrev pub MaySay : Net → ℕ → ℕ → List Row → List BookEntry → Ending → Type 0
-MaySay net n budget rows book e = IsOkAnd e (IsSession net n budget rows book)
+MaySay net n budget rows book = OrMemory (λ e. IsOkAnd e (IsSession net n budget rows book)) (book ≡ [])
 
--- by how it went
-abbrev pub Goes : (Ending → Type 0) → Option (List ℕ) → Option (List ℕ) → Type 0 → Result (Unit {0}) Broken → Type 0
-Goes may before now rose (Ok done) = Finishes may before now 0
-Goes may before now rose (Err Memory) = BreaksOff may before now
-Goes may before now rose (Err Put) = rose × IsCutOff may before now
-
--- the status of a session
+-- its status, by how its rows went
 abbrev pub status_of_session : Result (Unit {0}) Broken → ℕ
 status_of_session (Ok done) = 0
 status_of_session (Err Memory) = 9

@@ -2,11 +2,12 @@
 ghost use Rattle.std.specs.Prelude.{◌≡◌, ◌<◌, ◌≤◌, ℕ, List, [], ◌∷◌, length, Some};
 ghost use Rattle.des_base.specs.Outside.{Rose};
 ghost use Rattle.des_base.specs.declared.TheConstants.{MOST_STEPS};
-ghost use Rattle.diagnose_cli.specs.Commands.{Closes, Due, command_of};
+ghost use Rattle.diagnose_cli.specs.Commands.{Closes, MayCome, command_of};
 ghost use Rattle.diagnose_cli.specs.Files.{loads};
 ghost use Rattle.diagnose_cli.specs.Puts.{Speaks};
 ghost use Rattle.diagnose_cli.specs.Run.{SaysStop};
-ghost use Rattle.diagnose_cli.specs.Sessions.{Goes, MaySay, status_of_session};
+ghost use Rattle.diagnose_cli.specs.Sessions.{MaySay, status_of_session};
+ghost use Rattle.diagnose_cli.specs.Transcripts.{OrMemory};
 ghost use Rattle.indep.specs.StoredTest.{IsTest};
 ghost use Rattle.log_csv.specs.ScriptText.{script_of};
 ghost use Rattle.model_text.specs.ModelFaults.{network_of};
@@ -42,7 +43,7 @@ pub fn session_command<F: Shelf, S: Sink>(
     requires words { 2 < length words.now }
     requires steps { limits.steps ≤ MOST_STEPS }
     requires empty { book.old.entries ≡ [] }
-    ensures speaks { Speaks (Due (loads F.held F.faults shelf.old shelf.new) words.now book.new.entries) (S.taken out.old) (S.taken out.new) (Rose (S.faults out.old) (S.faults out.new)) result }
+    ensures speaks { Speaks (MayCome (loads F.held F.faults shelf.old shelf.new) words.now book.new.entries) (S.taken out.old) (S.taken out.new) (Rose (S.faults out.old) (S.faults out.new)) result }
     ensures stopped { SaysStop result → book.new ≡ book.old }
 {
     match fetch_plan(alloc, words, shelf) {
@@ -61,7 +62,7 @@ fn carry_out<S: Sink>(
 ) -> u8
     requires steps { limits.steps ≤ MOST_STEPS }
     requires empty { book.old.entries ≡ [] }
-    ensures speaks { (text lines : List ℕ) → plan.now.net ≡ network_of text → plan.now.script ≡ script_of lines → Speaks (Closes (Command.Session limits.steps limits.budget) book.new.entries (text ∷ lines ∷ [])) (S.taken out.old) (S.taken out.new) (Rose (S.faults out.old) (S.faults out.new)) result }
+    ensures speaks { (text lines : List ℕ) → plan.now.net ≡ network_of text → plan.now.script ≡ script_of lines → Speaks (OrMemory (Closes (Command.Session limits.steps limits.budget) book.new.entries (text ∷ lines ∷ [])) (book.new.entries ≡ [])) (S.taken out.old) (S.taken out.new) (Rose (S.faults out.old) (S.faults out.new)) result }
     ensures stopped { SaysStop result → book.new ≡ book.old }
 {
     let size = question_size(&plan.net, &AlarmLog::new(alloc), limits.steps);
@@ -92,7 +93,7 @@ fn carry_out_rows<S: Sink>(
 ) -> Result<(), Broken>
     requires steps { limits.steps ≤ MOST_STEPS }
     requires empty { book.old.entries ≡ [] }
-    ensures { Goes (MaySay plan.now.net limits.steps limits.budget plan.now.script book.new.entries) (S.taken out.old) (S.taken out.new) (Rose (S.faults out.old) (S.faults out.new)) result }
+    ensures { Speaks (MaySay plan.now.net limits.steps limits.budget plan.now.script book.new.entries) (S.taken out.old) (S.taken out.new) (Rose (S.faults out.old) (S.faults out.new)) (status_of_session result) }
 {
     let table = Table::new(alloc, &plan.net)?;
     let test = Indep::new(&plan.net, |a: u32, b: u32| {
@@ -114,7 +115,7 @@ fn carry_out_by_test<T: Fn(u32, u32) -> bool, S: Sink>(
     requires net { test.net ≡ plan.now.net }
     requires steps { limits.steps ≤ MOST_STEPS }
     requires empty { book.old.entries ≡ [] }
-    ensures { Goes (MaySay plan.now.net limits.steps limits.budget plan.now.script book.new.entries) (S.taken out.old) (S.taken out.new) (Rose (S.faults out.old) (S.faults out.new)) result }
+    ensures { Speaks (MaySay plan.now.net limits.steps limits.budget plan.now.script book.new.entries) (S.taken out.old) (S.taken out.new) (Rose (S.faults out.old) (S.faults out.new)) (status_of_session result) }
 {
     let first = step_variables(alloc, &plan.net, limits.steps, &test)?;
     let order = Order::new(alloc, |var: u32| u64::from(var >= first));
@@ -137,7 +138,7 @@ fn carry_out_by_order<T: Fn(u32, u32) -> bool, R: Fn(u32) -> u64, S: Sink>(
     requires no_variables { order.waiting ≡ [] }
     requires steps { limits.steps ≤ MOST_STEPS }
     requires empty { book.old.entries ≡ [] }
-    ensures { Goes (MaySay plan.now.net limits.steps limits.budget plan.now.script book.new.entries) (S.taken out.old) (S.taken out.new) (Rose (S.faults out.old) (S.faults out.new)) result }
+    ensures { Speaks (MaySay plan.now.net limits.steps limits.budget plan.now.script book.new.entries) (S.taken out.old) (S.taken out.new) (Rose (S.faults out.old) (S.faults out.new)) (status_of_session result) }
 {
     let own = mem::replace(book, Ledger::new(alloc));
     match Session::new(alloc, &plan.net, limits.steps, test, order, own) {

@@ -1,11 +1,13 @@
 // The rows of a script, carried out one after another, each with its reply.
-ghost use Rattle.std.specs.Prelude.{◌≡◌, ◌≤◌, IfOk, option_map};
+ghost use Rattle.std.specs.Prelude.{◌≡◌, ◌≢◌, ◌≤◌, IfOk, OnErr, option_map};
 ghost use Rattle.std.specs.Option.{option_to_list};
 ghost use Rattle.alarm_session.specs.Session.{BeginsAs, KeepsSetting};
+ghost use Rattle.alarm_session.specs.declared.rows.Told.TheVariants.{Made as NothingTold};
 ghost use Rattle.des_base.specs.Outside.{Rose};
 ghost use Rattle.des_base.specs.declared.TheConstants.{MOST_STEPS};
 ghost use Rattle.diagnose_cli.specs.Commands.{replies_to};
-ghost use Rattle.diagnose_cli.specs.Sessions.{Goes, MaySay, PutsReplies, RowGoes, TellsKnown};
+ghost use Rattle.diagnose_cli.specs.Puts.{Speaks};
+ghost use Rattle.diagnose_cli.specs.Sessions.{MaySay, PutsReplies, RowGoes, TellsKnown, status_of_session};
 ghost use Rattle.diagnose_cli.specs.declared.session_rows.Broken.TheVariants.{Memory as NoMemory};
 ghost use Rattle.report.specs.Replies.{EventsKnown, text_of_found, text_of_refused};
 ghost use Rattle.sat_order.specs.Rank.{IsRanked};
@@ -55,7 +57,7 @@ pub fn tell_rows<T: Fn(u32, u32) -> bool, R: Fn(u32) -> u64, S: Sink>(
     requires begins { BeginsAs net.now limits.steps session.old.order.rank session.old }
     requires ranked { IsRanked R.pre R.post session.old.order }
     requires steps { limits.steps ≤ MOST_STEPS }
-    ensures { Goes (MaySay net.now limits.steps limits.budget rows.now session.new.stage.book) (S.taken out.old) (S.taken out.new) (Rose (S.faults out.old) (S.faults out.new)) result }
+    ensures { Speaks (MaySay net.now limits.steps limits.budget rows.now session.new.stage.book) (S.taken out.old) (S.taken out.new) (Rose (S.faults out.old) (S.faults out.new)) (status_of_session result) }
 {
     // Its reader tells that the book asks about the empty log.
     let _book = session.book();
@@ -118,7 +120,8 @@ fn reply_to(
     told: &Told,
 ) -> Result<Option<Vec<u8>>, Memory>
     requires { TellsKnown net.now told.now }
-    ensures { IfOk result (λ reply. replies_to net.now steps told.now ≡ option_to_list (option_map (λ text. text.items) reply)) }
+    ensures reply { IfOk result (λ reply. replies_to net.now steps told.now ≡ option_to_list (option_map (λ text. text.items) reply)) }
+    ensures has_one { OnErr result (told.now ≢ NothingTold) }
 {
     match told {
         Told::Made => Ok(None),

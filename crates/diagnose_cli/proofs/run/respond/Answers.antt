@@ -1,9 +1,9 @@
 -- By a session, or by the one reply that was due.
-use Rattle.diagnose_cli.specs.Commands.{Due}
+use Rattle.diagnose_cli.specs.Commands.{Due, HasNotBegun}
 use Rattle.diagnose_cli.specs.Files.{loads}
 use Rattle.diagnose_cli.specs.declared.command.Command.TheVariants.{Session}
 use Rattle.diagnose_cli.proofs.GenerateAnswers.{asks_nothing, has_files}
-use Rattle.diagnose_cli.proofs.Once.{done, speaks_once, stop_left}
+use Rattle.diagnose_cli.proofs.Once.{done, no_session, speaks_once, stop_left}
 use Rattle.diagnose_cli.proofs.run.respond.Goals as goal
 
 pub returns-in-Some-clause-does : goal.returns-in-Some-clause-does
@@ -25,7 +25,7 @@ returns-in-None-clause-does g c =
     let l = loads g.F.Shelf.held g.F.Shelf.faults c.args.shelf.now c.answer-ending.new.shelf in
     let book = c.answer-ending.new.book.entries in
     done l c.args.words.now (g.S.Sink.taken c.args.out.now) (g.S.Sink.taken c.put_once.new.out) book c.put_once.result _
-    (speaks_once (Due l c.args.words.now book) c.answer-ending.result _ _ _ _ c.answer-ending.ensures.due c.put_once.ensures)
+    (speaks_once (Due l c.args.words.now book) (HasNotBegun c.args.words.now book) (no_session c.args.words.now book c.in-None.ensures.once) c.answer-ending.result _ _ _ _ c.answer-ending.ensures.due c.put_once.ensures)
 
 pub returns-in-None-clause-left_alone : goal.returns-in-None-clause-left_alone
 returns-in-None-clause-left_alone g c = record {

@@ -1,5 +1,5 @@
 -- By the size of the empty log, and then as its rows go.
-use Rattle.std.proofs.Common.{◌∙◌, ◌∷◌, [], Err, arith, ap}
+use Rattle.std.proofs.Common.{◌≡◌, ◌∙◌, ◌∷◌, [], Err, arith, ap}
 use Rattle.log_order.specs.Log.{Log}
 use Rattle.replay.specs.QuestionSize.{question_size}
 use Rattle.diagnose_cli.specs.declared.command.Command.TheVariants.{Session}
@@ -14,7 +14,7 @@ returns-then-size-gt-MOST_SIZE-clause-speaks g c text lines of_net of_script =
     let steps = c.args.limits.steps in
     let budget = c.args.limits.budget in
     let book = c.args.book.now.entries in
-    speaks_once (Closes (Session steps budget) book (text ∷ lines ∷ [])) (Err (Large c.question_size-size.result)) _ _ _ _
+    speaks_once (Closes (Session steps budget) book (text ∷ lines ∷ [])) (book ≡ []) c.requires.empty (Err (Large c.question_size-size.result)) _ _ _ _
     (λ never. empty_too_large steps budget book c.args.plan.now.net c.args.plan.now.script text lines of_net of_script c.question_size-size.result (c.question_size-size.ensures.size ∙ ap (λ (l : Log). question_size c.args.plan.now.net l steps) c.new.ensures) (omega (arith, c.if-size-gt-MOST_SIZE.true))) c.put_once.ensures
 
 pub returns-clause-speaks : goal.returns-clause-speaks

@@ -3,7 +3,8 @@ use Rattle.std.proofs.Common.{List, subst, sym}
 use Rattle.des_base.specs.Outside.{Rose}
 use Rattle.log_csv.specs.declared.row.Row.{Row}
 use Rattle.proof_ledger.specs.Book.{BookEntry}
-use Rattle.diagnose_cli.specs.Sessions.{Goes, MaySay}
+use Rattle.diagnose_cli.specs.Puts.{Speaks}
+use Rattle.diagnose_cli.specs.Sessions.{MaySay, status_of_session}
 use Rattle.diagnose_cli.proofs.SessionAnswers.{broke_before}
 use Rattle.diagnose_cli.proofs.session_command.carry_out_by_order.Goals as goal
 
@@ -16,8 +17,8 @@ returns-in-Ok g c =
     let now = g.S.Sink.taken c.tell_rows-said.new.out in
     let rose = Rose (g.S.Sink.faults c.args.out.now) (g.S.Sink.faults c.tell_rows-said.new.out) in
     let said = c.tell_rows-said.result in
-    subst (λ (book : List BookEntry). Goes (MaySay net n budget c.args.plan.now.script book) before now rose said) (sym c.into_book.ensures)
-    (subst (λ (rows : List Row). Goes (MaySay net n budget rows c.tell_rows-said.new.session.stage.book) before now rose said) c.rows-rows.ensures c.tell_rows-said.ensures)
+    subst (λ (book : List BookEntry). Speaks (MaySay net n budget c.args.plan.now.script book) before now rose (status_of_session said)) (sym c.into_book.ensures)
+    (subst (λ (rows : List Row). Speaks (MaySay net n budget rows c.tell_rows-said.new.session.stage.book) before now rose (status_of_session said)) c.rows-rows.ensures c.tell_rows-said.ensures)
 
 pub returns-in-Err : goal.returns-in-Err
-returns-in-Err g c = broke_before _ _
+returns-in-Err g c = broke_before _ _ (let new = c.new.ensures in cc) _ _

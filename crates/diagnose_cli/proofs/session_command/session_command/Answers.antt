@@ -1,9 +1,9 @@
 -- By its two files, and then as its rows go.
 use Rattle.std.proofs.Common.{Err}
-use Rattle.diagnose_cli.specs.Commands.{Due}
+use Rattle.diagnose_cli.specs.Commands.{Due, HasNotBegun}
 use Rattle.diagnose_cli.specs.Files.{loads}
 use Rattle.diagnose_cli.proofs.Once.{speaks_once}
-use Rattle.diagnose_cli.proofs.SessionAnswers.{plan_speaks, plan_stops}
+use Rattle.diagnose_cli.proofs.SessionAnswers.{not_begun, plan_speaks, plan_stops}
 use Rattle.diagnose_cli.proofs.session_command.session_command.Goals as goal
 
 pub returns-in-Ok-clause-speaks : goal.returns-in-Ok-clause-speaks
@@ -17,5 +17,5 @@ pub returns-in-Err-clause-speaks : goal.returns-in-Err-clause-speaks
 returns-in-Err-clause-speaks g c =
     let l = loads g.F.Shelf.held g.F.Shelf.faults c.args.shelf.now c.fetch_plan.new.shelf in
     let book = c.args.book.now.entries in
-    speaks_once (Due l c.args.words.now book) (Err c.in-Err.stop) _ _ _ _
+    speaks_once (Due l c.args.words.now book) (HasNotBegun c.args.words.now book) (not_begun c.args.words.now book c.requires.empty) (Err c.in-Err.stop) _ _ _ _
     (plan_stops l c.args.words.now c.args.limits.steps c.args.limits.budget book c.requires.called c.in-Err.stop c.in-Err.ensures.stop) c.put_once.ensures

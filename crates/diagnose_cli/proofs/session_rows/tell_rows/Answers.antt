@@ -5,7 +5,8 @@ use Rattle.std.proofs.lemmas.List.{take_all, take_more, take-append-drop}
 use Rattle.alarm_session.specs.Session.{IsSessionBook}
 use Rattle.des_base.specs.Outside.{Rose}
 use Rattle.log_csv.specs.declared.row.Row.{Row}
-use Rattle.diagnose_cli.proofs.SessionFronts.{HasSaid, broken_off, nothing_said, said_more, same_setting, says_all}
+use Rattle.diagnose_cli.proofs.SessionEnds.{broken_off, says_all}
+use Rattle.diagnose_cli.proofs.SessionFronts.{HasSaid, nothing_said, said_more, same_setting}
 use Rattle.diagnose_cli.proofs.session_rows.tell_rows.Goals as goal
 
 pub loop-row-init : goal.loop-row-init
