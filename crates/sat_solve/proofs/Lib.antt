@@ -10,3 +10,7 @@ pub mod Adopting
 pub mod Joining
 pub mod Keeping
 mod Vectors
+pub mod Places
+pub mod Rounds
+pub mod LevelMarks
+pub mod Moving

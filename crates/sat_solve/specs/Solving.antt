@@ -12,6 +12,7 @@ use Rattle.sat_prop.specs.TrailState.{TrailState, literal_at, reason_at}
 use Rattle.sat_prop.specs.Levels.{level_of}
 use Rattle.sat_prop.specs.Quiet.{AreQuiet}
 use Rattle.sat_learn.specs.Seen.{is_known_var}
+pub use Rattle.sat_solve.specs.Widening.{widened, KeepsValues}
 use Rattle.sat_solve.specs.declared.answer.Answer.{Answer}
 use Rattle.sat_solve.specs.declared.search.Search.{Search}
 use Rattle.sat_solve.specs.declared.answer.Answer.TheVariants.{Sat, Unsat, Spent}
@@ -32,18 +33,10 @@ pub record KeepsSize {R : Type 0} (old new : SolverState R) : Type 0 where
   pub vars : new.vars ≡ old.vars
   pub spare : new.spare ≡ old.spare
 
--- these values, and false for each further variable below a number
-abbrev pub widened : List Bool → ℕ → List Bool
-widened values vars = values ++ replicate (vars - length values) false
-
 -- the variables below a number that are added wait, and have the value false
 pub record AddsVariables {R : Type 0} (old new : SolverState R) (vars : ℕ) : Type 0 where
   pub waiting : new.order.waiting ≡ old.order.waiting ++ replicate (vars - length old.order.waiting) true
   pub assignment : new.assignment ≡ widened old.assignment vars
-
--- the values are as before, or there are some of further variables
-abbrev pub KeepsValues : List Bool → List Bool → ℕ → Type 0
-KeepsValues old new vars = (new ≡ old) ⊎ (new ≡ widened old vars)
 
 -- no two assumptions are negations of each other
 abbrev pub AreCompatible : List Lit → Type 0

@@ -1,11 +1,19 @@
 // What a search is advised: which variable to decide next, with which sign, and when to begin anew.
 //
-// - The variables of the clauses that lead from a conflict to the clause that is learnt have taken part in it; the most active one is
-//   suggested.
+// - The variables of the clauses that lead from a conflict to the clause that is learnt have taken part in it; one that waits is
+//   suggested, mostly the most active.
 // - A variable is decided as it last stood (Pipatsrisawat and Darwiche, "A lightweight component caching scheme for satisfiability
 //   solvers", 2007), and the first time as false.
 //
 // No contract says that the advice is good: whoever takes it tests it.
+ghost use Rattle.std.specs.Prelude.{◌≡◌, OnOk, OnErr};
+ghost use Rattle.prop_core.specs.Derivation.{clause_numbered};
+ghost use Rattle.sat_solve.specs.Activity.{after_conflict, with_clause_part, with_option_part};
+ghost use Rattle.sat_solve.specs.Advice.{no_advice, with_advice, KeepsAdvice, phase_of, with_released, with_hints_part, last_hints};
+ghost use Rattle.sat_solve.specs.Heap.{held_of, Takes};
+ghost use Rattle.sat_solve.specs.LevelCount.{AreLevelsOf, marked_of};
+ghost use Rattle.sat_solve.specs.Restarts.{with_clause, is_due, after_asking};
+
 use crate::activity::Activity;
 use crate::levels::Levels;
 use crate::restarts::Restarts;
@@ -14,6 +22,7 @@ use prop_core::{ClauseId, Clauses, Lit};
 use sat_learn::Learnt;
 use sat_prop::Trail;
 use std::alloc::Global;
+use std::marker::Model;
 
 #[derive(Drop)]
 pub struct Advice {
@@ -23,8 +32,19 @@ pub struct Advice {
     restarts: Restarts,
 }
 
+impl Model for Advice {
+    ghost use Rattle.sat_solve.specs.Advice.{AdviceState};
+
+    ghost Value = { AdviceState };
+
+    ghost view = { λ a. record { activity = a.activity; phases = a.phases.items; levels = a.levels; means = a.restarts } };
+}
+
 impl Advice {
-    pub fn new(alloc: Global) -> Advice {
+    // Nothing is known yet.
+    pub fn new(alloc: Global) -> Advice
+        ensures { result ≡ no_advice }
+    {
         Advice {
             activity: Activity::new(alloc),
             phases: Vec::new(alloc),
@@ -34,7 +54,10 @@ impl Advice {
     }
 
     // Sees to it that there is advice on this many variables.
-    pub fn widen(&mut self, vars: u32) -> Result<(), Memory> {
+    pub fn widen(&mut self, vars: u32) -> Result<(), Memory>
+        ensures ok { OnOk result (self.new ≡ with_advice self.old vars) }
+        ensures err { OnErr result (KeepsAdvice self.old self.new vars) }
+    {
         let count = self.phases.len().max(vars as usize);
         self.phases.resize(count, false)?;
         self.levels.widen(vars)?;
@@ -42,7 +65,9 @@ impl Advice {
     }
 
     // How a variable last stood.
-    pub fn phase(&self, var: u32) -> bool {
+    pub fn phase(&self, var: u32) -> bool
+        ensures { result ≡ phase_of self.now.phases var }
+    {
         match self.phases.get(var as usize) {
             Some(phase) => *phase,
             None => false,
@@ -50,17 +75,24 @@ impl Advice {
     }
 
     // How many suggestions there are.
-    pub fn suggestions(&self) -> u32 {
+    pub fn suggestions(&self) -> u32
+        ensures { result ≡ held_of self.now.activity.waiting }
+    {
         self.activity.held()
     }
 
     // Takes the next suggestion.
-    pub fn suggest(&mut self, ranks: &[u64]) -> Option<u32> {
+    pub fn suggest(&mut self, ranks: &[u64]) -> Option<u32>
+        ensures taken { Takes self.old.activity.waiting self.new.activity.waiting result }
+        ensures kept { self.new ≡ record self.old { activity = record self.old.activity { waiting = self.new.activity.waiting } } }
+    {
         self.activity.take(ranks)
     }
 
     // Keeps how a literal stood that is taken back, and suggests its variable again.
-    pub fn release(&mut self, lit: Lit, ranks: &[u64]) {
+    pub fn release(&mut self, lit: Lit, ranks: &[u64])
+        ensures { self.new ≡ with_released self.old lit }
+    {
         if let Some(phase) = self.phases.get_mut(lit.var as usize) {
             *phase = lit.positive;
         }
@@ -68,27 +100,52 @@ impl Advice {
     }
 
     // Takes note of a clause that was learnt, where the trail still stands as at the conflict.
-    pub fn note(&mut self, trail: &Trail, clauses: &Clauses, learnt: &Learnt, ranks: &[u64]) {
+    pub fn note(&mut self, trail: &Trail, clauses: &Clauses, learnt: &Learnt, ranks: &[u64])
+        ensures phases { self.new.phases ≡ self.old.phases }
+        ensures activity { self.new.activity ≡ after_conflict (with_hints_part self.old.activity clauses.now.clauses (last_hints learnt.now.hints learnt.now.from_conflict)) }
+        ensures levels { AreLevelsOf trail.now learnt.now.clause self.new.levels }
+        ensures means { self.new.means ≡ with_clause self.old.means (marked_of self.new.levels) }
+    {
         let hints = learnt.hints.as_slice();
-        for place in hints.len().saturating_sub(learnt.from_conflict)..hints.len() {
-            self.bump(clauses, hints[place], ranks);
-        }
+        let first = hints.len().saturating_sub(learnt.from_conflict);
+        bump_each(&mut self.activity, clauses, &hints[first..], ranks);
         self.activity.end_conflict();
         let levels = self.levels.count(trail, learnt.clause.as_slice());
         self.restarts.note(levels);
     }
 
-    // The variables of a clause take part in the present conflict.
-    fn bump(&mut self, clauses: &Clauses, id: ClauseId, ranks: &[u64]) {
-        if id.0 > 0 && id.0 <= clauses.len() {
-            for lit in clauses.clause(id) {
-                self.activity.bump(lit.var, ranks);
-            }
-        }
-    }
-
     // Says whether the search is to begin anew.
-    pub fn begins_anew(&mut self) -> bool {
+    pub fn begins_anew(&mut self) -> bool
+        ensures due { result ≡ is_due self.old.means }
+        ensures after { self.new ≡ record self.old { means = after_asking self.old.means } }
+    {
         self.restarts.begins_anew()
+    }
+}
+
+// The variables of the clauses of these numbers take part in the present conflict.
+fn bump_each(activity: &mut Activity, clauses: &Clauses, hints: &[ClauseId], ranks: &[u64])
+    ensures { activity.new ≡ with_hints_part activity.old clauses.now.clauses hints.now }
+{
+    for hint in hints {
+        bump(activity, clauses, *hint, ranks);
+    }
+}
+
+// The variables of the clause of a number take part in it.
+fn bump(activity: &mut Activity, clauses: &Clauses, id: ClauseId, ranks: &[u64])
+    ensures { activity.new ≡ with_option_part activity.old (clause_numbered clauses.now.clauses id) }
+{
+    if id.0 > 0 && id.0 <= clauses.len() {
+        bump_all(activity, clauses.clause(id), ranks);
+    }
+}
+
+// The variables of a clause take part in it.
+fn bump_all(activity: &mut Activity, clause: &[Lit], ranks: &[u64])
+    ensures { activity.new ≡ with_clause_part activity.old clause.now }
+{
+    for lit in clause {
+        activity.bump(lit.var, ranks);
     }
 }

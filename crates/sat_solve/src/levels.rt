@@ -1,62 +1,76 @@
+// Counts the levels of a clause's literals: the fewer there are, the more a clause is worth (Audemard and Simon, "Predicting learnt
+// clauses quality in modern SAT solvers", 2009).
+ghost use Rattle.std.specs.Prelude.{◌≡◌, ℕ, ◌+◌, [], length, OnOk, OnErr, IfSome, IfNone};
+ghost use Rattle.sat_prop.specs.TrailState.{StandsAt};
+ghost use Rattle.sat_prop.specs.Levels.{level_at};
+ghost use Rattle.sat_solve.specs.LevelCount.{IsLevelOf, AreLevelsOf, marked_of};
+ghost use Rattle.sat_solve.specs.Widening.{widened};
+
+use crate::marks::Marks;
 use des_base::Memory;
 use prop_core::Lit;
 use sat_prop::Trail;
 use std::alloc::Global;
+use std::marker::Model;
 
-// Counts the levels of a clause's literals: the fewer there are, the more a clause is worth (Audemard and Simon, "Predicting learnt
-// clauses quality in modern SAT solvers", 2009).
-//
-// Of each level it keeps the number of the clause that it was counted for last.
+// Which levels were counted for the present clause.
 #[derive(Drop)]
 pub struct Levels {
-    counted: Vec<u32>,
-    clause: u32,
+    counted: Marks,
+}
+
+impl Model for Levels {
+    ghost use Rattle.std.specs.Prelude.{Bool, List};
+
+    ghost Value = { List Bool };
+
+    ghost view = { λ a. a.counted };
 }
 
 impl Levels {
-    pub fn new(alloc: Global) -> Levels {
+    // No level can be counted.
+    pub fn new(alloc: Global) -> Levels
+        ensures { result ≡ [] }
+    {
         Levels {
-            counted: Vec::new(alloc),
-            clause: 0,
+            counted: Marks::new(alloc),
         }
     }
 
-    // Sees to it that the levels of so many variables can be counted.
-    pub fn widen(&mut self, vars: u32) -> Result<(), Memory> {
-        let count = self.counted.len().max((vars as usize).saturating_add(1));
-        self.counted.resize(count, 0)?;
-        Ok(())
+    // Sees to it that the levels of so many variables can be counted, and level 0.
+    pub fn widen(&mut self, vars: u32) -> Result<(), Memory>
+        ensures ok { OnOk result (self.new ≡ widened self.old (vars + 1)) }
+        ensures err { OnErr result (self.new ≡ self.old) }
+    {
+        self.counted.widen(vars as usize + 1)
     }
 
-    // How many levels the literals stand at.
-    pub fn count(&mut self, trail: &Trail, clause: &[Lit]) -> u64 {
-        self.clause = self.clause.saturating_add(1);
+    // How many levels the literals stand at. Those that can't be counted aren't.
+    pub fn count(&mut self, trail: &Trail, clause: &[Lit]) -> u64
+        ensures known { length self.new ≡ length self.old }
+        ensures levels { AreLevelsOf trail.now clause.now self.new }
+        ensures count { result ≡ marked_of self.new }
+    {
+        self.counted.clear();
         let mut levels = 0_u64;
         for lit in clause {
-            if self.is_new(level_of(trail, lit.var)) {
-                levels = levels.saturating_add(1);
+            if let Some(level) = level_of(trail, lit.var) {
+                if self.counted.mark(level) {
+                    levels += 1;
+                }
             }
         }
         levels
     }
-
-    // Whether a level is counted for the first time.
-    fn is_new(&mut self, level: Option<u32>) -> bool {
-        let Some(level) = level else {
-            return false;
-        };
-        match self.counted.get_mut(level as usize) {
-            Some(clause) if *clause != self.clause => {
-                *clause = self.clause;
-                true
-            }
-            _ => false,
-        }
-    }
 }
 
 // The level of a variable, if it has a value.
-fn level_of(trail: &Trail, var: u32) -> Option<u32> {
+fn level_of(trail: &Trail, var: u32) -> Option<u32>
+    ensures some { IfSome result (IsLevelOf trail.now var) }
+    ensures single { IfSome result (λ level. (place : ℕ) → StandsAt trail.now.literals var place → level ≡ level_at trail.now.reasons place) }
+    ensures none { IfNone result ((place : ℕ) → StandsAt trail.now.literals var place → ⊥) }
+{
+    let _literals = trail.literals();
     match trail.value(var) {
         Some(_) => Some(trail.level_of(var)),
         None => None,

@@ -3,13 +3,22 @@
 //
 // Both means are whole numbers, in parts of one level. A mean moves towards each new number by a fixed part of the way, so that late
 // numbers weigh more; that of the whole search moves by the exact part as long as there are few.
-ghost use Rattle.std.specs.Prelude.{◌<◌};
+ghost use Rattle.std.specs.Prelude.{◌≡◌, ◌<◌, ◌≤◌};
+ghost use Rattle.sat_solve.specs.Restarts.{no_means, moved as moved_by, with_clause, is_due, after_asking};
+
+use std::marker::Model;
 
 // How many conflicts lie between two beginnings at least.
 const SHORTEST: u64 = 50;
 
 // The parts of one level.
 const LEVEL: u64 = 1_048_576;
+
+// More levels count as so many.
+const MOST_LEVELS: u64 = 4_294_967_296;
+
+// No mean is greater.
+const MOST: u64 = MOST_LEVELS * LEVEL;
 
 // The late mean moves by this part of the way.
 const LATE: u64 = 32;
@@ -21,13 +30,34 @@ const WHOLE: u64 = 8_192;
 pub struct Restarts {
     late: u64,
     whole: u64,
+    // How many clauses were learnt, up to the number from which on the mean moves by the same part.
     clauses: u64,
+    // How many were learnt since the last beginning, up to the number that is enough.
     since: u64,
+}
+
+impl Model for Restarts {
+    ghost use Rattle.std.specs.Prelude.{◌≤◌};
+    ghost use Rattle.sat_solve.specs.Restarts.{Means};
+    ghost use Rattle.sat_solve.specs.declared.restarts.TheConstants.{SHORTEST, WHOLE, MOST};
+
+    ghost Value = { Means };
+
+    ghost view = { λ a. record { late = a.late; whole = a.whole; clauses = a.clauses; since = a.since } };
+
+    ghost invariant = { λ a. record {
+      late : a.late ≤ MOST;
+      whole : a.whole ≤ MOST;
+      clauses : a.clauses ≤ WHOLE;
+      since : a.since ≤ SHORTEST;
+    } };
 }
 
 impl Restarts {
     // Nothing was learnt.
-    pub fn new() -> Restarts {
+    pub fn new() -> Restarts
+        ensures { result ≡ no_means }
+    {
         Restarts {
             late: 0,
             whole: 0,
@@ -37,18 +67,22 @@ impl Restarts {
     }
 
     // Takes note of a clause that was learnt, whose literals are of so many levels.
-    pub fn note(&mut self, levels: u64) {
-        let levels = levels.saturating_mul(LEVEL);
-        self.clauses = self.clauses.saturating_add(1);
-        self.since = self.since.saturating_add(1);
-        self.late = moved(self.late, levels, LATE);
-        self.whole = moved(self.whole, levels, self.clauses.min(WHOLE).max(1));
+    pub fn note(&mut self, levels: u64)
+        ensures { self.new ≡ with_clause self.old levels }
+    {
+        let parts = levels.min(MOST_LEVELS) * LEVEL;
+        self.clauses = (self.clauses + 1).min(WHOLE);
+        self.since = (self.since + 1).min(SHORTEST);
+        self.late = moved(self.late, parts, LATE);
+        self.whole = moved(self.whole, parts, self.clauses);
     }
 
-    // Whether the search is to begin anew: the late mean is greater by a quarter.
-    pub fn begins_anew(&mut self) -> bool {
-        let greater = self.late.saturating_mul(4) > self.whole.saturating_mul(5);
-        if self.since < SHORTEST || !greater {
+    // Whether the search is to begin anew: the late mean is greater by a quarter. If so, it has begun.
+    pub fn begins_anew(&mut self) -> bool
+        ensures due { result ≡ is_due self.old }
+        ensures after { self.new ≡ after_asking self.old }
+    {
+        if self.since < SHORTEST || self.late * 4 <= self.whole * 5 {
             return false;
         }
         self.since = 0;
@@ -59,8 +93,11 @@ impl Restarts {
 
 // A mean that moves towards a number, by a part of the way.
 fn moved(mean: u64, number: u64, part: u64) -> u64
-    requires { 0 < part }
+    requires part { 0 < part }
+    requires mean { mean ≤ MOST }
+    requires number { number ≤ MOST }
+    ensures value { result ≡ moved_by mean number part }
+    ensures bound { result ≤ MOST }
 {
-    mean.saturating_sub(mean / part)
-        .saturating_add(number / part)
+    mean - mean / part + number / part
 }

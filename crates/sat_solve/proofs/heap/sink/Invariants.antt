@@ -1,0 +1,14 @@
+use Rattle.std.specs.Prelude.{◌≡◌, ◌<◌, ◌-◌, length, slice_set}
+use Rattle.sat_solve.specs.Heap.{ArePlaced, has_place}
+use Rattle.sat_solve.proofs.heap.sink.Given as goal
+
+abbrev pub invariant-down : goal.invariant-down
+invariant-down l = record {
+  place : l.place < length l.vars;
+  known : l.var < length l.places;
+  placed : ArePlaced (slice_set l.vars l.place l.var) (slice_set l.places l.var l.place);
+  waiting : has_place (slice_set l.places l.var l.place) ≡ has_place (slice_set l.fn.places l.var 0);
+}
+
+abbrev pub decreases-down : goal.decreases-down
+decreases-down l = length l.vars - l.place
