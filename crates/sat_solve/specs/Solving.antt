@@ -1,5 +1,5 @@
 -- How what a search keeps stands to its assumptions and its book.
-use Rattle.std.specs.Prelude.{◌≡◌, ℕ, ◌+◌, ◌-◌, ◌*◌, ◌<◌, ◌≤◌, ◌⊎◌, Bool, true, false, List, [], ◌∷◌, ◌++◌, take, length, replicate, Option, None, Contains}
+use Rattle.std.specs.Prelude.{◌≡◌, ℕ, ◌+◌, ◌-◌, ◌*◌, ◌<◌, ◌≤◌, ◌⊎◌, Bool, true, false, List, [], ◌∷◌, ◌++◌, take, length, max, replicate, Option, None, Contains}
 use Rattle.std.specs.List.{list_all, AllByRecursion}
 use Rattle.des_base.specs.declared.TheConstants.{VAR_LIMIT}
 use Rattle.prop_core.specs.declared.lit.Lit.{Lit}
@@ -37,6 +37,17 @@ pub record KeepsSize {R : Type 0} (old new : SolverState R) : Type 0 where
 pub record AddsVariables {R : Type 0} (old new : SolverState R) (vars : ℕ) : Type 0 where
   pub waiting : new.order.waiting ≡ old.order.waiting ++ replicate (vars - length old.order.waiting) true
   pub assignment : new.assignment ≡ widened old.assignment vars
+
+-- So many variables and room for so many more clauses were reserved: there are no fewer of either than before.
+pub record HasReserved {R : Type 0} (old new : SolverState R) (asked more : ℕ) : Type 0 where
+  pub vars : new.vars ≡ max old.vars asked
+  pub spare : new.spare ≡ max old.spare more
+  pub added : AddsVariables old new asked
+
+-- nothing was reserved: all is as before, but that there may be values of further variables, all false
+pub record IsUnreserved {R : Type 0} (old new : SolverState R) (asked : ℕ) : Type 0 where
+  pub same : new ≡ record old { assignment = new.assignment }
+  pub values : KeepsValues old.assignment new.assignment asked
 
 -- no two assumptions are negations of each other
 abbrev pub AreCompatible : List Lit → Type 0

@@ -1,12 +1,12 @@
 // A solver, which adopts the clauses of a book and searches on them under assumptions.
-ghost use Rattle.std.specs.Prelude.{◌≡◌, ℕ, ◌<◌, ◌≤◌, ◌+◌, ◌-◌, [], length, max, take, drop, true, false, IfOk, OnOk, OnErr};
+ghost use Rattle.std.specs.Prelude.{◌≡◌, ℕ, ◌<◌, ◌≤◌, ◌+◌, ◌-◌, [], length, take, drop, true, false, IfOk, OnOk, OnErr};
 ghost use Rattle.std.specs.List.{AllByRecursion};
 ghost use Rattle.prop_core.specs.Clauses.{HasValues};
 ghost use Rattle.proof_ledger.specs.Book.{clauses_of};
 ghost use Rattle.sat_order.specs.Rank.{IsRank, IsRanked};
 ghost use Rattle.sat_prop.specs.Changes.{IsFront};
 ghost use Rattle.sat_solve.specs.Searching.{IsSearched, HasPut, IsAnswer};
-ghost use Rattle.sat_solve.specs.Solving.{AreCompatible, AddsVariables, KeepsSize, KeepsValues};
+ghost use Rattle.sat_solve.specs.Solving.{AreCompatible, HasReserved, IsUnreserved, KeepsSize};
 
 use crate::advice::Advice;
 use crate::answer::Answer;
@@ -77,11 +77,8 @@ impl<R: Fn(u32) -> u64> Solver<R> {
         ensures rank { self.new.order.rank ≡ self.old.order.rank }
         ensures ranked { IsRanked R.pre R.post self.old.order → IsRanked R.pre R.post self.new.order }
         ensures adopted { self.new.adopted ≡ self.old.adopted }
-        ensures vars { OnOk result (self.new.vars ≡ max self.old.vars vars) }
-        ensures spare { OnOk result (self.new.spare ≡ max self.old.spare clauses) }
-        ensures added { OnOk result (AddsVariables self.old self.new vars) }
-        ensures err { OnErr result (self.new ≡ record self.old { assignment = self.new.assignment }) }
-        ensures values { OnErr result (KeepsValues self.old.assignment self.new.assignment vars) }
+        ensures ok { OnOk result (HasReserved self.old self.new vars clauses) }
+        ensures err { OnErr result (IsUnreserved self.old self.new vars) }
     {
         self.search.advice.widen(vars)?;
         self.search

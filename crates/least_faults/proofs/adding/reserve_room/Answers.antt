@@ -10,12 +10,12 @@ returns-in_err-reserve-2-clause-ready g c =
 
 pub returns-in_err-reserve-3-clause-ready : goal.returns-in_err-reserve-3-clause-ready
 returns-in_err-reserve-3-clause-ready g c =
-    let same = ap (λ (s : SolverState _). s.vars) c.in_err-reserve-3.ensures.err in
+    let same = ap (λ (s : SolverState _). s.vars) c.in_err-reserve-3.ensures.err.same in
     ready_roomy _ _ c.args.parts.now c.reserve.new.self c.reserve_inputs.new.self c.reserve-3.new.self _ c.args.book.now.entries c.reserve-2.new.self.entries c.requires.ready
     c.in_ok-reserve.ensures.code c.in_ok-reserve_inputs.ensures.room c.reserve-3.ensures.adopted (omega (arith, same)) c.reserve-3.ensures.ranked c.reserve-2.ensures.same
 
 pub returns-clause-ready : goal.returns-clause-ready
 returns-clause-ready g c =
-    let more = c.in_ok-reserve-3.ensures.vars in
+    let more = c.in_ok-reserve-3.ensures.ok.vars in
     ready_roomy _ _ c.args.parts.now c.reserve.new.self c.reserve_inputs.new.self c.reserve-3.new.self _ c.args.book.now.entries c.reserve-2.new.self.entries c.requires.ready
     c.in_ok-reserve.ensures.code c.in_ok-reserve_inputs.ensures.room c.reserve-3.ensures.adopted (omega (arith, more)) c.reserve-3.ensures.ranked c.reserve-2.ensures.same

@@ -37,10 +37,10 @@ adopt-requires g c =
     let old = c.args.parts.now in
     let column = column_added old.step old.code.code old.counter c.add_column.new.self old.vars c.add_column.new.vars old.solver.adopted c.reserve-2.new.self.adopted
     c.reserve-2.new.self.vars c.args.book.now.entries c.reserve.new.self.entries c.push_axioms.new.book.entries c.add_column.new.out.clauses c.requires.ready.coded c.requires.ready.adopted_all c.requires.some c.requires.few
-    (more_values old.solver.vars c.reserve-2.new.self.vars c.count.result old.vars c.inputs-inputs.result (length old.counter.inputs) c.in_ok-reserve-2.ensures.vars c.count.ensures.count c.inputs-inputs.ensures)
+    (more_values old.solver.vars c.reserve-2.new.self.vars c.count.result old.vars c.inputs-inputs.result (length old.counter.inputs) c.in_ok-reserve-2.ensures.ok.vars c.count.ensures.count c.inputs-inputs.ensures)
     c.in_ok-add_column.ensures.column.counter c.in_ok-add_column.ensures.column.vars c.reserve-2.ensures.adopted c.reserve.ensures.same (written_alone c.new-clauses.result.clauses c.add_column.new.out.clauses _ (ap (λ (store : ClauseStore). store.clauses) c.new-clauses.ensures) c.in_ok-add_column.ensures.column.clauses) c.push_axioms.ensures in
     let long = column.long in
-    let spare = c.in_ok-reserve-2.ensures.spare in
+    let spare = c.in_ok-reserve-2.ensures.ok.spare in
     let inputs = c.inputs-inputs.ensures in
     record {
       grown = column.front;
@@ -53,7 +53,7 @@ returns-clause-ready g c =
     let old = c.args.parts.now in
     let column = column_added old.step old.code.code old.counter c.add_column.new.self old.vars c.add_column.new.vars old.solver.adopted c.reserve-2.new.self.adopted
     c.reserve-2.new.self.vars c.args.book.now.entries c.reserve.new.self.entries c.push_axioms.new.book.entries c.add_column.new.out.clauses c.requires.ready.coded c.requires.ready.adopted_all c.requires.some c.requires.few
-    (more_values old.solver.vars c.reserve-2.new.self.vars c.count.result old.vars c.inputs-inputs.result (length old.counter.inputs) c.in_ok-reserve-2.ensures.vars c.count.ensures.count c.inputs-inputs.ensures)
+    (more_values old.solver.vars c.reserve-2.new.self.vars c.count.result old.vars c.inputs-inputs.result (length old.counter.inputs) c.in_ok-reserve-2.ensures.ok.vars c.count.ensures.count c.inputs-inputs.ensures)
     c.in_ok-add_column.ensures.column.counter c.in_ok-add_column.ensures.column.vars c.reserve-2.ensures.adopted c.reserve.ensures.same (written_alone c.new-clauses.result.clauses c.add_column.new.out.clauses _ (ap (λ (store : ClauseStore). store.clauses) c.new-clauses.ensures) c.in_ok-add_column.ensures.column.clauses) c.push_axioms.ensures in
     let values = ap (λ (s : SolverState _). s.vars) c.adopt.ensures.value in
     let enough = column.enough in
@@ -67,7 +67,7 @@ returns-clause-ready g c =
 
 pub returns-in_err-reserve-2-clause-ready : goal.returns-in_err-reserve-2-clause-ready
 returns-in_err-reserve-2-clause-ready g c =
-    let same = ap (λ (s : SolverState _). s.vars) c.in_err-reserve-2.ensures.err in
+    let same = ap (λ (s : SolverState _). s.vars) c.in_err-reserve-2.ensures.err.same in
     reserved_ready _ _ c.args.parts.now c.reserve-2.new.self c.args.book.now.entries c.reserve.new.self.entries c.requires.ready c.reserve-2.ensures.adopted (omega (arith, same)) c.reserve-2.ensures.ranked c.reserve.ensures.same
 
 pub returns-clause-kept : goal.returns-clause-kept

@@ -15,13 +15,13 @@ pub adopt-requires-clause-room : goal.adopt-requires-clause-room
 adopt-requires-clause-room g c =
     let n = (more g c).count in
     let s = le-max_right c.args.solver.now.spare 1 in
-    let r = c.in_ok-reserve.ensures.spare in
+    let r = c.in_ok-reserve.ensures.ok.spare in
     omega arith
 
 pub adopt-requires-clause-known : goal.adopt-requires-clause-known
 adopt-requires-clause-known g c =
     let k = more g c in
-    let r = c.in_ok-reserve.ensures.vars in
+    let r = c.in_ok-reserve.ensures.ok.vars in
     let m = grown_is c.args.solver.now.vars 0 in
     let v : c.reserve.new.self.vars ≡ c.args.solver.now.vars = omega arith in
     rw v k.known
