@@ -14,3 +14,4 @@ pub mod Places
 pub mod Rounds
 pub mod LevelMarks
 pub mod Moving
+pub mod AssumedLevels

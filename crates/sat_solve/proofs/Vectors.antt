@@ -1,6 +1,6 @@
 -- A worked search over all four clauses of two variables, by computation: its trail, its further conflict, what it leaves in
--- the book, and what its answer means.
-use Rattle.std.proofs.Common.{ℕ, List, [], ◌∷◌, ◌++◌, refl, true, false, map, arith}
+-- the book, and what its answer means. Then a level of assumptions.
+use Rattle.std.proofs.Common.{◌≡◌, ℕ, List, [], ◌∷◌, ◌++◌, refl, true, false, map, arith}
 use Rattle.std.specs.Prelude.{Some, None}
 use Rattle.std.specs.List.{IsDistinct}
 use Rattle.prop_core.specs.declared.lit.Lit.{Lit}
@@ -9,7 +9,9 @@ use Rattle.prop_core.specs.Trail.{Placed, IsTrail, Clashes}
 use Rattle.proof_ledger.specs.Book.{BookEntry, axiomatic, learnt, final}
 use Rattle.proof_ledger.specs.Fresh.{AreFresh}
 use Rattle.sat_solve.specs.declared.answer.Answer.TheVariants.{Unsat}
+use Rattle.sat_prop.specs.TrailState.{TrailState}
 use Rattle.sat_solve.specs.Searching.{HasPut, IsModel, IsRefuted, IsSpent}
+use Rattle.sat_solve.specs.Solving.{assumed_level_of}
 
 abbrev yes : ℕ → Lit
 yes var = record { var = var; positive = true }
@@ -116,3 +118,25 @@ assumption_refuted = record {
 -- and without it they have a model
 model : IsModel (false ∷ true ∷ []) (map axiomatic two) (yes 1 ∷ [])
 model = record { clauses = (refl, (refl, tt)); assumptions = (refl, tt) }
+
+-- four decisions, and one literal that a clause forced
+abbrev stands : TrailState
+stands = record {
+  clauses = two;
+  attached = 1 ∷ 2 ∷ [];
+  literals = yes 0 ∷ yes 1 ∷ no 2 ∷ yes 3 ∷ yes 4 ∷ [];
+  reasons = None ∷ Some 1 ∷ None ∷ None ∷ None ∷ [];
+  vars = 5;
+  spare = 0;
+}
+
+-- Of the decisions the first two are assumptions and the third isn't, so the last isn't counted. A forced literal is no decision.
+two_assumed : assumed_level_of stands (yes 4 ∷ no 2 ∷ yes 1 ∷ yes 0 ∷ []) ≡ 2
+two_assumed = refl
+
+-- with the other sign it is no assumption
+one_assumed : assumed_level_of stands (yes 2 ∷ yes 0 ∷ []) ≡ 1
+one_assumed = refl
+
+all_assumed : assumed_level_of stands (yes 0 ∷ no 2 ∷ yes 3 ∷ yes 4 ∷ []) ≡ 4
+all_assumed = refl

@@ -1,6 +1,6 @@
 -- How what a search keeps stands to its assumptions and its book.
-use Rattle.std.specs.Prelude.{◌≡◌, ℕ, ◌+◌, ◌-◌, ◌*◌, ◌<◌, ◌≤◌, ◌⊎◌, Bool, true, false, List, [], ◌∷◌, ◌++◌, take, length, max, replicate, Option, None, Contains}
-use Rattle.std.specs.List.{list_all, AllByRecursion}
+use Rattle.std.specs.Prelude.{◌≡◌, ℕ, ◌+◌, ◌-◌, ◌*◌, ◌<◌, ◌≤◌, ◌⊎◌, Bool, true, false, List, [], ◌∷◌, ◌++◌, map, filter, take, length, max, replicate, Option, None, is_none, if◌then◌else◌, Contains}
+use Rattle.std.specs.List.{list_all, AllByRecursion, prefix_len, zip}
 use Rattle.des_base.specs.declared.TheConstants.{VAR_LIMIT}
 use Rattle.prop_core.specs.declared.lit.Lit.{Lit}
 use Rattle.prop_core.specs.Clauses.{Clause, negation, is_true, is_false, is_open, value_in, HasValues}
@@ -12,6 +12,7 @@ use Rattle.sat_prop.specs.TrailState.{TrailState, literal_at, reason_at}
 use Rattle.sat_prop.specs.Levels.{level_of}
 use Rattle.sat_prop.specs.Quiet.{AreQuiet}
 use Rattle.sat_learn.specs.Seen.{is_known_var}
+use Rattle.sat_solve.specs.Restarts.{Means, is_due}
 pub use Rattle.sat_solve.specs.Widening.{widened, KeepsValues}
 use Rattle.sat_solve.specs.declared.answer.Answer.{Answer}
 use Rattle.sat_solve.specs.declared.search.Search.{Search}
@@ -186,6 +187,18 @@ pub record IsFurther (t : TrailState) (assumed : List Lit) (place : ℕ) : Type 
 -- each decision of the first so many places is an assumption
 abbrev pub AreAssumed : TrailState → List Lit → ℕ → Type 0
 AreAssumed t assumed count = (place : ℕ) → place < count → reason_at t.reasons place ≡ None → is_true assumed (literal_at t.literals place) ≡ true
+
+-- the literals that were decided, in their order
+abbrev pub decisions : List Lit → List (Option ℕ) → List Lit
+decisions literals reasons = map (λ (p : Lit × Option ℕ). p.0) (filter (λ (p : Lit × Option ℕ). is_none p.1) (zip literals reasons))
+
+-- The level of the assumptions: how many decisions, from the first on, are assumptions before one that is none.
+abbrev pub assumed_level_of : TrailState → List Lit → ℕ
+assumed_level_of t assumed = prefix_len (is_true assumed) (decisions t.literals t.reasons)
+
+-- the level that a search goes on from after a conflict: the present one, or that of the assumptions where it begins anew
+abbrev pub next_level_of : Means → TrailState → List Lit → ℕ
+next_level_of means t assumed = if is_due means then assumed_level_of t assumed else level_of t.reasons
 
 -- one learnt entry is put, and the budget is lowered by one
 pub record LearnsOne (old new : List BookEntry) (budget_old budget_new : ℕ) : Type 0 where

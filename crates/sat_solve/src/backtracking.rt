@@ -7,7 +7,7 @@ ghost use Rattle.sat_order.specs.Waiting.{waits};
 ghost use Rattle.sat_prop.specs.TrailState.{literal_at};
 ghost use Rattle.sat_prop.specs.Levels.{level_of, level_at};
 ghost use Rattle.sat_prop.specs.Changes.{IsKeptUpTo};
-ghost use Rattle.sat_solve.specs.Solving.{IsSound, IsUnderWay, KeepsVariables, KeepsWaiting};
+ghost use Rattle.sat_solve.specs.Solving.{IsSound, IsUnderWay, KeepsVariables, KeepsWaiting, next_level_of};
 
 use crate::advice::Advice;
 use crate::ending::{assumed_level, trail_state};
@@ -42,6 +42,7 @@ impl<R: Fn(u32) -> u64> Search<R> {
     pub fn restart(&mut self, assumptions: &[Lit])
         requires sound { IsSound self.old }
         ensures kept { KeepsVariables self.old self.new }
+        ensures trail { IsKeptUpTo self.old.propagator self.new.propagator (next_level_of self.old.advice.means self.old.propagator assumptions.now) }
         ensures under_way { (book : List BookEntry) → IsUnderWay assumptions.now self.old book → IsUnderWay assumptions.now self.new book }
     {
         trail_state(&self.propagator);
@@ -97,7 +98,8 @@ fn release<R: Fn(u32) -> u64>(trail: &Trail, order: &mut Order<R>, advice: &mut 
 
 // The level to go on from after a conflict: the present one, or at times that of the assumptions.
 fn next_level(trail: &Trail, advice: &mut Advice, assumptions: &[Lit]) -> u32
-    ensures { result ≤ level_of trail.now.reasons }
+    ensures value { result ≡ next_level_of advice.old.means trail.now assumptions.now }
+    ensures within { result ≤ level_of trail.now.reasons }
 {
     let present = trail.level();
     if advice.begins_anew() {

@@ -8,7 +8,7 @@ ghost use Rattle.prop_core.specs.Clauses.{is_true, is_false};
 ghost use Rattle.sat_prop.specs.Quiet.{IsConflict};
 ghost use Rattle.sat_prop.specs.Kept.{IsTrailState};
 ghost use Rattle.sat_solve.specs.Searching.{IsSearched};
-ghost use Rattle.sat_solve.specs.Solving.{IsNext, IsFurther, AreAssumed, AreTaken, IsOver, IsUnderWay, KeepsVariables, IsEnded};
+ghost use Rattle.sat_solve.specs.Solving.{IsNext, IsFurther, AreAssumed, AreTaken, IsOver, IsUnderWay, KeepsVariables, IsEnded, assumed_level_of};
 
 use crate::answer::Answer;
 use crate::search::Search;
@@ -94,16 +94,18 @@ fn first_further(trail: &Trail, assumptions: &[Lit]) -> Option<usize>
 }
 
 // The level of the assumptions: how many decisions stand before the first that is none.
-pub fn assumed_level(trail: &Trail, assumptions: &[Lit]) -> u32 {
+pub fn assumed_level(trail: &Trail, assumptions: &[Lit]) -> u32
+    ensures { result ≡ assumed_level_of trail.now assumptions.now }
+{
     let literals = trail.literals();
     let reasons = trail.reasons();
     let mut level = 0_u32;
-    for place in 0..literals.len().min(reasons.len()) {
+    for place in 0..literals.len() {
         if reasons[place].is_none() {
             if !contains(assumptions, literals[place]) {
                 return level;
             }
-            level = level.saturating_add(1);
+            level += 1;
         }
     }
     level
