@@ -15,3 +15,4 @@ pub mod Rounds
 pub mod LevelMarks
 pub mod Moving
 pub mod AssumedLevels
+pub mod Ordering

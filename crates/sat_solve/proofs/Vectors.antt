@@ -1,5 +1,5 @@
 -- A worked search over all four clauses of two variables, by computation: its trail, its further conflict, what it leaves in
--- the book, and what its answer means. Then a level of assumptions.
+-- the book, and what its answer means. Then a level of assumptions, and which variable comes first.
 use Rattle.std.proofs.Common.{◌≡◌, ℕ, List, [], ◌∷◌, ◌++◌, refl, true, false, map, arith}
 use Rattle.std.specs.Prelude.{Some, None}
 use Rattle.std.specs.List.{IsDistinct}
@@ -10,6 +10,7 @@ use Rattle.proof_ledger.specs.Book.{BookEntry, axiomatic, learnt, final}
 use Rattle.proof_ledger.specs.Fresh.{AreFresh}
 use Rattle.sat_solve.specs.declared.answer.Answer.TheVariants.{Unsat}
 use Rattle.sat_prop.specs.TrailState.{TrailState}
+use Rattle.sat_solve.specs.Heap.{comes_before}
 use Rattle.sat_solve.specs.Searching.{HasPut, IsModel, IsRefuted, IsSpent}
 use Rattle.sat_solve.specs.Solving.{assumed_level_of}
 
@@ -140,3 +141,15 @@ one_assumed = refl
 
 all_assumed : assumed_level_of stands (yes 0 ∷ no 2 ∷ yes 3 ∷ yes 4 ∷ []) ≡ 4
 all_assumed = refl
+
+-- the more active one comes first, whatever its rank,
+active_first : comes_before (3 ∷ 5 ∷ []) (9 ∷ 1 ∷ []) 1 0 ≡ true
+active_first = refl
+
+-- of two as active the one of greater rank,
+ranked_first : comes_before (3 ∷ 3 ∷ []) (1 ∷ 9 ∷ []) 1 0 ≡ true
+ranked_first = refl
+
+-- and then the smaller number
+smaller_first : comes_before (3 ∷ 3 ∷ []) (9 ∷ 9 ∷ []) 0 1 ≡ true
+smaller_first = refl

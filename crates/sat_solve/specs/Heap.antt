@@ -1,5 +1,5 @@
--- Variables that wait in a list, and the place of each in it.
-use Rattle.std.specs.Prelude.{◌≡◌, ℕ, ◌<◌, ◌≤◌, ◌==◌, Bool, true, false, not, List, length, map, count_by, slice_index, slice_set, Option, Some, None}
+-- Variables that wait in a list, the place of each in it, and which of them comes first.
+use Rattle.std.specs.Prelude.{◌≡◌, ℕ, ◌<◌, ◌≤◌, ◌==◌, Bool, true, false, not, List, length, map, count_by, slice_index, slice_set, nat_lt, if◌then◌else◌, Option, Some, None}
 use Rattle.sat_order.specs.Waiting.{waits, NoneWaits}
 use Rattle.sat_solve.specs.declared.heap.TheConstants.{ABSENT}
 
@@ -23,3 +23,20 @@ pub record ArePlaced (heap places : List ℕ) : Type 0 where
 abbrev pub Takes : List Bool → List Bool → Option ℕ → Type 0
 Takes old new None = (new ≡ old) × NoneWaits old
 Takes old new (Some var) = (new ≡ slice_set old var false) × (waits old var ≡ true)
+
+-- Of two variables the more active one comes first, of equal activities the one of greater rank, of equal ranks the one of smaller number.
+abbrev pub comes_before : List ℕ → List ℕ → ℕ → ℕ → Bool
+comes_before activities ranks var other =
+    if slice_index activities var == slice_index activities other
+    then (if slice_index ranks var == slice_index ranks other then nat_lt var other else nat_lt (slice_index ranks other) (slice_index ranks var))
+    else nat_lt (slice_index activities other) (slice_index activities var)
+
+-- None is before itself, of two that differ just one is before the other, and what is before another is before all that come after that.
+pub record IsStrictOrder (before : ℕ → ℕ → Bool) : Type 0 where
+  pub never_itself : (one : ℕ) → before one one ≡ false
+  pub just_one : (one other : ℕ) → (one ≡ other → ⊥) → before other one ≡ not (before one other)
+  pub onward : (one other third : ℕ) → before one other ≡ true → before other third ≡ true → before one third ≡ true
+
+-- variables stand in one order, whatever their activities and ranks
+abbrev pub VariablesAreOrdered : Type 0
+VariablesAreOrdered = (activities ranks : List ℕ) → IsStrictOrder (comes_before activities ranks)

@@ -5,7 +5,7 @@
 // it. Whoever makes all activities smaller together may make some of them equal, and so the first of the heap need not be the first by
 // this order from then on; no clause says that it is.
 ghost use Rattle.std.specs.Prelude.{◌≡◌, ◌<◌, ◌≤◌, [], true, length, slice_index, slice_set, OnOk, OnErr, IfSome};
-ghost use Rattle.sat_solve.specs.Heap.{ArePlaced, has_place, held_of, Takes};
+ghost use Rattle.sat_solve.specs.Heap.{ArePlaced, has_place, held_of, Takes, comes_before};
 ghost use Rattle.sat_solve.specs.Widening.{widened};
 
 use des_base::Memory;
@@ -203,7 +203,9 @@ fn place_below(vars: &[u32], place: usize, var: u32, ratings: Ratings) -> Option
 }
 
 // Whether a variable is more active than another, or of greater rank, or smaller.
-fn is_before(var: u32, other: u32, ratings: Ratings) -> bool {
+fn is_before(var: u32, other: u32, ratings: Ratings) -> bool
+    ensures { result ≡ comes_before ratings.entry.activities.now ratings.entry.ranks.now var other }
+{
     let own = amount_at(ratings.activities, var);
     let others = amount_at(ratings.activities, other);
     if own != others {
@@ -211,7 +213,10 @@ fn is_before(var: u32, other: u32, ratings: Ratings) -> bool {
     }
     let rank = amount_at(ratings.ranks, var);
     let other_rank = amount_at(ratings.ranks, other);
-    rank > other_rank || (rank == other_rank && var < other)
+    if rank != other_rank {
+        return rank > other_rank;
+    }
+    var < other
 }
 
 // What is kept of a variable, or 0.

@@ -14,6 +14,7 @@ mod backtracking;
 mod deciding;
 mod ending;
 mod heap;
+mod laws;
 mod levels;
 mod marks;
 mod restarts;
@@ -22,4 +23,5 @@ mod settling;
 mod solver;
 
 pub use answer::Answer;
+pub use laws::variables_are_ordered;
 pub use solver::Solver;
