@@ -1,6 +1,4 @@
 // What an analysis looks at, and what is known of it.
-ghost use Rattle.sat_prop.specs.Kept.{IsTrailState};
-
 use prop_core::Clauses;
 use sat_prop::Trail;
 
@@ -10,11 +8,4 @@ pub struct Analysed<'a> {
     pub trail: &'a Trail,
     pub clauses: &'a Clauses,
     pub start: usize,
-}
-
-// What is true of each trail.
-pub fn trail_state(trail: &Trail)
-    ensures { IsTrailState trail.now }
-{
-    let _literals = trail.literals();
 }

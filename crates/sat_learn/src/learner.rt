@@ -166,6 +166,7 @@ fn learn(
     requires last { IsLastDecision on.now.trail.now.reasons on.now.start }
     ensures learnt { IfOk result (λ l. IsLearnt on.now.trail.now on.now.clauses.now.clauses l.clause l.hints l.level) }
 {
+    on.trail.is_sound();
     let literals = on.trail.literals();
     let mut hints = Vec::new(alloc);
     let first = begin(seen, on, conflict, &mut hints)?;
@@ -200,6 +201,7 @@ fn close(
     ensures closing { IfOk result (λ l. IsClosing trail.now db.now.clauses [] l.clause l.hints) }
     ensures level { IfOk result (λ l. l.level ≡ 0) }
 {
+    trail.is_sound();
     let literals = trail.literals();
     let on = Analysed {
         trail,
@@ -235,6 +237,7 @@ fn close_failed(
     ensures closing { IfOk result (λ l. IsClosing trail.now db.now.clauses (lit ∷ []) l.clause l.hints) }
     ensures level { IfOk result (λ l. l.level ≡ 0) }
 {
+    trail.is_sound();
     let literals = trail.literals();
     let place = trail.place_of(lit.var) as usize;
     seen[place] = true;

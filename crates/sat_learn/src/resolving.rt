@@ -9,7 +9,7 @@ ghost use Rattle.sat_prop.specs.Levels.{IsLastDecision};
 ghost use Rattle.sat_prop.specs.Quiet.{IsConflict};
 ghost use Rattle.sat_learn.specs.Seen.{is_seen, count_seen, IsRefuted, IsAnalysed, IsResolvable, IsResolved, StillRefutes, IsFound, IsDecidedFrom};
 
-use crate::analysed::{Analysed, trail_state};
+use crate::analysed::Analysed;
 use des_base::Memory;
 use prop_core::{ClauseId, Lit};
 use sat_prop::Trail;
@@ -23,7 +23,7 @@ pub fn see(seen: &mut [bool], trail: &Trail, clause: &[Lit], start: usize) -> us
     ensures counted { count_seen start seen.new ≡ count_seen start seen.old + result }
 {
     let mut more = 0usize;
-    trail_state(trail);
+    trail.is_sound();
     for lit in clause {
         let place = trail.place_of(lit.var) as usize;
         if !seen[place] {
@@ -51,7 +51,7 @@ pub fn resolve(
     ensures counted { on.now.start ≤ place → IfOk result (λ more. count_seen on.now.start seen.new + 1 ≡ count_seen on.now.start seen.old + more) }
     ensures size { length seen.new ≡ length seen.old }
 {
-    trail_state(on.trail);
+    on.trail.is_sound();
     hints.push(id)?;
     let more = see(seen, on.trail, on.clauses.clause(id), on.start);
     seen[place] = false;
@@ -74,7 +74,7 @@ pub fn begin(
     ensures counted { IfOk result (λ more. more ≡ count_seen on.now.start seen.new) }
     ensures size { length seen.new ≡ length seen.old }
 {
-    trail_state(on.trail);
+    on.trail.is_sound();
     hints.push(conflict)?;
     let more = see(seen, on.trail, on.clauses.clause(conflict), on.start);
     Ok(more)
@@ -95,7 +95,7 @@ pub fn resolve_to_one(
     ensures found { IfOk result (λ place. IsFound on.now.start seen.new place) }
     ensures size { length seen.new ≡ length seen.old }
 {
-    trail_state(on.trail);
+    on.trail.is_sound();
     let reasons = on.trail.reasons();
     let start = on.start;
     let mut count = first;
@@ -125,7 +125,7 @@ pub fn resolve_to_decisions(
     ensures decided { OnOk result (IsDecidedFrom on.now.trail.now.reasons seen.new 0) }
     ensures size { length seen.new ≡ length seen.old }
 {
-    trail_state(on.trail);
+    on.trail.is_sound();
     let reasons = on.trail.reasons();
     let mut place = seen.len();
     'down: while place > 0 {

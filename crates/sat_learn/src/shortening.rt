@@ -2,7 +2,7 @@
 ghost use Rattle.std.specs.Prelude.{◌≡◌, ℕ, ◌<◌, ◌≤◌, length, OnOk};
 ghost use Rattle.sat_learn.specs.Seen.{is_seen, IsAnalysed, StillRefutes};
 
-use crate::analysed::{Analysed, trail_state};
+use crate::analysed::Analysed;
 use crate::removable::Removable;
 use crate::resolving::resolve;
 use des_base::Memory;
@@ -21,7 +21,7 @@ pub fn shorten(
     ensures above { OnOk result ((later : ℕ) → on.now.start ≤ later → later < length on.now.trail.now.literals → is_seen seen.new later ≡ is_seen seen.old later) }
     ensures size { length seen.new ≡ length seen.old }
 {
-    trail_state(on.trail);
+    on.trail.is_sound();
     let literals = on.trail.literals();
     let reasons = on.trail.reasons();
     let mut place = on.start;

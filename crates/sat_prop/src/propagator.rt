@@ -118,7 +118,7 @@ impl Propagator {
         requires { level ≤ level_of self.old.reasons }
         ensures { IsKeptUpTo self.old self.new level }
     {
-        let _literals = self.trail.literals();
+        self.trail.is_sound();
         self.trail.back_to(level);
         self.watched.back_to(self.trail.len());
     }

@@ -205,13 +205,19 @@ impl Trail {
 
     /// The literals in their order.
     pub fn literals(&self) -> &[Lit]
-        ensures value { result.now ≡ self.now.literals }
+        ensures { result.now ≡ self.now.literals }
+    {
+        &self.literals
+    }
+
+    /// A law: what is true of each trail.
+    pub fn is_sound(&self)
         ensures state { IsTrailState self.now }
         ensures room { length self.now.literals ≤ self.now.vars }
         ensures limit { self.now.vars ≤ VAR_LIMIT }
         ensures spare { self.now.spare < 2 ^ 63 }
     {
-        &self.literals
+        let _ = &self.db;
     }
 
     /// Why each literal is true: the clause that forced it, or none where it was decided.
@@ -233,7 +239,7 @@ impl Trail {
     pub(crate) fn holds_up_to(&self, lit: Lit, place: u32) -> bool
         ensures { result ≡ is_true (take (place + 1) self.now.literals) lit }
     {
-        let _literals = self.literals();
+        self.is_sound();
         match self.value(lit.var) {
             Some(value) => value == lit.positive && self.place_of(lit.var) <= place,
             None => false,
@@ -244,7 +250,7 @@ impl Trail {
     pub(crate) fn falls(&self, lit: Lit) -> u32
         ensures { (place : ℕ) → place < result → place < length self.now.literals → literal_at self.now.literals place ≡ negation lit → ⊥ }
     {
-        let _literals = self.literals();
+        self.is_sound();
         match self.value(lit.var) {
             Some(value) => {
                 if value == lit.positive {
@@ -273,7 +279,7 @@ impl Trail {
     pub(crate) fn standing(&self, clause: &[Lit]) -> Stands
         ensures { IsSeen self.now.literals clause.now result }
     {
-        let _literals = self.literals();
+        self.is_sound();
         let mut candidate: Option<Lit> = None;
         for lit in clause {
             match self.value(lit.var) {

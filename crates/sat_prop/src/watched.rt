@@ -87,7 +87,7 @@ impl Watched {
         requires known { IfSome (clause_numbered db.now.clauses id) (HasValues trail.now.vars) }
         ensures { AreWatched (with_clause trail.now db.now.clauses id) self.new }
     {
-        let _literals = trail.literals();
+        trail.is_sound();
         match two_literals(trail, db.clause(id)) {
             Some((first, second)) => {
                 self.lists.add(db.number(id), first, second);
@@ -124,7 +124,7 @@ impl Watched {
             if let Some(id) = self.visit_watched(trail, db) {
                 return Propagated::Conflict(id);
             }
-            let _literals = trail.literals();
+            trail.is_sound();
             if trail.len() == before {
                 return Propagated::Quiet;
             }
@@ -141,7 +141,7 @@ impl Watched {
         ensures conflict { IfSome result (IsConflict trail.new) }
         ensures quiet { IfNone result (length trail.new.literals ≡ length trail.old.literals → AreQuiet trail.new.clauses self.now.short trail.new.literals) }
     {
-        let _literals = trail.literals();
+        trail.is_sound();
         if trail.level() > 0 {
             return None;
         }
@@ -158,7 +158,7 @@ impl Watched {
         ensures quiet { IfNone result (length trail.new.literals ≡ length trail.old.literals → AreQuiet trail.new.clauses self.now.short trail.new.literals) }
     {
         for place in 0..self.short.len() {
-            let _literals = trail.literals();
+            trail.is_sound();
             let id = self.short[place];
             match trail.standing(db.clause(id)) {
                 Stands::False => return Some(id),
@@ -180,7 +180,7 @@ impl Watched {
         ensures all { IfNone result (self.new.seen ≡ length trail.new.literals) }
     {
         'more: while self.seen < trail.len() {
-            let _literals = trail.literals();
+            trail.is_sound();
             let lit = trail.literal(self.seen).negated();
             if let Some(id) = self.visit(trail, db, lit) {
                 return Some(id);
@@ -197,7 +197,7 @@ impl Watched {
         ensures conflict { IfSome result (IsConflict trail.new) }
         ensures visited { IfNone result (AreWatched trail.new (record self.new { seen = self.new.seen + 1 })) }
     {
-        let _literals = trail.literals();
+        trail.is_sound();
         self.lists.open(lit);
         'more: while let Some(number) = self.lists.next() {
             if let Some(id) = self.look(trail, db, number, lit) {
@@ -219,7 +219,7 @@ impl Watched {
     {
         let watch = self.lists.watch(number);
         let judged = self.judge(trail, db, number, lit);
-        let _literals = trail.literals();
+        trail.is_sound();
         match judged {
             Judged::Stays => self.lists.put(watch.lit),
             Judged::Moves(found) => self.lists.put(found),
@@ -242,7 +242,7 @@ impl Watched {
         if watch.lit != lit || trail.holds_up_to(other, self.seen) {
             return Judged::Stays;
         }
-        let _literals = trail.literals();
+        trail.is_sound();
         let id = ClauseId(watch.clause as u64);
         match replacement(trail, db.clause(id), other, self.seen) {
             Some(found) => Judged::Moves(found),
@@ -274,7 +274,7 @@ fn make_true(trail: &mut Trail, db: &Clauses, id: ClauseId, lit: Lit) -> bool
     ensures conflict { result ≡ false → IsConflict trail.new id }
     ensures kept { (trail.new ≡ trail.old) ⊎ (trail.new ≡ with_literal trail.old lit (Some id)) }
 {
-    let _literals = trail.literals();
+    trail.is_sound();
     match trail.value(lit.var) {
         Some(value) => value == lit.positive,
         None => {

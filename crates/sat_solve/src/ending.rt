@@ -28,7 +28,7 @@ pub fn contains(literals: &[Lit], lit: Lit) -> bool
 pub fn makes_true(trail: &Trail, lit: Lit) -> bool
     ensures { result ≡ is_true trail.now.literals lit }
 {
-    let _literals = trail.literals();
+    trail.is_sound();
     match trail.value(lit.var) {
         Some(value) => value == lit.positive,
         None => false,
@@ -70,6 +70,7 @@ fn last_if_further(trail: &Trail, assumptions: &[Lit]) -> Option<usize>
     if trail.level() == 0 {
         return None;
     }
+    trail.is_sound();
     let place = trail.last_decision() as usize;
     let literals = trail.literals();
     if contains(assumptions, literals[place]) {
@@ -83,6 +84,7 @@ fn first_further(trail: &Trail, assumptions: &[Lit]) -> Option<usize>
     ensures some { IfSome result (IsFurther trail.now assumptions.now) }
     ensures none { IfNone result (AreAssumed trail.now assumptions.now (length trail.now.literals)) }
 {
+    trail.is_sound();
     let literals = trail.literals();
     let reasons = trail.reasons();
     for place in 0..literals.len() {
@@ -97,6 +99,7 @@ fn first_further(trail: &Trail, assumptions: &[Lit]) -> Option<usize>
 pub fn assumed_level(trail: &Trail, assumptions: &[Lit]) -> u32
     ensures { result ≡ assumed_level_of trail.now assumptions.now }
 {
+    trail.is_sound();
     let literals = trail.literals();
     let reasons = trail.reasons();
     let mut level = 0_u32;
@@ -117,7 +120,7 @@ pub fn trail_state(propagator: &Propagator)
     ensures room { length propagator.now.literals ≤ propagator.now.vars }
     ensures spare { propagator.now.spare < 2 ^ 63 }
 {
-    let _literals = propagator.trail().literals();
+    propagator.trail().is_sound();
 }
 
 impl<R: Fn(u32) -> u64> Search<R> {

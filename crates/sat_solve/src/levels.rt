@@ -70,7 +70,7 @@ fn level_of(trail: &Trail, var: u32) -> Option<u32>
     ensures single { IfSome result (λ level. (place : ℕ) → StandsAt trail.now.literals var place → level ≡ level_at trail.now.reasons place) }
     ensures none { IfNone result ((place : ℕ) → StandsAt trail.now.literals var place → ⊥) }
 {
-    let _literals = trail.literals();
+    trail.is_sound();
     match trail.value(var) {
         Some(_) => Some(trail.level_of(var)),
         None => None,

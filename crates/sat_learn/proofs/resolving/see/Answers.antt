@@ -9,7 +9,7 @@ pub loop-lit-preserved : goal.loop-lit-preserved
 loop-lit-preserved c =
     let h : c.loop-lit.lit-index < length c.args.clause.now = c.loop-lit-test.true in
     let at = c.place_of-place.ensures.at in
-    let once = justified_once _ _ _ _ _ c.trail_state.ensures.justified in
+    let once = justified_once _ _ _ _ _ c.is_sound.ensures.state.justified in
     let size = c.requires.size in
     let was : length c.loop-lit.seen ≡ length c.args.seen.now = c.loop-lit.invariant.size in
     let within : c.place_of-place.result < length c.loop-lit.seen = let w = c.place_of-place.ensures.within in rw (was, size) w in

@@ -12,8 +12,8 @@ loop-place-preserved c =
     let i = c.loop-place.invariant in
     let t = c.args.trail.now in
     let place = c.loop-place.place in
-    let same = c.literals-literals.ensures.state.justified.same in
-    let within : place < length t.literals = let e = c.loop-place-test.true in let n = c.literals-literals.ensures.value in grind (arith, common_steps) in
+    let same = c.is_sound.ensures.state.justified.same in
+    let within : place < length t.literals = let e = c.loop-place-test.true in let n = c.literals-literals.ensures in grind (arith, common_steps) in
     elim c.if-is_none.branch [
       | then-is_none+else-not-contains w ↦
           let n : is_none (reason_at t.reasons place) ≡ true = let a = w.if-is_none.true in let b = c.is_none.ensures in let d = c.index-reasons-place.is in let e = c.reasons-reasons.ensures in grind (arith, common_steps) in

@@ -12,12 +12,12 @@ pub place_of-requires : goal.place_of-requires
 place_of-requires c = has_among c.args.self.now.literals (literal_of c.args.lit.var c.in-Some.value) (value_some c.args.self.now.literals c.args.lit.var c.in-Some.value (sym c.in-Some.ensures))
 
 pub returns-then-value-lit : goal.returns-then-value-lit
-returns-then-value-lit c place h w e = never_false c.args.self.now.literals c.args.lit (justified_once _ _ _ _ _ c.literals-literals.ensures.state.justified)
+returns-then-value-lit c place h w e = never_false c.args.self.now.literals c.args.lit (justified_once _ _ _ _ _ c.is_sound.ensures.state.justified)
     (value_agrees c.args.self.now.literals c.args.lit c.in-Some.value (sym c.in-Some.ensures) c.if-value-lit.true) place w e
 
 pub returns-else-value-lit : goal.returns-else-value-lit
 returns-else-value-lit c place h w e =
-    let s = false_there c.args.self.now.literals c.args.lit c.place_of.result place (justified_once _ _ _ _ _ c.literals-literals.ensures.state.justified) c.place_of.ensures w e in
+    let s = false_there c.args.self.now.literals c.args.lit c.place_of.result place (justified_once _ _ _ _ _ c.is_sound.ensures.state.justified) c.place_of.ensures w e in
     absurd (omega arith)
 
 pub returns-in-None : goal.returns-in-None

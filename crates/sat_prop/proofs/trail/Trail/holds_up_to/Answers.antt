@@ -13,13 +13,13 @@ pub place_of-requires : goal.place_of-requires
 place_of-requires c = has_among c.args.self.now.literals (literal_of c.args.lit.var c.in-Some.value) (value_some c.args.self.now.literals c.args.lit.var c.in-Some.value (sym c.in-Some.ensures))
 
 pub returns-then-value-lit : goal.returns-then-value-lit
-returns-then-value-lit c = holds_at c.args.self.now.literals c.args.lit c.place_of.result c.args.place (justified_once _ _ _ _ _ c.literals-literals.ensures.state.justified)
+returns-then-value-lit c = holds_at c.args.self.now.literals c.args.lit c.place_of.result c.args.place (justified_once _ _ _ _ _ c.is_sound.ensures.state.justified)
     (value_agrees c.args.self.now.literals c.args.lit c.in-Some.value (sym c.in-Some.ensures) c.if-value-lit.true) c.place_of.ensures
 
 pub returns-else-value-lit : goal.returns-else-value-lit
 returns-else-value-lit c =
     let f = value_denies c.args.self.now.literals c.args.lit c.in-Some.value (sym c.in-Some.ensures) c.if-value-lit.false in
-    let n = ⊎_elim (λ t. absurd (not_both _ f (justified_consistent _ _ _ _ _ c.literals-literals.ensures.state.justified c.args.lit t))) (λ t. t) (cases_Bool (is_true c.args.self.now.literals c.args.lit)) in
+    let n = ⊎_elim (λ t. absurd (not_both _ f (justified_consistent _ _ _ _ _ c.is_sound.ensures.state.justified c.args.lit t))) (λ t. t) (cases_Bool (is_true c.args.self.now.literals c.args.lit)) in
     c.if-value-lit.false ∙ sym (not_yet c.args.self.now.literals (c.args.place + 1) c.args.lit n)
 
 pub returns-in-None : goal.returns-in-None

@@ -8,7 +8,7 @@ use Rattle.sat_prop.proofs.trail.Trail.standing.Goals as goal
 use Rattle.sat_prop.proofs.trail.Trail.standing.Goals.{in-Some+else-value-lit, in-None, in-Some-candidate+else-ne, in_default}
 
 pub returns-then-value-lit : goal.returns-then-value-lit
-returns-then-value-lit c = seen_true c.args.self.now.literals c.args.clause.now c.loop-lit.lit-index (justified_consistent _ _ _ _ _ c.literals-literals.ensures.state.justified) c.loop-lit-test.true
+returns-then-value-lit c = seen_true c.args.self.now.literals c.args.clause.now c.loop-lit.lit-index (justified_consistent _ _ _ _ _ c.is_sound.ensures.state.justified) c.loop-lit-test.true
     (value_agrees c.args.self.now.literals (get_or c.args.clause.now c.loop-lit.lit-index no_literal) c.in-Some.value (sym c.in-Some.ensures) c.if-value-lit.true)
 
 pub returns-then-ne : goal.returns-then-ne
@@ -29,4 +29,4 @@ loop-lit-preserved c = elim c.match-value.branch [
 ]
 
 pub returns-in-Some-candidate-2 : goal.returns-in-Some-candidate-2
-returns-in-Some-candidate-2 c = seen_unit c.args.self.now.literals c.args.clause.now c.loop-lit.lit-index c.loop-lit.candidate c.in-Some-candidate-2.lit (justified_consistent _ _ _ _ _ c.literals-literals.ensures.state.justified) c.loop-lit-test.false c.loop-lit.invariant c.in-Some-candidate-2.is
+returns-in-Some-candidate-2 c = seen_unit c.args.self.now.literals c.args.clause.now c.loop-lit.lit-index c.loop-lit.candidate c.in-Some-candidate-2.lit (justified_consistent _ _ _ _ _ c.is_sound.ensures.state.justified) c.loop-lit-test.false c.loop-lit.invariant c.in-Some-candidate-2.is

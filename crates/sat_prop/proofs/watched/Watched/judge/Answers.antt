@@ -45,14 +45,14 @@ clause-requires-clause-from_one c =
     let wa = subst (λ (s : WatchedState). AreWatched c.args.trail.now s) (sym c.self.view_is) c.requires.visiting.watched in
     let n = subst (λ (s : WatchedState). c.args.number < length s.lists.watches) (sym c.self.view_is) c.requires.number in
     let joined = subst (λ (x : Watch). Contains c.args.trail.now.attached x.clause) (sym c.watch-watch.ensures) (wa.each c.args.number n).joined in
-    (found c.args.trail.now c.args.db.now.clauses c.watch-watch.result.clause c.literals-literals.ensures.state c.requires.visiting.grown joined).from_one
+    (found c.args.trail.now c.args.db.now.clauses c.watch-watch.result.clause c.is_sound.ensures.state c.requires.visiting.grown joined).from_one
 
 pub clause-requires-clause-in_range : goal.clause-requires-clause-in_range
 clause-requires-clause-in_range c =
     let wa = subst (λ (s : WatchedState). AreWatched c.args.trail.now s) (sym c.self.view_is) c.requires.visiting.watched in
     let n = subst (λ (s : WatchedState). c.args.number < length s.lists.watches) (sym c.self.view_is) c.requires.number in
     let joined = subst (λ (x : Watch). Contains c.args.trail.now.attached x.clause) (sym c.watch-watch.ensures) (wa.each c.args.number n).joined in
-    (found c.args.trail.now c.args.db.now.clauses c.watch-watch.result.clause c.literals-literals.ensures.state c.requires.visiting.grown joined).in_range
+    (found c.args.trail.now c.args.db.now.clauses c.watch-watch.result.clause c.is_sound.ensures.state c.requires.visiting.grown joined).in_range
 
 pub make_true-requires-clause-attached : goal.make_true-requires-clause-attached
 make_true-requires-clause-attached c =
@@ -66,7 +66,7 @@ make_true-requires-clause-forced c =
     let n = subst (λ (s : WatchedState). c.args.number < length s.lists.watches) (sym c.self.view_is) c.requires.number in
     let within = subst (λ (s : WatchedState). s.seen < length c.args.trail.now.literals) (sym c.self.view_is) c.requires.visiting.within in
     let joined = subst (λ (x : Watch). Contains c.args.trail.now.attached x.clause) (sym c.watch-watch.ensures) (wa.each c.args.number n).joined in
-    let f = found c.args.trail.now c.args.db.now.clauses c.watch-watch.result.clause c.literals-literals.ensures.state c.requires.visiting.grown joined in
+    let f = found c.args.trail.now c.args.db.now.clauses c.watch-watch.result.clause c.is_sound.ensures.state c.requires.visiting.grown joined in
     let held : clause_numbered c.args.trail.now.clauses (watch_at c.self.inside.lists.watches c.args.number).clause ≡ Some c.clause.result.now = ap (λ (x : Watch). clause_numbered c.args.trail.now.clauses x.clause) (sym c.watch-watch.ensures) ∙ sym f.same ∙ c.clause.ensures in
     let q : c.watch.result.lit ≡ other_of c.self.inside.lists.watches c.args.number = ap (λ (x : Watch). x.lit) (c.watch.ensures ∙ ap (λ (x : Watch). watch_at c.self.inside.lists.watches x.twin) c.watch-watch.ensures) in
     let forced = forced_found c.args.trail.now (record { short = c.self.inside.short.items; spare = c.self.inside.spare; lists = c.self.inside.lists; seen = c.self.inside.seen }) c.args.number c.clause.result.now wa n held (rw (← q) c.in-None.ensures.none) in
@@ -80,7 +80,7 @@ returns-in-Some-clause-judged c =
     let n = subst (λ (s : WatchedState). c.args.number < length s.lists.watches) (sym c.self.view_is) c.requires.number in
     let falls = subst (λ (s : WatchedState). literal_at c.args.trail.now.literals s.seen ≡ negation c.args.lit) (sym c.self.view_is) c.requires.visiting.falls in
     let joined = subst (λ (x : Watch). Contains c.args.trail.now.attached x.clause) (sym c.watch-watch.ensures) (wa.each c.args.number n).joined in
-    let f = found c.args.trail.now c.args.db.now.clauses c.watch-watch.result.clause c.literals-literals.ensures.state c.requires.visiting.grown joined in
+    let f = found c.args.trail.now c.args.db.now.clauses c.watch-watch.result.clause c.is_sound.ensures.state c.requires.visiting.grown joined in
     let held : clause_numbered c.args.trail.now.clauses (watch_at c.self.inside.lists.watches c.args.number).clause ≡ Some c.clause.result.now = ap (λ (x : Watch). clause_numbered c.args.trail.now.clauses x.clause) (sym c.watch-watch.ensures) ∙ sym f.same ∙ c.clause.ensures in
     let q : c.watch.result.lit ≡ other_of c.self.inside.lists.watches c.args.number = ap (λ (x : Watch). x.lit) (c.watch.ensures ∙ ap (λ (x : Watch). watch_at c.self.inside.lists.watches x.twin) c.watch-watch.ensures) in
     let e : c.watch-watch.result.lit ≡ c.args.lit = same_is c.watch-watch.result.lit c.args.lit (not-false _ (sym c.ne.ensures ∙ c.if-ne.false)) in
@@ -101,7 +101,7 @@ returns-then-make_true-clause-judged c =
     let n = subst (λ (s : WatchedState). c.args.number < length s.lists.watches) (sym c.self.view_is) c.requires.number in
     let within = subst (λ (s : WatchedState). s.seen < length c.args.trail.now.literals) (sym c.self.view_is) c.requires.visiting.within in
     let joined = subst (λ (x : Watch). Contains c.args.trail.now.attached x.clause) (sym c.watch-watch.ensures) (wa.each c.args.number n).joined in
-    let f = found c.args.trail.now c.args.db.now.clauses c.watch-watch.result.clause c.literals-literals.ensures.state c.requires.visiting.grown joined in
+    let f = found c.args.trail.now c.args.db.now.clauses c.watch-watch.result.clause c.is_sound.ensures.state c.requires.visiting.grown joined in
     let held : clause_numbered c.args.trail.now.clauses (watch_at c.self.inside.lists.watches c.args.number).clause ≡ Some c.clause.result.now = ap (λ (x : Watch). clause_numbered c.args.trail.now.clauses x.clause) (sym c.watch-watch.ensures) ∙ sym f.same ∙ c.clause.ensures in
     let q : c.watch.result.lit ≡ other_of c.self.inside.lists.watches c.args.number = ap (λ (x : Watch). x.lit) (c.watch.ensures ∙ ap (λ (x : Watch). watch_at c.self.inside.lists.watches x.twin) c.watch-watch.ensures) in
     let w : WatchedState = record { short = c.self.inside.short.items; spare = c.self.inside.spare; lists = c.self.inside.lists; seen = c.self.inside.seen } in

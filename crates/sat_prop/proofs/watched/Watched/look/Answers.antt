@@ -14,7 +14,7 @@ put-requires-clause-known c =
     let w : WatchedState = record { short = c.self.inside.short.items; spare = c.self.inside.spare; lists = c.self.inside.lists; seen = c.self.inside.seen } in
     let next = subst (λ (s : WatchedState). IsNext s.lists c.args.number) (sym c.self.view_is) c.requires.next in
     let wa : AreWatched c.judge-judged.new.trail w = subst (λ (s : WatchedState). AreWatched c.judge-judged.new.trail s) (sym c.self.view_is) c.judge-judged.ensures.watched in
-    subst (λ (x : Watch). x.lit.var < c.self.inside.lists.vars) (sym c.watch-watch.ensures) (lit_known c.judge-judged.new.trail w c.args.number c.literals-literals.ensures.state wa next.within)
+    subst (λ (x : Watch). x.lit.var < c.self.inside.lists.vars) (sym c.watch-watch.ensures) (lit_known c.judge-judged.new.trail w c.args.number c.is_sound.ensures.state wa next.within)
 
 pub put-requires-in-Moves-clause-known : goal.put-requires-in-Moves-clause-known
 put-requires-in-Moves-clause-known c =
@@ -22,7 +22,7 @@ put-requires-in-Moves-clause-known c =
     let next = subst (λ (s : WatchedState). IsNext s.lists c.args.number) (sym c.self.view_is) c.requires.next in
     let wa : AreWatched c.judge-judged.new.trail w = subst (λ (s : WatchedState). AreWatched c.judge-judged.new.trail s) (sym c.self.view_is) c.judge-judged.ensures.watched in
     let j = subst (λ (s : WatchedState). IsJudged c.judge-judged.new.trail s c.args.number (Moves c.in-Moves.found)) (sym c.self.view_is) c.in-Moves.ensures.judged in
-    among_known c.judge-judged.new.trail w c.args.number j.1.0 c.in-Moves.found c.literals-literals.ensures.state wa next.within j.1.1 j.1.2.among
+    among_known c.judge-judged.new.trail w c.args.number j.1.0 c.in-Moves.found c.is_sound.ensures.state wa next.within j.1.1 j.1.2.among
 
 pub returns-clause-visits : goal.returns-clause-visits
 returns-clause-visits c =
@@ -37,7 +37,7 @@ returns-clause-visits c =
           rw x.self-is ((visits_same c.args.trail.now c.judge-judged.new.trail c.args.self.now w (record w { lists = x.put.new.self }) c.judge-judged.ensures.grown c.self.view_is refl refl (look_stays c.judge-judged.new.trail w x.put.new.self c.args.number next wa puts)))
       | in-Moves x ↦
           let j = subst (λ (s : WatchedState). IsJudged c.judge-judged.new.trail s c.args.number (Moves x.in-Moves.found)) (sym c.self.view_is) x.in-Moves.ensures.judged in
-          rw x.self-is ((visits_same c.args.trail.now c.judge-judged.new.trail c.args.self.now w (record w { lists = x.put-in-Moves.new.self }) c.judge-judged.ensures.grown c.self.view_is refl refl (look_moves c.judge-judged.new.trail w x.put-in-Moves.new.self c.args.number j.1.0 x.in-Moves.found (justified_consistent _ _ _ _ _ c.literals-literals.ensures.state.justified) next wa (omega arith) j.1.1 j.0 j.1.2 x.put-in-Moves.ensures)))
+          rw x.self-is ((visits_same c.args.trail.now c.judge-judged.new.trail c.args.self.now w (record w { lists = x.put-in-Moves.new.self }) c.judge-judged.ensures.grown c.self.view_is refl refl (look_moves c.judge-judged.new.trail w x.put-in-Moves.new.self c.args.number j.1.0 x.in-Moves.found (justified_consistent _ _ _ _ _ c.is_sound.ensures.state.justified) next wa (omega arith) j.1.1 j.0 j.1.2 x.put-in-Moves.ensures)))
     ]
 
 pub returns-clause-visited : goal.returns-clause-visited
@@ -54,5 +54,5 @@ returns-clause-visited c =
           rw x.self-is (look_stays_visited c.judge-judged.new.trail w x.put.new.self c.args.number next puts va (subst (λ (s : WatchedState). IsJudged c.judge-judged.new.trail s c.args.number Stays) (sym c.self.view_is) x.in-Stays.ensures.judged))
       | in-Moves x ↦
           let j = subst (λ (s : WatchedState). IsJudged c.judge-judged.new.trail s c.args.number (Moves x.in-Moves.found)) (sym c.self.view_is) x.in-Moves.ensures.judged in
-          rw x.self-is (look_moves_visited c.judge-judged.new.trail w x.put-in-Moves.new.self c.args.number j.1.0 x.in-Moves.found (justified_consistent _ _ _ _ _ c.literals-literals.ensures.state.justified) next wa (omega arith) j.1.1 j.0 j.1.2 x.put-in-Moves.ensures va)
+          rw x.self-is (look_moves_visited c.judge-judged.new.trail w x.put-in-Moves.new.self c.args.number j.1.0 x.in-Moves.found (justified_consistent _ _ _ _ _ c.is_sound.ensures.state.justified) next wa (omega arith) j.1.1 j.0 j.1.2 x.put-in-Moves.ensures va)
     ]

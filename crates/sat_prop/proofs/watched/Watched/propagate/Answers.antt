@@ -16,7 +16,7 @@ returns-then-len-before-clause-outcome c =
     let m = c.len-before.ensures in
     let q = c.in_default.ensures.quiet (omega arith) in
     let same = same_front c.visit_short.new.trail.literals c.visit_watched.new.trail.literals two.grown.literals (omega arith) in
-    watched_quiet c.visit_watched.new.trail c.visit_watched.new.self (justified_consistent _ _ _ _ _ c.literals-literals.ensures.state.justified) two.watched c.in_default-visit_watched.ensures.all
+    watched_quiet c.visit_watched.new.trail c.visit_watched.new.self (justified_consistent _ _ _ _ _ c.is_sound.ensures.state.justified) two.watched c.in_default-visit_watched.ensures.all
     (rw (two.grown.clauses, two.short, same) q)
 
 pub more-smaller : goal.more-smaller
@@ -30,6 +30,6 @@ more-smaller c =
     let m = c.len-before.ensures in
     let v = one.vars in
     let w = two.vars in
-    let room = c.literals-literals.ensures.room in
+    let room = c.is_sound.ensures.room in
     let longer : length c.more.trail.literals ≡ length c.visit_watched.new.trail.literals → ⊥ = λ e. f (n ∙ sym e ∙ sym m) in
     grind arith

@@ -14,7 +14,7 @@ open-requires c =
     let wa = subst (λ (s : WatchedState). AreWatched c.args.trail.now s) (sym c.self.view_is) c.requires.visiting.watched in
     let within = subst (λ (s : WatchedState). s.seen < length c.args.trail.now.literals) (sym c.self.view_is) c.requires.visiting.within in
     let falls = subst (λ (s : WatchedState). literal_at c.args.trail.now.literals s.seen ≡ negation c.args.lit) (sym c.self.view_is) c.requires.visiting.falls in
-    let k = at_known c.args.trail.now c.self.inside.seen c.literals-literals.ensures.state within in
+    let k = at_known c.args.trail.now c.self.inside.seen c.is_sound.ensures.state within in
     let e : (literal_at c.args.trail.now.literals c.self.inside.seen).var ≡ c.args.lit.var = ap (λ (l : Lit). l.var) falls in
     let v = wa.vars in
     omega arith

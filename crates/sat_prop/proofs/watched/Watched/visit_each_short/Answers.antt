@@ -22,7 +22,7 @@ clause-requires-clause-from_one c =
     let at : get_or c.self.inside.short.items c.loop-place.place 0 ≡ c.index-id.result.now = let e = c.index-id.ensures in let t = c.loop-place-test.true in let n = c.len-place-end.ensures in grind (arith, common_steps) in
     let w : c.loop-place.place < length c.self.inside.short.items = let t = c.loop-place-test.true in let n = c.len-place-end.ensures in grind (arith, common_steps) in
     let member = subst (λ (s : WatchedState). Contains s.short c.index-id.result.now) c.self.view_is (subst (λ (k : ℕ). Contains c.self.inside.short.items k) at (contains_at c.self.inside.short.items c.loop-place.place w)) in
-    (found c.loop-place.trail c.args.db.now.clauses c.index-id.result.now c.literals-literals.ensures.state front (i.watched.short c.index-id.result.now member)).from_one
+    (found c.loop-place.trail c.args.db.now.clauses c.index-id.result.now c.is_sound.ensures.state front (i.watched.short c.index-id.result.now member)).from_one
 
 pub clause-requires-clause-in_range : goal.clause-requires-clause-in_range
 clause-requires-clause-in_range c =
@@ -31,7 +31,7 @@ clause-requires-clause-in_range c =
     let at : get_or c.self.inside.short.items c.loop-place.place 0 ≡ c.index-id.result.now = let e = c.index-id.ensures in let t = c.loop-place-test.true in let n = c.len-place-end.ensures in grind (arith, common_steps) in
     let w : c.loop-place.place < length c.self.inside.short.items = let t = c.loop-place-test.true in let n = c.len-place-end.ensures in grind (arith, common_steps) in
     let member = subst (λ (s : WatchedState). Contains s.short c.index-id.result.now) c.self.view_is (subst (λ (k : ℕ). Contains c.self.inside.short.items k) at (contains_at c.self.inside.short.items c.loop-place.place w)) in
-    (found c.loop-place.trail c.args.db.now.clauses c.index-id.result.now c.literals-literals.ensures.state front (i.watched.short c.index-id.result.now member)).in_range
+    (found c.loop-place.trail c.args.db.now.clauses c.index-id.result.now c.is_sound.ensures.state front (i.watched.short c.index-id.result.now member)).in_range
 
 pub returns-in-False-clause-conflict : goal.returns-in-False-clause-conflict
 returns-in-False-clause-conflict c =
@@ -40,7 +40,7 @@ returns-in-False-clause-conflict c =
     let at : get_or c.self.inside.short.items c.loop-place.place 0 ≡ c.index-id.result.now = let e = c.index-id.ensures in let t = c.loop-place-test.true in let n = c.len-place-end.ensures in grind (arith, common_steps) in
     let w : c.loop-place.place < length c.self.inside.short.items = let t = c.loop-place-test.true in let n = c.len-place-end.ensures in grind (arith, common_steps) in
     let member = subst (λ (s : WatchedState). Contains s.short c.index-id.result.now) c.self.view_is (subst (λ (k : ℕ). Contains c.self.inside.short.items k) at (contains_at c.self.inside.short.items c.loop-place.place w)) in
-    let f = found c.loop-place.trail c.args.db.now.clauses c.index-id.result.now c.literals-literals.ensures.state front (i.watched.short c.index-id.result.now member) in
+    let f = found c.loop-place.trail c.args.db.now.clauses c.index-id.result.now c.is_sound.ensures.state front (i.watched.short c.index-id.result.now member) in
     record {
       joined = i.watched.short c.index-id.result.now member;
       false_now = read_stands c.loop-place.trail.clauses c.args.db.now.clauses c.loop-place.trail.vars c.index-id.result.now c.loop-place.trail.literals c.clause.result.now falsified front f.known c.clause.ensures c.in-False.ensures;
@@ -53,7 +53,7 @@ loop-place-preserved c =
     let at : get_or c.self.inside.short.items c.loop-place.place 0 ≡ c.index-id.result.now = let e = c.index-id.ensures in let t = c.loop-place-test.true in let n = c.len-place-end.ensures in grind (arith, common_steps) in
     let w : c.loop-place.place < length c.self.inside.short.items = let t = c.loop-place-test.true in let n = c.len-place-end.ensures in grind (arith, common_steps) in
     let member = subst (λ (s : WatchedState). Contains s.short c.index-id.result.now) c.self.view_is (subst (λ (k : ℕ). Contains c.self.inside.short.items k) at (contains_at c.self.inside.short.items c.loop-place.place w)) in
-    let f = found c.loop-place.trail c.args.db.now.clauses c.index-id.result.now c.literals-literals.ensures.state front (i.watched.short c.index-id.result.now member) in
+    let f = found c.loop-place.trail c.args.db.now.clauses c.index-id.result.now c.is_sound.ensures.state front (i.watched.short c.index-id.result.now member) in
     elim c.match-standing.branch [
       | in-Unit w ↦
           let e = w.trail-is ∙ w.force.ensures in

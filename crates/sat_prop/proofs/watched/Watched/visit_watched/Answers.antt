@@ -6,7 +6,7 @@ pub more-smaller : goal.more-smaller
 more-smaller c =
     let vars = c.visit.ensures.visits.grown.vars in
     let seen = ap (λ (s : WatchedState). s.seen) c.self-in-more.view_is ∙ c.visit.ensures.visits.seen in
-    let room = c.literals-literals.ensures.room in
+    let room = c.is_sound.ensures.room in
     let test = c.more-test.true in
     let len = c.len.ensures in
     let before = ap (λ (s : WatchedState). s.seen) c.self.view_is in
