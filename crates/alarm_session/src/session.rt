@@ -33,38 +33,35 @@ use std::marker::Model;
 /// Alarms and pairs are added one by one, and each question is about the log so far. Nothing is begun anew: the clauses of an
 /// addition join those that are there, and a question goes on with what earlier ones learnt.
 #[derive(Drop)]
-pub struct Session<'a, T, R> {
-    alloc: Global,
-    net: &'a Network,
-    steps: u32,
-    test: Indep<T>,
+pub struct Session<'a, R> {
+    setting: Setting<'a>,
     kept: Kept<R>,
 }
 
-impl<'a, T, R> Model for Session<'a, T, R> {
+impl<'a, R> Model for Session<'a, R> {
     ghost use Rattle.alarm_session.specs.Session.{SessionState, IsKept, stage_of};
 
     ghost Value = { SessionState R };
 
-    ghost view = { λ a. record { net = a.net.now; steps = a.steps; stage = stage_of a.kept; order = a.kept.parts.solver.order } };
+    ghost view = { λ a. record { net = a.setting.net.now; steps = a.setting.steps; stage = stage_of a.kept; order = a.kept.parts.solver.order } };
 
-    ghost invariant = { λ a. IsKept a.net.now a.steps a.kept };
+    ghost invariant = { λ a. IsKept a.setting.net.now a.setting.steps a.kept };
 }
 
-impl<'a, T: Fn(u32, u32) -> bool, R: Fn(u32) -> u64> Session<'a, T, R> {
+impl<'a, R: Fn(u32) -> u64> Session<'a, R> {
     /// A session about runs within n steps, with an empty log, over an empty book. The order has no variables yet.
     ///
     /// It is refused as too large where the question of the empty log is. A refusal drops the book.
-    pub fn new(
+    pub fn new<T: Fn(u32, u32) -> bool>(
         alloc: Global,
         net: &'a Network,
         n: u32,
-        test: Indep<T>,
+        test: &Indep<T>,
         rank: Order<R>,
         book: Ledger,
-    ) -> Result<Session<'a, T, R>, SessionRefusal>
-        requires right { IsTest T.pre T.post test.test test.net }
-        requires net { test.net ≡ net.now }
+    ) -> Result<Session<'a, R>, SessionRefusal>
+        requires right { IsTest T.pre T.post test.now.test test.now.net }
+        requires net { test.now.net ≡ net.now }
         requires ranked { IsRanked R.pre R.post rank }
         requires no_variables { rank.waiting ≡ [] }
         requires steps { n ≤ MOST_STEPS }
@@ -78,14 +75,8 @@ impl<'a, T: Fn(u32, u32) -> bool, R: Fn(u32) -> u64> Session<'a, T, R> {
             steps: n,
             alloc,
         };
-        let kept = begin(setting, &test, rank, book)?;
-        Ok(Session {
-            alloc,
-            net,
-            steps: n,
-            test,
-            kept,
-        })
+        let kept = begin(setting, test, rank, book)?;
+        Ok(Session { setting, kept })
     }
 
     /// Adds an alarm, and answers its number. A refusal leaves log, book and answers as they were.
@@ -98,12 +89,7 @@ impl<'a, T: Fn(u32, u32) -> bool, R: Fn(u32) -> u64> Session<'a, T, R> {
         ensures added { OnOk result (Becomes self.old.net self.old.steps (with_alarm self.old.stage.log id labels.now false) (Some (alarm_addition labels.now false)) self.old.stage self.new.stage) }
         ensures same { OnErr result (self.new.stage ≡ self.old.stage) }
     {
-        let setting = Setting {
-            net: self.net,
-            steps: self.steps,
-            alloc: self.alloc,
-        };
-        put_alarm(setting, id, labels, false, &mut self.kept)
+        put_alarm(self.setting, id, labels, false, &mut self.kept)
     }
 
     /// Adds an alarm that is perhaps false, and answers its number. A refusal leaves log, book and answers as they were.
@@ -116,12 +102,7 @@ impl<'a, T: Fn(u32, u32) -> bool, R: Fn(u32) -> u64> Session<'a, T, R> {
         ensures added { OnOk result (Becomes self.old.net self.old.steps (with_alarm self.old.stage.log id labels.now true) (Some (alarm_addition labels.now true)) self.old.stage self.new.stage) }
         ensures same { OnErr result (self.new.stage ≡ self.old.stage) }
     {
-        let setting = Setting {
-            net: self.net,
-            steps: self.steps,
-            alloc: self.alloc,
-        };
-        put_alarm(setting, id, labels, true, &mut self.kept)
+        put_alarm(self.setting, id, labels, true, &mut self.kept)
     }
 
     /// Adds a pair of alarms, "the first before the second": true where it is new. A pair that is there already changes
@@ -136,12 +117,7 @@ impl<'a, T: Fn(u32, u32) -> bool, R: Fn(u32) -> u64> Session<'a, T, R> {
         ensures again { IfOk result (λ new. new ≡ false → self.new.stage ≡ self.old.stage) }
         ensures same { OnErr result (self.new.stage ≡ self.old.stage) }
     {
-        let setting = Setting {
-            net: self.net,
-            steps: self.steps,
-            alloc: self.alloc,
-        };
-        put_before(setting, first, second, &mut self.kept)
+        put_before(self.setting, first, second, &mut self.kept)
     }
 
     /// The least number of faults that explains the log so far, by a search that may learn as many clauses as the budget says.
@@ -154,12 +130,7 @@ impl<'a, T: Fn(u32, u32) -> bool, R: Fn(u32) -> u64> Session<'a, T, R> {
         ensures goes_on { GoesOn budget self.old.stage self.new.stage }
         ensures told { IfOk result (IsToldBy self.old.net self.old.steps budget self.old.stage self.new.stage) }
     {
-        let setting = Setting {
-            net: self.net,
-            steps: self.steps,
-            alloc: self.alloc,
-        };
-        ask_kept(setting, &mut self.kept, budget)
+        ask_kept(self.setting, &mut self.kept, budget)
     }
 
     /// Carries out a row of a script: adds what it says, or asks what explains the log so far.
@@ -172,12 +143,7 @@ impl<'a, T: Fn(u32, u32) -> bool, R: Fn(u32) -> u64> Session<'a, T, R> {
         ensures told { IfOk result (IsRowTold self.old.net self.old.steps budget self.old.stage row.now self.new.stage) }
         ensures undone { OnErr result (IsLeftUndone budget self.old.stage row.now self.new.stage) }
     {
-        let setting = Setting {
-            net: self.net,
-            steps: self.steps,
-            alloc: self.alloc,
-        };
-        carry_out_kept(setting, row, &mut self.kept, budget)
+        carry_out_kept(self.setting, row, &mut self.kept, budget)
     }
 
     /// The log so far.
@@ -193,12 +159,7 @@ impl<'a, T: Fn(u32, u32) -> bool, R: Fn(u32) -> u64> Session<'a, T, R> {
         ensures book { result.now.entries ≡ self.now.stage.book }
         ensures told { IsSessionBook self.now.net self.now.steps self.now.stage }
     {
-        let setting = Setting {
-            net: self.net,
-            steps: self.steps,
-            alloc: self.alloc,
-        };
-        is_session_book(setting, &self.kept);
+        is_session_book(self.setting, &self.kept);
         &self.kept.book
     }
 
@@ -206,13 +167,7 @@ impl<'a, T: Fn(u32, u32) -> bool, R: Fn(u32) -> u64> Session<'a, T, R> {
     pub fn into_book(self) -> Ledger
         ensures { result.entries ≡ self.entry.stage.book }
     {
-        let Session {
-            alloc: _,
-            net: _,
-            steps: _,
-            test: _,
-            kept,
-        } = self;
+        let Session { setting: _, kept } = self;
         let Kept {
             log: _,
             size: _,

@@ -17,10 +17,10 @@ fn name(rt: &impl Abort, alloc: Global, text: &str) -> Name {
 }
 
 // Adds an alarm with one label, and sees what is answered.
-fn assert_alarm<T: Fn(u32, u32) -> bool, R: Fn(u32) -> u64>(
+fn assert_alarm<R: Fn(u32) -> u64>(
     rt: &impl Abort,
     alloc: Global,
-    session: &mut Session<'_, T, R>,
+    session: &mut Session<'_, R>,
     id: &str,
     label: &str,
     want: Result<u32, SessionRefusal>,
@@ -34,10 +34,10 @@ fn assert_alarm<T: Fn(u32, u32) -> bool, R: Fn(u32) -> u64>(
 }
 
 // The same of one that is perhaps false.
-fn assert_maybe<T: Fn(u32, u32) -> bool, R: Fn(u32) -> u64>(
+fn assert_maybe<R: Fn(u32) -> u64>(
     rt: &impl Abort,
     alloc: Global,
-    session: &mut Session<'_, T, R>,
+    session: &mut Session<'_, R>,
     id: &str,
     label: &str,
     want: Result<u32, SessionRefusal>,
@@ -51,10 +51,10 @@ fn assert_maybe<T: Fn(u32, u32) -> bool, R: Fn(u32) -> u64>(
 }
 
 // Adds a pair, and sees what is answered.
-fn assert_before<T: Fn(u32, u32) -> bool, R: Fn(u32) -> u64>(
+fn assert_before<R: Fn(u32) -> u64>(
     rt: &impl Abort,
     alloc: Global,
-    session: &mut Session<'_, T, R>,
+    session: &mut Session<'_, R>,
     first: &str,
     second: &str,
     want: Result<bool, SessionRefusal>,
@@ -68,11 +68,7 @@ fn assert_before<T: Fn(u32, u32) -> bool, R: Fn(u32) -> u64>(
 }
 
 // Asks, and sees that so many faults explain the log.
-fn assert_least<T: Fn(u32, u32) -> bool, R: Fn(u32) -> u64>(
-    rt: &impl Abort,
-    session: &mut Session<'_, T, R>,
-    want: u32,
-)
+fn assert_least<R: Fn(u32) -> u64>(rt: &impl Abort, session: &mut Session<'_, R>, want: u32)
     requires ranked { IsRanked R.pre R.post session.old.order }
     ensures ranked { IsRanked R.pre R.post session.new.order }
 {
@@ -84,11 +80,7 @@ fn assert_least<T: Fn(u32, u32) -> bool, R: Fn(u32) -> u64>(
 }
 
 // A later alarm tells that there was no fault. A second one of its kind can only be false, which is one.
-fn assert_calls<T: Fn(u32, u32) -> bool, R: Fn(u32) -> u64>(
-    rt: &impl Abort,
-    alloc: Global,
-    session: &mut Session<'_, T, R>,
-)
+fn assert_calls<R: Fn(u32) -> u64>(rt: &impl Abort, alloc: Global, session: &mut Session<'_, R>)
     requires ranked { IsRanked R.pre R.post session.old.order }
 {
     assert_alarm(rt, alloc, session, "a", "A", Ok(0));
@@ -112,7 +104,7 @@ fn answers_call_by_call(rt: HostRuntime) {
         plain_touch(&net, EventId(a), EventId(b))
     });
     let rank = Order::new(rt.alloc(), |var: u32| var as u64);
-    match Session::new(rt.alloc(), &net, 2, test, rank, Ledger::new(rt.alloc())) {
+    match Session::new(rt.alloc(), &net, 2, &test, rank, Ledger::new(rt.alloc())) {
         Ok(session) => {
             let mut session = session;
             assert_calls(&rt, rt.alloc(), &mut session);

@@ -103,12 +103,12 @@ fn tell(rt: &impl Abort, alloc: Global, asked: Asked<'_>, told: &Told, out: &mut
 }
 
 // Carries a row out, and appends what is printed of it.
-fn carry_out<T: Fn(u32, u32) -> bool, R: Fn(u32) -> u64>(
+fn carry_out<R: Fn(u32) -> u64>(
     rt: &impl Abort,
     alloc: Global,
     asked: Asked<'_>,
     row: &Row,
-    session: &mut Session<'_, T, R>,
+    session: &mut Session<'_, R>,
     out: &mut Vec<u8>,
 )
     requires ranked { IsRanked R.pre R.post session.old.order }
@@ -122,12 +122,12 @@ fn carry_out<T: Fn(u32, u32) -> bool, R: Fn(u32) -> u64>(
 }
 
 // Carries all rows out, and sees that this is printed.
-fn assert_replies<T: Fn(u32, u32) -> bool, R: Fn(u32) -> u64>(
+fn assert_replies<R: Fn(u32) -> u64>(
     rt: &impl Abort,
     alloc: Global,
     asked: Asked<'_>,
     script: &Script,
-    session: &mut Session<'_, T, R>,
+    session: &mut Session<'_, R>,
     want: &str,
 )
     requires ranked { IsRanked R.pre R.post session.old.order }
@@ -165,7 +165,7 @@ fn assert_session<T: Fn(u32, u32) -> bool, R: Fn(u32) -> u64>(
         alloc,
         asked.net,
         asked.steps,
-        test,
+        &test,
         rank,
         Ledger::new(alloc),
     ) {
