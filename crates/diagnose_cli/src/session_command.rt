@@ -99,7 +99,7 @@ fn carry_out_rows<S: Sink>(
     let test = Indep::new(&plan.net, |a: u32, b: u32| {
         table.get(EventId(a), EventId(b))
     });
-    carry_out_by_test(alloc, plan, limits, test, out, book)
+    carry_out_by_test(alloc, plan, limits, &test, out, book)
 }
 
 // The same with a test that is given. What comes behind the variables of the steps is decided first.
@@ -107,17 +107,17 @@ fn carry_out_by_test<T: Fn(u32, u32) -> bool, S: Sink>(
     alloc: Global,
     plan: &Plan,
     limits: Limits,
-    test: Indep<T>,
+    test: &Indep<T>,
     out: &mut S,
     book: &mut Ledger,
 ) -> Result<(), Broken>
-    requires right { IsTest T.pre T.post test.test test.net }
-    requires net { test.net ≡ plan.now.net }
+    requires right { IsTest T.pre T.post test.now.test test.now.net }
+    requires net { test.now.net ≡ plan.now.net }
     requires steps { limits.steps ≤ MOST_STEPS }
     requires empty { book.old.entries ≡ [] }
     ensures { Speaks (MaySay plan.now.net limits.steps limits.budget plan.now.script book.new.entries) (S.taken out.old) (S.taken out.new) (Rose (S.faults out.old) (S.faults out.new)) (status_of_session result) }
 {
-    let first = step_variables(alloc, &plan.net, limits.steps, &test)?;
+    let first = step_variables(alloc, &plan.net, limits.steps, test)?;
     let order = Order::new(alloc, |var: u32| u64::from(var >= first));
     carry_out_by_order(alloc, plan, limits, test, order, out, book)
 }
@@ -127,13 +127,13 @@ fn carry_out_by_order<T: Fn(u32, u32) -> bool, R: Fn(u32) -> u64, S: Sink>(
     alloc: Global,
     plan: &Plan,
     limits: Limits,
-    test: Indep<T>,
+    test: &Indep<T>,
     order: Order<R>,
     out: &mut S,
     book: &mut Ledger,
 ) -> Result<(), Broken>
-    requires right { IsTest T.pre T.post test.test test.net }
-    requires net { test.net ≡ plan.now.net }
+    requires right { IsTest T.pre T.post test.now.test test.now.net }
+    requires net { test.now.net ≡ plan.now.net }
     requires ranked { IsRanked R.pre R.post order }
     requires no_variables { order.waiting ≡ [] }
     requires steps { limits.steps ≤ MOST_STEPS }

@@ -46,12 +46,12 @@ impl From<Memory> for Broken {
 }
 
 /// Carries out all rows, and puts the reply to each before the next one is taken.
-pub fn tell_rows<T: Fn(u32, u32) -> bool, R: Fn(u32) -> u64, S: Sink>(
+pub fn tell_rows<R: Fn(u32) -> u64, S: Sink>(
     alloc: Global,
     net: &Network,
     rows: &[Row],
     limits: Limits,
-    session: &mut Session<'_, T, R>,
+    session: &mut Session<'_, R>,
     out: &mut S,
 ) -> Result<(), Broken>
     requires begins { BeginsAs net.now limits.steps session.old.order.rank session.old }
@@ -68,12 +68,12 @@ pub fn tell_rows<T: Fn(u32, u32) -> bool, R: Fn(u32) -> u64, S: Sink>(
 }
 
 // Carries out a row, and puts its reply.
-fn tell_row<T: Fn(u32, u32) -> bool, R: Fn(u32) -> u64, S: Sink>(
+fn tell_row<R: Fn(u32) -> u64, S: Sink>(
     alloc: Global,
     net: &Network,
     limits: Limits,
     row: &Row,
-    session: &mut Session<'_, T, R>,
+    session: &mut Session<'_, R>,
     out: &mut S,
 ) -> Result<(), Broken>
     requires ranked { IsRanked R.pre R.post session.old.order }
