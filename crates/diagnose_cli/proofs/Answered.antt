@@ -14,7 +14,10 @@ use Rattle.diagnose_cli.specs.declared.stop.FaultyText.TheVariants.{Model, Log, 
 use Rattle.diagnose_cli.specs.Transcripts.{Ending, Transcript, IsWhole}
 use Rattle.diagnose_cli.specs.Endings.{HasStatus, status_of_stop, status_of_faulty, texts_of}
 use Rattle.diagnose_cli.specs.Files.{Loads, StopsAt, WithFile}
-use Rattle.diagnose_cli.specs.Commands.{FileKind, limit_of, fault_of_text, files_of, too_large, Says, SaysInAll, Closes, InOrder, Answers, command_of}
+use Rattle.diagnose_cli.specs.Texts.{FileKind, limit_of, fault_of_text}
+use Rattle.diagnose_cli.specs.Commands.{files_of, command_of}
+use Rattle.diagnose_cli.specs.Replies.{Says}
+use Rattle.diagnose_cli.specs.Due.{too_large, SaysInAll, Closes, InOrder, Answers}
 use Rattle.diagnose_cli.specs.Outcomes.{Outcome, Tells}
 use Rattle.diagnose_cli.specs.Rows.{AreRead, Reads}
 use Rattle.diagnose_cli.specs.Run.{Ends}

@@ -11,7 +11,8 @@ use Rattle.report.specs.Replies.{numbered}
 use Rattle.diagnose_cli.specs.declared.command.Command.TheVariants.{Bench}
 use Rattle.diagnose_cli.specs.declared.ending.Kind.{Kind}
 use Rattle.diagnose_cli.specs.declared.stop.Stop.TheVariants.{Large}
-use Rattle.diagnose_cli.specs.Commands.{Closes, Says, SaysFound, SaysSummary, SaysBenched, above_limit, first_line, summary_of}
+use Rattle.diagnose_cli.specs.Replies.{Says, SaysFound, SaysSummary, SaysBenched, first_line, summary_of}
+use Rattle.diagnose_cli.specs.Due.{Closes, above_limit}
 use Rattle.diagnose_cli.specs.Transcripts.{Ending, Transcript, IsWhole, once, whole}
 use Rattle.diagnose_cli.proofs.Limits.{within_limit, past_limit}
 

@@ -9,7 +9,7 @@ use Rattle.least_faults.specs.declared.TheConstants.{MOST_SIZE}
 use Rattle.diagnose_cli.specs.declared.ending.Kind.{Kind}
 use Rattle.diagnose_cli.specs.declared.stop.Stop.TheVariants.{Large}
 use Rattle.diagnose_cli.specs.Transcripts.{Ending, IsWhole, once, whole}
-use Rattle.diagnose_cli.specs.Commands.{above_limit}
+use Rattle.diagnose_cli.specs.Due.{above_limit}
 use Rattle.diagnose_cli.proofs.Limits.{within_limit, past_limit}
 
 module _ (steps : ℕ) (Says : Net → Log → (Kind × List ℕ) → Type 0) where

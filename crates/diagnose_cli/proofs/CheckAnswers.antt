@@ -11,7 +11,9 @@ use Rattle.diagnose_cli.specs.declared.ending.Kind.{Kind}
 use Rattle.diagnose_cli.specs.declared.stop.Stop.{Stop}
 use Rattle.diagnose_cli.specs.Transcripts.{once, whole}
 use Rattle.diagnose_cli.specs.Files.{Loads, IsText, IsReadAs, StopsIn}
-use Rattle.diagnose_cli.specs.Commands.{lrat, limit_of, fault_of_lrat, Closes, AnswersAfter, reply_of_checked}
+use Rattle.diagnose_cli.specs.Texts.{lrat, limit_of, fault_of_lrat}
+use Rattle.diagnose_cli.specs.Replies.{reply_of_checked}
+use Rattle.diagnose_cli.specs.Due.{Closes, AnswersAfter}
 use Rattle.diagnose_cli.proofs.Orders.{stops_here, goes_on}
 
 module _ (l : Loads) (words : List (List ℕ)) (book : List BookEntry) (cnf : List ℕ) (formula : Formula) (of : formula ≡ formula_of cnf) where

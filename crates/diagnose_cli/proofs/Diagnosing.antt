@@ -14,7 +14,7 @@ use Rattle.log_order.specs.Log.{Log}
 use Rattle.proof_ledger.specs.Book.{BookEntry, axiomatic, axioms_of, IsValidBook}
 use Rattle.prop_core.specs.VariableNames.{Name}
 use Rattle.run_decode.specs.QuestionAxioms.{BuiltQuestion, question_axioms, question_built}
-use Rattle.diagnose_cli.specs.Commands.{AnswersQuestion}
+use Rattle.diagnose_cli.specs.Replies.{AnswersQuestion}
 use Rattle.diagnose_cli.specs.Diagnosed.{IsDiagnosed}
 use Rattle.diagnose_cli.proofs.RepliesReplay.{run_replays}
 

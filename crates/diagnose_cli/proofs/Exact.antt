@@ -13,7 +13,9 @@ use Rattle.diagnose_cli.specs.declared.stop.FaultyText.{FaultyText}
 use Rattle.diagnose_cli.specs.Transcripts.{Ending, Transcript}
 use Rattle.diagnose_cli.specs.Files.{Loads, StopsAt}
 use Rattle.diagnose_cli.specs.Endings.{HasStatus, status_of_stop, text_of_stop, texts_of}
-use Rattle.diagnose_cli.specs.Commands.{FileKind, limit_of, fault_of_text, files_of, too_large, Closes, InOrder, Answers, command_of}
+use Rattle.diagnose_cli.specs.Texts.{FileKind, limit_of, fault_of_text}
+use Rattle.diagnose_cli.specs.Commands.{files_of, command_of}
+use Rattle.diagnose_cli.specs.Due.{too_large, Closes, InOrder, Answers}
 use Rattle.diagnose_cli.specs.Exact.{past, first_stop, stop_of_command, StopRow}
 use Rattle.diagnose_cli.specs.Outcomes.{Outcome}
 use Rattle.diagnose_cli.specs.Run.{Ends}

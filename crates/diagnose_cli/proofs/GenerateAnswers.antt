@@ -9,7 +9,9 @@ use Rattle.diagnose_cli.specs.declared.command.Command.TheVariants.{GenerateMode
 use Rattle.diagnose_cli.specs.declared.ending.Kind.{Kind}
 use Rattle.diagnose_cli.specs.Transcripts.{once}
 use Rattle.diagnose_cli.specs.Files.{Loads}
-use Rattle.diagnose_cli.specs.Commands.{Answers, files_of, command_of, reply_of_model, reply_of_log}
+use Rattle.diagnose_cli.specs.Commands.{files_of, command_of}
+use Rattle.diagnose_cli.specs.Replies.{reply_of_model, reply_of_log}
+use Rattle.diagnose_cli.specs.Due.{Answers}
 use Rattle.diagnose_cli.specs.Run.{AsksNone, LoadsNone, is_question}
 
 -- the words of a command that has files

@@ -3,7 +3,7 @@ use Rattle.std.proofs.Common.{◌≡◌, ◌≤◌, ◌<◌, ℕ, true, false, n
 use Rattle.std.specs.Prelude.{if◌then◌else◌}
 use Rattle.std.proofs.lemmas.Bool.Decides.{nat_tests}
 use Rattle.least_faults.specs.declared.TheConstants.{MOST_SIZE}
-use Rattle.diagnose_cli.specs.Commands.{above_limit}
+use Rattle.diagnose_cli.specs.Due.{above_limit}
 
 lt_true : (a b : ℕ) → a < b → nat_lt a b ≡ true
 lt_true a b h = grind (arith, nat_tests)

@@ -13,7 +13,8 @@ use Rattle.diagnose_cli.specs.declared.stop.Stop.TheVariants.{Memory}
 use Rattle.diagnose_cli.specs.Transcripts.{Ending, OrMemory, UnlessMemory, TookCut, once}
 use Rattle.diagnose_cli.specs.Endings.{HasStatus, status_of_kind, status_of_stop, texts_of, text_of_stop}
 use Rattle.diagnose_cli.specs.Files.{Loads}
-use Rattle.diagnose_cli.specs.Commands.{HasNotBegun, MayCome, command_of, files_of, is_session}
+use Rattle.diagnose_cli.specs.Commands.{command_of, files_of, is_session}
+use Rattle.diagnose_cli.specs.Due.{HasNotBegun, MayCome}
 use Rattle.diagnose_cli.specs.Puts.{EndsCut, Finishes, Puts, Speaks}
 use Rattle.diagnose_cli.specs.Outcomes.{Outcome, outcome}
 use Rattle.diagnose_cli.specs.Rows.{Row, RowAlone, CheckRows, DiagnoseRows}
@@ -89,12 +90,8 @@ module _ (may : Ending → Type 0) (Q : Type 0) (q : Q) (r : Result (Kind × Lis
   }
 
 -- which is no session
-pub no_session : (words : List (List ℕ)) (book : List BookEntry) → IfSome (command_of words) (λ c. is_session c ≡ false) → HasNotBegun words book
-no_session words book other = by (command_of words) other
-  where
-    by : (o : Option Command) → IfSome o (λ c. is_session c ≡ false) → IfSome o (λ c. is_session c ≡ true → book ≡ [])
-    by None other = tt
-    by (Some c) other = λ is. cc
+pub no_session : (words : List (List ℕ)) (c : Command) (book : List BookEntry) → command_of words ≡ Some c → is_session c ≡ false → HasNotBegun words book
+no_session words c book called other = subst (λ (o : Option Command). IfSome o (λ d. is_session d ≡ true → book ≡ [])) (sym called) (λ is. cc)
 
 -- ---- what the run of a command does that says what is due
 

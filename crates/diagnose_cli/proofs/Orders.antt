@@ -1,10 +1,8 @@
 -- A command that goes on from file to file.
-use Rattle.std.proofs.Common.{◌≡◌, ◌≢◌, ◌≤◌, inl, inr, ℕ, ◌+◌, List, [], ◌∷◌, ◌++◌, Option, Some, None, Result, Ok, Err, IsErrAnd, IfErr, MatchOption, sym, subst, ◌∙◌}
+use Rattle.std.proofs.Common.{◌≡◌, ◌≢◌, ◌≤◌, inl, inr, ℕ, ◌+◌, List, [], ◌∷◌, ◌++◌, Option, Some, None, Result, Ok, Err, IsErrAnd, IfErr, MatchOption, refl, sym, subst, ◌∙◌}
 use Rattle.des_base.specs.CommandWords.{word_at}
 use Rattle.des_net.specs.Network.{Net}
 use Rattle.log_csv.specs.LogText.{log_of}
-use Rattle.log_csv.specs.ScriptText.{script_of}
-use Rattle.log_csv.specs.declared.row.Row.{Row}
 use Rattle.log_order.specs.Log.{Log as AlarmLog}
 use Rattle.model_text.specs.ModelFaults.{network_of}
 use Rattle.proof_ledger.specs.Book.{BookEntry}
@@ -15,7 +13,9 @@ use Rattle.diagnose_cli.specs.declared.stop.Stop.TheVariants.{Usage, Faulty, Mem
 use Rattle.diagnose_cli.specs.declared.stop.FaultyText.{FaultyText}
 use Rattle.diagnose_cli.specs.Transcripts.{Ending, once, UnlessMemory}
 use Rattle.diagnose_cli.specs.Files.{Loads, Holds, IsText, IsReadAs, IsFaultOf, StopsAt, StopsIn}
-use Rattle.diagnose_cli.specs.Commands.{FileKind, model, log, script, limit_of, fault_of_text, fault_of_model, fault_of_log, fault_of_script, IsCase, IsPlan, StopsInCase, StopsInPlan, InOrder, Answers, Due, command_of}
+use Rattle.diagnose_cli.specs.Texts.{FileKind, model, log, limit_of, fault_of_text, fault_of_model, AreFirstTwo, IsCase, StopsAtFirstTwo}
+use Rattle.diagnose_cli.specs.Commands.{command_of}
+use Rattle.diagnose_cli.specs.Due.{InOrder, Answers, Due}
 use Rattle.diagnose_cli.proofs.Earlier.{stops_earlier}
 
 module _ (l : Loads) (words : List (List ℕ)) (i : ℕ) (kind : FileKind) (kinds : List FileKind) (files : List (List ℕ)) (closes : List (List ℕ) → Ending → Type 0) where
@@ -83,72 +83,44 @@ module _ (held now : List ℕ → Option (List ℕ)) (start before after : List 
     | inr b ↦ inr (subst (λ (f : List ℕ → Option (List ℕ)). IsFaultOf f name limit fault stop) same b)
   ]
 
-  -- at the log, behind a model that is read
-  pub stops_at_log : (text : List ℕ) (stop : Stop) → IsText held (word_at words 1) (limit_of model) fault_of_model text → StopsIn (record { held = now; before = before; after = after }) 2 (word_at words 2) (limit_of log) fault_of_log stop → StopsInCase (record { held = held; before = start; after = after }) words stop
-  stops_at_log text stop read h = inr (text, read, stops_in_earlier 2 (word_at words 2) (limit_of log) fault_of_log stop h)
+  -- at the second file, behind a model that is read
+  pub stops_at_second : (kind : FileKind) (text : List ℕ) (stop : Stop) → IsText held (word_at words 1) (limit_of model) fault_of_model text
+      → StopsIn (record { held = now; before = before; after = after }) 2 (word_at words 2) (limit_of kind) (fault_of_text kind (text ∷ [])) stop → StopsAtFirstTwo kind (record { held = held; before = start; after = after }) words stop
+  stops_at_second kind text stop read h = inr (text, read, stops_in_earlier 2 (word_at words 2) (limit_of kind) (fault_of_text kind (text ∷ [])) stop h)
 
-  -- model and log are read, one after the other
-  pub case_read : (net : Net) (alarms : AlarmLog) → IsReadAs held (word_at words 1) (limit_of model) fault_of_model (λ text. net ≡ network_of text)
-      → IsReadAs now (word_at words 2) (limit_of log) fault_of_log (λ rows. alarms ≡ log_of rows) → IsCase held words net alarms
-  case_read net alarms (text, model_read, net_is) (rows, log_read, log_is) = record {
+  -- model and second file are read, one after the other
+  pub both_read : (kind : FileKind) (net : Net) (P : List ℕ → Type 0) (read : IsReadAs held (word_at words 1) (limit_of model) fault_of_model (λ text. net ≡ network_of text))
+      → IsReadAs now (word_at words 2) (limit_of kind) (fault_of_text kind (read.0 ∷ [])) P → AreFirstTwo held words kind net P
+  both_read kind net P (text, model_read, net_is) (second, second_read, second_is) = record {
     text = text;
-    rows = rows;
+    second = second;
     model_read = model_read;
-    log_read = subst (λ (f : List ℕ → Option (List ℕ)). IsText f (word_at words 2) (limit_of log) fault_of_log rows) same log_read;
+    second_read = subst (λ (f : List ℕ → Option (List ℕ)). IsText f (word_at words 2) (limit_of kind) (fault_of_text kind (text ∷ [])) second) same second_read;
     net_is = net_is;
-    log_is = log_is;
+    second_is = second_is;
   }
 
-  -- at the script, behind a model that is read
-  pub stops_at_script : (text : List ℕ) (stop : Stop) → IsText held (word_at words 1) (limit_of model) fault_of_model text → StopsIn (record { held = now; before = before; after = after }) 2 (word_at words 2) (limit_of script) fault_of_script stop → StopsInPlan (record { held = held; before = start; after = after }) words stop
-  stops_at_script text stop read h = inr (text, read, stops_in_earlier 2 (word_at words 2) (limit_of script) fault_of_script stop h)
+module _ (l : Loads) (words : List (List ℕ)) (kind : FileKind) (kinds : List FileKind) (closes : List (List ℕ) → Ending → Type 0) where
+  -- a command goes on with the others where it has read its first two files
+  pub with_two : (net : Net) (P : List ℕ → Type 0) (e : Ending) (two : AreFirstTwo l.held words kind net P) → InOrder l words 3 kinds (two.text ∷ two.second ∷ []) closes e → InOrder l words 1 (model ∷ kind ∷ kinds) [] closes e
+  with_two net P e two rest =
+      goes_on l words 1 model (kind ∷ kinds) [] closes two.text e two.model_read (goes_on l words 2 kind kinds (two.text ∷ []) closes two.second e two.second_read rest)
 
-  -- model and script are read, one after the other
-  pub plan_read : (net : Net) (rows : List Row) → IsReadAs held (word_at words 1) (limit_of model) fault_of_model (λ text. net ≡ network_of text)
-      → IsReadAs now (word_at words 2) (limit_of script) fault_of_script (λ lines. rows ≡ script_of lines) → IsPlan held words net rows
-  plan_read net rows (text, model_read, net_is) (lines, script_read, rows_are) = record {
-    text = text;
-    lines = lines;
-    model_read = model_read;
-    script_read = subst (λ (f : List ℕ → Option (List ℕ)). IsText f (word_at words 2) (limit_of script) fault_of_script lines) same script_read;
-    net_is = net_is;
-    rows_are = rows_are;
-  }
-
--- a command goes on with the others where it has read its first two files
-pub with_case : (l : Loads) (words : List (List ℕ)) (kinds : List FileKind) (closes : List (List ℕ) → Ending → Type 0) (net : Net) (alarms : AlarmLog) (e : Ending) (case : IsCase l.held words net alarms)
-    → InOrder l words 3 kinds (case.text ∷ case.rows ∷ []) closes e → InOrder l words 1 (model ∷ log ∷ kinds) [] closes e
-with_case l words kinds closes net alarms e case rest =
-    goes_on l words 1 model (log ∷ kinds) [] closes case.text e case.model_read (goes_on l words 2 log kinds (case.text ∷ []) closes case.rows e case.log_read rest)
-
--- it may stop at these two
-pub stops_in_case : (l : Loads) (words : List (List ℕ)) (kinds : List FileKind) (closes : List (List ℕ) → Ending → Type 0) (stop : Stop) → StopsInCase l words stop → InOrder l words 1 (model ∷ log ∷ kinds) [] closes (Err stop)
-stops_in_case l words kinds closes stop h = elim h [
-  | inl at ↦ stops_here l words 1 model (log ∷ kinds) [] closes stop at
-  | inr b ↦ goes_on l words 1 model (log ∷ kinds) [] closes b.0 (Err stop) b.1 (stops_here l words 2 log kinds (b.0 ∷ []) closes stop b.2)
-]
-
--- a session goes on where it has read both
-pub with_plan : (l : Loads) (words : List (List ℕ)) (closes : List (List ℕ) → Ending → Type 0) (net : Net) (rows : List Row) (e : Ending) (plan : IsPlan l.held words net rows) → closes (plan.text ∷ plan.lines ∷ []) e
-    → InOrder l words 1 (model ∷ script ∷ []) [] closes e
-with_plan l words closes net rows e plan rest =
-    goes_on l words 1 model (script ∷ []) [] closes plan.text e plan.model_read (goes_on l words 2 script [] (plan.text ∷ []) closes plan.lines e plan.script_read rest)
-
--- it may stop at these two
-pub stops_in_plan : (l : Loads) (words : List (List ℕ)) (closes : List (List ℕ) → Ending → Type 0) (stop : Stop) → StopsInPlan l words stop → InOrder l words 1 (model ∷ script ∷ []) [] closes (Err stop)
-stops_in_plan l words closes stop h = elim h [
-  | inl at ↦ stops_here l words 1 model (script ∷ []) [] closes stop at
-  | inr b ↦ goes_on l words 1 model (script ∷ []) [] closes b.0 (Err stop) b.1 (stops_here l words 2 script [] (b.0 ∷ []) closes stop b.2)
-]
+  -- it may stop at these two
+  pub stops_in_two : (stop : Stop) → StopsAtFirstTwo kind l words stop → InOrder l words 1 (model ∷ kind ∷ kinds) [] closes (Err stop)
+  stops_in_two stop h = elim h [
+    | inl at ↦ stops_here l words 1 model (kind ∷ kinds) [] closes stop at
+    | inr b ↦ goes_on l words 1 model (kind ∷ kinds) [] closes b.0 (Err stop) b.1 (stops_here l words 2 kind kinds (b.0 ∷ []) closes stop b.2)
+  ]
 
 -- the same where it loads them later
 pub goes_on_with : (held now : List ℕ → Option (List ℕ)) (start before after : List ℕ → ℕ) (same : now ≡ held) (later : (n : List ℕ) → start n ≤ before n) (words : List (List ℕ)) (closes : List (List ℕ) → Ending → Type 0)
     (kinds : List FileKind) (net : Net) (alarms : AlarmLog) (case : IsCase held words net alarms) (r : Result (Kind × List ℕ) Stop)
-    → UnlessMemory r (InOrder (record { held = now; before = before; after = after }) words 3 kinds (case.text ∷ case.rows ∷ []) closes (once r))
+    → UnlessMemory r (InOrder (record { held = now; before = before; after = after }) words 3 kinds (case.text ∷ case.second ∷ []) closes (once r))
     → UnlessMemory r (InOrder (record { held = held; before = start; after = after }) words 1 (model ∷ log ∷ kinds) [] closes (once r))
 goes_on_with held now start before after same later words closes kinds net alarms case r rest never =
-    with_case (record { held = held; before = start; after = after }) words kinds closes net alarms (once r) case
-    (in_order_earlier held now start before after same later words closes 3 kinds (case.text ∷ case.rows ∷ []) (once r) (rest never))
+    with_two (record { held = held; before = start; after = after }) words log kinds closes net (λ rows. alarms ≡ log_of rows) (once r) case
+    (in_order_earlier held now start before after same later words closes 3 kinds (case.text ∷ case.second ∷ []) (once r) (rest never))
 
 -- a refusal that is handed on
 pub handed_after : (r : Result (Kind × List ℕ) Stop) (stop : Stop) (P : Ending → Type 0) → IsErrAnd r (λ e. e ≡ stop) → (stop ≢ Memory → P (Err stop)) → UnlessMemory r (P (once r))
@@ -170,6 +142,14 @@ memory_free (Err e) P is m = absurd (m (same is))
   where
     same : e ≡ Memory → ◌≡◌ {A = Result (Kind × List ℕ) Stop} (Err e) (Err Memory)
     same is = cc
+
+-- that they call no command is due for words that call none
+pub usage_due : (l : Loads) (words : List (List ℕ)) (book : List BookEntry) → command_of words ≡ None → Due l words book (Err Usage)
+usage_due l words book is = subst (λ (o : Option Command). MatchOption o (◌≡◌ {A = Ending} (Err Usage) (Err Usage)) (λ c. Answers l words c book (Err Usage))) (sym is) refl
+
+-- what one command answers an equal one does
+pub due_alike : (l : Loads) (words : List (List ℕ)) (c d : Command) (book : List BookEntry) (r : Result (Kind × List ℕ) Stop) → c ≡ d → UnlessMemory r (Answers l words c book (once r)) → UnlessMemory r (Answers l words d book (once r))
+due_alike l words c d book r same h = subst (λ (e : Command). UnlessMemory r (Answers l words e book (once r))) same h
 
 -- what a command answers is due for the words that call it
 pub due_of : (l : Loads) (words : List (List ℕ)) (c : Command) (book : List BookEntry) (r : Result (Kind × List ℕ) Stop) → command_of words ≡ Some c → UnlessMemory r (Answers l words c book (once r)) → UnlessMemory r (Due l words book (once r))

@@ -17,7 +17,7 @@ use Rattle.des_net.specs.Network.{Net}
 use Rattle.log_order.specs.Log.{Log as AlarmLog}
 use Rattle.proof_ledger.specs.Book.{BookEntry}
 use Rattle.diagnose_cli.specs.declared.ending.Kind.{Kind}
-use Rattle.diagnose_cli.specs.Commands.{TellsRefutation, reply_of_proof}
+use Rattle.diagnose_cli.specs.Replies.{TellsRefutation, reply_of_proof}
 use Rattle.diagnose_cli.specs.Formula.{question_formula}
 use Rattle.diagnose_cli.specs.Proof.{IsCheckedText, IsRefuted, bound_word, proof_head}
 

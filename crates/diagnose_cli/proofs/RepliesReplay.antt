@@ -17,7 +17,7 @@ use Rattle.replay.specs.Traced.{word_of}
 use Rattle.replay.specs.declared.run.RunStep.{RunStep}
 use Rattle.report.specs.Replies.{text_of_found}
 use Rattle.run_decode.specs.QuestionAxioms.{BuiltQuestion}
-use Rattle.diagnose_cli.specs.Commands.{Replays, RunReplays}
+use Rattle.diagnose_cli.specs.Replies.{Replays, RunReplays}
 use Rattle.report.specs.ReadBack.{IsPrintable, IsRunText}
 use Rattle.diagnose_cli.proofs.MatchedNames.{printable}
 use Rattle.report.proofs.PrintedLengths.{replies_fit}

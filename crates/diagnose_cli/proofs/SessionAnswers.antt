@@ -15,7 +15,10 @@ use Rattle.diagnose_cli.specs.declared.session_rows.Broken.TheVariants.{Memory, 
 use Rattle.diagnose_cli.specs.declared.ending.Kind.{Kind}
 use Rattle.diagnose_cli.specs.declared.stop.Stop.{Stop}
 use Rattle.diagnose_cli.specs.declared.stop.Stop.TheVariants.{Large, Usage, Memory as NoMemory}
-use Rattle.diagnose_cli.specs.Commands.{Answers, Closes, Due, HasNotBegun, IsPlan, IsSession, MayCome, StopsInPlan, above_limit, command_of, is_session}
+use Rattle.diagnose_cli.specs.Texts.{IsPlan, StopsAtFirstTwo, script}
+use Rattle.diagnose_cli.specs.Commands.{command_of, is_session}
+use Rattle.diagnose_cli.specs.SessionReplies.{IsSession}
+use Rattle.diagnose_cli.specs.Due.{Answers, Closes, Due, HasNotBegun, MayCome, above_limit}
 use Rattle.diagnose_cli.specs.Files.{Loads}
 use Rattle.diagnose_cli.specs.Puts.{Finishes, IsCutOff, Speaks}
 use Rattle.diagnose_cli.specs.Run.{SaysStop}
@@ -23,7 +26,7 @@ use Rattle.diagnose_cli.specs.Sessions.{MaySay, status_of_session}
 use Rattle.diagnose_cli.specs.Transcripts.{Ending, OrMemory, UnlessMemory, once}
 use Rattle.diagnose_cli.proofs.Limits.{within_limit, past_limit}
 use Rattle.diagnose_cli.proofs.Once.{nothing_taken, wants_memory}
-use Rattle.diagnose_cli.proofs.Orders.{stops_in_plan, with_plan}
+use Rattle.diagnose_cli.proofs.Orders.{stops_in_two, with_two}
 
 -- ---- by its status
 
@@ -113,13 +116,13 @@ not_begun words book none = by (command_of words)
 
 module _ (l : Loads) (words : List (List ℕ)) (steps budget : ℕ) (book : List BookEntry) (called : command_of words ≡ Some (Session steps budget)) where
   pub plan_speaks : (net : Net) (rows : List Row) (before now : Option (List ℕ)) (rose : Type 0) (status : ℕ) (plan : IsPlan l.held words net rows)
-      → Speaks (OrMemory (Closes (Session steps budget) book (plan.text ∷ plan.lines ∷ [])) (book ≡ [])) before now rose status → Speaks (MayCome l words book) before now rose status
+      → Speaks (OrMemory (Closes (Session steps budget) book (plan.text ∷ plan.second ∷ [])) (book ≡ [])) before now rose status → Speaks (MayCome l words book) before now rose status
   plan_speaks net rows before now rose status plan speaks =
-      let closes = Closes (Session steps budget) book (plan.text ∷ plan.lines ∷ []) in
+      let closes = Closes (Session steps budget) book (plan.text ∷ plan.second ∷ []) in
       speaks_weaker (OrMemory closes (book ≡ [])) (MayCome l words book)
-      (or_weaker closes (Due l words book) (book ≡ []) (HasNotBegun words book) (λ e h. due_for l words (Session steps budget) book e called (with_plan l words (Closes (Session steps budget) book) net rows e plan h)) (not_begun words book))
+      (or_weaker closes (Due l words book) (book ≡ []) (HasNotBegun words book) (λ e h. due_for l words (Session steps budget) book e called (with_two l words script [] (Closes (Session steps budget) book) net (λ lines. rows ≡ script_of lines) e plan h)) (not_begun words book))
       before now rose status speaks
 
-  pub plan_stops : (stop : Stop) → (stop ≢ NoMemory → StopsInPlan l words stop) → UnlessMemory {T = Kind × List ℕ} (Err stop) (Due l words book (once (Err stop)))
+  pub plan_stops : (stop : Stop) → (stop ≢ NoMemory → StopsAtFirstTwo script l words stop) → UnlessMemory {T = Kind × List ℕ} (Err stop) (Due l words book (once (Err stop)))
   plan_stops stop h never =
-      due_for l words (Session steps budget) book (Err stop) called (stops_in_plan l words (Closes (Session steps budget) book) stop (h (λ is. never (ap (λ s. Err s) is))))
+      due_for l words (Session steps budget) book (Err stop) called (stops_in_two l words script [] (Closes (Session steps budget) book) stop (h (λ is. never (ap (λ s. Err s) is))))

@@ -8,7 +8,7 @@ use Rattle.log_csv.specs.declared.row.Row.{Row}
 use Rattle.proof_ledger.specs.Book.{BookEntry}
 use Rattle.diagnose_cli.specs.declared.session_rows.Broken.{Broken}
 use Rattle.diagnose_cli.specs.declared.session_rows.Broken.TheVariants.{Memory, Put}
-use Rattle.diagnose_cli.specs.Commands.{ComesTo, HasReplies, IsBroken, IsCut, IsSession, IsUntold}
+use Rattle.diagnose_cli.specs.SessionReplies.{ComesTo, HasReplies, IsBroken, IsCut, IsSession, IsUntold}
 use Rattle.diagnose_cli.specs.Puts.{Speaks}
 use Rattle.diagnose_cli.specs.Sessions.{IsCarriedOut, MaySay, RowGoes, status_of_session}
 use Rattle.diagnose_cli.specs.Transcripts.{End, finished, cut, broken, replies}

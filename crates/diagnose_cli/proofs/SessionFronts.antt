@@ -17,7 +17,7 @@ use Rattle.log_order.specs.Adding.{IsLog}
 use Rattle.log_order.specs.Log.{Log}
 use Rattle.diagnose_cli.specs.declared.session_rows.Broken.{Broken}
 use Rattle.diagnose_cli.specs.declared.session_rows.Broken.TheVariants.{Memory, Put}
-use Rattle.diagnose_cli.specs.Commands.{HasReplies, IsRowReplied, RunsReplay, TellsReplaying, replies_to}
+use Rattle.diagnose_cli.specs.SessionReplies.{HasReplies, IsRowReplied, RunsReplay, TellsReplaying, replies_to}
 use Rattle.diagnose_cli.specs.Sessions.{IsCarriedOut, IsRowPut, PutsReplies, RowGoes, TellsKnown}
 use Rattle.diagnose_cli.specs.Transcripts.{TookCut}
 use Rattle.diagnose_cli.proofs.KnownRuns.{known}

@@ -7,7 +7,7 @@ use Rattle.log_csv.specs.ScriptText.{script_of}
 use Rattle.log_csv.specs.declared.row.Row.{Row}
 use Rattle.model_text.specs.ModelFaults.{network_of}
 use Rattle.diagnose_cli.specs.declared.command.Command.TheVariants.{Session}
-use Rattle.diagnose_cli.specs.Commands.{IsSession}
+use Rattle.diagnose_cli.specs.SessionReplies.{IsSession}
 use Rattle.diagnose_cli.specs.Endings.{HasStatus, texts_of}
 use Rattle.diagnose_cli.specs.Outcomes.{Outcome, IsPut, IsUnbroken}
 use Rattle.diagnose_cli.specs.Rows.{Reads, TellsSession}

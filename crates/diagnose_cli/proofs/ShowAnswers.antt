@@ -9,7 +9,9 @@ use Rattle.diagnose_cli.specs.declared.command.Command.TheVariants.{Show}
 use Rattle.diagnose_cli.specs.declared.ending.Kind.{Kind}
 use Rattle.diagnose_cli.specs.Transcripts.{once, whole}
 use Rattle.diagnose_cli.specs.Files.{Loads, IsReadAs}
-use Rattle.diagnose_cli.specs.Commands.{Answers, Closes, fault_of_model, limit_of, model, reply_of_model}
+use Rattle.diagnose_cli.specs.Texts.{fault_of_model, limit_of, model}
+use Rattle.diagnose_cli.specs.Replies.{reply_of_model}
+use Rattle.diagnose_cli.specs.Due.{Answers, Closes}
 use Rattle.diagnose_cli.proofs.Orders.{goes_on}
 use Rattle.diagnose_cli.proofs.Reading.{none_before}
 

@@ -13,7 +13,9 @@ use Rattle.diagnose_cli.specs.declared.ending.Kind.{Kind}
 use Rattle.diagnose_cli.specs.declared.stop.Stop.{Stop}
 use Rattle.diagnose_cli.specs.Transcripts.{once, whole}
 use Rattle.diagnose_cli.specs.Files.{Loads, IsText, IsReadAs, StopsIn}
-use Rattle.diagnose_cli.specs.Commands.{run, limit_of, fault_of_run, Closes, AnswersAfter, reply_of_traced}
+use Rattle.diagnose_cli.specs.Texts.{run, limit_of, fault_of_run}
+use Rattle.diagnose_cli.specs.Replies.{reply_of_traced}
+use Rattle.diagnose_cli.specs.Due.{Closes, AnswersAfter}
 use Rattle.diagnose_cli.proofs.Orders.{stops_here, goes_on}
 
 module _ (l : Loads) (words : List (List ℕ)) (book : List BookEntry) (model : List ℕ) (net : Net) (network : net ≡ network_of model) where

@@ -10,7 +10,9 @@ use Rattle.diagnose_cli.specs.declared.stop.FaultyText.TheVariants.{Model, Log, 
 use Rattle.diagnose_cli.specs.Transcripts.{End, finished, cut, broken, Ending, Transcript, replies, whole, UnlessMemory}
 use Rattle.diagnose_cli.specs.Files.{Loads}
 use Rattle.diagnose_cli.specs.Endings.{HasStatus, status_of_end, status_of_kind, status_of_faulty}
-use Rattle.diagnose_cli.specs.Commands.{FileKind, SaysInAll, fault_of_text, files_of, too_large, Closes, InOrder, Answers, Due, command_of}
+use Rattle.diagnose_cli.specs.Texts.{FileKind, fault_of_text}
+use Rattle.diagnose_cli.specs.Commands.{files_of, command_of}
+use Rattle.diagnose_cli.specs.Due.{SaysInAll, too_large, Closes, InOrder, Answers, Due}
 use Rattle.diagnose_cli.specs.Outcomes.{Outcome}
 use Rattle.diagnose_cli.specs.Run.{Ends}
 

@@ -5,7 +5,11 @@ pub mod Files
 pub mod Diagnosed
 pub mod Formula
 pub mod Proof
+pub mod Texts
 pub mod Commands
+pub mod Replies
+pub mod SessionReplies
+pub mod Due
 pub mod Outcomes
 pub mod Exact
 pub mod Puts

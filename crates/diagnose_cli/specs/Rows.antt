@@ -22,7 +22,11 @@ use Rattle.replay.specs.QuestionSize.{variable_bound}
 use Rattle.report.specs.Replies.{text_of_found}
 use Rattle.diagnose_cli.specs.declared.command.Command.{Command}
 use Rattle.diagnose_cli.specs.declared.command.Command.TheVariants.{Trace, Show, Replay, Check, Diagnose, PrintCnf, PrintProof, GenerateModel, GenerateLog, Bench, Session}
-use Rattle.diagnose_cli.specs.Commands.{FileKind, HasReplies, limit_of, fault_of_text, files_of, too_large, command_of, Says}
+use Rattle.diagnose_cli.specs.Texts.{FileKind, limit_of, fault_of_text}
+use Rattle.diagnose_cli.specs.Commands.{files_of, command_of}
+use Rattle.diagnose_cli.specs.Replies.{Says}
+use Rattle.diagnose_cli.specs.SessionReplies.{HasReplies}
+use Rattle.diagnose_cli.specs.Due.{too_large}
 use Rattle.diagnose_cli.specs.Outcomes.{Outcome, IsPut, IsUnbroken, Tells}
 
 -- ---- the files of a command

@@ -5,7 +5,8 @@ use Rattle.des_base.specs.CommandWords.{word_at}
 use Rattle.report.specs.Replies.{numbered}
 use Rattle.diagnose_cli.specs.declared.command.Command.{Command}
 use Rattle.diagnose_cli.specs.declared.command.Command.TheVariants.{Diagnose, PrintCnf, PrintProof, Bench, Session}
-use Rattle.diagnose_cli.specs.Commands.{MayCome, command_of, file_count, files_of}
+use Rattle.diagnose_cli.specs.Commands.{command_of, file_count, files_of}
+use Rattle.diagnose_cli.specs.Due.{MayCome}
 use Rattle.diagnose_cli.specs.Outcomes.{Outcome, IsUnbroken}
 use Rattle.diagnose_cli.specs.Exact.{StopRow}
 use Rattle.diagnose_cli.specs.Puts.{Finishes, IsCutOff}

@@ -12,7 +12,7 @@ use Rattle.proof_ledger.specs.Book.{BookEntry}
 use Rattle.report.specs.Replies.{EventsKnown}
 use Rattle.diagnose_cli.specs.declared.session_rows.Broken.{Broken}
 use Rattle.diagnose_cli.specs.declared.session_rows.Broken.TheVariants.{Memory, Put}
-use Rattle.diagnose_cli.specs.Commands.{IsSession, IsUntold, TellsReplaying, replies_to}
+use Rattle.diagnose_cli.specs.SessionReplies.{IsSession, IsUntold, TellsReplaying, replies_to}
 use Rattle.diagnose_cli.specs.Transcripts.{Ending, OrMemory}
 
 -- ---- one row

@@ -6,7 +6,8 @@ ghost use Rattle.report.specs.Replies.{numbered};
 ghost use Rattle.des_base.specs.declared.TheConstants.{MOST_STEPS};
 ghost use Rattle.diagnose_cli.specs.Files.{Loads};
 ghost use Rattle.diagnose_cli.specs.Transcripts.{UnlessMemory, once};
-ghost use Rattle.diagnose_cli.specs.Commands.{Answers, Closes, first_line};
+ghost use Rattle.diagnose_cli.specs.Replies.{first_line};
+ghost use Rattle.diagnose_cli.specs.Due.{Answers, Closes};
 
 use crate::command::Command;
 use crate::diagnose_command::reply_to;

@@ -5,7 +5,8 @@ ghost use Rattle.proof_ledger.specs.Checking.{check_proof};
 ghost use Rattle.proof_text.specs.CnfText.{formula, formula_of};
 ghost use Rattle.diagnose_cli.specs.Files.{loads};
 ghost use Rattle.diagnose_cli.specs.Transcripts.{UnlessMemory, once};
-ghost use Rattle.diagnose_cli.specs.Commands.{Answers, AnswersAfter, kind_of_checked, reply_of_checked};
+ghost use Rattle.diagnose_cli.specs.Replies.{kind_of_checked, reply_of_checked};
+ghost use Rattle.diagnose_cli.specs.Due.{Answers, AnswersAfter};
 
 use crate::command::Command;
 use crate::ending::{Kind, Reply};

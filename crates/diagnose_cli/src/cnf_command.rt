@@ -1,7 +1,8 @@
 // The command `cnf`: a question as a formula.
 ghost use Rattle.std.specs.Prelude.{◌≡◌, ◌≢◌, ◌<◌, ◌≤◌, ℕ, List, [], ◌∷◌, All, length, IfErr, IfOk};
 ghost use Rattle.des_base.specs.declared.TheConstants.{MOST_STEPS};
-ghost use Rattle.diagnose_cli.specs.Commands.{Answers, Closes, SaysFormula, reply_of_formula};
+ghost use Rattle.diagnose_cli.specs.Replies.{SaysFormula, reply_of_formula};
+ghost use Rattle.diagnose_cli.specs.Due.{Answers, Closes};
 ghost use Rattle.diagnose_cli.specs.Files.{loads};
 ghost use Rattle.diagnose_cli.specs.Transcripts.{UnlessMemory, once};
 ghost use Rattle.least_faults.specs.Parts.{IsWithinLimits};

@@ -8,10 +8,10 @@ ghost use Rattle.proof_text.specs.CnfText.{formula, formula_of};
 ghost use Rattle.proof_text.specs.LratText.{proof_of};
 ghost use Rattle.replay.specs.RunText.{run_of};
 ghost use Rattle.replay.specs.Traced.{word_of};
-ghost use Rattle.diagnose_cli.specs.Commands.{IsCase, IsPlan, StopsInCase, StopsInPlan, fault_of_model, fault_of_log, fault_of_script, fault_of_run, fault_of_cnf, fault_of_lrat};
+ghost use Rattle.diagnose_cli.specs.Texts.{log, script, IsCase, IsPlan, StopsAtFirstTwo, fault_of_model, fault_of_log, fault_of_script, fault_of_run, fault_of_cnf, fault_of_lrat};
 ghost use Rattle.diagnose_cli.specs.Files.{loads, Fetches, IsReadAs, StopsIn};
 
-use crate::question::Case;
+use crate::question::{Case, Limits};
 use crate::session_rows::Plan;
 use crate::stop::{Stop, stop_of_cnf, stop_of_lrat};
 use des_base::{LoadFault, Shelf, WordList};
@@ -111,7 +111,7 @@ pub fn fetch_script<F: Shelf>(
 pub fn fetch_case<F: Shelf>(alloc: Global, words: &WordList, shelf: &mut F) -> Result<Case, Stop>
     requires { 2 < length words.now }
     ensures read { IfOk result (λ case. IsCase (F.held shelf.old) words.now case.net case.log) }
-    ensures stop { IfErr result (λ stop. stop ≢ Stop.Memory → StopsInCase (loads F.held F.faults shelf.old shelf.new) words.now stop) }
+    ensures stop { IfErr result (λ stop. stop ≢ Stop.Memory → StopsAtFirstTwo log (loads F.held F.faults shelf.old shelf.new) words.now stop) }
     ensures kept { F.held shelf.new ≡ F.held shelf.old }
     ensures never_falls { (n : List ℕ) → F.faults shelf.old n ≤ F.faults shelf.new n }
 {
@@ -120,15 +120,25 @@ pub fn fetch_case<F: Shelf>(alloc: Global, words: &WordList, shelf: &mut F) -> R
     Ok(Case { net, log })
 }
 
-/// The model and the script, which are the two files of a session.
-pub fn fetch_plan<F: Shelf>(alloc: Global, words: &WordList, shelf: &mut F) -> Result<Plan, Stop>
+/// The model and the script, which are the two files of a session, beside what is asked of its questions.
+pub fn fetch_plan<F: Shelf>(
+    alloc: Global,
+    words: &WordList,
+    shelf: &mut F,
+    limits: Limits,
+) -> Result<Plan, Stop>
     requires { 2 < length words.now }
     ensures read { IfOk result (λ plan. IsPlan (F.held shelf.old) words.now plan.net plan.script) }
-    ensures stop { IfErr result (λ stop. stop ≢ Stop.Memory → StopsInPlan (loads F.held F.faults shelf.old shelf.new) words.now stop) }
+    ensures limits { IfOk result (λ plan. plan.limits ≡ limits) }
+    ensures stop { IfErr result (λ stop. stop ≢ Stop.Memory → StopsAtFirstTwo script (loads F.held F.faults shelf.old shelf.new) words.now stop) }
 {
     let net = fetch_model(alloc, words, shelf, 1)?;
     let script = fetch_script(alloc, words, shelf, 2)?;
-    Ok(Plan { net, script })
+    Ok(Plan {
+        net,
+        script,
+        limits,
+    })
 }
 
 /// The formula in this place among the command's files.

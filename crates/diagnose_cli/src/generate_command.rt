@@ -4,7 +4,8 @@ ghost use Rattle.gen_plant.specs.Plant.{most_units, plant_net, plant_log};
 ghost use Rattle.proof_ledger.specs.Book.{BookEntry};
 ghost use Rattle.diagnose_cli.specs.Files.{Loads};
 ghost use Rattle.diagnose_cli.specs.Transcripts.{UnlessMemory, once};
-ghost use Rattle.diagnose_cli.specs.Commands.{Answers, reply_of_log};
+ghost use Rattle.diagnose_cli.specs.Replies.{reply_of_log};
+ghost use Rattle.diagnose_cli.specs.Due.{Answers};
 
 use crate::command::Command;
 use crate::ending::{Kind, Reply};

@@ -1,7 +1,8 @@
 // The command `proof`: the refutation that `diagnose` finds.
 ghost use Rattle.std.specs.Prelude.{◌≡◌, ◌≢◌, ◌<◌, ◌≤◌, ℕ, List, [], ◌∷◌, ◌++◌, All, Some, suc, codes, length, map, IfErr, IfOk, OnOk};
 ghost use Rattle.des_base.specs.declared.TheConstants.{MOST_STEPS};
-ghost use Rattle.diagnose_cli.specs.Commands.{Answers, Closes, SaysProved, TellsBelow, TellsProof, TellsRefutation, reply_of_proof};
+ghost use Rattle.diagnose_cli.specs.Replies.{SaysProved, TellsBelow, TellsProof, TellsRefutation, reply_of_proof};
+ghost use Rattle.diagnose_cli.specs.Due.{Answers, Closes};
 ghost use Rattle.diagnose_cli.specs.Files.{loads};
 ghost use Rattle.diagnose_cli.specs.Proof.{HasEvidence, HasEvidenceFor, proof_head};
 ghost use Rattle.diagnose_cli.specs.Transcripts.{UnlessMemory, once};

@@ -6,7 +6,7 @@ ghost use Rattle.least_faults.specs.Parts.{AreReady, BelongTo, IsBuilt, IsWithin
 ghost use Rattle.proof_ledger.specs.Book.{IsValidBook, axiomatic};
 ghost use Rattle.run_decode.specs.QuestionAxioms.{question_axioms};
 ghost use Rattle.des_base.specs.declared.TheConstants.{MOST_STEPS};
-ghost use Rattle.diagnose_cli.specs.Commands.{AnswersQuestion};
+ghost use Rattle.diagnose_cli.specs.Replies.{AnswersQuestion};
 
 use des_base::{EventId, Memory};
 use des_net::Network;

@@ -9,7 +9,8 @@ ghost use Rattle.replay.specs.declared.replaying.Replayed.{Replayed};
 ghost use Rattle.proof_ledger.specs.Book.{BookEntry};
 ghost use Rattle.diagnose_cli.specs.Files.{loads};
 ghost use Rattle.diagnose_cli.specs.Transcripts.{UnlessMemory, once};
-ghost use Rattle.diagnose_cli.specs.Commands.{Answers, AnswersAfter, kind_of_replayed, reply_of_replayed};
+ghost use Rattle.diagnose_cli.specs.Replies.{kind_of_replayed, reply_of_replayed};
+ghost use Rattle.diagnose_cli.specs.Due.{Answers, AnswersAfter};
 
 use crate::command::Command;
 use crate::ending::{Kind, Reply};

@@ -1,12 +1,12 @@
 // All that the program does, but for where its words, files and output come from.
-ghost use Rattle.std.specs.Prelude.{◌≡◌, ◌≢◌, ◌<◌, ◌≤◌, [], false, length, IfErr, IfNone, IfSome, Some};
+ghost use Rattle.std.specs.Prelude.{◌≡◌, ◌≢◌, ◌<◌, [], false, length, IfErr};
 ghost use Rattle.des_base.specs.Outside.{Rose};
-ghost use Rattle.des_base.specs.declared.TheConstants.{MOST_STEPS};
-ghost use Rattle.diagnose_cli.specs.Commands.{Due, command_of, is_session};
+ghost use Rattle.diagnose_cli.specs.Commands.{IsWithinBounds, file_count, files_of, is_session};
+ghost use Rattle.diagnose_cli.specs.Due.{Answers};
 ghost use Rattle.diagnose_cli.specs.Files.{loads};
 ghost use Rattle.diagnose_cli.specs.Outcomes.{outcome};
 ghost use Rattle.diagnose_cli.specs.Rows.{TraceRow, ShowRow, ReplayRow, CheckRows, DiagnoseRows, PrintedRows, GenerateRows, BenchRow, SessionRow};
-ghost use Rattle.diagnose_cli.specs.Run.{AsksNone, Does, LeavesAlone, LoadsNone, Ran};
+ghost use Rattle.diagnose_cli.specs.Run.{Does, LeavesAlone, Ran, is_question};
 ghost use Rattle.diagnose_cli.specs.Transcripts.{UnlessMemory, once};
 
 use crate::bench_command::bench_command;
@@ -69,25 +69,15 @@ fn respond<F: Shelf, S: Sink>(
     ensures does { Does (outcome (loads F.held F.faults shelf.old shelf.new) words.now (S.taken out.old) (S.taken out.new) book.new.entries result) (Rose (S.faults out.old) (S.faults out.new)) }
     ensures left_alone { LeavesAlone words.now result shelf.old shelf.new book.old book.new }
 {
-    match session_limits(words) {
-        Some(limits) => session_command(alloc, words, shelf, limits, out, book),
-        None => {
-            let ending = answer(alloc, words, shelf, book);
+    match command_of(words) {
+        None => put_once(alloc, Err(Stop::Usage), out),
+        Some(Command::Session { steps, budget }) => {
+            session_command(alloc, words, shelf, Limits { steps, budget }, out, book)
+        }
+        Some(command) => {
+            let ending = answer(alloc, words, shelf, command, book);
             put_once(alloc, ending, out)
         }
-    }
-}
-
-// What is asked of a session, where the words call one.
-fn session_limits(words: &WordList) -> Option<Limits>
-    ensures called { IfSome result (λ limits. command_of words.now ≡ Some (Command.Session limits.steps limits.budget)) }
-    ensures words { IfSome result (λ limits. 2 < length words.now) }
-    ensures steps { IfSome result (λ limits. limits.steps ≤ MOST_STEPS) }
-    ensures once { IfNone result (IfSome (command_of words.now) (λ c. is_session c ≡ false)) }
-{
-    match command_of(words) {
-        Some(Command::Session { steps, budget }) => Some(Limits { steps, budget }),
-        _ => None,
     }
 }
 
@@ -96,42 +86,40 @@ fn answer<F: Shelf>(
     alloc: Global,
     words: &WordList,
     shelf: &mut F,
+    command: Command,
     book: &mut Ledger,
 ) -> Result<Reply, Stop>
     requires empty { book.old.entries ≡ [] }
-    requires once { IfSome (command_of words.now) (λ c. is_session c ≡ false) }
-    ensures due { UnlessMemory result (Due (loads F.held F.faults shelf.old shelf.new) words.now book.new.entries (once result)) }
-    ensures no_load { LoadsNone words.now → shelf.new ≡ shelf.old }
-    ensures no_question { AsksNone words.now → book.new ≡ book.old }
+    requires once { is_session command ≡ false }
+    requires words { file_count command < length words.now }
+    requires bounds { IsWithinBounds command }
+    ensures due { UnlessMemory result (Answers (loads F.held F.faults shelf.old shelf.new) words.now command book.new.entries (once result)) }
+    ensures no_load { files_of command ≡ [] → shelf.new ≡ shelf.old }
+    ensures no_question { is_question command ≡ false → book.new ≡ book.old }
     ensures stopped { IfErr result (λ stop. stop ≢ Stop.Memory → book.new ≡ book.old) }
 {
-    match command_of(words) {
-        None => Err(Stop::Usage),
-        Some(Command::Trace) => trace_command(alloc, words, shelf),
-        Some(Command::Show) => show_command(alloc, words, shelf),
-        Some(Command::Replay(steps)) => replay_command(alloc, words, shelf, steps),
-        Some(Command::Check) => check_command(alloc, words, shelf),
-        Some(Command::Diagnose { steps, budget }) => {
+    match command {
+        Command::Trace => trace_command(alloc, words, shelf),
+        Command::Show => show_command(alloc, words, shelf),
+        Command::Replay(steps) => replay_command(alloc, words, shelf, steps),
+        Command::Check => check_command(alloc, words, shelf),
+        Command::Diagnose { steps, budget } => {
             diagnose_command(alloc, words, shelf, Limits { steps, budget }, book)
         }
-        Some(Command::PrintCnf { steps, bound }) => {
+        Command::PrintCnf { steps, bound } => {
             cnf_command(alloc, words, shelf, Within { steps, bound }, book)
         }
-        Some(Command::PrintProof { steps, budget }) => {
+        Command::PrintProof { steps, budget } => {
             proof_command(alloc, words, shelf, Limits { steps, budget }, book)
         }
-        Some(Command::GenerateModel { units, start }) => {
-            generate_model_command(alloc, units, start)
-        }
-        Some(Command::GenerateLog { units, start }) => generate_log_command(alloc, units, start),
-        Some(
-            Command::Bench {
-                units,
-                start,
-                steps,
-                budget,
-            },
-        ) => bench_command(alloc, units, start, Limits { steps, budget }, book),
-        Some(Command::Session { .. }) => unreachable!(),
+        Command::GenerateModel { units, start } => generate_model_command(alloc, units, start),
+        Command::GenerateLog { units, start } => generate_log_command(alloc, units, start),
+        Command::Bench {
+            units,
+            start,
+            steps,
+            budget,
+        } => bench_command(alloc, units, start, Limits { steps, budget }, book),
+        Command::Session { .. } => unreachable!(),
     }
 }

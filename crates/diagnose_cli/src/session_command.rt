@@ -2,7 +2,8 @@
 ghost use Rattle.std.specs.Prelude.{◌≡◌, ◌<◌, ◌≤◌, ℕ, List, [], ◌∷◌, length, Some};
 ghost use Rattle.des_base.specs.Outside.{Rose};
 ghost use Rattle.des_base.specs.declared.TheConstants.{MOST_STEPS};
-ghost use Rattle.diagnose_cli.specs.Commands.{Closes, MayCome, command_of};
+ghost use Rattle.diagnose_cli.specs.Commands.{command_of};
+ghost use Rattle.diagnose_cli.specs.Due.{Closes, MayCome};
 ghost use Rattle.diagnose_cli.specs.Files.{loads};
 ghost use Rattle.diagnose_cli.specs.Puts.{Speaks};
 ghost use Rattle.diagnose_cli.specs.Run.{SaysStop};
@@ -46,30 +47,24 @@ pub fn session_command<F: Shelf, S: Sink>(
     ensures speaks { Speaks (MayCome (loads F.held F.faults shelf.old shelf.new) words.now book.new.entries) (S.taken out.old) (S.taken out.new) (Rose (S.faults out.old) (S.faults out.new)) result }
     ensures stopped { SaysStop result → book.new ≡ book.old }
 {
-    match fetch_plan(alloc, words, shelf) {
-        Ok(plan) => carry_out(alloc, &plan, limits, out, book),
+    match fetch_plan(alloc, words, shelf, limits) {
+        Ok(plan) => carry_out(alloc, &plan, out, book),
         Err(stop) => put_once(alloc, Err(stop), out),
     }
 }
 
 // The same where model and script are read.
-fn carry_out<S: Sink>(
-    alloc: Global,
-    plan: &Plan,
-    limits: Limits,
-    out: &mut S,
-    book: &mut Ledger,
-) -> u8
-    requires steps { limits.steps ≤ MOST_STEPS }
+fn carry_out<S: Sink>(alloc: Global, plan: &Plan, out: &mut S, book: &mut Ledger) -> u8
+    requires steps { plan.now.limits.steps ≤ MOST_STEPS }
     requires empty { book.old.entries ≡ [] }
-    ensures speaks { (text lines : List ℕ) → plan.now.net ≡ network_of text → plan.now.script ≡ script_of lines → Speaks (OrMemory (Closes (Command.Session limits.steps limits.budget) book.new.entries (text ∷ lines ∷ [])) (book.new.entries ≡ [])) (S.taken out.old) (S.taken out.new) (Rose (S.faults out.old) (S.faults out.new)) result }
+    ensures speaks { (text lines : List ℕ) → plan.now.net ≡ network_of text → plan.now.script ≡ script_of lines → Speaks (OrMemory (Closes (Command.Session plan.now.limits.steps plan.now.limits.budget) book.new.entries (text ∷ lines ∷ [])) (book.new.entries ≡ [])) (S.taken out.old) (S.taken out.new) (Rose (S.faults out.old) (S.faults out.new)) result }
     ensures stopped { SaysStop result → book.new ≡ book.old }
 {
-    let size = question_size(&plan.net, &AlarmLog::new(alloc), limits.steps);
+    let size = question_size(&plan.net, &AlarmLog::new(alloc), plan.limits.steps);
     if size > MOST_SIZE {
         return put_once(alloc, Err(Stop::Large(size)), out);
     }
-    status_of(carry_out_rows(alloc, plan, limits, out, book))
+    status_of(carry_out_rows(alloc, plan, out, book))
 }
 
 // The status of a session.
@@ -87,46 +82,43 @@ fn status_of(said: Result<(), Broken>) -> u8
 fn carry_out_rows<S: Sink>(
     alloc: Global,
     plan: &Plan,
-    limits: Limits,
     out: &mut S,
     book: &mut Ledger,
 ) -> Result<(), Broken>
-    requires steps { limits.steps ≤ MOST_STEPS }
+    requires steps { plan.now.limits.steps ≤ MOST_STEPS }
     requires empty { book.old.entries ≡ [] }
-    ensures { Speaks (MaySay plan.now.net limits.steps limits.budget plan.now.script book.new.entries) (S.taken out.old) (S.taken out.new) (Rose (S.faults out.old) (S.faults out.new)) (status_of_session result) }
+    ensures { Speaks (MaySay plan.now.net plan.now.limits.steps plan.now.limits.budget plan.now.script book.new.entries) (S.taken out.old) (S.taken out.new) (Rose (S.faults out.old) (S.faults out.new)) (status_of_session result) }
 {
     let table = Table::new(alloc, &plan.net)?;
     let test = Indep::new(&plan.net, |a: u32, b: u32| {
         table.get(EventId(a), EventId(b))
     });
-    carry_out_by_test(alloc, plan, limits, &test, out, book)
+    carry_out_by_test(alloc, plan, &test, out, book)
 }
 
 // The same with a test that is given. What comes behind the variables of the steps is decided first.
 fn carry_out_by_test<T: Fn(u32, u32) -> bool, S: Sink>(
     alloc: Global,
     plan: &Plan,
-    limits: Limits,
     test: &Indep<T>,
     out: &mut S,
     book: &mut Ledger,
 ) -> Result<(), Broken>
     requires right { IsTest T.pre T.post test.now.test test.now.net }
     requires net { test.now.net ≡ plan.now.net }
-    requires steps { limits.steps ≤ MOST_STEPS }
+    requires steps { plan.now.limits.steps ≤ MOST_STEPS }
     requires empty { book.old.entries ≡ [] }
-    ensures { Speaks (MaySay plan.now.net limits.steps limits.budget plan.now.script book.new.entries) (S.taken out.old) (S.taken out.new) (Rose (S.faults out.old) (S.faults out.new)) (status_of_session result) }
+    ensures { Speaks (MaySay plan.now.net plan.now.limits.steps plan.now.limits.budget plan.now.script book.new.entries) (S.taken out.old) (S.taken out.new) (Rose (S.faults out.old) (S.faults out.new)) (status_of_session result) }
 {
-    let first = step_variables(alloc, &plan.net, limits.steps, test)?;
+    let first = step_variables(alloc, &plan.net, plan.limits.steps, test)?;
     let order = Order::new(alloc, |var: u32| u64::from(var >= first));
-    carry_out_by_order(alloc, plan, limits, test, order, out, book)
+    carry_out_by_order(alloc, plan, test, order, out, book)
 }
 
 // The same with an order that is given too. The book is the session's, and put back.
 fn carry_out_by_order<T: Fn(u32, u32) -> bool, R: Fn(u32) -> u64, S: Sink>(
     alloc: Global,
     plan: &Plan,
-    limits: Limits,
     test: &Indep<T>,
     order: Order<R>,
     out: &mut S,
@@ -136,16 +128,15 @@ fn carry_out_by_order<T: Fn(u32, u32) -> bool, R: Fn(u32) -> u64, S: Sink>(
     requires net { test.now.net ≡ plan.now.net }
     requires ranked { IsRanked R.pre R.post order }
     requires no_variables { order.waiting ≡ [] }
-    requires steps { limits.steps ≤ MOST_STEPS }
+    requires steps { plan.now.limits.steps ≤ MOST_STEPS }
     requires empty { book.old.entries ≡ [] }
-    ensures { Speaks (MaySay plan.now.net limits.steps limits.budget plan.now.script book.new.entries) (S.taken out.old) (S.taken out.new) (Rose (S.faults out.old) (S.faults out.new)) (status_of_session result) }
+    ensures { Speaks (MaySay plan.now.net plan.now.limits.steps plan.now.limits.budget plan.now.script book.new.entries) (S.taken out.old) (S.taken out.new) (Rose (S.faults out.old) (S.faults out.new)) (status_of_session result) }
 {
     let own = mem::replace(book, Ledger::new(alloc));
-    match Session::new(alloc, &plan.net, limits.steps, test, order, own) {
+    match Session::new(alloc, &plan.net, plan.limits.steps, test, order, own) {
         Ok(session) => {
             let mut session = session;
-            let rows = plan.script.rows();
-            let said = tell_rows(alloc, &plan.net, rows, limits, &mut session, out);
+            let said = tell_rows(alloc, plan, &mut session, out);
             *book = session.into_book();
             said
         }

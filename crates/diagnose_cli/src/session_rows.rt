@@ -5,7 +5,7 @@ ghost use Rattle.alarm_session.specs.Session.{BeginsAs, KeepsSetting};
 ghost use Rattle.alarm_session.specs.declared.rows.Told.TheVariants.{Made as NothingTold};
 ghost use Rattle.des_base.specs.Outside.{Rose};
 ghost use Rattle.des_base.specs.declared.TheConstants.{MOST_STEPS};
-ghost use Rattle.diagnose_cli.specs.Commands.{replies_to};
+ghost use Rattle.diagnose_cli.specs.SessionReplies.{replies_to};
 ghost use Rattle.diagnose_cli.specs.Puts.{Speaks};
 ghost use Rattle.diagnose_cli.specs.Sessions.{MaySay, PutsReplies, RowGoes, TellsKnown, status_of_session};
 ghost use Rattle.diagnose_cli.specs.declared.session_rows.Broken.TheVariants.{Memory as NoMemory};
@@ -21,11 +21,12 @@ use log_csv::{Row, Script};
 use report::{print_found, print_refused};
 use std::alloc::Global;
 
-/// A network, and the script that is carried out over it.
+/// A network, the script that is carried out over it, and what is asked of its questions.
 #[derive(Drop)]
 pub struct Plan {
     pub net: Network,
     pub script: Script,
+    pub limits: Limits,
 }
 
 /// Why a session broke off.
@@ -48,21 +49,20 @@ impl From<Memory> for Broken {
 /// Carries out all rows, and puts the reply to each before the next one is taken.
 pub fn tell_rows<R: Fn(u32) -> u64, S: Sink>(
     alloc: Global,
-    net: &Network,
-    rows: &[Row],
-    limits: Limits,
+    plan: &Plan,
     session: &mut Session<'_, R>,
     out: &mut S,
 ) -> Result<(), Broken>
-    requires begins { BeginsAs net.now limits.steps session.old.order.rank session.old }
+    requires begins { BeginsAs plan.now.net plan.now.limits.steps session.old.order.rank session.old }
     requires ranked { IsRanked R.pre R.post session.old.order }
-    requires steps { limits.steps ≤ MOST_STEPS }
-    ensures { Speaks (MaySay net.now limits.steps limits.budget rows.now session.new.stage.book) (S.taken out.old) (S.taken out.new) (Rose (S.faults out.old) (S.faults out.new)) (status_of_session result) }
+    requires steps { plan.now.limits.steps ≤ MOST_STEPS }
+    ensures { Speaks (MaySay plan.now.net plan.now.limits.steps plan.now.limits.budget plan.now.script session.new.stage.book) (S.taken out.old) (S.taken out.new) (Rose (S.faults out.old) (S.faults out.new)) (status_of_session result) }
 {
     // Its reader tells that the book asks about the empty log.
     let _book = session.book();
+    let rows = plan.script.rows();
     for row in rows {
-        tell_row(alloc, net, limits, row, session, out)?;
+        tell_row(alloc, plan, row, session, out)?;
     }
     Ok(())
 }
@@ -70,25 +70,24 @@ pub fn tell_rows<R: Fn(u32) -> u64, S: Sink>(
 // Carries out a row, and puts its reply.
 fn tell_row<R: Fn(u32) -> u64, S: Sink>(
     alloc: Global,
-    net: &Network,
-    limits: Limits,
+    plan: &Plan,
     row: &Row,
     session: &mut Session<'_, R>,
     out: &mut S,
 ) -> Result<(), Broken>
     requires ranked { IsRanked R.pre R.post session.old.order }
-    requires net { session.old.net ≡ net.now }
-    requires time { session.old.steps ≡ limits.steps }
-    requires steps { limits.steps ≤ MOST_STEPS }
+    requires net { session.old.net ≡ plan.now.net }
+    requires time { session.old.steps ≡ plan.now.limits.steps }
+    requires steps { plan.now.limits.steps ≤ MOST_STEPS }
     ensures ranked { IsRanked R.pre R.post session.new.order }
     ensures kept { KeepsSetting session.old session.new }
     ensures never_falls { S.faults out.old ≤ S.faults out.new }
-    ensures goes { RowGoes net.now limits.steps limits.budget session.old.stage row.now session.new.stage (S.taken out.old) (S.taken out.new) (Rose (S.faults out.old) (S.faults out.new)) result }
+    ensures goes { RowGoes plan.now.net plan.now.limits.steps plan.now.limits.budget session.old.stage row.now session.new.stage (S.taken out.old) (S.taken out.new) (Rose (S.faults out.old) (S.faults out.new)) result }
 {
-    let told = session.carry_out(row, limits.budget)?;
+    let told = session.carry_out(row, plan.limits.budget)?;
     session.log().is_whole();
-    net.is_built();
-    put_replies(alloc, net, limits.steps, &told, out)
+    plan.net.is_built();
+    put_replies(alloc, &plan.net, plan.limits.steps, &told, out)
 }
 
 // Puts the reply to a row that told this, where it has one.

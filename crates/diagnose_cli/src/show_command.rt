@@ -3,7 +3,8 @@ ghost use Rattle.std.specs.Prelude.{◌≡◌, ◌<◌, List, length, IfOk};
 ghost use Rattle.proof_ledger.specs.Book.{BookEntry};
 ghost use Rattle.diagnose_cli.specs.Files.{loads};
 ghost use Rattle.diagnose_cli.specs.Transcripts.{UnlessMemory, once};
-ghost use Rattle.diagnose_cli.specs.Commands.{Answers, reply_of_model};
+ghost use Rattle.diagnose_cli.specs.Replies.{reply_of_model};
+ghost use Rattle.diagnose_cli.specs.Due.{Answers};
 
 use crate::command::Command;
 use crate::ending::{Kind, Reply};

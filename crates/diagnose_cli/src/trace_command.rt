@@ -6,7 +6,8 @@ ghost use Rattle.replay.specs.Traced.{IsTraced, word_of};
 ghost use Rattle.replay.specs.declared.tracing.Traced.{Traced};
 ghost use Rattle.diagnose_cli.specs.Files.{loads};
 ghost use Rattle.diagnose_cli.specs.Transcripts.{UnlessMemory, once};
-ghost use Rattle.diagnose_cli.specs.Commands.{Answers, AnswersAfter, kind_of_traced, reply_of_traced};
+ghost use Rattle.diagnose_cli.specs.Replies.{kind_of_traced, reply_of_traced};
+ghost use Rattle.diagnose_cli.specs.Due.{Answers, AnswersAfter};
 
 use crate::command::Command;
 use crate::ending::{Kind, Reply};

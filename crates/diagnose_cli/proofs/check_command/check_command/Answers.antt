@@ -1,7 +1,8 @@
 -- By its first file, and then as it goes on.
 use Rattle.std.proofs.Common.{[], ◌∷◌}
 use Rattle.diagnose_cli.specs.declared.command.Command.TheVariants.{Check}
-use Rattle.diagnose_cli.specs.Commands.{cnf, lrat, Closes}
+use Rattle.diagnose_cli.specs.Texts.{cnf, lrat}
+use Rattle.diagnose_cli.specs.Due.{Closes}
 use Rattle.diagnose_cli.proofs.Orders.{goes_on_later}
 use Rattle.diagnose_cli.proofs.check_command.check_command.Goals as goal
 

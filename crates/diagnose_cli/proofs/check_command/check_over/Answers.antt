@@ -1,7 +1,7 @@
 -- By the proof.
 use Rattle.std.proofs.Common.{[], ◌∷◌}
 use Rattle.diagnose_cli.specs.declared.command.Command.TheVariants.{Check}
-use Rattle.diagnose_cli.specs.Commands.{AnswersAfter}
+use Rattle.diagnose_cli.specs.Due.{AnswersAfter}
 use Rattle.diagnose_cli.specs.Files.{loads}
 use Rattle.diagnose_cli.proofs.Orders.{handed_after, memory_free}
 use Rattle.diagnose_cli.proofs.CheckAnswers.{proof_refused, checked}

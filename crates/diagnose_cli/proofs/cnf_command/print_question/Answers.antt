@@ -1,7 +1,7 @@
 -- By the size of its question, and its formula.
 use Rattle.std.proofs.Common.{◌≤◌, subst, arith}
 use Rattle.least_faults.specs.declared.TheConstants.{MOST_SIZE}
-use Rattle.diagnose_cli.specs.Commands.{SaysFormula}
+use Rattle.diagnose_cli.specs.Replies.{SaysFormula}
 use Rattle.diagnose_cli.proofs.Orders.{memory_free}
 use Rattle.diagnose_cli.proofs.CaseAnswers.{too_large, answered}
 use Rattle.diagnose_cli.proofs.cnf_command.print_question.Goals as goal

@@ -4,7 +4,7 @@ use Rattle.least_faults.proofs.Closing.{ok_weaker}
 use Rattle.proof_text.proofs.CnfPrinted.{printed_formula}
 use Rattle.proof_text.specs.CnfText.{formula}
 use Rattle.diagnose_cli.specs.declared.ending.Kind.{Kind}
-use Rattle.diagnose_cli.specs.Commands.{SaysFormula, reply_of_formula}
+use Rattle.diagnose_cli.specs.Replies.{SaysFormula, reply_of_formula}
 use Rattle.diagnose_cli.proofs.cnf_command.reply_of_question.Goals as goal
 
 pub reply_of_formula-requires : goal.reply_of_formula-requires

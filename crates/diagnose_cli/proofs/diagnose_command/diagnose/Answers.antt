@@ -1,7 +1,7 @@
 -- By the size of its question, and what is found.
 use Rattle.std.proofs.Common.{◌≤◌, subst, arith}
 use Rattle.least_faults.specs.declared.TheConstants.{MOST_SIZE}
-use Rattle.diagnose_cli.specs.Commands.{SaysFound}
+use Rattle.diagnose_cli.specs.Replies.{SaysFound}
 use Rattle.diagnose_cli.proofs.Orders.{memory_free}
 use Rattle.diagnose_cli.proofs.CaseAnswers.{too_large, answered}
 use Rattle.diagnose_cli.proofs.diagnose_command.diagnose.Goals as goal

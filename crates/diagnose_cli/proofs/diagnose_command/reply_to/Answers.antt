@@ -2,7 +2,7 @@
 use Rattle.std.proofs.Common.{◌≡◌, ℕ, List}
 use Rattle.least_faults.proofs.Closing.{ok_weaker}
 use Rattle.diagnose_cli.specs.declared.ending.Kind.{Kind}
-use Rattle.diagnose_cli.specs.Commands.{SaysFound, reply_of_found}
+use Rattle.diagnose_cli.specs.Replies.{SaysFound, reply_of_found}
 use Rattle.diagnose_cli.proofs.KnownRuns.{found_known}
 use Rattle.diagnose_cli.proofs.diagnose_command.reply_to.Goals as goal
 

@@ -1,7 +1,7 @@
 -- By the size of its question, and its refutation.
 use Rattle.std.proofs.Common.{◌≤◌, subst, arith}
 use Rattle.least_faults.specs.declared.TheConstants.{MOST_SIZE}
-use Rattle.diagnose_cli.specs.Commands.{SaysProved}
+use Rattle.diagnose_cli.specs.Replies.{SaysProved}
 use Rattle.diagnose_cli.proofs.Orders.{memory_free}
 use Rattle.diagnose_cli.proofs.CaseAnswers.{too_large, answered}
 use Rattle.diagnose_cli.proofs.proof_command.print_proof.Goals as goal

@@ -4,7 +4,7 @@ use Rattle.least_faults.proofs.Closing.{ok_weaker}
 use Rattle.least_faults.proofs.Staying.{belong_still, built_still}
 use Rattle.least_faults.specs.Parts.{IsBuilt, built_of, names_of}
 use Rattle.diagnose_cli.specs.declared.ending.Kind.{Kind}
-use Rattle.diagnose_cli.specs.Commands.{SaysProved, TellsProof}
+use Rattle.diagnose_cli.specs.Replies.{SaysProved, TellsProof}
 use Rattle.diagnose_cli.proofs.Diagnosing.{answers_question, question_begins}
 use Rattle.diagnose_cli.proofs.KnownRuns.{found_known}
 use Rattle.diagnose_cli.proofs.Refutations.{evidence_for}

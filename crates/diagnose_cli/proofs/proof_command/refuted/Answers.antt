@@ -2,7 +2,7 @@
 use Rattle.std.proofs.Common.{◌≡◌, ℕ, List}
 use Rattle.proof_text.specs.PrintedText.{ReadsBack, steps_text}
 use Rattle.diagnose_cli.specs.declared.ending.Kind.{Kind}
-use Rattle.diagnose_cli.specs.Commands.{TellsRefutation, reply_of_proof}
+use Rattle.diagnose_cli.specs.Replies.{TellsRefutation, reply_of_proof}
 use Rattle.diagnose_cli.proofs.ProofsReadBack.{tells_refutation}
 use Rattle.diagnose_cli.proofs.Refutations.{ok_both}
 use Rattle.diagnose_cli.proofs.proof_command.refuted.Goals as goal

@@ -1,7 +1,7 @@
 -- The refutation of the bound that was found.
 use Rattle.std.proofs.Common.{ℕ, Some, None, IfOk, sym, subst}
 use Rattle.least_faults.specs.declared.answer.Found.{Found}
-use Rattle.diagnose_cli.specs.Commands.{TellsProof, TellsRefutation}
+use Rattle.diagnose_cli.specs.Replies.{TellsProof, TellsRefutation}
 use Rattle.diagnose_cli.proofs.proof_command.told.Goals as goal
 
 pub returns-in-Absent : goal.returns-in-Absent

@@ -1,7 +1,10 @@
 -- By its two files, and then as its rows go.
-use Rattle.std.proofs.Common.{Err}
-use Rattle.diagnose_cli.specs.Commands.{Due, HasNotBegun}
+use Rattle.std.proofs.Common.{◌≡◌, Some, Err, subst, sym}
+use Rattle.diagnose_cli.specs.Commands.{command_of}
+use Rattle.diagnose_cli.specs.Due.{Due, HasNotBegun}
 use Rattle.diagnose_cli.specs.Files.{loads}
+use Rattle.diagnose_cli.specs.declared.command.Command.TheVariants.{Session}
+use Rattle.diagnose_cli.specs.declared.question.Limits.{Limits}
 use Rattle.diagnose_cli.proofs.Once.{speaks_once}
 use Rattle.diagnose_cli.proofs.SessionAnswers.{not_begun, plan_speaks, plan_stops}
 use Rattle.diagnose_cli.proofs.session_command.session_command.Goals as goal
@@ -10,8 +13,10 @@ pub returns-in-Ok-clause-speaks : goal.returns-in-Ok-clause-speaks
 returns-in-Ok-clause-speaks g c =
     let l = loads g.F.Shelf.held g.F.Shelf.faults c.args.shelf.now c.fetch_plan.new.shelf in
     let plan = c.in-Ok.ensures.read in
-    plan_speaks l c.args.words.now c.args.limits.steps c.args.limits.budget c.carry_out.new.book.entries c.requires.called c.in-Ok.plan.net c.in-Ok.plan.script _ _ _ c.carry_out.result plan
-    (c.carry_out.ensures.speaks plan.text plan.lines plan.net_is plan.rows_are)
+    let limits = c.in-Ok.plan.limits in
+    let called = subst (λ (asked : Limits). command_of c.args.words.now ≡ Some (Session asked.steps asked.budget)) (sym c.in-Ok.ensures.limits) c.requires.called in
+    plan_speaks l c.args.words.now limits.steps limits.budget c.carry_out.new.book.entries called c.in-Ok.plan.net c.in-Ok.plan.script _ _ _ c.carry_out.result plan
+    (c.carry_out.ensures.speaks plan.text plan.second plan.net_is plan.second_is)
 
 pub returns-in-Err-clause-speaks : goal.returns-in-Err-clause-speaks
 returns-in-Err-clause-speaks g c =

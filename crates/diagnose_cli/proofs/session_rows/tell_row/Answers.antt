@@ -7,15 +7,15 @@ use Rattle.diagnose_cli.proofs.session_rows.tell_row.Goals as goal
 
 pub returns-in_err-told-clause-goes : goal.returns-in_err-told-clause-goes
 returns-in_err-told-clause-goes g c =
-    row_lost c.args.net.now c.args.limits.steps c.args.limits.budget c.args.session.now.stage c.args.row.now c.carry_out.new.self.stage _ _ _ c.from_residual.ensures.1 c.in_err-told.ensures.undone
+    row_lost c.args.plan.now.net c.args.plan.now.limits.steps c.args.plan.now.limits.budget c.args.session.now.stage c.args.row.now c.carry_out.new.self.stage _ _ _ c.from_residual.ensures.1 c.in_err-told.ensures.undone
 
 pub put_replies-requires : goal.put_replies-requires
 put_replies-requires g c =
     let session = c.args.session.now in
     let later = c.carry_out.new.self.stage in
-    let net = c.args.net.now in
-    let n = c.args.limits.steps in
-    let budget = c.args.limits.budget in
+    let net = c.args.plan.now.net in
+    let n = c.args.plan.now.limits.steps in
+    let budget = c.args.plan.now.limits.budget in
     let told = c.in_ok-told.told in
     row_known net n budget session.stage c.args.row.now later told
     (same_setting (λ m k. IsRowTold m k budget session.stage c.args.row.now later told) session.net net session.steps n c.requires.net c.requires.time c.in_ok-told.ensures.told)
@@ -24,9 +24,9 @@ pub returns-clause-goes : goal.returns-clause-goes
 returns-clause-goes g c =
     let session = c.args.session.now in
     let later = c.carry_out.new.self.stage in
-    let net = c.args.net.now in
-    let n = c.args.limits.steps in
-    let budget = c.args.limits.budget in
+    let net = c.args.plan.now.net in
+    let n = c.args.plan.now.limits.steps in
+    let budget = c.args.plan.now.limits.budget in
     let row = c.args.row.now in
     let told = c.in_ok-told.told in
     let holds = same_setting (λ m k. IsRowTold m k budget session.stage row later told) session.net net session.steps n c.requires.net c.requires.time c.in_ok-told.ensures.told in

@@ -1,7 +1,8 @@
 -- By its first file, and then as it goes on.
 use Rattle.std.proofs.Common.{[], ◌∷◌}
 use Rattle.diagnose_cli.specs.declared.command.Command.TheVariants.{Trace}
-use Rattle.diagnose_cli.specs.Commands.{model, run, Closes}
+use Rattle.diagnose_cli.specs.Texts.{model, run}
+use Rattle.diagnose_cli.specs.Due.{Closes}
 use Rattle.diagnose_cli.proofs.Orders.{goes_on_later}
 use Rattle.diagnose_cli.proofs.trace_command.trace_command.Goals as goal
 

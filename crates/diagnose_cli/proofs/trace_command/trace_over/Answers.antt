@@ -1,7 +1,7 @@
 -- By the run.
 use Rattle.std.proofs.Common.{[], ◌∷◌}
 use Rattle.diagnose_cli.specs.declared.command.Command.TheVariants.{Trace}
-use Rattle.diagnose_cli.specs.Commands.{AnswersAfter}
+use Rattle.diagnose_cli.specs.Due.{AnswersAfter}
 use Rattle.diagnose_cli.specs.Files.{loads}
 use Rattle.diagnose_cli.proofs.Orders.{handed_after, memory_free}
 use Rattle.diagnose_cli.proofs.TraceAnswers.{run_refused, traced}

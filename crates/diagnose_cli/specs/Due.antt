@@ -1,0 +1,69 @@
+-- What may come for the words of a command line: a stop by the first cause in order, what the command says, or want of memory.
+use Rattle.std.specs.Prelude.{◌≡◌, ℕ, ◌+◌, List, [], ◌∷◌, ◌++◌, length, drop, true, nat_lt, Option, Some, None, if◌then◌else◌, Err, IfSome, IsOkAnd, MatchOption}
+use Rattle.des_base.specs.CommandWords.{word_at}
+use Rattle.gen_plant.specs.Plant.{plant_net, plant_log}
+use Rattle.model_text.specs.ModelFaults.{network_of}
+use Rattle.least_faults.specs.declared.TheConstants.{MOST_SIZE}
+use Rattle.log_order.specs.Log.{no_log}
+use Rattle.log_csv.specs.LogText.{log_of}
+use Rattle.log_csv.specs.ScriptText.{script_of}
+use Rattle.proof_ledger.specs.Book.{BookEntry}
+use Rattle.replay.specs.QuestionSize.{question_size}
+use Rattle.diagnose_cli.specs.declared.command.Command.{Command}
+use Rattle.diagnose_cli.specs.declared.command.Command.TheVariants.{Diagnose, PrintCnf, PrintProof, Bench, Session}
+use Rattle.diagnose_cli.specs.declared.stop.Stop.TheVariants.{Usage, Faulty, Large}
+use Rattle.diagnose_cli.specs.Transcripts.{Ending, IsWhole, OrMemory, Transcript}
+use Rattle.diagnose_cli.specs.Files.{Loads, WithFile}
+use Rattle.diagnose_cli.specs.Texts.{FileKind, limit_of, fault_of_text}
+use Rattle.diagnose_cli.specs.Commands.{command_of, files_of, is_session}
+use Rattle.diagnose_cli.specs.Replies.{Says}
+use Rattle.diagnose_cli.specs.SessionReplies.{IsSession}
+
+-- what a command may say over the bytes of its files: one reply, or those of a session
+abbrev pub SaysInAll : Command → List BookEntry → List (List ℕ) → Transcript → Type 0
+SaysInAll (Session steps budget) book (text ∷ lines ∷ []) told = IsSession (network_of text) steps budget (script_of lines) book told
+SaysInAll (Session steps budget) book _ told = ⊥
+SaysInAll c book files told = IsWhole (Says c book files) told
+
+-- the size, where it is above the limit
+abbrev pub above_limit : ℕ → Option ℕ
+above_limit size = if nat_lt MOST_SIZE size then Some size else None
+
+-- the size of the question that a command asks over the bytes of its files, where it is above the limit: of a session that of the empty log
+abbrev pub too_large : Command → List (List ℕ) → Option ℕ
+too_large (Diagnose steps budget) (text ∷ alarms ∷ []) = above_limit (question_size (network_of text) (log_of alarms) steps)
+too_large (PrintCnf steps bound) (text ∷ alarms ∷ []) = above_limit (question_size (network_of text) (log_of alarms) steps)
+too_large (PrintProof steps budget) (text ∷ alarms ∷ []) = above_limit (question_size (network_of text) (log_of alarms) steps)
+too_large (Bench units start steps budget) [] = above_limit (question_size (plant_net units) (plant_log units start) steps)
+too_large (Session steps budget) (text ∷ lines ∷ []) = above_limit (question_size (network_of text) no_log steps)
+too_large _ _ = None
+
+-- after its files a command stops by the size of its question, or says what it may
+abbrev pub Closes : Command → List BookEntry → List (List ℕ) → Ending → Type 0
+Closes c book files e = MatchOption (too_large c files) (IsOkAnd e (SaysInAll c book files)) (λ size. e ≡ Err (Large size))
+
+-- The files from number i on, in order: for each its load, its length and its text. Then the end.
+abbrev pub InOrder : Loads → List (List ℕ) → ℕ → List FileKind → List (List ℕ) → (List (List ℕ) → Ending → Type 0) → Ending → Type 0
+InOrder l words i [] files closes e = closes files e
+InOrder l words i (kind ∷ kinds) files closes e =
+    WithFile l i (word_at words i) (limit_of kind)
+    (λ bytes e. MatchOption (fault_of_text kind files bytes) (InOrder l words (i + 1) kinds (files ++ bytes ∷ []) closes e) (λ text. e ≡ Err (Faulty text))) e
+
+abbrev pub Answers : Loads → List (List ℕ) → Command → List BookEntry → Ending → Type 0
+Answers l words c book = InOrder l words 1 (files_of c) [] (Closes c book)
+
+-- the same where the first of the files are read, and these are their bytes
+abbrev pub AnswersAfter : Loads → List (List ℕ) → Command → List BookEntry → List (List ℕ) → Ending → Type 0
+AnswersAfter l words c book files = InOrder l words (length files + 1) (drop (length files) (files_of c)) files (Closes c book)
+
+-- what may be answered for these words with this book left, but for want of memory
+abbrev pub Due : Loads → List (List ℕ) → List BookEntry → Ending → Type 0
+Due l words book e = MatchOption (command_of words) (e ≡ Err Usage) (λ c. Answers l words c book e)
+
+-- where the words call a session, it hasn't begun: the book is empty
+abbrev pub HasNotBegun : List (List ℕ) → List BookEntry → Type 0
+HasNotBegun words book = IfSome (command_of words) (λ c. is_session c ≡ true → book ≡ [])
+
+-- What may come for these words with this book left: what is due, or want of memory. Of a session that has begun it is what is due.
+abbrev pub MayCome : Loads → List (List ℕ) → List BookEntry → Ending → Type 0
+MayCome l words book = OrMemory (Due l words book) (HasNotBegun words book)

@@ -1,0 +1,90 @@
+-- What a session says: the replies to its rows, and how it ends.
+use Rattle.std.specs.Prelude.{◌≡◌, ◌⊎◌, ℕ, ⊤, List, [], ◌∷◌, ◌++◌, flat_map}
+use Rattle.alarm_session.specs.Rows.{HasCarriedOut, IsLeftUndone, IsRowTold, after_row}
+use Rattle.alarm_session.specs.Session.{Stage}
+use Rattle.alarm_session.specs.Refusals.{refusal_number}
+use Rattle.alarm_session.specs.declared.rows.Told.{Told}
+use Rattle.alarm_session.specs.declared.rows.Told.TheVariants.{Made, Refused, Answered}
+use Rattle.des_net.specs.Network.{Net}
+use Rattle.log_order.specs.Log.{Log as AlarmLog, no_log}
+use Rattle.log_csv.specs.declared.row.Row.{Row}
+use Rattle.proof_ledger.specs.Book.{BookEntry}
+use Rattle.report.specs.Replies.{text_of_found, text_of_refused}
+use Rattle.diagnose_cli.specs.Transcripts.{finished, cut, broken, Transcript, replies, whole}
+use Rattle.diagnose_cli.specs.Replies.{RunReplays}
+
+-- the replies to a row that told this: none where an addition was made
+abbrev pub replies_to : Net → ℕ → Told → List (List ℕ)
+replies_to net n Made = []
+replies_to net n (Refused refusal) = text_of_refused (refusal_number refusal) ∷ []
+replies_to net n (Answered found) = text_of_found net n found ∷ []
+
+-- a run that a row told replays against the log
+abbrev pub TellsReplaying : Net → AlarmLog → ℕ → Told → Type 0
+TellsReplaying net alarms n Made = ⊤
+TellsReplaying net alarms n (Refused refusal) = ⊤
+TellsReplaying net alarms n (Answered found) = RunReplays net alarms n found
+
+-- each run that rows told replays against the log of the rows before it
+abbrev pub RunsReplay : Net → ℕ → AlarmLog → List Row → List Told → Type 0
+RunsReplay net n alarms (row ∷ rows) (told ∷ others) = TellsReplaying net alarms n told × RunsReplay net n (after_row net n alarms row) rows others
+RunsReplay net n alarms _ _ = ⊤
+
+-- A session carried out these rows one after another, and came so far. These are their replies, one after another.
+pub record HasReplies (net : Net) (n budget : ℕ) (rows : List Row) (left : Stage) (texts : List (List ℕ)) : Type 0 where
+  pub told : List Told
+  pub carried : HasCarriedOut net n budget rows left told
+  pub replays : RunsReplay net n no_log rows told
+  pub are : texts ≡ flat_map (replies_to net n) told
+
+-- The row was carried out, a run that it told replays, and this is its reply.
+pub record IsRowReplied (net : Net) (n budget : ℕ) (old : Stage) (row : Row) (new : Stage) (reply : List ℕ) : Type 0 where
+  pub told : Told
+  pub holds : IsRowTold net n budget old row new told
+  pub replays : TellsReplaying net old.log n told
+  pub is : replies_to net n told ≡ reply ∷ []
+
+-- The row has a reply that isn't told, since memory was wanting for its text; or memory was wanting before that, and the row is left undone.
+abbrev pub IsUntold : Net → ℕ → ℕ → Row → Stage → Stage → Type 0
+IsUntold net n budget row old new = ((reply : List ℕ) × IsRowReplied net n budget old row new reply) ⊎ IsLeftUndone budget old row new
+
+-- A session over these rows came to one of them: those before it brought it to this stage, and these are their replies.
+pub record ComesTo (net : Net) (n budget : ℕ) (rows : List Row) (row : Row) (left : Stage) (texts : List (List ℕ)) : Type 0 where
+  pub front : List Row
+  pub others : List Row
+  pub split : rows ≡ front ++ row ∷ others
+  pub replied : HasReplies net n budget front left texts
+
+-- All rows were carried out, and these are their replies. The book is the one that they came to.
+pub record IsFinished (net : Net) (n budget : ℕ) (rows : List Row) (book : List BookEntry) (texts : List (List ℕ)) : Type 0 where
+  pub left : Stage
+  pub replied : HasReplies net n budget rows left texts
+  pub book_is : book ≡ left.book
+
+-- The last text is the reply of the row that a session came to. This row was carried out as those before it, and no other: the book is the one that these came to.
+pub record IsCut (net : Net) (n budget : ℕ) (rows : List Row) (book : List BookEntry) (texts : List (List ℕ)) : Type 0 where
+  pub row : Row
+  pub left : Stage
+  pub end : Stage
+  pub earlier : List (List ℕ)
+  pub last : List ℕ
+  pub comes : ComesTo net n budget rows row left earlier
+  pub replied : IsRowReplied net n budget left row end last
+  pub book_is : book ≡ end.book
+  pub are : texts ≡ earlier ++ last ∷ []
+
+-- Memory was wanting at the row that a session came to: behind what those before it left, the book has what this one put.
+pub record IsBroken (net : Net) (n budget : ℕ) (rows : List Row) (book : List BookEntry) (texts : List (List ℕ)) : Type 0 where
+  pub row : Row
+  pub left : Stage
+  pub end : Stage
+  pub comes : ComesTo net n budget rows row left texts
+  pub untold : IsUntold net n budget row left end
+  pub book_is : book ≡ end.book
+
+-- What a session over these rows may say where it leaves this book, by how it ends: the replies to all rows, or to those that it came to.
+abbrev pub IsSession : Net → ℕ → ℕ → List Row → List BookEntry → Transcript → Type 0
+IsSession net n budget rows book (whole reply) = ⊥
+IsSession net n budget rows book (replies texts finished) = IsFinished net n budget rows book texts
+IsSession net n budget rows book (replies texts cut) = IsCut net n budget rows book texts
+IsSession net n budget rows book (replies texts broken) = IsBroken net n budget rows book texts

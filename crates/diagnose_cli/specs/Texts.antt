@@ -1,0 +1,88 @@
+-- The kinds of files, the first fault of a text, and the two files that most commands begin with.
+use Rattle.std.specs.Prelude.{◌≡◌, ◌⊎◌, ℕ, List, [], ◌∷◌, length, Option, None, option_map}
+use Rattle.des_base.specs.CommandWords.{word_at}
+use Rattle.des_net.specs.Network.{Net}
+use Rattle.model_text.specs.ModelFaults.{network_of, first_fault as first_model_fault}
+use Rattle.replay.specs.RunText.{first_fault as first_run_fault}
+use Rattle.log_order.specs.Log.{Log as AlarmLog}
+use Rattle.log_csv.specs.LogText.{log_of, first_fault as first_log_fault}
+use Rattle.log_csv.specs.ScriptText.{first_script_fault, script_of}
+use Rattle.log_csv.specs.declared.row.Row.{Row}
+use Rattle.proof_text.specs.CnfText.{Formula, formula_of, first_cnf_fault}
+use Rattle.proof_text.specs.LratText.{first_lrat_fault}
+use Rattle.diagnose_cli.specs.declared.stop.FaultyText.{FaultyText}
+use Rattle.diagnose_cli.specs.declared.stop.FaultyText.TheVariants.{Model, Log, Run, Cnf, Lrat}
+use Rattle.diagnose_cli.specs.declared.stop.Stop.{Stop}
+use Rattle.diagnose_cli.specs.Files.{Loads, IsText, StopsIn}
+
+-- the kinds of files
+pub data FileKind : Type 0 where
+  model : FileKind
+  log : FileKind
+  script : FileKind
+  run : FileKind
+  cnf : FileKind
+  lrat : FileKind
+
+-- how many bytes a file of this kind may have
+abbrev pub limit_of : FileKind → ℕ
+limit_of model = 16777216
+limit_of log = 16777216
+limit_of script = 16777216
+limit_of run = 536870912
+limit_of cnf = 536870912
+limit_of lrat = 536870912
+
+-- the first fault of a text
+abbrev pub fault_of_model : List ℕ → Option FaultyText
+fault_of_model bytes = option_map (λ fault. Model fault) (first_model_fault bytes)
+
+abbrev pub fault_of_run : Net → List ℕ → Option FaultyText
+fault_of_run net bytes = option_map (λ fault. Run fault) (first_run_fault net bytes)
+
+abbrev pub fault_of_log : List ℕ → Option FaultyText
+fault_of_log bytes = option_map (λ fault. Log fault) (first_log_fault bytes)
+
+-- a script has the codes of a log that are about its shape
+abbrev pub fault_of_script : List ℕ → Option FaultyText
+fault_of_script bytes = option_map (λ fault. Log fault) (first_script_fault bytes)
+
+abbrev pub fault_of_cnf : List ℕ → Option FaultyText
+fault_of_cnf bytes = option_map (λ fault. Cnf fault) (first_cnf_fault bytes)
+
+abbrev pub fault_of_lrat : Formula → List ℕ → Option FaultyText
+fault_of_lrat formula bytes = option_map (λ fault. Lrat fault) (first_lrat_fault formula.vars (length formula.clauses) bytes)
+
+-- the same by the kind of the file, where the files before it are given: a run is read over the model, and a proof over the formula
+abbrev pub fault_of_text : FileKind → List (List ℕ) → List ℕ → Option FaultyText
+fault_of_text model files bytes = fault_of_model bytes
+fault_of_text log files bytes = fault_of_log bytes
+fault_of_text script files bytes = fault_of_script bytes
+fault_of_text run [] bytes = None
+fault_of_text run (text ∷ files) bytes = fault_of_run (network_of text) bytes
+fault_of_text cnf files bytes = fault_of_cnf bytes
+fault_of_text lrat [] bytes = None
+fault_of_text lrat (text ∷ files) bytes = fault_of_lrat (formula_of text) bytes
+
+-- the texts of a model and of one file more of this kind, which are the first two files of a command, with the network of the one and P of the other
+pub record AreFirstTwo (held : List ℕ → Option (List ℕ)) (words : List (List ℕ)) (kind : FileKind) (net : Net) (P : List ℕ → Type 0) : Type 0 where
+  pub text : List ℕ
+  pub second : List ℕ
+  pub model_read : IsText held (word_at words 1) (limit_of model) fault_of_model text
+  pub second_read : IsText held (word_at words 2) (limit_of kind) (fault_of_text kind (text ∷ [])) second
+  pub net_is : net ≡ network_of text
+  pub second_is : P second
+
+-- the network of the model text and the log of the log text
+abbrev pub IsCase : (List ℕ → Option (List ℕ)) → List (List ℕ) → Net → AlarmLog → Type 0
+IsCase held words net alarms = AreFirstTwo held words log net (λ rows. alarms ≡ log_of rows)
+
+-- the network of the model text and the rows of the script text
+abbrev pub IsPlan : (List ℕ → Option (List ℕ)) → List (List ℕ) → Net → List Row → Type 0
+IsPlan held words net rows = AreFirstTwo held words script net (λ lines. rows ≡ script_of lines)
+
+-- why a command may stop at its model or at a second file of this kind
+abbrev pub StopsAtFirstTwo : FileKind → Loads → List (List ℕ) → Stop → Type 0
+StopsAtFirstTwo kind l words stop =
+    StopsIn l 1 (word_at words 1) (limit_of model) fault_of_model stop
+    ⊎ ((text : List ℕ) × IsText l.held (word_at words 1) (limit_of model) fault_of_model text × StopsIn l 2 (word_at words 2) (limit_of kind) (fault_of_text kind (text ∷ [])) stop)
