@@ -11,6 +11,7 @@ use Rattle.log_order.specs.declared.refusal.LogRefusal.{LogRefusal}
 use Rattle.log_order.specs.declared.refusal.LogRefusal.TheVariants as of_log
 use Rattle.replay.specs.QuestionSize.{question_size}
 
+-- what the log refuses, as the session's own refusal
 abbrev pub refusal_of : LogRefusal → SessionRefusal
 refusal_of of_log.Double = Double
 refusal_of of_log.Unknown = Unknown
@@ -51,16 +52,17 @@ refusal_number Memory = 0
 
 -- ---- of an alarm
 
--- certain or doubtful
+-- why an alarm is refused, certain or doubtful: by the log, or since the question with it would be too large
 abbrev pub alarm_answer : Net → ℕ → Log → List ℕ → List (List ℕ) → Bool → Option SessionRefusal
 alarm_answer net n log name labels doubtful = refusal_with (alarm_refusal log name labels) (question_size net (with_alarm log name labels doubtful) n)
 
 -- ---- of a pair, by the names of its alarms
 
--- the numbers of two alarms
+-- the numbers of two alarms, where the log has both names
 abbrev pub numbers_of : Log → List ℕ → List ℕ → Option (ℕ × ℕ)
 numbers_of log first second = option_and_then (λ i. option_map (λ j. (i, j)) (place_of second (names_of log.alarms))) (place_of first (names_of log.alarms))
 
+-- the log with a pair of numbers; where there is none, it stays
 abbrev pub log_with : Log → Option (ℕ × ℕ) → Log
 log_with log None = log
 log_with log (Some pair) = record log { pairs = with_pair log.pairs pair.0 pair.1 }
@@ -70,9 +72,11 @@ abbrev pub is_new_pair : Log → Option (ℕ × ℕ) → Bool
 is_new_pair log None = false
 is_new_pair log (Some pair) = not (has_pair log.pairs pair.0 pair.1)
 
+-- why the log refuses a pair of numbers, if it does; where there is none, an alarm is unknown
 abbrev pub refusal_of_pair : Log → Option (ℕ × ℕ) → Option LogRefusal
 refusal_of_pair log None = Some of_log.Unknown
 refusal_of_pair log (Some pair) = before_refusal (length log.alarms) log.pairs pair.0 pair.1
 
+-- why a pair is refused: by the log, or since the question with it would be too large
 abbrev pub before_answer : Net → ℕ → Log → List ℕ → List ℕ → Option SessionRefusal
 before_answer net n log first second = refusal_with (refusal_of_pair log (numbers_of log first second)) (question_size net (log_with log (numbers_of log first second)) n)

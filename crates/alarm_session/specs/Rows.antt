@@ -94,6 +94,7 @@ pub record IsAsked (net : Net) (n budget : ℕ) (old : Stage) (row : Row) (new :
   pub question : row ≡ Ask
   pub told : IsToldBy net n budget old new found
 
+-- what it means that a row told this: an addition was made or refused, or a question was answered
 abbrev pub Tells : Net → ℕ → ℕ → Stage → Row → Stage → Told → Type 0
 Tells net n budget old row new Made = IsMade net n old row new
 Tells net n budget old row new (Refused refusal) = IsRefused net n old row new refusal

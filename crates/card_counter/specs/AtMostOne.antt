@@ -10,6 +10,7 @@ use Rattle.card_counter.specs.CounterState.{positive, negative, input_at}
 use Rattle.card_counter.specs.Exclusions.{IsNamedExclusion, named_exclusion}
 use Rattle.prop_core.specs.Listings.{IsListed}
 
+-- at least one of the literals x and y is false
 abbrev pub AreNotBothTrue : (ℕ → Bool) → Lit → Lit → Type 0
 AreNotBothTrue value x y = IsTrue (literal_true value x) → IsTrue (literal_true value y) → ⊥
 
@@ -28,6 +29,7 @@ abbrev pub pairs_after : List Lit → List Lit → List Clause
 pairs_after earlier [] = []
 pairs_after earlier (x ∷ later) = map (not_both x) earlier ++ pairs_after (earlier ++ x ∷ []) later
 
+-- a clause for each pair of inputs at different places: none for fewer than two inputs
 abbrev pub excluded_pairs : List Lit → List Clause
 excluded_pairs inputs = pairs_after [] inputs
 
@@ -42,6 +44,7 @@ link_clauses inputs first i =
 abbrev pub chain_up_to : List Lit → ℕ → ℕ → List Clause
 chain_up_to inputs first k = flat_map (link_clauses inputs first) (numbers_below k)
 
+-- a whole chain: a place for each input but the last, its variables in a row from `first` on
 abbrev pub chain_clauses : List Lit → ℕ → List Clause
 chain_clauses inputs first = chain_up_to inputs first (length inputs - 1)
 
@@ -64,6 +67,7 @@ abbrev pub ExcludesAllButOne : List Lit → ℕ → List Clause → Type 0
 ExcludesAllButOne inputs first clauses = HasValues first inputs → (given : ℕ → Bool) →
     ((assignment : ℕ → Bool) × AgreeBut first (chain_count (length inputs)) given assignment × AllClausesTrue assignment clauses) ↔ AtMostOneTrue given inputs
 
+-- What is written says exactly this, of whatever inputs, and with whatever first variable.
 abbrev pub ExclusionIsExact : Type 0
 ExclusionIsExact = (inputs : List Lit) (first : ℕ) → ExcludesAllButOne inputs first (exclusion_clauses inputs first)
 

@@ -10,6 +10,7 @@ pub data CountClause : Type 0 where
   -- where the first i inputs reach j and the next one, x, is true, the first i + 1 reach j + 1
   counts_up : (i j : ℕ) → (x : NamedLiteral) → CountClause
 
+-- the negation of a literal by name
 abbrev pub opposite : NamedLiteral → NamedLiteral
 opposite x = record { name = x.name; positive = not x.positive }
 
@@ -18,6 +19,7 @@ abbrev pub unless_reached : ℕ → ℕ → List NamedLiteral
 unless_reached i zero = []
 unless_reached i (suc j) = no (reaches i (suc j)) ∷ []
 
+-- the literals of a clause, its negated premises first
 abbrev pub count_clause : CountClause → List NamedLiteral
 count_clause (counts_on i j) = no (reaches i j) ∷ yes (reaches (suc i) j) ∷ []
 count_clause (counts_up i j x) = unless_reached i j ++ opposite x ∷ yes (reaches (suc i) (suc j)) ∷ []
@@ -32,6 +34,7 @@ abbrev pub IsOfColumn : ℕ → CountClause → Type 0
 IsOfColumn column (counts_on i j) = j ≡ suc column
 IsOfColumn column (counts_up i j x) = j ≡ column
 
+-- it is of one of the first so many columns
 abbrev pub IsOfColumns : ℕ → CountClause → Type 0
 IsOfColumns columns (counts_on i j) = j ≤ columns
 IsOfColumns columns (counts_up i j x) = j < columns

@@ -17,9 +17,11 @@ pub record CounterState : Type 0 where
 abbrev pub without_columns : List Lit → CounterState
 without_columns inputs = record { inputs = inputs; columns = []; spare_inputs = 0 }
 
+-- the variables of column j, counted from 0: none where there is no such column
 abbrev pub column_at : List (List ℕ) → ℕ → List ℕ
 column_at columns j = slice_index_or columns j []
 
+-- the variable of a column at input i, counted from 0, or 0 where there is no such input
 abbrev pub var_at : List ℕ → ℕ → ℕ
 var_at column i = slice_index_or column i 0
 
@@ -32,7 +34,7 @@ pub record IsPlace (state : CounterState) (i j : ℕ) : Type 0 where
   pub input : i < length state.inputs
   pub column : j < length state.columns
 
--- What a counter keeps: a variable for each place, no two alike, and none of an input.
+-- What a counter keeps: an input at least where it has a column, and a variable for each place, no two alike, and none of an input.
 pub record IsCounter (state : CounterState) : Type 0 where
   pub filled : 0 < length state.columns → 0 < length state.inputs
   pub full : (j : ℕ) → j < length state.columns → length (column_at state.columns j) ≡ length state.inputs
@@ -46,9 +48,11 @@ pub record IsMade (count : ℕ) (state : CounterState) : Type 0 where
 
 -- ---- clauses
 
+-- the literal that the variable is true
 abbrev pub positive : ℕ → Lit
 positive var = record { var = var; positive = true }
 
+-- the literal that the variable is false
 abbrev pub negative : ℕ → Lit
 negative var = record { var = var; positive = false }
 
@@ -74,10 +78,11 @@ under always clause = clause ∷ []
 under never clause = []
 under (told_by var) clause = (negative var ∷ clause) ∷ []
 
--- a column keeps at input i what was reached, and a true input reaches one more
+-- a column keeps at input i what the inputs before it reach: at the first input there is nothing to keep
 abbrev pub kept_clauses : List ℕ → ℕ → List Clause
 kept_clauses column i = under (reached_in column i) (positive (var_at column i) ∷ [])
 
+-- a true input reaches one more than the inputs before it, as the column before tells; in the first column it reaches 1, without a premise
 abbrev pub counted_clauses : Lit → Option (List ℕ) → List ℕ → ℕ → List Clause
 counted_clauses input before column i = under (reached_before before i) (negation input ∷ positive (var_at column i) ∷ [])
 
@@ -85,6 +90,7 @@ counted_clauses input before column i = under (reached_before before i) (negatio
 abbrev pub place_clauses : Lit → Option (List ℕ) → List ℕ → ℕ → List Clause
 place_clauses input before column i = kept_clauses column i ++ counted_clauses input before column i
 
+-- input i, counted from 0, or the literal that stands where there is none
 abbrev pub input_at : List Lit → ℕ → Lit
 input_at inputs i = slice_index_or inputs i no_literal
 
@@ -102,20 +108,23 @@ abbrev pub counter_clauses : CounterState → List Clause
 counter_clauses state =
     flat_map (λ j. column_clauses state.inputs (column_before state.columns j) (column_at state.columns j)) (numbers_below (length state.columns))
 
--- the same place by place: what column j keeps at input i, what it counts there, and both
+-- the same place by place: what column j keeps at input i
 abbrev pub kept_at : CounterState → ℕ → ℕ → List Clause
 kept_at state j i = kept_clauses (column_at state.columns j) i
 
+-- what column j counts at input i
 abbrev pub counted_at : CounterState → ℕ → ℕ → List Clause
 counted_at state j i = counted_clauses (input_at state.inputs i) (column_before state.columns j) (column_at state.columns j) i
 
+-- both: all that column j says of input i
 abbrev pub clauses_at : CounterState → ℕ → ℕ → List Clause
 clauses_at state j i = kept_at state j i ++ counted_at state j i
 
--- what column j says of all inputs, and what all columns say of input i
+-- what column j says of all inputs, input by input
 abbrev pub clauses_of_column : CounterState → ℕ → List Clause
 clauses_of_column state j = flat_map (clauses_at state j) (numbers_below (length state.inputs))
 
+-- what all columns say of input i, column by column
 abbrev pub clauses_of_input : CounterState → ℕ → List Clause
 clauses_of_input state i = flat_map (λ j. clauses_at state j i) (numbers_below (length state.columns))
 
@@ -125,6 +134,7 @@ bound_literal state k = negative (variable state (length state.inputs - 1) k)
 
 -- ---- one more column, with variables in a row
 
+-- the counter with a further column behind the others, whose variables are as many as the inputs and begin at `first`
 abbrev pub with_column : CounterState → ℕ → CounterState
 with_column state first = record { inputs = state.inputs; columns = state.columns ++ range_with_len first (length state.inputs) ∷ []; spare_inputs = state.spare_inputs }
 
@@ -143,6 +153,7 @@ abbrev pub longer : ℕ → List (List ℕ) → List (List ℕ)
 longer first [] = []
 longer first (column ∷ columns) = (column ++ first ∷ []) ∷ longer (suc first) columns
 
+-- the counter with a further input behind the others: its variables begin at `first`, one for each column, and it takes room if there is any
 abbrev pub with_input : CounterState → Lit → ℕ → CounterState
 with_input state input first = record { inputs = state.inputs ++ input ∷ []; columns = longer first state.columns; spare_inputs = state.spare_inputs - 1 }
 
@@ -171,11 +182,13 @@ pub record HasInput (state : CounterState) (input : Lit) (first : ℕ) : Type 0 
   pub before : (i j : ℕ) → IsPlace state i j → variable (with_input state input first) i j ≡ variable state i j
   pub last : (j : ℕ) → j < length state.columns → variable (with_input state input first) (length state.inputs) j ≡ first + j
 
+-- A counter that was made takes as a further input each literal on a variable made before that is none of its own.
 abbrev pub InputsGrow : Type 0
 InputsGrow = (state : CounterState) (input : Lit) (first : ℕ) → IsCounter state → IsMade first state → input.var < first → IsOutside state input → HasInput state input first
 
 -- ---- more inputs, one after another, each with its variables behind those of the one before
 
+-- the counter with these inputs behind its own, the variables of the first of them from `first` on
 abbrev pub with_inputs : CounterState → List Lit → ℕ → CounterState
 with_inputs state [] first = state
 with_inputs state (input ∷ more) first = with_inputs (with_input state input first) more (first + length state.columns)
@@ -200,6 +213,7 @@ pub record HasInputs (state : CounterState) (more : List Lit) (first : ℕ) : Ty
   pub columns : length (with_inputs state more first).columns ≡ length state.columns
   pub clauses : (clause : Clause) → Contains (counter_clauses (with_inputs state more first)) clause ↔ Contains (counter_clauses state) clause ⊎ Contains (inputs_clauses state more first) clause
 
+-- So it is of each counter whose columns are full, with whatever further inputs.
 abbrev pub ManyInputsAdd : Type 0
 ManyInputsAdd = (state : CounterState) (more : List Lit) (first : ℕ) → IsFull state → HasInputs state more first
 

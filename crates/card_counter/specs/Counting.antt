@@ -32,11 +32,13 @@ pub record Counts (state : CounterState) : Type 0 where
   pub free : (given : ℕ → Bool) → Extends state given (λ assignment. AllClausesTrue assignment (counter_clauses state))
   pub bounded : (k : ℕ) → k < length state.columns → Bounds state (bound_literal state k) k
 
+-- So it is of each counter, whatever its inputs.
 abbrev pub CounterIsExact : Type 0
 CounterIsExact = (state : CounterState) → IsCounter state → Counts state
 
 -- ---- by name
 
+-- the name stands for a variable of a counter
 abbrev pub is_count : Name → Bool
 is_count (in_state c q t) = false
 is_count (happens e t) = false
@@ -49,7 +51,7 @@ is_count (dropped i) = false
 is_count (reaches i j) = true
 is_count (some_of_first family i) = false
 
--- the truth of names where the first i inputs reach j just where so many of them are true
+-- the truth of names where the first i inputs reach j just where at least j of them are true
 abbrev pub counted : List NamedLiteral → (Name → Bool) → Name → Bool
 counted inputs value (in_state c q t) = value (in_state c q t)
 counted inputs value (happens e t) = value (happens e t)
@@ -62,13 +64,14 @@ counted inputs value (dropped i) = value (dropped i)
 counted inputs value (reaches i j) = nat_le j (count_by (named_true value) (take i inputs))
 counted inputs value (some_of_first family i) = value (some_of_first family i)
 
--- Whatever the truth of the inputs, the count makes the clauses true, with at most k where at most k inputs are true; and where the clauses are true, at most k says so.
+-- Whatever the truth of the inputs, of which none is a name of a counter, the count makes the clauses true, with at most k where at most k inputs are true; and where the clauses are true, at most k says so.
 pub record CountsByName (inputs : List NamedLiteral) (value : Name → Bool) : Type 0 where
   pub others : (name : Name) → is_count name ≡ false → counted inputs value name ≡ value name
   pub free : ((x : NamedLiteral) → Contains inputs x → is_count x.name ≡ false) → (columns : ℕ) → AllHold (IsNamedCount inputs columns) (counted inputs value)
   pub bound : (k : ℕ) → count_by (named_true value) inputs ≤ k → counted inputs value (reaches (length inputs) (suc k)) ≡ false
   pub few : (columns k : ℕ) → AllHold (IsNamedCount inputs columns) value → k < columns → value (reaches (length inputs) (suc k)) ≡ false → count_by (named_true value) inputs ≤ k
 
+-- So it is of whatever inputs, by each truth of names.
 abbrev pub NamedCountIsExact : Type 0
 NamedCountIsExact = (inputs : List NamedLiteral) (value : Name → Bool) → CountsByName inputs value
 
@@ -79,6 +82,7 @@ pub record ColumnsGrow (inputs : List NamedLiteral) : Type 0 where
   pub begins : (named : List NamedLiteral) → IsNamedCount inputs 0 named → ⊥
   pub grows : (columns : ℕ) (named : List NamedLiteral) → IsNamedCount inputs (suc columns) named ↔ IsNamedCount inputs columns named ⊎ IsNamedColumn inputs columns named
 
+-- So they grow over whatever inputs.
 abbrev pub NamedColumnsGrow : Type 0
 NamedColumnsGrow = (inputs : List NamedLiteral) → ColumnsGrow inputs
 
@@ -107,6 +111,7 @@ pub record AreCounterNames (state : CounterState) : Type 0 where
   pub called : (names : List (ℕ × Name)) → HasEachOnce names → ((entry : ℕ × Name) → Contains (counter_names state) entry → Contains names entry) →
       (i j : ℕ) → IsPlace state i j → name_of names (variable state i j) ≡ Some (reaches (suc i) (suc j))
 
+-- So it is of the names of each counter.
 abbrev pub CounterNamesStand : Type 0
 CounterNamesStand = (state : CounterState) → IsCounter state → AreCounterNames state
 

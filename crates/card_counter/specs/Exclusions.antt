@@ -32,6 +32,7 @@ IsNamedExclusion family inputs named = (which : ExclusionClause) × IsExclusionC
 
 -- ---- the same one after another, as loops write them
 
+-- the name of input i, counted from 0; where there is none, a name that stands in its place
 abbrev pub input_name : List Name → ℕ → Name
 input_name inputs i = slice_index_or inputs i asked
 
@@ -43,6 +44,7 @@ pairs_with inputs j = map (λ i. two i j (input_name inputs i) (input_name input
 abbrev pub link_at : List Name → ℕ → List ExclusionClause
 link_at inputs i = opens i (input_name inputs i) ∷ shuts_out i (input_name inputs (suc i)) ∷ (if nat_lt (suc i) (length inputs - 1) then goes_on i ∷ [] else [])
 
+-- all clauses of an "at most one" of these inputs: of pairs in the order of their later inputs, of a chain place by place
 abbrev pub exclusion_list : List Name → List ExclusionClause
 exclusion_list inputs = if nat_le (length inputs) 4 then flat_map (pairs_with inputs) (range_with_len 0 (length inputs)) else flat_map (link_at inputs) (range_with_len 0 (length inputs - 1))
 
@@ -55,6 +57,7 @@ pub record AreListed (inputs : List Name) : Type 0 where
   pub same : (which : ExclusionClause) → Contains (exclusion_list inputs) which ↔ IsExclusionClause inputs which
   pub few : length (exclusion_list inputs) ≤ 3 * length inputs
 
+-- So they are of whatever inputs.
 abbrev pub ExclusionsAreListed : Type 0
 ExclusionsAreListed = (inputs : List Name) → AreListed inputs
 
@@ -68,6 +71,7 @@ AtMostOneOf value inputs = (i j : ℕ) (x y : Name) → i < j → slice_get inpu
 abbrev pub ExclusionsHold : (Name → Bool) → Exclusion → List Name → Type 0
 ExclusionsHold value family inputs = (which : ExclusionClause) → IsExclusionClause inputs which → IsTrue (named_clause_true value (exclusion_clause family which))
 
+-- the name stands for a variable of the chain of an "at most one"
 abbrev pub is_chain : Name → Bool
 is_chain (in_state c q t) = false
 is_chain (happens e t) = false
@@ -97,11 +101,12 @@ with_chains inputs value (some_of_first family k) = unwrap_or (option_map (λ xs
 abbrev pub ExclusionIsSound : Type 0
 ExclusionIsSound = (value : Name → Bool) (family : Exclusion) (inputs : List Name) → ExclusionsHold value family inputs → AtMostOneOf value inputs
 
--- Where at most one input is true, the chains can be chosen, for all families that have inputs here at once, so that the clauses are true and no other name changes.
+-- Where at most one input is true, and none is itself a name of a chain, the chains can be chosen, for all families that have inputs here at once, so that the clauses are true and no other name changes.
 pub record ChainsComplete (inputs : Exclusion → Option (List Name)) (value : Name → Bool) : Type 0 where
   pub others : (name : Name) → is_chain name ≡ false → with_chains inputs value name ≡ value name
   pub kept : (family : Exclusion) (k : ℕ) → inputs family ≡ None → with_chains inputs value (some_of_first family k) ≡ value (some_of_first family k)
   pub hold : (family : Exclusion) (xs : List Name) → inputs family ≡ Some xs → ((x : Name) → Contains xs x → is_chain x ≡ false) → AtMostOneOf value xs → ExclusionsHold (with_chains inputs value) family xs
 
+-- So it is of whatever inputs of the families, by each truth of names.
 abbrev pub ExclusionIsComplete : Type 0
 ExclusionIsComplete = (inputs : Exclusion → Option (List Name)) (value : Name → Bool) → ChainsComplete inputs value

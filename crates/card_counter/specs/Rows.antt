@@ -16,6 +16,7 @@ abbrev pub columns_of : List ℕ → ℕ → List Column → List (List ℕ)
 columns_of rows j [] = []
 columns_of rows j (column ∷ more) = column_of rows j column ∷ columns_of rows (suc j) more
 
+-- the counter that stands in memory as these inputs, their rows, these columns, and room for so many more inputs
 abbrev pub counter_of : List Lit → List ℕ → List Column → ℕ → CounterState
 counter_of inputs rows columns spare = record { inputs = inputs; columns = columns_of rows 0 columns; spare_inputs = spare }
 
@@ -23,7 +24,7 @@ counter_of inputs rows columns spare = record { inputs = inputs; columns = colum
 abbrev pub var_of : List ℕ → List Column → ℕ → ℕ → ℕ
 var_of rows columns i j = var_at (column_at (columns_of rows 0 columns) j) i
 
--- Each input has a row, no column was made with more inputs than there are, and all variables are small.
+-- Each input has a row, no column was made with more inputs than there are, all variables are small, and columns are at most 256.
 pub record IsLaidOut (inputs : List Lit) (rows : List ℕ) (columns : List Column) : Type 0 where
   pub each : length rows ≡ length inputs
   pub counts : AllByRecursion (λ column. column.count ≤ length rows) columns

@@ -13,22 +13,22 @@ pub fn exclusion_is_code()
     ensures { ExclusionIsCode }
 {}
 
-/// A law: one after another they are listed so, literal by literal.
+/// A law: the clauses of an "at most one" are listed by name one after another, literal by literal.
 pub fn exclusion_is_listed()
     ensures { ExclusionIsListed }
 {}
 
-/// A law: by name they are the clauses of a list.
+/// A law: by name the clauses of an "at most one" are those of a list, at most three for each input.
 pub fn exclusions_are_listed()
     ensures { ExclusionsAreListed }
 {}
 
-/// A law: where these clauses are true by name, at most one input is.
+/// A law: where the clauses of an "at most one" are true by name, at most one input is.
 pub fn exclusion_is_sound()
     ensures { ExclusionIsSound }
 {}
 
-/// A law: where at most one input is true, the names of all chains can be chosen so that they are.
+/// A law: where at most one input of each is true, the names of all chains can be chosen so that the clauses are true.
 pub fn exclusion_is_complete()
     ensures { ExclusionIsComplete }
 {}
@@ -48,7 +48,8 @@ pub fn counter_is_exact()
     ensures { CounterIsExact }
 {}
 
-/// The same law by the names of variables.
+/// A law: by name, each truth of the inputs extends to a counter's clauses, and with "at most k" exactly where at most k of
+/// them are true.
 pub fn named_count_is_exact()
     ensures { NamedCountIsExact }
 {}

@@ -18,13 +18,16 @@ without_empty_last (piece ∷ next ∷ pieces) = piece ∷ without_empty_last (n
 abbrev pub text_lines : List ℕ → List (List ℕ)
 text_lines bytes = map strip_carriage_return (without_empty_last (slice_split (λ byte. byte == 10) bytes))
 
+-- a line of a text: its number among all lines, blank ones and comments too, and its bytes without the line's end
 pub record NumberedLine : Type 0 where
   pub number : ℕ
   pub text : List ℕ
 
+-- the line of this number and these bytes
 abbrev pub numbered : ℕ → List ℕ → NumberedLine
 numbered number text = record { number = number; text = text }
 
+-- these lines in order, of which the first has number n and each later one the next number
 abbrev pub numbered_from : ℕ → List (List ℕ) → List NumberedLine
 numbered_from n [] = []
 numbered_from n (line ∷ lines) = numbered n line ∷ numbered_from (n + 1) lines
@@ -50,6 +53,7 @@ pub record PlacedToken : Type 0 where
   pub start : ℕ
   pub text : List ℕ
 
+-- a token of these bytes, with so many bytes of its line before it
 abbrev pub placed : ℕ → List ℕ → PlacedToken
 placed start text = record { start = start; text = text }
 
@@ -65,6 +69,7 @@ pieces_from start (byte ∷ bytes) =
     if is_blank byte then placed start [] ∷ pieces_from (start + 1) bytes
     else with_byte start byte (pieces_from (start + 1) bytes)
 
+-- the tokens among these bytes, the first of which has this place in its line: the pieces between blanks that aren't empty
 abbrev pub tokens_from : ℕ → List ℕ → List PlacedToken
 tokens_from start bytes = filter (λ piece. nat_lt 0 (length piece.text)) (pieces_from start bytes)
 
@@ -76,8 +81,10 @@ placed_tokens line = tokens_from 0 line
 abbrev pub token_from : ℕ → List ℕ → Option PlacedToken
 token_from from line = find (λ token. nat_le from token.start) (placed_tokens line)
 
+-- the bytes of tokens, without their places
 abbrev pub texts_of : List PlacedToken → List (List ℕ)
 texts_of tokens = map (λ token. token.text) tokens
 
+-- the tokens of a line, as bytes
 abbrev pub tokens_of : List ℕ → List (List ℕ)
 tokens_of line = texts_of (placed_tokens line)

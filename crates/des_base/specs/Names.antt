@@ -10,6 +10,7 @@ is_name_byte c = (nat_le 97 c && nat_le c 122) || (nat_le 65 c && nat_le c 90) |
 unfoldable pub is_name_text : List ℕ → Bool
 is_name_text bytes = nat_le 1 (length bytes) && nat_le (length bytes) 64 && list_all is_name_byte bytes
 
+-- the bytes are a name: the test as a proposition
 abbrev pub IsName : List ℕ → Type 0
 IsName bytes = IsTrue (is_name_text bytes)
 
@@ -18,7 +19,7 @@ abbrev pub place_by : {X : Type 0} → (X → Bool) → List X → Option ℕ
 place_by p [] = None
 place_by p (x ∷ xs) = if p x then Some 0 else option_map suc (place_by p xs)
 
--- the first place of the text
+-- the first place at which the text stands among the names, counted from 0
 abbrev pub place_of : List ℕ → List (List ℕ) → Option ℕ
 place_of text names = place_by (bytes_eq text) names
 

@@ -2,17 +2,19 @@
 ghost use Rattle.std.specs.Prelude.{◌≡◌, ℕ, ◌+◌, ◌^◌, ◌<◌, ◌≤◌, List, [], length, take, Option, OnOk, OnErr, IfSome, IsErrOf};
 ghost use Rattle.des_base.specs.Outside.{Rose, Took, TookFront};
 
+/// Why a load gave no bytes: the shelf failed, which it counts, or memory was wanting.
 #[derive(Clone, Copy)]
 pub enum LoadFault {
     Failed,
     Memory,
 }
 
+/// Files by name, on a disk or in memory. It counts loads that fail, so that a fault has its cause.
 pub trait Shelf {
     /// What it holds under a name, where it tells that.
     ghost held: { Self → List ℕ → Option (List ℕ) };
 
-    /// How often a load of this name has failed.
+    /// A count for each name: a load of it that fails raises it, and no call lowers it.
     ghost faults: { Self → List ℕ → ℕ };
 
     /// Loads at most `limit + 1` bytes, so that a longer file is seen by its length.
@@ -30,13 +32,15 @@ pub trait Shelf {
 #[derive(Clone, Copy)]
 pub struct PutFault;
 
+/// Takes bytes, piece after piece. It counts puts that fail, so that a fault has its cause.
 pub trait Sink {
     /// The bytes that it has taken, where it tells them.
     ghost taken: { Self → Option (List ℕ) };
 
-    /// How often a put has failed.
+    /// A count that a put that fails raises, and that no call lowers.
     ghost faults: { Self → ℕ };
 
+    /// Takes the piece. Where that fails, a front of it may have been taken.
     fn put(&mut self, piece: &[u8]) -> Result<(), PutFault>
         ensures ok { OnOk result (Took (taken self.old) (taken self.new) piece.now) }
         ensures front { OnErr result (TookFront (taken self.old) (taken self.new) piece.now) }

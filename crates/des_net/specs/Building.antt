@@ -33,7 +33,7 @@ with_component net name = record net { component_names = net.component_names ++ 
 
 -- ---- what is added to one of the components
 
--- the component at a place is changed
+-- the component at a place is changed; where none is there, all stay
 unfoldable pub change_at : ℕ → (Component → Component) → List Component → List Component
 change_at place change components = option_map_or (λ c. slice_set components place (change c)) (slice_get components place) components
 
@@ -129,7 +129,7 @@ lacks_init c = not (list_any (λ b. b) c.initial)
 
 -- ---- what is true of a network, also while it is built
 
--- each state has a name of its own and a mark, each action a name of its own and a transition, and transitions are between states
+-- each state has a name of its own and a mark, and each action a name of its own; transitions are among these, and no fewer than the actions
 pub record IsDraftComponent (c : Component) : Type 0 where
   pub states : AreNames c.state_names
   pub actions : AreNames c.action_names
@@ -138,20 +138,22 @@ pub record IsDraftComponent (c : Component) : Type 0 where
   pub few_actions : length c.action_names ≤ length c.transitions
   pub trans : All (IsTransOf (length c.state_names) (length c.action_names)) c.transitions
 
--- an event's parts are of different components, which have the actions
+-- an event has at least one part and no more than it may, of different components, which have the actions
 pub record IsDraftEvent (components : List Component) (e : Event) : Type 0 where
   pub some : 1 ≤ length e.parts
   pub few : length e.parts ≤ most_parts
   pub once : repeats e.parts ≡ false
   pub known : list_all (is_known components) e.parts ≡ true
 
+-- each event is one over these components, within its limit
 pub record AreDraftEvents (components : List Component) (events : List Event) : Type 0 where
   pub each : All (IsDraftEvent components) events
 
+-- each component is one, save that it may still lack an initial state
 pub record AreDraftComponents (components : List Component) : Type 0 where
   pub each : All IsDraftComponent components
 
--- each component and each event has a name of its own, and no limit is passed
+-- components and events are well in themselves, each has a name of its own, and no limit is passed
 pub record IsDraft (net : Net) : Type 0 where
   pub named : length net.component_names ≡ length net.components
   pub called : length net.event_names ≡ length net.events

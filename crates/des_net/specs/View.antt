@@ -5,9 +5,11 @@ use Rattle.des_net.specs.Building.{IsDraft, trans_count}
 use Rattle.des_net.specs.declared.component.Comp.TheInside.{Inside as CompInside}
 use Rattle.des_net.specs.declared.builder.Builder.TheInside.{Inside}
 
+-- a component as it is built, as the lists of its names, marks and transitions
 abbrev pub component_view : CompInside → Component
 component_view a = record { state_names = a.state_names; initial = a.initial.items; transitions = a.transitions.keys; action_names = a.action_names }
 
+-- a builder, as the network that was built so far
 abbrev pub builder_view : Inside → Net
 builder_view a = record { component_names = a.component_names; components = a.components.items; event_names = a.event_names; events = a.events.items }
 

@@ -11,7 +11,7 @@ use Rattle.diagnose_cli.specs.Texts.{FileKind, model, log, script, run, cnf, lra
 abbrev pub calls : List (List ℕ) → List ℕ → ℕ → Bool
 calls words name count = nat_eq (length words) count && bytes_eq (word_at words 0) name
 
--- the parallel steps that `replay` and `diagnose` may be asked for
+-- the most parallel steps that a command may be asked for
 abbrev pub most_steps : ℕ
 most_steps = 1000
 

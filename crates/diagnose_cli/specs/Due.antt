@@ -49,6 +49,7 @@ InOrder l words i (kind ∷ kinds) files closes e =
     WithFile l i (word_at words i) (limit_of kind)
     (λ bytes e. MatchOption (fault_of_text kind files bytes) (InOrder l words (i + 1) kinds (files ++ bytes ∷ []) closes e) (λ text. e ≡ Err (Faulty text))) e
 
+-- what may be answered to a command with this book left: its files in order, which stand from word 1 on, and then the end
 abbrev pub Answers : Loads → List (List ℕ) → Command → List BookEntry → Ending → Type 0
 Answers l words c book = InOrder l words 1 (files_of c) [] (Closes c book)
 

@@ -9,6 +9,7 @@ use Rattle.diagnose_cli.specs.declared.ending.Kind.TheVariants.{Done, Rejected, 
 use Rattle.report.specs.Replies.{numbered, placed}
 use Rattle.diagnose_cli.specs.Transcripts.{End, finished, cut, broken, Ending, whole, replies}
 
+-- the status of a reply, by its kind
 abbrev pub status_of_kind : Kind → ℕ
 status_of_kind Done = 0
 status_of_kind Rejected = 13
@@ -17,6 +18,7 @@ status_of_kind Undecided = 11
 status_of_kind Many = 12
 status_of_kind Nothing = 14
 
+-- the status where a text has a fault, by what it is a text of; a script counts as a log
 abbrev pub status_of_faulty : FaultyText → ℕ
 status_of_faulty (Model fault) = 5
 status_of_faulty (Log fault) = 6
@@ -24,6 +26,7 @@ status_of_faulty (Run fault) = 7
 status_of_faulty (Cnf fault) = 7
 status_of_faulty (Lrat fault) = 7
 
+-- the status of a stop
 abbrev pub status_of_stop : Stop → ℕ
 status_of_stop Usage = 2
 status_of_stop (Load file) = 3
@@ -32,7 +35,7 @@ status_of_stop (Long file) = 8
 status_of_stop (Large size) = 8
 status_of_stop Memory = 9
 
--- of a session
+-- the status of a session, by how it ends
 abbrev pub status_of_end : End → ℕ
 status_of_end finished = 0
 status_of_end cut = 4
@@ -44,6 +47,7 @@ HasStatus (Ok (whole reply)) status = status ≡ status_of_kind reply.0
 HasStatus (Ok (replies texts end)) status = status ≡ status_of_end end
 HasStatus (Err stop) status = status ≡ status_of_stop stop
 
+-- the first fault of a text: what it is a text of, the line or the row, and the code of the fault
 abbrev pub text_of_faulty : FaultyText → List ℕ
 text_of_faulty (Model fault) = placed (codes "MODEL ") fault.line fault.code
 text_of_faulty (Log fault) = placed (codes "LOG ") fault.row fault.code
@@ -51,6 +55,7 @@ text_of_faulty (Run fault) = placed (codes "RUN ") fault.line fault.code
 text_of_faulty (Cnf fault) = placed (codes "CNF ") fault.line fault.code
 text_of_faulty (Lrat fault) = placed (codes "LRAT ") fault.line fault.code
 
+-- the text of a stop, on one line; it is empty where memory is wanting
 abbrev pub text_of_stop : Stop → List ℕ
 text_of_stop Usage = codes "USAGE\n"
 text_of_stop (Load file) = numbered (codes "LOAD ") file
@@ -59,6 +64,7 @@ text_of_stop (Long file) = numbered (codes "LONG ") file
 text_of_stop (Large size) = numbered (codes "LARGE ") size
 text_of_stop Memory = []
 
+-- the texts of an ending, in the order in which they are put
 abbrev pub texts_of : Ending → List (List ℕ)
 texts_of (Ok (whole reply)) = reply.1 ∷ []
 texts_of (Ok (replies texts end)) = texts

@@ -13,6 +13,7 @@ pub record Loads : Type 0 where
   pub before : List ℕ → ℕ
   pub after : List ℕ → ℕ
 
+-- what a shelf holds in its old state, and its counts of faults in the old and the new one, by the functions that tell these
 abbrev pub loads : {S : Type 0} → (S → List ℕ → Option (List ℕ)) → (S → List ℕ → ℕ) → S → S → Loads
 loads held faults old new = record { held = held old; before = faults old; after = faults new }
 

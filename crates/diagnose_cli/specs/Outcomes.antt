@@ -15,6 +15,7 @@ pub record Outcome : Type 0 where
   pub book : List BookEntry
   pub status : ℕ
 
+-- an outcome of these parts, in the order of its fields
 abbrev pub outcome : Loads → List (List ℕ) → Option (List ℕ) → Option (List ℕ) → List BookEntry → ℕ → Outcome
 outcome loads words before now book status = record { loads = loads; words = words; before = before; now = now; book = book; status = status }
 

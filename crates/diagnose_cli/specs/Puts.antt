@@ -37,7 +37,7 @@ pub record IsCutOff (may : Ending → Type 0) (before now : Option (List ℕ)) :
   pub split : texts_of ending ≡ texts ++ next ∷ []
   pub put : TookCut before now texts next
 
--- by the status that is answered
+-- what may come was put: whole, or where the status is 4 with a front of its last text; rose says that the sink's count of faults rose
 pub record Speaks (may : Ending → Type 0) (before now : Option (List ℕ)) (rose : Type 0) (status : ℕ) : Type 0 where
   pub ends : status ≢ 4 → Finishes may before now status
   pub put_failed : status ≡ 4 → rose

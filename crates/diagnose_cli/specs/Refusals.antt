@@ -11,22 +11,27 @@ use Rattle.diagnose_cli.specs.declared.stop.FaultyText.TheVariants.{Model, Log, 
 use Rattle.diagnose_cli.specs.declared.stop.Stop.{Stop}
 use Rattle.diagnose_cli.specs.declared.stop.Stop.TheVariants.{Faulty, Memory}
 
+-- where a model text is refused: by its fault, or since memory is wanting
 abbrev pub stop_of_model : ModelRefusal → Stop
 stop_of_model (ModelFaulty fault) = Faulty (Model fault)
 stop_of_model ModelMemory = Memory
 
+-- where a run text is refused
 abbrev pub stop_of_run : RunRefusal → Stop
 stop_of_run (RunFaulty fault) = Faulty (Run fault)
 stop_of_run RunMemory = Memory
 
+-- where a log text or a script is refused
 abbrev pub stop_of_log : LogReadRefusal → Stop
 stop_of_log (LogFaulty fault) = Faulty (Log fault)
 stop_of_log LogMemory = Memory
 
+-- where a formula text is refused
 abbrev pub stop_of_cnf : TextRefusal → Stop
 stop_of_cnf (TextFaulty fault) = Faulty (Cnf fault)
 stop_of_cnf TextMemory = Memory
 
+-- where a proof text is refused
 abbrev pub stop_of_lrat : TextRefusal → Stop
 stop_of_lrat (TextFaulty fault) = Faulty (Lrat fault)
 stop_of_lrat TextMemory = Memory

@@ -38,10 +38,12 @@ use Rattle.diagnose_cli.specs.Formula.{IsFormulaOf, question_formula}
 use Rattle.diagnose_cli.specs.Proof.{IsCheckedText, IsRefuted, proof_head}
 use Rattle.diagnose_cli.specs.Texts.{limit_of, run}
 
+-- a run that the network can perform is the yes of `trace`; one that gets stuck is rejected
 abbrev pub kind_of_traced : Traced → Kind
 kind_of_traced (Ran faults) = Done
 kind_of_traced (Stuck at) = Rejected
 
+-- the reply of `trace` to what tracing a run tells
 abbrev pub reply_of_traced : Traced → Kind × List ℕ
 reply_of_traced traced = (kind_of_traced traced, text_of_traced traced)
 
@@ -60,6 +62,7 @@ pub record SaysShown (text : List ℕ) (reply : Kind × List ℕ) : Type 0 where
   pub is : reply ≡ reply_of_model (network_of text)
   pub again : ReadsBack (network_of text)
 
+-- an accepted run is the yes of `replay`; any other is rejected, whatever is wrong with it
 abbrev pub kind_of_replayed : Replayed → Kind
 kind_of_replayed (Accepted faults) = Done
 kind_of_replayed (AtEvent at) = Rejected
@@ -68,7 +71,7 @@ kind_of_replayed (Missing alarm) = Rejected
 kind_of_replayed (Order first second) = Rejected
 kind_of_replayed (TooWide pieces) = Rejected
 
--- alarms are told by their names
+-- the reply of `replay` to what replaying a run tells, with the names of the log's alarms
 abbrev pub reply_of_replayed : List (List ℕ) → Replayed → Kind × List ℕ
 reply_of_replayed names replayed = (kind_of_replayed replayed, text_of_replayed names replayed)
 
@@ -80,10 +83,12 @@ pub record SaysReplayed (steps : ℕ) (text alarms events : List ℕ) (reply : K
   pub accepted : (faults : ℕ) → (replayed ≡ Accepted faults) ↔ IsAccepted (network_of text) (log_of alarms) (run_of (network_of text) events) steps faults
   pub is : reply ≡ reply_of_replayed (names_of (log_of alarms).alarms) replayed
 
+-- a verified proof is the yes of `check`; any other is rejected
 abbrev pub kind_of_checked : Checked → Kind
 kind_of_checked Verified = Done
 kind_of_checked (Fails line kind) = Rejected
 
+-- the reply of `check` to what checking a proof tells
 abbrev pub reply_of_checked : Checked → Kind × List ℕ
 reply_of_checked checked = (kind_of_checked checked, text_of_checked checked)
 
@@ -91,12 +96,14 @@ reply_of_checked checked = (kind_of_checked checked, text_of_checked checked)
 abbrev pub SaysChecked : List ℕ → List ℕ → (Kind × List ℕ) → Type 0
 SaysChecked formula proof reply = reply ≡ reply_of_checked (check_proof (formula_of formula).clauses (proof_of proof))
 
+-- a least number of faults is the yes of a question; the other answers have kinds of their own
 abbrev pub kind_of_found : Found → Kind
 kind_of_found (Explained best) = Done
 kind_of_found NotExplained = Absent
 kind_of_found (ManyFaults best) = Many
 kind_of_found (NotDecided lo best) = Undecided
 
+-- the reply to a question within n steps, by what was found
 abbrev pub reply_of_found : Net → ℕ → Found → Kind × List ℕ
 reply_of_found net n found = (kind_of_found found, text_of_found net n found)
 

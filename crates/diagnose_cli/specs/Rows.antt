@@ -70,29 +70,34 @@ Row o c texts = Reads o c texts → IsUnbroken o.status → Tells o (Says c o.bo
 abbrev pub RowAlone : Outcome → Command → Type 0
 RowAlone o c = Reads o c [] → IsPut o.status → Tells o (Says c o.book [])
 
+-- so `trace` answers, over a model text and a run text
 abbrev pub TraceRow : Outcome → Type 0
 TraceRow o = (text steps : List ℕ) → Row o Trace (text ∷ steps ∷ [])
 
+-- so `show` answers, over a model text
 abbrev pub ShowRow : Outcome → Type 0
 ShowRow o = (text : List ℕ) → Row o Show (text ∷ [])
 
+-- so `replay` answers, over a model text, a log text and a run text
 abbrev pub ReplayRow : Outcome → Type 0
 ReplayRow o = (steps : ℕ) (text alarms events : List ℕ) → Row o (Replay steps) (text ∷ alarms ∷ events ∷ [])
 
--- and where the status is 0, no assignment makes all clauses of the formula true
+-- so `check` answers, over a formula text and a proof text; and where the status is 0, no assignment makes all clauses of the formula true
 pub record CheckRows (o : Outcome) : Type 0 where
   pub checked : (formula proof : List ℕ) → Row o Check (formula ∷ proof ∷ [])
   pub refuted : (formula : List ℕ) → Asks o Check (formula ∷ []) → o.status ≡ 0 → IsUnsatisfiable (formula_of formula).clauses
 
--- a question as a formula, and the refutation of one
+-- so `cnf` answers, with a question as a formula, and `proof`, with the refutation of one, over a model text and a log text
 pub record PrintedRows (o : Outcome) : Type 0 where
   pub formula : (steps : ℕ) (bound : Option ℕ) (text alarms : List ℕ) → Row o (PrintCnf steps bound) (text ∷ alarms ∷ [])
   pub proof : (steps budget : ℕ) (text alarms : List ℕ) → Row o (PrintProof steps budget) (text ∷ alarms ∷ [])
 
+-- so `generate` answers, with a model or with a log; it has no files
 pub record GenerateRows (o : Outcome) : Type 0 where
   pub model : (units start : ℕ) → RowAlone o (GenerateModel units start)
   pub log : (units start : ℕ) → RowAlone o (GenerateLog units start)
 
+-- so `bench` answers, which has no files
 abbrev pub BenchRow : Outcome → Type 0
 BenchRow o = (units start steps budget : ℕ) → RowAlone o (Bench units start steps budget)
 

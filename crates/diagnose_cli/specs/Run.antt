@@ -79,6 +79,7 @@ pub record LeavesAlone {F B : Type 0} (words : List (List ℕ)) (status : ℕ) (
 
 -- ---- all of it
 
+-- what every command answers, and how the run ends; rose says that the sink's count of faults rose
 pub record Does (o : Outcome) (rose : Type 0) : Type 0 where
   pub diagnosed : DiagnoseRows o
   pub replayed : ReplayRow o

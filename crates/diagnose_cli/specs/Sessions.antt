@@ -46,7 +46,7 @@ pub record IsCarriedOut (net : Net) (n budget : ℕ) (old : Stage) (row : Row) (
   pub holds : IsRowTold net n budget old row new told
   pub replays : TellsReplaying net old.log n told
 
--- by how it went, with P of the replies where it was carried out
+-- the row was carried out, and P holds of its replies
 pub record IsRowPut (net : Net) (n budget : ℕ) (old : Stage) (row : Row) (new : Stage) (P : List (List ℕ) → Type 0) : Type 0 where
   pub told : Told
   pub carried : IsCarriedOut net n budget old row new told
@@ -57,6 +57,7 @@ pub record IsRowLost (net : Net) (n budget : ℕ) (old : Stage) (row : Row) (new
   pub untold : IsUntold net n budget row old new
   pub put : Took before now []
 
+-- by how a row went: its replies were put, memory was wanting and nothing was put, or a put failed and a front of the reply was put
 abbrev pub RowGoes : Net → ℕ → ℕ → Stage → Row → Stage → Option (List ℕ) → Option (List ℕ) → Type 0 → Result (Unit {0}) Broken → Type 0
 RowGoes net n budget old row new before now rose (Ok done) = IsRowPut net n budget old row new (λ texts. Took before now (concat texts))
 RowGoes net n budget old row new before now rose (Err Memory) = IsRowLost net n budget old row new before now

@@ -33,27 +33,31 @@ limit_of run = 536870912
 limit_of cnf = 536870912
 limit_of lrat = 536870912
 
--- the first fault of a text
+-- the first fault of a model text
 abbrev pub fault_of_model : List ℕ → Option FaultyText
 fault_of_model bytes = option_map (λ fault. Model fault) (first_model_fault bytes)
 
+-- the first fault of a run text over this network
 abbrev pub fault_of_run : Net → List ℕ → Option FaultyText
 fault_of_run net bytes = option_map (λ fault. Run fault) (first_run_fault net bytes)
 
+-- the first fault of a log text
 abbrev pub fault_of_log : List ℕ → Option FaultyText
 fault_of_log bytes = option_map (λ fault. Log fault) (first_log_fault bytes)
 
--- a script has the codes of a log that are about its shape
+-- the first fault of a script, which has the codes of a log that are about its shape
 abbrev pub fault_of_script : List ℕ → Option FaultyText
 fault_of_script bytes = option_map (λ fault. Log fault) (first_script_fault bytes)
 
+-- the first fault of a formula text
 abbrev pub fault_of_cnf : List ℕ → Option FaultyText
 fault_of_cnf bytes = option_map (λ fault. Cnf fault) (first_cnf_fault bytes)
 
+-- the first fault of a proof text over this formula, of which the numbers of variables and of clauses matter
 abbrev pub fault_of_lrat : Formula → List ℕ → Option FaultyText
 fault_of_lrat formula bytes = option_map (λ fault. Lrat fault) (first_lrat_fault formula.vars (length formula.clauses) bytes)
 
--- the same by the kind of the file, where the files before it are given: a run is read over the model, and a proof over the formula
+-- the first fault of a text by the kind of its file, where the files before it are given: a run is read over the model, and a proof over the formula
 abbrev pub fault_of_text : FileKind → List (List ℕ) → List ℕ → Option FaultyText
 fault_of_text model files bytes = fault_of_model bytes
 fault_of_text log files bytes = fault_of_log bytes

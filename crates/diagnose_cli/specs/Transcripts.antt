@@ -24,6 +24,7 @@ Ending = Result Transcript Stop
 abbrev pub IsWhole : ((Kind × List ℕ) → Type 0) → Transcript → Type 0
 IsWhole P told = (reply : Kind × List ℕ) × P reply × (told ≡ whole reply)
 
+-- the ending of a command that has one reply: this reply, or why there is none
 abbrev pub once : Result (Kind × List ℕ) Stop → Ending
 once (Ok reply) = Ok (whole reply)
 once (Err stop) = Err stop

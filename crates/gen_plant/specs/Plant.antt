@@ -16,18 +16,20 @@ units z = range_with_len 1 z
 
 -- ---- which units trip
 
--- numbers below 97, as of a linear congruential generator (Lehmer, 1949): the first is the start's rest, and each gives the next
+-- the number below 97 that follows one, as in a mixed congruential generator (Rotenberg, "A new pseudo-random number generator", 1960)
 abbrev pub number_after : ℕ → ℕ
 number_after x = (5 * x + 3) % 97
 
+-- number i of the sequence that begins with the start's rest by 97, counted from 0; unit i has number i
 abbrev pub number_of : ℕ → ℕ → ℕ
 number_of start zero = start % 97
 number_of start (suc i) = number_after (number_of start i)
 
--- a unit trips where 4 divides its number
+-- unit i trips where 4 divides number i of the sequence
 abbrev pub trips : ℕ → ℕ → Bool
 trips start i = number_of start i % 4 == 0
 
+-- the units, of z, that trip from this start, in order
 abbrev pub tripping : ℕ → ℕ → List ℕ
 tripping z start = filter (trips start) (units z)
 
@@ -46,25 +48,31 @@ unit_component = record {
   action_names = codes "jam" ∷ codes "trip" ∷ codes "fix" ∷ [];
 }
 
+-- the name of unit i's component
 abbrev pub unit_name : ℕ → List ℕ
 unit_name i = codes "u" ++ decimal i
 
+-- the name of the event in which unit i jams
 abbrev pub jam_name : ℕ → List ℕ
 jam_name i = codes "jam-" ++ decimal i
 
+-- the name of the event in which unit i trips
 abbrev pub trip_name : ℕ → List ℕ
 trip_name i = codes "trip-" ++ decimal i
 
+-- the name of the event in which unit i is fixed
 abbrev pub fix_name : ℕ → List ℕ
 fix_name i = codes "fix-" ++ decimal i
 
+-- the names of unit i's three events, in the order of the events
 abbrev pub event_names_of : ℕ → List (List ℕ)
 event_names_of i = jam_name i ∷ trip_name i ∷ fix_name i ∷ []
 
--- the label of its trip, and that of its repair
+-- the label by which the trip of unit i is seen
 abbrev pub trip_label : ℕ → List ℕ
 trip_label i = codes "T-" ++ decimal i
 
+-- the label by which the repair of unit i is seen
 abbrev pub fix_label : ℕ → List ℕ
 fix_label i = codes "F-" ++ decimal i
 
@@ -72,6 +80,7 @@ fix_label i = codes "F-" ++ decimal i
 abbrev pub events_of : ℕ → List Event
 events_of i = fails (takes i 0 ∷ []) ∷ seen (trip_label i) (takes i 1 ∷ takes 0 0 ∷ []) ∷ seen (fix_label i) (takes i 2 ∷ []) ∷ []
 
+-- the plant of z units: the bus and then the units, each with its three events
 abbrev pub plant_net : ℕ → Net
 plant_net z = record {
   component_names = codes "bus" ∷ map unit_name (units z);
@@ -82,6 +91,7 @@ plant_net z = record {
 
 -- ---- the log
 
+-- the name of unit i's alarm
 abbrev pub alarm_name : ℕ → List ℕ
 alarm_name i = codes "a" ++ decimal i
 
@@ -93,5 +103,6 @@ alarm_of i = an_alarm (alarm_name i) (trip_label i ∷ []) false
 abbrev pub in_a_row : ℕ → List (ℕ × ℕ)
 in_a_row count = map (λ k. (k, k + 1)) (numbers_below (count - 1))
 
+-- the log of the plant of z units from this start: an alarm for each unit that trips, each before the next
 abbrev pub plant_log : ℕ → ℕ → Log
 plant_log z start = a_log (map alarm_of (tripping z start)) (in_a_row (length (tripping z start)))

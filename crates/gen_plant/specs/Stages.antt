@@ -9,7 +9,7 @@ use Rattle.log_order.specs.Adding.{names_of}
 use Rattle.log_order.specs.Log.{Log, a_log}
 use Rattle.gen_plant.specs.Plant.{most_units, units, bus_component, unit_component, unit_name, jam_name, trip_name, fix_name, event_names_of, events_of, trip_label, alarm_name, alarm_of, in_a_row}
 
--- a word that a number may follow in a name
+-- a word that a number of up to four digits may follow in a name
 abbrev pub is_front : List ℕ → Bool
 is_front word = nat_le (length word) 60 && list_all is_name_byte word
 
@@ -38,9 +38,11 @@ first_events z done = record (first_components z) { event_names = flat_map event
 abbrev pub with_unit_events : Net → ℕ → Net
 with_unit_events net unit = record net { event_names = net.event_names ++ event_names_of unit; events = net.events ++ events_of unit }
 
+-- the network with the first of the unit's events, its jam
 abbrev pub after_jam : Net → ℕ → Net
 after_jam net unit = with_event net (jam_name unit) (takes unit 0 ∷ []) None true
 
+-- the network with the first two of the unit's events, its jam and its trip
 abbrev pub after_trip : Net → ℕ → Net
 after_trip net unit = with_event (after_jam net unit) (trip_name unit) (takes unit 1 ∷ takes 0 0 ∷ []) (Some (trip_label unit)) false
 

@@ -60,6 +60,7 @@ pub record IsUndecidedFound (names : List (ℕ × Name)) (first : BuiltQuestion)
   pub given : IfSome best (λ run. IsExplanation net log n run × (lo < run.faults))
   pub unknown : IfNone best ((lo ≡ 0) × (list_all is_learnt since ≡ true))
 
+-- what it means that this was found, and what the entries since the question was opened show of it
 abbrev pub IsFound : List (ℕ × Name) → BuiltQuestion → List BookEntry → Net → Log → ℕ → ℕ → Found → Type 0
 IsFound names first since net log n budget (Explained best) = IsLeastFound names first since net log n best
 IsFound names first since net log n budget Absent = IsAbsentFound names first since net log n

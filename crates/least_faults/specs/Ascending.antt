@@ -22,7 +22,7 @@ abbrev pub FinalsAreBelow : CodedLog → CounterState → ℕ → List BookEntry
 FinalsAreBelow code counter k since = (clause : Clause) (hints : List ℕ) → Contains since (final clause hints) →
     (j : ℕ) × (j < k) × (assumed : List Lit) × AreAssumptions code counter (Some j) assumed × NegatesOnly assumed clause
 
--- the bound before is refuted, by the last final entry
+-- the bound k is refuted, by the last final entry; the search has come to the next one
 pub record IsRefutedBelow (code : CodedLog) (counter : CounterState) (net : Net) (log : Log) (n k : ℕ) (first : BuiltQuestion) (since : List BookEntry) : Type 0 where
   pub assumed : List Lit
   pub assumptions : AreAssumptions code counter (Some k) assumed

@@ -28,6 +28,7 @@ use Rattle.step_encode.specs.Coded.{CodedSteps}
 
 -- ---- what is assumed
 
+-- the counter's literal for at most k faults, or nothing where there is no bound
 abbrev pub bound_part : CounterState → Option ℕ → List Lit
 bound_part counter None = []
 bound_part counter (Some k) = bound_literal counter k ∷ []
@@ -103,6 +104,7 @@ pub record IsStopped (code : CodedLog) (counter : CounterState) (bound : Option 
   pub assumptions : AreAssumptions code counter bound assumed
   pub clashes : Clashes (clauses_of book) assumed
 
+-- what an answer means: an explanation is found, the question is refuted, or the budget is spent
 abbrev pub Means : CodedLog → CounterState → Net → Log → ℕ → Option ℕ → BuiltQuestion → List BookEntry → List BookEntry → ℕ → Asked → Type 0
 Means code counter net log n bound first since book budget (Explained best) = IsWitness counter net log n bound best
 Means code counter net log n bound first since book budget Refuted = IsRefusal code counter net log n bound first since

@@ -19,6 +19,7 @@ pub record IsPosed (names : List (ℕ × Name)) (clauses : List Clause) (assumed
   pub instances : AllByRecursion (IsInstance net log n names) clauses
   pub assumes : ReadsAs names assumed (assumption_literals net log n bound)
 
+-- the entry is a final clause, as a refuted question leaves it
 abbrev pub is_final : BookEntry → Bool
 is_final (axiomatic clause) = false
 is_final (learnt clause hints) = false

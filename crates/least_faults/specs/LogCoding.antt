@@ -19,10 +19,11 @@ pub record IsCodeOf (net : Net) (log : Log) (grid : Grid) (code : CodedLog) : Ty
   pub log_is : code.log ≡ log
   pub grid_is : code.grid ≡ grid
 
--- what is added for alarms, and for pairs
+-- what is added for alarms, one after another
 abbrev pub alarms_added : List Alarm → List Addition
 alarms_added alarms = map (λ alarm. alarm_added alarm) alarms
 
+-- what is added for pairs of alarms, one after another
 abbrev pub pairs_added : List (ℕ × ℕ) → List Addition
 pairs_added pairs = map (λ pair. pair_added pair.0 pair.1) pairs
 

@@ -19,6 +19,6 @@ variables_of_first net log n k = sum_by (own_variables net log n) (numbers_below
 abbrev pub variables_of_alarms : Net → Log → ℕ → ℕ
 variables_of_alarms net log n = variables_of_first net log n (length log.alarms)
 
--- and those of the empty log
+-- those of all alarms and those of the empty log, which has one for each event that can be seen and one more
 abbrev pub log_variables : Net → Log → ℕ → ℕ
 log_variables net log n = 1 + observable_count net + variables_of_alarms net log n

@@ -15,6 +15,7 @@ pub record ChainGrows (net : Net) (log : Log) (e : ℕ) : Type 0 where
       ≡ chain net log e ++ filter (is_matching net (with_addition log (alarm_added new)) e) (length log.alarms ∷ [])
   pub by_pair : (i j : ℕ) → chain net (with_addition log (pair_added i j)) e ≡ chain net log e
 
+-- So the chain of each event grows, in each network and log.
 abbrev pub ChainsGrow : Type 0
 ChainsGrow = (net : Net) (log : Log) (e : ℕ) → ChainGrows net log e
 
@@ -24,6 +25,7 @@ AdditionsAreExact = (net : Net) (log : Log) (n : ℕ) (addition : Addition) (whi
     (IsLogClause net (with_addition log addition) n which ↔ IsLogClause net log n which ⊎ IsAddedClause net log n addition which)
     × (IsLogClause net log n which → log_clause net log n which ≡ log_clause net (with_addition log addition) n which)
 
+-- The clauses of the empty log are the first clauses, and no others.
 abbrev pub EmptyLogIsExact : Type 0
 EmptyLogIsExact = (net : Net) (n : ℕ) (which : LogClause) → IsLogClause net no_log n which ↔ IsFirstClause net n which
 

@@ -11,6 +11,7 @@ pub data Addition : Type 0 where
   alarm_added : Alarm → Addition
   pair_added : (i j : ℕ) → Addition
 
+-- the log with the addition behind what it has: a new alarm gets the next number, and a pair comes last, even if it stands there already
 abbrev pub with_addition : Log → Addition → Log
 with_addition log (alarm_added new) = record log { alarms = log.alarms ++ new ∷ [] }
 with_addition log (pair_added i j) = record log { pairs = log.pairs ++ (i, j) ∷ [] }
@@ -50,6 +51,6 @@ abbrev pub IsAddedClause : Net → Log → ℕ → Addition → LogClause → Ty
 IsAddedClause net log n (alarm_added new) which = IsAlarmClause net log n new which
 IsAddedClause net log n (pair_added i j) which = (t : ℕ) × (t ≤ n) × (which ≡ before_if_asked i j t)
 
--- the clauses of the empty log: no event that can be seen happens where all chains are closed
+-- the clauses of the empty log: no event that can be seen happens where its chain, which has no alarm, is closed
 abbrev pub IsFirstClause : Net → ℕ → LogClause → Type 0
 IsFirstClause net n which = (e : ℕ) × (t : ℕ) × IsTrue (is_some (label_of net e)) × (t < n) × (which ≡ chain_closed e 0 t)

@@ -15,10 +15,11 @@ event_at net log value t i = find (λ e. value (matches i e (suc t))) (matching_
 abbrev pub alarm_at : Net → Log → (Name → Bool) → ℕ → ℕ → Option ℕ
 alarm_at net log value e t = find (λ i. value (matches i e t)) (chain net log e)
 
--- those of the alarms that stand for an event of the step after t steps, and these events
+-- those of the alarms that stand for an event of the step after t steps
 abbrev pub alarms_at : Net → Log → (Name → Bool) → List ℕ → ℕ → List ℕ
 alarms_at net log value alarms t = filter (λ i. is_some (event_at net log value t i)) alarms
 
+-- the events that these alarms stand for in the step after t steps, in the order of the alarms
 abbrev pub shown_at : Net → Log → (Name → Bool) → List ℕ → ℕ → List ℕ
 shown_at net log value alarms t = filter_map (event_at net log value t) alarms
 
@@ -41,10 +42,11 @@ abbrev pub comes : (Name → Bool) → ℕ → ℕ → Bool
 comes value i zero = value (done i zero)
 comes value i (suc t) = value (done i (suc t)) && not (value (done i t))
 
--- the alarms that get done in step t, in their given order, each with whether it is true
+-- alarm i, with whether it is true
 abbrev pub entry_of : Log → (Name → Bool) → ℕ → Entry
 entry_of log value i = record { alarm = i; real = not (is_false log value i) }
 
+-- the entries of the alarms that get done in step t, or, where that is 0, are so from the start, in their given order
 abbrev pub entries_at : Log → (Name → Bool) → List ℕ → ℕ → List Entry
 entries_at log value alarms t = map (entry_of log value) (filter (λ i. comes value i t) alarms)
 
@@ -57,9 +59,10 @@ arranged_order log value alarms t (piece ∷ pieces) = entries_at log value alar
 abbrev pub whole_order : Log → (Name → Bool) → List ℕ → List (List ℕ) → List Entry
 whole_order log value alarms pieces = entries_at log value alarms 0 ++ arranged_order log value alarms 0 pieces
 
--- the pieces of n steps and their order of alarms, where the given order of all alarms settles what the steps leave open
+-- the pieces of n steps, where the given order of all alarms settles what the steps leave open
 abbrev pub decoded : Net → Log → (Name → Bool) → List ℕ → ℕ → List (List ℕ)
 decoded net log value alarms n = arranged net log value alarms 0 (step_sets net n value)
 
+-- and the order of alarms that goes with these pieces
 abbrev pub decoded_order : Net → Log → (Name → Bool) → List ℕ → ℕ → List Entry
 decoded_order net log value alarms n = whole_order log value alarms (step_sets net n value)

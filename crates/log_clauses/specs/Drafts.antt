@@ -43,6 +43,7 @@ abbrev pub real_clauses : Bool → ℕ → List ℕ → ℕ → List LogClause
 real_clauses false i events n = []
 real_clauses true i events n = flat_map (λ e. map (λ t. match_is_real i e t) (numbers_below n)) events
 
+-- all clauses of an addition: those of an alarm, or of a pair one for each number of steps from 0 to n
 abbrev pub added_clauses : Net → Log → ℕ → Addition → List LogClause
 added_clauses net log n (alarm_added new) = alarm_clauses net log n new ++ real_clauses new.doubtful (length log.alarms) (taken_events net log new) n
 added_clauses net log n (pair_added i j) = map (λ t. before_if_asked i j t) (numbers_below (suc n))
@@ -51,10 +52,11 @@ added_clauses net log n (pair_added i j) = map (λ t. before_if_asked i j t) (nu
 abbrev pub first_clauses : Net → ℕ → List LogClause
 first_clauses net n = flat_map (λ e. map (λ t. chain_closed e 0 t) (numbers_below n)) (observable_events net)
 
--- the same by name
+-- the clauses of an addition by name, as the log with the addition has them
 abbrev pub added_list : Net → Log → ℕ → Addition → Listing
 added_list net log n addition = map (log_clause net (with_addition log addition) n) (added_clauses net log n addition)
 
+-- and those of the empty log by name
 abbrev pub first_list : Net → ℕ → Listing
 first_list net n = map (log_clause net no_log n) (first_clauses net n)
 

@@ -28,7 +28,7 @@ observable_events net = filter (λ e. is_some (label_of net e)) (numbers_below (
 abbrev pub doubtful_alarms : Log → List ℕ
 doubtful_alarms log = filter (is_doubtful log) (numbers_below (length log.alarms))
 
--- Which clause of the log it is. Step t leads from what holds after t steps to what holds after t + 1.
+-- Which clause of the log it is. Its step is the one after t steps, which names count as step t + 1; of a pair, t is a number of steps.
 pub data LogClause : Type 0 where
   chain_closed : (e k t : ℕ) → LogClause
   takes_rest : (i e k t : ℕ) → LogClause
@@ -49,6 +49,7 @@ pub data LogClause : Type 0 where
 abbrev pub or_false : Log → ℕ → List NamedLiteral → List NamedLiteral
 or_false log i literals = if is_doubtful log i then yes (dropped i) ∷ literals else literals
 
+-- the literals of a clause, by name; n, the number of all steps, is read by `done_if_asked` alone
 abbrev pub log_clause : Net → Log → ℕ → LogClause → List NamedLiteral
 -- where the chain of e is closed after k alarms, one of these has taken e
 log_clause net log n (chain_closed e k t) = no (closed e k) ∷ no (remaining e k (suc t)) ∷ []

@@ -36,6 +36,7 @@ pub record MakesLogTrue (assignment : ℕ → Bool) (written : List Clause) (ass
   pub clauses : AllClausesTrue assignment written
   pub guards : AllLiteralsTrue assignment assumed
 
+-- by these names clauses and guards say exactly which steps linearise the log, and the clauses alone allow whatever events happen
 pub record IsExactLogCode (net : Net) (log : Log) (n : ℕ) (names : List (ℕ × Name)) (written : List Clause) (assumed : List Lit) : Type 0 where
   -- Where clauses and guards are true, the sets of the steps, arranged by any order of the alarms that keeps the pairs, linearise the log.
   pub sound : (assignment : ℕ → Bool) (pieces : List (List ℕ)) (alarms : List ℕ) → IsValidLog log → ListsOnce (length log.alarms) alarms → Keeps alarms log.pairs →

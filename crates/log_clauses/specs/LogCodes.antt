@@ -34,6 +34,7 @@ pub record CodesStayBy (names more : List (ℕ × Name)) (clauses : List Clause)
   pub steps : (net : Net) (n : ℕ) → IsCode names (IsNamedStep net n) clauses → IsCode more (IsNamedStep net n) clauses
   pub log : (net : Net) (log : Log) (n : ℕ) → IsCode names (IsNamedLog net log n) clauses → IsCode more (IsNamedLog net log n) clauses
 
+-- So it is of all clauses, by more names that have each variable and each name once.
 abbrev pub CodesStay : Type 0
 CodesStay = (names more : List (ℕ × Name)) (clauses : List Clause) → HasEachOnce more → AreAmong names more → CodesStayBy names more clauses
 

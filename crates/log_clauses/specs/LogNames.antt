@@ -70,6 +70,7 @@ pub record AreNew (net : Net) (log : Log) (n : ℕ) (addition : Addition) : Type
   pub fresh : (name : Name) → Contains (added_names net log n addition) name → IsLogName net log n name → ⊥
   pub all : (name : Name) → IsLogName net (with_addition log addition) n name ↔ IsLogName net log n name ⊎ Contains (added_names net log n addition) name
 
+-- So it is of each addition to each log.
 abbrev pub NamesAreNew : Type 0
 NamesAreNew = (net : Net) (log : Log) (n : ℕ) (addition : Addition) → AreNew net log n addition
 
@@ -84,6 +85,7 @@ pub record AreFirst (net : Net) (n : ℕ) : Type 0 where
   pub all : (name : Name) → IsLogName net no_log n name ↔ Contains (first_names net) name
   pub few : length (first_names net) ≡ 1 + observable_count net
 
+-- So it is in each network, for each number of steps.
 abbrev pub FirstNamesAreAll : Type 0
 FirstNamesAreAll = (net : Net) (n : ℕ) → AreFirst net n
 
@@ -99,10 +101,11 @@ pub record AreLogNames (net : Net) (log : Log) (n vars : ℕ) (names : List (ℕ
 abbrev pub with_added : Net → Log → ℕ → Addition → List (ℕ × Name) → ℕ → List (ℕ × Name)
 with_added net log n addition names first = names ++ laid_out first (added_names net log n addition)
 
--- The names of the empty log on fresh variables, and those of an addition after those of its log.
+-- On variables in a row the first names are the names of the empty log,
 abbrev pub NamesBegin : Type 0
 NamesBegin = (net : Net) (n first : ℕ) → AreLogNames net no_log n (first + length (first_names net)) (laid_out first (first_names net))
 
+-- and the names of an addition, on the variables that come next, make those of a log the names of the log with the addition.
 abbrev pub NamesGrow : Type 0
 NamesGrow = (net : Net) (log : Log) (n first : ℕ) (addition : Addition) (names : List (ℕ × Name)) → AreLogNames net log n first names →
     AreLogNames net (with_addition log addition) n (first + length (added_names net log n addition)) (with_added net log n addition names first)
@@ -121,6 +124,7 @@ pub record HasPlaces (net : Net) (log : Log) (n first : ℕ) (new : Alarm) (name
   pub being_false : new.doubtful ≡ true →
       name_of names (first + (length (taken_events net log new) * (1 + n * 2) + (suc n + n * chain_count (length (taken_events net log new))))) ≡ Some (dropped (length log.alarms))
 
+-- They stand so where they are added behind the names of a log.
 abbrev pub PlacesOfNames : Type 0
 PlacesOfNames = (net : Net) (log : Log) (n first : ℕ) (new : Alarm) (names : List (ℕ × Name)) → AreLogNames net log n first names →
     HasPlaces net log n first new (with_added net log n (alarm_added new) names first)

@@ -100,12 +100,12 @@ pub fn drafts_are_code()
     ensures { DraftsAreCode }
 {}
 
-/// An addition has few clauses.
+/// An addition has at most 12 clauses for each unit by which the size of the question grows, and 12.
 pub fn drafts_are_small()
     ensures { DraftsAreSmall }
 {}
 
-/// So has the empty log.
+/// The empty log has a clause for each event that can be seen, in each step.
 pub fn first_clauses_are_few()
     ensures { FirstClausesAreFew }
 {}
@@ -127,7 +127,7 @@ pub fn names_are_new()
     ensures { NamesAreNew }
 {}
 
-/// They are few.
+/// The names of an addition are no more than the bound on the variables of a question grows by.
 pub fn names_are_few()
     ensures { NamesAreFew }
 {}
@@ -142,7 +142,7 @@ pub fn names_grow()
     ensures { NamesGrow }
 {}
 
-/// Where the names of a new alarm stand in this row.
+/// Where the names of a new alarm stand in the row of the addition that brings it.
 pub fn places_of_names()
     ensures { PlacesOfNames }
 {}
@@ -176,17 +176,17 @@ pub fn log_code_is_exact()
     ensures { LogCodeIsExact }
 {}
 
-/// Each explanation makes the clauses of steps and log, and the guards, true.
+/// Each explanation has an assignment that makes the clauses of steps and log, and the guards, true.
 pub fn explanations_are_coded()
     ensures { ExplanationsAreCoded }
 {}
 
-/// What makes them true gives an explanation.
+/// Each assignment that makes the clauses of steps and log, and the guards, true gives an explanation.
 pub fn assignments_explain()
     ensures { AssignmentsExplain }
 {}
 
-/// Each run makes the clauses of steps and log true where no guard is assumed.
+/// Each run that fits the steps has an assignment that makes the clauses of steps and log true where no guard is assumed.
 pub fn runs_stay_open()
     ensures { RunsStayOpen }
 {}

@@ -8,6 +8,7 @@ use Rattle.log_csv.specs.declared.fault.LogReadRefusal.TheVariants.{Fault, Memor
 abbrev pub fault_at : ℕ → Option ℕ → Option LogFault
 fault_at row code = option_map (λ c. record { row = row; code = c }) code
 
+-- the first of two faults, or the later one where there is no earlier
 abbrev pub or_later : Option LogFault → Option LogFault → Option LogFault
 or_later None later = later
 or_later (Some fault) later = Some fault

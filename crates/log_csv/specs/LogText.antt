@@ -21,9 +21,11 @@ alarm_of ask = None
 alarm_of nothing = None
 alarm_of malformed = None
 
+-- the alarms of the records, in order
 abbrev pub alarms_of : List Record → List Alarm
 alarms_of records = filter_map alarm_of records
 
+-- the ids of the alarms of the records, in order
 abbrev pub ids_of : List Record → List (List ℕ)
 ids_of records = names_of (alarms_of records)
 
@@ -35,6 +37,7 @@ pair_of ids ask = None
 pair_of ids nothing = None
 pair_of ids malformed = None
 
+-- the pairs as often as they are written, where both ids are of alarms of the records
 abbrev pub written_pairs : List Record → List (ℕ × ℕ)
 written_pairs records = filter_map (pair_of (ids_of records)) records
 
@@ -47,6 +50,7 @@ with_pairs pairs (other ∷ others) = with_pairs (with_pair pairs other.0 other.
 abbrev pub pairs_of : List Record → List (ℕ × ℕ)
 pairs_of records = with_pairs [] (written_pairs records)
 
+-- the alarms and the pairs that the records say; a record that says neither adds nothing
 abbrev pub log_of_records : List Record → Log
 log_of_records records = a_log (alarms_of records) (pairs_of records)
 
@@ -56,6 +60,7 @@ log_of bytes = log_of_records (records_of bytes)
 
 -- ---- its first fault
 
+-- the record is a question, which scripts have and logs do not
 abbrev pub is_question : Record → Bool
 is_question (alarm maybe id labels) = false
 is_question (before first second) = false
@@ -83,6 +88,7 @@ is_unknown earlier malformed = false
 abbrev pub is_cycle : List Record → Record → Bool
 is_cycle earlier said = option_map_or (λ pair. closes_cycle (pairs_of earlier) pair.0 pair.1) (pair_of (ids_of earlier) said) false
 
+-- the record is an alarm whose label field is empty
 abbrev pub lacks_labels : Record → Bool
 lacks_labels (alarm maybe id labels) = nat_le (length labels) 0
 lacks_labels (before first second) = false
@@ -90,6 +96,7 @@ lacks_labels ask = false
 lacks_labels nothing = false
 lacks_labels malformed = false
 
+-- the pair is new, and there are as many as there may be
 abbrev pub is_pair_past_limit : List (ℕ × ℕ) → ℕ × ℕ → Bool
 is_pair_past_limit pairs pair = not (has_pair pairs pair.0 pair.1) && nat_le MOST_PAIRS (length pairs)
 

@@ -3,6 +3,7 @@ use Rattle.std.specs.Prelude.{ℕ, Bool, true, false, List, [], ◌++◌, codes,
 use Rattle.std.specs.List.{flat_map, join_with_byte}
 use Rattle.log_order.specs.Log.{Alarm, Log, an_alarm}
 
+-- an alarm by the parts of its line, in their order
 abbrev pub alarm_with : Bool → List ℕ → List (List ℕ) → Alarm
 alarm_with maybe id labels = an_alarm id labels maybe
 
@@ -15,9 +16,11 @@ alarm_word true = codes "maybe"
 unfoldable pub alarm_line : Alarm → List ℕ
 alarm_line alarm = alarm_word alarm.doubtful ++ codes "," ++ alarm.name ++ codes "," ++ join_with_byte 124 alarm.labels ++ codes "\n"
 
+-- the line that the alarm of the first id comes before that of the second
 unfoldable pub line_of_ids : List ℕ → List ℕ → List ℕ
 line_of_ids first second = codes "before," ++ first ++ codes "," ++ second ++ codes "\n"
 
+-- the id of alarm i, or the empty text where there is none
 abbrev pub id_of : List Alarm → ℕ → List ℕ
 id_of alarms i = unwrap_or (option_map (λ alarm. alarm.name) (slice_get alarms i)) []
 

@@ -23,6 +23,7 @@ abbrev pub pieces_in : Option (Bor (List ℕ)) → List (List ℕ)
 pieces_in None = []
 pieces_in (Some rest) = slice_split (λ byte. byte == 124) rest.now
 
+-- why a record becomes no row, where one of its texts became no name
 abbrev pub refusal_of_name : NameFault → RowRefusal
 refusal_of_name fault.Shape = Name
 refusal_of_name fault.Memory = Memory
@@ -86,7 +87,7 @@ pub record IsReadTo (bytes : List ℕ) (left : List (List (List ℕ))) (row : �
   pub whole : earlier ++ map record_of left ≡ records_of bytes
   pub faults : first_record_fault (row + 1) earlier (map record_of left) ≡ first_fault bytes
 
--- the code of a refusal of the log
+-- the code of a refusal of the log, or 0 for want of memory, which is no fault of the text
 abbrev pub code_of : LogRefusal → ℕ
 code_of refused.Double = 1
 code_of refused.Unknown = 2

@@ -15,9 +15,11 @@ pub data Record : Type 0 where
   nothing : Record
   malformed : Record
 
+-- the field has no byte
 abbrev pub is_empty : List ℕ → Bool
 is_empty field = length field == 0
 
+-- no field has a byte: so also where there are no fields
 abbrev pub are_empty : List (List ℕ) → Bool
 are_empty fields = list_all is_empty fields
 
@@ -31,12 +33,15 @@ two_fields [] = None
 two_fields (first ∷ []) = None
 two_fields (first ∷ second ∷ others) = if are_empty others then Some (first, second) else None
 
+-- what the fields behind the keyword of an alarm say: an id, labels, and empty fields, or it has no shape
 abbrev pub alarm_record : Bool → List (List ℕ) → Record
 alarm_record maybe fields = option_map_or (λ pair. alarm maybe pair.0 (labels_in pair.1)) (two_fields fields) malformed
 
+-- what the fields behind `before` say: two ids, and empty fields, or it has no shape
 abbrev pub before_record : List (List ℕ) → Record
 before_record fields = option_map_or (λ pair. before pair.0 pair.1) (two_fields fields) malformed
 
+-- what the fields behind `ask` say: they are all empty, or it has no shape
 abbrev pub ask_record : List (List ℕ) → Record
 ask_record fields = if are_empty fields then ask else malformed
 
@@ -49,6 +54,7 @@ keyword_of text =
     else if bytes_eq text (codes "ask") then Some word.Ask
     else None
 
+-- what the fields behind a keyword say; without a keyword they have no shape
 abbrev pub record_with : Option Keyword → List (List ℕ) → Record
 record_with None fields = malformed
 record_with (Some word.Alarm) fields = alarm_record false fields
@@ -61,6 +67,7 @@ abbrev pub record_by_word : List (List ℕ) → Record
 record_by_word [] = malformed
 record_by_word (text ∷ fields) = record_with (keyword_of text) fields
 
+-- what a record says by its fields; where all are empty, nothing
 unfoldable pub record_of : List (List ℕ) → Record
 record_of fields = if are_empty fields then nothing else record_by_word fields
 

@@ -8,6 +8,7 @@ use Rattle.log_csv.specs.declared.row.Row.TheVariants.{Alarm, Maybe, Before, Ask
 use Rattle.log_csv.specs.Records.{Record, alarm, before, ask, nothing, malformed, records_of}
 use Rattle.log_csv.specs.Faults.{fault_at, or_later}
 
+-- the record has no shape
 abbrev pub is_malformed : Record → Bool
 is_malformed (alarm maybe id labels) = false
 is_malformed (before first second) = false
@@ -44,6 +45,7 @@ abbrev pub alarm_row : Bool → List ℕ → List (List ℕ) → Row
 alarm_row false id labels = Alarm id labels
 alarm_row true id labels = Maybe id labels
 
+-- the row that a record says, with its labels as they are written; a blank or malformed record says none
 abbrev pub row_of : Record → Option Row
 row_of (alarm maybe id labels) = Some (alarm_row maybe id labels)
 row_of (before first second) = Some (Before first second)

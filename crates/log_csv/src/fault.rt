@@ -9,7 +9,8 @@ use std::alloc::AllocFailed;
 ///
 /// `row` is the record's place among all records of the text, from 1. `code` is 1 where an alarm has the id, 2 where an
 /// alarm of a pair isn't known, 3 where a pair closes a cycle, 4 where the label field is empty, 5 where a limit would be
-/// passed, 6 where the record has no shape, and 7 where an id or a label isn't a name.
+/// passed, 6 where the record has no shape or is a question in a log, and 7 where an id or a label isn't a name. Where several
+/// hold of one record, 6 is told first, then 7, and then the smallest.
 #[derive(Clone, Copy, PartialEq, Eq)]
 pub struct LogFault {
     pub row: u32,

@@ -6,6 +6,7 @@ use Rattle.log_encode.specs.declared.taken.Taken.{Taken}
 use Rattle.log_encode.specs.AlarmVariables.{match_variable}
 use Rattle.log_encode.specs.Written.{link_of}
 
+-- its labels, whether it is doubtful, the events that it may stand for, each with the former end of its chain, and its first variable
 pub record AlarmState : Type 0 where
   pub labels : List (List ℕ)
   pub doubtful : Bool

@@ -17,6 +17,7 @@ abbrev pub false_width : Bool → ℕ
 false_width true = 1
 false_width false = 0
 
+-- how many variables an alarm has in all
 abbrev pub alarm_width : AlarmVars → ℕ
 alarm_width vars = variable_count vars.links vars.steps + false_width vars.doubtful
 
@@ -24,14 +25,15 @@ alarm_width vars = variable_count vars.links vars.steps + false_width vars.doubt
 abbrev pub closed_variable : AlarmVars → ℕ → ℕ
 closed_variable vars link = vars.start + link * link_width vars.steps
 
--- for the step after t steps, the one that matches the alarm, and the one that passes the event on
+-- for the step after t steps, the one that matches the alarm to the event of the link
 abbrev pub match_variable : AlarmVars → ℕ → ℕ → ℕ
 match_variable vars link t = vars.start + (link * link_width vars.steps + suc (t * 2))
 
+-- and for that step, behind it, the one that passes the event on
 abbrev pub passed_variable : AlarmVars → ℕ → ℕ → ℕ
 passed_variable vars link t = vars.start + (link * link_width vars.steps + suc (t * 2 + 1))
 
--- behind all links, whether the alarm is matched within t steps
+-- behind all links, whether the alarm is done within t steps: matched, or false
 abbrev pub done_variable : AlarmVars → ℕ → ℕ
 done_variable vars t = vars.start + (vars.links * link_width vars.steps + t)
 

@@ -16,23 +16,28 @@ use Rattle.prop_core.specs.declared.grid.Grid.{Grid}
 abbrev pub additions_of : Log → List Addition
 additions_of log = map (λ alarm. alarm_added alarm) log.alarms ++ map (λ pair. pair_added pair.0 pair.1) log.pairs
 
+-- the code of a log, and all clauses that were written for it, in order
 pub record BuiltLog : Type 0 where
   pub code : CodedLog
   pub clauses : List Clause
 
--- the clauses of the empty log, and those of an addition whose variables come next
+-- the clauses of the empty log, by the names of its code
 abbrev pub first_written : CodedLog → List Clause
 first_written code = written_by (read_names code) (first_list code.net code.grid.steps)
 
+-- the clauses of an addition whose variables come next after those of the code, by the names of the longer log
 abbrev pub added_written : CodedLog → Addition → List Clause
 added_written code addition = written_by (read_names (code_after code addition code.vars)) (added_list code.net code.log code.grid.steps addition)
 
+-- the empty log, on variables from `first` on
 abbrev pub built_empty : Net → Grid → ℕ → BuiltLog
 built_empty net grid first = record { code = empty_code net grid first; clauses = first_written (empty_code net grid first) }
 
+-- the same with one addition more, on the next variables
 abbrev pub built_with : BuiltLog → Addition → BuiltLog
 built_with built addition = record { code = code_after built.code addition built.code.vars; clauses = built.clauses ++ added_written built.code addition }
 
+-- the whole log, on variables from `first` on: its alarms and then its pairs, added one after another
 abbrev pub built_log : Net → Grid → ℕ → Log → BuiltLog
 built_log net grid first log = fold built_with (built_empty net grid first) (additions_of log)
 

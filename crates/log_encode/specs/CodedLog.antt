@@ -60,6 +60,7 @@ empty_code net grid asked = record { net = net; grid = grid; log = no_log; asked
 abbrev pub addition_width : CodedLog → Addition → ℕ
 addition_width code addition = length (added_names code.net code.log code.grid.steps addition)
 
+-- the first variables of the alarms after an addition whose variables begin at `first`: a pair has none
 abbrev pub starts_after : List ℕ → Addition → ℕ → List ℕ
 starts_after starts (alarm_added new) first = starts ++ first ∷ []
 starts_after starts (pair_added i j) first = starts
@@ -74,7 +75,7 @@ code_after code addition first = record code {
 
 -- ---- what is always so
 
--- The grid is that of the network's events, made before. Exactly the names of the log have variables, each one, and no variable stands twice; they are made after those of the grid. Each alarm has a variable at least.
+-- The grid is that of the network's events, made before. Exactly the names of the log have variables, each one, and no variable stands twice; they are made after those of the grid. Each alarm has its first variable, and alarms are no more than variables.
 pub record IsCodedLog (code : CodedLog) : Type 0 where
   pub events : code.grid.events ≡ length code.net.events
   pub made : code.grid.first + code.grid.events * code.grid.steps ≤ code.asked

@@ -24,6 +24,7 @@ use Rattle.prop_core.specs.VariableNames.{name_of, matches, done, dropped, close
 
 -- ---- the code
 
+-- the code with these parts, where each alarm tells its labels, whether it is doubtful, and its first variable
 abbrev pub coded_of : Net → Grid → ℕ → ℕ → List AlarmState → List (ℕ × ℕ) → CodedLog
 coded_of net grid asked vars alarms pairs = record {
   net = net;
@@ -34,9 +35,11 @@ coded_of net grid asked vars alarms pairs = record {
   vars = vars;
 }
 
+-- the code that the fields are
 abbrev pub coded : Inside → CodedLog
 coded a = coded_of a.net.value a.grid a.asked a.vars a.alarms.items a.pairs.items
 
+-- the code, and the room for more alarms and pairs: the ends of chains, the guards and the links are not seen
 abbrev pub code_view : Inside → LogCodeState
 code_view a = record { code = coded a; spare_alarms = a.spare_alarms; spare_pairs = a.spare_pairs }
 
@@ -46,6 +49,7 @@ IsRest code e None = length (chain code.net code.log e) ≡ 0
 IsRest code e (Some first) = (first + code.grid.steps * 2 ≤ code.vars)
     × ((t : ℕ) → t < code.grid.steps → name_of (code_names code) (first + t * 2) ≡ Some (remaining e (length (chain code.net code.log e)) (suc t)))
 
+-- the end stands behind the present alarms of its chain: its variable closes the chain there, and what comes to it is what these leave
 pub record IsChainEnd (code : CodedLog) (end : ChainEnd) : Type 0 where
   pub closing : name_of (code_names code) end.closed ≡ Some (closed end.event (length (chain code.net code.log end.event)))
   pub rest : IsRest code end.event end.last
@@ -77,6 +81,7 @@ pub record AreKept (code : CodedLog) (ends : List ChainEnd) (guards dropped : Li
   pub false_ones : AreFalse code dropped
   pub alarms : (i : ℕ) (alarm : AlarmState) → slice_get states i ≡ Some alarm → IsAlarm code i alarm
 
+-- what the fields keep: all that stands beside the code fits it, and the room that they tell is there
 pub record IsLogCode (a : Inside) : Type 0 where
   pub kept : AreKept (coded a) a.ends.items a.guards.items a.dropped.items a.alarms.items
   pub room_for_alarms : vec_len a.alarms + a.spare_alarms ≤ vec_capacity a.alarms
@@ -84,14 +89,16 @@ pub record IsLogCode (a : Inside) : Type 0 where
 
 -- ---- a draft
 
+-- what a draft adds to the log: an alarm without a name, or a pair
 abbrev pub addition_of : Change → Addition
 addition_of (Alarm alarm ends guards lits) = alarm_added (nameless alarm.labels alarm.doubtful)
 addition_of (Pair first second) = pair_added first second
 
+-- the code that it was made by, its addition, its variables and its clauses: what will be kept beside the code is not seen
 abbrev pub draft_view : DraftInside → DraftState
 draft_view a = record { code = a.code.value.code; addition = addition_of a.change; first = a.first; vars = a.vars; clauses = a.clauses.clauses }
 
--- the alarm, the ends of chains and the guards are those of the longer log
+-- the alarm, the ends of chains, the guards and what says that alarms are false are those of the longer log; a pair changes none of them
 abbrev pub IsReadyChange : CodedLog → ℕ → Change → Type 0
 IsReadyChange code first (Alarm alarm ends guards lits) =
     (alarm.start ≡ first)
@@ -100,6 +107,7 @@ IsReadyChange code first (Alarm alarm ends guards lits) =
     × AreFalse (code_after code (alarm_added (nameless alarm.labels alarm.doubtful)) first) lits.items
 IsReadyChange code first (Pair i j) = ⊤
 
+-- what the fields keep: the change fits the code, and the variables come after those of the code, as many as the addition takes, within the limit
 pub record IsReadyDraft (a : DraftInside) : Type 0 where
   pub change : IsReadyChange a.code.value.code a.first a.change
   pub after : a.code.value.code.vars ≤ a.first

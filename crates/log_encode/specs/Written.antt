@@ -16,9 +16,11 @@ use Rattle.log_encode.specs.declared.taken.ChainEnd.{ChainEnd}
 use Rattle.log_encode.specs.declared.writing.LinkVars.{LinkVars}
 use Rattle.log_encode.specs.AlarmVariables.{closed_variable, match_variable, passed_variable, done_variable, chain_variable, dropped_variable}
 
+-- the literal that the variable is true
 abbrev pub holds : ℕ → Lit
 holds var = record { var = var; positive = true }
 
+-- the literal that the variable is false
 abbrev pub fails : ℕ → Lit
 fails var = record { var = var; positive = false }
 
@@ -38,6 +40,7 @@ abbrev pub link_from : ℕ → List Taken → ℕ → Option ℕ
 link_from link [] e = None
 link_from link (taken ∷ takes) e = if taken.event == e then Some link else link_from (suc link) takes e
 
+-- the link of the event, counted from 0, or none where the alarm cannot stand for it
 abbrev pub link_of : List Taken → ℕ → Option ℕ
 link_of takes e = link_from 0 takes e
 
@@ -65,6 +68,7 @@ pub record HasRest (grid : Grid) (taken : Taken) : Type 0 where
 
 -- ---- a link in one step
 
+-- A link takes or passes on just what comes to it, never both, and passes nothing on where the chain ends after it; its alarm is done once it takes, and not before.
 abbrev pub link_written : LinkVars → List Clause
 link_written v = (fails v.closed ∷ fails v.passed ∷ []) ∷ (fails v.matched ∷ holds v.rest ∷ []) ∷ (fails v.matched ∷ fails v.passed ∷ [])
     ∷ (fails v.passed ∷ holds v.rest ∷ []) ∷ (fails v.rest ∷ holds v.matched ∷ holds v.passed ∷ []) ∷ (fails v.matched ∷ holds v.after ∷ []) ∷ (fails v.matched ∷ fails v.before ∷ []) ∷ []
@@ -80,6 +84,7 @@ link_variables grid vars link taken t = record {
   after = done_variable vars (suc t);
 }
 
+-- a link in the first n steps
 abbrev pub steps_of_link : Grid → AlarmVars → ℕ → Taken → ℕ → List Clause
 steps_of_link grid vars link taken n = flat_map (λ t. link_written (link_variables grid vars link taken t)) (numbers_below n)
 
@@ -94,16 +99,20 @@ links_written grid vars link (taken ∷ takes) = steps_of_link grid vars link ta
 abbrev pub dropped_written : AlarmVars → List Lit
 dropped_written vars = if vars.doubtful then holds (dropped_variable vars) ∷ [] else []
 
+-- for each link, that the alarm is matched to its event in the step after t steps
 abbrev pub matches_at : AlarmVars → ℕ → List Lit
 matches_at vars t = map (λ link. holds (match_variable vars link t)) (numbers_below vars.links)
 
+-- An alarm that is done stays so. In the step after t steps it gets done by a match, or where it is false, and has at most one match.
 abbrev pub step_written : AlarmVars → ℕ → List Clause
 step_written vars t = (fails (done_variable vars t) ∷ holds (done_variable vars (suc t)) ∷ [])
     ∷ (fails (done_variable vars (suc t)) ∷ holds (done_variable vars t) ∷ (dropped_written vars ++ matches_at vars t)) ∷ exclusion_clauses (matches_at vars t) (chain_variable vars t)
 
+-- at the start the alarm isn't done unless it is false, and at the end it is done where the log is asked for
 abbrev pub ends_written : ℕ → AlarmVars → List Clause
 ends_written asked vars = (fails (done_variable vars 0) ∷ dropped_written vars) ∷ (fails asked ∷ holds (done_variable vars vars.steps) ∷ []) ∷ []
 
+-- the start and the end of an alarm, and each step between them
 abbrev pub done_written : ℕ → AlarmVars → List Clause
 done_written asked vars = ends_written asked vars ++ flat_map (step_written vars) (numbers_below vars.steps)
 
@@ -111,9 +120,11 @@ done_written asked vars = ends_written asked vars ++ flat_map (step_written vars
 abbrev pub real_of_link : AlarmVars → ℕ → ℕ → List Clause
 real_of_link vars link n = map (λ t. fails (match_variable vars link t) ∷ fails (dropped_variable vars) ∷ []) (numbers_below n)
 
+-- the same of the first so many links, in all steps
 abbrev pub reals_written : AlarmVars → ℕ → List Clause
 reals_written vars links = flat_map (λ link. real_of_link vars link vars.steps) (numbers_below links)
 
+-- the same of all links of a doubtful alarm; of a certain one nothing
 abbrev pub real_written : AlarmVars → List Clause
 real_written vars = if vars.doubtful then reals_written vars vars.links else []
 
@@ -128,22 +139,26 @@ abbrev pub first_ends : ℕ → List ℕ → List ChainEnd
 first_ends var [] = []
 first_ends var (e ∷ events) = record { event = e; closed = var; last = None } ∷ first_ends (suc var) events
 
+-- the guards: that the log is asked for, and that each chain ends where it does now
 abbrev pub guards_of : ℕ → List ChainEnd → List Lit
 guards_of asked ends = holds asked ∷ map (λ (end : ChainEnd). holds end.closed) ends
 
--- that the first alarm, whose done variables begin here, is done no later than the second, for fewer than so many steps
+-- where the log is asked for, the first alarm, whose done variables begin here, is done no later than the second: for each number of steps below k
 abbrev pub pair_first : ℕ → ℕ → ℕ → ℕ → List Clause
 pair_first asked first second k = map (λ t. fails asked ∷ fails (second + t) ∷ holds (first + t) ∷ []) (numbers_below k)
 
+-- the same for each number of steps up to n
 abbrev pub pair_written : ℕ → ℕ → ℕ → ℕ → List Clause
 pair_written asked first second n = pair_first asked first second (n + 1)
 
--- that an event whose chain ends doesn't happen
+-- where the chain of an event ends without an alarm, the event doesn't happen, in the first n steps
 abbrev pub closed_first : Grid → ChainEnd → ℕ → List Clause
 closed_first grid end n = map (λ t. fails end.closed ∷ fails (grid_variable grid end.event (suc t)) ∷ []) (numbers_below n)
 
+-- the same in all steps
 abbrev pub closed_written : Grid → ChainEnd → List Clause
 closed_written grid end = closed_first grid end grid.steps
 
+-- the same of each of these chains
 abbrev pub all_closed_written : Grid → List ChainEnd → List Clause
 all_closed_written grid ends = flat_map (closed_written grid) ends

@@ -78,7 +78,7 @@ impl AlarmVars {
         self.start + (link * (1 + self.steps * 2) + 2)
     }
 
-    // Says that the alarm is matched within so many steps.
+    // Says that the alarm is done within so many steps: matched, or false.
     #[tactic(auto, using(crate::proofs::VariableLemmas::count_is_small))]
     pub fn done(self, steps: u32) -> u32
         requires within { IsWithin self }

@@ -22,7 +22,7 @@ pub fn draft_is_built()
     ensures { DraftIsBuilt }
 {}
 
-/// A law: the empty log has those that its code determines.
+/// A law: the empty log has the clauses that its code determines.
 pub fn first_is_built()
     ensures { FirstIsBuilt }
 {}

@@ -326,7 +326,7 @@ impl LogCode {
         }
     }
 
-    // Says that the alarm is matched within 0 steps, with those for more steps behind it.
+    // Says that the alarm is done within 0 steps, with those for more steps behind it.
     fn done(&self, alarm: u32) -> u32
         requires { alarm < length self.now.code.log.alarms }
         ensures within { result + self.now.code.grid.steps < self.now.code.vars }

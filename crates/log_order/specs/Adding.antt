@@ -17,6 +17,7 @@ Answers (Err Cycle) refusal = refusal ≡ Some Cycle
 Answers (Err NoLabels) refusal = refusal ≡ Some NoLabels
 Answers (Err Limit) refusal = refusal ≡ Some Limit
 
+-- the ids of alarms, in order
 abbrev pub names_of : List Alarm → List (List ℕ)
 names_of alarms = map (λ alarm. alarm.name) alarms
 

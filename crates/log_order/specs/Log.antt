@@ -14,13 +14,15 @@ pub record Log : Type 0 where
   pub alarms : List Alarm
   pub pairs : List (ℕ × ℕ)
 
--- values are made by these, so that a further field changes them alone
+-- An alarm of these parts. Most alarms and logs are made by this and `a_log`, so that a further field changes few definitions.
 abbrev pub an_alarm : List ℕ → List (List ℕ) → Bool → Alarm
 an_alarm name labels doubtful = record { name = name; labels = labels; doubtful = doubtful }
 
+-- a log of these alarms, numbered as they stand, and these pairs
 abbrev pub a_log : List Alarm → List (ℕ × ℕ) → Log
 a_log alarms pairs = record { alarms = alarms; pairs = pairs }
 
+-- the empty log: no alarms and no pairs
 abbrev pub no_log : Log
 no_log = a_log [] []
 
@@ -59,11 +61,13 @@ pub record AreOrdered (m : ℕ) (pairs : List (ℕ × ℕ)) : Type 0 where
   pub complete : ListsOnce m order
   pub kept : Keeps order pairs
 
+-- the pairs are of its alarms, and some order of all alarms, each once, keeps every pair: so they have no cycle
 abbrev pub IsValidLog : Log → Type 0
 IsValidLog log = AreOrdered (length log.alarms) log.pairs
 
 -- ---- what follows what
 
+-- the pair (i, j) is among the pairs
 abbrev pub has_pair : List (ℕ × ℕ) → ℕ → ℕ → Bool
 has_pair pairs i j = list_any (λ pair. pair.0 == i && pair.1 == j) pairs
 

@@ -22,5 +22,6 @@ abbrev pub taken_first : ℕ → List (ℕ × ℕ) → ℕ → List ℕ
 taken_first m pairs zero = []
 taken_first m pairs (suc k) = with_next m pairs (taken_first m pairs k)
 
+-- the numbers below m in this order; a number that comes after a cycle of the pairs, or stands on one, is never taken
 abbrev pub least_order : ℕ → List (ℕ × ℕ) → List ℕ
 least_order m pairs = taken_first m pairs m

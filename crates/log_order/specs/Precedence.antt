@@ -3,13 +3,16 @@ use Rattle.std.specs.Prelude.{◌≡◌, ℕ, ◌<◌, Bool, true, false, not, �
 use Rattle.std.specs.List.{list_any, filter}
 use Rattle.log_order.specs.Log.{ListsOnce, Keeps, AreKnown, has_pair, reaches, place_in}
 
+-- numbers below a count, and pairs of them, "the first before the second", in the order in which they were added
 pub record Precedence : Type 0 where
   pub count : ℕ
   pub pairs : List (ℕ × ℕ)
 
+-- no numbers, and no pairs
 abbrev pub no_precedence : Precedence
 no_precedence = record { count = 0; pairs = [] }
 
+-- the number stands in the list
 abbrev pub is_in : List ℕ → ℕ → Bool
 is_in xs i = list_any (λ x. x == i) xs
 
@@ -29,7 +32,7 @@ with_follower lists first second = slice_set lists first (slice_index_or lists f
 pub record AreFollowers (pairs : List (ℕ × ℕ)) (followers : List (List ℕ)) : Type 0 where
   pub same : (i j : ℕ) → is_in (slice_index_or followers i []) j ≡ has_pair pairs i j
 
--- the order keeps the pairs
+-- the order has all numbers and keeps the pairs, and beside it stand the followers of each number
 pub record IsKept (pairs : List (ℕ × ℕ)) (order : List ℕ) (lists : List (List ℕ)) : Type 0 where
   pub known : AreKnown (length order) pairs
   pub listed : ListsOnce (length order) order

@@ -10,18 +10,21 @@ use Rattle.log_order.specs.Precedence.{Precedence, IsKept}
 use Rattle.log_order.specs.declared.alarm_log.AlarmLog.TheInside.{Inside as LogInside}
 use Rattle.log_order.specs.declared.precedence.Precedence.TheInside.{Inside as PrecedenceInside}
 
+-- the count and the pairs: the order that is kept beside them, and the followers, are not seen
 abbrev pub precedence_view : PrecedenceInside → Precedence
 precedence_view a = record { count = length a.order.items; pairs = a.pairs.items }
 
+-- what the fields keep: the order and the followers fit the pairs, no pair stands twice, and the numbers are no more than alarms may be
 pub record IsPrecedence (a : PrecedenceInside) : Type 0 where
   pub kept : IsKept a.pairs.items a.order.items a.followers.items
   pub few : length a.order.items ≤ MOST_ALARMS
   pub once : StandOnce a.pairs.items
 
+-- each alarm by its id and its meaning, and the pairs
 abbrev pub log_view : LogInside → Log
 log_view a = record { alarms = alarms_with a.ids a.meanings.items; pairs = a.precedence.pairs }
 
--- each id has its meaning, and the pairs are of alarms
+-- what the fields keep: each id has its meaning, ids and labels are names, each once, the pairs are of alarms, and all is within the limits
 pub record IsAlarmLog (a : LogInside) : Type 0 where
   pub paired : length a.meanings.items ≡ length a.ids
   pub named : a.ids ≡ names_of (alarms_with a.ids a.meanings.items)

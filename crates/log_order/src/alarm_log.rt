@@ -124,8 +124,8 @@ impl AlarmLog {
         self.ids.find(text)
     }
 
-    /// Why an alarm would be refused. `Double`: an alarm has the id. `Limit`: there are 2,000 alarms, or more than 64 labels
-    /// are given. It takes no memory.
+    /// Why an alarm would be refused. `Double`: an alarm has the id. `NoLabels`: no label is given. `Limit`: there are 2,000
+    /// alarms, or more than 64 labels are given. It takes no memory.
     #[tactic(auto, unfolding(crate::specs::Adding::alarm_refusal))]
     pub fn test_alarm(&self, id: &Name, labels: &[Name]) -> Option<LogRefusal>
         ensures { result ≡ alarm_refusal self.now id.now labels.now }

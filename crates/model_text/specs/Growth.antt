@@ -18,23 +18,28 @@ unless (Some refusal) net = None
 abbrev pub last_place : Net → ℕ
 last_place net = length net.components - 1
 
+-- the names of the states of the component that was begun last, or none where there is no component
 abbrev pub last_states : Net → List (List ℕ)
 last_states net = (component_at net (last_place net)).state_names
 
+-- a part by numbers, where the network has its component and the component has its action
 abbrev pub part_of : Net → NamedPart → Option Part
 part_of net part =
     option_and_then (λ c. option_map (λ a. record { comp = c; action = a }) (place_of part.action (component_at net c).action_names))
     (place_of part.component net.component_names)
 
+-- the parts of an event by numbers, if each of them is known
 abbrev pub parts_by_name : Net → List NamedPart → Option (List Part)
 parts_by_name net parts = all_some (map (part_of net) parts)
 
+-- the network with a transition of its last component, between states at these places, where both are there and the builder accepts it
 abbrev pub grown_by_transition : Net → List ℕ → Option ℕ → Option ℕ → Option Net
 grown_by_transition net action None to = None
 grown_by_transition net action (Some from) None = None
 grown_by_transition net action (Some from) (Some to) =
     unless (trans_refusal net.components (last_place net) from action to) (change_component (last_place net) (with_trans from action to) net)
 
+-- the network with an event of these parts, where all of them were found and the builder accepts it
 abbrev pub grown_by_event : Net → List ℕ → Option (List ℕ) → Bool → Option (List Part) → Option Net
 grown_by_event net name label fault None = None
 grown_by_event net name label fault (Some parts) = unless (event_refusal net name parts) (with_event net name parts label fault)

@@ -31,9 +31,11 @@ has_placed c action (Some from) (Some to) = has_trans c from action to
 abbrev pub has_named : Automaton → (from action to : List ℕ) → Bool
 has_named c from action to = has_placed c action (place_of from c.state_names) (place_of to c.state_names)
 
+-- no component was begun yet, so a state or a transition has no home
 abbrev pub is_empty : Net → Bool
 is_empty net = nat_le (length net.components) 0
 
+-- the first code that a line has, told by the network alone, or none where the line is accepted
 abbrev pub code_by : Net → ModelLine → Option ℕ
 code_by net (component name) =
     first_of false (list_all is_name_text (words_of (component name))) (stands_in net.component_names name) false (nat_le most_components (length net.components))

@@ -13,9 +13,11 @@ use Rattle.model_text.specs.declared.fault.ModelRefusal.TheVariants.{Fault, Memo
 use Rattle.model_text.specs.ModelLines.{ModelLine, component, state, transition, event, NamedPart, model_line, is_header}
 use Rattle.model_text.specs.ModelNetwork.{begins_component, sections, current, state_names_in, transitions_in, NamedTransition, component_names, components_of, events_in, network_of_lines, model_lines}
 
+-- the text is one of the names
 abbrev pub stands_in : List (List ℕ) → List ℕ → Bool
 stands_in names text = is_some (place_of text names)
 
+-- the word in a list by itself, or no word where there is none
 abbrev pub optional_words : Option (List ℕ) → List (List ℕ)
 optional_words None = []
 optional_words (Some word) = word ∷ []
@@ -34,9 +36,11 @@ is_homeless earlier (state name initial) = nat_le (length (sections earlier)) 0
 is_homeless earlier (transition from action to) = nat_le (length (sections earlier)) 0
 is_homeless earlier (event name label fault parts) = false
 
+-- the two leave and enter states of the same names, by an action of the same name
 abbrev pub is_same_transition : NamedTransition → NamedTransition → Bool
 is_same_transition a b = bytes_eq a.from b.from && bytes_eq a.action b.action && bytes_eq a.to b.to
 
+-- some text stands twice or more
 abbrev pub has_repeated : List (List ℕ) → Bool
 has_repeated [] = false
 has_repeated (text ∷ texts) = stands_in texts text || has_repeated texts
@@ -55,6 +59,7 @@ abbrev pub actions_of : List ModelLine → List ℕ → List (List ℕ)
 actions_of earlier name =
     option_map_or (λ place. (slice_index_or (components_of earlier) place no_component).action_names) (place_of name (component_names earlier)) []
 
+-- the part's component is known from the lines so far, and has the part's action
 abbrev pub knows_part : List ModelLine → NamedPart → Bool
 knows_part earlier part = stands_in (actions_of earlier part.component) part.action
 
@@ -92,6 +97,7 @@ abbrev pub shape_code : List ModelLine → Option ModelLine → Option ℕ
 shape_code earlier None = Some 2
 shape_code earlier (Some line) = line_code earlier line
 
+-- the lines so far, and this one where it has a shape
 abbrev pub with_shape : List ModelLine → Option ModelLine → List ModelLine
 with_shape earlier None = earlier
 with_shape earlier (Some line) = earlier ++ line ∷ []
@@ -117,6 +123,7 @@ abbrev pub start_fault : List NumberedLine → Option ModelFault
 start_fault lines =
     option_map (λ place. record { line = slice_index (component_numbers lines) place; code = 6 }) (place_by lacks_init (components_of (model_lines lines)))
 
+-- the first fault, or the other where there is no first
 abbrev pub or_else : Option ModelFault → Option ModelFault → Option ModelFault
 or_else None other = other
 or_else (Some fault) other = Some fault

@@ -9,6 +9,7 @@ pub record NamedPart : Type 0 where
   pub component : List ℕ
   pub action : List ℕ
 
+-- what one line after the header says; its words need not be names
 pub data ModelLine : Type 0 where
   component : (name : List ℕ) → ModelLine
   state : (name : List ℕ) → (initial : Bool) → ModelLine
@@ -31,6 +32,7 @@ abbrev pub all_some : {X : Type 0} → List (Option X) → Option (List X)
 all_some [] = Some []
 all_some (x ∷ xs) = option_and_then (λ y. option_map (λ ys. y ∷ ys) (all_some xs)) x
 
+-- the parts that the tokens name, if each token is one
 abbrev pub parts_of_tokens : List (List ℕ) → Option (List NamedPart)
 parts_of_tokens tokens = all_some (map part_of_token tokens)
 
@@ -54,18 +56,20 @@ after_name name (token ∷ []) = None
 after_name name (token ∷ next ∷ tokens) =
     if bytes_eq token (codes "alarm") then after_label name (Some next) tokens else after_label name None (token ∷ next ∷ tokens)
 
--- the tokens after the first word, by what that word is
+-- the tokens after `component`: exactly one word
 abbrev pub component_line : List (List ℕ) → Option ModelLine
 component_line [] = None
 component_line (name ∷ []) = Some (component name)
 component_line (name ∷ more ∷ tokens) = None
 
+-- the tokens after `state`: a word, and the word `init` behind it where the state is initial
 abbrev pub state_line : List (List ℕ) → Option ModelLine
 state_line [] = None
 state_line (name ∷ []) = Some (state name false)
 state_line (name ∷ word ∷ []) = if bytes_eq word (codes "init") then Some (state name true) else None
 state_line (name ∷ word ∷ more ∷ tokens) = None
 
+-- the tokens after `trans`: exactly three words, the state that is left, the action, and the state that is entered
 abbrev pub transition_line : List (List ℕ) → Option ModelLine
 transition_line [] = None
 transition_line (from ∷ []) = None
@@ -73,10 +77,12 @@ transition_line (from ∷ action ∷ []) = None
 transition_line (from ∷ action ∷ to ∷ []) = Some (transition from action to)
 transition_line (from ∷ action ∷ to ∷ more ∷ tokens) = None
 
+-- the tokens after `event`: a word, then a label and the word `fault` where they are there, and the parts behind a colon
 abbrev pub event_line : List (List ℕ) → Option ModelLine
 event_line [] = None
 event_line (name ∷ tokens) = after_name name tokens
 
+-- which of the four keywords the first word of a line is, if it is one
 abbrev pub keyword_of : List ℕ → Option Keyword
 keyword_of word =
     if bytes_eq word (codes "component") then Some Component
@@ -85,6 +91,7 @@ keyword_of word =
     else if bytes_eq word (codes "event") then Some Event
     else None
 
+-- what the tokens after a keyword say, if they have the shape that belongs to it
 abbrev pub keyword_line : List (List ℕ) → Keyword → Option ModelLine
 keyword_line tokens Component = component_line tokens
 keyword_line tokens State = state_line tokens

@@ -9,10 +9,12 @@ use Rattle.model_text.specs.declared.fault.ModelRefusal.TheVariants as model
 use Rattle.model_text.specs.declared.refusal.LineRefusal.{LineRefusal}
 use Rattle.model_text.specs.declared.refusal.LineRefusal.TheVariants.{Shape, Homeless, Name, Double, Unknown, Limit, Memory}
 
+-- a text that is no name is a fault of its line; want of memory stays what it is
 abbrev pub refusal_of_name : NameFault → LineRefusal
 refusal_of_name text.Shape = Name
 refusal_of_name text.Memory = Memory
 
+-- what the builder refuses, as the refusal of the line that asked for it
 abbrev pub refusal_of_build : BuildRefusal → LineRefusal
 refusal_of_build builder.Double = Double
 refusal_of_build builder.Unknown = Unknown

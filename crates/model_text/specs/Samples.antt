@@ -1,4 +1,4 @@
--- Worked texts of models, and the network of one of them.
+-- Two worked models: the lines of their texts, and the networks that these say.
 use Rattle.std.specs.Prelude.{ℕ, Bool, true, false, List, [], ◌∷◌, ◌++◌, codes, flat_map, Option, Some, None}
 use Rattle.des_net.specs.Network.{Component, Event, Net}
 use Rattle.model_text.specs.declared.fault.ModelFault.{ModelFault}
@@ -11,6 +11,7 @@ text_of lines = flat_map (λ line. line ++ 10 ∷ []) lines
 abbrev pub wide_text_of : List (List ℕ) → List ℕ
 wide_text_of lines = flat_map (λ line. line ++ 13 ∷ 10 ∷ []) lines
 
+-- the outcome that there is a fault, of this code on this line
 abbrev pub fault_at : ℕ → ℕ → Option ModelFault
 fault_at line code = Some (record { line = line; code = code })
 
@@ -21,6 +22,7 @@ valve_lines =
     ∷ codes "trans ok jam bad" ∷ codes "trans bad trip off" ∷ codes "trans off fix ok" ∷ codes "trans ok beat ok"
     ∷ codes "event jam fault : p.jam" ∷ codes "event trip alarm T : p.trip" ∷ codes "event fix alarm F : p.fix" ∷ codes "event beat alarm B : p.beat" ∷ []
 
+-- the valve's component: three states, and a beat that leaves the first as it is
 abbrev pub valve_component : Component
 valve_component = record {
   state_names = codes "ok" ∷ codes "bad" ∷ codes "off" ∷ [];
@@ -29,9 +31,11 @@ valve_component = record {
   action_names = codes "jam" ∷ codes "trip" ∷ codes "fix" ∷ codes "beat" ∷ [];
 }
 
+-- an event in which the valve takes this action
 abbrev pub valve_event : ℕ → Option (List ℕ) → Bool → Event
 valve_event action label fault = record { parts = record { comp = 0; action = action } ∷ []; label = label; fault = fault }
 
+-- the network that the valve's lines say
 abbrev pub valve : Net
 valve = record {
   component_names = codes "p" ∷ [];
@@ -46,6 +50,7 @@ pair_lines =
     codes "des 1" ∷ codes "# two components" ∷ codes "component pump" ∷ codes "state on init" ∷ codes "trans on run on" ∷ codes "event run : pump.run"
     ∷ [] ∷ codes "component tank" ∷ codes "state low init" ∷ codes "state full init" ∷ codes "trans low fill full" ∷ codes "event fill alarm A fault : tank.fill pump.run" ∷ []
 
+-- the pump's component: it is on, and runs
 abbrev pub pump_component : Component
 pump_component = record {
   state_names = codes "on" ∷ [];
@@ -54,6 +59,7 @@ pump_component = record {
   action_names = codes "run" ∷ [];
 }
 
+-- the tank's component: low or full at the start, and filled where it is low
 abbrev pub tank_component : Component
 tank_component = record {
   state_names = codes "low" ∷ codes "full" ∷ [];
@@ -62,6 +68,7 @@ tank_component = record {
   action_names = codes "fill" ∷ [];
 }
 
+-- the network that the lines of the pump and the tank say
 abbrev pub pair : Net
 pair = record {
   component_names = codes "pump" ∷ codes "tank" ∷ [];

@@ -12,13 +12,14 @@ pub data BookEntry : Type 0 where
   final : Clause → List ℕ → BookEntry
   mark : ℕ → BookEntry
 
+-- the clause of an entry; a mark has none
 abbrev pub clause_of : BookEntry → Option Clause
 clause_of (axiomatic clause) = Some clause
 clause_of (learnt clause hints) = Some clause
 clause_of (final clause hints) = Some clause
 clause_of (mark k) = None
 
--- An axiom has no hints.
+-- the hints of the clause of an entry: an axiom has an empty list of them, and a mark has no clause
 abbrev pub clause_hints_of : BookEntry → Option (List ℕ)
 clause_hints_of (axiomatic clause) = Some []
 clause_hints_of (learnt clause hints) = Some hints
@@ -33,15 +34,18 @@ clauses_of book = filter_map clause_of book
 abbrev pub hints_of : List BookEntry → List (List ℕ)
 hints_of book = filter_map clause_hints_of book
 
+-- the clause of an axiom: none for any other entry
 abbrev pub axiom_of : BookEntry → Option Clause
 axiom_of (axiomatic clause) = Some clause
 axiom_of (learnt clause hints) = None
 axiom_of (final clause hints) = None
 axiom_of (mark k) = None
 
+-- the axioms of a book, in their order
 abbrev pub axioms_of : List BookEntry → List Clause
 axioms_of book = filter_map axiom_of book
 
+-- the entry is the mark of this number (a question opens with 0 and closes with 1)
 abbrev pub is_mark : ℕ → BookEntry → Bool
 is_mark number (axiomatic clause) = false
 is_mark number (learnt clause hints) = false
@@ -64,6 +68,7 @@ abbrev pub EachAfter : {X : Type 0} → (List X → X → Type 0) → List X →
 EachAfter P earlier [] = ⊤
 EachAfter P earlier (x ∷ xs) = P earlier x × EachAfter P (earlier ++ x ∷ []) xs
 
+-- each learnt and each final clause of the book derives by its hints from the clauses before it
 abbrev pub IsValidBook : List BookEntry → Type 0
 IsValidBook book = EachAfter IsDerived [] book
 

@@ -16,6 +16,7 @@ with_clause held number clause asked = if asked == number then Some clause else 
 abbrev pub without : (ℕ → Option Clause) → List ℕ → ℕ → Option Clause
 without held numbers asked = if list_any (nat_eq asked) numbers then None else held asked
 
+-- the clause has no literal, so that no assignment makes it true
 abbrev pub is_empty : Clause → Bool
 is_empty [] = true
 is_empty (l ∷ ls) = false
@@ -25,15 +26,17 @@ pub data Checking : Type 0 where
   answered : Checked → Checking
   holds : (ℕ → Option Clause) → Checking
 
+-- an addition that derives ends the proof where its clause is empty, and else its clause is held; one that fails ends it, by its line and kind
 abbrev pub after_add : (ℕ → Option Clause) → ℕ → ℕ → Clause → Derivation → Checking
 after_add held line id clause derives = if is_empty clause then answered Verified else holds (with_clause held id clause)
 after_add held line id clause (fails at kind) = answered (Rejected line kind)
 
+-- what a step comes to with the clauses that are held: an addition has to derive, and a deletion never fails
 abbrev pub after_step : (ℕ → Option Clause) → ProofStep → Checking
 after_step held (Add line id clause hints) = after_add held line id clause (derive held clause hints)
 after_step held (Delete ids) = holds (without held ids)
 
--- what the steps give with the clauses that are held so far: without an empty clause a proof proves nothing
+-- what the steps give with the clauses that are held so far: without an empty clause a proof proves nothing, which is kind 4 on line 0
 abbrev pub check_from : (ℕ → Option Clause) → List ProofStep → Checked
 check_from held [] = Rejected 0 4
 check_from held (step ∷ steps) = elim (after_step held step) as (λ _. Checked) [ answered checked ↦ checked | holds more ↦ check_from more steps ]

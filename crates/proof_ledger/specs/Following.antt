@@ -11,17 +11,20 @@ use Rattle.proof_ledger.specs.declared.entry.DeriveFault.TheVariants.{Hint, Memo
 use Rattle.proof_ledger.specs.declared.follow.Outcome.{Outcome}
 use Rattle.proof_ledger.specs.declared.follow.Outcome.TheVariants as outcomes
 
+-- how a clause stands, by what the code says of it
 abbrev pub standing_of : Stands → Standing
 standing_of Falsified = falsified
 standing_of Satisfied = satisfied
 standing_of (OneOpen l) = unit l
 standing_of Wide = wide
 
+-- what the hint at a place leads to, by what the code says, and with the literals that are taken as true from then on
 abbrev pub progress_of : ℕ → List Lit → Step → Progress
 progress_of at taken steps.Derives = ended derives
 progress_of at taken (steps.Fails kind) = ended (fails at kind)
 progress_of at taken steps.GoesOn = goes_on taken
 
+-- what all hints of a step come to, by what the code says
 abbrev pub derivation_of : Outcome → Derivation
 derivation_of outcomes.Derives = derives
 derivation_of (outcomes.Fails at kind) = fails at kind

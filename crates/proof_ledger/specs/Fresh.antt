@@ -24,12 +24,14 @@ pub record IsFreshClause (before : List BookEntry) (clause : Clause) : Type 0 wh
   pub left_open : is_open taken found ≡ true
   pub quiet : all_quiet taken (clauses_of before) ≡ true
 
+-- the entry is a learnt clause; a final one is none
 abbrev pub is_learnt : BookEntry → Bool
 is_learnt (axiomatic clause) = false
 is_learnt (learnt clause hints) = true
 is_learnt (final clause hints) = false
 is_learnt (mark number) = false
 
+-- P holds of the clause of a learnt entry, and of another entry nothing is said
 abbrev pub IfLearnt : BookEntry → (Clause → Type 0) → Type 0
 IfLearnt (axiomatic clause) P = ⊤
 IfLearnt (learnt clause hints) P = P clause

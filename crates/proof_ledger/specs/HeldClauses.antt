@@ -5,5 +5,6 @@ use Rattle.std.specs.HashMap.{get}
 use Rattle.prop_core.specs.Clauses.{Clause}
 use Rattle.proof_ledger.specs.declared.held.HeldClauses.{HeldClauses}
 
+-- the clause that the map holds by a number, if it holds one
 abbrev pub held_by : HeldClauses → ℕ → Option Clause
 held_by held number = option_copied (get nat_eq held.by_number number)

@@ -38,6 +38,7 @@ pub record IsBook (entries : List Kept) (clauses : List Clause) (hints : List (L
   pub hints_are : hints ≡ hints_of book
   pub valid : IsValidBook book
 
+-- the entries, clauses and hints that are kept are those of a valid book: the one that `book_of` reads from them
 abbrev pub IsKept : List Kept → List Clause → List (List ℕ) → Type 0
 IsKept entries clauses hints = IsBook entries clauses hints (book_of entries clauses hints)
 

@@ -10,7 +10,7 @@ use Rattle.proof_text.specs.declared.header.Header.{Header}
 use Rattle.proof_text.specs.SignedNumbers.{is_number, is_zero, size_of, literal_of}
 use Rattle.proof_text.specs.TextFaults.{no_header, not_a_number, unknown_variable, other_count, not_ended, over_limit, fault_at, fault_or}
 
--- variables and clauses of a file
+-- the greatest number of variables, and of clauses, that a header may state
 abbrev pub most : ℕ
 most = 100000000
 
@@ -23,6 +23,7 @@ header_words (p ∷ cnf ∷ vars ∷ []) = None
 header_words (p ∷ cnf ∷ vars ∷ clauses ∷ []) = if bytes_eq p (codes "p") && bytes_eq cnf (codes "cnf") then Some (vars, clauses) else None
 header_words (p ∷ cnf ∷ vars ∷ clauses ∷ more ∷ words) = None
 
+-- the header that states so many variables and so many clauses
 abbrev pub stated : ℕ → ℕ → Header
 stated vars clauses = record { vars = vars; clauses = clauses }
 
@@ -34,10 +35,11 @@ header_of_words words = option_and_then (λ vars. option_map (stated vars) (numb
 abbrev pub header_of : List (List ℕ) → Option Header
 header_of tokens = option_and_then header_of_words (header_words tokens)
 
+-- the code of a header that states too many variables or clauses, if it does
 abbrev pub limit_code : Header → Option ℕ
 limit_code header = if nat_lt most header.vars || nat_lt most header.clauses then Some over_limit else None
 
--- a header has a shape, and keeps the limits
+-- the code of a header line that has another shape, or states more than the limits allow
 abbrev pub header_code : Option Header → Option ℕ
 header_code None = Some no_header
 header_code (Some header) = limit_code header
@@ -47,6 +49,7 @@ pub record LinedToken : Type 0 where
   pub line : ℕ
   pub text : List ℕ
 
+-- the token with the number of its line
 abbrev pub lined : ℕ → List ℕ → LinedToken
 lined line text = record { line = line; text = text }
 
@@ -67,6 +70,7 @@ token_code vars left is_open text =
     else if not is_open && left == 0 then Some other_count
     else None
 
+-- the code of the end, where so many clauses may still begin and a clause is open or not; none where all are there and ended
 abbrev pub end_code : ℕ → Bool → Option ℕ
 end_code left is_open = if is_open then Some not_ended else if nat_lt 0 left then Some other_count else None
 
@@ -86,14 +90,16 @@ abbrev pub fault_behind : ℕ → Option Header → List LinedToken → Option T
 fault_behind end None tokens = None
 fault_behind end (Some header) tokens = fault_of_tokens header.vars end header.clauses false tokens
 
+-- the first fault of a text by what its header states, on the line `number`, and by the tokens behind it; the last line is `end`
 abbrev pub fault_of_body : ℕ → ℕ → Option Header → List LinedToken → Option TextFault
 fault_of_body end number header tokens = fault_or number (header_code header) (fault_behind end header tokens)
 
+-- the first fault of the counted lines, of which the first is the header; without any the header is missing, on the last line `end`
 abbrev pub fault_of_lines : ℕ → List NumberedLine → Option TextFault
 fault_of_lines end [] = fault_at end no_header
 fault_of_lines end (header ∷ lines) = fault_of_body end header.number (header_of (tokens_of header.text)) (tokens_in lines)
 
--- comments begin with `c`
+-- the first fault of a text, if it has one; lines that begin with `c` are comments
 abbrev pub first_cnf_fault : List ℕ → Option TextFault
 first_cnf_fault bytes = fault_of_lines (last_line bytes) (counted_lines 99 bytes)
 
@@ -103,9 +109,11 @@ before_last [] = []
 before_last (x ∷ []) = []
 before_last (x ∷ next ∷ xs) = x ∷ before_last (next ∷ xs)
 
+-- the token is the `0` that ends a clause
 abbrev pub ends_clause : LinedToken → Bool
 ends_clause token = is_zero token.text
 
+-- the clause of the literals that these tokens spell, one for each
 abbrev pub clause_of : List LinedToken → Clause
 clause_of tokens = map (λ token. literal_of token.text) tokens
 
@@ -118,13 +126,16 @@ pub record Formula : Type 0 where
   pub vars : ℕ
   pub clauses : List Clause
 
+-- the clauses, as a formula over so many variables
 abbrev pub formula : ℕ → List Clause → Formula
 formula vars clauses = record { vars = vars; clauses = clauses }
 
+-- the formula of a header and the tokens behind it; without a header it has no variables and no clauses
 abbrev pub formula_of_body : Option Header → List LinedToken → Formula
 formula_of_body None tokens = formula 0 []
 formula_of_body (Some header) tokens = formula header.vars (clauses_in tokens)
 
+-- the formula of the counted lines, of which the first is the header; without any it has no variables and no clauses
 abbrev pub formula_of_lines : List NumberedLine → Formula
 formula_of_lines [] = formula 0 []
 formula_of_lines (header ∷ lines) = formula_of_body (header_of (tokens_of header.text)) (tokens_in lines)

@@ -16,6 +16,7 @@ is_id token = is_unsigned token && not (is_too_large token)
 abbrev pub is_known : ℕ → List ℕ → Bool
 is_known vars token = is_number token && not (nat_lt vars (size_of token))
 
+-- what the front of a cut says, token by token, and what stands behind it: none where no `0` ends it, or a token of it fails the test
 abbrev pub section_of : {X : Type 0} → (List ℕ → Bool) → (List ℕ → X) → Cut → Option (List X × List (List ℕ))
 section_of test value c = if c.ended && list_all test c.front then Some (map value c.front, c.behind) else None
 
@@ -23,33 +24,39 @@ section_of test value c = if c.ended && list_all test c.front then Some (map val
 abbrev pub section : {X : Type 0} → (List ℕ → Bool) → (List ℕ → X) → List (List ℕ) → Option (List X × List (List ℕ))
 section test value tokens = section_of test value (cut_at_zero tokens)
 
+-- the numbers of clauses before the first `0`, and what follows it
 abbrev pub ids_section : List (List ℕ) → Option (List ℕ × List (List ℕ))
 ids_section tokens = section is_id size_of tokens
 
+-- the literals before the first `0`, where there are so many variables, and what follows it
 abbrev pub literals_section : ℕ → List (List ℕ) → Option (List Lit × List (List ℕ))
 literals_section vars tokens = section (is_known vars) literal_of tokens
 
--- the same, where nothing follows
+-- what was read, where nothing follows it
 abbrev pub only : {X : Type 0} → X × List (List ℕ) → Option X
 only read = if some_rest read.1 then None else Some read.0
 
+-- the numbers of clauses before the first `0`, where nothing follows it
 abbrev pub ids_only : List (List ℕ) → Option (List ℕ)
 ids_only tokens = option_and_then only (ids_section tokens)
 
--- the literals and the hints of an addition
+-- the literals that were read, with the hints that stand behind them and end the line
 abbrev pub with_hints : List Lit × List (List ℕ) → Option (List Lit × List ℕ)
 with_hints read = option_map (λ hints. (read.0, hints)) (ids_only read.1)
 
+-- the literals up to a `0`, over so many variables, and the hints up to another that ends the line
 abbrev pub literals_and_hints : ℕ → List (List ℕ) → Option (List Lit × List ℕ)
 literals_and_hints vars tokens = option_and_then with_hints (literals_section vars tokens)
 
+-- the step of an addition, by its line, its number, and its literals and hints
 abbrev pub add_step : ℕ → ℕ → List Lit × List ℕ → ProofStep
 add_step line id parts = Add line id parts.0 parts.1
 
--- an addition, whose number is read
+-- an addition, whose number is read: none where that is not above `last`
 abbrev pub addition_read : ℕ → ℕ → ℕ → ℕ → List (List ℕ) → Option ProofStep
 addition_read line vars last id tokens = if nat_lt last id then option_map (add_step line id) (literals_and_hints vars tokens) else None
 
+-- a deletion, from the tokens behind its `d`
 abbrev pub deletion_read : List (List ℕ) → Option ProofStep
 deletion_read tokens = option_map Delete (ids_only tokens)
 
@@ -58,6 +65,7 @@ abbrev pub step_read : ℕ → ℕ → ℕ → List (List ℕ) → ℕ → Optio
 step_read line vars last [] id = addition_read line vars last id []
 step_read line vars last (token ∷ tokens) id = if is_deletion_mark token then deletion_read tokens else addition_read line vars last id (token ∷ tokens)
 
+-- the step of the tokens of a line, where there are so many variables and an addition has to be numbered above `last`; none where they say no step
 abbrev pub line_read : ℕ → ℕ → ℕ → List (List ℕ) → Option ProofStep
 line_read line vars last [] = None
 line_read line vars last (id ∷ tokens) = option_and_then (step_read line vars last tokens) (number_up_to greatest id)

@@ -14,12 +14,15 @@ pub record Cut : Type 0 where
   pub ended : Bool
   pub behind : List (List ℕ)
 
+-- the cut of these parts: what stands before a `0`, whether there is one, and what follows it
 abbrev pub cut : List (List ℕ) → Bool → List (List ℕ) → Cut
 cut front ended behind = record { front = front; ended = ended; behind = behind }
 
+-- the cut with one more token, the first before the `0`
 abbrev pub with_token : List ℕ → Cut → Cut
 with_token token c = cut (token ∷ c.front) c.ended c.behind
 
+-- the tokens, cut at the first `0`, which stands on neither side; without one all of them stand in front
 abbrev pub cut_at_zero : List (List ℕ) → Cut
 cut_at_zero [] = cut [] false []
 cut_at_zero (token ∷ tokens) = if is_zero token then cut [] true tokens else with_token token (cut_at_zero tokens)
@@ -30,12 +33,15 @@ pub data LratLine : Type 0 where
   addition : (id : List ℕ) → (literals hints : List (List ℕ)) → (ended : Bool) → (rest : List (List ℕ)) → LratLine
   deletion : (id : List ℕ) → (ids : List (List ℕ)) → (ended : Bool) → (rest : List (List ℕ)) → LratLine
 
+-- the token is the `d` that tells a deletion
 abbrev pub is_deletion_mark : List ℕ → Bool
 is_deletion_mark token = bytes_eq token (codes "d")
 
+-- an addition by the cut of its literals, and by that of the tokens behind them, the hints
 abbrev pub addition_of : List ℕ → Cut → Cut → LratLine
 addition_of id literals hints = addition id literals.front hints.front hints.ended hints.behind
 
+-- a deletion by the cut of the tokens behind its `d`
 abbrev pub deletion_of : List ℕ → Cut → LratLine
 deletion_of id ids = deletion id ids.front ids.ended ids.behind
 
@@ -43,6 +49,7 @@ deletion_of id ids = deletion id ids.front ids.ended ids.behind
 abbrev pub addition_line : List ℕ → List (List ℕ) → LratLine
 addition_line id tokens = addition_of id (cut_at_zero tokens) (cut_at_zero (cut_at_zero tokens).behind)
 
+-- the line of these tokens; what is missing is empty, the number too
 abbrev pub lrat_line : List (List ℕ) → LratLine
 lrat_line [] = addition_line [] []
 lrat_line (id ∷ []) = addition_line id []
@@ -52,9 +59,11 @@ lrat_line (id ∷ token ∷ tokens) = if is_deletion_mark token then deletion_of
 abbrev pub greatest : ℕ
 greatest = 18446744073709551615
 
+-- the token is a number greater than that of a clause can be, behind a `-` or not
 abbrev pub is_too_large : List ℕ → Bool
 is_too_large token = nat_lt greatest (size_of token)
 
+-- tokens are left over behind a `0` that has to be the last
 abbrev pub some_rest : List (List ℕ) → Bool
 some_rest [] = false
 some_rest (token ∷ tokens) = true
@@ -63,6 +72,7 @@ some_rest (token ∷ tokens) = true
 abbrev pub is_positive : List ℕ → Bool
 is_positive token = is_number token && not (is_negative token) && not (is_zero token)
 
+-- a number without a `-`, also 0
 abbrev pub is_unsigned : List ℕ → Bool
 is_unsigned token = is_number token && not (is_negative token)
 
@@ -102,16 +112,18 @@ abbrev pub last_after : ℕ → ProofStep → ℕ
 last_after last (Add line id clause hints) = id
 last_after last (Delete ids) = last
 
+-- the first fault of the lines of a proof, where there are so many variables and the first addition has to be numbered above `last`
 abbrev pub lrat_fault_of : ℕ → ℕ → List NumberedLine → Option TextFault
 lrat_fault_of vars last [] = None
 lrat_fault_of vars last (line ∷ lines) =
     fault_or line.number (line_code vars last (lrat_line (tokens_of line.text)))
     (lrat_fault_of vars (last_after last (step_of line.number (lrat_line (tokens_of line.text)))) lines)
 
--- Comments begin with `c`. Original clauses have the numbers from 1 to their count.
+-- The first fault of the text of a proof, if it has one. Lines that begin with `c` are comments. Original clauses have the numbers from 1 to their count.
 abbrev pub first_lrat_fault : ℕ → ℕ → List ℕ → Option TextFault
 first_lrat_fault vars clauses bytes = lrat_fault_of vars clauses (counted_lines 99 bytes)
 
+-- the steps that the lines say, one for each
 abbrev pub steps_of : List NumberedLine → List ProofStep
 steps_of lines = map (λ line. step_of line.number (lrat_line (tokens_of line.text))) lines
 

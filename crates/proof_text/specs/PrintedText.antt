@@ -15,12 +15,15 @@ literal_word l = if l.positive then decimal (l.var + 1) else 45 ∷ decimal (l.v
 abbrev pub literals_text : Clause → List ℕ
 literals_text clause = flat_map (λ l. literal_word l ++ 32 ∷ []) clause
 
+-- the line of a clause, which ends with `0`
 abbrev pub clause_text : Clause → List ℕ
 clause_text clause = literals_text clause ++ codes "0\n"
 
+-- the line `p cnf V C` of so many variables and clauses
 abbrev pub header_text : ℕ → ℕ → List ℕ
 header_text vars clauses = codes "p cnf " ++ (decimal vars ++ 32 ∷ []) ++ decimal clauses ++ 10 ∷ []
 
+-- the header, and then the line of each clause in their order
 abbrev pub formula_text : Formula → List ℕ
 formula_text f = header_text f.vars (length f.clauses) ++ flat_map clause_text f.clauses
 
@@ -33,9 +36,11 @@ abbrev pub step_words_text : ProofStep → List ℕ
 step_words_text (Add line id clause hints) = (decimal id ++ 32 ∷ []) ++ literals_text clause ++ codes "0 " ++ numbers_text hints
 step_words_text (Delete ids) = codes "1 d " ++ numbers_text ids
 
+-- the line of a step, which ends with `0`
 abbrev pub step_text : ProofStep → List ℕ
 step_text step = step_words_text step ++ codes "0\n"
 
+-- the line of each step in their order
 abbrev pub steps_text : List ProofStep → List ℕ
 steps_text steps = flat_map step_text steps
 
@@ -49,6 +54,7 @@ pub record IsFormulaText (f : Formula) (text : List ℕ) : Type 0 where
   pub well : first_cnf_fault text ≡ None
   pub value : formula_of text ≡ f
 
+-- the formula has no more variables, and no more clauses, than a header may state
 abbrev pub KeepsLimits : Formula → Type 0
 KeepsLimits f = (f.vars ≤ most) × (length f.clauses ≤ most)
 
@@ -72,6 +78,6 @@ abbrev pub HasNumberAbove : ℕ → ProofStep → Type 0
 HasNumberAbove clauses (Add line id clause hints) = clauses < id
 HasNumberAbove clauses (Delete ids) = ⊤
 
--- It is one for each number of variables above all variables, and each number of clauses below the numbers of the additions.
+-- The text reads back as this proof, for each number of variables above its own, at most 2^30, and each number of clauses below those of its additions.
 abbrev pub ReadsBack : List ProofStep → List ℕ → Type 0
 ReadsBack steps text = (vars clauses : ℕ) → vars ≤ 1073741824 → All (HasVariablesBelow vars) steps → All (HasNumberAbove clauses) steps → IsProofText vars clauses steps text

@@ -47,6 +47,7 @@ refuted_formula book assumed = axioms_of book ++ units assumed
 
 -- ---- the proof
 
+-- the clause of an entry that was derived, learnt or final; an axiom and a mark have none
 abbrev pub derived_clause_of : BookEntry → Option Clause
 derived_clause_of (axiomatic clause) = None
 derived_clause_of (learnt clause hints) = Some clause
@@ -65,7 +66,7 @@ numbers_from first next (learnt clause hints ∷ book) = next ∷ numbers_from f
 numbers_from first next (final clause hints ∷ book) = next ∷ numbers_from first (next + 1) book
 numbers_from first next (mark k ∷ book) = numbers_from first next book
 
--- The new number of a clause of the book, by its number there. A number that names no clause becomes 1.
+-- The new number of a clause of the book, by its number there. A number beyond the last clause becomes 1, and 0 becomes what 1 does.
 abbrev pub new_number : List ℕ → ℕ → ℕ
 new_number numbers number = slice_index_or numbers (number - 1) 1
 
@@ -83,6 +84,7 @@ steps_by numbers axioms assumptions last book =
     derived_steps numbers (axioms + assumptions + 1) book
     ++ Add 0 (axioms + assumptions + 1 + length (derived_of book)) [] (range_with_len (axioms + 1) assumptions ++ new_number numbers last ∷ []) ∷ []
 
+-- those steps by the new numbers of the clauses: axioms from 1 on, and what was derived behind the axioms and the assumptions
 abbrev pub steps_behind : ℕ → ℕ → ℕ → List BookEntry → List ProofStep
 steps_behind axioms assumptions last book = steps_by (numbers_from 1 (axioms + assumptions + 1) book) axioms assumptions last book
 
@@ -105,6 +107,7 @@ pub record CanBePrinted (vars : ℕ) (clauses : List Clause) (steps : List Proof
 
 -- ---- what the code sees of an entry
 
+-- the entry has the clause of this number; a mark has none
 abbrev pub is_numbered : ℕ → Entry → Bool
 is_numbered number (Axiom id) = id == number
 is_numbered number (Learnt id) = id == number

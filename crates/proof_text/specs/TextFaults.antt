@@ -20,7 +20,7 @@ unknown_variable = 3
 abbrev pub other_count : ℕ
 other_count = 4
 
--- the last `0` of a clause or a line is missing, or something follows it
+-- the last `0` of a clause or a line is missing, or something follows it on the line of a proof
 abbrev pub not_ended : ℕ
 not_ended = 5
 
@@ -28,6 +28,7 @@ not_ended = 5
 abbrev pub not_ascending : ℕ
 not_ascending = 6
 
+-- a hint is negative, as in steps that are not propagation alone
 abbrev pub negative_hint : ℕ
 negative_hint = 7
 
@@ -35,6 +36,7 @@ negative_hint = 7
 abbrev pub over_limit : ℕ
 over_limit = 8
 
+-- a fault on this line, with this code
 abbrev pub fault_at : ℕ → ℕ → Option TextFault
 fault_at line code = Some (record { line = line; code = code })
 

@@ -7,7 +7,7 @@ use crate::fault::{NO_HEADER, OVER_LIMIT};
 use crate::number::is_decimal;
 use des_base::{Line, read_number};
 
-// variables and clauses of a file
+// The greatest number of variables, and of clauses, that a header may state.
 const MOST: u64 = 100_000_000;
 
 // How many variables and clauses the header of a formula states.

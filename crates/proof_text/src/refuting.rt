@@ -184,7 +184,7 @@ impl Front<'_> {
     }
 }
 
-// The new number of a clause. A number that names no clause becomes 1: no derivation looks at it.
+// The new number of a clause. A number beyond the last clause becomes 1, and 0 becomes what 1 does: no derivation looks at either.
 fn new_number(numbers: &[ClauseId], id: ClauseId) -> ClauseId
     ensures { result ≡ new_number numbers.now id }
 {

@@ -4,6 +4,7 @@ use Rattle.std.specs.Bool.{beq}
 use Rattle.std.specs.List.{list_any, AllByRecursion}
 use Rattle.prop_core.specs.declared.lit.Lit.{Lit}
 
+-- a list of literals, of which one at least has to be true; a literal may stand there more than once
 abbrev pub Clause : Type 0
 Clause = List Lit
 
@@ -11,20 +12,23 @@ Clause = List Lit
 abbrev pub negation : Lit → Lit
 negation l = record { var = l.var; positive = not l.positive }
 
+-- the same variable with the same sign
 abbrev pub same_literal : Lit → Lit → Bool
 same_literal a b = (a.var == b.var) && beq a.positive b.positive
 
--- An assignment gives each variable a truth value.
+-- An assignment gives each variable a truth value. It makes a literal true where the variable has the value of the literal's sign.
 abbrev pub literal_true : (ℕ → Bool) → Lit → Bool
 literal_true value l = beq (value l.var) l.positive
 
--- It makes a clause true where it makes one of its literals true.
+-- It makes a clause true where it makes one of its literals true, and so never the empty clause.
 abbrev pub clause_true : (ℕ → Bool) → Clause → Bool
 clause_true value clause = list_any (literal_true value) clause
 
+-- the assignment makes each clause true; where there are none, each assignment does
 abbrev pub AllClausesTrue : (ℕ → Bool) → List Clause → Type 0
 AllClausesTrue value clauses = AllByRecursion (λ clause. IsTrue (clause_true value clause)) clauses
 
+-- the assignment makes each of these literals true
 abbrev pub AllLiteralsTrue : (ℕ → Bool) → List Lit → Type 0
 AllLiteralsTrue value literals = AllByRecursion (λ l. IsTrue (literal_true value l)) literals
 

@@ -18,18 +18,21 @@ abbrev pub open_standing : List Lit → Standing
 open_standing [] = wide
 open_standing (l ∷ ls) = if list_all (same_literal l) ls then unit l else wide
 
+-- how a clause stands under the literals that are taken as true; the empty clause is false
 abbrev pub standing : List Lit → Clause → Standing
 standing taken clause =
     if list_all (is_false taken) clause then falsified
     else (if list_any (is_true taken) clause then satisfied else open_standing (filter (is_open taken) clause))
 
--- why a step does not derive: a hint names no held clause, a hint has two or more open literals, or the hints end
+-- why a step does not derive, as a kind: this one where a hint names no clause that is held
 abbrev pub unknown_clause : ℕ
 unknown_clause = 1
 
+-- the kind where two or more different literals of a hint's clause are open and none is true
 abbrev pub two_open : ℕ
 two_open = 2
 
+-- the kind where the hints end and none was false
 abbrev pub hints_end : ℕ
 hints_end = 3
 
@@ -43,12 +46,14 @@ pub data Progress : Type 0 where
   ended : Derivation → Progress
   goes_on : List Lit → Progress
 
+-- what the hint at a place leads to, by how its clause stands: the one open literal of a unit clause is taken as true
 abbrev pub after_standing : List Lit → ℕ → Standing → Progress
 after_standing taken at falsified = ended derives
 after_standing taken at satisfied = goes_on taken
 after_standing taken at (unit l) = goes_on (taken ++ l ∷ [])
 after_standing taken at wide = ended (fails at two_open)
 
+-- what the hint at a place leads to, with the clause that it names, if it names one that is held
 abbrev pub after_hint : List Lit → ℕ → Option Clause → Progress
 after_hint taken at None = ended (fails at unknown_clause)
 after_hint taken at (Some clause) = after_standing taken at (standing taken clause)
@@ -64,6 +69,7 @@ follow held taken at (hint ∷ hints) =
 abbrev pub derive : (ℕ → Option Clause) → Clause → List ℕ → Derivation
 derive held clause hints = follow held (map negation clause) 0 hints
 
+-- the clause derives from the clauses that are held, by these hints
 abbrev pub Derives : (ℕ → Option Clause) → Clause → List ℕ → Type 0
 Derives held clause hints = derive held clause hints ≡ derives
 

@@ -6,6 +6,7 @@ use Rattle.prop_core.specs.Clauses.{Clause}
 use Rattle.prop_core.specs.VariableNames.{Name, NamedLiteral, HasEachOnce, named_clause}
 use Rattle.prop_core.specs.NamedClauses.{IsCode, variable_of}
 
+-- clauses in an order, each with its literals in theirs, by the names of the variables
 abbrev pub Listing : Type 0
 Listing = List (List NamedLiteral)
 
@@ -19,13 +20,15 @@ IsListed names list clauses = map (named_clause names) clauses ≡ map (λ named
 abbrev pub One : List NamedLiteral → Listing
 One clause = clause ∷ []
 
+-- one listing, and the other behind it
 abbrev pub Both : Listing → Listing → Listing
 Both first second = first ++ second
 
--- a list for each element of a list, and for each number below k
+-- a list for each element of a list, in their order
 abbrev pub EachOf : {X : Type 0} → List X → (X → Listing) → Listing
 EachOf xs F = flat_map F xs
 
+-- a list for each number below k, from 0 on
 abbrev pub Each : ℕ → (ℕ → Listing) → Listing
 Each k F = EachOf (range_with_len 0 k) F
 
@@ -41,10 +44,11 @@ pub record Appends (names : List (ℕ × Name)) (list : Listing) (old new : List
 
 -- ---- as variables
 
--- the clauses whose variables have these names, where each name has one
+-- the literal by the variable of its name; where the name has none, by variable 0
 abbrev pub literal_by : List (ℕ × Name) → NamedLiteral → Lit
 literal_by names l = record { var = unwrap_or (variable_of names l.name) 0; positive = l.positive }
 
+-- the clauses of a listing by the variables of the names, in the same order
 abbrev pub written_by : List (ℕ × Name) → Listing → List Clause
 written_by names list = map (λ named. map (literal_by names) named) list
 

@@ -6,24 +6,29 @@ use Rattle.prop_core.specs.VariableNames.{Name, in_state, happens, asked, matche
 
 -- ---- truth by name
 
+-- whether two truth values are the same: a sign, and the truth of the name that stands with it
 abbrev pub same_sign : Bool → Bool → Bool
 same_sign true b = b
 same_sign false b = not b
 
+-- a literal is true where its name has the truth of its sign
 abbrev pub named_true : (Name → Bool) → NamedLiteral → Bool
 named_true value l = same_sign l.positive (value l.name)
 
+-- a clause by name is true where one of its literals is; the empty clause never is
 abbrev pub named_clause_true : (Name → Bool) → List NamedLiteral → Bool
 named_clause_true value clause = list_any (named_true value) clause
 
 -- ---- variables and names
 
+-- whether two "at most one" are over the same: of one kind, with the same numbers
 abbrev pub same_exclusion : Exclusion → Exclusion → Bool
 same_exclusion (of_states c t) (of_states d u) = (c == d) && (t == u)
 same_exclusion (of_events t g) (of_events u h) = (t == u) && (g == h)
 same_exclusion (of_matches i t) (of_matches j u) = (i == j) && (t == u)
 same_exclusion a b = false
 
+-- whether two names are the same: of one kind, with the same numbers
 abbrev pub same_name : Name → Name → Bool
 same_name (in_state c q t) (in_state d r u) = (c == d) && ((q == r) && (t == u))
 same_name (happens e t) (happens f u) = (e == f) && (t == u)
@@ -37,6 +42,7 @@ same_name (reaches i j) (reaches k l) = (i == k) && (j == l)
 same_name (some_of_first a i) (some_of_first b j) = same_exclusion a b && (i == j)
 same_name a b = false
 
+-- the variable of a name by a list of both: the first that has it, if there is one
 abbrev pub variable_of : List (ℕ × Name) → Name → Option ℕ
 variable_of names name = option_map (λ entry. entry.0) (find (λ entry. same_name entry.1 name) names)
 
@@ -44,16 +50,19 @@ variable_of names name = option_map (λ entry. entry.0) (find (λ entry. same_na
 abbrev pub Match : List (ℕ × Name) → (ℕ → Bool) → (Name → Bool) → Type 0
 Match names assignment value = (var : ℕ) (name : Name) → name_of names var ≡ Some name → assignment var ≡ value name
 
--- the truth of names by that of their variables, where a name without one is false; and of variables by that of their names, where a variable without one keeps its own
+-- the truth of a name by that of its variable, where a name without one is false
 abbrev pub value_by : List (ℕ × Name) → (ℕ → Bool) → Name → Bool
 value_by names assignment name = unwrap_or (option_map assignment (variable_of names name)) false
 
+-- the truth of a variable by that of its name, where a variable without one keeps the given one
 abbrev pub assignment_by : List (ℕ × Name) → (Name → Bool) → (ℕ → Bool) → ℕ → Bool
 assignment_by names value given var = unwrap_or (option_map value (name_of names var)) (given var)
 
+-- Where each name and each variable stands once, names that take their truth from their variables match the assignment.
 abbrev pub ValuesMatch : Type 0
 ValuesMatch = (names : List (ℕ × Name)) → HasEachOnce names → (assignment : ℕ → Bool) → Match names assignment (value_by names assignment)
 
+-- Variables that take their truth from their names match it, whatever is given for the others.
 abbrev pub AssignmentsMatch : Type 0
 AssignmentsMatch = (names : List (ℕ × Name)) (value : Name → Bool) (given : ℕ → Bool) → Match names (assignment_by names value given) value
 

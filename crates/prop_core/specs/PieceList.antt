@@ -12,6 +12,7 @@ abbrev pub pieces_from : {X : Type 0} → List X → ℕ → List ℕ → List (
 pieces_from items start [] = []
 pieces_from items start (end ∷ ends) = slice_range items start end ∷ pieces_from items end ends
 
+-- the lists from the first item on, by the places where they end
 abbrev pub pieces_of : {X : Type 0} → List X → List ℕ → List (List X)
 pieces_of items ends = pieces_from items 0 ends
 

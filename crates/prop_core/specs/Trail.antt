@@ -24,6 +24,7 @@ is_quiet satisfied = true
 is_quiet (unit l) = false
 is_quiet wide = true
 
+-- no clause is false under the literals that are taken as true, and none has one open literal and all others false
 abbrev pub all_quiet : List Lit → List Clause → Bool
 all_quiet taken clauses = list_all (λ clause. is_quiet (standing taken clause)) clauses
 
@@ -36,6 +37,7 @@ pub record Placed : Type 0 where
   pub literal : Lit
   pub reason : Option Clause
 
+-- the literals of a trail, in their order and without their reasons
 abbrev pub literals_of : List Placed → List Lit
 literals_of places = map (λ (p : Placed). p.literal) places
 

@@ -10,6 +10,7 @@ pub data Exclusion : Type 0 where
   of_events : (step group : ℕ) → Exclusion
   of_matches : (alarm step : ℕ) → Exclusion
 
+-- what a variable of a question stands for: something of the run or the log, or a part of a chain, of a counter or of an "at most one"
 pub data Name : Type 0 where
   -- the component is in the state after so many steps
   in_state : (component state step : ℕ) → Name
@@ -32,17 +33,20 @@ pub data Name : Type 0 where
   -- one of the first inputs of an "at most one" is true
   some_of_first : Exclusion → (inputs : ℕ) → Name
 
+-- a literal by the name of its variable
 pub record NamedLiteral : Type 0 where
   pub name : Name
   pub positive : Bool
 
+-- the positive literal of a name
 abbrev pub yes : Name → NamedLiteral
 yes name = record { name = name; positive = true }
 
+-- the negated literal of a name
 abbrev pub no : Name → NamedLiteral
 no name = record { name = name; positive = false }
 
--- none of the first k alarms of the chain of e stands for it in step t
+-- e happens in step t, and none of the first k alarms of its chain stands for it there
 abbrev pub remaining : ℕ → ℕ → ℕ → Name
 remaining e zero t = happens e t
 remaining e (suc k) t = unmatched e (suc k) t
@@ -55,14 +59,16 @@ HasEachOnce names = EachPair (λ a b. (a.0 ≢ b.0) × (a.1 ≢ b.1)) names
 abbrev pub name_of : List (ℕ × Name) → ℕ → Option Name
 name_of names var = option_map (λ entry. entry.1) (find (λ entry. entry.0 == var) names)
 
--- a clause by the names of its variables, if each has one
+-- a literal by the name of its variable, if it has one
 abbrev pub named_literal : List (ℕ × Name) → Lit → Option NamedLiteral
 named_literal names l = option_map (λ name. record { name = name; positive = l.positive }) (name_of names l.var)
 
+-- a literal in front of a clause, where both could be named
 abbrev pub with_literal : Option NamedLiteral → Option (List NamedLiteral) → Option (List NamedLiteral)
 with_literal None rest = None
 with_literal (Some l) rest = option_map (λ ls. l ∷ ls) rest
 
+-- a clause by the names of its variables, literal by literal, if each has one
 abbrev pub named_clause : List (ℕ × Name) → Clause → Option (List NamedLiteral)
 named_clause names [] = Some []
 named_clause names (l ∷ clause) = with_literal (named_literal names l) (named_clause names clause)

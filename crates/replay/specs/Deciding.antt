@@ -25,10 +25,12 @@ all_show net log [] (alarm ∷ order) = false
 all_show net log (e ∷ events) [] = false
 all_show net log (e ∷ events) (alarm ∷ order) = is_matching net log e alarm && all_show net log events order
 
+-- the order linearises the log along the word, by a test: each clause of Linearises has its part
 abbrev pub linearises : Net → Log → List ℕ → List Entry → Bool
 linearises net log word order =
     lists_once (length log.alarms) (alarms_of order) && list_all (may_stand log) order && all_show net log (observables net word) (real_alarms order) && is_none (wrong_pair (alarms_of order) log.pairs)
 
+-- the word and the order explain the log within n pieces, by a test
 abbrev pub explains : Net → Log → ℕ → List ℕ → List Entry → Bool
 explains net log n word order = can_run net word && nat_le (need net word) n && linearises net log word order
 

@@ -16,10 +16,11 @@ observables net word = filter (λ e. is_some (label_of net e)) word
 abbrev pub Shows : Net → Log → ℕ → ℕ → Type 0
 Shows net log e alarm = IsSomeAnd (label_of net e) (Contains (labels_of log alarm))
 
--- the same as a test
+-- the alarm may have this label, by a test
 abbrev pub has_label : Log → ℕ → List ℕ → Bool
 has_label log alarm label = list_any (bytes_eq label) (labels_of log alarm)
 
+-- event e shows the alarm, by a test: it can be seen, and the alarm may have its label
 abbrev pub is_matching : Net → Log → ℕ → ℕ → Bool
 is_matching net log e alarm = option_map_or (has_label log alarm) (label_of net e) false
 
@@ -40,7 +41,7 @@ real_alarms order = alarms_of (filter (λ entry. entry.real) order)
 abbrev pub false_count : List Entry → ℕ
 false_count order = count_by (λ entry. not entry.real) order
 
--- a false alarm is doubtful
+-- an entry may stand where its alarm is true, or doubtful in the log
 abbrev pub may_stand : Log → Entry → Bool
 may_stand log entry = entry.real || is_doubtful log entry.alarm
 
@@ -95,14 +96,15 @@ pub record IsMany (net : Net) (log : Log) (n : ℕ) : Type 0 where
 abbrev pub LeastIsOne : Type 0
 LeastIsOne = (net : Net) (log : Log) (n k j : ℕ) → IsLeast net log n k → IsLeast net log n j → k ≡ j
 
--- where nothing explains, no number is least, and there aren't many faults
+-- neither of the other answers holds: no number of faults is least, and there aren't many
 pub record ExcludesOthers (net : Net) (log : Log) (n : ℕ) : Type 0 where
   pub not_least : (k : ℕ) → IsLeast net log n k → ⊥
   pub not_many : IsMany net log n → ⊥
 
+-- where nothing explains the log, neither of the other answers holds
 abbrev pub AbsentExcludes : Type 0
 AbsentExcludes = (net : Net) (log : Log) (n : ℕ) → IsAbsent net log n → ExcludesOthers net log n
 
--- where there are many faults, the least number is one of them
+-- where there are many faults, a least number is above 255
 abbrev pub ManyIsAbove : Type 0
 ManyIsAbove = (net : Net) (log : Log) (n k : ℕ) → IsLeast net log n k → IsMany net log n → 255 < k

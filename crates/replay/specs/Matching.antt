@@ -31,10 +31,11 @@ alarm_of log step = option_and_then (λ name. place_of name (names_of log.alarms
 abbrev pub alarms_on : Log → List RunStep → List ℕ
 alarms_on log run = filter_map (alarm_of log) run
 
--- and each with whether it is true
+-- the alarm that a step names, with whether it is true, where the log has it
 abbrev pub entry_of : Log → RunStep → Option Entry
 entry_of log step = option_map (λ alarm. record { alarm = alarm; real = is_real step }) (alarm_of log step)
 
+-- the alarms that a run names, in order, each with whether it is true; names that the log hasn't are passed over
 abbrev pub order_of : Log → List RunStep → List Entry
 order_of log run = filter_map (entry_of log) run
 

@@ -9,6 +9,7 @@ pub record Placed : Type 0 where
   pub alarms : ℕ
   pub order : List ℕ
 
+-- of so many alarms none has a place yet
 abbrev pub none_placed : ℕ → Placed
 none_placed alarms = record { alarms = alarms; order = [] }
 
@@ -16,6 +17,7 @@ none_placed alarms = record { alarms = alarms; order = [] }
 abbrev pub place_of_alarm : List ℕ → ℕ → Option ℕ
 place_of_alarm order alarm = if is_in order alarm then Some (place_in order alarm) else None
 
+-- a placing is seen as its order and its number of alarms, without the kept places
 abbrev pub placing_view : Inside → Placed
 placing_view a = record { alarms = length a.places.items; order = a.order.items }
 

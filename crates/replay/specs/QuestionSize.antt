@@ -20,6 +20,7 @@ alarm_sizes net log = sum_by (λ i. matching_count net log i ^ 2 + 1) (numbers_b
 abbrev pub doubtful_count : Log → ℕ
 doubtful_count log = count_by (is_doubtful log) (numbers_below (length log.alarms))
 
+-- how large a question of n steps is: components, alarms and pairs count in each step, and the counter's inputs in each column
 abbrev pub question_size : Net → Log → ℕ → ℕ
 question_size net log n = n * (component_sizes net + alarm_sizes net log + length log.pairs) + (counter_size net n + MOST_COLUMNS * doubtful_count log)
 

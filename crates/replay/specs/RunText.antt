@@ -16,6 +16,7 @@ use Rattle.replay.specs.declared.run_text.RunRefusal.TheVariants.{Fault, Memory}
 abbrev pub is_reply_word : List ℕ → Bool
 is_reply_word word = bytes_eq word (codes "EXPLAINED") || bytes_eq word (codes "MANY") || bytes_eq word (codes "UNDECIDED")
 
+-- the tokens are those of a printed reply's first line, as their first word tells
 abbrev pub is_reply_line : List (List ℕ) → Bool
 is_reply_line [] = false
 is_reply_line (word ∷ words) = is_reply_word word
@@ -75,6 +76,7 @@ first_fault_in net left (line ∷ lines) = option_or (fault_at line.number (step
 abbrev pub shortage : ℕ → ℕ → ℕ → Option RunFault
 shortage end stated found = if nat_lt found stated then Some (record { line = end; code = 4 }) else None
 
+-- the first fault of a text whose header stands on line `number` and states so many steps, if any; line `end` is its last
 abbrev pub fault_of_steps : Net → ℕ → ℕ → Option ℕ → List NumberedLine → Option RunFault
 fault_of_steps net end number None steps = Some (record { line = number; code = 1 })
 fault_of_steps net end number (Some stated) steps = option_or (first_fault_in net stated steps) (shortage end stated (length steps))
@@ -94,6 +96,7 @@ step_of net [] = None
 step_of net (event ∷ []) = option_map (λ e. Happens e None) (place_of event net.event_names)
 step_of net (event ∷ alarm ∷ words) = if is_mark event then Some (Dropped alarm) else option_map (λ e. Happens e (Some alarm)) (place_of event net.event_names)
 
+-- the steps that the lines say; a line whose event isn't known says none
 abbrev pub steps_of : Net → List NumberedLine → List RunStep
 steps_of net lines = filter_map (λ line. step_of net (tokens_of line.text)) lines
 

@@ -28,6 +28,7 @@ pub record IsStuckAt (net : Net) (steps : List RunStep) (at : ℕ) : Type 0 wher
   pub before : IsRun net (word_of (take (at - 1) steps))
   pub stuck : IsRun net (word_of (take at steps)) → ⊥
 
+-- what each answer of a trace means: the events are a run with so many faults, or the place is the first at which they aren't one
 abbrev pub IsTraced : Net → List RunStep → Traced → Type 0
 IsTraced net steps (Ran faults) = IsRun net (word_of steps) × (faults ≡ fault_count net (word_of steps))
 IsTraced net steps (Stuck at) = IsStuckAt net steps at

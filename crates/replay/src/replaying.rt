@@ -15,16 +15,16 @@ use des_net::Network;
 use log_order::AlarmLog;
 use std::alloc::Global;
 
-/// What replaying a run against a log tells: the first of these that holds.
+/// What replaying a run against a log tells: that it explains the log, or the first of the other answers that holds.
 #[derive(Clone, Copy)]
 pub enum Replayed {
     /// The run explains the log. The faults are the places with a fault event, and the false alarms.
     Accepted { faults: u32 },
     /// The first event that the network can't perform, by its place, counted from 1.
     Stuck { at: u32 },
-    /// The first event that can be seen and has no alarm, that can't be seen and has one, or whose alarm isn't in the log,
-    /// hasn't its label or came before, or false alarm that isn't in the log, isn't doubtful or came before, by its place,
-    /// counted from 1.
+    /// The place, counted from 1, of the first step whose alarm is wrong: an event that can be seen has none, one that can't
+    /// be seen has one, or the alarm isn't in the log, hasn't the event's label or came before; or one is set aside as false
+    /// that isn't in the log, isn't doubtful or came before.
     BadAlarm { at: u32 },
     /// The first alarm of the log that the run doesn't name, counted from 0.
     Missing { alarm: u32 },

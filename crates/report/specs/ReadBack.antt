@@ -26,6 +26,7 @@ pub record IsRunText (net : Net) (steps : List RunStep) (text : List ℕ) : Type
   pub well : first_fault net text ≡ None
   pub value : run_of net text ≡ steps
 
+-- Over a network within its limits the text of a printable run is a run text, and reads back as that run.
 abbrev pub PrintedRunsReadBack : Type 0
 PrintedRunsReadBack = (net : Net) (steps : List RunStep) → IsDraft net → IsPrintable net steps → IsRunText net steps (text_of_run net steps)
 

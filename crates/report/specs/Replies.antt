@@ -34,6 +34,7 @@ paired words first second = words ++ first ++ 32 ∷ second ++ 10 ∷ []
 
 -- ---- answers of one line
 
+-- the number of faults of the run, or the place of the first event that the network can't perform
 abbrev pub text_of_traced : Traced → List ℕ
 text_of_traced (Ran faults) = numbered (codes "RAN ") faults
 text_of_traced (Stuck at) = numbered (codes "REJECTED STUCK ") at
@@ -47,6 +48,7 @@ text_of_replayed names (Missing alarm) = named (codes "REJECTED MISSING ") (slic
 text_of_replayed names (Order first second) = paired (codes "REJECTED ORDER ") (slice_index_or names first []) (slice_index_or names second [])
 text_of_replayed names (TooWide pieces) = numbered (codes "REJECTED WIDE ") pieces
 
+-- that the proof is verified, or the line and the kind of its first fault
 abbrev pub text_of_checked : Checked → List ℕ
 text_of_checked Verified = codes "VERIFIED\n"
 text_of_checked (Rejected line kind) = placed (codes "REJECTED ") line kind

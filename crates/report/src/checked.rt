@@ -8,7 +8,7 @@ use des_base::Memory;
 use proof_ledger::Checked;
 
 /// Appends what checking a proof tells: `VERIFIED`, or `REJECTED`, the line of the first step that doesn't derive and the kind
-/// of its fault.
+/// of its fault; line 0 and kind 4 where all steps derive and none has the empty clause.
 pub fn print_checked(checked: &Checked, out: &mut Vec<u8>) -> Result<(), Memory>
     ensures ok { OnOk result (out.new.items ≡ out.old.items ++ text_of_checked checked.now) }
     ensures err { OnErr result (out.new.items ≡ out.old.items) }

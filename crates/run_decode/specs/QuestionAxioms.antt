@@ -23,10 +23,11 @@ pub record BuiltQuestion : Type 0 where
   pub vars : ℕ
   pub axioms : List Clause
 
--- The steps stand on the first variables, and the log, whose alarms have no names, on the next ones.
+-- the code of n steps, on the first variables
 abbrev pub steps_built : Net → ℕ → CodedSteps
 steps_built net n = record { net = net; steps = n; first = 0 }
 
+-- the code of the log, whose alarms have no names, with its clauses, on the variables after those of the steps
 abbrev pub log_built : Net → Log → ℕ → BuiltLog
 log_built net log n = built_log net (code_grid (steps_built net n)) (variable_count net n) (without_names log)
 
@@ -34,7 +35,7 @@ log_built net log n = built_log net (code_grid (steps_built net n)) (variable_co
 abbrev pub inputs_built : CodedSteps → CodedLog → List Lit
 inputs_built steps code = fault_literals steps.net (code_grid steps) ++ map (literal_by (log_names code)) (false_literals code.log)
 
--- the clauses of the steps, and then those of the log
+-- the question without columns: its axioms are the clauses of the steps, and then those of the log
 abbrev pub alone_built : CodedSteps → BuiltLog → BuiltQuestion
 alone_built steps log = record {
   steps = steps;
@@ -52,6 +53,7 @@ column_built question = record question {
   axioms = question.axioms ++ next_clauses question.counter question.vars;
 }
 
+-- the question with so many columns of its counter, each on the next variables and behind the axioms before it
 abbrev pub question_built : Net → Log → ℕ → ℕ → BuiltQuestion
 question_built net log n zero = alone_built (steps_built net n) (log_built net log n)
 question_built net log n (suc columns) = column_built (question_built net log n columns)
@@ -73,6 +75,7 @@ added_axioms question addition =
     written_by (read_names (code_after question.code addition question.vars)) (added_list question.code.net question.code.log question.code.grid.steps addition)
     ++ counted_after question.code question.counter addition question.vars
 
+-- the question with an addition to its log, on the next variables and behind the axioms before it
 abbrev pub added_built : BuiltQuestion → Addition → BuiltQuestion
 added_built question addition = record question {
   code = code_after question.code addition question.vars;
@@ -81,7 +84,7 @@ added_built question addition = record question {
   axioms = question.axioms ++ added_axioms question addition;
 }
 
--- the same question, whatever further inputs its counter has room for
+-- the same question, with a counter that has no room for further inputs
 abbrev pub roomless : BuiltQuestion → BuiltQuestion
 roomless question = record question { counter = record { inputs = question.counter.inputs; columns = question.counter.columns; spare_inputs = 0 } }
 

@@ -32,11 +32,12 @@ abbrev pub QuestionIsDrawn : Type 0
 QuestionIsDrawn = (net : Net) (log : Log) (n : ℕ) (bound : Option ℕ) (names : List (ℕ × Name)) (clauses : List Clause) (assumed : List Lit) →
     Asks net log n bound names clauses assumed → IsDrawn clauses assumed net log n bound
 
--- An assignment that makes all true gives an explanation within the bound.
+-- The assignment gives an explanation within the bound, with this order of the alarms.
 pub record GivesWithin (net : Net) (log : Log) (n : ℕ) (bound : Option ℕ) (names : List (ℕ × Name)) (assignment : ℕ → Bool) (alarms : List ℕ) : Type 0 where
   pub explanation : GivesExplanation net log n names assignment alarms
   pub within : IsWithin bound (faults_of net (joined (decoded net log (value_by names assignment) alarms n)) (decoded_order net log (value_by names assignment) alarms n))
 
+-- So does one that makes clauses and assumptions of a question true, by any order of the alarms that keeps the pairs.
 abbrev pub QuestionGivesExplanations : Type 0
 QuestionGivesExplanations = (net : Net) (log : Log) (n : ℕ) (bound : Option ℕ) (names : List (ℕ × Name)) (clauses : List Clause) (assumed : List Lit) (assignment : ℕ → Bool) (alarms : List ℕ) →
     IsNetwork net → IsValidLog log → ListsOnce (length log.alarms) alarms → Keeps alarms log.pairs →
@@ -78,5 +79,6 @@ pub record IsAsWithoutNames (net : Net) (log : Log) (n : ℕ) : Type 0 where
   pub pieces : (value : Name → Bool) (alarms : List ℕ) → decoded net log value alarms n ≡ decoded net (without_names log) value alarms n
   pub orders : (value : Name → Bool) (alarms : List ℕ) → decoded_order net log value alarms n ≡ decoded_order net (without_names log) value alarms n
 
+-- So it is for each network, log and number of steps.
 abbrev pub AlarmNamesDontMatter : Type 0
 AlarmNamesDontMatter = (net : Net) (log : Log) (n : ℕ) → IsAsWithoutNames net log n

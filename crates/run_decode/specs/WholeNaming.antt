@@ -85,6 +85,7 @@ pub record GrowTogether (steps : CodedSteps) (code : CodedLog) (counter : Counte
   pub by_addition : (addition : Addition) → first + addition_width code addition ≤ VAR_LIMIT → AreCodedTogether steps (code_after code addition first) (counter_after code counter addition first)
   pub by_column : 0 < length counter.inputs → AreCodedTogether steps code (with_column counter first)
 
+-- What is coded together may grow so, on variables from a number on that is above those of log and counter.
 abbrev pub TogetherGrow : Type 0
 TogetherGrow = (steps : CodedSteps) (code : CodedLog) (counter : CounterState) (first : ℕ) → AreCodedTogether steps code counter → code.vars ≤ first → IsMade first counter → GrowTogether steps code counter first
 
@@ -109,6 +110,7 @@ pub record AreJoinedBy (steps : CodedSteps) (code : CodedLog) (counter : Counter
       AreClausesOf steps (code_after code addition draft.first) (counter_after code counter addition draft.first) ((clauses ++ draft.clauses) ++ counted_after code counter addition draft.first)
   pub columns : (first : ℕ) → AreClausesOf steps code (with_column counter first) (clauses ++ next_clauses counter first)
 
+-- So it is with the clauses of the three parts, where each column of the counter has a variable for each input.
 abbrev pub ClausesGrow : Type 0
 ClausesGrow = (steps : CodedSteps) (code : CodedLog) (counter : CounterState) (clauses : List Clause) → IsFull counter → AreClausesOf steps code counter clauses → AreJoinedBy steps code counter clauses
 
@@ -121,6 +123,7 @@ pub record StaysWithRoom (steps : CodedSteps) (code : CodedLog) (counter : Count
   pub after : (addition : Addition) (first : ℕ) → AreAlike (counter_after code counter addition first) (counter_after code (with_room counter more) addition first)
   pub counted : (addition : Addition) (first : ℕ) → counted_after code (with_room counter more) addition first ≡ counted_after code counter addition first
 
+-- So it is with all that is coded together, and however many inputs there is room for.
 abbrev pub RoomIsFree : Type 0
 RoomIsFree = (steps : CodedSteps) (code : CodedLog) (counter : CounterState) (more : ℕ) → AreCodedTogether steps code counter → StaysWithRoom steps code counter more
 
@@ -131,6 +134,7 @@ pub record AskTogether (steps : CodedSteps) (code : CodedLog) (counter : Counter
   pub unbounded : Asks steps.net code.log steps.steps None (whole_names steps code counter) clauses guards
   pub bounded : (k : ℕ) → k < length counter.columns → Asks steps.net code.log steps.steps (Some k) (whole_names steps code counter) clauses (guards ++ bound_literal counter k ∷ [])
 
+-- So do the clauses of what is coded together, with literals that read as the guards of the log.
 abbrev pub TogetherAsk : Type 0
 TogetherAsk = (steps : CodedSteps) (code : CodedLog) (counter : CounterState) (clauses : List Clause) (guards : List Lit) → AreCodedTogether steps code counter → AreClausesOf steps code counter clauses →
     ReadsAs (read_names code) guards (guard_literals code.net code.log) → AskTogether steps code counter clauses guards

@@ -116,7 +116,7 @@ pub fn none_is_least()
 
 // ---- what its assignments give
 
-/// A law: the events of the steps have as many faults as inputs of the counter are true.
+/// A law: the events of the steps, with an order of the alarms, have as many faults as inputs of the counter are true.
 pub fn faults_are_inputs()
     ensures { FaultsAreInputs }
 {}
@@ -143,7 +143,7 @@ pub fn truths_are_read()
     ensures { TruthsAreRead }
 {}
 
-/// A law: an assignment that makes their clauses and the guards true gives an explanation, with as many faults as variables of fault events are true.
+/// A law: an assignment that makes their clauses and the guards true gives an explanation, with as many faults as variables of fault events and of false alarms are true.
 pub fn coded_runs_explain()
     ensures { CodedRunsExplain }
 {}

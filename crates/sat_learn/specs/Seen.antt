@@ -9,6 +9,7 @@ use Rattle.sat_prop.specs.TrailState.{TrailState, literal_at, reason_at}
 use Rattle.sat_prop.specs.Changes.{IsFront}
 use Rattle.sat_prop.specs.Levels.{level_at}
 
+-- the place of the trail is seen; a place beyond the last is not
 abbrev pub is_seen : List Bool → ℕ → Bool
 is_seen seen place = slice_index_or seen place false
 

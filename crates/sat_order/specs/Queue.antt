@@ -13,9 +13,11 @@ pub record QueueState : Type 0 where
   pub waiting : List Bool
   pub spare : ℕ
 
+-- a rank and the variable that has it, which counts downwards
 abbrev pub Candidate : Type 0
 Candidate = ℕ × Reverse ℕ
 
+-- the order of candidates: by rank, and of equal ranks the smaller variable counts as greater
 abbrev pub candidate_order : Candidate → Candidate → Ordering
 candidate_order a b = ordering_then (nat_cmp a.0 b.0) (nat_cmp b.1.0 a.1.0)
 

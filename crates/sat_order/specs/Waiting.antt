@@ -2,9 +2,11 @@
 use Rattle.std.specs.Prelude.{◌≡◌, ℕ, ◌<◌, ◌≤◌, ◌⊎◌, Bool, false, true, List, length, slice_index, slice_index_or}
 use Rattle.des_base.specs.declared.TheConstants.{VAR_LIMIT}
 
+-- the rank of a variable, as it is stored
 abbrev pub rank_of : List ℕ → ℕ → ℕ
 rank_of ranks var = slice_index ranks var
 
+-- the variable waits; one that is not known does not
 abbrev pub waits : List Bool → ℕ → Bool
 waits waiting var = slice_index_or waiting var false
 
@@ -18,6 +20,7 @@ pub record IsNext (ranks : List ℕ) (waiting : List Bool) (var : ℕ) : Type 0 
   pub waiting_now : waits waiting var ≡ true
   pub first : (other : ℕ) → waits waiting other ≡ true → ComesFirst var (rank_of ranks var) other (rank_of ranks other)
 
+-- no variable waits
 abbrev pub NoneWaits : List Bool → Type 0
 NoneWaits waiting = (var : ℕ) → waits waiting var ≡ false
 

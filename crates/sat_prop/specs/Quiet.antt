@@ -13,6 +13,7 @@ abbrev pub stands : List Lit → Option Clause → Standing
 stands taken None = wide
 stands taken (Some clause) = standing taken clause
 
+-- of the first so many attached clauses none is false, and none has one open literal and all others false
 abbrev pub AreQuietBelow : List Clause → List ℕ → List Lit → ℕ → Type 0
 AreQuietBelow clauses attached taken count = (place : ℕ) → place < count → is_quiet (stands taken (clause_numbered clauses (slice_index attached place))) ≡ true
 
@@ -24,6 +25,7 @@ AreQuiet clauses attached taken = AreQuietBelow clauses attached taken (length a
 abbrev pub WasQuietBefore : List Clause → List ℕ → List Lit → List (Option ℕ) → Type 0
 WasQuietBefore clauses attached literals reasons = (place : ℕ) → place < length literals → reason_at reasons place ≡ None → AreQuiet clauses attached (take place literals)
 
+-- just before each decision of the trail no attached clause was false or unit
 abbrev pub IsQuietAtDecisions : TrailState → Type 0
 IsQuietAtDecisions t = WasQuietBefore t.clauses t.attached t.literals t.reasons
 

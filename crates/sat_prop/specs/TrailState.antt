@@ -16,9 +16,11 @@ pub record TrailState : Type 0 where
   pub vars : ℕ
   pub spare : ℕ
 
+-- the literal at a place of the trail, from 0; beyond the last it is `no_literal`, which says nothing
 abbrev pub literal_at : List Lit → ℕ → Lit
 literal_at literals place = slice_index_or literals place no_literal
 
+-- the number of the clause that forced the literal at a place: none where it was decided, and beyond the last
 abbrev pub reason_at : List (Option ℕ) → ℕ → Option ℕ
 reason_at reasons place = slice_index_or reasons place None
 
@@ -42,11 +44,11 @@ pub record IsKnownClause (clauses : List Clause) (vars number : ℕ) : Type 0 wh
   pub held : clause_numbered clauses number ≡ Some clause
   pub known : HasValues vars clause
 
+-- each attached clause is held, and its variables are below `vars`
 abbrev pub AreKnown : List Clause → List ℕ → ℕ → Type 0
 AreKnown clauses attached vars = (place : ℕ) → place < length attached → IsKnownClause clauses vars (slice_index attached place)
 
--- The value that the literals give a variable, the number of the clause that forced its literal, and the place where that
--- literal stands: none where the variable is open.
+-- the value that the literals give a variable: none where it is open
 abbrev pub value_by : List Lit → ℕ → Option Bool
 value_by literals var =
     if is_true literals (record { var = var; positive = true }) then Some true

@@ -15,9 +15,11 @@ pub record WatchState : Type 0 where
   pub vars : ℕ
   pub spare : ℕ
 
+-- what stands where there is no watch
 abbrev pub no_watch : Watch
 no_watch = record { clause = 0; lit = no_literal; twin = 0 }
 
+-- the watch of a number, from 0; beyond the last it is `no_watch`
 abbrev pub watch_at : List Watch → ℕ → Watch
 watch_at watches number = slice_index_or watches number no_watch
 
@@ -29,6 +31,7 @@ twin_of number = if number % 2 == 0 then number + 1 else number - 1
 abbrev pub code_of : Lit → ℕ
 code_of l = if l.positive then 2 * l.var + 1 else 2 * l.var
 
+-- the literal that has this number
 abbrev pub literal_of : ℕ → Lit
 literal_of code = record { var = code / 2; positive = code % 2 == 1 }
 
@@ -36,6 +39,7 @@ literal_of code = record { var = code / 2; positive = code % 2 == 1 }
 abbrev pub watch_of : ℕ → Node → Watch
 watch_of number node = record { clause = node.clause; lit = literal_of node.code; twin = twin_of number }
 
+-- the watches that are kept in nodes, of which the first has this number
 abbrev pub watches_from : ℕ → List Node → List Watch
 watches_from number [] = []
 watches_from number (node ∷ nodes) = watch_of number node ∷ watches_from (suc number) nodes
@@ -44,30 +48,37 @@ watches_from number (node ∷ nodes) = watch_of number node ∷ watches_from (su
 abbrev pub as_link : ℕ → Option ℕ
 as_link number = if number == NO_WATCH then None else Some number
 
--- the watches alone, and of each the number that comes next in its list
+-- the watches alone, numbered from 0
 abbrev pub watches_of : List Node → List Watch
 watches_of nodes = watches_from 0 nodes
 
+-- of each watch the number that comes next in its list, or none where the list ends
 abbrev pub nexts_of : List Node → List (Option ℕ)
 nexts_of nodes = map (λ n. as_link n.next) nodes
 
+-- what stands where there is no node
 abbrev pub no_node : Node
 no_node = record { clause = 0; code = 0; next = NO_WATCH }
 
+-- the node of a number, from 0; beyond the last it is `no_node`
 abbrev pub node_at : List Node → ℕ → Node
 node_at nodes number = slice_index_or nodes number no_node
 
+-- the number is one of these
 abbrev pub is_among : ℕ → List ℕ → Bool
 is_among number numbers = list_any (nat_eq number) numbers
 
 -- ---- lists
 
+-- both lists of a variable are empty
 abbrev pub empty : Starts
 empty = record { positive = NO_WATCH; negative = NO_WATCH }
 
+-- where the two lists of a variable begin; where there are none, both are empty
 abbrev pub starts_at : List Starts → ℕ → Starts
 starts_at starts var = slice_index_or starts var empty
 
+-- the lists of so many variables, all empty
 abbrev pub no_starts : ℕ → List Starts
 no_starts count = replicate count empty
 
@@ -75,9 +86,11 @@ no_starts count = replicate count empty
 abbrev pub begin_of : List Starts → Lit → ℕ
 begin_of starts l = if l.positive then (starts_at starts l.var).positive else (starts_at starts l.var).negative
 
+-- the number of the first watch in the list of a literal, or none where the list is empty
 abbrev pub start_of : List Starts → Lit → Option ℕ
 start_of starts l = as_link (begin_of starts l)
 
+-- of the two lists of a variable, that of this sign begins with the watch of this number
 abbrev pub begun : Starts → Bool → ℕ → Starts
 begun starts positive first = if positive then record starts { positive = first } else record starts { negative = first }
 
@@ -129,6 +142,7 @@ pub record IsNext (s : WatchState) (number : ℕ) : Type 0 where
   pub once : is_among number others ≡ false
   pub within : number < length s.watches
 
+-- the watch, at this literal from now on
 abbrev pub watching : Watch → Lit → Watch
 watching w l = record w { lit = l }
 

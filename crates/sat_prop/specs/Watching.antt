@@ -20,6 +20,7 @@ pub record WatchedState : Type 0 where
   pub lists : WatchState
   pub seen : ℕ
 
+-- nothing is attached, there is no room, and no literal was looked at
 abbrev pub no_watched : WatchedState
 no_watched = record { short = []; spare = 0; lists = record { watches = []; waiting = []; vars = 0; spare = 0 }; seen = 0 }
 
@@ -56,7 +57,7 @@ HasWatch watches clause = (number : ℕ) × (number < length watches) × ((watch
 abbrev pub IsNarrow : Clause → Type 0
 IsNarrow clause = (clause ≡ []) ⊎ ((l : Lit) × (list_any (same_literal l) clause ≡ true) × (list_all (same_literal l) clause ≡ true))
 
--- the clause of a number is there, and is one without
+-- the clause of this number is held, and has no two different literals
 pub record IsShort (clauses : List Clause) (number : ℕ) : Type 0 where
   pub clause : Clause
   pub held : clause_numbered clauses number ≡ Some clause

@@ -159,7 +159,7 @@ impl Trail {
         self.levels[self.place_of(var) as usize]
     }
 
-    /// The value of a variable.
+    /// The value of a variable: none where it is open, or is no variable of the trail.
     pub fn value(&self, var: u32) -> Option<bool>
         ensures { result ≡ value_by self.now.literals var }
     {
@@ -169,7 +169,7 @@ impl Trail {
         self.values[var as usize]
     }
 
-    /// The clause that forced a variable's literal.
+    /// The clause that forced a variable's literal: none where that was decided, or the variable is open.
     pub fn reason(&self, var: u32) -> Option<ClauseId>
         ensures stands { (place : ℕ) → StandsAt self.now.literals var place → result ≡ reason_at self.now.reasons place }
         ensures absent { has_var var self.now.literals ≡ false → result ≡ None }

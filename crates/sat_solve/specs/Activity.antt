@@ -16,9 +16,11 @@ pub record ActivityState : Type 0 where
   pub waiting : List Bool
   pub increment : ℕ
 
+-- no variable is known, and there was no conflict yet
 abbrev pub never_active : ActivityState
 never_active = record { activities = []; counted = []; waiting = []; increment = FIRST_INCREMENT }
 
+-- these activities, and 0 for each further variable below a number
 abbrev pub with_zeros : List ℕ → ℕ → List ℕ
 with_zeros activities vars = activities ++ replicate (vars - length activities) 0
 
@@ -33,6 +35,7 @@ pub record KeepsActivity (old new : ActivityState) (vars : ℕ) : Type 0 where
   pub waiting : new.waiting ≡ old.waiting
   pub increment : new.increment ≡ old.increment
 
+-- it is kept of the variable whether it waits, so that it may take part in conflicts
 abbrev pub is_known : ActivityState → ℕ → Bool
 is_known s var = nat_lt var (length s.waiting)
 
@@ -48,10 +51,11 @@ with_part s var = if is_known s var && not (slice_index_or s.counted var true) t
   waiting = slice_set s.waiting var true;
 } else s
 
--- the variables of a clause take part, and those of the clause of a number, if it has one
+-- the variables of a clause take part in the present conflict
 abbrev pub with_clause_part : ActivityState → Clause → ActivityState
 with_clause_part s clause = fold (λ (t : ActivityState) (l : Lit). with_part t l.var) s clause
 
+-- the variables of a clause take part, if there is one
 abbrev pub with_option_part : ActivityState → Option Clause → ActivityState
 with_option_part s None = s
 with_option_part s (Some clause) = with_clause_part s clause

@@ -19,9 +19,11 @@ pub record AdviceState : Type 0 where
   pub levels : List Bool
   pub means : Means
 
+-- there is advice on no variable, and no clause was learnt yet
 abbrev pub no_advice : AdviceState
 no_advice = record { activity = never_active; phases = []; levels = []; means = no_means }
 
+-- there is advice on the variables below a number: one that is added stood as false, and levels are counted up to that number, from 0
 abbrev pub with_advice : AdviceState → ℕ → AdviceState
 with_advice a vars = record a { activity = with_vars a.activity vars; phases = widened a.phases vars; levels = widened a.levels (vars + 1) }
 
@@ -32,6 +34,7 @@ pub record KeepsAdvice (old new : AdviceState) (vars : ℕ) : Type 0 where
   pub levels : KeepsValues old.levels new.levels (vars + 1)
   pub means : new.means ≡ old.means
 
+-- how a variable last stood: false where it never did, or is not known
 abbrev pub phase_of : List Bool → ℕ → Bool
 phase_of phases var = slice_index_or phases var false
 
@@ -43,6 +46,6 @@ with_released a l = record a { activity = with_back a.activity l.var; phases = s
 abbrev pub with_hints_part : ActivityState → List Clause → List ℕ → ActivityState
 with_hints_part s clauses hints = fold (λ (t : ActivityState) (number : ℕ). with_option_part t (clause_numbered clauses number)) s hints
 
--- the last so many
+-- the last so many hints: those of a learnt clause that lead from the conflict to the clause as it was before it was shortened
 abbrev pub last_hints : List ℕ → ℕ → List ℕ
 last_hints hints count = drop (length hints - count) hints

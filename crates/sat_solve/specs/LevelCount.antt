@@ -12,12 +12,13 @@ pub record IsLevelOf (t : TrailState) (var level : ℕ) : Type 0 where
   pub stands : StandsAt t.literals var place
   pub at : level_at t.reasons place ≡ level
 
--- a variable of the clause has
+-- a variable of the clause has its value at this level
 pub record HasLevel (t : TrailState) (clause : Clause) (level : ℕ) : Type 0 where
   pub var : ℕ
   pub among : has_var var clause ≡ true
   pub level_of : IsLevelOf t var level
 
+-- the level is marked; one that can not be marked is not
 abbrev pub is_marked : List Bool → ℕ → Bool
 is_marked marks level = slice_index_or marks level false
 

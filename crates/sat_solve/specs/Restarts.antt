@@ -11,6 +11,7 @@ pub record Means : Type 0 where
   pub clauses : ℕ
   pub since : ℕ
 
+-- no clause was learnt yet
 abbrev pub no_means : Means
 no_means = record { late = 0; whole = 0; clauses = 0; since = 0 }
 
@@ -18,7 +19,7 @@ no_means = record { late = 0; whole = 0; clauses = 0; since = 0 }
 abbrev pub moved : ℕ → ℕ → ℕ → ℕ
 moved mean number part = mean - mean / part + number / part
 
--- a number of levels in parts of one
+-- a number of levels in parts of one, where more than MOST_LEVELS count as so many
 abbrev pub in_parts : ℕ → ℕ
 in_parts levels = min levels MOST_LEVELS * LEVEL
 
@@ -39,5 +40,6 @@ is_due m = nat_le SHORTEST m.since && nat_lt (m.whole * 5) (m.late * 4)
 abbrev pub begun : Means → Means
 begun m = record m { late = m.whole; since = 0 }
 
+-- once it was asked whether the search is to begin anew: where that was due, it has begun
 abbrev pub after_asking : Means → Means
 after_asking m = if is_due m then begun m else m

@@ -13,6 +13,7 @@ use Rattle.sat_solve.specs.declared.answer.Answer.TheVariants.{Sat, Unsat, Spent
 abbrev pub HasAxiomVars : List BookEntry → Type 0
 HasAxiomVars book = (var : ℕ) → list_any (has_var var) (clauses_of book) ≡ true → occurs var book ≡ true
 
+-- the entry is a learnt or a final clause, such as a search puts
 abbrev pub is_derived : BookEntry → Bool
 is_derived (axiomatic clause) = false
 is_derived (learnt clause hints) = true
@@ -70,7 +71,7 @@ pub record IsRefuted (book : List BookEntry) (assumed : List Lit) (number : ℕ)
   pub numbered : number ≡ length (clauses_of book)
   pub negated : list_all (λ l. is_true assumed (negation l)) clause ≡ true
 
--- Nothing is left at a further conflict.
+-- Nothing is left of the budget at a further conflict.
 pub record IsSpent (book : List BookEntry) (assumed : List Lit) (budget : ℕ) : Type 0 where
   pub nothing : budget ≡ 0
   pub clashes : Clashes (clauses_of book) assumed

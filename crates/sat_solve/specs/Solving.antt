@@ -28,7 +28,7 @@ pub record SolverState (R : Type 0) : Type 0 where
   pub vars : ℕ
   pub spare : ℕ
 
--- The variables are as many as before and have the same ranks, and so has the room for clauses.
+-- The variables are as many as before and have the same ranks, and the room for clauses is as before.
 pub record KeepsSize {R : Type 0} (old new : SolverState R) : Type 0 where
   pub order : KeepsRanks old.order new.order
   pub vars : new.vars ≡ old.vars
@@ -114,7 +114,7 @@ pub record AreUnderWay (assumed : List Lit) (taken : ℕ) (waiting : List Bool) 
 abbrev pub IsUnderWay : {R : Type 0} → List Lit → Search R → List BookEntry → Type 0
 IsUnderWay assumed s book = AreUnderWay assumed s.taken s.order.waiting s.vars s.spare s.propagator book
 
--- the variables are as many as before and have the same ranks, and so has the room that is kept
+-- the variables are as many as before and have the same ranks, and the room that is kept is as before
 pub record KeepsVariables {R : Type 0} (old new : Search R) : Type 0 where
   pub order : KeepsRanks old.order new.order
   pub vars : new.vars ≡ old.vars
@@ -238,7 +238,7 @@ pub record IsUnattached (spare : ℕ) (t : TrailState) (book : List BookEntry) (
   pub known : list_all (λ l. is_known_var t.clauses l.var) clause ≡ true
   pub room : spare + 1 ≤ t.spare
 
--- what is left to be done
+-- what is left to be done after an answer: a final clause has to be attached, and else the trail has all clauses of the book
 abbrev pub IsUnsettled : ℕ → TrailState → List BookEntry → Answer → Type 0
 IsUnsettled spare t book Sat = t.clauses ≡ clauses_of book
 IsUnsettled spare t book (Unsat number) = IsUnattached spare t book number

@@ -8,6 +8,6 @@ pub enum Answer {
     Sat,
     /// No assignment does: this final clause of the book holds negated assumptions alone.
     Unsat(ClauseId),
-    /// Nothing was left at a further conflict.
+    /// Nothing was left of the budget at a further conflict.
     Spent,
 }

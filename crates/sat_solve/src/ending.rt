@@ -95,7 +95,7 @@ fn first_further(trail: &Trail, assumptions: &[Lit]) -> Option<usize>
     None
 }
 
-// The level of the assumptions: how many decisions stand before the first that is none.
+// The level of the assumptions: how many decisions stand before the first that is no assumption.
 pub fn assumed_level(trail: &Trail, assumptions: &[Lit]) -> u32
     ensures { result ≡ assumed_level_of trail.now assumptions.now }
 {
