@@ -34,10 +34,14 @@ pub record IsPlace (state : CounterState) (i j : ℕ) : Type 0 where
   pub input : i < length state.inputs
   pub column : j < length state.columns
 
+-- each column has a variable for each input
+abbrev pub IsFull : CounterState → Type 0
+IsFull state = (j : ℕ) → j < length state.columns → length (column_at state.columns j) ≡ length state.inputs
+
 -- What a counter keeps: an input at least where it has a column, and a variable for each place, no two alike, and none of an input.
 pub record IsCounter (state : CounterState) : Type 0 where
   pub filled : 0 < length state.columns → 0 < length state.inputs
-  pub full : (j : ℕ) → j < length state.columns → length (column_at state.columns j) ≡ length state.inputs
+  pub full : IsFull state
   pub apart : (i j k l : ℕ) → IsPlace state i j → IsPlace state k l → variable state i j ≡ variable state k l → (i ≡ k) × (j ≡ l)
   pub new : (i j : ℕ) (input : Lit) → IsPlace state i j → Contains state.inputs input → input.var ≢ variable state i j
 
@@ -161,10 +165,6 @@ with_input state input first = record { inputs = state.inputs ++ input ∷ []; c
 abbrev pub input_clauses : CounterState → Lit → ℕ → List Clause
 input_clauses state input first =
     flat_map (λ j. place_clauses input (column_before (longer first state.columns) j) (column_at (longer first state.columns) j) (length state.inputs)) (numbers_below (length state.columns))
-
--- each column has a variable for each input
-abbrev pub IsFull : CounterState → Type 0
-IsFull state = (j : ℕ) → j < length state.columns → length (column_at state.columns j) ≡ length state.inputs
 
 -- An input more has its clauses beside those of the others, which stay.
 abbrev pub InputsAddClauses : Type 0

@@ -21,12 +21,11 @@ use Rattle.log_order.specs.Log.{Log}
 use Rattle.prop_core.proofs.FamilyLemmas.{reads_whole}
 use Rattle.prop_core.proofs.Listed.{clause_written}
 use Rattle.prop_core.proofs.Literals.{same_is, not_self, negation_twice}
-use Rattle.prop_core.specs.Clauses.{Clause, HasValues, is_true, is_false, negation, same_literal, NegatesOnly}
+use Rattle.prop_core.specs.Clauses.{Clause, HasValues, is_true, is_false, negation, same_literal, NegatesOnly, AreConsistent}
 use Rattle.prop_core.specs.Listings.{literal_by}
 use Rattle.prop_core.specs.VariableNames.{ReadsAs, named_clause}
 use Rattle.prop_core.specs.declared.lit.Lit.{Lit}
 use Rattle.run_decode.specs.WholeNaming.{whole_names}
-use Rattle.sat_solve.specs.Solving.{AreCompatible}
 use Rattle.std.proofs.Math.ListN.{get_or-append}
 use Rattle.step_encode.specs.Coded.{CodedSteps}
 
@@ -71,7 +70,7 @@ opposites (x ∷ assumed) l apart h k = by (or_cases (same_literal l x) (is_true
     by (inr same) (inl other) later = first l same (sym (same_is (negation l) x other))
     by (inr same) (inr other) later = later same other
 
-pub compatible : (assumed : List Lit) → EachPair (λ a b. a ≢ negation b) assumed → AreCompatible assumed
+pub compatible : (assumed : List Lit) → EachPair (λ a b. a ≢ negation b) assumed → AreConsistent assumed
 compatible assumed apart l h = as_false (is_false assumed l) (λ k. opposites assumed l apart h k)
 
 -- ---- the guards, and then the literal for the bound

@@ -2,7 +2,7 @@
 use Rattle.std.proofs.Common.{◌≡◌, ◌+◌, ℕ, Bool, true, false, cond, not, ◌&&◌, ◌||◌, List, [], ◌∷◌, ◌++◌, length, Option, Some, None, Result, Ok, Err, refl, arith, ap, sym, ◌∙◌, subst, append_assoc, map}
 use Rattle.std.specs.Prelude.{is_none, is_some, nat_le, nat_lt, option_map, option_and_then}
 use Rattle.std.specs.List.{list_all}
-use Rattle.std.specs.Option.{option_map_or}
+use Rattle.std.specs.Option.{option_map_or, option_or}
 use Rattle.std.proofs.lemmas.List.{append-nil}
 use Rattle.des_base.specs.Names.{is_name_text, place_of}
 use Rattle.des_base.proofs.BoolLemmas.{is_less}
@@ -18,7 +18,7 @@ use Rattle.log_csv.specs.declared.row.Row.TheVariants as row
 use Rattle.log_csv.specs.declared.refusal.RowRefusal.{RowRefusal}
 use Rattle.log_csv.specs.declared.refusal.RowRefusal.TheVariants.{Shape, Name, Memory}
 use Rattle.log_csv.specs.Records.{Record, alarm, before, ask, nothing, malformed, record_of}
-use Rattle.log_csv.specs.Faults.{IsDue, fault_at, or_later}
+use Rattle.log_csv.specs.Faults.{IsDue, fault_at}
 use Rattle.log_csv.specs.ScriptText.{is_malformed, row_code, row_of, words_of}
 use Rattle.log_csv.specs.LogText.{alarms_of, first_fault, first_record_fault, ids_of, is_pair_past_limit, is_question, log_of, log_of_records, pairs_of, record_code}
 use Rattle.log_csv.specs.Reading.{Adds, IsLogOf, IsReadTo, ReadsRecord, code_of, log_refusal_at, refusal_at}
@@ -255,7 +255,7 @@ record-bad earlier of number Memory r = tt
 -- ---- the records to come
 
 faults-first : (bytes : List ℕ) (old left : List (List (List ℕ))) (fields : List (List ℕ)) (number : ℕ) (log : Log) (h : IsReadTo bytes old number log) → old ≡ fields ∷ left
-    → or_later (fault_at (number + 1) (record_code h.earlier (record_of fields))) (first_record_fault (number + 1 + 1) (h.earlier ++ record_of fields ∷ []) (map record_of left)) ≡ first_fault bytes
+    → option_or (fault_at (number + 1) (record_code h.earlier (record_of fields))) (first_record_fault (number + 1 + 1) (h.earlier ++ record_of fields ∷ []) (map record_of left)) ≡ first_fault bytes
 faults-first bytes old left fields number log h e = ap (λ xs. first_record_fault (number + 1) h.earlier (map record_of xs)) (sym e) ∙ h.faults
 
 pub read-on : (bytes : List ℕ) (old left : List (List (List ℕ))) (fields : List (List ℕ)) (number : ℕ) (log new : Log) → old ≡ fields ∷ left → IsReadTo bytes old number log

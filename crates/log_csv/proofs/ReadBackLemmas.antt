@@ -3,10 +3,11 @@ use Rattle.std.proofs.Common.{◌≡◌, ◌+◌, ◌<◌, ◌≤◌, ℕ, zero,
 use Rattle.std.specs.Prelude.{IsTrue, bytes_eq, nat_le, option_map, ◌==◌}
 use Rattle.std.specs.List.{AllByRecursion, list_all, list_any}
 use Rattle.std.proofs.lemmas.List.{append-nil}
+use Rattle.std.specs.Option.{option_or}
 use Rattle.des_base.proofs.PlaceLemmas.{none_parts, place_next, text_turned, text_itself}
 use Rattle.des_base.specs.Names.{AreDistinct, IsName, is_name_text, place_of}
 use Rattle.des_base.proofs.BoolLemmas.{is_less, join, neither, otherwise, not_most, not_less}
-use Rattle.log_order.specs.Log.{Alarm, AreKnown, Keeps, Log, StandOnce, closes_cycle, has_pair, place_in, reaches, a_log, an_alarm}
+use Rattle.log_order.specs.Log.{Alarm, AreKnown, Keeps, Log, StandOnce, closes_cycle, has_pair, place_in, reaches, a_log, an_alarm, id_of}
 use Rattle.log_order.specs.Adding.{IsAlarm, IsLog, alarm_refusal, before_refusal, names_of, with_pair, with_texts}
 use Rattle.log_order.specs.declared.TheConstants.{MOST_ALARMS, MOST_LABELS, MOST_PAIRS}
 use Rattle.log_order.specs.declared.refusal.LogRefusal.{LogRefusal}
@@ -15,9 +16,9 @@ use Rattle.log_order.proofs.AlarmLemmas.{place_of-absent, with_text-new}
 use Rattle.log_order.proofs.KeptLemmas.{not_both, turned}
 use Rattle.log_order.proofs.OrderLemmas.{Keeps-cycle}
 use Rattle.log_csv.specs.Records.{Record, records_of}
-use Rattle.log_csv.specs.Faults.{fault_at, or_later}
+use Rattle.log_csv.specs.Faults.{fault_at}
 use Rattle.log_csv.specs.LogText.{first_fault, first_record_fault, log_of, log_of_records, record_code}
-use Rattle.log_csv.specs.PrintedLog.{id_of, log_text}
+use Rattle.log_csv.specs.PrintedLog.{log_text}
 use Rattle.log_csv.specs.Reading.{Adds, IsLogOf}
 use Rattle.log_csv.proofs.RowLemmas.{alarm_accepted, before_accepted}
 use Rattle.log_csv.proofs.LogLemmas.{alarm-added, pair-added}
@@ -114,7 +115,7 @@ accepted-none earlier log h = record { faults = λ row. refl; logged = subst (λ
 
 accepted-first : (earlier : List Record) (said : Record) (rest : List Record) (log : Log) → record_code earlier said ≡ None → Accepted (earlier ++ said ∷ []) rest log → Accepted earlier (said ∷ rest) log
 accepted-first earlier said rest log h a = record {
-  faults = λ row. ap (λ code. or_later (fault_at row code) (first_record_fault (row + 1) (earlier ++ said ∷ []) rest)) h ∙ a.faults (row + 1);
+  faults = λ row. ap (λ code. option_or (fault_at row code) (first_record_fault (row + 1) (earlier ++ said ∷ []) rest)) h ∙ a.faults (row + 1);
   logged = subst (λ rs. IsLogOf rs log) (append_assoc earlier (said ∷ []) rest) a.logged;
 }
 

@@ -2,7 +2,7 @@
 use Rattle.std.proofs.Common.{◌≡◌, ◌+◌, ◌≤◌, ℕ, suc, List, [], ◌∷◌, ◌++◌, length, Option, Some, None, Ok, Err, refl, arith, ap, sym, ◌∙◌, append_assoc, map}
 use Rattle.std.specs.Prelude.{filter_map}
 use Rattle.std.specs.List.{cons_option}
-use Rattle.std.specs.Option.{option_to_list}
+use Rattle.std.specs.Option.{option_to_list, option_or}
 use Rattle.std.proofs.lemmas.List.{append-nil}
 use Rattle.log_csv.specs.declared.fault.LogFault.{LogFault}
 use Rattle.log_csv.specs.declared.fault.LogReadRefusal.{LogReadRefusal}
@@ -11,7 +11,7 @@ use Rattle.log_csv.specs.declared.row.Row.{Row}
 use Rattle.log_csv.specs.declared.refusal.RowRefusal.{RowRefusal}
 use Rattle.log_csv.specs.declared.refusal.RowRefusal.TheVariants.{Shape, Name, Memory}
 use Rattle.log_csv.specs.Records.{Record, record_of}
-use Rattle.log_csv.specs.Faults.{IsDue, fault_at, or_later}
+use Rattle.log_csv.specs.Faults.{IsDue, fault_at}
 use Rattle.log_csv.specs.ScriptText.{first_row_fault, row_code, row_of}
 use Rattle.log_csv.specs.Reading.{ReadsRecord, refusal_at}
 
@@ -33,12 +33,12 @@ pub ruleset pushed_rows = (push-row, push-none, refused-due)
 -- ---- the records to come
 
 -- a fault of the first record is that of all
-pub due_here : (first later all : Option LogFault) (e : LogReadRefusal) → or_later first later ≡ all → IsDue first e → IsDue all e
+pub due_here : (first later all : Option LogFault) (e : LogReadRefusal) → option_or first later ≡ all → IsDue first e → IsDue all e
 due_here first later all text.Memory h d = tt
 due_here None later all (text.Fault told) h d = cc
 due_here (Some fault) later all (text.Fault told) h d = sym h ∙ d
 
-pub no_fault : (first later all : Option LogFault) → or_later first later ≡ all → first ≡ None → later ≡ all
+pub no_fault : (first later all : Option LogFault) → option_or first later ≡ all → first ≡ None → later ≡ all
 no_fault None later all h e = h
 no_fault (Some fault) later all h e = cc
 
@@ -57,7 +57,7 @@ rows-on rows new old left fields all e h p =
     ∙ h
 
 pub row_faults-first : (row : ℕ) (old left : List (List (List ℕ))) (fields : List (List ℕ)) (all : Option LogFault) → old ≡ fields ∷ left → first_row_fault row (map record_of old) ≡ all
-    → or_later (fault_at row (row_code (record_of fields))) (first_row_fault (row + 1) (map record_of left)) ≡ all
+    → option_or (fault_at row (row_code (record_of fields))) (first_row_fault (row + 1) (map record_of left)) ≡ all
 row_faults-first row old left fields all e h = ap (λ xs. first_row_fault row (map record_of xs)) (sym e) ∙ h
 
 pub row_faults-on : (row : ℕ) (old left : List (List (List ℕ))) (fields : List (List ℕ)) (all : Option LogFault) → old ≡ fields ∷ left → first_row_fault row (map record_of old) ≡ all

@@ -11,9 +11,9 @@ use Rattle.csv.proofs.RoundTrip.{read-write}
 use Rattle.des_base.proofs.Elements.{list_all-put}
 use Rattle.des_base.specs.Names.{is_name_byte, is_name_text}
 use Rattle.des_base.proofs.BoolLemmas.{both, join, most_is, or_left, otherwise, same}
-use Rattle.log_order.specs.Log.{Alarm, Log}
+use Rattle.log_order.specs.Log.{Alarm, Log, id_of}
 use Rattle.log_csv.specs.Records.{Record, alarm, before, is_empty, labels_in, record_of, records_of}
-use Rattle.log_csv.specs.PrintedLog.{alarm_line, alarm_word, id_of, line_of_ids, log_text, pair_line}
+use Rattle.log_csv.specs.PrintedLog.{alarm_line, alarm_word, line_of_ids, log_text, pair_line}
 use Rattle.log_csv.specs.RecordsLeft.{records_in}
 use Rattle.log_csv.proofs.LabelLemmas.{is_bar}
 use Rattle.log_csv.proofs.NextLemmas.{records_in-none, records_in-some}

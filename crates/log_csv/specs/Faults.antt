@@ -1,5 +1,5 @@
 -- The place and the kind of a text's first fault.
-use Rattle.std.specs.Prelude.{◌≡◌, ⊤, ℕ, Option, Some, None, option_map}
+use Rattle.std.specs.Prelude.{◌≡◌, ⊤, ℕ, Option, Some, option_map}
 use Rattle.log_csv.specs.declared.fault.LogFault.{LogFault}
 use Rattle.log_csv.specs.declared.fault.LogReadRefusal.{LogReadRefusal}
 use Rattle.log_csv.specs.declared.fault.LogReadRefusal.TheVariants.{Fault, Memory}
@@ -7,11 +7,6 @@ use Rattle.log_csv.specs.declared.fault.LogReadRefusal.TheVariants.{Fault, Memor
 -- the fault of this code on this row
 abbrev pub fault_at : ℕ → Option ℕ → Option LogFault
 fault_at row code = option_map (λ c. record { row = row; code = c }) code
-
--- the first of two faults, or the later one where there is no earlier
-abbrev pub or_later : Option LogFault → Option LogFault → Option LogFault
-or_later None later = later
-or_later (Some fault) later = Some fault
 
 -- A refusal names the first fault. Want of memory may come in place of any answer.
 abbrev pub IsDue : Option LogFault → LogReadRefusal → Type 0

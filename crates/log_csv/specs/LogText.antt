@@ -1,7 +1,7 @@
 -- The log of a text, and its first fault.
 use Rattle.std.specs.Prelude.{ℕ, ◌+◌, Bool, true, false, not, ◌&&◌, ◌||◌, List, [], ◌∷◌, ◌++◌, filter_map, length, nat_le, nat_lt, is_none, is_some, Option, Some, None, option_map, option_and_then, if◌then◌else◌}
 use Rattle.std.specs.List.{list_all}
-use Rattle.std.specs.Option.{option_map_or}
+use Rattle.std.specs.Option.{option_map_or, option_or}
 use Rattle.des_base.specs.Names.{is_name_text, place_of}
 use Rattle.log_order.specs.Log.{Alarm, Log, closes_cycle, has_pair, a_log, an_alarm}
 use Rattle.log_order.specs.Adding.{names_of, with_pair, with_texts}
@@ -9,7 +9,7 @@ use Rattle.log_order.specs.declared.TheConstants.{MOST_ALARMS, MOST_LABELS, MOST
 use Rattle.log_csv.specs.declared.fault.LogFault.{LogFault}
 use Rattle.log_csv.specs.Records.{Record, alarm, before, ask, nothing, malformed, records_of}
 use Rattle.log_csv.specs.ScriptText.{is_malformed, words_of}
-use Rattle.log_csv.specs.Faults.{fault_at, or_later}
+use Rattle.log_csv.specs.Faults.{fault_at}
 
 -- ---- the log of records
 
@@ -124,7 +124,7 @@ record_code earlier said =
 abbrev pub first_record_fault : ℕ → List Record → List Record → Option LogFault
 first_record_fault row earlier [] = None
 first_record_fault row earlier (said ∷ others) =
-    or_later (fault_at row (record_code earlier said)) (first_record_fault (row + 1) (earlier ++ said ∷ []) others)
+    option_or (fault_at row (record_code earlier said)) (first_record_fault (row + 1) (earlier ++ said ∷ []) others)
 
 -- rows are counted from 1, the blank ones too
 abbrev pub first_fault : List ℕ → Option LogFault

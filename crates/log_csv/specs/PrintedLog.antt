@@ -1,7 +1,7 @@
 -- The text that is printed of a log.
-use Rattle.std.specs.Prelude.{ℕ, Bool, true, false, List, [], ◌++◌, codes, option_map, unwrap_or, slice_get}
+use Rattle.std.specs.Prelude.{ℕ, Bool, true, false, List, ◌++◌, codes}
 use Rattle.std.specs.List.{flat_map, join_with_byte}
-use Rattle.log_order.specs.Log.{Alarm, Log, an_alarm}
+use Rattle.log_order.specs.Log.{Alarm, Log, an_alarm, id_of}
 
 -- an alarm by the parts of its line, in their order
 abbrev pub alarm_with : Bool → List ℕ → List (List ℕ) → Alarm
@@ -19,10 +19,6 @@ alarm_line alarm = alarm_word alarm.doubtful ++ codes "," ++ alarm.name ++ codes
 -- the line that the alarm of the first id comes before that of the second
 unfoldable pub line_of_ids : List ℕ → List ℕ → List ℕ
 line_of_ids first second = codes "before," ++ first ++ codes "," ++ second ++ codes "\n"
-
--- the id of alarm i, or the empty text where there is none
-abbrev pub id_of : List Alarm → ℕ → List ℕ
-id_of alarms i = unwrap_or (option_map (λ alarm. alarm.name) (slice_get alarms i)) []
 
 -- a pair: the ids of its alarms
 abbrev pub pair_line : List Alarm → ℕ × ℕ → List ℕ

@@ -1,12 +1,13 @@
 -- The rows of a script, and its first fault.
 use Rattle.std.specs.Prelude.{ℕ, ◌+◌, Bool, true, false, not, List, [], ◌∷◌, filter_map, Option, Some, None, if◌then◌else◌}
 use Rattle.std.specs.List.{list_all}
+use Rattle.std.specs.Option.{option_or}
 use Rattle.des_base.specs.Names.{is_name_text}
 use Rattle.log_csv.specs.declared.fault.LogFault.{LogFault}
 use Rattle.log_csv.specs.declared.row.Row.{Row}
 use Rattle.log_csv.specs.declared.row.Row.TheVariants.{Alarm, Maybe, Before, Ask}
 use Rattle.log_csv.specs.Records.{Record, alarm, before, ask, nothing, malformed, records_of}
-use Rattle.log_csv.specs.Faults.{fault_at, or_later}
+use Rattle.log_csv.specs.Faults.{fault_at}
 
 -- the record has no shape
 abbrev pub is_malformed : Record → Bool
@@ -34,7 +35,7 @@ row_code said =
 -- the first fault of the records, where the first of them has this row
 abbrev pub first_row_fault : ℕ → List Record → Option LogFault
 first_row_fault row [] = None
-first_row_fault row (said ∷ others) = or_later (fault_at row (row_code said)) (first_row_fault (row + 1) others)
+first_row_fault row (said ∷ others) = option_or (fault_at row (row_code said)) (first_row_fault (row + 1) others)
 
 -- rows are counted from 1, the blank ones too
 abbrev pub first_script_fault : List ℕ → Option LogFault

@@ -16,6 +16,7 @@ use Rattle.log_clauses.proofs.Lists.{clash, filter_has, filter_from}
 use Rattle.replay.specs.Explanation.{is_matching}
 use Rattle.run_clauses.proofs.Lists.{in_numbers}
 use Rattle.log_clauses.proofs.Numbered.{ordered_literal, ordered_names}
+use Rattle.card_counter.specs.CounterState.{positive}
 use Rattle.log_encode.proofs.CodeLemmas.{empty_is_coded, grown_is_coded}
 use Rattle.log_encode.proofs.DraftLemmas.{lifted, asked_named, first_written, alarm_brings}
 use Rattle.log_encode.proofs.EndLemmas.{empty_ends, observables_known, ends_events, ends_count}
@@ -30,7 +31,7 @@ use Rattle.log_encode.specs.Drafted.{LogCodeState, DraftState, IsDraftOf, IsStep
 use Rattle.log_encode.specs.declared.taken.ChainEnd.{ChainEnd}
 use Rattle.log_encode.specs.declared.taken.Taken.{Taken}
 use Rattle.log_encode.specs.View.{IsChainEnd, IsRest, AreEnds, AreFalse, IsAlarm, AreKept, IsLogCode, coded_of, coded, code_view}
-use Rattle.log_encode.specs.Written.{has_any_label, taken_from, first_ends, guards_of, all_closed_written, alarm_written, dropped_written, ends_after, HasRest, link_from, link_of, holds}
+use Rattle.log_encode.specs.Written.{has_any_label, taken_from, first_ends, guards_of, all_closed_written, alarm_written, dropped_written, ends_after, HasRest, link_from, link_of}
 use Rattle.prop_core.specs.declared.grid.Grid.{Grid}
 use Rattle.prop_core.specs.declared.lit.Lit.{Lit}
 use Rattle.prop_core.specs.Clauses.{Clause}
@@ -68,7 +69,7 @@ first_known net grid asked chain_ends is = All-from_recursion (λ (end : ChainEn
 
 pub first_guards : (net : Net) (grid : Grid) (asked : ℕ) (chain_ends : List ChainEnd) → IsBeginning net grid asked chain_ends → length (guards_of asked chain_ends) ≡ length (first_names net)
 first_guards net grid asked chain_ends is =
-    let ends' = map_count (λ (end : ChainEnd). holds end.closed) chain_ends in
+    let ends' = map_count (λ (end : ChainEnd). positive end.closed) chain_ends in
     let begun = ap length is.begun ∙ ends_count (suc asked) (observable_events net) in
     let names = map_count (λ e. closed e 0) (observable_events net) in
     omega (arith, ends', begun, names)
@@ -101,7 +102,7 @@ first_appends net grid asked chain_ends old made new is written appended =
 -- ---- guards
 
 ends_read : (code : CodedLog) (chain_ends : List ChainEnd) → IsCodedLog code → AllByRecursion (IsChainEnd code) chain_ends →
-    ReadsInOrder (read_names code) (map (λ (end : ChainEnd). holds end.closed) chain_ends) (map (λ e. yes (closed e (length (chain code.net code.log e)))) (map (λ (end : ChainEnd). end.event) chain_ends))
+    ReadsInOrder (read_names code) (map (λ (end : ChainEnd). positive end.closed) chain_ends) (map (λ e. yes (closed e (length (chain code.net code.log e)))) (map (λ (end : ChainEnd). end.event) chain_ends))
 ends_read code [] coded all = tt
 ends_read code (end ∷ chain_ends) coded all = ((lifted code end.closed _ coded all.0.closing, refl), ends_read code chain_ends coded all.1)
 
@@ -110,7 +111,7 @@ guards_read code chain_ends guards coded are =
     ordered_names (read_names code) guards (guard_literals code.net code.log)
     (subst (λ gs. ReadsInOrder (read_names code) gs (guard_literals code.net code.log)) (sym are.guarding) (
       (lifted code code.asked _ coded (asked_named code), refl),
-      subst (λ es. ReadsInOrder (read_names code) (map (λ (end : ChainEnd). holds end.closed) chain_ends) (map (λ e. yes (closed e (length (chain code.net code.log e)))) es)) are.events (ends_read code chain_ends coded are.each),
+      subst (λ es. ReadsInOrder (read_names code) (map (λ (end : ChainEnd). positive end.closed) chain_ends) (map (λ e. yes (closed e (length (chain code.net code.log e)))) es)) are.events (ends_read code chain_ends coded are.each),
     ))
 
 -- ---- an alarm that is there

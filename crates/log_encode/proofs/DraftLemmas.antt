@@ -13,6 +13,7 @@ use Rattle.log_clauses.specs.LogNames.{first_names}
 use Rattle.log_clauses.proofs.Drafts.{drafts_are_code, drafts_are_small, first_clauses_are_few}
 use Rattle.log_clauses.proofs.Codes.{code_begins}
 use Rattle.log_clauses.proofs.Stay.{doubtful_new}
+use Rattle.card_counter.specs.CounterState.{positive, negative}
 use Rattle.log_encode.proofs.GrowLemmas.{places, taken_count, get_at, new_vars}
 use Rattle.log_encode.proofs.CodeLemmas.{beside}
 use Rattle.log_encode.proofs.Reading.{zip_flat, zip_count, AreLinkNames, link_reads, AreAlarmNames, done_reads, real_reads, reads_two, reads_three, Reads}
@@ -22,7 +23,7 @@ use Rattle.log_encode.specs.AlarmVariables.{done_variable}
 use Rattle.log_encode.specs.CodedLog.{CodedLog, code_names, names_from, read_names, code_after, empty_code, nameless, IsCodedLog}
 use Rattle.log_encode.specs.declared.taken.ChainEnd.{ChainEnd}
 use Rattle.log_encode.specs.View.{IsChainEnd, IsRest}
-use Rattle.log_encode.specs.Written.{has_any_label, taken_from, rest_variable, holds, fails, link_written, link_variables, steps_of_link, links_written, done_written, real_written, alarm_written, pair_written, closed_written, all_closed_written}
+use Rattle.log_encode.specs.Written.{has_any_label, taken_from, rest_variable, link_written, link_variables, steps_of_link, links_written, done_written, real_written, alarm_written, pair_written, closed_written, all_closed_written}
 use Rattle.prop_core.proofs.NameLemmas.{found_more}
 use Rattle.prop_core.specs.declared.grid.Grid.{Grid}
 use Rattle.prop_core.specs.Grids.{grid_variable}
@@ -191,7 +192,7 @@ alarm_brings code labels maybe first ends coded grown above are known all =
 
 pair_listed : (net : Net) (log : Log) (n : ℕ) (names : List (ℕ × Name)) (ask first second i j a k : ℕ) → a + k ≤ n + 1 → name_of names ask ≡ Some asked →
     ((t : ℕ) → t ≤ n → name_of names (first + t) ≡ Some (done i t)) → ((t : ℕ) → t ≤ n → name_of names (second + t) ≡ Some (done j t)) →
-    AllZip (Reads net log n names) (map (λ t. fails ask ∷ fails (second + t) ∷ holds (first + t) ∷ []) (range_with_len a k)) (map (λ t. before_if_asked i j t) (range_with_len a k))
+    AllZip (Reads net log n names) (map (λ t. negative ask ∷ negative (second + t) ∷ positive (first + t) ∷ []) (range_with_len a k)) (map (λ t. before_if_asked i j t) (range_with_len a k))
 pair_listed net log n names ask first second i j a zero within asks firsts seconds = tt
 pair_listed net log n names ask first second i j a (suc k) within asks firsts seconds = (
   reads_three names ask (second + a) (first + a) false false true _ _ _ asks (seconds a (omega arith)) (firsts a (omega arith)),
@@ -219,7 +220,7 @@ pair_brings code i j first second start grown firsts seconds =
 -- ---- the empty log
 
 closed_listed : (net : Net) (grid : Grid) (ask : ℕ) (end : ChainEnd) (a k : ℕ) → IsCodedLog (empty_code net grid ask) → a + k ≤ grid.steps → end.event < grid.events → IsChainEnd (empty_code net grid ask) end →
-    AllZip (Reads net no_log grid.steps (read_names (empty_code net grid ask))) (map (λ t. fails end.closed ∷ fails (grid_variable grid end.event (suc t)) ∷ []) (range_with_len a k)) (map (λ t. chain_closed end.event 0 t) (range_with_len a k))
+    AllZip (Reads net no_log grid.steps (read_names (empty_code net grid ask))) (map (λ t. negative end.closed ∷ negative (grid_variable grid end.event (suc t)) ∷ []) (range_with_len a k)) (map (λ t. chain_closed end.event 0 t) (range_with_len a k))
 closed_listed net grid ask end a zero coded within known is = tt
 closed_listed net grid ask end a (suc k) coded within known is = (
   reads_two (read_names (empty_code net grid ask)) end.closed (grid_variable grid end.event (suc a)) false false (closed end.event 0) (happens end.event (suc a))

@@ -14,10 +14,11 @@ use Rattle.log_order.specs.Log.{Log, is_doubtful}
 use Rattle.log_clauses.specs.Drafts.{link_clauses, match_clauses, done_clauses, real_clauses}
 use Rattle.log_clauses.specs.LogClauses.{LogClause, log_clause, matching_events, one_match, match_is_real, not_done_first, done_if_asked, or_false}
 use Rattle.log_clauses.proofs.Numbered.{ordered_names}
+use Rattle.card_counter.specs.CounterState.{positive, negative}
 use Rattle.log_encode.specs.AlarmVariables.{match_variable, done_variable, chain_variable, dropped_variable}
 use Rattle.log_encode.specs.declared.alarm_vars.AlarmVars.{AlarmVars}
 use Rattle.log_encode.specs.declared.writing.LinkVars.{LinkVars}
-use Rattle.log_encode.specs.Written.{holds, fails, link_written, matches_at, step_written, done_written, dropped_written, real_of_link, reals_written, real_written}
+use Rattle.log_encode.specs.Written.{link_written, matches_at, step_written, done_written, dropped_written, real_of_link, reals_written, real_written}
 use Rattle.prop_core.specs.declared.lit.Lit.{Lit}
 use Rattle.prop_core.specs.Clauses.{Clause}
 use Rattle.prop_core.specs.VariableNames.{Name, NamedLiteral, name_of, yes, no, asked, matches, done, dropped, closed, remaining, of_matches, named_clause}
@@ -122,7 +123,7 @@ one_reads : (net : Net) (log : Log) (n : ℕ) (names : List (ℕ × Name)) (i t 
 one_reads net log n names i t events vars time are matched =
     let named = ordered_names names (matches_at vars t) (map (λ e. yes (matches i e (suc t))) events) matched in
     let reads = named ∙ ap Some (map_twice (λ e. matches i e (suc t)) events) in
-    let count : length (matches_at vars t) ≡ vars.links = length-map (numbers_below vars.links) (λ link. holds (match_variable vars link t)) ∙ length-range_with_len 0 vars.links in
+    let count : length (matches_at vars t) ≡ vars.links = length-map (numbers_below vars.links) (λ link. positive (match_variable vars link t)) ∙ length-range_with_len 0 vars.links in
     let chain = subst (λ m. IsNamedChain names (of_matches i (suc t)) (chain_variable vars t) (chain_count m)) (sym count) (are.chaining t time) in
     zip_renamed (Reads net log n names) (one_match i t) (exclusion_clauses (matches_at vars t) (chain_variable vars t)) (exclusion_list (map (λ e. matches i e (suc t)) events))
     (exclusions_read names (of_matches i (suc t)) (map (λ e. matches i e (suc t)) events) (matches_at vars t) (chain_variable vars t) reads chain)
@@ -137,23 +138,23 @@ dropped_reads names log i vars lits named mark h zip = by vars.doubtful refl
     by false e = let d : is_doubtful log i ≡ false = mark ∙ e in rw (e, d) zip
 
 not_first_reads : (names : List (ℕ × Name)) (log : Log) (n i : ℕ) (events : List ℕ) (vars : AlarmVars) → is_doubtful log i ≡ vars.doubtful → AreAlarmNames names n i events vars →
-    named_clause names (fails (done_variable vars 0) ∷ dropped_written vars) ≡ Some (no (done i 0) ∷ or_false log i [])
+    named_clause names (negative (done_variable vars 0) ∷ dropped_written vars) ≡ Some (no (done i 0) ∷ or_false log i [])
 not_first_reads names log n i events vars mark are =
-    ordered_names names (fails (done_variable vars 0) ∷ dropped_written vars) (no (done i 0) ∷ or_false log i [])
+    ordered_names names (negative (done_variable vars 0) ∷ dropped_written vars) (no (done i 0) ∷ or_false log i [])
     ((are.being_done 0 (omega arith), refl), subst (λ ls. AllZip (IsNamed names) ls (or_false log i [])) (append-nil (dropped_written vars)) (dropped_reads names log i vars [] [] mark are.being_false tt))
 
 -- the matches of a step
 matches_read : (names : List (ℕ × Name)) (n i t : ℕ) (events : List ℕ) (vars : AlarmVars) → t < n → AreAlarmNames names n i events vars → AllZip (IsNamed names) (matches_at vars t) (map (λ e. yes (matches i e (suc t))) events)
 matches_read names n i t events vars time are =
-    subst (λ k. AllZip (IsNamed names) (map (λ p. holds (match_variable vars p t)) (range_with_len 0 k)) (map (λ e. yes (matches i e (suc t))) events)) (sym are.links)
-    (zip_numbered (IsNamed names) (λ p. holds (match_variable vars p t)) (λ e. yes (matches i e (suc t))) 0 events
+    subst (λ k. AllZip (IsNamed names) (map (λ p. positive (match_variable vars p t)) (range_with_len 0 k)) (map (λ e. yes (matches i e (suc t))) events)) (sym are.links)
+    (zip_numbered (IsNamed names) (λ p. positive (match_variable vars p t)) (λ e. yes (matches i e (suc t))) 0 events
     (λ p e at. (subst (λ q. name_of names (match_variable vars q t) ≡ Some (matches i e (suc t))) (omega arith) (are.matching p e t at time), refl)))
 
 -- done after a step, by a match there or before
 by_match_reads : (names : List (ℕ × Name)) (log : Log) (n i t : ℕ) (events : List ℕ) (vars : AlarmVars) → t < n → is_doubtful log i ≡ vars.doubtful → AreAlarmNames names n i events vars →
-    named_clause names (fails (done_variable vars (suc t)) ∷ holds (done_variable vars t) ∷ (dropped_written vars ++ matches_at vars t)) ≡ Some (no (done i (suc t)) ∷ yes (done i t) ∷ or_false log i (map (λ e. yes (matches i e (suc t))) events))
+    named_clause names (negative (done_variable vars (suc t)) ∷ positive (done_variable vars t) ∷ (dropped_written vars ++ matches_at vars t)) ≡ Some (no (done i (suc t)) ∷ yes (done i t) ∷ or_false log i (map (λ e. yes (matches i e (suc t))) events))
 by_match_reads names log n i t events vars time mark are =
-    ordered_names names (fails (done_variable vars (suc t)) ∷ holds (done_variable vars t) ∷ (dropped_written vars ++ matches_at vars t)) (no (done i (suc t)) ∷ yes (done i t) ∷ or_false log i (map (λ e. yes (matches i e (suc t))) events)) (
+    ordered_names names (negative (done_variable vars (suc t)) ∷ positive (done_variable vars t) ∷ (dropped_written vars ++ matches_at vars t)) (no (done i (suc t)) ∷ yes (done i t) ∷ or_false log i (map (λ e. yes (matches i e (suc t))) events)) (
       (are.being_done (suc t) (omega arith), refl),
       (
         (are.being_done t (omega arith), refl),
@@ -166,7 +167,7 @@ step_reads : (net : Net) (log : Log) (n : ℕ) (names : List (ℕ × Name)) (i t
 step_reads net log n names i t events vars time same mark are = (
   reads_two names (done_variable vars t) (done_variable vars (suc t)) false true _ _ (are.being_done t (omega arith)) (are.being_done (suc t) (omega arith)),
   (
-    subst (λ es. named_clause names (fails (done_variable vars (suc t)) ∷ holds (done_variable vars t) ∷ (dropped_written vars ++ matches_at vars t)) ≡ Some (no (done i (suc t)) ∷ yes (done i t) ∷ or_false log i (map (λ e. yes (matches i e (suc t))) es))) (sym same) (by_match_reads names log n i t events vars time mark are),
+    subst (λ es. named_clause names (negative (done_variable vars (suc t)) ∷ positive (done_variable vars t) ∷ (dropped_written vars ++ matches_at vars t)) ≡ Some (no (done i (suc t)) ∷ yes (done i t) ∷ or_false log i (map (λ e. yes (matches i e (suc t))) es))) (sym same) (by_match_reads names log n i t events vars time mark are),
     one_reads net log n names i t events vars time are (matches_read names n i t events vars time are),
   ),
 )
@@ -191,7 +192,7 @@ real_reads net log n names i events vars are = by vars.doubtful refl
         subst (λ k. AllZip (Reads net log n names) (reals_written vars k) (flat_map (λ e. map (λ t. match_is_real i e t) (numbers_below n)) events)) (sym are.links)
         (zip_flat_numbered (Reads net log n names) (λ link. real_of_link vars link vars.steps) (λ e. map (λ t. match_is_real i e t) (numbers_below n)) 0 events
         (λ p x at. subst (λ k. AllZip (Reads net log n names) (real_of_link vars (0 + p) k) (map (λ t. match_is_real i x t) (numbers_below n))) (sym are.steps)
-        (zip_maps (Reads net log n names) (λ t. fails (match_variable vars (0 + p) t) ∷ fails (dropped_variable vars) ∷ []) (λ t. match_is_real i x t) 0 n
+        (zip_maps (Reads net log n names) (λ t. negative (match_variable vars (0 + p) t) ∷ negative (dropped_variable vars) ∷ []) (λ t. match_is_real i x t) 0 n
         (λ t h. reads_two names (match_variable vars (0 + p) t) (dropped_variable vars) false false (matches i x (suc t)) (dropped i)
         (subst (λ q. name_of names (match_variable vars q t) ≡ Some (matches i x (suc t))) (omega arith) (are.matching p x t at (omega (arith, h)))) (are.being_false e)))))
 

@@ -1,5 +1,5 @@
 -- The clauses that are written for a log, as lists over variables. What they say by name is told in `log_clauses`.
-use Rattle.std.specs.Prelude.{ℕ, suc, ◌+◌, ◌*◌, Bool, true, false, List, [], ◌∷◌, ◌++◌, map, flat_map, Option, Some, None, bytes_eq, if◌then◌else◌, ◌==◌, ◌<◌, ◌≤◌, IfSome}
+use Rattle.std.specs.Prelude.{ℕ, suc, ◌+◌, ◌*◌, Bool, false, List, [], ◌∷◌, ◌++◌, map, flat_map, Option, Some, None, bytes_eq, if◌then◌else◌, ◌==◌, ◌<◌, ◌≤◌, IfSome}
 use Rattle.std.specs.List.{list_any}
 use Rattle.std.specs.Option.{option_map_or}
 use Rattle.des_base.specs.Lists.{numbers_below}
@@ -10,19 +10,12 @@ use Rattle.prop_core.specs.declared.lit.Lit.{Lit}
 use Rattle.prop_core.specs.Clauses.{Clause}
 use Rattle.prop_core.specs.Grids.{grid_variable}
 use Rattle.card_counter.specs.AtMostOne.{exclusion_clauses}
+use Rattle.card_counter.specs.CounterState.{positive, negative}
 use Rattle.log_encode.specs.declared.alarm_vars.AlarmVars.{AlarmVars}
 use Rattle.log_encode.specs.declared.taken.Taken.{Taken}
 use Rattle.log_encode.specs.declared.taken.ChainEnd.{ChainEnd}
 use Rattle.log_encode.specs.declared.writing.LinkVars.{LinkVars}
 use Rattle.log_encode.specs.AlarmVariables.{closed_variable, match_variable, passed_variable, done_variable, chain_variable, dropped_variable}
-
--- the literal that the variable is true
-abbrev pub holds : ℕ → Lit
-holds var = record { var = var; positive = true }
-
--- the literal that the variable is false
-abbrev pub fails : ℕ → Lit
-fails var = record { var = var; positive = false }
 
 -- the event has one of the labels
 abbrev pub has_any_label : Net → List (List ℕ) → ℕ → Bool
@@ -70,8 +63,8 @@ pub record HasRest (grid : Grid) (taken : Taken) : Type 0 where
 
 -- A link takes or passes on just what comes to it, never both, and passes nothing on where the chain ends after it; its alarm is done once it takes, and not before.
 abbrev pub link_written : LinkVars → List Clause
-link_written v = (fails v.closed ∷ fails v.passed ∷ []) ∷ (fails v.matched ∷ holds v.rest ∷ []) ∷ (fails v.matched ∷ fails v.passed ∷ [])
-    ∷ (fails v.passed ∷ holds v.rest ∷ []) ∷ (fails v.rest ∷ holds v.matched ∷ holds v.passed ∷ []) ∷ (fails v.matched ∷ holds v.after ∷ []) ∷ (fails v.matched ∷ fails v.before ∷ []) ∷ []
+link_written v = (negative v.closed ∷ negative v.passed ∷ []) ∷ (negative v.matched ∷ positive v.rest ∷ []) ∷ (negative v.matched ∷ negative v.passed ∷ [])
+    ∷ (negative v.passed ∷ positive v.rest ∷ []) ∷ (negative v.rest ∷ positive v.matched ∷ positive v.passed ∷ []) ∷ (negative v.matched ∷ positive v.after ∷ []) ∷ (negative v.matched ∷ negative v.before ∷ []) ∷ []
 
 -- the variables of a link in the step after t steps
 abbrev pub link_variables : Grid → AlarmVars → ℕ → Taken → ℕ → LinkVars
@@ -97,20 +90,20 @@ links_written grid vars link (taken ∷ takes) = steps_of_link grid vars link ta
 
 -- that it is false, where it is doubtful
 abbrev pub dropped_written : AlarmVars → List Lit
-dropped_written vars = if vars.doubtful then holds (dropped_variable vars) ∷ [] else []
+dropped_written vars = if vars.doubtful then positive (dropped_variable vars) ∷ [] else []
 
 -- for each link, that the alarm is matched to its event in the step after t steps
 abbrev pub matches_at : AlarmVars → ℕ → List Lit
-matches_at vars t = map (λ link. holds (match_variable vars link t)) (numbers_below vars.links)
+matches_at vars t = map (λ link. positive (match_variable vars link t)) (numbers_below vars.links)
 
 -- An alarm that is done stays so. In the step after t steps it gets done by a match, or where it is false, and has at most one match.
 abbrev pub step_written : AlarmVars → ℕ → List Clause
-step_written vars t = (fails (done_variable vars t) ∷ holds (done_variable vars (suc t)) ∷ [])
-    ∷ (fails (done_variable vars (suc t)) ∷ holds (done_variable vars t) ∷ (dropped_written vars ++ matches_at vars t)) ∷ exclusion_clauses (matches_at vars t) (chain_variable vars t)
+step_written vars t = (negative (done_variable vars t) ∷ positive (done_variable vars (suc t)) ∷ [])
+    ∷ (negative (done_variable vars (suc t)) ∷ positive (done_variable vars t) ∷ (dropped_written vars ++ matches_at vars t)) ∷ exclusion_clauses (matches_at vars t) (chain_variable vars t)
 
 -- at the start the alarm isn't done unless it is false, and at the end it is done where the log is asked for
 abbrev pub ends_written : ℕ → AlarmVars → List Clause
-ends_written asked vars = (fails (done_variable vars 0) ∷ dropped_written vars) ∷ (fails asked ∷ holds (done_variable vars vars.steps) ∷ []) ∷ []
+ends_written asked vars = (negative (done_variable vars 0) ∷ dropped_written vars) ∷ (negative asked ∷ positive (done_variable vars vars.steps) ∷ []) ∷ []
 
 -- the start and the end of an alarm, and each step between them
 abbrev pub done_written : ℕ → AlarmVars → List Clause
@@ -118,7 +111,7 @@ done_written asked vars = ends_written asked vars ++ flat_map (step_written vars
 
 -- a false alarm isn't matched to the event of a link in any of so many steps
 abbrev pub real_of_link : AlarmVars → ℕ → ℕ → List Clause
-real_of_link vars link n = map (λ t. fails (match_variable vars link t) ∷ fails (dropped_variable vars) ∷ []) (numbers_below n)
+real_of_link vars link n = map (λ t. negative (match_variable vars link t) ∷ negative (dropped_variable vars) ∷ []) (numbers_below n)
 
 -- the same of the first so many links, in all steps
 abbrev pub reals_written : AlarmVars → ℕ → List Clause
@@ -141,11 +134,11 @@ first_ends var (e ∷ events) = record { event = e; closed = var; last = None } 
 
 -- the guards: that the log is asked for, and that each chain ends where it does now
 abbrev pub guards_of : ℕ → List ChainEnd → List Lit
-guards_of asked ends = holds asked ∷ map (λ (end : ChainEnd). holds end.closed) ends
+guards_of asked ends = positive asked ∷ map (λ (end : ChainEnd). positive end.closed) ends
 
 -- where the log is asked for, the first alarm, whose done variables begin here, is done no later than the second: for each number of steps below k
 abbrev pub pair_first : ℕ → ℕ → ℕ → ℕ → List Clause
-pair_first asked first second k = map (λ t. fails asked ∷ fails (second + t) ∷ holds (first + t) ∷ []) (numbers_below k)
+pair_first asked first second k = map (λ t. negative asked ∷ negative (second + t) ∷ positive (first + t) ∷ []) (numbers_below k)
 
 -- the same for each number of steps up to n
 abbrev pub pair_written : ℕ → ℕ → ℕ → ℕ → List Clause
@@ -153,7 +146,7 @@ pair_written asked first second n = pair_first asked first second (n + 1)
 
 -- where the chain of an event ends without an alarm, the event doesn't happen, in the first n steps
 abbrev pub closed_first : Grid → ChainEnd → ℕ → List Clause
-closed_first grid end n = map (λ t. fails end.closed ∷ fails (grid_variable grid end.event (suc t)) ∷ []) (numbers_below n)
+closed_first grid end n = map (λ t. negative end.closed ∷ negative (grid_variable grid end.event (suc t)) ∷ []) (numbers_below n)
 
 -- the same in all steps
 abbrev pub closed_written : Grid → ChainEnd → List Clause

@@ -3,8 +3,9 @@ ghost use Rattle.std.specs.Prelude.{◌≡◌, ◌<◌, ◌≤◌, ◌+◌, ◌*
 ghost use Rattle.des_base.specs.ChainCount.{chain_count};
 ghost use Rattle.des_base.specs.declared.TheConstants.{VAR_LIMIT};
 ghost use Rattle.card_counter.specs.AtMostOne.{exclusion_clauses};
+ghost use Rattle.card_counter.specs.CounterState.{positive, negative};
 ghost use Rattle.log_encode.specs.AlarmVariables.{IsWithin, done_variable};
-ghost use Rattle.log_encode.specs.Written.{alarm_written, all_closed_written, closed_written, done_written, dropped_written, ends_written, fails, link_variables, link_written, links_written, matches_at, pair_written, real_of_link, real_written, reals_written, step_written, steps_of_link, HasRest};
+ghost use Rattle.log_encode.specs.Written.{alarm_written, all_closed_written, closed_written, done_written, dropped_written, ends_written, link_variables, link_written, links_written, matches_at, pair_written, real_of_link, real_written, reals_written, step_written, steps_of_link, HasRest};
 
 use crate::alarm_vars::AlarmVars;
 use crate::taken::{ChainEnd, Taken};
@@ -26,7 +27,7 @@ pub struct LinkVars {
 }
 
 fn holds(var: u32) -> Lit
-    ensures { result ≡ record { var = var; positive = true } }
+    ensures { result ≡ positive var }
 {
     Lit {
         var,
@@ -35,7 +36,7 @@ fn holds(var: u32) -> Lit
 }
 
 fn fails(var: u32) -> Lit
-    ensures { result ≡ record { var = var; positive = false } }
+    ensures { result ≡ negative var }
 {
     Lit {
         var,
@@ -174,7 +175,7 @@ fn write_step(alloc: Global, vars: AlarmVars, step: u32, out: &mut Clauses) -> R
 // At first the alarm isn't done, unless it is false.
 fn write_first(alloc: Global, vars: AlarmVars, out: &mut Clauses) -> Result<(), Memory>
     requires { IsWithin vars }
-    ensures { OnOk result (out.new.clauses ≡ out.old.clauses ++ (fails (done_variable vars 0) ∷ dropped_written vars) ∷ []) }
+    ensures { OnOk result (out.new.clauses ≡ out.old.clauses ++ (negative (done_variable vars 0) ∷ dropped_written vars) ∷ []) }
 {
     let mut first = Vec::new(alloc);
     first.push(fails(vars.done(0)))?;

@@ -26,6 +26,10 @@ a_log alarms pairs = record { alarms = alarms; pairs = pairs }
 abbrev pub no_log : Log
 no_log = a_log [] []
 
+-- the id of alarm i, or the empty text where there is none
+abbrev pub id_of : List Alarm → ℕ → List ℕ
+id_of alarms i = unwrap_or (option_map (λ alarm. alarm.name) (slice_get alarms i)) []
+
 -- the labels that alarm i may stand for
 abbrev pub labels_of : Log → ℕ → List (List ℕ)
 labels_of log i = unwrap_or (option_map (λ alarm. alarm.labels) (slice_get log.alarms i)) []

@@ -1,6 +1,7 @@
 -- What lines of states and events add.
 use Rattle.std.proofs.Common.{◌≡◌, ℕ, Bool, true, false, List, [], ◌∷◌, length, cond, Option, None, Some, Ok, refl, arith, ap, sym, ◌∙◌, subst}
 use Rattle.std.specs.List.{list_all}
+use Rattle.std.specs.Option.{option_to_list}
 use Rattle.des_base.proofs.BoolLemmas.{join}
 use Rattle.des_base.specs.Names.{is_name_text}
 use Rattle.des_net.specs.declared.parts.Part.{Part}
@@ -8,7 +9,6 @@ use Rattle.des_net.specs.declared.refusal.BuildRefusal.TheVariants.{Unknown}
 use Rattle.des_net.specs.Network.{Component, Net}
 use Rattle.des_net.specs.Building.{state_refusal, with_state, change_component, event_refusal, with_event}
 use Rattle.model_text.specs.ModelLines.{NamedPart, state, event}
-use Rattle.model_text.specs.ModelFaults.{optional_words}
 use Rattle.model_text.specs.Growth.{grown, unless, last_place, parts_by_name, grown_by_event}
 use Rattle.model_text.specs.LineAdditions.{IsNamed, IsLabelled}
 
@@ -28,7 +28,7 @@ grown-homeless_state net name initial h =
     ∙ none_either (is_name_text name)
 
 named : (net : Net) (name : List ℕ) (label : Option (List ℕ)) (fault : Bool) (parts : List NamedPart) (found : List Part)
-    → list_all is_name_text (name ∷ optional_words label) ≡ true → parts_by_name net parts ≡ Some found → event_refusal net name found ≡ None
+    → list_all is_name_text (name ∷ option_to_list label) ≡ true → parts_by_name net parts ≡ Some found → event_refusal net name found ≡ None
     → grown net (event name label fault parts) ≡ Some (with_event net name found label fault)
 named net name label fault parts found names is well =
     ap (λ b. cond b (grown_by_event net name label fault (parts_by_name net parts)) None) names

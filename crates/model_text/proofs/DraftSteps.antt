@@ -2,6 +2,7 @@
 use Rattle.std.proofs.Common.{◌≡◌, ◌<◌, ◌+◌, ℕ, Bool, true, List, ◌∷◌, length, Option, None, Some, refl, arith, ap, sym, ◌∙◌, subst}
 use Rattle.std.specs.Prelude.{⊤, cond, slice_get}
 use Rattle.std.specs.List.{list_all}
+use Rattle.std.specs.Option.{option_to_list}
 use Rattle.des_base.specs.Names.{is_name_text, place_of}
 use Rattle.des_net.specs.declared.parts.Part.{Part}
 use Rattle.des_net.specs.Network.{Component as Automaton, Net}
@@ -9,7 +10,6 @@ use Rattle.des_net.specs.Building.{IsDraft, IsDraftComponent, AreDraftComponents
 use Rattle.des_net.proofs.ComponentLemmas.{IsDraftComponent-with_state, IsDraftComponent-with_trans}
 use Rattle.des_net.proofs.DraftLemmas.{IsDraft-with_component, IsDraft-with_event, IsDraft-with_state, IsDraft-with_trans, change_at-at, components_set, count_at, trans_count-set}
 use Rattle.model_text.specs.ModelLines.{ModelLine, component, state, transition, event, NamedPart}
-use Rattle.model_text.specs.ModelFaults.{optional_words}
 use Rattle.model_text.specs.Growth.{grown, grown_by_event, grown_by_transition, last_place, last_states, parts_by_name}
 use Rattle.model_text.proofs.AdditionFacts.{FitsState, FitsTransition, as_many, fits_component, fits_event, fits_state, fits_transition, is_added, nothing}
 use Rattle.model_text.proofs.CodeLemmas.{All-slice_get}
@@ -54,14 +54,14 @@ by_places net now action (Some from) (Some to) d e =
     by_transition net now from action to d a.named (fits_transition net.components (last_place net) from action to a.accepted) a.network
 
 by_event : (net now : Net) (name : List ℕ) (label : Option (List ℕ)) (fault : Bool) (named : List NamedPart) (parts : Option (List Part)) → IsDraft net → 0 < length named → parts_by_name net named ≡ parts
-    → cond (list_all is_name_text (name ∷ optional_words label)) (grown_by_event net name label fault parts) None ≡ Some now → IsDraft now
-by_event net now name label fault named None d some is e = absurd (nothing (list_all is_name_text (name ∷ optional_words label)) now e)
+    → cond (list_all is_name_text (name ∷ option_to_list label)) (grown_by_event net name label fault parts) None ≡ Some now → IsDraft now
+by_event net now name label fault named None d some is e = absurd (nothing (list_all is_name_text (name ∷ option_to_list label)) now e)
 by_event net now name label fault named (Some parts) d some is e =
-    let a = is_added (list_all is_name_text (name ∷ optional_words label)) (event_refusal net name parts) (with_event net name parts label fault) now e in
+    let a = is_added (list_all is_name_text (name ∷ option_to_list label)) (event_refusal net name parts) (with_event net name parts label fault) now e in
     let f = fits_event net name parts a.accepted in
     let many = as_many net named parts is in
     subst IsDraft a.network
-    (IsDraft-with_event net name (record { parts = parts; label = label; fault = fault }) d (both (is_name_text name) (list_all is_name_text (optional_words label)) a.named).0 f.absent
+    (IsDraft-with_event net name (record { parts = parts; label = label; fault = fault }) d (both (is_name_text name) (list_all is_name_text (option_to_list label)) a.named).0 f.absent
     (record { some = omega arith; few = f.few_parts; once = f.once; known = f.known }) f.few)
 
 pub IsDraft-grown : (net : Net) (line : ModelLine) (now : Net) → IsDraft net → HasParts line → grown net line ≡ Some now → IsDraft now

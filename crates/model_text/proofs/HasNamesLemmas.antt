@@ -2,7 +2,7 @@
 use Rattle.std.proofs.Common.{◌≡◌, ℕ, Bool, true, false, cond, List, [], ◌∷◌, ◌++◌, Option, None, Some, refl, subst}
 use Rattle.std.specs.Prelude.{All, slice_get, slice_set, is_some}
 use Rattle.std.specs.List.{AllByRecursion, list_all}
-use Rattle.std.specs.Option.{option_map_or}
+use Rattle.std.specs.Option.{option_map_or, option_to_list}
 use Rattle.std.proofs.lemmas.List.Elements.{All-push, All-set, All-nil}
 use Rattle.des_base.proofs.TableLemmas.{each_push}
 use Rattle.des_base.specs.Names.{IsName, is_name_text, place_of}
@@ -11,7 +11,6 @@ use Rattle.des_net.specs.declared.refusal.BuildRefusal.{BuildRefusal}
 use Rattle.des_net.specs.Network.{Component as Automaton, Net, no_component, no_net}
 use Rattle.des_net.specs.Building.{change_at, change_component, with_component, with_state, with_trans, component_refusal, state_refusal, trans_refusal, event_refusal, with_event}
 use Rattle.model_text.specs.ModelLines.{ModelLine, component, state, transition, event}
-use Rattle.model_text.specs.ModelFaults.{optional_words}
 use Rattle.model_text.specs.Growth.{grown, unless, last_place, last_states, grown_by_transition, grown_by_event, parts_by_name}
 use Rattle.model_text.specs.GrowthLaw.{HasNames, HasNamedParts}
 use Rattle.model_text.proofs.CodeLemmas.{All-slice_get}
@@ -66,7 +65,7 @@ HasNames-grown net (state name initial) now h e =
     let a = accepted (is_name_text name) (state_refusal net.components (last_place net) name) m now e in
     subst HasNames a.1 (HasNames-change net (last_place net) (with_state name initial) (λ c k. record { states = each_push c.state_names name k.states a.0; actions = k.actions }) h)
 HasNames-grown net (transition from action to) now h e = by_transition net now action (place_of from (last_states net)) (place_of to (last_states net)) h e
-HasNames-grown net (event name label fault parts) now h e = by_event net now name label fault (list_all is_name_text (name ∷ optional_words label)) (parts_by_name net parts) h e
+HasNames-grown net (event name label fault parts) now h e = by_event net now name label fault (list_all is_name_text (name ∷ option_to_list label)) (parts_by_name net parts) h e
 
 -- a network with nothing in it
 pub HasNames-none : HasNames no_net

@@ -2,7 +2,7 @@
 use Rattle.std.proofs.Common.{◌≡◌, ◌<◌, ◌≤◌, ◌+◌, ◌-◌, ℕ, zero, suc, Bool, true, false, cond, List, [], ◌∷◌, ◌++◌, length, get_or, map, Option, None, Some, refl, arith, ap, sym, ◌∙◌, subst, append_assoc, append-nil, length-append}
 use Rattle.std.specs.Prelude.{◌||◌, bytes_eq, nat_le, nat_lt, is_some, option_and_then, option_map}
 use Rattle.std.specs.List.{AllByRecursion, list_all, list_any}
-use Rattle.std.specs.Option.{option_map_or}
+use Rattle.std.specs.Option.{option_map_or, option_to_list}
 use Rattle.std.proofs.lemmas.List.{length-map}
 use Rattle.std.proofs.lemmas.List.Elements.{All-get_or, recursion_from_All}
 use Rattle.std.proofs.lemmas.List.Sums.{sum_by-cons, sum_by_push}
@@ -18,7 +18,6 @@ use Rattle.des_net.specs.Network.{Component as Automaton, Event as Happening, Ne
 use Rattle.des_net.specs.Building.{IsDraft, IsDraftComponent, IsDraftEvent, action_place, change_component, component_refusal, event_refusal, has_trans, is_trans, repeats, state_refusal, trans_count, trans_refusal, with_action, with_component, with_event, with_state, with_trans}
 use Rattle.model_text.specs.ModelLines.{ModelLine, component, state, event}
 use Rattle.model_text.specs.ModelNetwork.{each_once}
-use Rattle.model_text.specs.ModelFaults.{optional_words}
 use Rattle.model_text.specs.Growth.{grown, grown_by_event, grown_by_transition, last_states, part_of, parts_by_name, unless}
 use Rattle.model_text.specs.PrintedModel.{each_named, line_of_event, line_of_state, line_of_transition, lines_of_component, lines_of_network, name_at, part_by_name}
 use Rattle.model_text.specs.ReadBack.{AreNew, HasNamedLabel, IsAsRead, IsInOrder}
@@ -270,9 +269,9 @@ module _ (net : Net) (d : IsDraft net) where
       → grown (with_events net names events) (event name e.label e.fault (map (part_by_name net) e.parts)) ≡ Some (with_events net (names ++ name ∷ []) (events ++ e ∷ []))
   event_added names events name e n absent few known draft label =
       let now = with_events net names events in
-      ap (λ o. cond (list_all is_name_text (name ∷ optional_words e.label)) (grown_by_event now name e.label e.fault o) None) (parts_found names events e.parts known.known)
-      ∙ adds (list_all is_name_text (name ∷ optional_words e.label)) (event_refusal now name e.parts) (with_event now name e.parts e.label e.fault)
-      (join (is_name_text name) (list_all is_name_text (optional_words e.label)) n label)
+      ap (λ o. cond (list_all is_name_text (name ∷ option_to_list e.label)) (grown_by_event now name e.label e.fault o) None) (parts_found names events e.parts known.known)
+      ∙ adds (list_all is_name_text (name ∷ option_to_list e.label)) (event_refusal now name e.parts) (with_event now name e.parts e.label e.fault)
+      (join (is_name_text name) (list_all is_name_text (option_to_list e.label)) n label)
       (event_refusal-known now name e.parts draft.known
       ∙ unlimited (is_some (place_of name names) || repeats e.parts) (nat_le 4000 (length events) || nat_lt 16 (length e.parts))
       (either (is_some (place_of name names)) (repeats e.parts) (none (place_of name names) absent) draft.once)

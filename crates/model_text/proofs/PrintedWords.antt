@@ -1,17 +1,18 @@
 -- A printed line is cut into its tokens again, and says what it was printed for.
-use Rattle.std.proofs.Common.{◌≡◌, ◌<◌, ◌+◌, ◌-◌, ℕ, Bool, true, false, List, [], ◌∷◌, ◌++◌, length, map, Option, None, Some, refl, arith, ap, sym, ◌∙◌, subst, append_assoc}
+use Rattle.std.proofs.Common.{◌≡◌, ◌<◌, ◌+◌, ℕ, Bool, true, false, List, [], ◌∷◌, ◌++◌, length, map, Option, None, Some, refl, arith, ap, sym, ◌∙◌, subst, append_assoc}
 use Rattle.std.proofs.lemmas.Bool.Decides.{nat_tests}
 use Rattle.std.proofs.lemmas.List.Elements.{All-nil, All-cons}
 use Rattle.std.proofs.lemmas.List.Splits.{slice_split_at, slice_split_none}
 use Rattle.std.proofs.lemmas.List.Folds.{list_all-append}
 use Rattle.std.specs.Prelude.{◌&&◌, ◌==◌, nat_lt, All, codes, option_and_then, option_map}
 use Rattle.std.specs.List.{join_with_byte, list_all}
+use Rattle.std.specs.Option.{option_to_list}
 use Rattle.des_base.proofs.BoolLemmas.{both, join}
 use Rattle.des_base.proofs.PrintedLines.{word_byte, line_byte, IsWord, AreWords, AreWords-append, tokens_of-word, tokens_of-last, word_in_line, counted_from-line, name_text, name_word}
 use Rattle.des_base.specs.CountedLines.{NumberedLine, numbered, counted_from, is_counted, tokens_of}
 use Rattle.des_base.specs.Names.{is_name_byte, is_name_text}
 use Rattle.model_text.specs.ModelLines.{ModelLine, component, state, transition, event, NamedPart, after_flags, event_line, model_line, part_of_pieces, part_of_token, parts_of_tokens}
-use Rattle.model_text.specs.ModelFaults.{optional_words, words_of}
+use Rattle.model_text.specs.ModelFaults.{words_of}
 use Rattle.model_text.specs.PrintedModel.{fault_tokens, label_tokens, line_text, mark_tokens, part_token, tokens_of_line}
 use Rattle.model_text.proofs.DraftSteps.{HasParts}
 
@@ -91,16 +92,16 @@ part_words (p ∷ ps) h k =
 
 record EventNames (text : List ℕ) (shown : Option (List ℕ)) (parts : List NamedPart) : Type 0 where
   name : is_name_text text ≡ true
-  label : list_all is_name_text (optional_words shown) ≡ true
+  label : list_all is_name_text (option_to_list shown) ≡ true
   components : list_all is_name_text (components_of parts) ≡ true
   actions : list_all is_name_text (actions_of parts) ≡ true
 
 event_names : (name : List ℕ) (label : Option (List ℕ)) (fault : Bool) (parts : List NamedPart) → list_all is_name_text (words_of (event name label fault parts)) ≡ true → EventNames name label parts
 event_names name label fault parts h =
-    let front = name ∷ optional_words label in
+    let front = name ∷ option_to_list label in
     let a = both (list_all is_name_text (front ++ components_of parts)) (list_all is_name_text (actions_of parts)) (sym (list_all-append is_name_text (front ++ components_of parts) (actions_of parts)) ∙ h) in
     let b = both (list_all is_name_text front) (list_all is_name_text (components_of parts)) (sym (list_all-append is_name_text front (components_of parts)) ∙ a.0) in
-    let c = both (is_name_text name) (list_all is_name_text (optional_words label)) b.0 in
+    let c = both (is_name_text name) (list_all is_name_text (option_to_list label)) b.0 in
     record { name = c.0; label = c.1; components = b.1; actions = a.1 }
 
 one_name : (text : List ℕ) → (is_name_text text && true) ≡ true → is_name_text text ≡ true
@@ -113,7 +114,7 @@ mark_words : (initial : Bool) → AreWords (mark_tokens initial)
 mark_words false = tt
 mark_words true = (keyword_word (codes "init") refl refl, tt)
 
-label_words : (label : Option (List ℕ)) → list_all is_name_text (optional_words label) ≡ true → AreWords (label_tokens label)
+label_words : (label : Option (List ℕ)) → list_all is_name_text (option_to_list label) ≡ true → AreWords (label_tokens label)
 label_words None h = tt
 label_words (Some label) h = (keyword_word (codes "alarm") refl refl, (named_word label (one_name label h), tt))
 

@@ -3,6 +3,7 @@ use Rattle.std.proofs.Common.{◌≡◌, ◌<◌, ◌+◌, ℕ, Bool, true, fals
 use Rattle.std.specs.Prelude.{⊤, codes, IsSome, bytes_eq, option_and_then, option_map, slice_index}
 use Rattle.std.specs.List.{AllZip, cons_option, flat_map, list_all}
 use Rattle.std.proofs.lemmas.Option.{same_Some}
+use Rattle.std.specs.Option.{option_or}
 use Rattle.des_base.proofs.PrintedLines.{counted_from-line}
 use Rattle.des_base.specs.CountedLines.{NumberedLine, counted_from, counted_lines, numbered, tokens_of}
 use Rattle.des_base.specs.Names.{is_name_text, place_by}
@@ -15,7 +16,7 @@ use Rattle.model_text.specs.declared.keyword.Keyword.{Keyword}
 use Rattle.model_text.specs.declared.keyword.Keyword.TheVariants.{Component, State, Trans, Event}
 use Rattle.model_text.specs.ModelLines.{ModelLine, component, state, transition, event, NamedPart, after_flags, after_label, after_name, component_line, event_line, is_header, keyword_line, keyword_of, model_line, parts_of_tokens, part_of_token, state_line, transition_line}
 use Rattle.model_text.specs.ModelNetwork.{components_of, model_lines, network_of_lines}
-use Rattle.model_text.specs.ModelFaults.{body, component_numbers, fault_of_lines, fault_or, first_code, first_fault, line_code, network_of, or_else, shape_code, start_fault, with_shape, words_of, is_homeless, is_double, is_unknown, is_past_limit}
+use Rattle.model_text.specs.ModelFaults.{body, component_numbers, fault_of_lines, fault_or, first_code, first_fault, line_code, network_of, shape_code, start_fault, with_shape, words_of, is_homeless, is_double, is_unknown, is_past_limit}
 use Rattle.model_text.specs.Growth.{grown}
 use Rattle.model_text.specs.GrowthLaw.{Grows, HasNames}
 use Rattle.model_text.specs.PrintedModel.{line_text, lines_of_network}
@@ -86,7 +87,7 @@ printed_counted lines = counted_from-line 35 1 (codes "des 1") lines refl refl
 no_start : (net : Net) (lines : List NumberedLine) → components_of (model_lines lines) ≡ net.components → place_by lacks_init net.components ≡ None → start_fault lines ≡ None
 no_start net lines same h = ap (λ cs. option_map (λ place. record { line = slice_index (component_numbers lines) place; code = 6 }) (place_by lacks_init cs)) same ∙ ap (option_map (λ place. record { line = slice_index (component_numbers lines) place; code = 6 })) h
 
-neither_fault : (a b : Option ModelFault) → a ≡ None → b ≡ None → or_else a b ≡ None
+neither_fault : (a b : Option ModelFault) → a ≡ None → b ≡ None → option_or a b ≡ None
 neither_fault a b h k = rw (h, k) refl
 
 -- a network that was read is printed as a text that says it
@@ -230,7 +231,7 @@ record IsNetworkRead (net : Net) : Type 0 where
   read : WasRead net
   started : place_by lacks_init net.components ≡ None
 
-both_none : (a b : Option ModelFault) → or_else a b ≡ None → (a ≡ None) × (b ≡ None)
+both_none : (a b : Option ModelFault) → option_or a b ≡ None → (a ≡ None) × (b ≡ None)
 both_none None b h = (refl, h)
 both_none (Some f) b h = cc
 
@@ -245,7 +246,7 @@ started_none f (Some k) h = cc
 counted_read : (lines : List NumberedLine) → fault_of_lines lines ≡ None → IsNetworkRead (network_of_lines (model_lines (body lines)))
 counted_read [] h = cc
 counted_read (header ∷ lines) h =
-    let parts = both_none (first_code [] lines) (start_fault lines) (header_none (is_header (tokens_of header.text)) (or_else (first_code [] lines) (start_fault lines)) (record { line = header.number; code = 1 }) h) in
+    let parts = both_none (first_code [] lines) (start_fault lines) (header_none (is_header (tokens_of header.text)) (option_or (first_code [] lines) (start_fault lines)) (record { line = header.number; code = 1 }) h) in
     record {
       read = read_through [] lines (record { draft = IsDraft-none; names = HasNames-none; order = IsAsRead-none }) parts.0;
       started = started_none (λ place. record { line = slice_index (component_numbers lines) place; code = 6 }) (place_by lacks_init (components_of (model_lines lines))) parts.1;

@@ -4,6 +4,7 @@ use Rattle.std.specs.Prelude.{All, is_some, map, slice_get, unwrap_or}
 use Rattle.std.specs.List.{AllByRecursion, list_all, list_any}
 use Rattle.std.proofs.lemmas.List.{map-append}
 use Rattle.std.proofs.lemmas.List.Elements.{All-nil, All-push, All-set, recursion_from_All}
+use Rattle.std.specs.Option.{option_to_list}
 use Rattle.des_base.specs.Names.{is_name_text, place_of}
 use Rattle.des_base.proofs.BoolLemmas.{both}
 use Rattle.des_net.specs.declared.parts.Part.{Part}
@@ -14,7 +15,6 @@ use Rattle.des_net.proofs.ComponentLemmas.{has_trans-absent}
 use Rattle.des_net.proofs.DraftLemmas.{change_at-at}
 use Rattle.model_text.specs.ModelLines.{ModelLine, component, state, transition, event}
 use Rattle.model_text.specs.ModelNetwork.{each_once}
-use Rattle.model_text.specs.ModelFaults.{optional_words}
 use Rattle.model_text.specs.Growth.{grown, grown_by_event, grown_by_transition, last_place, last_states, parts_by_name}
 use Rattle.model_text.specs.PrintedModel.{name_at}
 use Rattle.model_text.specs.ReadBack.{AreNew, HasNamedLabel, IsAsRead, IsInOrder, actions_taken}
@@ -89,13 +89,13 @@ by_places net now action (Some from) (Some to) d r e =
     })
 
 by_event : (net now : Net) (name : List ℕ) (label : Option (List ℕ)) (fault : Bool) (parts : Option (List Part)) → IsAsRead net
-    → cond (list_all is_name_text (name ∷ optional_words label)) (grown_by_event net name label fault parts) None ≡ Some now → IsAsRead now
-by_event net now name label fault None r e = absurd (nothing (list_all is_name_text (name ∷ optional_words label)) now e)
+    → cond (list_all is_name_text (name ∷ option_to_list label)) (grown_by_event net name label fault parts) None ≡ Some now → IsAsRead now
+by_event net now name label fault None r e = absurd (nothing (list_all is_name_text (name ∷ option_to_list label)) now e)
 by_event net now name label fault (Some parts) r e =
-    let a = is_added (list_all is_name_text (name ∷ optional_words label)) (event_refusal net name parts) (with_event net name parts label fault) now e in
+    let a = is_added (list_all is_name_text (name ∷ option_to_list label)) (event_refusal net name parts) (with_event net name parts label fault) now e in
     subst IsAsRead a.network (record {
       components = r.components;
-      events = All-push HasNamedLabel net.events (record { parts = parts; label = label; fault = fault }) r.events (both (is_name_text name) (list_all is_name_text (optional_words label)) a.named).1;
+      events = All-push HasNamedLabel net.events (record { parts = parts; label = label; fault = fault }) r.events (both (is_name_text name) (list_all is_name_text (option_to_list label)) a.named).1;
     })
 
 pub IsAsRead-grown : (net : Net) (line : ModelLine) (now : Net) → IsDraft net → IsAsRead net → grown net line ≡ Some now → IsAsRead now

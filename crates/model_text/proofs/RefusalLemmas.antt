@@ -18,7 +18,7 @@ use Rattle.model_text.specs.declared.refusal.LineRefusal.TheVariants as line
 use Rattle.model_text.specs.declared.part_name.PartName.{PartName}
 use Rattle.model_text.specs.Shapes.{part_said}
 use Rattle.model_text.specs.ModelLines.{ModelLine, component, state, transition, event, NamedPart}
-use Rattle.model_text.specs.ModelFaults.{has_repeated, stands_in, optional_words, words_of}
+use Rattle.model_text.specs.ModelFaults.{has_repeated, stands_in, words_of}
 use Rattle.model_text.specs.Refusals.{refusal_of_build}
 use Rattle.model_text.specs.Growth.{last_place, last_states, parts_by_name}
 use Rattle.model_text.specs.LineCodes.{first_of, has_placed, has_named, is_empty, code_by, code_by_tokens, IsCoded}
@@ -27,6 +27,7 @@ use Rattle.model_text.proofs.CodeLemmas.{limited, state_refusal-at, trans_refusa
 use Rattle.model_text.proofs.PartLemmas.{all_found, all_there, all_repeated}
 use Rattle.model_text.proofs.StepLemmas.{event_refusal-known, length_all}
 use Rattle.std.proofs.lemmas.Bool.{and_left, and_right}
+use Rattle.std.specs.Option.{option_to_list}
 
 -- a double, or a limit
 limited-coded : (double past : Bool) (r : BuildRefusal) → Answers {X = Unit {0}} (Err r) (limited double past) → IsCoded (first_of false true double false past) (refusal_of_build r)
@@ -185,7 +186,7 @@ module _ (net : Net) (name : List ℕ) (label : Option (List ℕ)) (fault : Bool
   actions = list_all is_name_text (map (λ (p : NamedPart). p.action) parts)
 
   abbrev front : Bool
-  front = is_name_text name && list_all is_name_text (optional_words label)
+  front = is_name_text name && list_all is_name_text (option_to_list label)
 
   abbrev double : Bool
   double = stands_in net.event_names name || has_repeated (map (λ (p : NamedPart). p.component) parts)
@@ -195,25 +196,25 @@ module _ (net : Net) (name : List ℕ) (label : Option (List ℕ)) (fault : Bool
 
   words : list_all is_name_text (words_of (event name label fault parts)) ≡ (front && part_words parts)
   words =
-      list_all-append is_name_text ((name ∷ optional_words label) ++ map (λ (p : NamedPart). p.component) parts) (map (λ (p : NamedPart). p.action) parts)
-      ∙ ap (λ b. b && actions) (list_all-append is_name_text (name ∷ optional_words label) (map (λ (p : NamedPart). p.component) parts))
+      list_all-append is_name_text ((name ∷ option_to_list label) ++ map (λ (p : NamedPart). p.component) parts) (map (λ (p : NamedPart). p.action) parts)
+      ∙ ap (λ b. b && actions) (list_all-append is_name_text (name ∷ option_to_list label) (map (λ (p : NamedPart). p.component) parts))
       ∙ and_assoc front comps actions
 
   unnamed_event : (front && part_words parts) ≡ false → code_by net (event name label fault parts) ≡ Some 3
   unnamed_event h = unnamed false (list_all is_name_text (words_of (event name label fault parts))) double (not (is_some (parts_by_name net parts))) past refl (words ∙ h)
 
   pub event-name_unnamed : is_name_text name ≡ false → code_by net (event name label fault parts) ≡ Some 3
-  event-name_unnamed h = unnamed_event (and_left front (part_words parts) (and_left (is_name_text name) (list_all is_name_text (optional_words label)) h))
+  event-name_unnamed h = unnamed_event (and_left front (part_words parts) (and_left (is_name_text name) (list_all is_name_text (option_to_list label)) h))
 
-  pub event-label_unnamed : list_all is_name_text (optional_words label) ≡ false → code_by net (event name label fault parts) ≡ Some 3
-  event-label_unnamed h = unnamed_event (and_left front (part_words parts) (and_right (is_name_text name) (list_all is_name_text (optional_words label)) h))
+  pub event-label_unnamed : list_all is_name_text (option_to_list label) ≡ false → code_by net (event name label fault parts) ≡ Some 3
+  event-label_unnamed h = unnamed_event (and_left front (part_words parts) (and_right (is_name_text name) (list_all is_name_text (option_to_list label)) h))
 
   pub event-part_unnamed : part_words parts ≡ false → code_by net (event name label fault parts) ≡ Some 3
   event-part_unnamed h = unnamed_event (and_right front (part_words parts) h)
 
-  module _ (called : is_name_text name ≡ true) (labelled : list_all is_name_text (optional_words label) ≡ true) (named : part_words parts ≡ true) where
+  module _ (called : is_name_text name ≡ true) (labelled : list_all is_name_text (option_to_list label) ≡ true) (named : part_words parts ≡ true) where
     well : list_all is_name_text (words_of (event name label fault parts)) ≡ true
-    well = words ∙ all_three (is_name_text name) (list_all is_name_text (optional_words label)) (part_words parts) called labelled named
+    well = words ∙ all_three (is_name_text name) (list_all is_name_text (option_to_list label)) (part_words parts) called labelled named
 
     -- where one of the parts isn't known
     pub event-unknown : (r : LineRefusal) → parts_by_name net parts ≡ None → IsCoded (first_of false true double true false) r → IsCoded (code_by net (event name label fault parts)) r
@@ -271,7 +272,7 @@ no_name code text line.Unknown h f = absurd h
 no_name code text line.Limit h f = absurd h
 no_name code text line.Memory h f = tt
 
-pub no_label : (code : Option ℕ) (label : Option (List ℕ)) (e : LineRefusal) → IsLabelled label (Err e) → (list_all is_name_text (optional_words label) ≡ false → code ≡ Some 3) → IsCoded code e
+pub no_label : (code : Option ℕ) (label : Option (List ℕ)) (e : LineRefusal) → IsLabelled label (Err e) → (list_all is_name_text (option_to_list label) ≡ false → code ≡ Some 3) → IsCoded code e
 no_label code label line.Shape h f = absurd h
 no_label code label line.Homeless h f = absurd h
 no_label code label line.Name h f = f h

@@ -7,6 +7,7 @@ use Rattle.std.proofs.lemmas.List.{map-append, length-map}
 use Rattle.std.proofs.lemmas.List.Elements.{recursion_from_All}
 use Rattle.std.proofs.lemmas.List.Sums.{sum_by-cons}
 use Rattle.std.proofs.lemmas.Option.{get_or_from_slice_get}
+use Rattle.std.specs.Option.{option_to_list}
 use Rattle.des_base.proofs.PlaceLemmas.{place-within}
 use Rattle.des_base.specs.Names.{place_of, is_name_text}
 use Rattle.des_net.specs.declared.parts.Part.{Part}
@@ -15,7 +16,7 @@ use Rattle.des_net.specs.Network.{Component as Automaton, Net, IsTransOf, no_com
 use Rattle.des_net.specs.Building.{IsDraft, IsDraftComponent, change_component, with_component, with_state, with_trans, with_event, state_refusal, event_refusal, has_trans, trans_count, is_known, repeats}
 use Rattle.model_text.specs.ModelLines.{ModelLine, component, state, transition, event, NamedPart}
 use Rattle.model_text.specs.ModelNetwork.{Section, NamedEvent, NamedTransition, last_lines, state_names_in, transitions_in, actions_in, component_of, event_of, numbered_transition}
-use Rattle.model_text.specs.ModelFaults.{is_same_transition, has_repeated, optional_words}
+use Rattle.model_text.specs.ModelFaults.{is_same_transition, has_repeated}
 use Rattle.model_text.specs.Growth.{grown, unless, last_place, parts_by_name, grown_by_transition, grown_by_event}
 use Rattle.model_text.specs.GrowthLaw.{HasNames, HasNamedParts}
 use Rattle.model_text.proofs.SectionLemmas.{on_last, with_line, on_last-push, last_lines-push, ends}
@@ -202,7 +203,7 @@ step-transition (s ∷ ss) events from action to d names =
 -- an event
 abbrev pub event_code : Net → List NamedEvent → List ℕ → Option (List ℕ) → List NamedPart → Option ℕ
 event_code net events name label parts =
-    outcome false (list_all is_name_text (name ∷ optional_words label ++ map (λ p. p.component) parts ++ map (λ p. p.action) parts))
+    outcome false (list_all is_name_text (name ∷ option_to_list label ++ map (λ p. p.component) parts ++ map (λ p. p.action) parts))
     (is_some (place_of name net.event_names) || has_repeated (map (λ p. p.component) parts))
     (not (list_all (knows net) parts)) (nat_le 4000 (length events) || nat_lt 16 (length parts))
 
@@ -224,21 +225,21 @@ length_all net (p ∷ ps) (q ∷ qs) h = ap suc (length_all net ps qs h.1)
 event-at : (sections : List Section) (events : List NamedEvent) (e : NamedEvent) (o : Option (List Part)) → IsDraft (network_from sections events) → HasNames (network_from sections events)
     → parts_by_name (network_from sections events) e.parts ≡ o
     → Step (event_code (network_from sections events) events e.name e.label e.parts)
-    (cond (list_all is_name_text (e.name ∷ optional_words e.label)) (grown_by_event (network_from sections events) e.name e.label e.fault o) None)
+    (cond (list_all is_name_text (e.name ∷ option_to_list e.label)) (grown_by_event (network_from sections events) e.name e.label e.fault o) None)
     (network_from sections (events ++ e ∷ []))
 event-at sections events e None d names h =
     let net = network_from sections events in
     Step-refused (event_code net events e.name e.label e.parts) _ _
-    (outcome-unknown false (list_all is_name_text (e.name ∷ optional_words e.label ++ map (λ (p : NamedPart). p.component) e.parts ++ map (λ (p : NamedPart). p.action) e.parts))
+    (outcome-unknown false (list_all is_name_text (e.name ∷ option_to_list e.label ++ map (λ (p : NamedPart). p.component) e.parts ++ map (λ (p : NamedPart). p.action) e.parts))
     (is_some (place_of e.name net.event_names) || has_repeated (map (λ (p : NamedPart). p.component) e.parts)) (not (list_all (knows net) e.parts))
     (nat_le 4000 (length events) || nat_lt 16 (length e.parts)) (ap not (all_lost net e.parts h)))
-    (none_either (list_all is_name_text (e.name ∷ optional_words e.label)))
+    (none_either (list_all is_name_text (e.name ∷ option_to_list e.label)))
 event-at sections events e (Some qs) d names h =
     let net = network_from sections events in
     let found = all_found net e.parts qs h in
     let m = with_event net e.name qs e.label e.fault in
-    let words = list_all is_name_text (e.name ∷ optional_words e.label) in
-    let named = all_named net names d.named (e.name ∷ optional_words e.label) e.parts qs found in
+    let words = list_all is_name_text (e.name ∷ option_to_list e.label) in
+    let named = all_named net names d.named (e.name ∷ option_to_list e.label) e.parts qs found in
     let repeated = all_repeated net e.parts qs found in
     let known = all_known net e.parts qs found in
     let many = length-map events (event_of (names_of sections) (automata_of sections)) in

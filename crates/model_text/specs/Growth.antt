@@ -1,13 +1,13 @@
 -- What one more line makes of the network of the lines before it: the builder's addition, where the line is accepted.
 use Rattle.std.specs.Prelude.{ℕ, ◌-◌, Bool, List, ◌∷◌, map, length, option_map, option_and_then, Option, Some, None, if◌then◌else◌}
 use Rattle.std.specs.List.{list_all}
+use Rattle.std.specs.Option.{option_to_list}
 use Rattle.des_base.specs.Names.{is_name_text, place_of}
 use Rattle.des_net.specs.declared.parts.Part.{Part}
 use Rattle.des_net.specs.declared.refusal.BuildRefusal.{BuildRefusal}
 use Rattle.des_net.specs.Network.{Net, component_at}
 use Rattle.des_net.specs.Building.{component_refusal, with_component, state_refusal, with_state, change_component, trans_refusal, with_trans, event_refusal, with_event}
 use Rattle.model_text.specs.ModelLines.{ModelLine, component, state, transition, event, NamedPart, all_some}
-use Rattle.model_text.specs.ModelFaults.{optional_words}
 
 -- the network, unless it is refused
 abbrev pub unless : Option BuildRefusal → Net → Option Net
@@ -54,7 +54,7 @@ grown net (state name initial) =
 grown net (transition from action to) =
     if is_name_text action then grown_by_transition net action (place_of from (last_states net)) (place_of to (last_states net)) else None
 grown net (event name label fault parts) =
-    if list_all is_name_text (name ∷ optional_words label) then grown_by_event net name label fault (parts_by_name net parts) else None
+    if list_all is_name_text (name ∷ option_to_list label) then grown_by_event net name label fault (parts_by_name net parts) else None
 
 -- the same by the tokens of a line
 abbrev pub grown_by_tokens : Net → Option ModelLine → Option Net

@@ -2,6 +2,7 @@
 use Rattle.std.specs.Prelude.{◌≡◌, ⊤, ℕ, ◌+◌, true, false, List, [], map, length, Option, None, Some, Result, Ok, Err, Vec}
 use Rattle.std.specs.declared.alloc.Global.{Global}
 use Rattle.std.specs.List.{list_all}
+use Rattle.std.specs.Option.{option_to_list}
 use Rattle.des_base.specs.Names.{is_name_text}
 use Rattle.des_base.specs.CountedLines.{NumberedLine}
 use Rattle.des_net.specs.Network.{Net}
@@ -12,7 +13,7 @@ use Rattle.model_text.specs.declared.refusal.LineRefusal.{LineRefusal}
 use Rattle.model_text.specs.declared.refusal.LineRefusal.TheVariants.{Shape, Name, Memory}
 use Rattle.model_text.specs.ModelLines.{ModelLine, parts_of_tokens}
 use Rattle.model_text.specs.ModelNetwork.{network_of_lines, model_lines}
-use Rattle.model_text.specs.ModelFaults.{optional_words, first_code}
+use Rattle.model_text.specs.ModelFaults.{first_code}
 use Rattle.model_text.specs.Growth.{grown_by_tokens}
 use Rattle.model_text.specs.LineCodes.{code_by_tokens, IsCoded}
 use Rattle.model_text.specs.Shapes.{part_said}
@@ -31,8 +32,8 @@ IsNamed text (Err refusal) = ⊥
 
 -- the same of a label, which an event need not have
 abbrev pub IsLabelled : Option (List ℕ) → Result (Option (List ℕ)) LineRefusal → Type 0
-IsLabelled label (Ok name) = (name ≡ label) × (list_all is_name_text (optional_words label) ≡ true)
-IsLabelled label (Err Name) = list_all is_name_text (optional_words label) ≡ false
+IsLabelled label (Ok name) = (name ≡ label) × (list_all is_name_text (option_to_list label) ≡ true)
+IsLabelled label (Err Name) = list_all is_name_text (option_to_list label) ≡ false
 IsLabelled label (Err Memory) = ⊤
 IsLabelled label (Err refusal) = ⊥
 

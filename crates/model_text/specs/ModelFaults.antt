@@ -1,7 +1,7 @@
 -- The first fault of a model text, by its line and the code of its kind.
 use Rattle.std.specs.Prelude.{ℕ, Bool, false, not, ◌&&◌, ◌||◌, List, [], ◌∷◌, ◌++◌, map, filter_map, length, option_map, Option, Some, None, bytes_eq, if◌then◌else◌, nat_le, nat_lt, is_some, slice_index, slice_index_or, sum_by, ⊤, ◌≡◌}
 use Rattle.std.specs.List.{list_all, list_any}
-use Rattle.std.specs.Option.{option_map_or}
+use Rattle.std.specs.Option.{option_map_or, option_to_list, option_or}
 use Rattle.des_base.specs.Names.{is_name_text, place_of, place_by}
 use Rattle.des_base.specs.CountedLines.{NumberedLine, counted_lines, tokens_of}
 use Rattle.des_net.specs.Network.{Net, no_component}
@@ -17,17 +17,12 @@ use Rattle.model_text.specs.ModelNetwork.{begins_component, sections, current, s
 abbrev pub stands_in : List (List ℕ) → List ℕ → Bool
 stands_in names text = is_some (place_of text names)
 
--- the word in a list by itself, or no word where there is none
-abbrev pub optional_words : Option (List ℕ) → List (List ℕ)
-optional_words None = []
-optional_words (Some word) = word ∷ []
-
 -- the words of a line that must be names
 abbrev pub words_of : ModelLine → List (List ℕ)
 words_of (component name) = name ∷ []
 words_of (state name initial) = name ∷ []
 words_of (transition from action to) = from ∷ action ∷ to ∷ []
-words_of (event name label fault parts) = name ∷ optional_words label ++ map (λ p. p.component) parts ++ map (λ p. p.action) parts
+words_of (event name label fault parts) = name ∷ option_to_list label ++ map (λ p. p.component) parts ++ map (λ p. p.action) parts
 
 -- a state or a transition before any component
 abbrev pub is_homeless : List ModelLine → ModelLine → Bool
@@ -123,16 +118,11 @@ abbrev pub start_fault : List NumberedLine → Option ModelFault
 start_fault lines =
     option_map (λ place. record { line = slice_index (component_numbers lines) place; code = 6 }) (place_by lacks_init (components_of (model_lines lines)))
 
--- the first fault, or the other where there is no first
-abbrev pub or_else : Option ModelFault → Option ModelFault → Option ModelFault
-or_else None other = other
-or_else (Some fault) other = Some fault
-
 -- the first fault of a model's counted lines
 abbrev pub fault_of_lines : List NumberedLine → Option ModelFault
 fault_of_lines [] = Some (record { line = 1; code = 1 })
 fault_of_lines (header ∷ lines) =
-    if is_header (tokens_of header.text) then or_else (first_code [] lines) (start_fault lines)
+    if is_header (tokens_of header.text) then option_or (first_code [] lines) (start_fault lines)
     else Some (record { line = header.number; code = 1 })
 
 -- comments in models begin with `#`

@@ -1,12 +1,13 @@
 -- When the text that is printed of a network reads back as that network.
 use Rattle.std.specs.Prelude.{◌≡◌, ⊤, ℕ, true, false, List, [], ◌∷◌, ◌++◌, map, All, None}
 use Rattle.std.specs.List.{list_all, list_any}
+use Rattle.std.specs.Option.{option_to_list}
 use Rattle.des_base.specs.Names.{is_name_text}
 use Rattle.des_net.specs.declared.parts.Trans.{Trans}
 use Rattle.des_net.specs.Network.{Component, Event, Net}
 use Rattle.des_net.specs.Building.{is_trans}
 use Rattle.model_text.specs.ModelNetwork.{each_once}
-use Rattle.model_text.specs.ModelFaults.{first_fault, network_of, optional_words}
+use Rattle.model_text.specs.ModelFaults.{first_fault, network_of}
 use Rattle.model_text.specs.PrintedModel.{model_text, name_at}
 
 -- none of these transitions is among those before it
@@ -25,7 +26,7 @@ pub record IsInOrder (c : Component) : Type 0 where
 
 -- a label is a name
 abbrev pub HasNamedLabel : Event → Type 0
-HasNamedLabel e = list_all is_name_text (optional_words e.label) ≡ true
+HasNamedLabel e = list_all is_name_text (option_to_list e.label) ≡ true
 
 -- what is true of a network that was read from a text
 pub record IsAsRead (net : Net) : Type 0 where

@@ -1,22 +1,22 @@
 // Marks on literals.
 ghost use Rattle.std.specs.Prelude.{◌≡◌, ℕ, ◌==◌, true, false, [], ◌<◌, ◌^◌, vec_len, OnOk, OnErr, slice_index_or, if◌then◌else◌};
-ghost use Rattle.proof_ledger.specs.Marks.{place_of, AreMarked};
+ghost use Rattle.prop_core.specs.LiteralNumbers.{literal_number};
+ghost use Rattle.proof_ledger.specs.Marks.{AreMarked};
 
 use des_base::Memory;
 use prop_core::Lit;
 
 // Where the mark of a literal stands.
 pub fn place(lit: Lit) -> usize
-    ensures place { result ≡ place_of lit }
+    ensures place { result ≡ literal_number lit }
     ensures small { result < 2 ^ 34 }
 {
-    let sign: usize = if lit.positive { 1 } else { 0 };
-    2 * lit.var as usize + sign
+    lit.number() as usize
 }
 
 // Whether the literal is marked.
 pub fn marked(marks: &[bool], lit: Lit) -> bool
-    ensures { result ≡ slice_index_or marks.now (place_of lit) false }
+    ensures { result ≡ slice_index_or marks.now (literal_number lit) false }
 {
     let place = place(lit);
     if place < marks.len() {

@@ -4,12 +4,12 @@ use Rattle.std.specs.Prelude.{◌⊎◌}
 use Rattle.std.specs.List.{list_any, list_all}
 use Rattle.std.proofs.lemmas.Bool.{and_parts, and_from, or_cases, or_right, or_from, cases_Bool}
 use Rattle.prop_core.specs.declared.lit.Lit.{Lit}
-use Rattle.prop_core.specs.Clauses.{negation, same_literal, is_true, is_false, is_open}
+use Rattle.prop_core.specs.Clauses.{negation, same_literal, is_true, is_false, is_open, AreConsistent}
 use Rattle.prop_core.specs.Derivation.{Standing, falsified, satisfied, unit, wide, standing, open_standing}
 use Rattle.prop_core.specs.Trail.{is_quiet, is_forced_by}
 use Rattle.prop_core.proofs.Entailed.{same_itself}
 use Rattle.prop_core.proofs.Standings.{open_standing-one, list_all-filter}
-use Rattle.prop_core.proofs.Literals.{same_is, negation_twice, not_self, open_parts, open_from, true_more, all_from, all_at, any_from, AreConsistent}
+use Rattle.prop_core.proofs.Literals.{same_is, negation_twice, not_self, open_parts, open_from, true_more, all_from, all_at, any_from}
 
 -- a clause is false
 pub falsified_from : (taken c : List Lit) → list_all (is_false taken) c ≡ true → standing taken c ≡ falsified

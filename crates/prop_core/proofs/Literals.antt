@@ -10,7 +10,7 @@ use Rattle.std.proofs.lemmas.List.Folds.{list_any_at}
 use Rattle.std.proofs.lemmas.List.Elements.{All-get_or, All-from_get_or}
 use Rattle.std.proofs.lemmas.Map.Keys.{apart_from_distinct, IsDistinct-from_apart, IsDistinct-cons}
 use Rattle.prop_core.specs.declared.lit.Lit.{Lit}
-use Rattle.prop_core.specs.Clauses.{negation, same_literal, is_true, is_false, is_open, HasValues}
+use Rattle.prop_core.specs.Clauses.{negation, same_literal, is_true, is_false, is_open, HasValues, AreConsistent}
 use Rattle.prop_core.specs.Trail.{has_var, HasVarsOnce, no_literal}
 use Rattle.prop_core.proofs.Entailed.{beq_is, same_itself}
 
@@ -215,10 +215,6 @@ once_cons x c e n = IsDistinct-cons nat_eq x.var (map (λ (l : Lit). l.var) c) (
 pub once_none : HasVarsOnce []
 unfolding IsDistinct
 once_none = tt
-
--- no literal is both true and false
-abbrev pub AreConsistent : List Lit → Type 0
-AreConsistent taken = (l : Lit) → is_true taken l ≡ true → is_false taken l ≡ false
 
 pub once_consistent : (literals : List Lit) → HasVarsOnce literals → AreConsistent literals
 once_consistent literals n l e =

@@ -2,6 +2,7 @@
 use Rattle.std.proofs.Common.{◌≡◌, ℕ, List, [], ◌∷◌, ◌++◌, refl, true, false}
 use Rattle.prop_core.specs.declared.lit.Lit.{Lit}
 use Rattle.prop_core.specs.Clauses.{Clause}
+use Rattle.prop_core.specs.LiteralNumbers.{literal_number, numbered_literal}
 use Rattle.prop_core.specs.Derivation.{derive, Derivation, derives, fails, unknown_clause, two_open, hints_end, clause_numbered}
 
 abbrev yes : ℕ → Lit
@@ -61,3 +62,20 @@ false_before_true = refl
 -- and one with an open literal beside them is skipped.
 true_before_open : from_five (yes 1 ∷ yes 2 ∷ []) (yes 1 ∷ no 1 ∷ []) (5 ∷ []) ≡ fails 1 hints_end
 true_before_open = refl
+
+-- ---- literals as numbers
+
+first_negated : literal_number (no 0) ≡ 0
+first_negated = refl
+
+first_itself : literal_number (yes 0) ≡ 1
+first_itself = refl
+
+fourth_itself : literal_number (yes 3) ≡ 7
+fourth_itself = refl
+
+seventh_number : numbered_literal 7 ≡ yes 3
+seventh_number = refl
+
+sixth_number : numbered_literal 6 ≡ no 3
+sixth_number = refl

@@ -1,5 +1,5 @@
 -- Literals, clauses and assignments, as in propositional logic.
-use Rattle.std.specs.Prelude.{ℕ, Bool, not, ◌&&◌, ◌==◌, List, IsTrue, ◌<◌, All, slice_index_or, false, Contains}
+use Rattle.std.specs.Prelude.{◌≡◌, ℕ, Bool, true, not, ◌&&◌, ◌==◌, List, IsTrue, ◌<◌, All, slice_index_or, false, Contains}
 use Rattle.std.specs.Bool.{beq}
 use Rattle.std.specs.List.{list_any, AllByRecursion}
 use Rattle.prop_core.specs.declared.lit.Lit.{Lit}
@@ -51,6 +51,10 @@ is_false taken l = is_true taken (negation l)
 -- and open where neither is.
 abbrev pub is_open : List Lit → Lit → Bool
 is_open taken l = not (is_true taken l) && not (is_false taken l)
+
+-- no literal is both true and false
+abbrev pub AreConsistent : List Lit → Type 0
+AreConsistent taken = (l : Lit) → is_true taken l ≡ true → is_false taken l ≡ false
 
 -- the clause has no literals but negations of these
 abbrev pub NegatesOnly : List Lit → Clause → Type 0

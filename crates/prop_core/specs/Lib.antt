@@ -1,4 +1,5 @@
 pub mod Clauses
+pub mod LiteralNumbers
 pub mod Derivation
 pub mod PieceList
 pub mod ClauseStore

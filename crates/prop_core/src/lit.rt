@@ -1,6 +1,7 @@
 // A literal.
-ghost use Rattle.std.specs.Prelude.{◌≡◌, ◌<◌};
+ghost use Rattle.std.specs.Prelude.{◌≡◌, ◌<◌, ◌^◌};
 ghost use Rattle.prop_core.specs.Clauses.{negation};
+ghost use Rattle.prop_core.specs.LiteralNumbers.{literal_number, numbered_literal};
 
 use des_base::VAR_LIMIT;
 
@@ -41,6 +42,25 @@ impl Lit {
         Lit {
             var: self.var,
             positive: !self.positive,
+        }
+    }
+
+    /// Its number: twice its variable, and one more where it is the variable itself. So a list can keep something of each literal.
+    pub fn number(self) -> u64
+        ensures value { result ≡ literal_number self }
+        ensures small { result < 2 ^ 33 }
+    {
+        let sign: u64 = if self.positive { 1 } else { 0 };
+        2 * self.var as u64 + sign
+    }
+
+    /// The literal of this number.
+    pub fn numbered(number: u32) -> Lit
+        ensures { result ≡ numbered_literal number }
+    {
+        Lit {
+            var: number / 2,
+            positive: number % 2 == 1,
         }
     }
 }

@@ -3,13 +3,13 @@ use Rattle.std.proofs.Common.{◌≡◌, ℕ, Bool, true, false, not, ◌&&◌, 
 use Rattle.des_base.proofs.Elements.{here_first, here_later}
 use Rattle.des_base.specs.Names.{place_of}
 use Rattle.log_order.specs.Adding.{names_of}
-use Rattle.log_order.specs.Log.{Log}
+use Rattle.log_order.specs.Log.{Log, id_of}
 use Rattle.log_clauses.specs.Decoded.{is_false, comes, entries_at}
 use Rattle.prop_core.specs.VariableNames.{Name}
 use Rattle.replay.specs.Explanation.{Entry}
 use Rattle.replay.specs.Matching.{order_of}
 use Rattle.replay.specs.Traced.{word_of}
-use Rattle.run_decode.specs.Decoding.{name_at, shown_steps}
+use Rattle.run_decode.specs.Decoding.{shown_steps}
 
 -- a false alarm has no event
 pub shown_word : (log : Log) (event : ℕ → Option ℕ) (dropped : ℕ → Bool) (order : List ℕ) → ((i : ℕ) → Contains order i → dropped i ≡ true → event i ≡ None) → word_of (shown_steps log event dropped order) ≡ filter_map event order
@@ -24,12 +24,12 @@ shown_word log event dropped (i ∷ order) none = by (dropped i) refl (event i) 
     by false e (Some x) f h later = rw (e, f) (ap (λ xs. x ∷ xs) later)
 
 -- the alarms that are shown, where each is found by its name
-pub shown_order : (log : Log) (event : ℕ → Option ℕ) (dropped : ℕ → Bool) (order : List ℕ) → ((i : ℕ) → Contains order i → place_of (name_at log i) (names_of log.alarms) ≡ Some i) →
+pub shown_order : (log : Log) (event : ℕ → Option ℕ) (dropped : ℕ → Bool) (order : List ℕ) → ((i : ℕ) → Contains order i → place_of (id_of log.alarms i) (names_of log.alarms) ≡ Some i) →
     order_of log (shown_steps log event dropped order) ≡ map (λ i. record { alarm = i; real = not (dropped i) }) (filter (λ i. dropped i || is_some (event i)) order)
 shown_order log event dropped [] found = refl
 shown_order log event dropped (i ∷ order) found = by (dropped i) refl (event i) refl (found i (here_first i order i refl)) (shown_order log event dropped order (λ j in'. found j (here_later i order j in')))
   where
-    by : (b : Bool) → dropped i ≡ b → (o : Option ℕ) → event i ≡ o → place_of (name_at log i) (names_of log.alarms) ≡ Some i → order_of log (shown_steps log event dropped order) ≡ map (λ j. record { alarm = j; real = not (dropped j) }) (filter (λ j. dropped j || is_some (event j)) order) →
+    by : (b : Bool) → dropped i ≡ b → (o : Option ℕ) → event i ≡ o → place_of (id_of log.alarms i) (names_of log.alarms) ≡ Some i → order_of log (shown_steps log event dropped order) ≡ map (λ j. record { alarm = j; real = not (dropped j) }) (filter (λ j. dropped j || is_some (event j)) order) →
         order_of log (shown_steps log event dropped (i ∷ order)) ≡ map (λ j. record { alarm = j; real = not (dropped j) }) (filter (λ j. dropped j || is_some (event j)) (i ∷ order))
     by true e o f place later = rw (e, place) (ap (λ (xs : List Entry). record { alarm = i; real = false } ∷ xs) later
         ∙ ap (λ b. record { alarm = i; real = not b } ∷ map (λ j. record { alarm = j; real = not (dropped j) }) (filter (λ j. dropped j || is_some (event j)) order)) (sym e))

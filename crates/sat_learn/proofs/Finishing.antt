@@ -8,7 +8,7 @@ use Rattle.std.proofs.lemmas.Bool.{eqb-true, eq-eqb, and_from, or_cases, or_righ
 use Rattle.std.proofs.lemmas.Bool.Decides.{nat_tests}
 use Rattle.std.proofs.lemmas.List.Sums.{sum_by-take-drop}
 use Rattle.prop_core.specs.declared.lit.Lit.{Lit}
-use Rattle.prop_core.specs.Clauses.{Clause, negation, same_literal, is_true, is_false}
+use Rattle.prop_core.specs.Clauses.{Clause, negation, same_literal, is_true, is_false, AreConsistent}
 use Rattle.prop_core.specs.Derivation.{Derives, clause_numbered}
 use Rattle.prop_core.specs.Trail.{no_literal, has_var, HasVarsOnce}
 use Rattle.prop_core.proofs.Entailed.{same_itself}
@@ -16,7 +16,7 @@ use Rattle.prop_core.proofs.Literals.{same_is, negation_twice, not_self, true_at
 use Rattle.sat_prop.specs.TrailState.{TrailState, IsJustified}
 use Rattle.sat_prop.specs.Levels.{level_at, IsLastDecision, IsGreatestLevel}
 use Rattle.sat_prop.proofs.Justifying.{justified_once}
-use Rattle.sat_learn.specs.Seen.{AreConsistent, IsRefuted, negated_seen, level_seen, is_known_var, IsFound}
+use Rattle.sat_learn.specs.Seen.{IsRefuted, negated_seen, level_seen, is_known_var, IsFound}
 use Rattle.sat_learn.specs.Learnt.{IsLearnt}
 
 -- the literals that make a clause false

@@ -2,7 +2,7 @@
 use Rattle.std.specs.Prelude.{◌≡◌, ℕ, ◌<◌, ◌≤◌, zero, suc, Bool, true, false, List, [], ◌∷◌, drop, length, reverse, Option, Some, count_by, is_none, slice_index_or, if◌then◌else◌}
 use Rattle.std.specs.List.{list_any}
 use Rattle.prop_core.specs.declared.lit.Lit.{Lit}
-use Rattle.prop_core.specs.Clauses.{Clause, negation, is_true, is_false}
+use Rattle.prop_core.specs.Clauses.{Clause, negation, is_true, AreConsistent}
 use Rattle.prop_core.specs.Derivation.{follow, derives, clause_numbered}
 use Rattle.prop_core.specs.Trail.{has_var}
 use Rattle.sat_prop.specs.TrailState.{TrailState, literal_at, reason_at}
@@ -16,10 +16,6 @@ is_seen seen place = slice_index_or seen place false
 -- how many places from one on are seen
 abbrev pub count_seen : ℕ → List Bool → ℕ
 count_seen start seen = count_by (λ b. b) (drop start seen)
-
--- no literal is both true and false
-abbrev pub AreConsistent : List Lit → Type 0
-AreConsistent taken = (l : Lit) → is_true taken l ≡ true → is_false taken l ≡ false
 
 -- the literals of the places that are seen are taken as true, and some more
 pub record Covers (literals also : List Lit) (seen : List Bool) (taken : List Lit) : Type 0 where

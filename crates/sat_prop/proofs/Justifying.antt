@@ -7,10 +7,10 @@ use Rattle.std.proofs.lemmas.Bool.{and_parts, eqb-true, eq-eqb, or_cases, or_lef
 use Rattle.std.proofs.lemmas.List.Elements.{All-push, All-take, All-weaker}
 use Rattle.std.proofs.lemmas.Map.Steps.{length-le_from_distinct_below}
 use Rattle.prop_core.specs.declared.lit.Lit.{Lit}
-use Rattle.prop_core.specs.Clauses.{Clause, same_literal, is_false, is_open, HasValues}
+use Rattle.prop_core.specs.Clauses.{Clause, same_literal, is_false, is_open, HasValues, AreConsistent}
 use Rattle.prop_core.specs.Derivation.{unit, standing, clause_numbered}
 use Rattle.prop_core.specs.Trail.{is_quiet, no_literal, has_var, HasVarsOnce}
-use Rattle.prop_core.proofs.Literals.{differs, below_at, below_var, once_from_apart, AreConsistent, once_consistent}
+use Rattle.prop_core.proofs.Literals.{differs, below_at, below_var, once_from_apart, once_consistent}
 use Rattle.prop_core.proofs.Forcing.{unit_forces}
 use Rattle.sat_prop.specs.TrailState.{TrailState, IsReason, IsJustified, IsKnownClause, AreKnown}
 use Rattle.sat_prop.specs.Quiet.{stands, AreQuiet, WasQuietBefore, JoinsQuietly}

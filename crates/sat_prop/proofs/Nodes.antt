@@ -9,7 +9,8 @@ use Rattle.sat_prop.specs.declared.watch_lists.Watch.{Watch}
 use Rattle.sat_prop.specs.declared.watch_lists.Node.{Node}
 use Rattle.sat_prop.specs.declared.watch_lists.Starts.{Starts}
 use Rattle.sat_prop.specs.declared.watch_lists.TheConstants.{NO_WATCH}
-use Rattle.sat_prop.specs.Watches.{AreWatchLists, Puts, watches_from, watches_of, nexts_of, node_at, watch_at, watch_of, watching, as_link, begin_of, code_of, literal_of, twin_of, with_start}
+use Rattle.prop_core.specs.LiteralNumbers.{literal_number, numbered_literal}
+use Rattle.sat_prop.specs.Watches.{AreWatchLists, Puts, watches_from, watches_of, nexts_of, node_at, watch_at, watch_of, watching, as_link, begin_of, twin_of, with_start}
 use Rattle.sat_prop.proofs.WatchLists.{lists_pushed, lists_put}
 
 -- ---- numbers of watches
@@ -39,12 +40,12 @@ pub pair_more : (number : ℕ) → number % 2 ≡ 0 → (number + 1 + 1) % 2 ≡
 pair_more number h = let e : number + 1 + 1 ≡ number + 2 = omega arith in ap (λ (k : ℕ). k % 2) e ∙ add-mod_right number 2 ∙ h
 
 -- the number of a literal gives it back
-pub code_back : (l : Lit) → literal_of (code_of l) ≡ l
+pub code_back : (l : Lit) → numbered_literal (literal_number l) ≡ l
 code_back l = by l.positive l.var
   where
-    by : (b : Bool) (v : ℕ) → literal_of (code_of (record { var = v; positive = b })) ≡ record { var = v; positive = b }
+    by : (b : Bool) (v : ℕ) → numbered_literal (literal_number (record { var = v; positive = b })) ≡ record { var = v; positive = b }
     by true v = let q : (2 * v + 1) / 2 ≡ v = omega arith in let r : (2 * v + 1) % 2 ≡ 1 = omega arith in rw (q, r) refl
-    by false v = let q : 2 * v / 2 ≡ v = omega arith in let r : 2 * v % 2 ≡ 0 = omega arith in rw (q, r) refl
+    by false v = let q : (2 * v + 0) / 2 ≡ v = omega arith in let r : (2 * v + 0) % 2 ≡ 0 = omega arith in rw (q, r) refl
 
 -- ---- watches and links of nodes
 
@@ -98,7 +99,7 @@ nexts_set nodes i n = map-set (λ (m : Node). as_link m.next) nodes i n
 
 -- a node at the front of the list of its literal
 abbrev pub at_front : List Starts → ℕ → Lit → Node
-at_front starts clause l = record { clause = clause; code = code_of l; next = begin_of starts l }
+at_front starts clause l = record { clause = clause; code = literal_number l; next = begin_of starts l }
 
 -- it keeps the watch of that literal
 abbrev pub watch_with : ℕ → ℕ → Lit → Watch

@@ -4,9 +4,9 @@ use Rattle.std.specs.Prelude.{slice_set, slice_index}
 use Rattle.std.proofs.lemmas.Grind.{common_steps}
 use Rattle.std.proofs.lemmas.Bool.{cases_Bool}
 use Rattle.prop_core.specs.declared.lit.Lit.{Lit}
-use Rattle.prop_core.specs.Clauses.{is_true, is_open}
+use Rattle.prop_core.specs.Clauses.{is_true, is_open, AreConsistent}
 use Rattle.prop_core.specs.Trail.{no_literal, has_var}
-use Rattle.prop_core.proofs.Literals.{literal_of, literal_is, differs, true_at, place_found, has_back, AreConsistent}
+use Rattle.prop_core.proofs.Literals.{literal_of, literal_is, differs, true_at, place_found, has_back}
 use Rattle.sat_prop.specs.TrailState.{literal_at, value_by, StandsAt}
 use Rattle.sat_prop.specs.Kept.{ArePlaces}
 use Rattle.sat_prop.proofs.Fronts.{split_last}

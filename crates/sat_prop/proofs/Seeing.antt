@@ -6,11 +6,11 @@ use Rattle.std.proofs.lemmas.Grind.{common_steps}
 use Rattle.std.proofs.lemmas.Bool.{and_parts, and_from, or_left, or_right}
 use Rattle.std.proofs.lemmas.List.Folds.{list_all-append, list_any-append}
 use Rattle.prop_core.specs.declared.lit.Lit.{Lit}
-use Rattle.prop_core.specs.Clauses.{negation, same_literal, is_true, is_false, is_open}
+use Rattle.prop_core.specs.Clauses.{negation, same_literal, is_true, is_false, is_open, AreConsistent}
 use Rattle.prop_core.specs.Derivation.{standing, unit}
 use Rattle.prop_core.specs.Trail.{is_quiet, no_literal}
 use Rattle.prop_core.proofs.Entailed.{same_itself, beq_is}
-use Rattle.prop_core.proofs.Literals.{literal_of, literal_is, true_at, all_from, all_at, open_from, AreConsistent}
+use Rattle.prop_core.proofs.Literals.{literal_of, literal_is, true_at, all_from, all_at, open_from}
 use Rattle.prop_core.proofs.Forcing.{forced_unit, quiet_true, quiet_two}
 use Rattle.sat_prop.specs.TrailState.{value_by}
 use Rattle.sat_prop.specs.Kept.{IsSeenUpTo}

@@ -5,10 +5,10 @@ use Rattle.std.specs.List.{list_any, list_all}
 use Rattle.std.proofs.lemmas.Grind.{common_steps}
 use Rattle.std.proofs.lemmas.Bool.{cases_Bool, cases_eq, and_from, and_parts, or_left, or_right, or_cases}
 use Rattle.prop_core.specs.declared.lit.Lit.{Lit}
-use Rattle.prop_core.specs.Clauses.{Clause, negation, same_literal, is_true, is_false}
+use Rattle.prop_core.specs.Clauses.{Clause, negation, same_literal, is_true, is_false, AreConsistent}
 use Rattle.prop_core.specs.Derivation.{standing, clause_numbered}
 use Rattle.prop_core.specs.Trail.{no_literal, is_forced_by, is_quiet}
-use Rattle.prop_core.proofs.Literals.{negation_twice, true_at, true_more, true_longer, place_found, all_from, all_at, open_from, AreConsistent}
+use Rattle.prop_core.proofs.Literals.{negation_twice, true_at, true_more, true_longer, place_found, all_from, all_at, open_from}
 use Rattle.prop_core.proofs.Forcing.{forced_stands, quiet_true, quiet_two}
 use Rattle.sat_prop.specs.TrailState.{TrailState, literal_at, reason_at}
 use Rattle.sat_prop.specs.Levels.{level_of}

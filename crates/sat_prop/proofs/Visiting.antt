@@ -7,11 +7,11 @@ use Rattle.std.proofs.lemmas.Grind.{common_steps}
 use Rattle.std.proofs.lemmas.Bool.{cases_eq, and_from, ne_eqb}
 use Rattle.std.proofs.lemmas.List.Folds.{list_any-append}
 use Rattle.prop_core.specs.declared.lit.Lit.{Lit}
-use Rattle.prop_core.specs.Clauses.{Clause, HasValues, negation, same_literal, is_true, is_false}
+use Rattle.prop_core.specs.Clauses.{Clause, HasValues, negation, same_literal, is_true, is_false, AreConsistent}
 use Rattle.prop_core.specs.Derivation.{standing, falsified, clause_numbered}
 use Rattle.prop_core.specs.Trail.{no_literal, is_forced_by}
 use Rattle.prop_core.proofs.Entailed.{same_itself}
-use Rattle.prop_core.proofs.Literals.{same_back, true_at, below_at, open_parts, AreConsistent}
+use Rattle.prop_core.proofs.Literals.{same_back, true_at, below_at, open_parts}
 use Rattle.prop_core.proofs.Forcing.{forced_stands}
 use Rattle.sat_prop.specs.TrailState.{TrailState, literal_at, IsKnownClause}
 use Rattle.sat_prop.specs.Changes.{IsFront, Propagates, with_literal, with_clause}

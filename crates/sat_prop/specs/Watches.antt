@@ -1,7 +1,8 @@
 -- Clauses that are watched at literals (Moskewicz and others, "Chaff: engineering an efficient SAT solver", 2001): each watch stands in the list of its literal, linked by numbers, or waits.
-use Rattle.std.specs.Prelude.{◌≡◌, ℕ, ◌+◌, ◌-◌, ◌*◌, ◌/◌, ◌%◌, ◌<◌, ◌==◌, true, false, suc, Bool, List, [], ◌∷◌, ◌++◌, length, map, replicate, Option, Some, None, nat_eq, slice_index_or, slice_set, if◌then◌else◌}
+use Rattle.std.specs.Prelude.{◌≡◌, ℕ, ◌+◌, ◌-◌, ◌%◌, ◌<◌, ◌==◌, true, false, suc, Bool, List, [], ◌∷◌, ◌++◌, length, map, replicate, Option, Some, None, nat_eq, slice_index_or, slice_set, if◌then◌else◌}
 use Rattle.std.specs.List.{list_any, IsDistinct}
 use Rattle.prop_core.specs.declared.lit.Lit.{Lit}
+use Rattle.prop_core.specs.LiteralNumbers.{numbered_literal}
 use Rattle.prop_core.specs.Trail.{no_literal}
 use Rattle.sat_prop.specs.declared.watch_lists.Watch.{Watch}
 use Rattle.sat_prop.specs.declared.watch_lists.Node.{Node}
@@ -27,17 +28,9 @@ watch_at watches number = slice_index_or watches number no_watch
 abbrev pub twin_of : ℕ → ℕ
 twin_of number = if number % 2 == 0 then number + 1 else number - 1
 
--- A literal as a number: twice its variable, and one more where it is the variable itself.
-abbrev pub code_of : Lit → ℕ
-code_of l = if l.positive then 2 * l.var + 1 else 2 * l.var
-
--- the literal that has this number
-abbrev pub literal_of : ℕ → Lit
-literal_of code = record { var = code / 2; positive = code % 2 == 1 }
-
 -- the watch that is kept in the node of a number
 abbrev pub watch_of : ℕ → Node → Watch
-watch_of number node = record { clause = node.clause; lit = literal_of node.code; twin = twin_of number }
+watch_of number node = record { clause = node.clause; lit = numbered_literal node.code; twin = twin_of number }
 
 -- the watches that are kept in nodes, of which the first has this number
 abbrev pub watches_from : ℕ → List Node → List Watch

@@ -1,5 +1,6 @@
 ghost use Rattle.std.specs.Prelude.{◌≡◌, ℕ, ◌+◌, ◌-◌, ◌<◌, ◌≤◌, List, ◌++◌, ◌∷◌, [], length, max, slice_set, vec_len, vec_capacity, OnOk, OnErr, IfSome, IfNone};
-ghost use Rattle.sat_prop.specs.Watches.{Links, Drains, IsNext, IsOpened, Puts, as_link, begin_of, code_of, literal_of, no_starts, twin_of, with_start, node_at, nexts_of, watch_at, with_pair};
+ghost use Rattle.prop_core.specs.LiteralNumbers.{literal_number};
+ghost use Rattle.sat_prop.specs.Watches.{Links, Drains, IsNext, IsOpened, Puts, as_link, begin_of, no_starts, twin_of, with_start, node_at, nexts_of, watch_at, with_pair};
 
 use des_base::{Memory, VAR_LIMIT};
 use prop_core::Lit;
@@ -48,7 +49,8 @@ impl Model for WatchLists {
     ghost use Rattle.std.specs.Prelude.{◌≡◌, ◌+◌, ◌*◌, ◌%◌, ◌≤◌, length, vec_len, vec_capacity};
     ghost use Rattle.des_base.specs.declared.TheConstants.{VAR_LIMIT};
     ghost use Rattle.sat_prop.specs.declared.watch_lists.TheConstants.{NO_WATCH};
-    ghost use Rattle.sat_prop.specs.Watches.{WatchState, AreWatchLists, watches_of, nexts_of};
+    ghost use Rattle.prop_core.specs.LiteralNumbers.{literal_number};
+ghost use Rattle.sat_prop.specs.Watches.{WatchState, AreWatchLists, watches_of, nexts_of};
 
     ghost Value = { WatchState };
 
@@ -125,7 +127,7 @@ impl WatchLists {
         let node = self.nodes[number as usize];
         Watch {
             clause: node.clause,
-            lit: literal_of(node.code),
+            lit: Lit::numbered(node.code),
             twin: twin(number),
         }
     }
@@ -166,26 +168,12 @@ impl WatchLists {
 // How many watches there may be.
 const WATCH_LIMIT: usize = NO_WATCH as usize;
 
-// The number of a literal: twice its variable, and one more where it is the variable itself.
+// The number of a literal, as a node keeps it.
 fn code_of(lit: Lit) -> u32
     requires { lit.var < VAR_LIMIT }
-    ensures { result ≡ code_of lit }
+    ensures { result ≡ literal_number lit }
 {
-    if lit.positive {
-        2 * lit.var + 1
-    } else {
-        2 * lit.var
-    }
-}
-
-// The literal of a number.
-fn literal_of(code: u32) -> Lit
-    ensures { result ≡ literal_of code }
-{
-    Lit {
-        var: code / 2,
-        positive: code % 2 == 1,
-    }
+    lit.number() as u32
 }
 
 // The number of the other watch of a pair.
@@ -260,7 +248,7 @@ fn push_node(nodes: &mut Vec<Node>, starts: &mut Vec<Starts>, clause: u32, lit: 
     requires limit { length starts.old.items ≤ VAR_LIMIT }
     requires few { vec_len nodes.old < NO_WATCH }
     requires room { vec_len nodes.old < vec_capacity nodes.old }
-    ensures nodes { nodes.new.items ≡ nodes.old.items ++ record { clause = clause; code = code_of lit; next = begin_of starts.old.items lit } ∷ [] }
+    ensures nodes { nodes.new.items ≡ nodes.old.items ++ record { clause = clause; code = literal_number lit; next = begin_of starts.old.items lit } ∷ [] }
     ensures starts { starts.new.items ≡ with_start starts.old.items lit (length nodes.old.items) }
     ensures room { vec_capacity nodes.old ≤ vec_capacity nodes.new }
 {
@@ -281,7 +269,7 @@ fn link(nodes: &mut Vec<Node>, starts: &mut Vec<Starts>, number: u32, lit: Lit)
     requires known { lit.var < length starts.old.items }
     requires limit { length starts.old.items ≤ VAR_LIMIT }
     requires number { number < length nodes.old.items }
-    ensures nodes { nodes.new.items ≡ slice_set nodes.old.items number (record { clause = (node_at nodes.old.items number).clause; code = code_of lit; next = begin_of starts.old.items lit }) }
+    ensures nodes { nodes.new.items ≡ slice_set nodes.old.items number (record { clause = (node_at nodes.old.items number).clause; code = literal_number lit; next = begin_of starts.old.items lit }) }
     ensures starts { starts.new.items ≡ with_start starts.old.items lit number }
     ensures room { vec_capacity nodes.new ≡ vec_capacity nodes.old }
 {

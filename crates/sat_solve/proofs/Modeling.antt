@@ -4,11 +4,11 @@ use Rattle.std.specs.Prelude.{◌⊎◌, Result, Ok, Err, IfOk}
 use Rattle.std.specs.List.{list_any, list_all, AllByRecursion}
 use Rattle.std.proofs.lemmas.Bool.{and_parts, and_cases, cases_Bool, or_right}
 use Rattle.prop_core.specs.declared.lit.Lit.{Lit}
-use Rattle.prop_core.specs.Clauses.{Clause, negation, same_literal, is_true, is_false, is_open, literal_true, clause_true, value_in, HasValues, AllClausesTrue, AllLiteralsTrue}
+use Rattle.prop_core.specs.Clauses.{Clause, negation, same_literal, is_true, is_false, is_open, literal_true, clause_true, value_in, HasValues, AllClausesTrue, AllLiteralsTrue, AreConsistent}
 use Rattle.prop_core.specs.Derivation.{standing}
 use Rattle.prop_core.specs.Trail.{is_quiet}
 use Rattle.prop_core.proofs.Entailed.{same_itself}
-use Rattle.prop_core.proofs.Literals.{literal_of, literal_is, below_at, any_from, AreConsistent}
+use Rattle.prop_core.proofs.Literals.{literal_of, literal_is, below_at, any_from}
 use Rattle.prop_core.proofs.Forcing.{falsified_from}
 use Rattle.proof_ledger.specs.Book.{BookEntry, clauses_of}
 use Rattle.sat_prop.specs.TrailState.{TrailState}

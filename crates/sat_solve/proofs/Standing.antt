@@ -8,7 +8,7 @@ use Rattle.std.proofs.lemmas.List.Sums.{sum_by-take-drop}
 use Rattle.std.proofs.lemmas.List.Elements.{All-from_get_or, All-get_or, All-push, All-take}
 use Rattle.std.proofs.lemmas.Option.{get_or_from_slice_get}
 use Rattle.prop_core.specs.declared.lit.Lit.{Lit}
-use Rattle.prop_core.specs.Clauses.{Clause, same_literal, is_true, is_false, is_open, HasValues}
+use Rattle.prop_core.specs.Clauses.{Clause, same_literal, is_true, is_false, is_open, HasValues, AreConsistent}
 use Rattle.prop_core.specs.Trail.{no_literal}
 use Rattle.prop_core.proofs.Literals.{below_at, place_found, true_at, all_at}
 use Rattle.sat_prop.specs.TrailState.{TrailState, literal_at, reason_at, IsJustified}
@@ -18,7 +18,7 @@ use Rattle.sat_prop.specs.Kept.{IsTrailState}
 use Rattle.sat_prop.proofs.Fronts.{split_last, front_at, front_take, front_length, number_of}
 use Rattle.sat_prop.proofs.Justifying.{room_for, justified_once}
 use Rattle.sat_learn.proofs.Closing.{false_stands}
-use Rattle.sat_solve.specs.Solving.{AssumedFirst, IsServing, IsUnder, IsNext, AreAssumed, AreCompatible}
+use Rattle.sat_solve.specs.Solving.{AssumedFirst, IsServing, IsUnder, IsNext, AreAssumed}
 use Rattle.sat_solve.proofs.Booking.{smaller_grown}
 
 abbrev no_reason : Option ℕ
@@ -147,7 +147,7 @@ under_kept assumed vars level t u s same k = record {
 }
 
 -- at level 0 any assumptions may come
-pub under_none : (assumed : List Lit) (vars : ℕ) (t : TrailState) → level_of t.reasons ≡ 0 → length t.reasons ≡ length t.literals → HasValues vars assumed → AreCompatible assumed → IsUnder assumed vars t
+pub under_none : (assumed : List Lit) (vars : ℕ) (t : TrailState) → level_of t.reasons ≡ 0 → length t.reasons ≡ length t.literals → HasValues vars assumed → AreConsistent assumed → IsUnder assumed vars t
 under_none assumed vars t e same b c = record { first = λ k h n. absurd (level_none t.reasons e k (omega arith) n); below = b; compatible = c }
 
 -- where an assumption is not true, each decision is an assumption
@@ -196,5 +196,5 @@ not_true true e = cc
 not_true false e = refl
 
 -- where none of the assumptions is false by them, they are compatible
-pub compatible_from : (assumed : List Lit) → list_all (λ l. not (is_false assumed l)) assumed ≡ true → AreCompatible assumed
+pub compatible_from : (assumed : List Lit) → list_all (λ l. not (is_false assumed l)) assumed ≡ true → AreConsistent assumed
 compatible_from assumed e l h = not_true (is_false assumed l) (all_at (λ (x : Lit). not (is_false assumed x)) assumed l e h)

@@ -10,10 +10,10 @@ use Rattle.std.proofs.lemmas.Option.{slice_get_within, get_or_from_slice_get}
 use Rattle.des_base.specs.declared.TheConstants.{VAR_LIMIT}
 use Rattle.prop_core.specs.declared.lit.Lit.{Lit}
 use Rattle.std.proofs.Math.Nat.{le-max_left, le-max_right, max-le, max-eq_left, max-eq_right}
-use Rattle.prop_core.specs.Clauses.{Clause, is_true, is_open, HasValues}
+use Rattle.prop_core.specs.Clauses.{Clause, is_true, is_open, HasValues, AreConsistent}
 use Rattle.prop_core.specs.Trail.{no_literal, has_var}
 use Rattle.prop_core.proofs.Entailed.{same_itself}
-use Rattle.prop_core.proofs.Literals.{literal_of, open_parts, open_from, open_var, open_shorter, place_found, true_at, true_more, has_at, below_at, AreConsistent}
+use Rattle.prop_core.proofs.Literals.{literal_of, open_parts, open_from, open_var, open_shorter, place_found, true_at, true_more, has_at, below_at}
 use Rattle.sat_order.specs.Waiting.{waits}
 use Rattle.sat_prop.specs.TrailState.{TrailState, literal_at, value_by, StandsAt}
 use Rattle.sat_prop.specs.Levels.{level_of, level_at, IsCut}

@@ -3,7 +3,7 @@ use Rattle.std.specs.Prelude.{◌≡◌, ℕ, ◌+◌, ◌-◌, ◌*◌, ◌<◌
 use Rattle.std.specs.List.{list_all, AllByRecursion, prefix_len, zip}
 use Rattle.des_base.specs.declared.TheConstants.{VAR_LIMIT}
 use Rattle.prop_core.specs.declared.lit.Lit.{Lit}
-use Rattle.prop_core.specs.Clauses.{Clause, negation, is_true, is_false, is_open, value_in, HasValues}
+use Rattle.prop_core.specs.Clauses.{Clause, negation, is_true, is_open, value_in, HasValues, AreConsistent}
 use Rattle.proof_ledger.specs.Book.{BookEntry, learnt, final, clauses_of}
 use Rattle.proof_ledger.specs.Fresh.{IsFreshClause}
 use Rattle.sat_order.specs.Rank.{OrderState, KeepsRanks}
@@ -50,10 +50,6 @@ pub record IsUnreserved {R : Type 0} (old new : SolverState R) (asked : ℕ) : T
   pub same : new ≡ record old { assignment = new.assignment }
   pub values : KeepsValues old.assignment new.assignment asked
 
--- no two assumptions are negations of each other
-abbrev pub AreCompatible : List Lit → Type 0
-AreCompatible assumed = (l : Lit) → is_true assumed l ≡ true → is_false assumed l ≡ false
-
 -- each clause is attached
 abbrev pub AllJoined : List Clause → List ℕ → Type 0
 AllJoined clauses attached = (n : ℕ) → n < length clauses → Contains attached (n + 1)
@@ -78,7 +74,7 @@ pub record IsServing (vars spare : ℕ) (t : TrailState) : Type 0 where
 pub record IsUnder (assumed : List Lit) (vars : ℕ) (t : TrailState) : Type 0 where
   pub first : AssumedFirst assumed t.literals t.reasons
   pub below : HasValues vars assumed
-  pub compatible : AreCompatible assumed
+  pub compatible : AreConsistent assumed
 
 -- each open variable waits
 abbrev pub AreWaiting : List Bool → List Lit → ℕ → Type 0

@@ -1,12 +1,12 @@
 // A solver, which adopts the clauses of a book and searches on them under assumptions.
 ghost use Rattle.std.specs.Prelude.{◌≡◌, ℕ, ◌<◌, ◌≤◌, ◌+◌, ◌-◌, [], length, take, drop, true, false, IfOk, OnOk, OnErr};
 ghost use Rattle.std.specs.List.{AllByRecursion};
-ghost use Rattle.prop_core.specs.Clauses.{HasValues};
+ghost use Rattle.prop_core.specs.Clauses.{HasValues, AreConsistent};
 ghost use Rattle.proof_ledger.specs.Book.{clauses_of};
 ghost use Rattle.sat_order.specs.Rank.{IsRank, IsRanked};
 ghost use Rattle.sat_prop.specs.Changes.{IsFront};
 ghost use Rattle.sat_solve.specs.Searching.{IsSearched, HasPut, IsAnswer};
-ghost use Rattle.sat_solve.specs.Solving.{AreCompatible, HasReserved, IsUnreserved, KeepsSize};
+ghost use Rattle.sat_solve.specs.Solving.{HasReserved, IsUnreserved, KeepsSize};
 
 use crate::advice::Advice;
 use crate::answer::Answer;
@@ -119,7 +119,7 @@ impl<R: Fn(u32) -> u64> Solver<R> {
     ) -> Result<Answer, Memory>
         requires adopted { self.old.adopted ≡ clauses_of book.old.entries }
         requires known { HasValues self.old.vars assumptions.now }
-        requires compatible { AreCompatible assumptions.now }
+        requires compatible { AreConsistent assumptions.now }
         ensures searched { IsSearched book.old.entries book.new.entries budget.old budget.new }
         ensures put { IfOk result (HasPut book.old.entries book.new.entries) }
         ensures answer { IfOk result (IsAnswer self.new.assignment book.new.entries assumptions.now budget.new) }

@@ -16,6 +16,20 @@ fn turns_literals(rt: HostRuntime) {
 }
 
 #[test]
+fn numbers_literals(rt: HostRuntime) {
+    let rows = [
+        (0, false, 0),
+        (0, true, 1),
+        (3, true, 7),
+        (1_073_741_823, true, 2_147_483_647),
+    ];
+    for (var, positive, number) in rows {
+        let lit = Lit::new(var, positive);
+        assert!(rt; lit.number() == number && Lit::numbered(number as u32) == lit, "{var}");
+    }
+}
+
+#[test]
 fn lists_literals(rt: HostRuntime) {
     let both = [Lit::new(3, true), Lit::new(3, false)];
     let mut lits = LitList::new(rt.alloc());

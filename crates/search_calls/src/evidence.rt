@@ -1,9 +1,8 @@
 // What the book and the assignment must show for an answer.
 ghost use Rattle.std.specs.Prelude.{◌≡◌, ◌≤◌, true, not, length};
 ghost use Rattle.std.specs.List.{list_all};
-ghost use Rattle.prop_core.specs.Clauses.{is_true, is_false, HasValues};
+ghost use Rattle.prop_core.specs.Clauses.{is_true, is_false, HasValues, AreConsistent};
 ghost use Rattle.proof_ledger.specs.Book.{clauses_of};
-ghost use Rattle.sat_solve.specs.Solving.{AreCompatible};
 
 use proof_ledger::{Entry, Ledger};
 use prop_core::{Assignment, ClauseId, Clauses, Lit};
@@ -33,7 +32,7 @@ pub fn are_below(literals: &[Lit], vars: u32) -> bool
 
 // Whether no two of the literals are negations of each other.
 pub fn are_compatible(literals: &[Lit]) -> bool
-    ensures { result ≡ true → AreCompatible literals.now }
+    ensures { result ≡ true → AreConsistent literals.now }
 {
     none_negated(literals, literals)
 }

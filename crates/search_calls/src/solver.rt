@@ -1,9 +1,8 @@
 // A search on a book is asked questions whose answers are known from elsewhere, and has to show its answers.
 ghost use Rattle.std.specs.Prelude.{◌≡◌, ◌≤◌, [], length};
-ghost use Rattle.prop_core.specs.Clauses.{HasValues};
+ghost use Rattle.prop_core.specs.Clauses.{HasValues, AreConsistent};
 ghost use Rattle.proof_ledger.specs.Book.{clauses_of};
 ghost use Rattle.sat_order.specs.Rank.{IsRank};
-ghost use Rattle.sat_solve.specs.Solving.{AreCompatible};
 
 use crate::ample::got;
 use crate::evidence::{

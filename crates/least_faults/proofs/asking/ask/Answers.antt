@@ -11,12 +11,11 @@ use Rattle.least_faults.specs.Parts.{AreReady, BelongTo, built_of, names_of}
 use Rattle.least_faults.specs.declared.parts.Parts.{Parts}
 use Rattle.log_order.specs.Log.{Log, IsValidLog}
 use Rattle.proof_ledger.specs.Book.{BookEntry, axioms_of}
-use Rattle.prop_core.specs.Clauses.{HasValues, value_in}
+use Rattle.prop_core.specs.Clauses.{HasValues, value_in, AreConsistent}
 use Rattle.prop_core.specs.declared.lit.Lit.{Lit}
 use Rattle.run_decode.specs.QuestionAxioms.{BuiltQuestion}
 use Rattle.sat_solve.specs.Searching.{IsAnswer, IsModel, HasPut}
 use Rattle.sat_solve.specs.declared.answer.Answer.{Answer}
-use Rattle.sat_solve.specs.Solving.{AreCompatible}
 
 posed : {R : Type 0} (may : R → ℕ → Type 0) (gives : R → ℕ → ℕ → Type 0) (parts : Parts R) (book : List BookEntry) (net : Net) (log : Log) (bound : Option ℕ) (assumed : List Lit) → AreReady may gives parts book →
     AreAssumptions parts.code.code parts.counter bound assumed → BelongTo net log parts → IsNetwork net → IsValidLog log → IsPosed (names_of parts) (axioms_of book) assumed parts.step.net log parts.step.steps bound
@@ -40,7 +39,7 @@ solve-requires-clause-compatible g c =
     let belong = belong_still c.args.question.net.now c.args.question.log.now c.args.parts.now parts c.assumptions.ensures.kept c.requires.belong in
     let asks = posed _ _ parts c.assumptions.new.book.entries c.args.question.net.now c.args.question.log.now c.args.within c.in_ok-assumed.assumed.items c.assumptions.ensures.ready
     c.in_ok-assumed.ensures.assumed.assumptions belong c.is_built.ensures.network c.is_whole.ensures.whole.valid in
-    subst AreCompatible (sym c.as_slice.ensures.value) (compatible c.in_ok-assumed.assumed.items asks.faithful.consistent)
+    subst AreConsistent (sym c.as_slice.ensures.value) (compatible c.in_ok-assumed.assumed.items asks.faithful.consistent)
 
 pub returns-in-Unsat-clause-asked : goal.returns-in-Unsat-clause-asked
 returns-in-Unsat-clause-asked g c =

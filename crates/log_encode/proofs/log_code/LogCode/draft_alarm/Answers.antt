@@ -1,4 +1,4 @@
-use Rattle.std.proofs.Common.{◌≡◌, ◌∙◌, ◌+◌, ◌++◌, ◌<◌, ◌≤◌, ◌-◌, ℕ, List, length, refl, sym, ap, subst, arith, All}
+use Rattle.std.proofs.Common.{◌≡◌, ◌∙◌, ◌++◌, ◌<◌, ◌≤◌, ℕ, List, length, refl, sym, ap, subst, arith, All}
 use Rattle.des_net.specs.Network.{Net}
 use Rattle.log_clauses.specs.Additions.{alarm_added}
 use Rattle.log_encode.proofs.CallLemmas.{drafting, taken_are, draft_known_events, draft_rests, draft_width, ready_alarm, draft_brings, ready_change, draft_of}
