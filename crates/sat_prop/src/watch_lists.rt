@@ -49,8 +49,7 @@ impl Model for WatchLists {
     ghost use Rattle.std.specs.Prelude.{◌≡◌, ◌+◌, ◌*◌, ◌%◌, ◌≤◌, length, vec_len, vec_capacity};
     ghost use Rattle.des_base.specs.declared.TheConstants.{VAR_LIMIT};
     ghost use Rattle.sat_prop.specs.declared.watch_lists.TheConstants.{NO_WATCH};
-    ghost use Rattle.prop_core.specs.LiteralNumbers.{literal_number};
-ghost use Rattle.sat_prop.specs.Watches.{WatchState, AreWatchLists, watches_of, nexts_of};
+    ghost use Rattle.sat_prop.specs.Watches.{WatchState, AreWatchLists, watches_of, nexts_of};
 
     ghost Value = { WatchState };
 

@@ -25,7 +25,10 @@ fn numbers_literals(rt: HostRuntime) {
     ];
     for (var, positive, number) in rows {
         let lit = Lit::new(var, positive);
-        assert!(rt; lit.number() == number && Lit::numbered(number as u32) == lit, "{var}");
+        assert!(rt;
+            lit.number() == number && Lit::numbered(number as u32) == lit,
+            "{var}"
+        );
     }
 }
 
