@@ -11,7 +11,7 @@ use Rattle.prop_core.specs.VariableNames.{Name}
 use Rattle.replay.specs.Traced.{word_of}
 use Rattle.report.specs.Replies.{EventsKnown}
 use Rattle.run_decode.specs.QuestionAxioms.{BuiltQuestion}
-use Rattle.diagnose_cli.specs.Diagnosed.{IsDiagnosed}
+use Rattle.inquiries.specs.Diagnosed.{IsDiagnosed}
 
 pub known : (names : List (ℕ × Name)) (first : BuiltQuestion) (since : List BookEntry) (net : Net) (log : Log) (n budget : ℕ) (found : Found) → IsFound names first since net log n budget found → EventsKnown net found
 known names first since net log n budget (Explained best) h = run_known net (word_of best.run) h.given.explains.run

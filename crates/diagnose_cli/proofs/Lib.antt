@@ -18,10 +18,8 @@ pub mod RunLengths
 pub mod MatchedNames
 pub mod RepliesReplay
 pub mod Diagnosing
-pub mod Formulas
-pub mod LastFinals
-pub mod Refutations
 pub mod ProofsReadBack
+pub mod ProofAnswers
 pub mod CaseAnswers
 pub mod Taking
 pub mod GenerateAnswers

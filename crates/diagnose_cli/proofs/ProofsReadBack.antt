@@ -18,8 +18,9 @@ use Rattle.log_order.specs.Log.{Log as AlarmLog}
 use Rattle.proof_ledger.specs.Book.{BookEntry}
 use Rattle.diagnose_cli.specs.declared.ending.Kind.{Kind}
 use Rattle.diagnose_cli.specs.Replies.{TellsRefutation, reply_of_proof}
-use Rattle.diagnose_cli.specs.Formula.{question_formula}
-use Rattle.diagnose_cli.specs.Proof.{IsCheckedText, IsRefuted, bound_word, proof_head}
+use Rattle.inquiries.specs.Formula.{question_formula}
+use Rattle.inquiries.specs.Refuted.{IsRefuted}
+use Rattle.diagnose_cli.specs.ProofText.{IsCheckedText, bound_word, proof_head}
 
 -- ---- behind the comment
 

@@ -26,7 +26,7 @@ use Rattle.run_decode.specs.QuestionAxioms.{question_axioms, question_built}
 use Rattle.diagnose_cli.specs.declared.command.Command.TheVariants.{Check, Diagnose}
 use Rattle.diagnose_cli.specs.declared.ending.Kind.{Kind}
 use Rattle.diagnose_cli.specs.Endings.{status_of_kind}
-use Rattle.diagnose_cli.specs.Diagnosed.{IsDiagnosed}
+use Rattle.inquiries.specs.Diagnosed.{IsDiagnosed}
 use Rattle.diagnose_cli.specs.Replies.{kind_of_found, reply_of_checked, AnswersQuestion, SaysDiagnosed, Says}
 use Rattle.diagnose_cli.specs.Outcomes.{Outcome, Tells}
 use Rattle.diagnose_cli.specs.Rows.{AreTold, Asks, TellsLeast, TellsMany, TellsUndecided}

@@ -2,14 +2,13 @@ pub mod Transcripts
 pub mod Endings
 pub mod Refusals
 pub mod Files
-pub mod Diagnosed
-pub mod Formula
-pub mod Proof
+pub mod ProofText
 pub mod Texts
 pub mod Commands
 pub mod Replies
 pub mod SessionReplies
 pub mod Due
+pub mod Asking
 pub mod Outcomes
 pub mod Exact
 pub mod Puts

@@ -33,9 +33,10 @@ use Rattle.diagnose_cli.specs.declared.command.Command.{Command}
 use Rattle.diagnose_cli.specs.declared.command.Command.TheVariants.{Trace, Show, Replay, Check, Diagnose, PrintCnf, PrintProof, GenerateModel, GenerateLog, Bench}
 use Rattle.diagnose_cli.specs.declared.ending.Kind.{Kind}
 use Rattle.diagnose_cli.specs.declared.ending.Kind.TheVariants.{Done, Rejected, Absent, Undecided, Many, Nothing}
-use Rattle.diagnose_cli.specs.Diagnosed.{IsDiagnosed}
-use Rattle.diagnose_cli.specs.Formula.{IsFormulaOf, question_formula}
-use Rattle.diagnose_cli.specs.Proof.{IsCheckedText, IsRefuted, proof_head}
+use Rattle.inquiries.specs.Diagnosed.{IsDiagnosed}
+use Rattle.inquiries.specs.Formula.{IsFormulaOf, question_formula}
+use Rattle.inquiries.specs.Refuted.{IsRefuted}
+use Rattle.diagnose_cli.specs.ProofText.{IsCheckedText, proof_head}
 use Rattle.diagnose_cli.specs.Texts.{limit_of, run}
 
 -- a run that the network can perform is the yes of `trace`; one that gets stuck is rejected

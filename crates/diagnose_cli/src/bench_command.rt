@@ -9,14 +9,14 @@ ghost use Rattle.diagnose_cli.specs.Transcripts.{UnlessMemory, once};
 ghost use Rattle.diagnose_cli.specs.Replies.{first_line};
 ghost use Rattle.diagnose_cli.specs.Due.{Answers, Closes};
 
+use crate::asking::{Limits, reply_to};
 use crate::command::Command;
-use crate::diagnose_command::reply_to;
 use crate::ending::Reply;
-use crate::question::{Case, Limits};
 use crate::stop::Stop;
 use alarm_session::question_size;
 use des_base::Memory;
 use gen_plant::generate;
+use inquiries::{Case, LeastFaults};
 use least_faults::MOST_SIZE;
 use proof_ledger::Ledger;
 use std::alloc::Global;
@@ -60,7 +60,10 @@ fn bench(
     if size > MOST_SIZE {
         return Err(Stop::Large(size));
     }
-    let reply = reply_to(alloc, case, limits, book)?;
+    let asked = LeastFaults {
+        budget: limits.budget,
+    };
+    let reply = reply_to(alloc, case, limits.steps, &asked, book)?;
     Ok(sum_up(alloc, units, case.log.alarms(), size, &reply)?)
 }
 

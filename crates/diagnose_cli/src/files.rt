@@ -11,11 +11,12 @@ ghost use Rattle.replay.specs.Traced.{word_of};
 ghost use Rattle.diagnose_cli.specs.Texts.{log, script, IsCase, IsPlan, StopsAtFirstTwo, fault_of_model, fault_of_log, fault_of_script, fault_of_run, fault_of_cnf, fault_of_lrat};
 ghost use Rattle.diagnose_cli.specs.Files.{loads, Fetches, IsReadAs, StopsIn};
 
-use crate::question::{Case, Limits};
+use crate::asking::Limits;
 use crate::session_rows::Plan;
 use crate::stop::{Stop, stop_of_cnf, stop_of_lrat};
 use des_base::{LoadFault, Shelf, WordList};
 use des_net::Network;
+use inquiries::Case;
 use log_csv::{Script, read_log, read_script};
 use log_order::AlarmLog;
 use model_text::read_model;

@@ -5,6 +5,7 @@
 //! the status that it answers.
 #![tactic(auto)]
 
+mod asking;
 mod bench_command;
 mod check_command;
 mod cnf_command;
@@ -13,12 +14,9 @@ mod diagnose_command;
 mod disk_shelf;
 mod ending;
 mod files;
-mod formula;
 mod generate_command;
 mod out_sink;
 mod proof_command;
-mod question;
-mod refuting;
 mod replay_command;
 mod run;
 mod session_command;

@@ -9,22 +9,19 @@ ghost use Rattle.diagnose_cli.specs.Rows.{TraceRow, ShowRow, ReplayRow, CheckRow
 ghost use Rattle.diagnose_cli.specs.Run.{Does, LeavesAlone, Ran, is_question};
 ghost use Rattle.diagnose_cli.specs.Transcripts.{UnlessMemory, once};
 
+use crate::asking::{Limits, ask_case};
 use crate::bench_command::bench_command;
 use crate::check_command::check_command;
-use crate::cnf_command::cnf_command;
 use crate::command::{Command, command_of};
-use crate::diagnose_command::diagnose_command;
 use crate::ending::{Reply, put_once};
-use crate::formula::Within;
 use crate::generate_command::{generate_log_command, generate_model_command};
-use crate::proof_command::proof_command;
-use crate::question::Limits;
 use crate::replay_command::replay_command;
 use crate::session_command::session_command;
 use crate::show_command::show_command;
 use crate::stop::Stop;
 use crate::trace_command::trace_command;
 use des_base::{Shelf, Sink, WordList};
+use inquiries::{FormulaWithin, LeastFaults, Refutation};
 use proof_ledger::Ledger;
 use std::alloc::Global;
 
@@ -104,13 +101,13 @@ fn answer<F: Shelf>(
         Command::Replay(steps) => replay_command(alloc, words, shelf, steps),
         Command::Check => check_command(alloc, words, shelf),
         Command::Diagnose { steps, budget } => {
-            diagnose_command(alloc, words, shelf, Limits { steps, budget }, book)
+            ask_case(alloc, words, shelf, steps, &LeastFaults { budget }, book)
         }
         Command::PrintCnf { steps, bound } => {
-            cnf_command(alloc, words, shelf, Within { steps, bound }, book)
+            ask_case(alloc, words, shelf, steps, &FormulaWithin { bound }, book)
         }
         Command::PrintProof { steps, budget } => {
-            proof_command(alloc, words, shelf, Limits { steps, budget }, book)
+            ask_case(alloc, words, shelf, steps, &Refutation { budget }, book)
         }
         Command::GenerateModel { units, start } => generate_model_command(alloc, units, start),
         Command::GenerateLog { units, start } => generate_log_command(alloc, units, start),

@@ -14,10 +14,10 @@ ghost use Rattle.log_csv.specs.ScriptText.{script_of};
 ghost use Rattle.model_text.specs.ModelFaults.{network_of};
 ghost use Rattle.sat_order.specs.Rank.{IsRanked};
 
+use crate::asking::Limits;
 use crate::command::Command;
 use crate::ending::put_once;
 use crate::files::fetch_plan;
-use crate::question::Limits;
 use crate::session_rows::{Broken, Plan, tell_rows};
 use crate::stop::Stop;
 use alarm_session::{Session, question_size};

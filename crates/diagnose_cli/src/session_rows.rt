@@ -12,7 +12,7 @@ ghost use Rattle.diagnose_cli.specs.declared.session_rows.Broken.TheVariants.{Me
 ghost use Rattle.report.specs.Replies.{EventsKnown, text_of_found, text_of_refused};
 ghost use Rattle.sat_order.specs.Rank.{IsRanked};
 
-use crate::question::Limits;
+use crate::asking::Limits;
 use alarm_session::{Session, Told};
 use des_base::{Memory, Sink};
 use des_net::Network;

@@ -23,15 +23,15 @@ returns-in-Check-clause-due g c =
 
 pub returns-in-Diagnose-clause-due : goal.returns-in-Diagnose-clause-due
 returns-in-Diagnose-clause-due g c =
-    due_alike (loads g.F.Shelf.held g.F.Shelf.faults c.args.shelf.now c.diagnose_command.new.shelf) c.args.words.now (Diagnose c.in-Diagnose.steps c.in-Diagnose.budget) c.args.command c.diagnose_command.new.book.entries c.diagnose_command.result (sym c.in-Diagnose.is) c.diagnose_command.ensures.due
+    due_alike (loads g.F.Shelf.held g.F.Shelf.faults c.args.shelf.now c.ask_case.new.shelf) c.args.words.now (Diagnose c.in-Diagnose.steps c.in-Diagnose.budget) c.args.command c.ask_case.new.book.entries c.ask_case.result (sym c.in-Diagnose.is) c.ask_case.ensures.due
 
 pub returns-in-PrintCnf-clause-due : goal.returns-in-PrintCnf-clause-due
 returns-in-PrintCnf-clause-due g c =
-    due_alike (loads g.F.Shelf.held g.F.Shelf.faults c.args.shelf.now c.cnf_command.new.shelf) c.args.words.now (PrintCnf c.in-PrintCnf.steps c.in-PrintCnf.bound) c.args.command c.cnf_command.new.book.entries c.cnf_command.result (sym c.in-PrintCnf.is) c.cnf_command.ensures.due
+    due_alike (loads g.F.Shelf.held g.F.Shelf.faults c.args.shelf.now c.ask_case-in-PrintCnf.new.shelf) c.args.words.now (PrintCnf c.in-PrintCnf.steps c.in-PrintCnf.bound) c.args.command c.ask_case-in-PrintCnf.new.book.entries c.ask_case-in-PrintCnf.result (sym c.in-PrintCnf.is) c.ask_case-in-PrintCnf.ensures.due
 
 pub returns-in-PrintProof-clause-due : goal.returns-in-PrintProof-clause-due
 returns-in-PrintProof-clause-due g c =
-    due_alike (loads g.F.Shelf.held g.F.Shelf.faults c.args.shelf.now c.proof_command.new.shelf) c.args.words.now (PrintProof c.in-PrintProof.steps c.in-PrintProof.budget) c.args.command c.proof_command.new.book.entries c.proof_command.result (sym c.in-PrintProof.is) c.proof_command.ensures.due
+    due_alike (loads g.F.Shelf.held g.F.Shelf.faults c.args.shelf.now c.ask_case-in-PrintProof.new.shelf) c.args.words.now (PrintProof c.in-PrintProof.steps c.in-PrintProof.budget) c.args.command c.ask_case-in-PrintProof.new.book.entries c.ask_case-in-PrintProof.result (sym c.in-PrintProof.is) c.ask_case-in-PrintProof.ensures.due
 
 pub returns-in-GenerateModel-clause-due : goal.returns-in-GenerateModel-clause-due
 returns-in-GenerateModel-clause-due g c =

@@ -4,7 +4,7 @@ use Rattle.diagnose_cli.specs.Commands.{command_of}
 use Rattle.diagnose_cli.specs.Due.{Due, HasNotBegun}
 use Rattle.diagnose_cli.specs.Files.{loads}
 use Rattle.diagnose_cli.specs.declared.command.Command.TheVariants.{Session}
-use Rattle.diagnose_cli.specs.declared.question.Limits.{Limits}
+use Rattle.diagnose_cli.specs.declared.asking.Limits.{Limits}
 use Rattle.diagnose_cli.proofs.Once.{speaks_once}
 use Rattle.diagnose_cli.proofs.SessionAnswers.{not_begun, plan_speaks, plan_stops}
 use Rattle.diagnose_cli.proofs.session_command.session_command.Goals as goal

@@ -1,0 +1,95 @@
+-- What a reply tells of a refutation, by what was refuted.
+use Rattle.std.proofs.Common.{◌≡◌, ◌∙◌, ℕ, zero, suc, List, Option, Some, None, ap, subst}
+use Rattle.std.specs.Prelude.{All, codes}
+use Rattle.des_net.specs.Network.{Net}
+use Rattle.inquiries.specs.Refuted.{IsRefuted, IsRefutedBelow, IsRefutedFor, IsRefutedWithin}
+use Rattle.inquiries.specs.declared.refutation.Refuted.TheVariants.{Within, Nothing, Undecided as NotRefuted}
+use Rattle.least_faults.specs.declared.answer.Found.{Found}
+use Rattle.least_faults.specs.declared.answer.Found.TheVariants.{Explained, Absent, Many, Undecided}
+use Rattle.log_order.specs.Log.{Log as AlarmLog}
+use Rattle.proof_ledger.specs.Book.{BookEntry}
+use Rattle.proof_ledger.specs.declared.checker.ProofStep.{ProofStep}
+use Rattle.proof_text.specs.PrintedText.{ReadsBack, steps_text}
+use Rattle.proof_text.specs.ProofNumbers.{NumbersAscend, HasNoZero}
+use Rattle.diagnose_cli.specs.declared.ending.Kind.{Kind}
+use Rattle.diagnose_cli.specs.declared.ending.Kind.TheVariants.{Nothing as NothingToSay}
+use Rattle.diagnose_cli.specs.Replies.{TellsBelow, TellsProof, TellsRefutation, reply_of_found, reply_of_proof}
+use Rattle.diagnose_cli.proofs.ProofsReadBack.{tells_refutation}
+
+same_steps : (b bound : Option ℕ) (s steps : List ProofStep) → Within bound steps ≡ Within b s → s ≡ steps
+same_steps b bound s steps is = cc
+
+same_bound : (b bound : Option ℕ) (s steps : List ProofStep) → Within bound steps ≡ Within b s → bound ≡ b
+same_bound b bound s steps is = cc
+
+module _ (net : Net) (log : AlarmLog) (n : ℕ) (book : List BookEntry) where
+  -- ---- a proof
+
+  module _ (bound : Option ℕ) (steps : List ProofStep) where
+    fine_within : (b : Option ℕ) → IsRefutedWithin net log n b book (Within bound steps) → NumbersAscend 0 steps × All HasNoZero steps
+    fine_within b h =
+        let same = same_steps b bound h.steps steps h.is in
+        (subst (λ (s : List ProofStep). NumbersAscend 0 s) same h.ascend, subst (λ (s : List ProofStep). All HasNoZero s) same h.above)
+
+    fine_below : (faults : ℕ) → IsRefutedBelow net log n faults book (Within bound steps) → NumbersAscend 0 steps × All HasNoZero steps
+    fine_below zero h = cc
+    fine_below (suc k) h = fine_within (Some k) h
+
+    -- its steps can be printed
+    pub fine_steps : (found : Found) → IsRefutedFor net log n book found (Within bound steps) → NumbersAscend 0 steps × All HasNoZero steps
+    fine_steps (Explained best) h = fine_below best.faults h
+    fine_steps Absent h = fine_within None h
+    fine_steps (Many best) h = fine_within (Some 255) h
+    fine_steps (Undecided lo best) h = cc
+
+    module _ (reads : ReadsBack steps (steps_text steps)) (reply : Kind × List ℕ) (is : reply ≡ reply_of_proof bound steps) where
+      told_within : (b : Option ℕ) → IsRefutedWithin net log n b book (Within bound steps) → TellsRefutation net log n b book reply
+      told_within b h =
+          tells_refutation net log n b book steps reply (subst (λ (s : List ProofStep). IsRefuted net log n b book s) (same_steps b bound h.steps steps h.is) h.refuted) reads
+          (is ∙ ap (λ (o : Option ℕ). reply_of_proof o steps) (same_bound b bound h.steps steps h.is))
+
+      told_below : (faults : ℕ) → IsRefutedBelow net log n faults book (Within bound steps) → TellsBelow net log n faults book reply
+      told_below zero h = cc
+      told_below (suc k) h = told_within (Some k) h
+
+      pub told_proof : (found : Found) → IsRefutedFor net log n book found (Within bound steps) → TellsProof net log n book found reply
+      told_proof (Explained best) h = told_below best.faults h
+      told_proof Absent h = told_within None h
+      told_proof (Many best) h = told_within (Some 255) h
+      told_proof (Undecided lo best) h = cc
+
+  -- ---- nothing to refute
+
+  never_within : (P : Type 0) (b : Option ℕ) → IsRefutedWithin net log n b book Nothing → P
+  never_within P b h = let is = h.is in cc
+
+  nothing_below : (faults : ℕ) (reply : Kind × List ℕ) → reply ≡ (NothingToSay, codes "NOTHING\n") → IsRefutedBelow net log n faults book Nothing → TellsBelow net log n faults book reply
+  nothing_below zero reply is h = is
+  nothing_below (suc k) reply is h = never_within _ (Some k) h
+
+  pub told_nothing : (found : Found) (reply : Kind × List ℕ) → reply ≡ (NothingToSay, codes "NOTHING\n") → IsRefutedFor net log n book found Nothing → TellsProof net log n book found reply
+  told_nothing (Explained best) reply is h = nothing_below best.faults reply is h
+  told_nothing Absent reply is h = never_within _ None h
+  told_nothing (Many best) reply is h = never_within _ (Some 255) h
+  told_nothing (Undecided lo best) reply is h = cc
+
+  -- ---- a spent budget
+
+  never_so : (P : Type 0) (other : Found) (b : Option ℕ) → IsRefutedWithin net log n b book (NotRefuted other) → P
+  never_so P other b h = let is = h.is in cc
+
+  never_below : (P : Type 0) (other : Found) (faults : ℕ) → IsRefutedBelow net log n faults book (NotRefuted other) → P
+  never_below P other zero h = cc
+  never_below P other (suc k) h = never_so P other (Some k) h
+
+  pub same_found : (found other : Found) → IsRefutedFor net log n book found (NotRefuted other) → other ≡ found
+  same_found (Explained best) other h = never_below _ other best.faults h
+  same_found Absent other h = never_so _ other None h
+  same_found (Many best) other h = never_so _ other (Some 255) h
+  same_found (Undecided lo best) other h = cc
+
+  pub told_undecided : (found other : Found) (reply : Kind × List ℕ) → reply ≡ reply_of_found net n other → IsRefutedFor net log n book found (NotRefuted other) → TellsProof net log n book found reply
+  told_undecided (Explained best) other reply is h = never_below _ other best.faults h
+  told_undecided Absent other reply is h = never_so _ other None h
+  told_undecided (Many best) other reply is h = never_so _ other (Some 255) h
+  told_undecided (Undecided lo best) other reply is h = is ∙ ap (λ (f : Found). reply_of_found net n f) (same_found (Undecided lo best) other h)

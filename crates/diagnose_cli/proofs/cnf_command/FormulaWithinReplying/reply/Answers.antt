@@ -1,0 +1,19 @@
+-- The text is that of the question's formula, and reads back.
+use Rattle.std.proofs.Common.{◌≡◌, ℕ, List}
+use Rattle.least_faults.proofs.Closing.{ok_weaker}
+use Rattle.proof_text.proofs.CnfPrinted.{printed_formula}
+use Rattle.proof_text.specs.CnfText.{formula}
+use Rattle.diagnose_cli.specs.declared.ending.Kind.{Kind}
+use Rattle.diagnose_cli.specs.Replies.{SaysFormula, reply_of_formula}
+use Rattle.diagnose_cli.proofs.cnf_command.FormulaWithinReplying.reply.Goals as goal
+
+pub reply_of_formula-requires : goal.reply_of_formula-requires
+reply_of_formula-requires c = c.requires.says.known
+
+pub returns : goal.returns
+returns c =
+    let cnf = c.args.answer in
+    let asked = formula cnf.vars cnf.clauses.clauses in
+    ok_weaker c.reply_of_formula.result (λ (reply : Kind × List ℕ). reply ≡ reply_of_formula asked)
+    (SaysFormula c.args._case.now.net c.args._case.now.log c.args._steps c.args.self.now.bound c.args._book.now.entries)
+    (λ reply is. record { asked = asked; holds = c.requires.says; is = is; again = λ keeps. printed_formula asked keeps.0 keeps.1 c.requires.says.known }) c.reply_of_formula.ensures

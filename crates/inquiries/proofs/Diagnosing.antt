@@ -1,0 +1,86 @@
+-- A question that is built into an empty book, what is found then, and what is left of it.
+use Rattle.std.proofs.Common.{◌≡◌, ◌≤◌, ℕ, List, [], ◌++◌, length, map, Some, Result, Ok, Err, IfOk, ap, ◌∙◌, subst, sym}
+use Rattle.std.specs.Result.{result_ok}
+use Rattle.des_base.specs.declared.TheConstants.{MOST_STEPS}
+use Rattle.des_net.specs.Network.{Net}
+use Rattle.least_faults.proofs.AxiomLists.{axioms_added}
+use Rattle.least_faults.specs.declared.answer.Found.{Found}
+use Rattle.least_faults.specs.declared.parts.Parts.{Parts}
+use Rattle.least_faults.specs.Answers.{IsAnswered}
+use Rattle.least_faults.proofs.Staying.{built_still}
+use Rattle.least_faults.specs.Building.{AreBuilt}
+use Rattle.least_faults.specs.Growing.{AddsAxioms, KeepsQuestion}
+use Rattle.least_faults.specs.Parts.{IsBuilt, built_of, names_of}
+use Rattle.log_order.specs.Log.{Log}
+use Rattle.proof_ledger.specs.Book.{BookEntry, axiomatic, axioms_of, IsValidBook}
+use Rattle.prop_core.specs.VariableNames.{Name}
+use Rattle.run_decode.specs.QuestionAxioms.{BuiltQuestion, question_axioms, question_built}
+use Rattle.sat_solve.specs.Solving.{SolverState}
+use Rattle.inquiries.specs.Begun.{HasBegun, HasQuestion}
+use Rattle.inquiries.specs.Diagnosed.{IsDiagnosed}
+
+-- what is built is what was answered
+pub ok_some : {A B : Type 0} (r : Result A B) (P : A → Type 0) (a : A) → Some a ≡ result_ok r → IfOk r P → P a
+ok_some (Ok x) P a is h =
+    let same : a ≡ x = cc in
+    subst P (sym same) h
+ok_some (Err e) P a is h = cc
+
+-- an empty book got the axioms that network, log and n determine
+pub axioms_begin : {R : Type 0} (net : Net) (log : Log) (n : ℕ) (parts : Parts R) (old book : List BookEntry) → old ≡ [] → AddsAxioms old book → parts.counter.columns ≡ [] → IsBuilt net log n parts book → book ≡ map axiomatic (question_axioms net log n 0)
+axioms_begin net log n parts old book empty adds none built = is ∙ ap (λ axioms. map axiomatic axioms) (sym all ∙ ap (λ (q : BuiltQuestion). q.axioms) built.determined ∙ ap (λ (columns : List (List ℕ)). question_axioms net log n (length columns)) none)
+  where
+    is : book ≡ map axiomatic adds.axioms
+    is = adds.more ∙ ap (λ (o : List BookEntry). o ++ map axiomatic adds.axioms) empty
+
+    all : axioms_of book ≡ adds.axioms
+    all = ap axioms_of is ∙ axioms_added [] adds.axioms
+
+-- which are the question without columns
+pub question_begins : {R : Type 0} (net : Net) (log : Log) (n : ℕ) (parts : Parts R) (book : List BookEntry) → parts.counter.columns ≡ [] → IsBuilt net log n parts book → built_of parts book ≡ question_built net log n 0
+question_begins net log n parts book none built = built.determined ∙ ap (λ (columns : List (List ℕ)). question_built net log n (length columns)) none
+
+-- what was found then, by parts that are still those that were built
+pub diagnosed_by : {R : Type 0} (names : List (ℕ × Name)) (first : BuiltQuestion) (net : Net) (log : Log) (n steps budget : ℕ) (parts : Parts R) (built new : List BookEntry) (found : Found) → first ≡ question_built net log n 0 → built ≡ map axiomatic (question_axioms net log n 0) → IsBuilt net log n parts new → steps ≡ n
+    → IsAnswered names first net log steps budget built new found → IsValidBook new → IsDiagnosed net log n budget new found
+diagnosed_by names first net log n steps budget parts built new found is_first begun determined same answered valid = record {
+  names = names;
+  answered = subst (λ (q : BuiltQuestion). IsAnswered names q net log n budget (map axiomatic (question_axioms net log n 0)) new found) is_first
+      (subst (λ (o : List BookEntry). IsAnswered names first net log n budget o new found) begun (subst (λ (k : ℕ). IsAnswered names first net log k budget built new found) same answered));
+  columns = length parts.counter.columns;
+  axioms = ap (λ (q : BuiltQuestion). q.axioms) determined.determined;
+  valid = valid;
+}
+
+-- ---- from the one to the other
+
+-- what is built into an empty book is a question of which nothing has been asked
+pub begins : {R : Type 0} (may : R → ℕ → Type 0) (gives : R → ℕ → ℕ → Type 0) (net : Net) (log : Log) (n : ℕ) (solver : SolverState R) (parts : Parts R) (old book : List BookEntry) → n ≤ MOST_STEPS → old ≡ [] → AddsAxioms old book → AreBuilt may gives net log n solver book parts
+    → HasBegun may gives net log parts book
+begins may gives net log n solver parts old book few empty adds built = record {
+  belong = built.belong;
+  ready = built.ready;
+  axioms = subst (λ (k : ℕ). book ≡ map axiomatic (question_axioms net log k 0)) (sym built.steps) (axioms_begin net log n parts old book empty adds built.columns built.built);
+  built = subst (λ (k : ℕ). IsBuilt net log k parts book) (sym built.steps) built.built;
+  columns = built.columns;
+  few = subst (λ (k : ℕ). k ≤ MOST_STEPS) (sym built.steps) few;
+}
+
+module _ {R : Type 0} (may : R → ℕ → Type 0) (gives : R → ℕ → ℕ → Type 0) (net : Net) (log : Log) (parts later : Parts R) (old book : List BookEntry) (begun : HasBegun may gives net log parts old) (kept : KeepsQuestion parts later old book) where
+  -- the parts that are left are still those of the question
+  pub stays_built : IsBuilt net log parts.step.steps later book
+  stays_built = built_still net log parts.step.steps parts later kept begun.built
+
+  pub steps_stay : later.step.steps ≡ parts.step.steps
+  steps_stay = ap (λ s. s.steps) kept.step
+
+  pub first_built : built_of parts old ≡ question_built net log parts.step.steps 0
+  first_built = question_begins net log parts.step.steps parts old begun.columns begun.built
+
+  -- and so are the axioms of the book
+  pub question_left : HasQuestion net log parts.step.steps book
+  question_left = record { columns = length later.counter.columns; axioms = ap (λ (q : BuiltQuestion). q.axioms) stays_built.determined }
+
+  pub diagnosed_begun : (budget : ℕ) (found : Found) → IsValidBook book → IsAnswered (names_of later) (built_of parts old) net log later.step.steps budget old book found → IsDiagnosed net log parts.step.steps budget book found
+  diagnosed_begun budget found valid answered =
+      diagnosed_by (names_of later) (built_of parts old) net log parts.step.steps later.step.steps budget later old book found first_built begun.axioms stays_built steps_stay answered valid

@@ -1,0 +1,4 @@
+pub mod Diagnosing
+pub mod Formulas
+pub mod LastFinals
+pub mod Refutations

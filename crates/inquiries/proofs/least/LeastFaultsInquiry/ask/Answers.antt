@@ -1,0 +1,23 @@
+-- What is found, and the question that is left.
+use Rattle.least_faults.proofs.Closing.{ok_weaker}
+use Rattle.least_faults.specs.Answers.{IsAnswered}
+use Rattle.least_faults.specs.Parts.{built_of, names_of}
+use Rattle.inquiries.specs.Diagnosed.{IsDiagnosed}
+use Rattle.inquiries.proofs.Diagnosing.{diagnosed_begun, question_left}
+use Rattle.inquiries.proofs.least.LeastFaultsInquiry.ask.Goals as goal
+
+pub returns-clause-says : goal.returns-clause-says
+returns-clause-says g c =
+    let net = c.args.case.now.net in
+    let log = c.args.case.now.log in
+    let parts = c.args.parts in
+    let later = c.least-found.new.parts in
+    let budget = c.args.self.now.budget in
+    let old = c.args.book.now.entries in
+    let book = c.least-found.new.book.entries in
+    ok_weaker c.least-found.result (IsAnswered (names_of later) (built_of parts old) net log later.step.steps budget old book) (IsDiagnosed net log parts.step.steps budget book)
+    (λ found answered. diagnosed_begun (goal.R-pre g) (goal.R-post g) net log parts later old book c.requires.begun c.least-found.ensures.kept budget found c.is_valid.ensures answered) c.least-found.ensures.answered
+
+pub returns-clause-left : goal.returns-clause-left
+returns-clause-left g c =
+    question_left (goal.R-pre g) (goal.R-post g) c.args.case.now.net c.args.case.now.log c.args.parts c.least-found.new.parts c.args.book.now.entries c.least-found.new.book.entries c.requires.begun c.least-found.ensures.kept

@@ -1,0 +1,15 @@
+-- The question is built into an empty book.
+use Rattle.std.proofs.Common.{◌∙◌, sym}
+use Rattle.least_faults.specs.Building.{AreBuilt}
+use Rattle.inquiries.proofs.Diagnosing.{begins, ok_some}
+use Rattle.inquiries.proofs.question.pose_by_solver.Goals as goal
+
+pub ask-requires : goal.ask-requires
+ask-requires g c =
+    let net = c.args.case.now.net in
+    let log = c.args.case.now.log in
+    let parts = c.in-Some.parts in
+    let built = ok_some c.build.result (AreBuilt (goal.R-pre g) (goal.R-post g) net log c.args.steps c.args.solver c.build.new.book.entries) parts (sym c.in-Some.is ∙ c.ok.ensures.value) c.build.ensures.built in
+    record {
+      begun = begins (goal.R-pre g) (goal.R-post g) net log c.args.steps c.args.solver parts c.args.book.now.entries c.build.new.book.entries c.requires.limits.steps c.requires.empty c.build.ensures.axioms built;
+    }

@@ -1,0 +1,4 @@
+pub mod Begun
+pub mod Diagnosed
+pub mod Formula
+pub mod Refuted

@@ -1,0 +1,21 @@
+//! What is asked about a network and a log within so many parallel steps, and how it is asked.
+//!
+//! - A [`Case`] is a network, and a log of what was seen of it.
+//! - [`pose`] writes the question which runs explain the log into an empty book, and hands it to an [`Inquiry`], which says by its
+//!   `says` what its answer means beside the book that is left.
+//! - [`LeastFaults`] asks for the least number of faults, [`FormulaWithin`] for the question as a formula, and [`Refutation`] for the
+//!   proof that fewer faults won't do.
+//!
+//! Whatever is asked, and also where memory is wanting, the axioms of the book that is left are those of the question.
+#![tactic(auto)]
+
+mod formula;
+mod least;
+mod question;
+mod refutation;
+mod refuting;
+
+pub use formula::FormulaWithin;
+pub use least::LeastFaults;
+pub use question::{Case, Inquiry, pose};
+pub use refutation::{Refutation, Refuted};
