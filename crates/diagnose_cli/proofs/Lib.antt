@@ -21,6 +21,7 @@ pub mod Diagnosing
 pub mod ProofsReadBack
 pub mod ProofAnswers
 pub mod CaseAnswers
+pub mod Left
 pub mod Taking
 pub mod GenerateAnswers
 pub mod BenchAnswers

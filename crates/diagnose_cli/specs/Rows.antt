@@ -5,6 +5,8 @@ use Rattle.alarm_session.specs.Session.{Stage}
 use Rattle.des_base.specs.CommandWords.{word_at}
 use Rattle.des_base.specs.Outside.{Took}
 use Rattle.des_net.specs.Network.{Net}
+use Rattle.gen_plant.specs.Plant.{plant_net, plant_log}
+use Rattle.inquiries.specs.Begun.{LeavesQuestion}
 use Rattle.least_faults.specs.Answers.{asked_last, HasConflict, IsExplanation}
 use Rattle.least_faults.specs.declared.answer.Best.{Best}
 use Rattle.least_faults.specs.declared.answer.Found.TheVariants.{Explained, Many, Undecided}
@@ -13,6 +15,7 @@ use Rattle.log_csv.specs.ScriptText.{script_of}
 use Rattle.log_csv.specs.declared.row.Row.{Row as ScriptRow}
 use Rattle.log_order.specs.Log.{Log}
 use Rattle.model_text.specs.ModelFaults.{network_of}
+use Rattle.proof_ledger.specs.Book.{BookEntry}
 use Rattle.proof_ledger.specs.Checking.{IsUnsatisfiable}
 use Rattle.proof_ledger.specs.Fresh.{AreFresh}
 use Rattle.proof_text.specs.CnfText.{formula_of}
@@ -154,3 +157,17 @@ pub record DiagnoseRows (o : Outcome) : Type 0 where
   pub undecided : (steps budget : ℕ) (text alarms : List ℕ) → Asks o (Diagnose steps budget) (text ∷ alarms ∷ []) → o.status ≡ 11 → TellsUndecided o (network_of text) (log_of alarms) steps budget
   pub many : (steps budget : ℕ) (text alarms : List ℕ) → Asks o (Diagnose steps budget) (text ∷ alarms ∷ []) → o.status ≡ 12 → TellsMany o (network_of text) (log_of alarms) steps
   pub decided : (steps budget : ℕ) (text alarms : List ℕ) → Asks o (Diagnose steps budget) (text ∷ alarms ∷ []) → 3 ^ variable_bound (network_of text) (log_of alarms) steps ≤ budget → o.status ≢ 11
+
+-- ---- what is left in the book
+
+-- of a command that asks one question: nothing, or a book whose axioms are those of the question over the bytes of its files
+abbrev pub Leaves : Command → List (List ℕ) → List BookEntry → Type 0
+Leaves (Diagnose steps budget) (text ∷ alarms ∷ []) book = LeavesQuestion (network_of text) (log_of alarms) steps book
+Leaves (PrintCnf steps bound) (text ∷ alarms ∷ []) book = LeavesQuestion (network_of text) (log_of alarms) steps book
+Leaves (PrintProof steps budget) (text ∷ alarms ∷ []) book = LeavesQuestion (network_of text) (log_of alarms) steps book
+Leaves (Bench units start steps budget) [] book = LeavesQuestion (plant_net units) (plant_log units start) steps book
+Leaves _ _ book = ⊤
+
+-- so it is over whatever bytes the shelf tells, and whatever the status
+abbrev pub LeftRow : Outcome → Type 0
+LeftRow o = (c : Command) (texts : List (List ℕ)) → Asks o c texts → Leaves c texts o.book

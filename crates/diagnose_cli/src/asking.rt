@@ -5,7 +5,9 @@ ghost use Rattle.des_net.specs.Network.{Net};
 ghost use Rattle.diagnose_cli.specs.Asking.{IsOfCase};
 ghost use Rattle.diagnose_cli.specs.Due.{Answers, Closes};
 ghost use Rattle.diagnose_cli.specs.Files.{loads};
+ghost use Rattle.diagnose_cli.specs.Rows.{AreTold};
 ghost use Rattle.diagnose_cli.specs.Transcripts.{UnlessMemory, once};
+ghost use Rattle.inquiries.specs.Begun.{LeavesQuestion};
 ghost use Rattle.least_faults.specs.Parts.{IsWithinLimits};
 ghost use Rattle.log_csv.specs.LogText.{log_of};
 ghost use Rattle.log_order.specs.Log.{Log};
@@ -68,6 +70,7 @@ pub fn ask_case<F: Shelf, Q: Replying>(
     requires empty { book.old.entries ≡ [] }
     ensures due { UnlessMemory result (Answers (loads F.held F.faults shelf.old shelf.new) words.now (Q.command inquiry.now steps) book.new.entries (once result)) }
     ensures stopped { IfErr result (λ stop. stop ≢ Stop.Memory → book.new ≡ book.old) }
+    ensures left { (text alarms : List ℕ) → AreTold (F.held shelf.old) words.now 1 (text ∷ alarms ∷ []) → LeavesQuestion (network_of text) (log_of alarms) steps book.new.entries }
 {
     let case = fetch_case(alloc, words, shelf)?;
     ask(alloc, &case, steps, inquiry, book)
@@ -85,6 +88,7 @@ fn ask<Q: Replying>(
     requires empty { book.old.entries ≡ [] }
     ensures due { (text alarms : List ℕ) → case.now.net ≡ network_of text → case.now.log ≡ log_of alarms → UnlessMemory result (Closes (Q.command inquiry.now steps) book.new.entries (text ∷ alarms ∷ []) (once result)) }
     ensures stopped { IfErr result (λ stop. stop ≢ Stop.Memory → book.new ≡ book.old) }
+    ensures left { LeavesQuestion case.now.net case.now.log steps book.new.entries }
 {
     let size = question_size(&case.net, &case.log, steps);
     if size > MOST_SIZE {
@@ -103,7 +107,8 @@ pub fn reply_to<Q: Replying>(
 ) -> Result<Reply, Memory>
     requires limits { IsWithinLimits case.now.net case.now.log steps }
     requires empty { book.old.entries ≡ [] }
-    ensures { IfOk result (Q.replies inquiry.now steps case.now.net case.now.log book.new.entries) }
+    ensures replies { IfOk result (Q.replies inquiry.now steps case.now.net case.now.log book.new.entries) }
+    ensures left { LeavesQuestion case.now.net case.now.log steps book.new.entries }
 {
     let answer = pose(alloc, case, steps, inquiry, book)?;
     inquiry.reply(alloc, case, steps, answer, book)

@@ -1,11 +1,11 @@
 // All that the program does, but for where its words, files and output come from.
-ghost use Rattle.std.specs.Prelude.{◌≡◌, ◌≢◌, ◌<◌, [], false, length, IfErr};
+ghost use Rattle.std.specs.Prelude.{◌≡◌, ◌≢◌, ◌<◌, ℕ, List, [], false, length, IfErr};
 ghost use Rattle.des_base.specs.Outside.{Rose};
 ghost use Rattle.diagnose_cli.specs.Commands.{IsWithinBounds, file_count, files_of, is_session};
 ghost use Rattle.diagnose_cli.specs.Due.{Answers};
 ghost use Rattle.diagnose_cli.specs.Files.{loads};
 ghost use Rattle.diagnose_cli.specs.Outcomes.{outcome};
-ghost use Rattle.diagnose_cli.specs.Rows.{TraceRow, ShowRow, ReplayRow, CheckRows, DiagnoseRows, PrintedRows, GenerateRows, BenchRow, SessionRow};
+ghost use Rattle.diagnose_cli.specs.Rows.{TraceRow, ShowRow, ReplayRow, CheckRows, DiagnoseRows, PrintedRows, GenerateRows, BenchRow, SessionRow, AreTold, Leaves, LeftRow};
 ghost use Rattle.diagnose_cli.specs.Run.{Does, LeavesAlone, Ran, is_question};
 ghost use Rattle.diagnose_cli.specs.Transcripts.{UnlessMemory, once};
 
@@ -50,6 +50,7 @@ pub fn run<F: Shelf, S: Sink>(
     ensures carried_out { SessionRow (outcome (loads F.held F.faults shelf.old shelf.new) words.now (S.taken out.old) (S.taken out.new) book.new.entries result) }
     ensures ran { Ran (outcome (loads F.held F.faults shelf.old shelf.new) words.now (S.taken out.old) (S.taken out.new) book.new.entries result) (Rose (S.faults out.old) (S.faults out.new)) }
     ensures left_alone { LeavesAlone words.now result shelf.old shelf.new book.old book.new }
+    ensures left { LeftRow (outcome (loads F.held F.faults shelf.old shelf.new) words.now (S.taken out.old) (S.taken out.new) book.new.entries result) }
 {
     respond(alloc, words, shelf, out, book)
 }
@@ -65,6 +66,7 @@ fn respond<F: Shelf, S: Sink>(
     requires { book.old.entries ≡ [] }
     ensures does { Does (outcome (loads F.held F.faults shelf.old shelf.new) words.now (S.taken out.old) (S.taken out.new) book.new.entries result) (Rose (S.faults out.old) (S.faults out.new)) }
     ensures left_alone { LeavesAlone words.now result shelf.old shelf.new book.old book.new }
+    ensures left { LeftRow (outcome (loads F.held F.faults shelf.old shelf.new) words.now (S.taken out.old) (S.taken out.new) book.new.entries result) }
 {
     match command_of(words) {
         None => put_once(alloc, Err(Stop::Usage), out),
@@ -94,6 +96,7 @@ fn answer<F: Shelf>(
     ensures no_load { files_of command ≡ [] → shelf.new ≡ shelf.old }
     ensures no_question { is_question command ≡ false → book.new ≡ book.old }
     ensures stopped { IfErr result (λ stop. stop ≢ Stop.Memory → book.new ≡ book.old) }
+    ensures left { (texts : List (List ℕ)) → AreTold (F.held shelf.old) words.now 1 texts → Leaves command texts book.new.entries }
 {
     match command {
         Command::Trace => trace_command(alloc, words, shelf),

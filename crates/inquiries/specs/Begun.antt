@@ -1,5 +1,5 @@
 -- A question that is written into a book, before anything is asked of it, and what stays of it whatever is asked.
-use Rattle.std.specs.Prelude.{◌≡◌, ◌≤◌, ℕ, List, [], map}
+use Rattle.std.specs.Prelude.{◌≡◌, ◌⊎◌, ◌≤◌, ℕ, List, [], map}
 use Rattle.des_base.specs.declared.TheConstants.{MOST_STEPS}
 use Rattle.des_net.specs.Network.{Net}
 use Rattle.least_faults.specs.declared.parts.Parts.{Parts}
@@ -21,3 +21,7 @@ pub record HasBegun {R : Type 0} (may : R → ℕ → Type 0) (gives : R → ℕ
 pub record HasQuestion (net : Net) (log : Log) (n : ℕ) (book : List BookEntry) : Type 0 where
   pub columns : ℕ
   pub axioms : axioms_of book ≡ question_axioms net log n columns
+
+-- The book is empty, or its axioms are those of the question.
+abbrev pub LeavesQuestion : Net → Log → ℕ → List BookEntry → Type 0
+LeavesQuestion net log n book = (book ≡ []) ⊎ HasQuestion net log n book

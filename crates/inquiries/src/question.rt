@@ -2,7 +2,7 @@
 ghost use Rattle.std.specs.Prelude.{◌≡◌, ℕ, List, [], IfOk};
 ghost use Rattle.des_net.specs.Network.{Net};
 ghost use Rattle.indep.specs.StoredTest.{IsTest};
-ghost use Rattle.inquiries.specs.Begun.{HasBegun, HasQuestion};
+ghost use Rattle.inquiries.specs.Begun.{HasBegun, HasQuestion, LeavesQuestion};
 ghost use Rattle.least_faults.specs.Building.{IsUnused};
 ghost use Rattle.least_faults.specs.Parts.{IsWithinLimits};
 ghost use Rattle.log_order.specs.Log.{Log};
@@ -48,7 +48,8 @@ pub trait Inquiry {
 
 /// Writes the question which runs within so many parallel steps explain the log into an empty book, and makes the inquiry.
 ///
-/// Which events touch a common component is looked up in a table.
+/// Which events touch a common component is looked up in a table. Where memory is wanting before the question is written whole,
+/// the book stays empty.
 pub fn pose<Q: Inquiry>(
     alloc: Global,
     case: &Case,
@@ -58,7 +59,8 @@ pub fn pose<Q: Inquiry>(
 ) -> Result<Q::Answer, Memory>
     requires limits { IsWithinLimits case.now.net case.now.log steps }
     requires empty { book.old.entries ≡ [] }
-    ensures { IfOk result (Q.says inquiry.now case.now.net case.now.log steps book.new.entries) }
+    ensures says { IfOk result (Q.says inquiry.now case.now.net case.now.log steps book.new.entries) }
+    ensures left { LeavesQuestion case.now.net case.now.log steps book.new.entries }
 {
     let table = Table::new(alloc, &case.net)?;
     let test = Indep::new(&case.net, |a: u32, b: u32| {
@@ -81,7 +83,8 @@ fn pose_by_test<T: Fn(u32, u32) -> bool, Q: Inquiry>(
     requires net { test.now.net ≡ case.now.net }
     requires limits { IsWithinLimits case.now.net case.now.log steps }
     requires empty { book.old.entries ≡ [] }
-    ensures { IfOk result (Q.says inquiry.now case.now.net case.now.log steps book.new.entries) }
+    ensures says { IfOk result (Q.says inquiry.now case.now.net case.now.log steps book.new.entries) }
+    ensures left { LeavesQuestion case.now.net case.now.log steps book.new.entries }
 {
     let first = step_variables(alloc, &case.net, steps, test)?;
     let order = Order::new(alloc, |var: u32| u64::from(var >= first));
@@ -104,11 +107,15 @@ fn pose_by_solver<T: Fn(u32, u32) -> bool, R: Fn(u32) -> u64, Q: Inquiry>(
     requires unused { IsUnused R.pre R.post solver }
     requires limits { IsWithinLimits case.now.net case.now.log steps }
     requires empty { book.old.entries ≡ [] }
-    ensures { IfOk result (Q.says inquiry.now case.now.net case.now.log steps book.new.entries) }
+    ensures says { IfOk result (Q.says inquiry.now case.now.net case.now.log steps book.new.entries) }
+    ensures left { LeavesQuestion case.now.net case.now.log steps book.new.entries }
 {
     match build(alloc, &case.net, &case.log, steps, test, solver, book).ok() {
         Some(parts) => inquiry.ask(alloc, case, parts, book),
-        None => Err(Memory),
+        None => {
+            *book = Ledger::new(alloc);
+            Err(Memory)
+        }
     }
 }
 

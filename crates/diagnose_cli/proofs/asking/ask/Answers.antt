@@ -1,5 +1,5 @@
 -- By the size of its question, and what is answered.
-use Rattle.std.proofs.Common.{◌≤◌, subst, arith}
+use Rattle.std.proofs.Common.{◌≤◌, inl, subst, arith}
 use Rattle.least_faults.specs.declared.TheConstants.{MOST_SIZE}
 use Rattle.diagnose_cli.proofs.Orders.{memory_free}
 use Rattle.diagnose_cli.proofs.CaseAnswers.{case_answered, case_large}
@@ -18,10 +18,13 @@ pub returns-clause-due : goal.returns-clause-due
 returns-clause-due g c text alarms of_net of_log _ =
     let asked = c.args.inquiry.now in
     case_answered (g.Q.Replying.command asked c.args.steps) c.args.steps (g.Q.Replying.replies asked c.args.steps) (g.met.Q.Replying.is_of_case asked c.args.steps) text alarms c.args.case.now.net of_net c.args.case.now.log of_log
-    c.reply_to.new.book.entries c.in_ok-reply_to.field-0 (subst (λ k. k ≤ MOST_SIZE) c.question_size-size.ensures.size (omega (arith, c.if-size-gt-MOST_SIZE.false))) c.in_ok-reply_to.ensures
+    c.reply_to.new.book.entries c.in_ok-reply_to.field-0 (subst (λ k. k ≤ MOST_SIZE) c.question_size-size.ensures.size (omega (arith, c.if-size-gt-MOST_SIZE.false))) c.in_ok-reply_to.ensures.replies
 
 pub reply_to-requires-clause-limits : goal.reply_to-requires-clause-limits
 reply_to-requires-clause-limits g c = record {
   steps = c.requires.steps;
   size = subst (λ k. k ≤ MOST_SIZE) c.question_size-size.ensures.size (omega (arith, c.if-size-gt-MOST_SIZE.false));
 }
+
+pub returns-then-size-gt-MOST_SIZE-clause-left : goal.returns-then-size-gt-MOST_SIZE-clause-left
+returns-then-size-gt-MOST_SIZE-clause-left g c = inl c.requires.empty

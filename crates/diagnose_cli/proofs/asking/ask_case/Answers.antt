@@ -1,10 +1,11 @@
 -- By its two files, and then as it goes on.
-use Rattle.std.proofs.Common.{[]}
+use Rattle.std.proofs.Common.{[], inl}
 use Rattle.diagnose_cli.specs.Due.{Answers, Closes}
 use Rattle.diagnose_cli.specs.Files.{loads}
 use Rattle.diagnose_cli.specs.Texts.{log}
 use Rattle.diagnose_cli.specs.Transcripts.{once}
 use Rattle.diagnose_cli.proofs.CaseAnswers.{case_files}
+use Rattle.diagnose_cli.proofs.Left.{case_left}
 use Rattle.diagnose_cli.proofs.Orders.{handed_after, stops_in_two, with_two}
 use Rattle.diagnose_cli.proofs.asking.ask_case.Goals as goal
 
@@ -28,3 +29,10 @@ returns-clause-due g c never =
     let case = c.in_ok-case.ensures.read in
     case_files command c.args.steps (g.Q.Replying.replies asked c.args.steps) (g.met.Q.Replying.is_of_case asked c.args.steps) l words book (once c.ask.result)
     (with_two l words log [] (Closes command book) c.in_ok-case.case.net _ (once c.ask.result) case (c.ask.ensures.due case.text case.second case.net_is case.second_is never))
+
+pub returns-in_err-case-clause-left : goal.returns-in_err-case-clause-left
+returns-in_err-case-clause-left g c text alarms told = inl c.requires.empty
+
+pub returns-clause-left : goal.returns-clause-left
+returns-clause-left g c text alarms told =
+    case_left (g.F.Shelf.held c.args.shelf.now) c.args.words.now c.in_ok-case.case.net c.in_ok-case.case.log c.in_ok-case.ensures.read text alarms told c.args.steps c.ask.new.book.entries c.ask.ensures.left

@@ -1,5 +1,5 @@
 -- By the size of its question, and what is found.
-use Rattle.std.proofs.Common.{◌≤◌, subst, arith}
+use Rattle.std.proofs.Common.{◌≤◌, inl, subst, arith}
 use Rattle.least_faults.specs.declared.TheConstants.{MOST_SIZE}
 use Rattle.diagnose_cli.proofs.BenchAnswers.{large_plant, summed_up}
 use Rattle.diagnose_cli.proofs.bench_command.bench.Goals as goal
@@ -18,4 +18,7 @@ reply_to-requires-clause-limits c = record {
 pub returns-clause-due : goal.returns-clause-due
 returns-clause-due c start of_net of_log _ =
     summed_up c.args.units start c.args.limits.steps c.args.limits.budget c.reply_to.new.book.entries c.args.case.now.net of_net c.args.case.now.log of_log c.question_size-size.result
-    c.in_ok-reply.reply c.in_ok-sum_up.field-0 c.alarms.result c.question_size-size.ensures.size (omega (arith, c.if-size-gt-MOST_SIZE.false)) c.alarms.ensures.count c.in_ok-reply.ensures c.in_ok-sum_up.ensures
+    c.in_ok-reply.reply c.in_ok-sum_up.field-0 c.alarms.result c.question_size-size.ensures.size (omega (arith, c.if-size-gt-MOST_SIZE.false)) c.alarms.ensures.count c.in_ok-reply.ensures.replies c.in_ok-sum_up.ensures
+
+pub returns-then-size-gt-MOST_SIZE-clause-left : goal.returns-then-size-gt-MOST_SIZE-clause-left
+returns-then-size-gt-MOST_SIZE-clause-left c = inl c.requires.empty

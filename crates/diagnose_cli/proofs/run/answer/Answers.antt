@@ -2,6 +2,7 @@
 use Rattle.std.proofs.Common.{sym}
 use Rattle.diagnose_cli.specs.declared.command.Command.TheVariants.{Trace, Show, Replay, Check, Diagnose, PrintCnf, PrintProof, GenerateModel, GenerateLog, Bench}
 use Rattle.diagnose_cli.specs.Files.{loads}
+use Rattle.diagnose_cli.proofs.Left.{left_bench, left_cnf, left_diagnose, left_proof, left_so}
 use Rattle.diagnose_cli.proofs.Orders.{due_alike}
 use Rattle.diagnose_cli.proofs.run.answer.Goals as goal
 
@@ -47,3 +48,52 @@ pub returns-in-Bench-clause-due : goal.returns-in-Bench-clause-due
 returns-in-Bench-clause-due g c =
     let l = loads g.F.Shelf.held g.F.Shelf.faults c.args.shelf.now c.args.shelf.now in
     due_alike l c.args.words.now (Bench c.in-Bench.units c.in-Bench.start c.in-Bench.steps c.in-Bench.budget) c.args.command c.bench_command.new.book.entries c.bench_command.result (sym c.in-Bench.is) (c.bench_command.ensures.due l c.args.words.now)
+
+pub returns-in-Trace-clause-left : goal.returns-in-Trace-clause-left
+returns-in-Trace-clause-left g c =
+    left_so (g.F.Shelf.held c.args.shelf.now) c.args.words.now c.args.book.now.entries Trace c.args.command c.in-Trace.is (λ texts told. tt)
+
+pub returns-in-Show-clause-left : goal.returns-in-Show-clause-left
+returns-in-Show-clause-left g c =
+    left_so (g.F.Shelf.held c.args.shelf.now) c.args.words.now c.args.book.now.entries Show c.args.command c.in-Show.is (λ texts told. tt)
+
+pub returns-in-Replay-clause-left : goal.returns-in-Replay-clause-left
+returns-in-Replay-clause-left g c =
+    left_so (g.F.Shelf.held c.args.shelf.now) c.args.words.now c.args.book.now.entries (Replay c.in-Replay.steps) c.args.command c.in-Replay.is (λ texts told. tt)
+
+pub returns-in-Check-clause-left : goal.returns-in-Check-clause-left
+returns-in-Check-clause-left g c =
+    left_so (g.F.Shelf.held c.args.shelf.now) c.args.words.now c.args.book.now.entries Check c.args.command c.in-Check.is (λ texts told. tt)
+
+pub returns-in-GenerateModel-clause-left : goal.returns-in-GenerateModel-clause-left
+returns-in-GenerateModel-clause-left g c =
+    left_so (g.F.Shelf.held c.args.shelf.now) c.args.words.now c.args.book.now.entries (GenerateModel c.in-GenerateModel.units c.in-GenerateModel.start) c.args.command c.in-GenerateModel.is (λ texts told. tt)
+
+pub returns-in-GenerateLog-clause-left : goal.returns-in-GenerateLog-clause-left
+returns-in-GenerateLog-clause-left g c =
+    left_so (g.F.Shelf.held c.args.shelf.now) c.args.words.now c.args.book.now.entries (GenerateLog c.in-GenerateLog.units c.in-GenerateLog.start) c.args.command c.in-GenerateLog.is (λ texts told. tt)
+
+pub returns-in-Diagnose-clause-left : goal.returns-in-Diagnose-clause-left
+returns-in-Diagnose-clause-left g c =
+    let held = g.F.Shelf.held c.args.shelf.now in
+    let book = c.ask_case.new.book.entries in
+    left_so held c.args.words.now book (Diagnose c.in-Diagnose.steps c.in-Diagnose.budget) c.args.command c.in-Diagnose.is (left_diagnose held c.args.words.now book c.in-Diagnose.steps c.ask_case.ensures.left c.in-Diagnose.budget)
+
+pub returns-in-PrintCnf-clause-left : goal.returns-in-PrintCnf-clause-left
+returns-in-PrintCnf-clause-left g c =
+    let held = g.F.Shelf.held c.args.shelf.now in
+    let book = c.ask_case-in-PrintCnf.new.book.entries in
+    left_so held c.args.words.now book (PrintCnf c.in-PrintCnf.steps c.in-PrintCnf.bound) c.args.command c.in-PrintCnf.is (left_cnf held c.args.words.now book c.in-PrintCnf.steps c.ask_case-in-PrintCnf.ensures.left c.in-PrintCnf.bound)
+
+pub returns-in-PrintProof-clause-left : goal.returns-in-PrintProof-clause-left
+returns-in-PrintProof-clause-left g c =
+    let held = g.F.Shelf.held c.args.shelf.now in
+    let book = c.ask_case-in-PrintProof.new.book.entries in
+    left_so held c.args.words.now book (PrintProof c.in-PrintProof.steps c.in-PrintProof.budget) c.args.command c.in-PrintProof.is (left_proof held c.args.words.now book c.in-PrintProof.steps c.ask_case-in-PrintProof.ensures.left c.in-PrintProof.budget)
+
+pub returns-in-Bench-clause-left : goal.returns-in-Bench-clause-left
+returns-in-Bench-clause-left g c =
+    let held = g.F.Shelf.held c.args.shelf.now in
+    let book = c.bench_command.new.book.entries in
+    let b = c.in-Bench in
+    left_so held c.args.words.now book (Bench b.units b.start b.steps b.budget) c.args.command b.is (left_bench held c.args.words.now book b.units b.start b.steps b.budget c.bench_command.ensures.left)

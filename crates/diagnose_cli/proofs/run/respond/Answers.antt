@@ -6,6 +6,7 @@ use Rattle.diagnose_cli.specs.Files.{loads}
 use Rattle.diagnose_cli.specs.declared.command.Command.TheVariants.{Session}
 use Rattle.diagnose_cli.specs.declared.stop.Stop.TheVariants.{Usage}
 use Rattle.diagnose_cli.proofs.GenerateAnswers.{asks_nothing, has_files}
+use Rattle.diagnose_cli.proofs.Left.{command_left, none_left, session_left}
 use Rattle.diagnose_cli.proofs.Once.{done, no_session, speaks_once, stop_left}
 use Rattle.diagnose_cli.proofs.Orders.{due_of, usage_due}
 use Rattle.diagnose_cli.proofs.SessionAnswers.{not_begun}
@@ -56,3 +57,13 @@ returns-in-Some-clause-left_alone g c =
       no_question = λ none. c.answer-ending.ensures.no_question (asks_nothing words command called none);
       stopped = stop_left c.answer-ending.result _ _ _ _ _ c.put_once-in-Some.ensures c.answer-ending.ensures.stopped;
     }
+
+pub returns-in-None-clause-left : goal.returns-in-None-clause-left
+returns-in-None-clause-left g c = none_left _ (sym c.command_of.ensures.command ∙ c.in-None.is)
+
+pub returns-in-Some-Session-clause-left : goal.returns-in-Some-Session-clause-left
+returns-in-Some-Session-clause-left g c =
+    session_left _ c.in-Some-Session.steps c.in-Some-Session.budget (sym c.command_of.ensures.command ∙ c.in-Some-Session.is ∙ ap Some c.in-Some-Session.field-0-is)
+
+pub returns-in-Some-clause-left : goal.returns-in-Some-clause-left
+returns-in-Some-clause-left g c = command_left _ c.in-Some.command (sym c.command_of.ensures.command ∙ c.in-Some.is) c.answer-ending.ensures.left

@@ -1,0 +1,80 @@
+-- What is left in the book of a command that asks one question.
+use Rattle.std.proofs.Common.{◌≡◌, ℕ, List, [], ◌∷◌, Option, Some, None, IfSome, sym, subst, ap, ◌∙◌}
+use Rattle.des_net.specs.Network.{Net}
+use Rattle.inquiries.specs.Begun.{LeavesQuestion}
+use Rattle.gen_plant.specs.Plant.{plant_net, plant_log}
+use Rattle.log_csv.specs.LogText.{log_of}
+use Rattle.log_order.specs.Log.{Log as AlarmLog}
+use Rattle.model_text.specs.ModelFaults.{network_of}
+use Rattle.proof_ledger.specs.Book.{BookEntry}
+use Rattle.diagnose_cli.specs.declared.command.Command.{Command}
+use Rattle.diagnose_cli.specs.declared.command.Command.TheVariants.{Diagnose, PrintCnf, PrintProof, Bench, Session}
+use Rattle.diagnose_cli.specs.Commands.{command_of}
+use Rattle.diagnose_cli.specs.Outcomes.{Outcome}
+use Rattle.diagnose_cli.specs.Rows.{AreTold, Leaves, LeftRow}
+use Rattle.diagnose_cli.specs.Texts.{IsCase}
+
+told_bytes : (there : Option (List ℕ)) (bytes text : List ℕ) → there ≡ Some text → IfSome there (λ t. t ≡ bytes) → text ≡ bytes
+told_bytes there bytes text is h = subst (λ (o : Option (List ℕ)). IfSome o (λ t. t ≡ bytes)) is h
+
+-- the bytes that are told are those that were read
+pub case_left : (held : List ℕ → Option (List ℕ)) (words : List (List ℕ)) (net : Net) (alarms : AlarmLog) (case : IsCase held words net alarms) (text rows : List ℕ) → AreTold held words 1 (text ∷ rows ∷ []) → (steps : ℕ) (book : List BookEntry)
+    → LeavesQuestion net alarms steps book → LeavesQuestion (network_of text) (log_of rows) steps book
+case_left held words net alarms case text rows told steps book left =
+    let first : net ≡ network_of text = case.net_is ∙ ap network_of (sym (told_bytes _ case.text text told.0 case.model_read.holds.told)) in
+    let second : alarms ≡ log_of rows = case.second_is ∙ ap log_of (sym (told_bytes _ case.second rows told.1.0 case.second_read.holds.told)) in
+    subst (λ (a : AlarmLog). LeavesQuestion (network_of text) a steps book) second (subst (λ (n : Net). LeavesQuestion n alarms steps book) first left)
+
+-- ---- command by command
+
+module _ (held : List ℕ → Option (List ℕ)) (words : List (List ℕ)) (book : List BookEntry) where
+  -- what a command leaves over files that are told
+  abbrev pub LeftBy : Command → Type 0
+  LeftBy c = (texts : List (List ℕ)) → AreTold held words 1 texts → Leaves c texts book
+
+  module _ (steps : ℕ) (left : (text alarms : List ℕ) → AreTold held words 1 (text ∷ alarms ∷ []) → LeavesQuestion (network_of text) (log_of alarms) steps book) where
+    pub left_diagnose : (budget : ℕ) → LeftBy (Diagnose steps budget)
+    left_diagnose budget [] told = tt
+    left_diagnose budget (text ∷ []) told = tt
+    left_diagnose budget (text ∷ alarms ∷ []) told = left text alarms told
+    left_diagnose budget (text ∷ alarms ∷ more ∷ texts) told = tt
+
+    pub left_cnf : (bound : Option ℕ) → LeftBy (PrintCnf steps bound)
+    left_cnf bound [] told = tt
+    left_cnf bound (text ∷ []) told = tt
+    left_cnf bound (text ∷ alarms ∷ []) told = left text alarms told
+    left_cnf bound (text ∷ alarms ∷ more ∷ texts) told = tt
+
+    pub left_proof : (budget : ℕ) → LeftBy (PrintProof steps budget)
+    left_proof budget [] told = tt
+    left_proof budget (text ∷ []) told = tt
+    left_proof budget (text ∷ alarms ∷ []) told = left text alarms told
+    left_proof budget (text ∷ alarms ∷ more ∷ texts) told = tt
+
+  pub left_bench : (units start steps budget : ℕ) → LeavesQuestion (plant_net units) (plant_log units start) steps book → LeftBy (Bench units start steps budget)
+  left_bench units start steps budget left [] told = left
+  left_bench units start steps budget left (text ∷ texts) told = tt
+
+  pub left_so : (c command : Command) → command ≡ c → LeftBy c → LeftBy command
+  left_so c command is left = subst LeftBy (sym is) left
+
+-- ---- whichever command is called
+
+pub none_left : (o : Outcome) → command_of o.words ≡ None → LeftRow o
+none_left o none c texts asks = let called = asks.command in cc
+
+pub session_left : (o : Outcome) (steps budget : ℕ) → command_of o.words ≡ Some (Session steps budget) → LeftRow o
+session_left o steps budget is c texts asks =
+    let same : Session steps budget ≡ c = some_same (Session steps budget) c (sym is ∙ asks.command) in
+    subst (λ (k : Command). Leaves k texts o.book) same tt
+  where
+    some_same : (a b : Command) → Some a ≡ Some b → a ≡ b
+    some_same a b h = cc
+
+pub command_left : (o : Outcome) (command : Command) → command_of o.words ≡ Some command → LeftBy o.loads.held o.words o.book command → LeftRow o
+command_left o command is left c texts asks =
+    let same : command ≡ c = some_same command c (sym is ∙ asks.command) in
+    subst (λ (k : Command). Leaves k texts o.book) same (left texts asks.told)
+  where
+    some_same : (a b : Command) → Some a ≡ Some b → a ≡ b
+    some_same a b h = cc
