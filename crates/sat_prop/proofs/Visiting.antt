@@ -4,14 +4,14 @@ use Rattle.std.specs.Prelude.{◌⊎◌, Contains, Result, Ok, Err, OnOk, OnErr,
 use Rattle.des_base.specs.declared.memory.Memory.{Memory}
 use Rattle.std.specs.List.{list_any, list_all}
 use Rattle.std.proofs.lemmas.Grind.{common_steps}
-use Rattle.std.proofs.lemmas.Bool.{cases_eq, and_from, ne_eqb}
+use Rattle.std.proofs.lemmas.Bool.{cases_eq, cases_lt, and_from, ne_eqb, or_right}
 use Rattle.std.proofs.lemmas.List.Folds.{list_any-append}
 use Rattle.prop_core.specs.declared.lit.Lit.{Lit}
 use Rattle.prop_core.specs.Clauses.{Clause, HasValues, negation, same_literal, is_true, is_false, AreConsistent}
 use Rattle.prop_core.specs.Derivation.{standing, falsified, clause_numbered}
 use Rattle.prop_core.specs.Trail.{no_literal, is_forced_by}
 use Rattle.prop_core.proofs.Entailed.{same_itself}
-use Rattle.prop_core.proofs.Literals.{same_back, true_at, below_at, open_parts}
+use Rattle.prop_core.proofs.Literals.{same_back, true_at, true_more, below_at, open_parts}
 use Rattle.prop_core.proofs.Forcing.{forced_stands}
 use Rattle.sat_prop.specs.TrailState.{TrailState, literal_at, IsKnownClause}
 use Rattle.sat_prop.specs.Changes.{IsFront, Propagates, with_literal, with_clause}
@@ -21,7 +21,7 @@ use Rattle.sat_prop.specs.Watching.{WatchedState, AreWatched, AreVisited, IsVisi
 use Rattle.sat_prop.specs.Kept.{IsTrailState}
 use Rattle.sat_prop.proofs.Fronts.{split_last, front_trans, front_length, front_at, held_same, front_held, front_same, number_of, known_at, contains_more}
 use Rattle.sat_prop.proofs.Links.{not_both}
-use Rattle.sat_prop.proofs.Settling.{negation_once, other_among, settled_apart, settled_forced, visited_more, watched_more}
+use Rattle.sat_prop.proofs.Settling.{negation_once, other_among, settled_apart, settled_forced, settled_more, forced_longer, visited_more, watched_more}
 
 -- ---- the next that waits stays where it is
 
@@ -353,6 +353,60 @@ module _ (t : TrailState) (w : WatchedState) (all : List Clause) (new : ℕ) (cl
     each = watch_paired;
     settled = settled_paired;
   }
+
+  -- where those up to the next one make all but the first false, and that one is made true, the literals that have been looked at stay so
+  module _ (first_open : (place : ℕ) → place < length t.literals → literal_at t.literals place ≡ negation first → ⊥) (forced : is_forced_by (take (seen + 1) t.literals) first clause ≡ true) where
+    abbrev more : List Lit
+    more = t.literals ++ first ∷ []
+
+    front_literal : (place : ℕ) → place < w.seen → literal_at more place ≡ literal_at t.literals place
+    front_literal place b =
+        let n = a.front in
+        let i : place < length t.literals = omega arith in
+        grind (arith, common_steps)
+
+    settled_before : (m : ℕ) → m < count → IsSettled all t.literals w.seen paired m
+    settled_before m h place c b e k =
+        let g = kept m h in
+        subst (λ (x : Lit). MakesUp t.literals (take (place + 1) t.literals) c x) (sym (other_kept m h))
+        (settled_front t all w.lists.watches w.seen w.seen m f (omega arith) (a.each m h) (a.settled m h) place c b (e ∙ ap (λ (x : Watch). negation x.lit) g) (subst (λ (x : Watch). clause_numbered all x.clause ≡ Some c) g k))
+
+    made_up : (place : ℕ) (c : Clause) → place < w.seen → seen ≤ place → clause ≡ c → MakesUp more (take (place + 1) more) c first
+    made_up place c b after q =
+        let n = a.front in
+        let i : place < length t.literals = omega arith in
+        let front : take (place + 1) more ≡ take (place + 1) t.literals = grind (arith, common_steps) in
+        let longer : is_forced_by (take (place + 1) t.literals) first clause ≡ true = forced_longer t.literals clause first (seen + 1) (place + 1) (omega arith) forced in
+        record {
+          early = inr (subst (λ (x : Clause). is_forced_by (take (place + 1) more) first x ≡ true) q (rw front longer));
+          now = true_more t.literals first first ∙ or_right (is_true t.literals first) _ (same_itself first);
+        }
+
+    settled_joined : (m : ℕ) → m < length paired → IsSettled all more w.seen paired m
+    settled_joined = each_paired (λ m. IsSettled all more w.seen paired m)
+        (λ m h. settled_more all t.literals w.seen paired m first a.front (settled_before m h))
+        (λ place c b e k. let n = a.front in absurd (first_open place (omega arith) (sym (front_literal place b) ∙ e ∙ ap (λ (x : Watch). negation x.lit) one)))
+        (λ place c b e k.
+        let there : literal_at t.literals place ≡ negation second = sym (front_literal place b) ∙ e ∙ ap (λ (x : Watch). negation x.lit) next in
+        let q : clause ≡ c = held_same all new clause c held (subst (λ (x : Watch). clause_numbered all x.clause ≡ Some c) next k) in
+        subst (λ (x : Lit). MakesUp more (take (place + 1) more) c x) (sym (ap (λ (x : Watch). (watch_at paired x.twin).lit) next ∙ ap (λ (x : Watch). x.lit) one))
+        (made_up place c b (not_before place there) q))
+      where
+        not_before : (place : ℕ) → literal_at t.literals place ≡ negation second → seen ≤ place
+        not_before place e = ⊎_elim (λ h. absurd (second_stands place h e)) (λ h. h) (cases_lt place seen)
+
+    pub watch_joined : AreWatched (with_literal (with_clause t all new) first (Some new)) (record w { lists = with_pair w.lists new first second })
+    watch_joined = let u = watch_attached in record {
+      front = let b = a.front in grind (arith, common_steps);
+      vars = a.vars;
+      room_short = u.room_short;
+      room_watches = u.room_watches;
+      short = u.short;
+      narrow = u.narrow;
+      all = u.all;
+      each = u.each;
+      settled = settled_joined;
+    }
 
 -- ---- clauses that are attached, in a database that has grown
 

@@ -2,7 +2,7 @@
 use Rattle.std.specs.Prelude.{◌≡◌, ℕ, ◌+◌, ◌<◌, ◌≤◌, ◌⊎◌, true, false, List, [], length, take, Some, Contains}
 use Rattle.std.specs.List.{list_any, list_all}
 use Rattle.prop_core.specs.declared.lit.Lit.{Lit}
-use Rattle.prop_core.specs.Clauses.{Clause, negation, same_literal, is_true, is_false}
+use Rattle.prop_core.specs.Clauses.{Clause, negation, same_literal, is_true, is_false, is_open}
 use Rattle.prop_core.specs.Derivation.{clause_numbered}
 use Rattle.prop_core.specs.Trail.{is_forced_by}
 use Rattle.sat_prop.specs.TrailState.{TrailState, literal_at}
@@ -98,6 +98,16 @@ pub record AreTwo (clause : Clause) (first second : Lit) : Type 0 where
   pub first_among : list_any (same_literal first) clause ≡ true
   pub second_among : list_any (same_literal second) clause ≡ true
   pub apart : same_literal first second ≡ false
+
+-- two different literals of a clause: the first is open, and up to the place of one of the first so many literals, before which none makes
+-- the second false, all others are false
+pub record IsForcing (literals : List Lit) (clause : Clause) (seen : ℕ) (first second : Lit) : Type 0 where
+  pub two : AreTwo clause first second
+  pub first_open : is_open literals first ≡ true
+  pub place : ℕ
+  pub within : place < seen
+  pub before : (earlier : ℕ) → earlier < place → earlier < length literals → literal_at literals earlier ≡ negation second → ⊥
+  pub others : is_forced_by (take (place + 1) literals) first clause ≡ true
 
 -- another literal of the clause, which no literal up to a place makes false
 pub record IsReplacement (literals : List Lit) (clause : Clause) (other : Lit) (place : ℕ) (l : Lit) : Type 0 where

@@ -3,6 +3,7 @@ ghost use Rattle.prop_core.specs.Derivation.{clause_numbered};
 ghost use Rattle.prop_core.specs.Clauses.{is_open, HasValues};
 ghost use Rattle.sat_prop.specs.Levels.{level_of};
 ghost use Rattle.sat_prop.specs.Quiet.{AreQuiet, JoinsQuietly, IsPropagated};
+ghost use Rattle.sat_prop.specs.Kept.{IsTrailState};
 ghost use Rattle.sat_prop.specs.Changes.{IsFront, with_literal, with_clause, Propagates, IsKeptUpTo};
 
 use crate::trail::Trail;
@@ -92,6 +93,20 @@ impl Propagator {
     {
         self.watched.attach(&self.trail, db, id);
         self.trail.attach(db, id);
+    }
+
+    /// Attaches a clause of the database, and makes its literal true where one is open and all others are false. `propagate` does the rest.
+    pub fn join(&mut self, db: &Clauses, id: ClauseId)
+        requires room { 1 ≤ self.old.spare }
+        requires grown { IsFront self.old.clauses db.now.clauses }
+        requires from_one { 1 ≤ id }
+        requires in_range { id ≤ length db.now.clauses }
+        requires known { IfSome (clause_numbered db.now.clauses id) (HasValues self.old.vars) }
+        requires quiet { JoinsQuietly self.old (clause_numbered db.now.clauses id) }
+        ensures state { IsTrailState (with_clause self.old db.now.clauses id) }
+        ensures grown { Propagates (with_clause self.old db.now.clauses id) self.new }
+    {
+        self.watched.join(&mut self.trail, db, id);
     }
 
     /// Makes true what attached clauses force, until nothing is forced or one is false.

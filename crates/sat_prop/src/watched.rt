@@ -4,10 +4,11 @@ ghost use Rattle.std.specs.List.{list_any, list_all};
 ghost use Rattle.prop_core.specs.Clauses.{negation, same_literal, is_false, is_true, HasValues};
 ghost use Rattle.prop_core.specs.Derivation.{clause_numbered};
 ghost use Rattle.prop_core.specs.Trail.{is_forced_by};
-ghost use Rattle.sat_prop.specs.Quiet.{AreQuiet, IsConflict, IsPropagated};
+ghost use Rattle.sat_prop.specs.Quiet.{AreQuiet, IsConflict, IsPropagated, JoinsQuietly};
+ghost use Rattle.sat_prop.specs.Kept.{IsTrailState};
 ghost use Rattle.sat_prop.specs.Changes.{IsFront, Propagates, with_clause, with_literal};
 ghost use Rattle.sat_prop.specs.Watches.{IsNext, watch_at};
-ghost use Rattle.sat_prop.specs.Watching.{AreWatched, AreVisited, IsVisiting, Visits, AreTwo, IsJudged, IsReplacement, IsNarrow, no_watched};
+ghost use Rattle.sat_prop.specs.Watching.{AreWatched, AreVisited, IsVisiting, Visits, AreTwo, IsForcing, IsJudged, IsReplacement, IsNarrow, no_watched};
 
 use crate::propagator::Propagated;
 use crate::standing::Stands;
@@ -97,6 +98,35 @@ impl Watched {
             None => {
                 self.short.push(id).unwrap();
                 self.spare -= 1;
+            }
+        }
+    }
+
+    /// Attaches a clause to the trail too. Where all its literals but an open one are false by those that have been looked at, that one is
+    /// made true, so that none has to be looked at again.
+    pub fn join(&mut self, trail: &mut Trail, db: &Clauses, id: ClauseId)
+        requires watched { AreWatched trail.old self.old }
+        requires room { 1 ≤ trail.old.spare }
+        requires grown { IsFront trail.old.clauses db.now.clauses }
+        requires from_one { 1 ≤ id }
+        requires in_range { id ≤ length db.now.clauses }
+        requires known { IfSome (clause_numbered db.now.clauses id) (HasValues trail.old.vars) }
+        requires quiet { JoinsQuietly trail.old (clause_numbered db.now.clauses id) }
+        ensures watched { AreWatched trail.new self.new }
+        ensures state { IsTrailState (with_clause trail.old db.now.clauses id) }
+        ensures grown { Propagates (with_clause trail.old db.now.clauses id) trail.new }
+    {
+        match forcing(trail, db.clause(id), self.seen) {
+            Some((first, second)) => {
+                self.lists.add(db.number(id), first, second);
+                trail.attach(db, id);
+                trail.is_sound();
+                trail.force(db, id, first);
+            }
+            None => {
+                self.attach(trail, db, id);
+                trail.attach(db, id);
+                trail.is_sound();
             }
         }
     }
@@ -295,6 +325,22 @@ fn replacement(trail: &Trail, clause: &[Lit], other: Lit, place: u32) -> Option<
         }
     }
     None
+}
+
+// An open literal of a clause and one that became false last, where all but the open one became so by the first so many literals.
+fn forcing(trail: &Trail, clause: &[Lit], seen: u32) -> Option<(Lit, Lit)>
+    ensures { IfSome result (λ two. IsForcing trail.now.literals clause.now seen two.0 two.1) }
+{
+    trail.is_sound();
+    let (first, second) = two_literals(trail, clause)?;
+    let place = trail.falls(second);
+    if trail.value(first.var).is_some() || place >= seen {
+        return None;
+    }
+    if replacement(trail, clause, first, place).is_some() {
+        return None;
+    }
+    Some((first, second))
 }
 
 // Two different literals of a clause, if it has two: rather such as aren't false, and else those that became false last, so that

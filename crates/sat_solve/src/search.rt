@@ -143,7 +143,8 @@ impl<R: Fn(u32) -> u64> Search<R> {
             self.order.ranks(),
         );
         self.backtrack(learnt.level);
-        self.propagator.attach(book.clauses(), id);
+        self.propagator.join(book.clauses(), id);
+        trail_state(&self.propagator);
         Ok(())
     }
 

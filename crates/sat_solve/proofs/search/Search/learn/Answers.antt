@@ -1,14 +1,16 @@
-use Rattle.std.proofs.Common.{◌≡◌, ◌∙◌, ◌+◌, ◌-◌, ◌∷◌, ◌++◌, [], List, ap, subst, length, true, arith}
+use Rattle.std.proofs.Common.{refl, ◌≡◌, ◌∙◌, ◌+◌, ◌-◌, ◌∷◌, ◌++◌, [], List, ap, subst, length, true, arith}
 use Rattle.std.specs.List.{list_all}
 use Rattle.prop_core.specs.Clauses.{Clause}
 use Rattle.proof_ledger.specs.Book.{learnt, clauses_of}
 use Rattle.sat_prop.specs.TrailState.{TrailState}
+use Rattle.sat_prop.specs.Changes.{with_clause}
 use Rattle.sat_learn.specs.Seen.{is_known_var}
 use Rattle.sat_solve.specs.Solving.{LearnsOne}
 use Rattle.sat_solve.proofs.WaitingVariables.{room_max, serving_roomier}
 use Rattle.sat_solve.proofs.Booking.{searched_none, searched_learnt}
 use Rattle.sat_solve.proofs.Joining.{IsJoining, joining_from}
 use Rattle.sat_solve.proofs.Keeping.{sound_roomier, under_way_roomier, under_way_kept, under_way_attached}
+use Rattle.sat_solve.proofs.Stepping.{under_way_grown}
 use Rattle.sat_solve.proofs.Learning.{last_in_range, known_last, front_one, held_last, joins_kept, fresh_from}
 use Rattle.sat_solve.proofs.search.Search.learn.Given as given
 use Rattle.sat_solve.proofs.search.Search.learn.Goals as goal
@@ -36,23 +38,23 @@ joining g c = joining_from c.args.self.now.spare c.in_ok-learnt.learnt.level c.a
 joined : (g : given.Over) (c : goal.After-drop-learnt-3 g) → IsJoining c.args.self.now.spare c.reserve_clauses.new.self c.backtrack.new.self.propagator c.clauses-2.result.now.clauses c.in_ok-learnt.learnt.clause c.in_ok-id.id
 joined g c = joining_from c.args.self.now.spare c.in_ok-learnt.learnt.level c.args.self.now.propagator c.reserve_clauses.new.self c.backtrack.new.self.propagator c.args.book.now.entries c.put_learnt.new.self.entries c.clauses.result.now.clauses c.clauses-2.result.now.clauses c.as_slice.result.now c.in_ok-learnt.learnt.clause c.in_ok-learnt.learnt.hints c.as_slice-2.result.now c.in_ok-id.id c.trail_state.ensures.state c.requires.under_way.over.clauses c.in_ok-reserve_clauses.ensures.ok (rw c.trail.ensures at c.in_ok-learnt.ensures.learnt) c.clauses.ensures.clauses c.backtrack.ensures.trail c.in_ok-id.ensures.added c.as_slice.ensures c.clauses-2.ensures.clauses c.in_ok-id.ensures.id
 
-pub attach-requires-clause-grown : goal.attach-requires-clause-grown
-attach-requires-clause-grown g c = rw (joining g c).whole (front_one c.backtrack.new.self.propagator.clauses c.in_ok-learnt.learnt.clause)
+pub join-requires-clause-grown : goal.join-requires-clause-grown
+join-requires-clause-grown g c = rw (joining g c).whole (front_one c.backtrack.new.self.propagator.clauses c.in_ok-learnt.learnt.clause)
 
-pub attach-requires-clause-from_one : goal.attach-requires-clause-from_one
-attach-requires-clause-from_one g c = let j = joining g c in last_in_range c.backtrack.new.self.propagator.clauses c.in_ok-learnt.learnt.clause c.in_ok-id.id (j.numbered ∙ ap length j.whole)
+pub join-requires-clause-from_one : goal.join-requires-clause-from_one
+join-requires-clause-from_one g c = let j = joining g c in last_in_range c.backtrack.new.self.propagator.clauses c.in_ok-learnt.learnt.clause c.in_ok-id.id (j.numbered ∙ ap length j.whole)
 
-pub attach-requires-clause-known : goal.attach-requires-clause-known
-attach-requires-clause-known g c =
+pub join-requires-clause-known : goal.join-requires-clause-known
+join-requires-clause-known g c =
     let j = joining g c in
     let s = c.backtrack.ensures.sound.serving in
     known_last c.backtrack.new.self.vars c.backtrack.new.self.propagator.vars c.backtrack.new.self.propagator.clauses c.clauses-2.result.now.clauses c.in_ok-learnt.learnt.clause c.in_ok-id.id j.whole j.numbered s.below j.known s.enough
 
-pub attach-requires-clause-room : goal.attach-requires-clause-room
-attach-requires-clause-room g c = let j = (joining g c).room in omega arith
+pub join-requires-clause-room : goal.join-requires-clause-room
+join-requires-clause-room g c = let j = (joining g c).room in omega arith
 
-pub attach-requires-clause-quiet : goal.attach-requires-clause-quiet
-attach-requires-clause-quiet g c =
+pub join-requires-clause-quiet : goal.join-requires-clause-quiet
+join-requires-clause-quiet g c =
     let j = joining g c in
     joins_kept c.reserve_clauses.new.self c.backtrack.new.self.propagator c.clauses.result.now.clauses c.clauses-2.result.now.clauses c.in_ok-learnt.learnt.clause c.in_ok-learnt.learnt.hints c.in_ok-learnt.learnt.level c.in_ok-id.id j.state.justified (rw c.trail.ensures at c.in_ok-learnt.ensures.learnt) c.backtrack.ensures.trail
     (rw j.whole (held_last c.backtrack.new.self.propagator.clauses c.in_ok-learnt.learnt.clause c.in_ok-id.id (j.numbered ∙ ap length j.whole)))
@@ -66,7 +68,9 @@ returns-clause-under_way g c =
     let kept = c.backtrack.ensures.kept in
     let w = under_way_roomier c.args.assumptions.now s.taken s.order.waiting s.vars s.spare s.propagator roomy c.args.book.now.entries c.requires.under_way (room_max s.propagator roomy (s.spare + 1) c.in_ok-reserve_clauses.ensures.ok) in
     let b = under_way_kept c.args.assumptions.now s.taken t.taken s.order.waiting t.order.waiting s.vars t.vars s.spare t.spare c.in_ok-learnt.learnt.level roomy t.propagator c.args.book.now.entries w j.state c.backtrack.ensures.trail c.backtrack.ensures.sound kept.vars c.backtrack.ensures.taken in
-    under_way_attached c.args.assumptions.now t.taken t.order.waiting t.vars t.spare t.propagator c.attach.new.self c.args.book.now.entries c.put_learnt.new.self.entries c.clauses-2.result.now.clauses c.in_ok-learnt.learnt.clause c.in_ok-id.id b (let r = j.room in let n = kept.spare in omega arith) j.whole j.numbered j.known c.clauses-2.ensures.clauses c.attach.ensures
+    let attached : TrailState = with_clause t.propagator c.clauses-2.result.now.clauses c.in_ok-id.id in
+    let a = under_way_attached c.args.assumptions.now t.taken t.order.waiting t.vars t.spare t.propagator attached c.args.book.now.entries c.put_learnt.new.self.entries c.clauses-2.result.now.clauses c.in_ok-learnt.learnt.clause c.in_ok-id.id b (let r = j.room in let n = kept.spare in omega arith) j.whole j.numbered j.known c.clauses-2.ensures.clauses refl in
+    under_way_grown c.args.assumptions.now t.taken t.order.waiting t.vars t.spare attached c.join.new.self c.put_learnt.new.self.entries a c.join.ensures.grown c.join.ensures.state c.trail_state-2.ensures.state
 
 learns : (g : given.Over) (c : goal.After-drop-learnt-3 g) → LearnsOne c.args.book.now.entries c.put_learnt.new.self.entries c.args.budget.now (c.args.budget.now - 1)
 learns g c =
