@@ -22,4 +22,4 @@ mod whole;
 pub use refusal::SessionRefusal;
 pub use rows::Told;
 pub use session::Session;
-pub use size::question_size;
+pub use size::{doubtful_alarms, fault_events, question_size};

@@ -58,17 +58,17 @@ searching_axioms old new left adds = record {
   paid = (let none = none_learnt adds.axioms in omega (arith, none));
 }
 
-both_whole : (old mid new : List BookEntry) (before after : ℕ) → (adds : AddsAxioms old mid) → (searched : IsSearched mid new before after) → new ≡ old ++ (map axiomatic adds.axioms ++ searched.since)
+pub both_whole : (old mid new : List BookEntry) (before after : ℕ) → (adds : AddsAxioms old mid) → (searched : IsSearched mid new before after) → new ≡ old ++ (map axiomatic adds.axioms ++ searched.since)
 both_whole old mid new before after adds searched = searched.whole ∙ ap (λ b. b ++ searched.since) adds.more ∙ append_assoc old (map axiomatic adds.axioms) searched.since
 
-both_unmarked : (old mid new : List BookEntry) (before after : ℕ) → (adds : AddsAxioms old mid) → (searched : IsSearched mid new before after) → (number : ℕ) → count_by (is_mark number) (map axiomatic adds.axioms ++ searched.since) ≡ 0
+pub both_unmarked : (old mid new : List BookEntry) (before after : ℕ) → (adds : AddsAxioms old mid) → (searched : IsSearched mid new before after) → (number : ℕ) → count_by (is_mark number) (map axiomatic adds.axioms ++ searched.since) ≡ 0
 both_unmarked old mid new before after adds searched number =
     let count = count_append (is_mark number) (map axiomatic adds.axioms) searched.since in
     let one = none_marked number adds.axioms in
     let two = derived_unmarked number searched.since searched.derived in
     omega (arith, count, one, two)
 
-both_paid : (old mid new : List BookEntry) (before after : ℕ) → (adds : AddsAxioms old mid) → (searched : IsSearched mid new before after) → count_by is_learnt (map axiomatic adds.axioms ++ searched.since) + after ≡ before
+pub both_paid : (old mid new : List BookEntry) (before after : ℕ) → (adds : AddsAxioms old mid) → (searched : IsSearched mid new before after) → count_by is_learnt (map axiomatic adds.axioms ++ searched.since) + after ≡ before
 both_paid old mid new before after adds searched =
     let count = count_append is_learnt (map axiomatic adds.axioms) searched.since in
     let none = none_learnt adds.axioms in

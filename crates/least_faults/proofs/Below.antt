@@ -1,12 +1,12 @@
 -- The clauses of the parts of a question have no variables but those that were made.
-use Rattle.std.proofs.Common.{◌≡◌, ℕ, ◌+◌, ◌*◌, ◌<◌, ◌≤◌, ◌⊎◌, inl, inr, List, [], ◌∷◌, ◌++◌, Option, None, Some, option_map, refl, ap, subst, arith, Contains}
+use Rattle.std.proofs.Common.{◌≡◌, ℕ, ◌+◌, ◌-◌, ◌*◌, ◌<◌, ◌≤◌, ◌⊎◌, inl, inr, List, [], ◌∷◌, ◌++◌, Option, None, Some, option_map, refl, ap, subst, arith, Contains}
 use Rattle.std.specs.List.{AllByRecursion}
 use Rattle.std.proofs.lemmas.List.Elements.{All-nil, All-cons, Contains-append_cases as append_cases}
 use Rattle.card_counter.proofs.CodeLemmas.{counter_is_code}
 use Rattle.card_counter.proofs.NameLemmas.{counter_names_stand}
 use Rattle.card_counter.specs.CounterState.{CounterState, counter_names, counter_clauses}
 use Rattle.des_base.proofs.Elements.{all_from as all_of}
-use Rattle.least_faults.specs.Parts.{AreParts}
+use Rattle.least_faults.specs.Parts.{AreParts, HaveRoom}
 use Rattle.log_clauses.proofs.Codes.{read_of, named_entry}
 use Rattle.log_clauses.proofs.Lists.{all_at}
 use Rattle.log_encode.proofs.CodeLemmas.{asked_below}
@@ -19,7 +19,7 @@ use Rattle.prop_core.specs.declared.lit.Lit.{Lit}
 use Rattle.run_decode.proofs.RunNames.{step_entry}
 use Rattle.run_decode.proofs.WholeNames.{together_one_naming}
 use Rattle.run_decode.specs.Drawn.{fault_inputs}
-use Rattle.run_decode.specs.WholeNaming.{whole_names, HaveOneNaming}
+use Rattle.run_decode.specs.WholeNaming.{AreClausesOf, whole_names, HaveOneNaming}
 use Rattle.step_encode.proofs.Codes.{grid_ends}
 use Rattle.step_encode.specs.Coded.{CodedSteps, code_names as step_names, variable_count}
 
@@ -51,44 +51,65 @@ code_below vars names family clauses clause below code in' =
 
 -- ---- the names of the parts
 
-module _ (steps : CodedSteps) (code : CodedLog) (counter : CounterState) (vars : ℕ) (axioms : List Clause) (parts : AreParts steps code counter vars axioms) where
+-- parts with all their axioms have room
+pub room_of : (steps : CodedSteps) (code : CodedLog) (counter : CounterState) (vars : ℕ) (axioms : List Clause) → AreParts steps code counter vars axioms → HaveRoom steps code counter vars
+room_of steps code counter vars axioms parts =
+    let bounded = parts.bounded in
+    let variables = bounded.variables in
+    let limit = bounded.limit in record {
+      together = parts.together;
+      above = parts.above;
+      made = parts.made;
+      columns = bounded.columns;
+      fits = omega (arith, variables, limit);
+    }
+
+module _ (steps : CodedSteps) (code : CodedLog) (counter : CounterState) (vars : ℕ) (room : HaveRoom steps code counter vars) where
   steps_end : steps.first + variable_count steps.net steps.steps ≤ vars
   steps_end =
-      let made = subst (λ (grid : Grid). grid.first + grid.events * grid.steps ≤ code.asked) parts.together.beside.grid parts.together.beside.logged.made in
+      let made = subst (λ (grid : Grid). grid.first + grid.events * grid.steps ≤ code.asked) room.together.beside.grid room.together.beside.logged.made in
       let ends = grid_ends steps in
-      let asked = asked_below code parts.together.beside.logged in
-      let above = parts.above in
+      let asked = asked_below code room.together.beside.logged in
+      let above = room.above in
       omega (arith, made, ends, asked, above)
 
-  pub names_below : AreBelow vars (whole_names steps code counter)
-  names_below entry in' = by (append_cases (step_names steps) (log_names code ++ counter_names counter) entry in')
+  pub room_names_below : AreBelow vars (whole_names steps code counter)
+  room_names_below entry in' = by (append_cases (step_names steps) (log_names code ++ counter_names counter) entry in')
     where
       of_counter : Contains (counter_names counter) entry → entry.0 < vars
       of_counter here =
-          let found = (counter_names_stand counter parts.together.counted).only entry here in
-          let below = parts.made.columns found.0 found.1 found.2 in
+          let found = (counter_names_stand counter room.together.counted).only entry here in
+          let below = room.made.columns found.0 found.1 found.2 in
           let same = ap (λ (e : ℕ × Name). e.0) found.3 in
           omega (arith, below, same)
 
       of_others : Contains (log_names code) entry ⊎ Contains (counter_names counter) entry → entry.0 < vars
       of_others (inl here) =
-          let low = all_at (λ (e : ℕ × Name). e.0 < code.vars) (log_names code) parts.together.beside.logged.names.below entry here in
-          let above = parts.above in
+          let low = all_at (λ (e : ℕ × Name). e.0 < code.vars) (log_names code) room.together.beside.logged.names.below entry here in
+          let above = room.above in
           omega (arith, low, above)
       of_others (inr here) = of_counter here
 
       by : Contains (step_names steps) entry ⊎ Contains (log_names code ++ counter_names counter) entry → entry.0 < vars
-      by (inl here) = let low = (step_entry steps code parts.together.beside entry here).1 in let end = steps_end in omega (arith, low, end)
+      by (inl here) = let low = (step_entry steps code room.together.beside entry here).1 in let end = steps_end in omega (arith, low, end)
       by (inr here) = of_others (append_cases (log_names code) (counter_names counter) entry here)
 
   naming : HaveOneNaming steps code counter
-  naming = together_one_naming steps code counter parts.together
+  naming = together_one_naming steps code counter room.together
 
-  clause_below : (clause : Clause) → Contains parts.clauses.stepped clause ⊎ (Contains parts.clauses.written clause ⊎ Contains (counter_clauses counter) clause) → HasValues vars clause
-  clause_below clause (inl here) = code_below vars (step_names steps) _ parts.clauses.stepped clause (λ entry in'. names_below entry (naming.of_steps entry in')) parts.clauses.step_code here
-  clause_below clause (inr (inl here)) = code_below vars (read_names code) _ parts.clauses.written clause (λ entry in'. names_below entry (naming.of_log entry in')) parts.clauses.log_code.clauses here
-  clause_below clause (inr (inr here)) =
-      code_below vars (whole_names steps code counter) _ (counter_clauses counter) clause names_below (counter_is_code (whole_names steps code counter) (fault_inputs steps.net code.log steps.steps) counter naming.of_counter) here
+  -- so are those of the counter
+  pub counter_below : (clause : Clause) → Contains (counter_clauses counter) clause → HasValues vars clause
+  counter_below clause here =
+      code_below vars (whole_names steps code counter) _ (counter_clauses counter) clause room_names_below (counter_is_code (whole_names steps code counter) (fault_inputs steps.net code.log steps.steps) counter naming.of_counter) here
+
+  -- and all clauses of the parts
+  pub clause_below : (axioms : List Clause) (are : AreClausesOf steps code counter axioms) (clause : Clause) → Contains are.stepped clause ⊎ (Contains are.written clause ⊎ Contains (counter_clauses counter) clause) → HasValues vars clause
+  clause_below axioms are clause (inl here) = code_below vars (step_names steps) _ are.stepped clause (λ entry in'. room_names_below entry (naming.of_steps entry in')) are.step_code here
+  clause_below axioms are clause (inr (inl here)) = code_below vars (read_names code) _ are.written clause (λ entry in'. room_names_below entry (naming.of_log entry in')) are.log_code.clauses here
+  clause_below axioms are clause (inr (inr here)) = counter_below clause here
+
+pub names_below : (steps : CodedSteps) (code : CodedLog) (counter : CounterState) (vars : ℕ) (axioms : List Clause) → AreParts steps code counter vars axioms → AreBelow vars (whole_names steps code counter)
+names_below steps code counter vars axioms parts = room_names_below steps code counter vars (room_of steps code counter vars axioms parts)
 
 pub axioms_below : (steps : CodedSteps) (code : CodedLog) (counter : CounterState) (vars : ℕ) (axioms : List Clause) → AreParts steps code counter vars axioms → AllByRecursion (HasValues vars) axioms
-axioms_below steps code counter vars axioms parts = all_of (HasValues vars) axioms (λ clause in'. clause_below steps code counter vars axioms parts clause ((parts.clauses.same clause).0 in'))
+axioms_below steps code counter vars axioms parts = all_of (HasValues vars) axioms (λ clause in'. clause_below steps code counter vars (room_of steps code counter vars axioms parts) axioms parts.clauses clause ((parts.clauses.same clause).0 in'))

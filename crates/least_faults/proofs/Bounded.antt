@@ -58,7 +58,7 @@ addition_fits net log n (pair_added i j) = omega arith
 
 -- ---- one column less is left
 
-one_less : (columns inputs : ℕ) → columns < 256 → (256 - columns) * inputs ≡ (256 - (columns + 1)) * inputs + inputs
+pub one_less : (columns inputs : ℕ) → columns < 256 → (256 - columns) * inputs ≡ (256 - (columns + 1)) * inputs + inputs
 one_less columns inputs few = let rest : 256 - columns ≡ suc (256 - (columns + 1)) = omega arith in ap (λ (k : ℕ). k * inputs) rest ∙ suc-mul (256 - (columns + 1)) inputs
 
 -- ---- as they begin
@@ -97,14 +97,6 @@ module _ (net : Net) (log : Log) (n : ℕ) (steps : CodedSteps) (code : CodedLog
 -- ---- with a column
 
 module _ (steps : CodedSteps) (code : CodedLog) (counter : CounterState) (vars : ℕ) (axioms : List Clause) (bounded : AreBounded steps code counter vars axioms) where
-  -- there is room for its variables
-  pub column_fits : length counter.columns < 256 → vars + length counter.inputs ≤ VAR_LIMIT
-  column_fits few =
-      let one = one_less (length counter.columns) (length counter.inputs) few in
-      let variables = bounded.variables in
-      let limit = bounded.limit in
-      omega (arith, one, variables, limit)
-
   pub bounded_column : (now : CounterState) (next : List Clause) → length counter.columns < 256 → now.inputs ≡ counter.inputs → length now.columns ≡ length counter.columns + 1 → length next ≤ 2 * length counter.inputs →
       AreBounded steps code now (vars + length counter.inputs) (axioms ++ next)
   bounded_column now next few same more short =

@@ -123,10 +123,10 @@ ok_weaker (Err e) P Q f p = tt
 
 -- ---- marks
 
-marked_axioms : (book : List BookEntry) (number : ℕ) → axioms_of (book ++ mark number ∷ []) ≡ axioms_of book
+pub marked_axioms : (book : List BookEntry) (number : ℕ) → axioms_of (book ++ mark number ∷ []) ≡ axioms_of book
 marked_axioms book number = filter_map-append axiom_of book (mark number ∷ []) ∙ append-nil (axioms_of book)
 
-marked_clauses : (book : List BookEntry) (number : ℕ) → clauses_of (book ++ mark number ∷ []) ≡ clauses_of book
+pub marked_clauses : (book : List BookEntry) (number : ℕ) → clauses_of (book ++ mark number ∷ []) ≡ clauses_of book
 marked_clauses book number = filter_map-append clause_of book (mark number ∷ []) ∙ append-nil (clauses_of book)
 
 pub marked_ready : {R : Type 0} (may : R → ℕ → Type 0) (gives : R → ℕ → ℕ → Type 0) (parts : Parts R) (number : ℕ) (book new : List BookEntry) → new ≡ book ++ mark number ∷ [] → AreReady may gives parts book → AreReady may gives parts new

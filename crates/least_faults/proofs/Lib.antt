@@ -10,6 +10,7 @@ pub mod AddedClauses
 pub mod Bounded
 pub mod ColumnsBuilt
 pub mod Columns
+pub mod Beside
 pub mod Drafts
 pub mod Reserving
 pub mod Determined

@@ -1,5 +1,5 @@
 -- What the parts of a question ask, with what is assumed: it is faithful and drawn from its families, whatever the names of the log's alarms.
-use Rattle.std.proofs.Common.{ℕ, ◌<◌, ◌≤◌, List, ◌++◌, length, Option, Some, None, IfSome, sym, subst, append-nil}
+use Rattle.std.proofs.Common.{◌≡◌, ℕ, ◌<◌, ◌≤◌, List, ◌++◌, length, Option, Some, None, IfSome, sym, subst, append-nil}
 use Rattle.card_counter.specs.CounterState.{CounterState}
 use Rattle.des_base.proofs.Elements.{all_from as all_of}
 use Rattle.least_faults.specs.Asking.{AreAssumptions, Pose, bound_part}
@@ -7,7 +7,7 @@ use Rattle.least_faults.specs.Evidence.{IsPosed}
 use Rattle.least_faults.specs.Parts.{AreParts, AreReady, BelongTo, names_of}
 use Rattle.des_net.specs.Network.{Net, IsNetwork}
 use Rattle.log_clauses.proofs.Lists.{all_at}
-use Rattle.log_encode.specs.CodedLog.{CodedLog, read_names}
+use Rattle.log_encode.specs.CodedLog.{CodedLog, read_names, without_names}
 use Rattle.log_order.specs.Log.{Log, IsValidLog}
 use Rattle.prop_core.specs.Clauses.{Clause}
 use Rattle.prop_core.specs.VariableNames.{Name, NamedLiteral, ReadsAs}
@@ -19,7 +19,7 @@ use Rattle.run_decode.proofs.Questions.{instances_of, question_is_faithful}
 use Rattle.run_decode.proofs.WholeNames.{together_ask}
 use Rattle.run_decode.specs.Drawn.{IsInstance}
 use Rattle.run_decode.specs.Question.{Asks, IsNamedQuestion}
-use Rattle.run_decode.specs.WholeNaming.{whole_names, AskTogether}
+use Rattle.run_decode.specs.WholeNaming.{AreClausesOf, AreCodedTogether, whole_names, AskTogether}
 use Rattle.step_encode.specs.Coded.{CodedSteps}
 use Rattle.least_faults.specs.declared.parts.Parts.{Parts}
 use Rattle.log_clauses.specs.LogClauses.{guard_literals}
@@ -37,24 +37,33 @@ asks_poses net log n bound names clauses assumed network valid asks = record {
   assumes = asks.assumes;
 }
 
--- parts and assumptions ask
-parts_ask : (steps : CodedSteps) (code : CodedLog) (counter : CounterState) (vars : ℕ) (axioms : List Clause) (bound : Option ℕ) (assumed : List Lit) → AreParts steps code counter vars axioms →
+-- clauses of the parts and assumptions ask
+pub clauses_ask : (steps : CodedSteps) (code : CodedLog) (counter : CounterState) (axioms : List Clause) (bound : Option ℕ) (assumed : List Lit) → AreCodedTogether steps code counter → AreClausesOf steps code counter axioms →
     AreAssumptions code counter bound assumed → Asks steps.net code.log steps.steps bound (whole_names steps code counter) axioms assumed
-parts_ask steps code counter vars axioms bound assumed parts assumptions = subst (Asks steps.net code.log steps.steps bound (whole_names steps code counter) axioms) (sym assumptions.whole) (by bound assumptions.column)
+clauses_ask steps code counter axioms bound assumed together clauses assumptions = subst (Asks steps.net code.log steps.steps bound (whole_names steps code counter) axioms) (sym assumptions.whole) (by bound assumptions.column)
   where
     ask : AskTogether steps code counter axioms assumptions.guards
-    ask = together_ask steps code counter axioms assumptions.guards parts.together parts.clauses assumptions.read
+    ask = together_ask steps code counter axioms assumptions.guards together clauses assumptions.read
 
     by : (b : Option ℕ) → IfSome b (λ k. k < length counter.columns) → Asks steps.net code.log steps.steps b (whole_names steps code counter) axioms (assumptions.guards ++ bound_part counter b)
     by None there = subst (Asks steps.net code.log steps.steps None (whole_names steps code counter) axioms) (sym (append-nil assumptions.guards)) ask.unbounded
     by (Some k) there = ask.bounded k there
 
+-- whatever the names of the log's alarms
+pub clauses_ask_of : (steps : CodedSteps) (code : CodedLog) (counter : CounterState) (axioms : List Clause) (bound : Option ℕ) (assumed : List Lit) (log : Log) → AreCodedTogether steps code counter → AreClausesOf steps code counter axioms →
+    AreAssumptions code counter bound assumed → code.log ≡ without_names log → Asks steps.net log steps.steps bound (whole_names steps code counter) axioms assumed
+clauses_ask_of steps code counter axioms bound assumed log together clauses assumptions same =
+    ((alarm_names_dont_matter steps.net log steps.steps).asks bound (whole_names steps code counter) axioms assumed).1
+    (subst (λ l. Asks steps.net l steps.steps bound (whole_names steps code counter) axioms assumed) same (clauses_ask steps code counter axioms bound assumed together clauses assumptions))
+
+pub clauses_pose : (steps : CodedSteps) (code : CodedLog) (counter : CounterState) (axioms : List Clause) (bound : Option ℕ) (assumed : List Lit) → AreCodedTogether steps code counter → AreClausesOf steps code counter axioms →
+    AreAssumptions code counter bound assumed → Pose steps code counter axioms bound assumed
+clauses_pose steps code counter axioms bound assumed together clauses assumptions log network valid same =
+    asks_poses steps.net log steps.steps bound (whole_names steps code counter) axioms assumed network valid (clauses_ask_of steps code counter axioms bound assumed log together clauses assumptions same)
+
 pub poses : (steps : CodedSteps) (code : CodedLog) (counter : CounterState) (vars : ℕ) (axioms : List Clause) (bound : Option ℕ) (assumed : List Lit) → AreParts steps code counter vars axioms →
     AreAssumptions code counter bound assumed → Pose steps code counter axioms bound assumed
-poses steps code counter vars axioms bound assumed parts assumptions log network valid same =
-    asks_poses steps.net log steps.steps bound (whole_names steps code counter) axioms assumed network valid
-    (((alarm_names_dont_matter steps.net log steps.steps).asks bound (whole_names steps code counter) axioms assumed).1
-    (subst (λ l. Asks steps.net l steps.steps bound (whole_names steps code counter) axioms assumed) same (parts_ask steps code counter vars axioms bound assumed parts assumptions)))
+poses steps code counter vars axioms bound assumed parts assumptions = clauses_pose steps code counter axioms bound assumed parts.together parts.clauses assumptions
 
 -- with its guards the parts ask a question without a bound
 pub unbounded : {R : Type 0} (may : R → ℕ → Type 0) (gives : R → ℕ → ℕ → Type 0) (parts : Parts R) (book : List BookEntry) (net : Net) (log : Log) (guards : List Lit) → AreReady may gives parts book → BelongTo net log parts → IsNetwork net → IsValidLog log →

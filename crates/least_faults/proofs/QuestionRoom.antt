@@ -95,14 +95,19 @@ alarms_within net log n size within =
     spread_out : (k a b c : ℕ) → k * b ≤ k * (a + b + c)
     spread_out k a b c = grind arith
 
-pub question_fits : (net : Net) (log : Log) (n : ℕ) → IsDraft net → length log.alarms ≤ 2000 → n ≤ 1000 → question_size net log n ≤ MOST_SIZE →
-    variable_count net n + log_variables net log n + (counter_size net n + 256 * doubtful_count log) ≤ VAR_LIMIT
-question_fits net log n draft alarms time size =
+-- there is room beside it for a counter of costs
+pub question_room : (net : Net) (log : Log) (n : ℕ) → IsDraft net → length log.alarms ≤ 2000 → n ≤ 1000 → question_size net log n ≤ MOST_SIZE →
+    variable_count net n + log_variables net log n + (counter_size net n + 256 * doubtful_count log) ≤ 1000000000
+question_room net log n draft alarms time size =
     let steps = variables_are_few net n draft time in
     let observable = few_observable net draft in
     let logged = alarms_bound net log n draft in
     let within = alarms_within net log n MOST_SIZE size in
     omega (arith, steps, observable, logged, within, alarms)
+
+pub question_fits : (net : Net) (log : Log) (n : ℕ) → IsDraft net → length log.alarms ≤ 2000 → n ≤ 1000 → question_size net log n ≤ MOST_SIZE →
+    variable_count net n + log_variables net log n + (counter_size net n + 256 * doubtful_count log) ≤ VAR_LIMIT
+question_fits net log n draft alarms time size = let room = question_room net log n draft alarms time size in omega (arith, room)
 
 -- ---- alarm by alarm
 

@@ -23,7 +23,7 @@ use Rattle.prop_core.specs.declared.lit.Lit.{Lit}
 use Rattle.run_decode.specs.Decided.{Decides}
 use Rattle.run_decode.specs.Faithful.{IsWithin}
 use Rattle.run_decode.specs.QuestionAxioms.{BuiltQuestion}
-use Rattle.run_decode.specs.WholeNaming.{whole_names}
+use Rattle.run_decode.specs.WholeNaming.{AreClausesOf, whole_names}
 use Rattle.step_encode.specs.Coded.{CodedSteps}
 
 -- ---- what is assumed
@@ -60,12 +60,13 @@ abbrev pub Pose : CodedSteps → CodedLog → CounterState → List Clause → O
 Pose steps code counter axioms bound assumed = (log : Log) → IsNetwork steps.net → IsValidLog log → code.log ≡ without_names log →
     IsPosed (whole_names steps code counter) axioms assumed steps.net log steps.steps bound
 
--- The counter has a column for the bound, and keeps those that it had. The literal is the counter's for it, and together with the guards it poses the question within the bound.
-pub record IsBoundLiteral {R : Type 0} (before : CounterState) (parts : Parts R) (axioms : List Clause) (k : ℕ) (literal : Lit) : Type 0 where
+-- The counter has a column for the bound, and keeps those that it had. The literal is the counter's for it, and together with the guards it poses the question within the bound, with whatever list has the clauses of the parts.
+pub record IsBoundLiteral {R : Type 0} (before : CounterState) (parts : Parts R) (k : ℕ) (literal : Lit) : Type 0 where
   pub columns : length parts.counter.columns ≡ max (length before.columns) (k + 1)
   pub literal_is : literal ≡ bound_literal parts.counter k
-  pub posed : (guards : List Lit) → ReadsAs (read_names parts.code.code) guards (guard_literals parts.code.code.net parts.code.code.log) →
-      Pose parts.step parts.code.code parts.counter axioms (Some k) (guards ++ literal ∷ [])
+  pub posed : (own : List Clause) → AreClausesOf parts.step parts.code.code parts.counter own →
+      (guards : List Lit) → ReadsAs (read_names parts.code.code) guards (guard_literals parts.code.code.net parts.code.code.log) →
+      Pose parts.step parts.code.code parts.counter own (Some k) (guards ++ literal ∷ [])
 
 -- ---- what is put down
 

@@ -1,7 +1,7 @@
 -- The parts of a question, as they stand beside the book that holds its clauses.
-use Rattle.std.specs.Prelude.{◌≡◌, ℕ, ◌≤◌, List, length}
+use Rattle.std.specs.Prelude.{◌≡◌, ℕ, ◌+◌, ◌-◌, ◌*◌, ◌≤◌, List, length}
 use Rattle.card_counter.specs.CounterState.{CounterState, IsMade}
-use Rattle.des_base.specs.declared.TheConstants.{MOST_STEPS}
+use Rattle.des_base.specs.declared.TheConstants.{MOST_COLUMNS, MOST_STEPS, VAR_LIMIT}
 use Rattle.des_net.specs.Network.{Net}
 use Rattle.least_faults.specs.Bounds.{AreBounded}
 use Rattle.least_faults.specs.declared.TheConstants.{MOST_SIZE}
@@ -39,6 +39,26 @@ pub record AreReady {R : Type 0} (may : R → ℕ → Type 0) (gives : R → ℕ
   pub adopted_all : parts.solver.adopted ≡ clauses_of book
   pub enough : parts.vars ≤ parts.solver.vars
   pub ranked : IsRanked may gives parts.solver.order
+
+-- ---- beside further axioms
+
+-- Steps, log and counter are coded together, on variables that were made, among which there may be others. With all columns that the counter may still get, they are within the limit.
+pub record HaveRoom (steps : CodedSteps) (code : CodedLog) (counter : CounterState) (vars : ℕ) : Type 0 where
+  pub together : AreCodedTogether steps code counter
+  pub above : code.vars ≤ vars
+  pub made : IsMade vars counter
+  pub columns : length counter.columns ≤ MOST_COLUMNS
+  pub fits : vars + (MOST_COLUMNS - length counter.columns) * length counter.inputs ≤ VAR_LIMIT
+
+-- The parts stand beside a book that may have further axioms: all variables of its clauses occur in axioms, the solver has adopted all its clauses, and has the variables at least.
+pub record AreReadyBeside {R : Type 0} (may : R → ℕ → Type 0) (gives : R → ℕ → ℕ → Type 0) (parts : Parts R) (book : List BookEntry) : Type 0 where
+  pub coded : HaveRoom parts.step parts.code.code parts.counter parts.vars
+  pub known : HasAxiomVars book
+  pub adopted_all : parts.solver.adopted ≡ clauses_of book
+  pub enough : parts.vars ≤ parts.solver.vars
+  pub ranked : IsRanked may gives parts.solver.order
+
+-- ---- what was built
 
 -- steps and log are coded for this network and this log
 abbrev pub BelongTo : {R : Type 0} → Net → Log → Parts R → Type 0

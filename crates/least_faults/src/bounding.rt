@@ -3,8 +3,7 @@ ghost use Rattle.std.specs.Prelude.{◌≡◌, ◌<◌, ◌≤◌, ◌+◌, IfOk
 ghost use Rattle.des_base.specs.declared.TheConstants.{MOST_COLUMNS};
 ghost use Rattle.least_faults.specs.Asking.{IsBoundLiteral};
 ghost use Rattle.least_faults.specs.Growing.{AddsAxioms, KeepsQuestion, StandsStill};
-ghost use Rattle.least_faults.specs.Parts.{AreReady};
-ghost use Rattle.proof_ledger.specs.Book.{axioms_of};
+ghost use Rattle.least_faults.specs.Parts.{AreReady, AreReadyBeside};
 
 use crate::axioms::push_axioms;
 use crate::parts::Parts;
@@ -15,6 +14,7 @@ use std::alloc::Global;
 
 /// The literal for at most k faults. It adds the columns that the counter lacks.
 ///
+/// The book may have further axioms beside those of the question, over other variables that were made.
 /// Each column is put into counter, book and solver whole or not at all; those that were added before memory was wanting stay.
 pub fn bound<R: Fn(u32) -> u64>(
     alloc: Global,
@@ -22,13 +22,14 @@ pub fn bound<R: Fn(u32) -> u64>(
     book: &mut Ledger,
     k: u32,
 ) -> Result<Lit, Memory>
-    requires ready { AreReady R.pre R.post parts.old book.old.entries }
+    requires ready { AreReadyBeside R.pre R.post parts.old book.old.entries }
     requires some { 0 < length parts.old.counter.inputs }
     requires few { k ≤ 255 }
-    ensures ready { AreReady R.pre R.post parts.new book.new.entries }
+    ensures ready { AreReadyBeside R.pre R.post parts.new book.new.entries }
+    ensures alone { AreReady R.pre R.post parts.old book.old.entries → AreReady R.pre R.post parts.new book.new.entries }
     ensures kept { KeepsQuestion parts.old parts.new book.old.entries book.new.entries }
     ensures axioms { AddsAxioms book.old.entries book.new.entries }
-    ensures literal { IfOk result (IsBoundLiteral parts.old.counter parts.new (axioms_of book.new.entries) k) }
+    ensures literal { IfOk result (IsBoundLiteral parts.old.counter parts.new k) }
 {
     for _ in parts.counter.columns()..k + 1 {
         add_column(alloc, parts, book)?;
@@ -42,10 +43,10 @@ fn add_column<R: Fn(u32) -> u64>(
     parts: &mut Parts<R>,
     book: &mut Ledger,
 ) -> Result<(), Memory>
-    requires ready { AreReady R.pre R.post parts.old book.old.entries }
+    requires ready { AreReadyBeside R.pre R.post parts.old book.old.entries }
     requires some { 0 < length parts.old.counter.inputs }
     requires few { length parts.old.counter.columns < MOST_COLUMNS }
-    ensures ready { AreReady R.pre R.post parts.new book.new.entries }
+    ensures ready { AreReadyBeside R.pre R.post parts.new book.new.entries }
     ensures kept { KeepsQuestion parts.old parts.new book.old.entries book.new.entries }
     ensures axioms { AddsAxioms book.old.entries book.new.entries }
     ensures columns { OnOk result (length parts.new.counter.columns ≡ length parts.old.counter.columns + 1) }

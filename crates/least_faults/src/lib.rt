@@ -23,6 +23,7 @@ mod searching;
 pub use adding::{Reserved, add_draft, reserve_draft};
 pub use answer::{Best, Found};
 pub use asking::assumptions;
+pub use axioms::push_axioms;
 pub use bounding::bound;
 pub use building::build;
 pub use laws::undecided_is_small;

@@ -6,6 +6,7 @@ pub mod Forcing
 pub mod Following
 pub mod Vectors
 pub mod NameLemmas
+pub mod FurtherNames
 pub mod FamilyLemmas
 pub mod GridLemmas
 pub mod Premises

@@ -7,5 +7,6 @@ pub mod Laws
 pub mod Trail
 pub mod VariableNames
 pub mod NamedClauses
+pub mod FurtherNames
 pub mod Grids
 pub mod Listings

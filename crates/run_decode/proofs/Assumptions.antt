@@ -14,7 +14,7 @@ use Rattle.prop_core.specs.VariableNames.{Name, in_state, happens, asked, matche
 use Rattle.prop_core.specs.declared.lit.Lit.{Lit}
 use Rattle.run_decode.specs.Drawn.{fault_inputs, at_most, bound_literals, assumption_literals}
 
-abbrev is_guard : Name → Bool
+abbrev pub is_guard : Name → Bool
 is_guard (in_state c q t) = false
 is_guard (happens e t) = false
 is_guard asked = true
@@ -27,7 +27,7 @@ is_guard (reaches i j) = false
 is_guard (some_of_first family i) = false
 
 -- the literal has the sign of its name
-abbrev HasSign : NamedLiteral → Type 0
+abbrev pub HasSign : NamedLiteral → Type 0
 HasSign l = l.positive ≡ is_guard l.name
 
 ends_signed : (net : Net) (log : Log) (es : List ℕ) → AllByRecursion HasSign (map (λ e. yes (closed e (length (chain net log e)))) es)
@@ -42,7 +42,7 @@ bound_signed : (net : Net) (log : Log) (n : ℕ) (bound : Option ℕ) → AllByR
 bound_signed net log n None = tt
 bound_signed net log n (Some b) = at_most_signed (length (fault_inputs net log n)) b
 
-assumptions_signed : (net : Net) (log : Log) (n : ℕ) (bound : Option ℕ) → AllByRecursion HasSign (assumption_literals net log n bound)
+pub assumptions_signed : (net : Net) (log : Log) (n : ℕ) (bound : Option ℕ) → AllByRecursion HasSign (assumption_literals net log n bound)
 assumptions_signed net log n bound = all_append HasSign (guard_literals net log) (bound_literals net log n bound) (refl, ends_signed net log (observable_events net)) (bound_signed net log n bound)
 
 -- ---- over variables

@@ -4,6 +4,8 @@ pub mod RunsGiven
 pub mod Assumptions
 pub mod Questions
 pub mod Decided
+pub mod Tells
+pub mod FurtherNames
 pub mod Parts
 pub mod Growth
 pub mod Reading

@@ -53,16 +53,16 @@ instances_of net log n columns named (inr (inl is)) = inr (inl is)
 instances_of net log n columns named (inr (inr (which, is, few, same))) = inr (inr (which, is, same))
 
 module _ (net : Net) (log : Log) (n : ℕ) (bound : Option ℕ) (names : List (ℕ × Name)) (clauses : List Clause) (assumed : List Lit) (asks : Asks net log n bound names clauses assumed) where
-  clauses_true : (assignment : ℕ → Bool) (value : Name → Bool) → Match names assignment value → QuestionHolds net log n value → AllClausesTrue assignment clauses
+  pub clauses_true : (assignment : ℕ → Bool) (value : Name → Bool) → Match names assignment value → QuestionHolds net log n value → AllClausesTrue assignment clauses
   clauses_true assignment value match holds =
       (code_holds (IsNamedQuestion net log n asks.columns) names clauses assignment value asks.question.code match).1 (all_from_holds net log n asks.columns value holds)
 
   -- what is true by name is true by variable
-  made_true : (value : Name → Bool) → QuestionHolds net log n value → GuardsHold net log value → BoundHolds net log n bound value → MakesTrue (assignment_by names value (λ var. false)) clauses assumed
-  made_true value holds guards bounds =
-      let match = assignments_match names value (λ var. false) in record {
-        clauses_true = clauses_true (assignment_by names value (λ var. false)) value match holds;
-        assumed_true = (literals_by_name names (assignment_by names value (λ var. false)) value match assumed (assumption_literals net log n bound) asks.assumes).1
+  pub made_true : (value : Name → Bool) (given : ℕ → Bool) → QuestionHolds net log n value → GuardsHold net log value → BoundHolds net log n bound value → MakesTrue (assignment_by names value given) clauses assumed
+  made_true value given holds guards bounds =
+      let match = assignments_match names value given in record {
+        clauses_true = clauses_true (assignment_by names value given) value match holds;
+        assumed_true = (literals_by_name names (assignment_by names value given) value match assumed (assumption_literals net log n bound) asks.assumes).1
             (all_append (λ l. IsTrue (named_true value l)) (guard_literals net log) (bound_literals net log n bound) guards bounds);
       }
 
@@ -94,7 +94,7 @@ pub question_is_faithful : QuestionIsFaithful
 question_is_faithful net log n bound names clauses assumed network valid asks = record {
   complete = λ word order explains within.
       let made = explained_has_truth net log n bound word order network explains within in
-      (assignment_by names made.value (λ var. false), made_true net log n bound names clauses assumed asks made.value made.holds made.guards made.bounds);
+      (assignment_by names made.value (λ var. false), made_true net log n bound names clauses assumed asks made.value (λ var. false) made.holds made.guards made.bounds);
   sound = λ assignment makes.
       let given = question_gives_explanations net log n bound names clauses assumed assignment valid.order network valid valid.complete valid.kept asks makes in record {
         word = joined (decoded net log (value_by names assignment) valid.order n);

@@ -15,6 +15,7 @@ use Rattle.log_clauses.proofs.Open.{log_is_open}
 use Rattle.log_clauses.proofs.ReadNames.{only_log_matters}
 use Rattle.log_clauses.specs.Coded.{opened}
 use Rattle.log_clauses.specs.LogClauses.{doubtful_alarms}
+use Rattle.log_clauses.specs.LogLaws.{HasFalse}
 use Rattle.log_clauses.specs.LogTruth.{LogClausesHold, GuardsHold, is_of_log}
 use Rattle.log_order.specs.Log.{Log}
 use Rattle.prop_core.specs.NamedClauses.{named_true, AllHold}
@@ -107,13 +108,18 @@ bound_says net log n columns (Some b) value column count bounds = by (length (fa
 
 -- ---- of an explanation
 
-pub record HasTruth (net : Net) (log : Log) (n : ℕ) (bound : Option ℕ) : Type 0 where
+-- a truth of names by which the question is true, whose steps are the word in pieces, and by which as many alarms are false as in the order
+pub record HasTruth (net : Net) (log : Log) (n : ℕ) (bound : Option ℕ) (word : List ℕ) (order : List Entry) : Type 0 where
   pub value : Name → Bool
+  pub pieces : List (List ℕ)
+  pub whole : word ≡ joined pieces
+  pub steps : AreSteps net n value pieces
+  pub false_alarms : HasFalse log value order
   pub holds : QuestionHolds net log n value
   pub guards : GuardsHold net log value
   pub bounds : BoundHolds net log n bound value
 
-pub explained_has_truth : (net : Net) (log : Log) (n : ℕ) (bound : Option ℕ) (word : List ℕ) (order : List Entry) → IsNetwork net → Explains net log n word order → IsWithin bound (faults_of net word order) → HasTruth net log n bound
+pub explained_has_truth : (net : Net) (log : Log) (n : ℕ) (bound : Option ℕ) (word : List ℕ) (order : List Entry) → IsNetwork net → Explains net log n word order → IsWithin bound (faults_of net word order) → HasTruth net log n bound word order
 explained_has_truth net log n bound word order network explains within =
     let pieces = explains.fits.0 in
     let count = explains.fits.1 in
@@ -126,6 +132,10 @@ explained_has_truth net log n bound word order network explains within =
     let are = same_sets net n given.0 made.0 pieces (λ e t known step. made.1 (happens e (suc t)) refl) steps in
     let faults : faults_of net word order ≡ true_faults net log n made.0 = ap (λ w. faults_of net w order) cut.whole ∙ faults_are_inputs net log n made.0 pieces order are made.4 in record {
       value = counted (fault_inputs net log n) made.0;
+      pieces = pieces;
+      whole = cut.whole;
+      steps = same_sets net n made.0 (counted (fault_inputs net log n) made.0) pieces (λ e t known step. refl) are;
+      false_alarms = made.4;
       holds = count_holds net log n made.0 (only_steps_matter net n given.0 made.0 same clauses) made.2;
       guards = guards_hold net log n made.0 made.3;
       bounds = bound_holds net log n bound made.0 (subst (IsWithin bound) faults within);

@@ -4,6 +4,7 @@ pub mod Question
 pub mod DecodedRuns
 pub mod Decided
 pub mod QuestionLaws
+pub mod Tells
 pub mod RunNaming
 pub mod WholeNaming
 pub mod Decoding

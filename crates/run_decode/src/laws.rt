@@ -5,6 +5,7 @@ ghost use Rattle.run_decode.specs.RunNaming.{BesideOneNaming, CodedAlarmsStand, 
 ghost use Rattle.run_decode.specs.WholeNaming.{ClausesBegin, ClausesGrow, TogetherAreFew, TogetherAsk, TogetherBegins, TogetherGrow, TogetherOneNaming, RoomIsFree};
 ghost use Rattle.run_decode.specs.QuestionLaws.{AlarmNamesDontMatter, BoundIsRead, InstancesStay, PartsAreAssumed, PartsMakeQuestion, QuestionGivesExplanations, QuestionIsDrawn, QuestionIsFaithful};
 ghost use Rattle.run_decode.specs.QuestionAxioms.{ColumnsAreCounted, QuestionBegins};
+ghost use Rattle.run_decode.specs.Tells.{FaithfulTells};
 
 // ---- what a question says
 
@@ -112,6 +113,11 @@ pub fn question_is_decided()
 /// A law: an explanation without a fault has the least number of them.
 pub fn none_is_least()
     ensures { NoneIsLeast }
+{}
+
+/// A law: a faithful question tells what explains within its bound.
+pub fn faithful_tells()
+    ensures { FaithfulTells }
 {}
 
 // ---- what its assignments give

@@ -1,6 +1,7 @@
 use Rattle.std.proofs.Common.{arith, sym, subst}
 use Rattle.least_faults.proofs.Assuming.{assumed_alone, assumed_bound}
 use Rattle.least_faults.proofs.AxiomLists.{adds_none}
+use Rattle.least_faults.proofs.Beside.{beside}
 use Rattle.least_faults.proofs.Staying.{question_same}
 use Rattle.least_faults.proofs.asking.assumptions.Goals as goal
 use Rattle.least_faults.proofs.asking.assumptions.Goals.{in-Some+in_ok-bound+in_ok-push, in_default}
@@ -12,11 +13,17 @@ use Rattle.least_faults.specs.declared.parts.Parts.{Parts}
 pub returns-in_err-extend_from_slice-clause-kept : goal.returns-in_err-extend_from_slice-clause-kept
 returns-in_err-extend_from_slice-clause-kept g c = question_same c.args.parts.now c.args.book.now.entries
 
+pub bound-requires-clause-ready : goal.bound-requires-clause-ready
+bound-requires-clause-ready g c = beside _ _ c.args.parts.now c.args.book.now.entries c.requires.ready
+
+pub returns-in_err-bound-clause-ready : goal.returns-in_err-bound-clause-ready
+returns-in_err-bound-clause-ready g c = c.bound.ensures.alone c.requires.ready
+
 pub returns-clause-ready : goal.returns-clause-ready
 returns-clause-ready g c = elim c.match-within.branch [
   | in-Some+in_ok-bound+in_ok-push w ↦
       subst (λ (p : Parts g.row.R.Denot). AreReady (goal.R-pre g) (goal.R-post g) p c.match-within.book.entries) (sym w.parts-is)
-      (subst (λ b. AreReady (goal.R-pre g) (goal.R-post g) w.bound.new.parts b.entries) (sym w.book-is) w.bound.ensures.ready)
+      (subst (λ b. AreReady (goal.R-pre g) (goal.R-post g) w.bound.new.parts b.entries) (sym w.book-is) (w.bound.ensures.alone c.requires.ready))
   | in_default w ↦
       subst (λ (p : Parts g.row.R.Denot). AreReady (goal.R-pre g) (goal.R-post g) p c.match-within.book.entries) (sym w.parts-is)
       (subst (λ b. AreReady (goal.R-pre g) (goal.R-post g) c.args.parts.now b.entries) (sym w.book-is) c.requires.ready)

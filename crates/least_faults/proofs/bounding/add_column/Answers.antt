@@ -1,7 +1,6 @@
 use Rattle.std.proofs.Common.{ap, append-nil, arith, length, ◌∙◌, [], ◌∷◌, refl, subst, sym}
 use Rattle.card_counter.specs.CounterState.{CounterState}
-use Rattle.least_faults.proofs.Bounded.{column_fits}
-use Rattle.least_faults.proofs.Columns.{column_added, few_written, more_values, written_alone, reserved_ready}
+use Rattle.least_faults.proofs.Columns.{column_added, column_fits, few_written, more_values, written_alone, reserved_ready}
 use Rattle.least_faults.proofs.Freshness.{known_after}
 use Rattle.least_faults.proofs.Determined.{column_determined}
 use Rattle.least_faults.proofs.Staying.{question_kept}
@@ -15,7 +14,7 @@ use Rattle.sat_order.specs.Rank.{IsRanked}
 pub add_column-requires-clause-within : goal.add_column-requires-clause-within
 add_column-requires-clause-within g c =
     let old = c.args.parts.now in
-    let fits = column_fits old.step old.code.code old.counter old.vars (axioms_of c.args.book.now.entries) c.requires.ready.coded.bounded c.requires.few in
+    let fits = column_fits old.step old.code.code old.counter old.vars c.requires.ready.coded c.requires.few in
     omega (arith, fits)
 
 pub push_axioms-requires-clause-clauses : goal.push_axioms-requires-clause-clauses
@@ -58,7 +57,7 @@ returns-clause-ready g c =
     let values = ap (λ (s : SolverState _). s.vars) c.adopt.ensures.value in
     let enough = column.enough in
     record {
-      coded = column.parts;
+      coded = column.room;
       known = known_after c.args.book.now.entries c.push_axioms.new.book.entries column.axioms c.requires.ready.known;
       adopted_all = ap (λ (s : SolverState _). s.adopted) c.adopt.ensures.value;
       enough = omega (arith, values, enough);

@@ -1,9 +1,9 @@
 use Rattle.std.proofs.Common.{◌<◌, [], ◌∷◌, ◌++◌, Some, ap, arith, length, subst, sym}
 use Rattle.least_faults.proofs.AxiomLists.{adds_both, adds_none}
-use Rattle.least_faults.proofs.Posing.{poses}
+use Rattle.least_faults.proofs.Beside.{alone_still}
+use Rattle.least_faults.proofs.Posing.{clauses_pose}
 use Rattle.least_faults.proofs.Staying.{question_both, question_same}
 use Rattle.least_faults.proofs.bounding.bound.Goals as goal
-use Rattle.proof_ledger.specs.Book.{axioms_of}
 use Rattle.prop_core.specs.declared.lit.Lit.{Lit}
 
 pub loop-init : goal.loop-init
@@ -40,6 +40,14 @@ loop-preserved g c =
 pub returns-in_err-add_column-clause-kept : goal.returns-in_err-add_column-clause-kept
 returns-in_err-add_column-clause-kept g c = question_both c.args.parts.now c.loop.parts c.add_column.new.parts c.loop.invariant.kept c.add_column.ensures.kept
 
+pub returns-in_err-add_column-clause-alone : goal.returns-in_err-add_column-clause-alone
+returns-in_err-add_column-clause-alone g c = λ alone.
+    alone_still _ _ c.args.parts.now c.add_column.new.parts c.args.book.now.entries c.add_column.new.book.entries c.requires.some c.add_column.ensures.ready
+    (question_both c.args.parts.now c.loop.parts c.add_column.new.parts c.loop.invariant.kept c.add_column.ensures.kept) alone
+
+pub returns-clause-alone : goal.returns-clause-alone
+returns-clause-alone g c = λ alone. alone_still _ _ c.args.parts.now c.loop.parts c.args.book.now.entries c.loop.book.entries c.requires.some c.loop.invariant.ready c.loop.invariant.kept alone
+
 pub returns-clause-literal : goal.returns-clause-literal
 returns-clause-literal g c =
     let parts = c.loop.parts in
@@ -49,8 +57,8 @@ returns-clause-literal g c =
     record {
       columns = omega (arith, columns, upto, test);
       literal_is = c.bound_lit.ensures.literal;
-      posed = λ guards read.
-          poses parts.step parts.code.code parts.counter parts.vars (axioms_of c.loop.book.entries) (Some c.args.k) (guards ++ c.bound_lit.result ∷ []) c.loop.invariant.ready.coded (record {
+      posed = λ own clauses guards read.
+          clauses_pose parts.step parts.code.code parts.counter own (Some c.args.k) (guards ++ c.bound_lit.result ∷ []) c.loop.invariant.ready.coded.together clauses (record {
             guards = guards;
             read = read;
             whole = ap (λ (lit : Lit). guards ++ lit ∷ []) c.bound_lit.ensures.literal;

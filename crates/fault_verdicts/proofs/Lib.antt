@@ -1,0 +1,14 @@
+pub mod Truths
+pub mod Telling
+pub mod Drawing
+pub mod Apart
+pub mod Ready
+pub mod Asking
+pub mod Events
+pub mod Judged
+pub mod Going
+pub mod Answered
+pub mod Making
+pub mod Steps
+pub mod Guarding
+pub mod Calling

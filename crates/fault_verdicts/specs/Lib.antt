@@ -1,0 +1,6 @@
+pub mod Verdicts
+pub mod Asked
+pub mod Telling
+pub mod Ready
+pub mod Judged
+pub mod Judging

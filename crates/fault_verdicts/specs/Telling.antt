@@ -1,0 +1,44 @@
+-- A question with what was made for verdicts beside it asks which explanations have the event, and which haven't.
+use Rattle.std.specs.Prelude.{◌≡◌, ◌≢◌, ℕ, suc, ◌<◌, true, None, List, [], ◌∷◌, ◌++◌, length, Some, Contains}
+use Rattle.card_counter.specs.CounterState.{positive}
+use Rattle.des_base.specs.Lists.{EachPair}
+use Rattle.std.specs.List.{AllByRecursion}
+use Rattle.des_net.specs.Network.{Net, IsNetwork, is_fault}
+use Rattle.fault_verdicts.specs.Asked.{IsPosedOf, without, with_event, some_step_clauses, no_step_literals}
+use Rattle.log_order.specs.Log.{Log, IsValidLog}
+use Rattle.prop_core.specs.Clauses.{Clause}
+use Rattle.prop_core.specs.declared.grid.Grid.{Grid}
+use Rattle.prop_core.specs.declared.lit.Lit.{Lit}
+use Rattle.prop_core.specs.Grids.{grid_variable}
+use Rattle.prop_core.specs.VariableNames.{Name, happens, name_of}
+use Rattle.run_decode.specs.Question.{Asks}
+use Rattle.run_decode.specs.Tells.{AreBoth}
+
+-- by these names the grid's variables are those of the events in n steps
+abbrev pub IsGridOf : List (ℕ × Name) → Net → ℕ → Grid → Type 0
+IsGridOf names net n grid = (grid.steps ≡ n) × ((e t : ℕ) → e < length net.events → t < n → name_of names (grid_variable grid e (suc t)) ≡ Some (happens e (suc t)))
+
+-- The variables that were made, each for a fault event: none stands twice, and none is of the question.
+pub record AreMade (names : List (ℕ × Name)) (net : Net) (made : List (ℕ × ℕ)) : Type 0 where
+  pub once : EachPair (λ a b. a.0 ≢ b.0) made
+  pub new : AllByRecursion (λ entry. name_of names entry.0 ≡ None) made
+  pub events : AllByRecursion (λ entry. entry.1 < length net.events) made
+  pub faults : AllByRecursion (λ entry. is_fault net entry.1 ≡ true) made
+
+-- The clauses that ask within k faults, and those of the variables that were made, in whatever order.
+pub record AsksBeside (net : Net) (log : Log) (n k : ℕ) (names : List (ℕ × Name)) (grid : Grid) (made : List (ℕ × ℕ)) (whole : List Clause) (assumed : List Lit) : Type 0 where
+  pub clauses : List Clause
+  pub asks : Asks net log n (Some k) names clauses assumed
+  pub gridded : IsGridOf names net n grid
+  pub made_new : AreMade names net made
+  pub both : AreBoth whole clauses (some_step_clauses grid made)
+
+-- They ask what explains without an event, and with it, by the assumptions for it.
+pub record PosesEvents (net : Net) (log : Log) (n k : ℕ) (grid : Grid) (made : List (ℕ × ℕ)) (whole : List Clause) (assumed : List Lit) : Type 0 where
+  pub without_event : (e : ℕ) → e < length net.events → IsPosedOf whole (assumed ++ no_step_literals grid e) net log n k e without
+  pub with_event : (var e : ℕ) → Contains made (var, e) → IsPosedOf whole (assumed ++ positive var ∷ []) net log n k e (with_event var)
+
+-- So it is over each network and valid log.
+abbrev pub EventsArePosed : Type 0
+EventsArePosed = (net : Net) (log : Log) (n k : ℕ) (names : List (ℕ × Name)) (grid : Grid) (made : List (ℕ × ℕ)) (whole : List Clause) (assumed : List Lit) →
+    IsNetwork net → IsValidLog log → AsksBeside net log n k names grid made whole assumed → PosesEvents net log n k grid made whole assumed

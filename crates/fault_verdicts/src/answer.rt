@@ -1,0 +1,15 @@
+// What is found of a fault event.
+use replay::Run;
+
+/// What all explanations with the least number of faults say of a fault event.
+#[derive(Drop)]
+pub enum Verdict {
+    /// Each of them has the event.
+    Certain,
+    /// None of them has it.
+    Excluded,
+    /// Some have it and some haven't. This one has it exactly where the one that was known hasn't.
+    Possible(Run),
+    /// The budget was spent.
+    Open,
+}

@@ -1,0 +1,180 @@
+// One question about one fault event.
+ghost use Rattle.std.specs.Prelude.{◌≡◌, ◌<◌, ◌≤◌, ◌↔◌, Contains, true, length, IfOk};
+ghost use Rattle.des_base.specs.declared.TheConstants.{MOST_STEPS};
+ghost use Rattle.des_net.specs.Network.{is_fault};
+ghost use Rattle.fault_verdicts.specs.Judged.{IsBestRun, IsJudged};
+ghost use Rattle.fault_verdicts.specs.Judging.{AreAssumedOf, GoesOn, IsAsked, has_this, verdict_of};
+ghost use Rattle.fault_verdicts.specs.Ready.{AreReadyForVerdicts};
+ghost use Rattle.least_faults.specs.Asking.{IsSearching};
+ghost use Rattle.least_faults.specs.Growing.{AddsAxioms, HasGrownWithin};
+ghost use Rattle.least_faults.specs.Parts.{BelongTo};
+ghost use Rattle.proof_ledger.specs.Book.{IsValidBook};
+ghost use Rattle.replay.specs.Traced.{event_of, word_of};
+
+use crate::answer::Verdict;
+use crate::assuming::{assume_none, assume_some};
+use des_base::{EventId, Memory};
+use des_net::Network;
+use least_faults::Parts;
+use log_order::AlarmLog;
+use proof_ledger::Ledger;
+use prop_core::Lit;
+use replay::{Run, RunStep};
+use run_decode::decode;
+use sat_solve::Answer;
+use std::alloc::Global;
+
+/// What all explanations with the least number of faults say of a fault event, by one question that may learn as many clauses
+/// as the budget says.
+///
+/// A run with the least number of faults is known. Where it has the event, the question is for one without it, and else for one
+/// with it. For the latter a variable is made, and the axiom added that gives the event in some step where it is true. The book gets a
+/// mark 0 first, and a mark 1 before each answer but want of memory; after that the next call is allowed all the same.
+pub fn verdict<R: Fn(u32) -> u64>(
+    alloc: Global,
+    net: &Network,
+    log: &AlarmLog,
+    parts: &mut Parts<R>,
+    book: &mut Ledger,
+    k: u32,
+    first: &Run,
+    event: EventId,
+    budget: u64,
+) -> Result<Verdict, Memory>
+    requires belong { BelongTo net.now log.now parts.old }
+    requires steps { parts.old.step.steps ≤ MOST_STEPS }
+    requires ready { AreReadyForVerdicts R.pre R.post parts.old book.old.entries }
+    requires few { k ≤ 255 }
+    requires best { IsBestRun net.now log.now parts.old.step.steps k first.now }
+    requires known { event < length net.now.events }
+    requires fault { is_fault net.now event ≡ true }
+    requires room { parts.old.vars ≤ 1000000000 }
+    ensures ready { AreReadyForVerdicts R.pre R.post parts.new book.new.entries }
+    ensures goes_on { GoesOn 1 parts.old parts.new }
+    ensures grown { HasGrownWithin budget book.old.entries book.new.entries }
+    ensures judged { IfOk result (IsJudged net.now log.now parts.new.step.steps k event budget first.now book.old.entries book.new.entries) }
+{
+    let about = About { net, log, alloc };
+    let mut left = budget;
+    book.put_mark(0)?;
+    let verdict = ask(about, parts, book, k, first.steps(), event, &mut left)?;
+    book.put_mark(1)?;
+    Ok(verdict)
+}
+
+// A network and a log, and where the memory for answers comes from.
+#[derive(Clone, Copy)]
+struct About<'a> {
+    net: &'a Network,
+    log: &'a AlarmLog,
+    alloc: Global,
+}
+
+// Asks for a best explanation that differs from the known one in this event.
+fn ask<R: Fn(u32) -> u64>(
+    about: About<'_>,
+    parts: &mut Parts<R>,
+    book: &mut Ledger,
+    k: u32,
+    first: &[RunStep],
+    event: EventId,
+    left: &mut u64,
+) -> Result<Verdict, Memory>
+    requires belong { BelongTo about.net.now about.log.now parts.old }
+    requires steps { parts.old.step.steps ≤ MOST_STEPS }
+    requires ready { AreReadyForVerdicts R.pre R.post parts.old book.old.entries }
+    requires few { k ≤ 255 }
+    requires best { IsBestRun about.net.now about.log.now parts.old.step.steps k first.now }
+    requires known { event < length about.net.now.events }
+    requires fault { is_fault about.net.now event ≡ true }
+    requires room { parts.old.vars ≤ 1000000000 }
+    ensures ready { AreReadyForVerdicts R.pre R.post parts.new book.new.entries }
+    ensures goes_on { GoesOn 1 parts.old parts.new }
+    ensures searching { IsSearching book.old.entries book.new.entries left.old left.new }
+    ensures asked { IfOk result (IsAsked about.entry.net.now about.entry.log.now parts.new.step.steps k event first.now left.old left.new book.old.entries book.new.entries) }
+{
+    about.net.is_built();
+    about.log.is_whole();
+    let there = has_event(first, event);
+    let assumed = assume(about.alloc, parts, book, k, there, event)?;
+    let answer = parts.solver.solve(book, assumed.as_slice(), left)?;
+    is_valid(book);
+    match answer {
+        Answer::Unsat(_) => Ok(refuted(there)),
+        Answer::Spent => Ok(Verdict::Open),
+        Answer::Sat => Ok(Verdict::Possible(decode(
+            about.alloc,
+            parts.solver.assignment(),
+            about.net,
+            about.log,
+            &parts.step,
+            &parts.code,
+        )?)),
+    }
+}
+
+// What is assumed of the event: that it happens in no step where the known run has it, and else a literal that gives it in some.
+fn assume<R: Fn(u32) -> u64>(
+    alloc: Global,
+    parts: &mut Parts<R>,
+    book: &mut Ledger,
+    k: u32,
+    there: bool,
+    event: EventId,
+) -> Result<Vec<Lit>, Memory>
+    requires ready { AreReadyForVerdicts R.pre R.post parts.old book.old.entries }
+    requires few { k ≤ 255 }
+    requires known { event < length parts.old.step.net.events }
+    requires fault { is_fault parts.old.step.net event ≡ true }
+    requires room { parts.old.vars ≤ 1000000000 }
+    ensures ready { AreReadyForVerdicts R.pre R.post parts.new book.new.entries }
+    ensures goes_on { GoesOn 1 parts.old parts.new }
+    ensures axioms { AddsAxioms book.old.entries book.new.entries }
+    ensures assumed { IfOk result (λ assumed. AreAssumedOf R.pre R.post parts.new book.new.entries k event there assumed.items) }
+{
+    if there {
+        assume_none(alloc, parts, book, k, event)
+    } else {
+        assume_some(alloc, parts, book, k, event)
+    }
+}
+
+// Whether the event is among those of the steps.
+fn has_event(steps: &[RunStep], event: EventId) -> bool
+    ensures { result ≡ true ↔ Contains (word_of steps.now) event }
+{
+    for step in steps {
+        if is_of(step, event) {
+            return true;
+        }
+    }
+    false
+}
+
+// Whether the step has this event.
+fn is_of(step: &RunStep, event: EventId) -> bool
+    ensures { result ≡ has_this event (event_of step.now) }
+{
+    match step {
+        RunStep::Happens { event: other, .. } => other.0 == event.0,
+        RunStep::Dropped { .. } => false,
+    }
+}
+
+// The verdict of a question that is refuted.
+fn refuted(there: bool) -> Verdict
+    ensures { result ≡ verdict_of there }
+{
+    if there {
+        Verdict::Certain
+    } else {
+        Verdict::Excluded
+    }
+}
+
+// The book is valid, as its reader tells.
+fn is_valid(book: &Ledger)
+    ensures { IsValidBook book.now.entries }
+{
+    let _entries = book.entries();
+}

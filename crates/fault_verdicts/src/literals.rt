@@ -1,0 +1,56 @@
+// Literals about an event: that it happens in no step, or in some.
+ghost use Rattle.std.specs.Prelude.{◌≡◌, ◌+◌, ◌*◌, ◌<◌, ◌≤◌, ◌++◌, true, length, IfOk, OnOk};
+ghost use Rattle.des_net.specs.Network.{is_fault};
+ghost use Rattle.fault_verdicts.specs.Judging.{GoesOn, HasMade, event_signed};
+ghost use Rattle.fault_verdicts.specs.Ready.{AreReadyForVerdicts};
+ghost use Rattle.least_faults.specs.Growing.{AddsAxioms};
+
+use des_base::{EventId, Memory, VAR_LIMIT};
+use least_faults::Parts;
+use proof_ledger::Ledger;
+use prop_core::{Grid, Lit};
+use std::alloc::Global;
+
+// Appends the literals of an event, step by step, all with this sign.
+pub fn push_event(
+    grid: &Grid,
+    sign: bool,
+    event: EventId,
+    into: &mut Vec<Lit>,
+) -> Result<(), Memory>
+    requires event { event < grid.now.events }
+    requires few { grid.now.first + grid.now.events * grid.now.steps ≤ VAR_LIMIT }
+    ensures { OnOk result (into.new.items ≡ into.old.items ++ event_signed grid.now sign event) }
+{
+    for step in 0..grid.steps {
+        into.push(Lit::new(grid.var(event.0, step + 1), sign))?;
+    }
+    Ok(())
+}
+
+// Makes a literal for the event, and adds the axiom that gives the event in some step where it holds.
+pub fn in_some_step<R: Fn(u32) -> u64>(
+    alloc: Global,
+    parts: &mut Parts<R>,
+    book: &mut Ledger,
+    event: EventId,
+) -> Result<Lit, Memory>
+    requires ready { AreReadyForVerdicts R.pre R.post parts.old book.old.entries }
+    requires known { event < length parts.old.step.net.events }
+    requires fault { is_fault parts.old.step.net event ≡ true }
+    requires room { parts.old.vars ≤ 1000000000 }
+    ensures ready { AreReadyForVerdicts R.pre R.post parts.new book.new.entries }
+    ensures goes_on { GoesOn 1 parts.old parts.new }
+    ensures axioms { AddsAxioms book.old.entries book.new.entries }
+    ensures made { IfOk result (HasMade R.pre R.post parts.new book.new.entries event) }
+{
+    let mut clause = Vec::new(alloc);
+    clause.push(Lit::new(parts.vars.count(), false))?;
+    push_event(&parts.step.grid(), true, event, &mut clause)?;
+    book.reserve(1, clause.len())?;
+    parts.solver.reserve(parts.vars.count() + 1, 1)?;
+    let var = parts.vars.fresh(1);
+    book.push_axiom(clause.as_slice());
+    parts.solver.adopt(book);
+    Ok(Lit::new(var, true))
+}

@@ -1,0 +1,75 @@
+-- When clauses and assumptions tell whether some explanation has a property; and questions that tell more than a bound, by a rider on the clauses of a question.
+use Rattle.std.specs.Prelude.{◌≡◌, ◌≢◌, ◌↔◌, ◌⊎◌, ℕ, Bool, List, ◌++◌, Option, Contains}
+use Rattle.des_base.specs.Lists.{EachPair}
+use Rattle.des_net.specs.Network.{Net, IsNetwork}
+use Rattle.des_net.specs.Width.{joined}
+use Rattle.log_clauses.specs.LogLaws.{HasFalse}
+use Rattle.log_order.specs.Log.{Log, IsValidLog}
+use Rattle.prop_core.specs.Clauses.{Clause, negation, AllClausesTrue, NegatesOnly}
+use Rattle.prop_core.specs.NamedClauses.{value_by, assignment_by}
+use Rattle.prop_core.specs.VariableNames.{Name}
+use Rattle.prop_core.specs.declared.lit.Lit.{Lit}
+use Rattle.replay.specs.Explanation.{Entry, Explains, faults_of}
+use Rattle.run_clauses.specs.Steps.{AreSteps}
+use Rattle.run_decode.specs.Decided.{Entails}
+use Rattle.run_decode.specs.Faithful.{IsWithin, MakesTrue, IsFaithful}
+use Rattle.run_decode.specs.Question.{Asks}
+
+-- a property of a word and an order of the alarms
+abbrev pub Property : Type 1
+Property = List ℕ → List Entry → Type 0
+
+-- Just where some word with some order has the property, an assignment makes clauses and assumptions true. Neither is contradictory by itself.
+pub record Tells (clauses : List Clause) (assumed : List Lit) (has : Property) : Type 0 where
+  -- what has the property has an assignment
+  pub complete : (word : List ℕ) (order : List Entry) → has word order → (assignment : ℕ → Bool) × MakesTrue assignment clauses assumed
+  -- where there is an assignment, something has the property
+  pub sound : (assignment : ℕ → Bool) → MakesTrue assignment clauses assumed → (word : List ℕ) × (order : List Entry) × has word order
+  -- without the assumptions the clauses don't contradict each other
+  pub satisfiable : (assignment : ℕ → Bool) × AllClausesTrue assignment clauses
+  -- nor do the assumptions alone
+  pub consistent : EachPair (λ a b. a ≢ negation b) assumed
+
+-- an explanation within a bound on its faults
+abbrev pub ExplainsWithin : Net → Log → ℕ → Option ℕ → Property
+ExplainsWithin net log n bound word order = Explains net log n word order × IsWithin bound (faults_of net word order)
+
+-- A faithful question tells what explains within its bound.
+abbrev pub FaithfulTells : Type 0
+FaithfulTells = (net : Net) (log : Log) (n : ℕ) (bound : Option ℕ) (clauses : List Clause) (assumed : List Lit) →
+    IsFaithful clauses assumed net log n bound → Tells clauses assumed (ExplainsWithin net log n bound)
+
+-- Where the clauses entail a clause of negated assumptions, nothing has the property that they tell.
+abbrev pub ToldIsRefuted : Type 1
+ToldIsRefuted = (has : Property) (clauses : List Clause) (assumed : List Lit) (clause : Clause) → Tells clauses assumed has → Entails clauses clause → NegatesOnly assumed clause →
+    (word : List ℕ) (order : List Entry) → has word order → ⊥
+
+-- Properties of the same words and orders are told by the same clauses.
+abbrev pub SamePropertyTold : Type 1
+SamePropertyTold = (has other : Property) (clauses : List Clause) (assumed : List Lit) → ((word : List ℕ) (order : List Entry) → has word order ↔ other word order) → Tells clauses assumed has → Tells clauses assumed other
+
+-- ---- riders
+
+-- Further clauses and assumptions say something of the truth of names, whatever it is: they may read the variables that have names, and choose others.
+pub record Rides (names : List (ℕ × Name)) (rider : List Clause) (further : List Lit) (says : (Name → Bool) → Type 0) : Type 0 where
+  -- where it is so, the other variables can be chosen
+  pub complete : (value : Name → Bool) → says value → (given : ℕ → Bool) × MakesTrue (assignment_by names value given) rider further
+  -- and where all is true it is so
+  pub sound : (assignment : ℕ → Bool) → MakesTrue assignment rider further → says (value_by names assignment)
+  -- the clauses alone never stand against a truth of names
+  pub free : (value : Name → Bool) → (given : ℕ → Bool) × AllClausesTrue (assignment_by names value given) rider
+
+-- What is said of a truth of names holds of the words whose events are those of its steps, with orders that have as many false alarms.
+abbrev pub SaysOfWords : Net → Log → ℕ → ((Name → Bool) → Type 0) → Property → Type 0
+SaysOfWords net log n says has = (value : Name → Bool) (pieces : List (List ℕ)) (order : List Entry) → AreSteps net n value pieces → HasFalse log value order → says value ↔ has (joined pieces) order
+
+-- the list has the clauses of both, in whatever order
+abbrev pub AreBoth : List Clause → List Clause → List Clause → Type 0
+AreBoth whole clauses rider = (clause : Clause) → Contains whole clause ↔ Contains clauses clause ⊎ Contains rider clause
+
+-- A question with a rider tells which of its explanations have what the rider says.
+abbrev pub RiddenTells : Type 1
+RiddenTells = (net : Net) (log : Log) (n : ℕ) (bound : Option ℕ) (names : List (ℕ × Name)) (clauses rider whole : List Clause) (assumed further : List Lit)
+    (says : (Name → Bool) → Type 0) (has : Property) → IsNetwork net → IsValidLog log → Asks net log n bound names clauses assumed →
+    Rides names rider further says → SaysOfWords net log n says has → AreBoth whole clauses rider → EachPair (λ a b. a ≢ negation b) (assumed ++ further) →
+    Tells whole (assumed ++ further) (λ word order. ExplainsWithin net log n bound word order × has word order)
