@@ -1,0 +1,275 @@
+-- The search by halving: what it has come to, and where it ends.
+use Rattle.std.proofs.Common.{◌≡◌, ◌∙◌, ◌⊎◌, inl, inr, ℕ, suc, ◌+◌, ◌-◌, ◌<◌, ◌≤◌, List, [], ◌∷◌, ◌++◌, Option, None, Some, refl, sym, ap, subst, arith, Contains, count_by, append_assoc, append-nil}
+use Rattle.std.specs.Prelude.{min}
+use Rattle.std.specs.List.{AllByRecursion}
+use Rattle.std.proofs.lemmas.Bool.{cases_lt}
+use Rattle.std.proofs.lemmas.List.Elements.{Contains-append_cases, Contains-append_right, recursion_from_All}
+use Rattle.card_counter.specs.CounterState.{negative}
+use Rattle.des_base.proofs.Elements.{cons_cases, here_first, here_later, none_in_nil}
+use Rattle.event_costs.specs.declared.TheConstants.{MOST_COST}
+use Rattle.least_faults.proofs.Entailing.{final_entailed}
+use Rattle.least_faults.proofs.Freshness.{fresh_none, fresh_both}
+use Rattle.least_faults.proofs.Putting.{learnt_no_final, no_final_in, none_joined, only_final}
+use Rattle.least_faults.specs.Evidence.{HasFinal, HasLastFinal}
+use Rattle.log_clauses.proofs.Lists.{all_at}
+use Rattle.log_encode.specs.CodedLog.{CodedLog}
+use Rattle.proof_ledger.specs.Book.{BookEntry, final, axioms_of, clauses_of, is_mark, IsValidBook}
+use Rattle.proof_ledger.specs.Fresh.{is_learnt}
+use Rattle.prop_core.specs.Clauses.{Clause, HasValues, negation, NegatesOnly}
+use Rattle.prop_core.specs.Trail.{Clashes}
+use Rattle.prop_core.specs.declared.lit.Lit.{Lit}
+use Rattle.replay.specs.Matching.{order_of}
+use Rattle.replay.specs.Traced.{word_of}
+use Rattle.run_decode.proofs.Faults.{count_append}
+use Rattle.run_decode.proofs.Tells.{told_is_refuted}
+use Rattle.sat_solve.specs.Searching.{IsClosedByFinal}
+use Rattle.weight_counter.specs.Scales.{place_variable}
+use Rattle.weight_counter.specs.declared.scale.Scale.{Scale}
+use Rattle.cost_least.proofs.Asked.{ends_cheapest, ends_dear, needed}
+use Rattle.cost_least.specs.Answers.{CostAsked, AreTold, IsPriced, Needs, IsBetween, IsCostEvidence}
+use Rattle.cost_least.specs.Asking.{AreLearnt, HasAskedCost}
+use Rattle.cost_least.specs.Pricing.{ExplainsAt}
+use Rattle.cost_least.specs.Searching.{HasHalved, HasFoundCost, FinalsAreBelow}
+use Rattle.cost_least.specs.Weighed.{guards_of, assumed_at}
+use Rattle.cost_least.specs.declared.answer.Cheap.TheVariants.{Found, Dear, Undecided}
+use Rattle.cost_least.specs.declared.answer.Priced.{Priced}
+use Rattle.cost_least.specs.declared.asking.Asked.TheVariants.{Explained, Refuted, Spent}
+
+-- ---- a clause that negates a longer list
+
+record NegatesLast (x : Lit) (clause : Clause) : Type 0 where
+  l : Lit
+  there : Contains clause l
+  is : negation l ≡ x
+
+split_negates : (assumed : List Lit) (x : Lit) (clause : Clause) → NegatesOnly (assumed ++ x ∷ []) clause → NegatesOnly assumed clause ⊎ NegatesLast x clause
+split_negates assumed x [] negates = inl tt
+split_negates assumed x (l ∷ clause) negates = by (Contains-append_cases assumed (x ∷ []) (negation l) negates.0) (split_negates assumed x clause negates.1)
+  where
+    last : Contains (x ∷ []) (negation l) → negation l ≡ x
+    last in' = only (cons_cases x [] (negation l) in')
+      where
+        only : (x ≡ negation l) ⊎ Contains [] (negation l) → negation l ≡ x
+        only (inl is) = sym is
+        only (inr none) = absurd (none_in_nil (negation l) none)
+
+    by : Contains assumed (negation l) ⊎ Contains (x ∷ []) (negation l) → NegatesOnly assumed clause ⊎ NegatesLast x clause → NegatesOnly assumed (l ∷ clause) ⊎ NegatesLast x (l ∷ clause)
+    by (inr is) rest = inr (record { l = l; there = here_first l clause l refl; is = last is })
+    by (inl here) (inl rest) = inl (here, rest)
+    by (inl here) (inr found) = inr (record { l = found.l; there = here_later l clause found.l found.there; is = found.is })
+
+-- literals of two amounts are not the same
+same_amount : (scale : Scale) (i j b : ℕ) → negative (place_variable scale i j) ≡ negative (place_variable scale i b) → j ≡ b
+same_amount scale i j b same = let vars = ap (λ (l : Lit). l.var) same in omega (arith, vars)
+
+-- ---- one step
+
+module _ (q : CostAsked) (code : CodedLog) (scale : Scale) where
+  pub halved_none : (book : List BookEntry) (budget : ℕ) (known : Priced) → IsPriced q known → (0 < known.cost → 0 < scale.inputs) → HasHalved q code scale book book budget budget 0 known
+  halved_none book budget known given counted = record {
+    since = [];
+    whole = sym (append-nil book);
+    unmarked = λ number. refl;
+    paid = omega arith;
+    fresh = fresh_none book;
+    finals = λ clause hints in'. absurd (none_in_nil (final clause hints) in');
+    last = λ b is. absurd (omega (arith, is));
+    needs = λ word order explains. omega arith;
+    reached = omega arith;
+    given = given;
+    counted = counted;
+  }
+
+  module _ (old mid new : List BookEntry) (budget before after lo : ℕ) (best : Priced) (come : HasHalved q code scale old mid budget before lo best) where
+    both_unmarked : (more : List BookEntry) → ((number : ℕ) → count_by (is_mark number) more ≡ 0) → (number : ℕ) → count_by (is_mark number) (come.since ++ more) ≡ 0
+    both_unmarked more unmarked number = count_append (is_mark number) come.since more ∙ (let one = come.unmarked number in let two = unmarked number in omega (arith, one, two))
+
+    both_paid : (more : List BookEntry) → count_by is_learnt more + after ≡ before → count_by is_learnt (come.since ++ more) + after ≡ budget
+    both_paid more paid = (let count = count_append is_learnt come.since more in omega (arith, count, paid, come.paid))
+
+    -- learnt entries change nothing of what is refuted
+    learnt_finals : (more : List BookEntry) → AreLearnt more → FinalsAreBelow code scale lo (come.since ++ more)
+    learnt_finals more learnt clause hints in' = by (Contains-append_cases come.since more (final clause hints) in')
+      where
+        by : Contains come.since (final clause hints) ⊎ Contains more (final clause hints) → (j : ℕ) × (j < lo) × NegatesOnly (assumed_at code scale (Some j)) clause
+        by (inl first) = come.finals clause hints first
+        by (inr later) = absurd (no_final_in more clause hints (learnt_no_final more learnt) later)
+
+    learnt_last : (more : List BookEntry) → AreLearnt more → (b : ℕ) → lo ≡ suc b → HasLastFinal (come.since ++ more) (assumed_at code scale (Some b))
+    learnt_last more learnt b is =
+        let last = come.last b is in record {
+          earlier = last.earlier;
+          clause = last.clause;
+          hints = last.hints;
+          later = last.later ++ more;
+          whole = ap (λ xs. xs ++ more) last.whole ∙ append_assoc last.earlier (final last.clause last.hints ∷ last.later) more;
+          last = none_joined last.later more last.last (learnt_no_final more learnt);
+          negates = last.negates;
+        }
+
+    pub halved_better : (bound : Option ℕ) (better : Priced) → HasAskedCost q code scale bound mid new before after (Explained better) → HasHalved q code scale old new budget after lo better
+    halved_better bound better asked = record {
+      since = come.since ++ asked.since;
+      whole = asked.whole ∙ ap (λ xs. xs ++ asked.since) come.whole ∙ append_assoc old come.since asked.since;
+      unmarked = both_unmarked asked.since asked.unmarked;
+      paid = both_paid asked.since asked.paid;
+      fresh = fresh_both old mid come.since asked.since come.whole come.fresh asked.fresh;
+      finals = learnt_finals asked.since asked.means.learnt;
+      last = learnt_last asked.since asked.means.learnt;
+      needs = come.needs;
+      reached = come.reached;
+      given = asked.means.given;
+      counted = asked.means.counted;
+    }
+
+    pub halved_refuted : (b : ℕ) → IsBetween lo best.cost b → HasAskedCost q code scale (Some b) mid new before after Refuted → HasHalved q code scale old new budget after (b + 1) best
+    halved_refuted b between asked = record {
+      since = come.since ++ asked.since;
+      whole = asked.whole ∙ ap (λ xs. xs ++ asked.since) come.whole ∙ append_assoc old come.since asked.since;
+      unmarked = both_unmarked asked.since asked.unmarked;
+      paid = both_paid asked.since asked.paid;
+      fresh = fresh_both old mid come.since asked.since come.whole come.fresh asked.fresh;
+      finals = finals;
+      last = λ b' is. subst (λ k. HasLastFinal (come.since ++ asked.since) (assumed_at code scale (Some k))) (let same : b ≡ b' = omega (arith, is) in same) last;
+      needs = subst (Needs q) (let next : suc b ≡ b + 1 = omega arith in next) asked.means.out;
+      reached = (let few = between.few in omega (arith, few));
+      given = come.given;
+      counted = come.counted;
+    }
+      where
+        closed : IsClosedByFinal asked.since
+        closed = let ends = asked.means.ends in record { before = ends.before; clause = ends.clause; hints = ends.hints; whole = ends.whole; all_learnt = ends.learnt }
+
+        finals : FinalsAreBelow code scale (b + 1) (come.since ++ asked.since)
+        finals clause hints in' = by (Contains-append_cases come.since asked.since (final clause hints) in')
+          where
+            by : Contains come.since (final clause hints) ⊎ Contains asked.since (final clause hints) → (j : ℕ) × (j < b + 1) × NegatesOnly (assumed_at code scale (Some j)) clause
+            by (inl first) = let found = come.finals clause hints first in let low = between.low in (found.0, omega (arith, found.1, low), found.2)
+            by (inr later) = (b, omega arith, subst (NegatesOnly (assumed_at code scale (Some b))) (sym (only_final asked.since clause hints closed later)) asked.means.ends.negates)
+
+        last : HasLastFinal (come.since ++ asked.since) (assumed_at code scale (Some b))
+        last = let ends = asked.means.ends in record {
+          earlier = come.since ++ ends.before;
+          clause = ends.clause;
+          hints = ends.hints;
+          later = [];
+          whole = ap (λ xs. come.since ++ xs) ends.whole ∙ sym (append_assoc come.since ends.before (final ends.clause ends.hints ∷ []));
+          last = refl;
+          negates = ends.negates;
+        }
+
+    -- where the budget is spent nothing is refuted
+    pub halved_spent : (b : ℕ) → HasAskedCost q code scale (Some b) mid new before after Spent → HasHalved q code scale old new budget after lo best
+    halved_spent b asked = record {
+      since = come.since ++ asked.since;
+      whole = asked.whole ∙ ap (λ xs. xs ++ asked.since) come.whole ∙ append_assoc old come.since asked.since;
+      unmarked = both_unmarked asked.since asked.unmarked;
+      paid = both_paid asked.since asked.paid;
+      fresh = fresh_both old mid come.since asked.since come.whole come.fresh asked.fresh;
+      finals = learnt_finals asked.since asked.means.learnt;
+      last = learnt_last asked.since asked.means.learnt;
+      needs = come.needs;
+      reached = come.reached;
+      given = come.given;
+      counted = come.counted;
+    }
+
+  -- ---- where it ends
+
+  module _ (old new : List BookEntry) (budget left lo : ℕ) (best : Priced) (come : HasHalved q code scale old new budget left lo best)
+      (told : (b : ℕ) → b ≤ MOST_COST → 0 < scale.inputs → AreTold q (Some b) (axioms_of new) (assumed_at code scale (Some b))) where
+    within : count_by is_learnt come.since ≤ budget
+    within = let paid = come.paid in omega (arith, paid)
+
+    evidence : (b : ℕ) → lo ≡ suc b → IsCostEvidence q (Some b) (axioms_of new) come.since
+    evidence b is =
+        let least = needed q lo best come.needs come.given in
+        let reached = come.reached in
+        record { assumed = assumed_at code scale (Some b); refuted = come.last b is; told = told b (omega (arith, is, reached)) (come.counted (omega (arith, least, is))) }
+
+    pub halved_cheapest : min best.cost (1 + MOST_COST) ≤ lo → best.cost ≤ MOST_COST → HasFoundCost q budget old new (Found best)
+    halved_cheapest end few = record {
+      since = come.since;
+      whole = come.whole;
+      unmarked = come.unmarked;
+      within = within;
+      fresh = come.fresh;
+      found = ends_cheapest q (axioms_of new) come.since lo best come.needs come.given end few evidence;
+      conflict = tt;
+    }
+
+    pub halved_dear : min best.cost (1 + MOST_COST) ≤ lo → MOST_COST < best.cost → HasFoundCost q budget old new (Dear best.run)
+    halved_dear end above = record {
+      since = come.since;
+      whole = come.whole;
+      unmarked = come.unmarked;
+      within = within;
+      fresh = come.fresh;
+      found = ends_dear q (axioms_of new) come.since lo best come.needs come.given end come.reached above evidence;
+      conflict = tt;
+    }
+
+    -- a final entry tells by its literals which total it refutes
+    finals_tell : IsValidBook new → HasValues scale.first (guards_of code) → AreTold q None (axioms_of new) (assumed_at code scale None) → (b : ℕ) → HasFinal come.since (assumed_at code scale (Some b)) → b < lo
+    finals_tell valid guards unbounded b has = by (cases_lt b lo)
+      where
+        here : (j : ℕ) × (j < lo) × NegatesOnly (assumed_at code scale (Some j)) has.clause
+        here = come.finals has.clause has.hints has.there
+
+        there : Contains new (final has.clause has.hints)
+        there = subst (λ xs. Contains xs (final has.clause has.hints)) (sym come.whole) (Contains-append_right old come.since (final has.clause has.hints) has.there)
+
+        known : AllByRecursion (λ (l : Lit). l.var < scale.first) (guards_of code)
+        known = recursion_from_All (λ (l : Lit). l.var < scale.first) (guards_of code) guards
+
+        refutes : NegatesOnly (guards_of code) has.clause → ⊥
+        refutes negates =
+            told_is_refuted (ExplainsAt q.net q.cost q.log q.steps None) (axioms_of new) (assumed_at code scale None) has.clause unbounded (final_entailed new has.clause has.hints valid there)
+            (subst (λ xs. NegatesOnly xs has.clause) (sym (append-nil (guards_of code))) negates) (word_of best.run) (order_of q.log best.run) come.given.explains
+
+        same : NegatesLast (negative (place_variable scale (scale.inputs - 1) here.0)) has.clause → here.0 ≡ b
+        same found = one (Contains-append_cases (guards_of code) (negative (place_variable scale (scale.inputs - 1) b) ∷ []) (negative (place_variable scale (scale.inputs - 1) here.0)) (subst (Contains (assumed_at code scale (Some b))) found.is (all_at (λ l. Contains (assumed_at code scale (Some b)) (negation l)) has.clause has.negates found.l found.there)))
+          where
+            last : (negative (place_variable scale (scale.inputs - 1) b) ≡ negative (place_variable scale (scale.inputs - 1) here.0)) ⊎ Contains [] (negative (place_variable scale (scale.inputs - 1) here.0)) → here.0 ≡ b
+            last (inl is) = sym (same_amount scale (scale.inputs - 1) b here.0 is)
+            last (inr none) = absurd (none_in_nil (negative (place_variable scale (scale.inputs - 1) here.0)) none)
+
+            one : Contains (guards_of code) (negative (place_variable scale (scale.inputs - 1) here.0)) ⊎ Contains (negative (place_variable scale (scale.inputs - 1) b) ∷ []) (negative (place_variable scale (scale.inputs - 1) here.0)) → here.0 ≡ b
+            one (inl guard) = let low = all_at (λ (l : Lit). l.var < scale.first) (guards_of code) known (negative (place_variable scale (scale.inputs - 1) here.0)) guard in absurd (omega (arith, low))
+            one (inr bound) = last (cons_cases (negative (place_variable scale (scale.inputs - 1) b)) [] (negative (place_variable scale (scale.inputs - 1) here.0)) bound)
+
+        is_b : NegatesOnly (guards_of code) has.clause ⊎ NegatesLast (negative (place_variable scale (scale.inputs - 1) here.0)) has.clause → here.0 ≡ b
+        is_b (inl guard) = absurd (refutes guard)
+        is_b (inr found) = same found
+
+        by : (b < lo) ⊎ (lo ≤ b) → b < lo
+        by (inl less) = less
+        by (inr more) = let equal = is_b (split_negates (guards_of code) (negative (place_variable scale (scale.inputs - 1) here.0)) has.clause here.2) in let low = here.1 in omega (arith, equal, low)
+
+    pub halved_undecided : IsValidBook new → HasValues scale.first (guards_of code) → AreTold q None (axioms_of new) (assumed_at code scale None) → lo < min best.cost (1 + MOST_COST) → left ≡ 0 → (b : ℕ) → IsBetween lo best.cost b →
+        Clashes (clauses_of new) (assumed_at code scale (Some b)) → HasFoundCost q budget old new (Undecided lo (Some best))
+    halved_undecided valid guards unbounded less nothing b between clashes =
+        let some = come.counted (omega (arith, less)) in record {
+          since = come.since;
+          whole = come.whole;
+          unmarked = come.unmarked;
+          within = within;
+          fresh = come.fresh;
+          found = record {
+            spent = (let paid = come.paid in omega (arith, paid, nothing));
+            needs = come.needs;
+            evidence = evidence;
+            given = record {
+              given = come.given;
+              above = omega (arith, less);
+              greatest = record {
+                limits = λ k. assumed_at code scale (Some k);
+                told = λ k few. told k few some;
+                finals = λ k few has. finals_tell valid guards unbounded k has;
+                last = come.last;
+              };
+            };
+            unknown = tt;
+          };
+          conflict = (b, between, record { assumed = assumed_at code scale (Some b); told = told b between.few some; clashes = clashes });
+        }

@@ -1,0 +1,15 @@
+pub mod Sums
+pub mod Pricing
+pub mod Inputs
+pub mod Pushed
+pub mod EntrySums
+pub mod FoundCosts
+pub mod Asked
+pub mod Guards
+pub mod Writing
+pub mod Asks
+pub mod Weighed
+pub mod Fitting
+pub mod Answering
+pub mod Halving
+pub mod Finding

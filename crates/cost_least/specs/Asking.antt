@@ -1,0 +1,75 @@
+-- One question of costs: what it leaves in the book, and what its answer means.
+use Rattle.std.specs.Prelude.{◌≡◌, ℕ, suc, ◌+◌, ◌<◌, true, List, [], ◌∷◌, ◌++◌, Option, Some, None, count_by, ⊤}
+use Rattle.std.specs.List.{list_all}
+use Rattle.least_faults.specs.Answers.{HaveLearntFresh}
+use Rattle.log_encode.specs.CodedLog.{CodedLog}
+use Rattle.proof_ledger.specs.Book.{BookEntry, final, clauses_of, is_mark}
+use Rattle.proof_ledger.specs.Fresh.{is_learnt}
+use Rattle.prop_core.specs.Clauses.{Clause, NegatesOnly}
+use Rattle.prop_core.specs.Trail.{Clashes}
+use Rattle.prop_core.specs.declared.lit.Lit.{Lit}
+use Rattle.replay.specs.Explanation.{IsAbsent}
+use Rattle.run_decode.specs.Faithful.{IsWithin}
+use Rattle.weight_counter.specs.declared.scale.Scale.{Scale}
+use Rattle.cost_least.specs.Answers.{CostAsked, IsPriced, Needs}
+use Rattle.cost_least.specs.Weighed.{assumed_at}
+use Rattle.cost_least.specs.declared.answer.Priced.{Priced}
+use Rattle.cost_least.specs.declared.asking.Asked.{Asked}
+use Rattle.cost_least.specs.declared.asking.Asked.TheVariants.{Explained, Refuted, Spent}
+
+-- without a bound nothing explains the log; with one all that does has a greater total
+abbrev pub RulesOut : CostAsked → Option ℕ → Type 0
+RulesOut q None = IsAbsent q.net q.log q.steps
+RulesOut q (Some b) = Needs q (suc b)
+
+-- the entries that were put are learnt ones
+abbrev pub AreLearnt : List BookEntry → Type 0
+AreLearnt since = list_all is_learnt since ≡ true
+
+-- learnt entries, and then a final one of negated assumptions
+pub record EndsByFinal (assumed : List Lit) (since : List BookEntry) : Type 0 where
+  pub before : List BookEntry
+  pub clause : Clause
+  pub hints : List ℕ
+  pub whole : since ≡ before ++ final clause hints ∷ []
+  pub learnt : AreLearnt before
+  pub negates : NegatesOnly assumed clause
+
+-- where a run is given, it is one that explains, with its total
+abbrev pub IsGiven : CostAsked → Asked → Type 0
+IsGiven q (Explained priced) = IsPriced q priced
+IsGiven q Refuted = ⊤
+IsGiven q Spent = ⊤
+
+-- a run that explains the log within the bound, whose costs are inputs of the scale
+pub record IsFoundWithin (q : CostAsked) (scale : Scale) (bound : Option ℕ) (since : List BookEntry) (priced : Priced) : Type 0 where
+  pub given : IsPriced q priced
+  pub within : IsWithin bound priced.cost
+  pub counted : 0 < priced.cost → 0 < scale.inputs
+  pub learnt : AreLearnt since
+
+-- what was asked for is ruled out, by a final entry
+pub record IsRuledOut (q : CostAsked) (bound : Option ℕ) (assumed : List Lit) (since : List BookEntry) : Type 0 where
+  pub out : RulesOut q bound
+  pub ends : EndsByFinal assumed since
+
+-- nothing is left at a further conflict
+pub record IsStopped (assumed : List Lit) (since book : List BookEntry) (budget : ℕ) : Type 0 where
+  pub nothing : budget ≡ 0
+  pub clashes : Clashes (clauses_of book) assumed
+  pub learnt : AreLearnt since
+
+-- what an answer means
+abbrev pub Means : CostAsked → Scale → Option ℕ → List Lit → List BookEntry → List BookEntry → ℕ → Asked → Type 0
+Means q scale bound assumed since book budget (Explained priced) = IsFoundWithin q scale bound since priced
+Means q scale bound assumed since book budget Refuted = IsRuledOut q bound assumed since
+Means q scale bound assumed since book budget Spent = IsStopped assumed since book budget
+
+-- Derived entries alone were put, each learnt clause was paid for and fresh, and the answer means this.
+pub record HasAskedCost (q : CostAsked) (code : CodedLog) (scale : Scale) (bound : Option ℕ) (old new : List BookEntry) (budget_old budget_new : ℕ) (asked : Asked) : Type 0 where
+  pub since : List BookEntry
+  pub whole : new ≡ old ++ since
+  pub unmarked : (number : ℕ) → count_by (is_mark number) since ≡ 0
+  pub paid : count_by is_learnt since + budget_new ≡ budget_old
+  pub fresh : HaveLearntFresh old since
+  pub means : Means q scale bound (assumed_at code scale bound) since new budget_new asked

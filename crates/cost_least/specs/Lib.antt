@@ -1,0 +1,7 @@
+pub mod Costs
+pub mod Pricing
+pub mod Entries
+pub mod Weighed
+pub mod Answers
+pub mod Asking
+pub mod Searching

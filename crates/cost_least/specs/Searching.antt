@@ -1,0 +1,86 @@
+-- A search by halving: what it has found when it asks, and what it needs.
+use Rattle.std.specs.Prelude.{◌≡◌, ℕ, suc, ◌+◌, ◌<◌, ◌≤◌, List, ◌++◌, Option, Some, Contains, count_by}
+use Rattle.des_net.specs.Network.{Net}
+use Rattle.event_costs.specs.StoredCosts.{IsAnswered}
+use Rattle.event_costs.specs.declared.TheConstants.{MOST_COST}
+use Rattle.least_faults.specs.Answers.{HaveLearntFresh}
+use Rattle.least_faults.specs.Evidence.{HasLastFinal}
+use Rattle.least_faults.specs.declared.parts.Parts.{Parts}
+use Rattle.log_encode.specs.CodedLog.{CodedLog}
+use Rattle.log_order.specs.Log.{Log}
+use Rattle.proof_ledger.specs.Book.{BookEntry, final, is_mark, axioms_of}
+use Rattle.proof_ledger.specs.Fresh.{is_learnt}
+use Rattle.prop_core.specs.Clauses.{Clause, NegatesOnly, value_in}
+use Rattle.weight_counter.specs.Weighing.{weight_true}
+use Rattle.weight_counter.specs.declared.scale.Scale.{Scale}
+use Rattle.weight_counter.specs.declared.weighted.Weighted.{Weighted}
+use Rattle.prop_core.specs.declared.lit.Lit.{Lit}
+use Rattle.run_decode.specs.Decided.{Entails}
+use Rattle.cost_least.specs.Asking.{RulesOut}
+use Rattle.cost_least.specs.Answers.{CostAsked, AreTold, IsPriced, Needs, IsCheapFound, HasConflictOf, IsCostAnswered}
+use Rattle.cost_least.specs.Weighed.{AreWeighed, AreWeightedInputs, assumed_at}
+use Rattle.cost_least.specs.declared.answer.Cheap.{Cheap}
+use Rattle.cost_least.specs.declared.answer.Priced.{Priced}
+
+-- a total of at most b can be asked for: there is something to weigh, and b is an amount of the scale
+pub record MayBound (scale : Scale) (b : ℕ) : Type 0 where
+  pub some : 0 < scale.inputs
+  pub few : b < scale.amounts
+
+-- what is asked about, by the parts
+abbrev pub asked_of : {R : Type 0} → Net → (ℕ → ℕ) → Log → Parts R → CostAsked
+asked_of net cost log parts = record { net = net; cost = cost; log = log; steps = parts.step.steps }
+
+-- The parts have the scale of some costs that a stored closure answers.
+pub record AreAsked {R C : Type 0} (may : R → ℕ → Type 0) (gives : R → ℕ → ℕ → Type 0) (answers : C → ℕ → ℕ → Type 0) (stored : C) (net : Net) (parts : Parts R) (scale : Scale) (book : List BookEntry) : Type 0 where
+  pub cost : ℕ → ℕ
+  pub answered : IsAnswered answers stored net cost
+  pub weighed : AreWeighed may gives cost parts scale book
+
+-- with whatever costs the parts have the scale, they have it still
+abbrev pub StayWeighed : {R : Type 0} → (R → ℕ → Type 0) → (R → ℕ → ℕ → Type 0) → Parts R → Parts R → Scale → List BookEntry → List BookEntry → Type 0
+StayWeighed may gives old new scale old_book new_book = (cost : ℕ → ℕ) → AreWeighed may gives cost old scale old_book → AreWeighed may gives cost new scale new_book
+
+-- it is what the true inputs weigh, whatever inputs the parts have with these costs
+abbrev pub IsTotalOf : {R : Type 0} → (ℕ → ℕ) → Parts R → ℕ → Type 0
+IsTotalOf cost parts total = (inputs : List Weighted) → AreWeightedInputs parts.step parts.code.code cost inputs → total ≡ weight_true (value_in parts.solver.assignment) inputs
+
+-- each final entry refutes a total below lo
+abbrev pub FinalsAreBelow : CodedLog → Scale → ℕ → List BookEntry → Type 0
+FinalsAreBelow code scale lo since = (clause : Clause) (hints : List ℕ) → Contains since (final clause hints) → (j : ℕ) × (j < lo) × NegatesOnly (assumed_at code scale (Some j)) clause
+
+-- What the search has come to: totals below lo are refuted, the last of them by the last final entry, and a run of this total is known.
+pub record HasHalved (q : CostAsked) (code : CodedLog) (scale : Scale) (old new : List BookEntry) (budget_old budget_new lo : ℕ) (best : Priced) : Type 0 where
+  pub since : List BookEntry
+  pub whole : new ≡ old ++ since
+  pub unmarked : (number : ℕ) → count_by (is_mark number) since ≡ 0
+  pub paid : count_by is_learnt since + budget_new ≡ budget_old
+  pub fresh : HaveLearntFresh old since
+  pub finals : FinalsAreBelow code scale lo since
+  pub last : (b : ℕ) → lo ≡ suc b → HasLastFinal since (assumed_at code scale (Some b))
+  pub needs : Needs q lo
+  pub reached : lo ≤ 1 + MOST_COST
+  pub given : IsPriced q best
+  pub counted : 0 < best.cost → 0 < scale.inputs
+
+-- The entries that were put show what was found, and no more clauses were learnt than the budget says, each of them fresh.
+pub record HasFoundCost (q : CostAsked) (budget : ℕ) (old new : List BookEntry) (answer : Cheap) : Type 0 where
+  pub since : List BookEntry
+  pub whole : new ≡ old ++ since
+  pub unmarked : (number : ℕ) → count_by (is_mark number) since ≡ 0
+  pub within : count_by is_learnt since ≤ budget
+  pub fresh : HaveLearntFresh old since
+  pub found : IsCheapFound q (axioms_of new) since budget answer
+  pub conflict : HasConflictOf q new answer
+
+-- By some costs that the stored closure answers, which are what it answers on each fault event, the answer means this.
+pub record HasAnsweredCosts {R C : Type 0} (answers : C → ℕ → ℕ → Type 0) (stored : C) (net : Net) (log : Log) (parts : Parts R) (budget : ℕ) (old new : List BookEntry) (cheap : Cheap) : Type 0 where
+  pub cost : ℕ → ℕ
+  pub answered : IsAnswered answers stored net cost
+  pub means : IsCostAnswered (asked_of net cost log parts) budget old new cheap
+
+-- ---- what a refutation decides
+
+-- A clause of negated assumptions that axioms entail which tell what explains within a bound rules that out: nothing explains, or all that does has a greater total.
+abbrev pub CostsAreRuledOut : Type 0
+CostsAreRuledOut = (q : CostAsked) (bound : Option ℕ) (axioms : List Clause) (assumed : List Lit) (clause : Clause) → AreTold q bound axioms assumed → Entails axioms clause → NegatesOnly assumed clause → RulesOut q bound

@@ -1,0 +1,25 @@
+// The laws of costs.
+ghost use Rattle.cost_least.specs.Pricing.{CostsAreTold, CostsAreWeights};
+ghost use Rattle.cost_least.specs.Searching.{CostsAreRuledOut};
+ghost use Rattle.cost_least.specs.Weighed.{ScaledPartsTell};
+
+/// A law: what a run costs with an order of the alarms is what the true inputs of the scale weigh.
+pub fn costs_are_weights()
+    ensures { CostsAreWeights }
+{}
+
+/// A law: a question with a scale beside it tells what explains with a total of at most so much.
+pub fn costs_are_told()
+    ensures { CostsAreTold }
+{}
+
+/// A law: the parts of a question with a scale tell what explains the log within each total.
+pub fn scaled_parts_tell()
+    ensures { ScaledPartsTell }
+{}
+
+/// A law: a clause of negated assumptions that the axioms entail rules out what they tell: nothing explains, or all that does has a
+/// greater total.
+pub fn costs_are_ruled_out()
+    ensures { CostsAreRuledOut }
+{}

@@ -1,0 +1,36 @@
+// What is asked about, and what its readers tell.
+ghost use Rattle.log_clauses.specs.LogClauses.{guard_literals};
+ghost use Rattle.log_encode.specs.CodedLog.{read_names};
+ghost use Rattle.prop_core.specs.VariableNames.{ReadsAs};
+ghost use Rattle.proof_ledger.specs.Book.{IsValidBook};
+ghost use Rattle.cost_least.specs.Weighed.{guards_of};
+
+use des_net::Network;
+use log_encode::LogCode;
+use log_order::AlarmLog;
+use proof_ledger::Ledger;
+use std::alloc::Global;
+use weight_counter::Scale;
+
+// A network and a log, the scale that weighs their faults, and where the memory for answers comes from.
+#[derive(Clone, Copy)]
+pub struct CostQuestion<'a> {
+    pub net: &'a Network,
+    pub log: &'a AlarmLog,
+    pub scale: Scale,
+    pub alloc: Global,
+}
+
+// The book is valid, as its reader tells.
+pub fn is_valid(book: &Ledger)
+    ensures { IsValidBook book.now.entries }
+{
+    let _entries = book.entries();
+}
+
+// The guards of the log, in their order, are literals of its names, as the reader of its code tells.
+pub fn has_guards(code: &LogCode)
+    ensures { ReadsAs (read_names code.now.code) (guards_of code.now.code) (guard_literals code.now.code.net code.now.code.log) }
+{
+    let _guards = code.guards();
+}

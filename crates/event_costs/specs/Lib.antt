@@ -1,0 +1,5 @@
+pub mod Prices
+pub mod StoredCosts
+pub mod CostText
+pub mod LineWords
+pub mod Reading

@@ -1,0 +1,5 @@
+pub mod Weights
+pub mod Places
+pub mod Written
+pub mod Small
+pub mod Vectors
