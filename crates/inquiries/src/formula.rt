@@ -30,12 +30,11 @@ impl Inquiry for FormulaWithin {
         &self,
         alloc: Global,
         case: &Case,
-        parts: Parts<R>,
+        parts: &mut Parts<R>,
         book: &mut Ledger,
     ) -> Result<Cnf, Memory> {
-        let mut parts = parts;
         let bound = counted(&parts.counter, self.bound);
-        let assumed = assumptions(alloc, bound, &mut parts, book)?;
+        let assumed = assumptions(alloc, bound, parts, book)?;
         case.net.is_built();
         case.log.is_whole();
         formula_under(alloc, book, parts.vars.count(), assumed.as_slice())

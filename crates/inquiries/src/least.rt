@@ -22,11 +22,10 @@ impl Inquiry for LeastFaults {
         &self,
         alloc: Global,
         case: &Case,
-        parts: Parts<R>,
+        parts: &mut Parts<R>,
         book: &mut Ledger,
     ) -> Result<Found, Memory> {
-        let mut parts = parts;
-        let found = least(alloc, &case.net, &case.log, &mut parts, book, self.budget);
+        let found = least(alloc, &case.net, &case.log, parts, book, self.budget);
         is_valid(book);
         found
     }

@@ -38,12 +38,12 @@ pub trait Inquiry {
         &self,
         alloc: Global,
         case: &Case,
-        parts: Parts<R>,
+        parts: &mut Parts<R>,
         book: &mut Ledger,
     ) -> Result<Self::Answer, Memory>
-        requires begun { HasBegun R.pre R.post case.now.net case.now.log parts book.old.entries }
-        ensures says { IfOk result (says self.now case.now.net case.now.log parts.step.steps book.new.entries) }
-        ensures left { HasQuestion case.now.net case.now.log parts.step.steps book.new.entries };
+        requires begun { HasBegun R.pre R.post case.now.net case.now.log parts.old book.old.entries }
+        ensures says { IfOk result (says self.now case.now.net case.now.log parts.old.step.steps book.new.entries) }
+        ensures left { HasQuestion case.now.net case.now.log parts.old.step.steps book.new.entries };
 }
 
 /// Writes the question which runs within so many parallel steps explain the log into an empty book, and makes the inquiry.
@@ -111,7 +111,10 @@ fn pose_by_solver<T: Fn(u32, u32) -> bool, R: Fn(u32) -> u64, Q: Inquiry>(
     ensures left { LeavesQuestion case.now.net case.now.log steps book.new.entries }
 {
     match build(alloc, &case.net, &case.log, steps, test, solver, book).ok() {
-        Some(parts) => inquiry.ask(alloc, case, parts, book),
+        Some(parts) => {
+            let mut parts = parts;
+            inquiry.ask(alloc, case, &mut parts, book)
+        }
         None => {
             *book = Ledger::new(alloc);
             Err(Memory)

@@ -37,13 +37,12 @@ impl Inquiry for Refutation {
         &self,
         alloc: Global,
         case: &Case,
-        parts: Parts<R>,
+        parts: &mut Parts<R>,
         book: &mut Ledger,
     ) -> Result<Refuted, Memory> {
-        let mut parts = parts;
-        let found = least(alloc, &case.net, &case.log, &mut parts, book, self.budget)?;
+        let found = least(alloc, &case.net, &case.log, parts, book, self.budget)?;
         is_valid(book);
-        refuted_for(alloc, case, &parts, book, found)
+        refuted_for(alloc, case, parts, book, found)
     }
 }
 

@@ -1,5 +1,5 @@
 -- The question is built into an empty book.
-use Rattle.std.proofs.Common.{◌∙◌, ℕ, ap, inl, inr, sym, subst}
+use Rattle.std.proofs.Common.{◌∙◌, ℕ, IfOk, ap, inl, inr, sym, subst}
 use Rattle.least_faults.specs.Building.{AreBuilt}
 use Rattle.inquiries.specs.Begun.{HasQuestion}
 use Rattle.inquiries.proofs.Diagnosing.{begins, ok_some}
@@ -14,6 +14,14 @@ ask-requires g c =
     record {
       begun = begins (goal.R-pre g) (goal.R-post g) net log c.args.steps c.args.solver parts c.args.book.now.entries c.build.new.book.entries c.requires.limits.steps c.requires.empty c.build.ensures.axioms built;
     }
+
+pub returns-in-Some-clause-says : goal.returns-in-Some-clause-says
+returns-in-Some-clause-says g c =
+    let net = c.args.case.now.net in
+    let log = c.args.case.now.log in
+    let parts = c.in-Some.parts in
+    let built = ok_some c.build.result (AreBuilt (goal.R-pre g) (goal.R-post g) net log c.args.steps c.args.solver c.build.new.book.entries) parts (sym c.in-Some.is ∙ c.ok.ensures.value) c.build.ensures.built in
+    subst (λ (n : ℕ). IfOk c.ask.result (g.Q.Inquiry.says c.args.inquiry.now net log n c.ask.new.book.entries)) built.steps c.ask.ensures.says
 
 pub returns-in-Some-clause-left : goal.returns-in-Some-clause-left
 returns-in-Some-clause-left g c =

@@ -14,23 +14,23 @@ use Rattle.inquiries.proofs.formula.FormulaWithinInquiry.ask.Goals as goal
 
 pub returns-in_err-assumed-clause-left : goal.returns-in_err-assumed-clause-left
 returns-in_err-assumed-clause-left g c =
-    question_left (goal.R-pre g) (goal.R-post g) c.args.case.now.net c.args.case.now.log c.args.parts c.assumptions.new.parts c.args.book.now.entries c.assumptions.new.book.entries c.requires.begun c.assumptions.ensures.kept
+    question_left (goal.R-pre g) (goal.R-post g) c.args.case.now.net c.args.case.now.log c.args.parts.now c.assumptions.new.parts c.args.book.now.entries c.assumptions.new.book.entries c.requires.begun c.assumptions.ensures.kept
 
 pub returns-clause-left : goal.returns-clause-left
 returns-clause-left g c =
-    question_left (goal.R-pre g) (goal.R-post g) c.args.case.now.net c.args.case.now.log c.args.parts c.assumptions.new.parts c.args.book.now.entries c.assumptions.new.book.entries c.requires.begun c.assumptions.ensures.kept
+    question_left (goal.R-pre g) (goal.R-post g) c.args.case.now.net c.args.case.now.log c.args.parts.now c.assumptions.new.parts c.args.book.now.entries c.assumptions.new.book.entries c.requires.begun c.assumptions.ensures.kept
 
 pub returns-clause-says : goal.returns-clause-says
 returns-clause-says g c =
     let net = c.args.case.now.net in
     let log = c.args.case.now.log in
     let begun = c.requires.begun in
-    let n = c.args.parts.step.steps in
+    let n = c.args.parts.now.step.steps in
     let within = c.args.self.now.bound in
     let parts = c.assumptions.new.parts in
     let book = c.assumptions.new.book.entries in
     let assumed = c.in_ok-assumed.assumed.items in
-    let asked : IsAsked (goal.R-pre g) (goal.R-post g) c.args.parts parts c.args.book.now.entries book net log n within c.counted-bound.result assumed = record {
+    let asked : IsAsked (goal.R-pre g) (goal.R-post g) c.args.parts.now parts c.args.book.now.entries book net log n within c.counted-bound.result assumed = record {
       belong = begun.belong;
       steps = refl;
       none = begun.columns;

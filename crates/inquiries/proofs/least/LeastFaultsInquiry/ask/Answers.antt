@@ -10,7 +10,7 @@ pub returns-clause-says : goal.returns-clause-says
 returns-clause-says g c =
     let net = c.args.case.now.net in
     let log = c.args.case.now.log in
-    let parts = c.args.parts in
+    let parts = c.args.parts.now in
     let later = c.least-found.new.parts in
     let budget = c.args.self.now.budget in
     let old = c.args.book.now.entries in
@@ -20,4 +20,4 @@ returns-clause-says g c =
 
 pub returns-clause-left : goal.returns-clause-left
 returns-clause-left g c =
-    question_left (goal.R-pre g) (goal.R-post g) c.args.case.now.net c.args.case.now.log c.args.parts c.least-found.new.parts c.args.book.now.entries c.least-found.new.book.entries c.requires.begun c.least-found.ensures.kept
+    question_left (goal.R-pre g) (goal.R-post g) c.args.case.now.net c.args.case.now.log c.args.parts.now c.least-found.new.parts c.args.book.now.entries c.least-found.new.book.entries c.requires.begun c.least-found.ensures.kept
