@@ -22,7 +22,6 @@ use Rattle.prop_core.specs.declared.lit.Lit.{Lit}
 use Rattle.run_decode.specs.Decided.{Entails}
 use Rattle.run_decode.specs.Decoding.{IsTrueRun}
 use Rattle.run_decode.specs.Faithful.{IsWithin}
-use Rattle.run_decode.specs.Tells.{Tells}
 use Rattle.run_decode.specs.WholeNaming.{whole_names}
 use Rattle.sat_solve.specs.Searching.{HasAxiomVars, IsSearched, HasPut, IsRefuted, IsSpent}
 use Rattle.sat_solve.specs.declared.answer.Answer.TheVariants as solver
@@ -36,7 +35,7 @@ use Rattle.cost_least.proofs.Asked.{told_at, costs_are_ruled_out, within_limit}
 use Rattle.cost_least.proofs.Asks.{asks_costs}
 use Rattle.cost_least.specs.Answers.{CostAsked, AreTold, IsPriced}
 use Rattle.cost_least.specs.Asking.{AreLearnt, HasAskedCost}
-use Rattle.cost_least.specs.Pricing.{ExplainsAt, cost_limit}
+use Rattle.cost_least.specs.Pricing.{PosesCosts, cost_limit}
 use Rattle.cost_least.specs.Searching.{MayBound}
 use Rattle.cost_least.specs.Weighed.{AreWeighedParts, guards_of, assumed_at}
 use Rattle.cost_least.specs.declared.answer.Priced.{Priced}
@@ -49,11 +48,11 @@ module _ (cost : ℕ → ℕ) (steps : CodedSteps) (code : CodedLog) (counter : 
   -- within each bound that may be asked for
   pub told : (bound : Option ℕ) → IfSome bound (MayBound scale) → AreTold (record { net = net; cost = cost; log = log; steps = steps.steps }) bound axioms (assumed_at code scale bound)
   told bound may =
-      subst (λ (m : Net). Tells axioms (assumed_at code scale bound) (ExplainsAt m cost log steps.steps bound)) of_net
+      subst (λ (m : Net). PosesCosts m cost log steps.steps bound axioms (assumed_at code scale bound)) of_net
       (told_at cost steps code counter vars axioms scale log parts (subst IsNetwork (sym of_net) network) valid same read bound may)
 
   pub assumed_compatible : (bound : Option ℕ) → IfSome bound (MayBound scale) → AreConsistent (assumed_at code scale bound)
-  assumed_compatible bound may = compatible (assumed_at code scale bound) (told bound may).consistent
+  assumed_compatible bound may = compatible (assumed_at code scale bound) (told bound may).tells.consistent
 
   first_within : scale.first ≤ vars
   first_within = let all = parts.vars_are in omega (arith, all)

@@ -16,7 +16,6 @@ use Rattle.replay.specs.Explanation.{Entry, Explains}
 use Rattle.replay.specs.Matching.{order_of}
 use Rattle.replay.specs.Traced.{word_of}
 use Rattle.run_decode.proofs.Tells.{told_is_refuted}
-use Rattle.run_decode.specs.Tells.{Tells}
 use Rattle.step_encode.specs.Coded.{CodedSteps}
 use Rattle.weight_counter.proofs.Weights.{weights_are_reached}
 use Rattle.weight_counter.specs.Scales.{place_variable}
@@ -26,7 +25,7 @@ use Rattle.weight_counter.specs.declared.weighted.Weighted.{Weighted}
 use Rattle.cost_least.proofs.Asks.{tells_costs}
 use Rattle.cost_least.specs.Answers.{CostAsked, Needs, IsPriced, IsCostEvidence, IsCheapestFound, IsDearFound}
 use Rattle.cost_least.specs.Costs.{total}
-use Rattle.cost_least.specs.Pricing.{ExplainsAt}
+use Rattle.cost_least.specs.Pricing.{ExplainsAt, PosesCosts}
 use Rattle.cost_least.specs.Searching.{MayBound, CostsAreRuledOut}
 use Rattle.cost_least.specs.Weighed.{AreWeighedParts, guards_of, assumed_at}
 use Rattle.cost_least.specs.declared.answer.Priced.{Priced}
@@ -34,19 +33,19 @@ use Rattle.cost_least.specs.declared.answer.Priced.{Priced}
 -- without a bound, and within one that may be asked for
 pub told_at : (cost : ℕ → ℕ) (steps : CodedSteps) (code : CodedLog) (counter : CounterState) (vars : ℕ) (axioms : List Clause) (scale : Scale) (log : Log) → AreWeighedParts cost steps code counter vars axioms scale →
     IsNetwork steps.net → IsValidLog log → code.log ≡ without_names log → ReadsAs (read_names code) (guards_of code) (guard_literals code.net code.log) → (bound : Option ℕ) → IfSome bound (MayBound scale) →
-    Tells axioms (assumed_at code scale bound) (ExplainsAt steps.net cost log steps.steps bound)
+    PosesCosts steps.net cost log steps.steps bound axioms (assumed_at code scale bound)
 told_at cost steps code counter vars axioms scale log parts network valid same read None may = (tells_costs cost steps code counter vars axioms scale parts log network valid same read).unbounded
 told_at cost steps code counter vars axioms scale log parts network valid same read (Some b) may = (tells_costs cost steps code counter vars axioms scale parts log network valid same read).bounded b may.few may.some
 
 -- a clause of negated assumptions that the axioms entail rules out what they tell
 pub costs_are_ruled_out : CostsAreRuledOut
 costs_are_ruled_out q None axioms assumed clause told entails negates =
-    λ word order explains. told_is_refuted (ExplainsAt q.net q.cost q.log q.steps None) axioms assumed clause told entails negates word order explains
+    λ word order explains. told_is_refuted (ExplainsAt q.net q.cost q.log q.steps None) axioms assumed clause told.tells entails negates word order explains
 costs_are_ruled_out q (Some b) axioms assumed clause told entails negates = λ word order explains. by word order explains (cases_lt b (total q.net q.cost word order))
   where
     by : (word : List ℕ) (order : List Entry) → Explains q.net q.log q.steps word order → (b < total q.net q.cost word order) ⊎ (total q.net q.cost word order ≤ b) → suc b ≤ total q.net q.cost word order
     by word order explains (inl more) = omega (arith, more)
-    by word order explains (inr less) = absurd (told_is_refuted (ExplainsAt q.net q.cost q.log q.steps (Some b)) axioms assumed clause told entails negates word order (explains, less))
+    by word order explains (inr less) = absurd (told_is_refuted (ExplainsAt q.net q.cost q.log q.steps (Some b)) axioms assumed clause told.tells entails negates word order (explains, less))
 
 low : (b : Bool) → beq b false ≡ true → b ≡ true → ⊥
 low true h k = cc

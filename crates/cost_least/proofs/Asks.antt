@@ -91,6 +91,7 @@ module _ (cost : ℕ → ℕ) (steps : CodedSteps) (code : CodedLog) (counter : 
         inputs = parts.inputs;
         input_names = inputs_named log same;
         counted = parts.counted;
+        amounts = parts.amounts;
         nameless = nameless_above scale.first names below;
         weighing = scale_clauses (place_variable scale) scale.amounts parts.inputs;
         weights = (scales_are_exact scale parts.inputs).clauses;

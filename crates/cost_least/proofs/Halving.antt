@@ -224,7 +224,7 @@ module _ (q : CostAsked) (code : CodedLog) (scale : Scale) where
 
         refutes : NegatesOnly (guards_of code) has.clause → ⊥
         refutes negates =
-            told_is_refuted (ExplainsAt q.net q.cost q.log q.steps None) (axioms_of new) (assumed_at code scale None) has.clause unbounded (final_entailed new has.clause has.hints valid there)
+            told_is_refuted (ExplainsAt q.net q.cost q.log q.steps None) (axioms_of new) (assumed_at code scale None) has.clause unbounded.tells (final_entailed new has.clause has.hints valid there)
             (subst (λ xs. NegatesOnly xs has.clause) (sym (append-nil (guards_of code))) negates) (word_of best.run) (order_of q.log best.run) come.given.explains
 
         same : NegatesLast (negative (place_variable scale (scale.inputs - 1) here.0)) has.clause → here.0 ≡ b

@@ -1,5 +1,5 @@
 -- The inputs of a scale are, by name, the faults of a question, each with its cost.
-use Rattle.std.proofs.Common.{◌≡◌, ◌∙◌, ℕ, suc, true, List, [], ◌∷◌, ◌++◌, length, map, flat_map, Option, Some, None, refl, sym, ap, arith, option_map}
+use Rattle.std.proofs.Common.{◌≡◌, ◌∙◌, ℕ, zero, suc, ◌<◌, true, List, [], ◌∷◌, ◌++◌, length, map, flat_map, Option, Some, None, refl, sym, ap, subst, arith, option_map, slice_get}
 use Rattle.std.specs.List.{AllZip}
 use Rattle.std.proofs.lemmas.List.{map-append, length-map}
 use Rattle.des_base.specs.Lists.{numbers_below}
@@ -58,6 +58,28 @@ zip_inputs names (x ∷ inputs) (m ∷ named) h weights =
     let first = read_yes names x.input m.0 (parts.literal ∙ ap (λ (l : NamedLiteral). Some l) (sym same.0)) in
     let both = numbers_same x.weight m.1 (map (λ (y : Weighted). y.weight) inputs) (map (λ (k : Name × ℕ). k.1) named) weights in
     (record { positive = first.positive; called = first.called; weight = both.0 }, zip_inputs names inputs named (parts.later ∙ ap Some (sym same.1)) both.1)
+
+pub same_length : (names : List (ℕ × Name)) (inputs : List Weighted) (named : List (Name × ℕ)) → AllZip (IsInput names) inputs named → length inputs ≡ length named
+same_length names [] [] are = refl
+same_length names [] (m ∷ named) are = absurd are
+same_length names (x ∷ inputs) [] are = absurd are
+same_length names (x ∷ inputs) (m ∷ named) are = ap suc (same_length names inputs named are.1)
+
+-- the name of the input at a place, with what it weighs
+pub record IsNamedAt (names : List (ℕ × Name)) (inputs : List Weighted) (all : List (Name × ℕ)) (i : ℕ) (x : Weighted) : Type 0 where
+  pub named : Name × ℕ
+  pub there : slice_get all i ≡ Some named
+  pub is : IsInput names x named
+  pub inside : i < length inputs
+
+pub named_at : (names : List (ℕ × Name)) (inputs : List Weighted) (named : List (Name × ℕ)) (i : ℕ) (x : Weighted) → AllZip (IsInput names) inputs named → slice_get inputs i ≡ Some x → IsNamedAt names inputs named i x
+named_at names [] named i x are at = cc
+named_at names (y ∷ inputs) [] i x are at = absurd are
+named_at names (y ∷ inputs) (m ∷ named) zero x are at = let same : y ≡ x = cc in record { named = m; there = refl; is = subst (λ z. IsInput names z m) same are.0; inside = omega arith }
+named_at names (y ∷ inputs) (m ∷ named) (suc i) x are at =
+    let rest = named_at names inputs named i x are.1 at in
+    let inside = rest.inside in
+    record { named = rest.named; there = rest.there; is = rest.is; inside = omega (arith, inside) }
 
 pub read_length : (names : List (ℕ × Name)) (lits : List Lit) (read : List NamedLiteral) → named_clause names lits ≡ Some read → length lits ≡ length read
 read_length names [] read h = by read h

@@ -1,4 +1,5 @@
 pub mod Sums
+pub mod Drawing
 pub mod Pricing
 pub mod Inputs
 pub mod Pushed

@@ -6,14 +6,19 @@ use Rattle.std.proofs.lemmas.Bool.{cases_lt, leb-true, le-leb}
 use Rattle.std.proofs.lemmas.List.Sums.{sum_by-cons}
 use Rattle.des_base.proofs.BoolLemmas.{otherwise}
 use Rattle.des_base.proofs.Elements.{all_append}
+use Rattle.des_net.specs.Network.{Net, IsNetwork}
+use Rattle.log_order.specs.Log.{Log, IsValidLog}
 use Rattle.prop_core.proofs.NameLemmas.{values_match, assignments_match}
 use Rattle.prop_core.specs.Clauses.{Clause, literal_true, AllClausesTrue}
 use Rattle.prop_core.specs.NamedClauses.{Match, value_by, assignment_by}
 use Rattle.prop_core.specs.VariableNames.{Name, name_of, HasEachOnce}
+use Rattle.prop_core.specs.declared.lit.Lit.{Lit}
 use Rattle.run_decode.proofs.Assumptions.{is_guard}
 use Rattle.run_decode.proofs.Tells.{ridden_tells, same_property_told, consistent_by, unnamed, guards_true}
 use Rattle.run_decode.specs.Faithful.{MakesTrue}
 use Rattle.run_decode.specs.Tells.{Tells, Rides}
+use Rattle.cost_least.proofs.Drawing.{cost_names, drawn_unbounded, drawn_bounded}
+use Rattle.cost_least.proofs.Inputs.{same_length}
 use Rattle.cost_least.proofs.Sums.{costs_are_weights}
 use Rattle.card_counter.specs.CounterState.{negative}
 use Rattle.weight_counter.proofs.Weights.{weights_are_reached, weights_are_true}
@@ -23,7 +28,7 @@ use Rattle.weight_counter.specs.Weighing.{weight_true, AreWeightClauses, TellsWe
 use Rattle.weight_counter.specs.declared.scale.Scale.{Scale}
 use Rattle.weight_counter.specs.declared.weighted.Weighted.{Weighted}
 use Rattle.cost_least.specs.Costs.{total}
-use Rattle.cost_least.specs.Pricing.{ExplainsAt, named_weights, weight_named, IsInput, CostsAreTold}
+use Rattle.cost_least.specs.Pricing.{ExplainsAt, named_weights, weight_named, IsInput, AsksCosts, cost_limit, CostsAreTold}
 
 -- ---- truth values and lists
 
@@ -61,12 +66,6 @@ weights_are names assignment value match (x ∷ inputs) (m ∷ named) are =
     let sign : cond (literal_true assignment x.input) x.weight 0 ≡ cond (value m.0) x.weight 0 = ap (λ c. cond c x.weight 0) (input_is names assignment value match x m are.0) in
     let size : cond (value m.0) x.weight 0 ≡ cond (value m.0) m.1 0 = ap (λ w. cond (value m.0) w 0) are.0.weight in
     omega (arith, rest, a, b, sign, size)
-
-same_length : (names : List (ℕ × Name)) (inputs : List Weighted) (named : List (Name × ℕ)) → AllZip (IsInput names) inputs named → length inputs ≡ length named
-same_length names [] [] are = refl
-same_length names [] (m ∷ named) are = absurd are
-same_length names (x ∷ inputs) [] are = absurd are
-same_length names (x ∷ inputs) (m ∷ named) are = ap suc (same_length names inputs named are.1)
 
 -- two assignments that match one truth of names weigh alike
 same_weight : (names : List (ℕ × Name)) (one other : ℕ → Bool) (value : Name → Bool) → Match names one value → Match names other value → (inputs : List Weighted) (named : List (Name × ℕ)) → AllZip (IsInput names) inputs named →
@@ -140,26 +139,45 @@ module _ (names : List (ℕ × Name)) (once : HasEachOnce names) (scale : Scale)
     free = λ value. (given_for value, free value);
   }
 
+-- ---- what a question with a counter tells
+
+module _ (net : Net) (cost : ℕ → ℕ) (log : Log) (n : ℕ) (names : List (ℕ × Name)) (scale : Scale) (whole : List Clause) (assumed : List Lit) (network : IsNetwork net) (valid : IsValidLog log)
+    (asks : AsksCosts net cost log n names scale whole assumed) where
+  once : HasEachOnce names
+  once = asks.asks.question.once
+
+  all_told : Tells whole (assumed ++ cost_limit scale None) (ExplainsAt net cost log n None)
+  all_told =
+      same_property_told _ _ whole (assumed ++ []) (λ word order. (λ has. has.0.0, λ explains. ((explains, tt), omega arith)))
+      (ridden_tells net log n None names asks.clauses asks.weighing whole assumed [] (λ value. 0 ≤ 0) (λ word order. 0 ≤ 0) network valid asks.asks
+      (no_limit_rides names once scale asks.inputs (named_weights net cost log n) asks.input_names asks.nameless asks.weighing asks.weights)
+      (λ value pieces order are false'. (λ h. h, λ h. h)) asks.both
+      (consistent_by (assignment_by names is_guard (λ v. false)) (assumed ++ []) (all_append (λ l. IsTrue (literal_true (assignment_by names is_guard (λ v. false)) l)) assumed [] (guards_true names net log n None (λ v. false) assumed asks.asks.assumes) tt)))
+
+  within_told : (b : ℕ) → b < scale.amounts → 0 < scale.inputs → Tells whole (assumed ++ cost_limit scale (Some b)) (ExplainsAt net cost log n (Some b))
+  within_told b few some =
+      let there : 0 < length asks.inputs = omega (arith, asks.counted, some) in
+      let same : length asks.inputs - 1 ≡ scale.inputs - 1 = ap (λ k. k - 1) (sym asks.counted) in
+      let limit = negative (place_variable scale (length asks.inputs - 1) b) in
+      subst (λ k. Tells whole (assumed ++ negative (place_variable scale k b) ∷ []) (ExplainsAt net cost log n (Some b))) same
+      (same_property_told _ _ whole (assumed ++ limit ∷ []) (λ word order. (λ has. (has.0.0, has.1), λ has. ((has.0, tt), has.1)))
+      (ridden_tells net log n None names asks.clauses asks.weighing whole assumed (limit ∷ []) (λ value. weight_named value (named_weights net cost log n) ≤ b) (λ word order. total net cost word order ≤ b) network valid asks.asks
+      (limit_rides names once scale asks.inputs (named_weights net cost log n) asks.input_names asks.nameless asks.weighing asks.weights b few there)
+      (λ value pieces order are false'. let is = costs_are_weights net cost log n value pieces order are false' in (λ h. omega (arith, is, h), λ h. omega (arith, is, h))) asks.both
+      (consistent_by (assignment_by names is_guard (λ v. false)) (assumed ++ limit ∷ []) (all_append (λ l. IsTrue (literal_true (assignment_by names is_guard (λ v. false)) l)) assumed (limit ∷ [])
+      (guards_true names net log n None (λ v. false) assumed asks.asks.assumes)
+      (ap (λ b'. beq b' false) (unnamed names is_guard (λ v. false) (place_variable scale (length asks.inputs - 1) b) (asks.nameless (place_variable scale (length asks.inputs - 1) b) (omega arith))), tt)))))
+
 pub costs_are_told : CostsAreTold
-costs_are_told net cost log n names scale whole assumed network valid asks =
-    let once = asks.asks.question.once in
-    let named = named_weights net cost log n in
-    let count = same_length names asks.inputs named asks.input_names in record {
-      unbounded = same_property_told _ _ whole (assumed ++ []) (λ word order. (λ has. has.0.0, λ explains. ((explains, tt), omega arith)))
-          (ridden_tells net log n None names asks.clauses asks.weighing whole assumed [] (λ value. 0 ≤ 0) (λ word order. 0 ≤ 0) network valid asks.asks
-          (no_limit_rides names once scale asks.inputs named asks.input_names asks.nameless asks.weighing asks.weights)
-          (λ value pieces order are false'. (λ h. h, λ h. h)) asks.both
-          (consistent_by (assignment_by names is_guard (λ v. false)) (assumed ++ []) (all_append (λ l. IsTrue (literal_true (assignment_by names is_guard (λ v. false)) l)) assumed [] (guards_true names net log n None (λ v. false) assumed asks.asks.assumes) tt)));
-      bounded = λ b few some.
-          let there : 0 < length asks.inputs = omega (arith, asks.counted, some) in
-          let same : length asks.inputs - 1 ≡ scale.inputs - 1 = ap (λ k. k - 1) (sym asks.counted) in
-          let limit = negative (place_variable scale (length asks.inputs - 1) b) in
-          subst (λ k. Tells whole (assumed ++ negative (place_variable scale k b) ∷ []) (ExplainsAt net cost log n (Some b))) same
-          (same_property_told _ _ whole (assumed ++ limit ∷ []) (λ word order. (λ has. (has.0.0, has.1), λ has. ((has.0, tt), has.1)))
-          (ridden_tells net log n None names asks.clauses asks.weighing whole assumed (limit ∷ []) (λ value. weight_named value named ≤ b) (λ word order. total net cost word order ≤ b) network valid asks.asks
-          (limit_rides names once scale asks.inputs named asks.input_names asks.nameless asks.weighing asks.weights b few there)
-          (λ value pieces order are false'. let is = costs_are_weights net cost log n value pieces order are false' in (λ h. omega (arith, is, h), λ h. omega (arith, is, h))) asks.both
-          (consistent_by (assignment_by names is_guard (λ v. false)) (assumed ++ limit ∷ []) (all_append (λ l. IsTrue (literal_true (assignment_by names is_guard (λ v. false)) l)) assumed (limit ∷ [])
-          (guards_true names net log n None (λ v. false) assumed asks.asks.assumes)
-          (ap (λ b'. beq b' false) (unnamed names is_guard (λ v. false) (place_variable scale (length asks.inputs - 1) b) (asks.nameless (place_variable scale (length asks.inputs - 1) b) (omega arith))), tt)))));
-    }
+costs_are_told net cost log n names scale whole assumed network valid asks = record {
+  unbounded = record {
+    tells = all_told net cost log n names scale whole assumed network valid asks;
+    names = cost_names names scale;
+    drawn = drawn_unbounded net cost log n names scale whole assumed asks;
+  };
+  bounded = λ b few some. record {
+    tells = within_told net cost log n names scale whole assumed network valid asks b few some;
+    names = cost_names names scale;
+    drawn = drawn_bounded net cost log n names scale whole assumed asks b few some;
+  };
+}

@@ -15,9 +15,8 @@ use Rattle.replay.specs.Explanation.{Explains, IsAbsent}
 use Rattle.replay.specs.Matching.{IsWellMatched, order_of}
 use Rattle.replay.specs.Traced.{word_of}
 use Rattle.replay.specs.declared.run.RunStep.{RunStep}
-use Rattle.run_decode.specs.Tells.{Tells}
 use Rattle.cost_least.specs.Costs.{total, NeedsCost, IsCheapest, IsDear}
-use Rattle.cost_least.specs.Pricing.{ExplainsAt}
+use Rattle.cost_least.specs.Pricing.{PosesCosts}
 use Rattle.cost_least.specs.declared.answer.Priced.{Priced}
 use Rattle.cost_least.specs.declared.answer.Cheap.{Cheap}
 use Rattle.cost_least.specs.declared.answer.Cheap.TheVariants.{Found, Absent, Dear, Undecided}
@@ -29,9 +28,9 @@ pub record CostAsked : Type 0 where
   pub log : Log
   pub steps : ℕ
 
--- clauses and assumptions tell what explains the log with a total of at most the bound
+-- clauses and assumptions tell what explains the log with a total of at most the bound, and are drawn from the families of this question
 abbrev pub AreTold : CostAsked → Option ℕ → List Clause → List Lit → Type 0
-AreTold q bound clauses assumed = Tells clauses assumed (ExplainsAt q.net q.cost q.log q.steps bound)
+AreTold q bound clauses assumed = PosesCosts q.net q.cost q.log q.steps bound clauses assumed
 
 -- each explanation has total c at least
 abbrev pub Needs : CostAsked → ℕ → Type 0

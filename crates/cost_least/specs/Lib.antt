@@ -1,4 +1,5 @@
 pub mod Costs
+pub mod Drawn
 pub mod Pricing
 pub mod Entries
 pub mod Weighed

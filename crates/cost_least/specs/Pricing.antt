@@ -1,14 +1,16 @@
 -- A question with a counter of costs beside it tells what explains with a total of at most so much.
-use Rattle.std.specs.Prelude.{◌≡◌, ℕ, suc, ◌-◌, ◌<◌, ◌≤◌, true, Bool, List, [], ◌∷◌, ◌++◌, length, map, flat_map, Option, Some, None, if◌then◌else◌, sum_by}
+use Rattle.std.specs.Prelude.{◌≡◌, ℕ, suc, ◌+◌, ◌-◌, ◌<◌, ◌≤◌, true, Bool, List, [], ◌∷◌, ◌++◌, length, map, flat_map, Option, Some, None, if◌then◌else◌, sum_by}
 use Rattle.std.specs.List.{AllZip}
 use Rattle.card_counter.specs.CounterState.{negative}
 use Rattle.des_base.specs.Lists.{numbers_below}
 use Rattle.des_net.specs.Network.{Net, IsNetwork}
 use Rattle.des_net.specs.Width.{joined}
+use Rattle.event_costs.specs.declared.TheConstants.{MOST_COST}
 use Rattle.log_clauses.specs.LogClauses.{doubtful_alarms}
 use Rattle.log_clauses.specs.LogLaws.{HasFalse}
 use Rattle.log_order.specs.Log.{Log, IsValidLog}
 use Rattle.prop_core.specs.Clauses.{Clause}
+use Rattle.prop_core.specs.FurtherNames.{AreDrawnBy}
 use Rattle.prop_core.specs.VariableNames.{Name, happens, dropped, name_of}
 use Rattle.prop_core.specs.declared.lit.Lit.{Lit}
 use Rattle.replay.specs.Explanation.{Entry, Explains}
@@ -21,6 +23,7 @@ use Rattle.weight_counter.specs.Weighing.{AreWeightClauses}
 use Rattle.weight_counter.specs.declared.scale.Scale.{Scale}
 use Rattle.weight_counter.specs.declared.weighted.Weighted.{Weighted}
 use Rattle.cost_least.specs.Costs.{total}
+use Rattle.cost_least.specs.Drawn.{CostName, IsCostClause, cost_literals}
 
 -- what explains the log with a total of at most b; None sets no bound
 abbrev pub ExplainsAt : Net → (ℕ → ℕ) → Log → ℕ → Option ℕ → Property
@@ -61,6 +64,7 @@ pub record AsksCosts (net : Net) (cost : ℕ → ℕ) (log : Log) (n : ℕ) (nam
   pub inputs : List Weighted
   pub input_names : AllZip (IsInput names) inputs (named_weights net cost log n)
   pub counted : scale.inputs ≡ length inputs
+  pub amounts : scale.amounts ≡ 1 + MOST_COST
   pub nameless : (var : ℕ) → scale.first ≤ var → name_of names var ≡ None
   pub weighing : List Clause
   pub weights : AreWeightClauses (place_variable scale) inputs scale.amounts weighing
@@ -71,12 +75,18 @@ abbrev pub cost_limit : Scale → Option ℕ → List Lit
 cost_limit scale None = []
 cost_limit scale (Some b) = negative (place_variable scale (scale.inputs - 1) b) ∷ []
 
--- they tell what explains, and, where the scale has an input, what explains with a total of at most b
-pub record TellsCosts (net : Net) (cost : ℕ → ℕ) (log : Log) (n : ℕ) (scale : Scale) (whole : List Clause) (assumed : List Lit) : Type 0 where
-  pub unbounded : Tells whole (assumed ++ cost_limit scale None) (ExplainsAt net cost log n None)
-  pub bounded : (b : ℕ) → b < scale.amounts → 0 < scale.inputs → Tells whole (assumed ++ cost_limit scale (Some b)) (ExplainsAt net cost log n (Some b))
+-- Clauses and assumptions pose the question what explains the log with a total of at most the bound: they tell it, and by some names each clause is one of a question or of the counter that weighs its faults by what they cost, and what is assumed are, as a set, the guards and that the faults weigh no more than the bound.
+pub record PosesCosts (net : Net) (cost : ℕ → ℕ) (log : Log) (n : ℕ) (bound : Option ℕ) (clauses : List Clause) (assumed : List Lit) : Type 0 where
+  pub tells : Tells clauses assumed (ExplainsAt net cost log n bound)
+  pub names : List (ℕ × CostName)
+  pub drawn : AreDrawnBy names clauses assumed (IsCostClause net log n (named_weights net cost log n) (1 + MOST_COST)) (cost_literals net log (length (named_weights net cost log n)) bound)
 
--- A question with a counter of costs tells this.
+-- they ask what explains, and, where the scale has an input, what explains with a total of at most b
+pub record TellsCosts (net : Net) (cost : ℕ → ℕ) (log : Log) (n : ℕ) (scale : Scale) (whole : List Clause) (assumed : List Lit) : Type 0 where
+  pub unbounded : PosesCosts net cost log n None whole (assumed ++ cost_limit scale None)
+  pub bounded : (b : ℕ) → b < scale.amounts → 0 < scale.inputs → PosesCosts net cost log n (Some b) whole (assumed ++ cost_limit scale (Some b))
+
+-- A question with a counter of costs asks this.
 abbrev pub CostsAreTold : Type 0
 CostsAreTold = (net : Net) (cost : ℕ → ℕ) (log : Log) (n : ℕ) (names : List (ℕ × Name)) (scale : Scale) (whole : List Clause) (assumed : List Lit) →
     IsNetwork net → IsValidLog log → AsksCosts net cost log n names scale whole assumed → TellsCosts net cost log n scale whole assumed

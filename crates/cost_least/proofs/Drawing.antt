@@ -1,0 +1,243 @@
+-- A question with a counter of costs beside it is drawn from its families.
+use Rattle.std.proofs.Common.{◌≡◌, ◌≢◌, ◌∙◌, ◌⊎◌, inl, inr, ℕ, zero, suc, ◌+◌, ◌-◌, ◌<◌, true, not, List, [], ◌∷◌, ◌++◌, length, map, flat_map, Option, None, Some, refl, sym, ap, subst, arith, slice_get, append-nil, Contains}
+use Rattle.std.specs.List.{AllZip}
+use Rattle.std.proofs.lemmas.List.Elements.{Contains-append_left as append_left, Contains-append_right as append_right}
+use Rattle.card_counter.proofs.ListLemmas.{flat_contains, flat_of, map_contains, map_of, pairs_flat, pairs_map}
+use Rattle.card_counter.specs.CounterState.{negative, positive}
+use Rattle.des_base.proofs.Elements.{all_append, all_change, all_from, here_first, here_later, map_has}
+use Rattle.des_base.specs.Lists.{numbers_below}
+use Rattle.des_net.specs.Network.{Net}
+use Rattle.event_costs.specs.declared.TheConstants.{MOST_COST}
+use Rattle.log_clauses.proofs.Codes.{has_name, named_entry}
+use Rattle.log_clauses.proofs.Lists.{all_at}
+use Rattle.log_clauses.specs.LogClauses.{guard_literals}
+use Rattle.log_order.specs.Log.{Log}
+use Rattle.prop_core.specs.Clauses.{Clause, negation}
+use Rattle.prop_core.specs.FurtherNames.{LiteralOf, holds, fails, lifted, lifted_names, AreOnce, IsCalled, ReadsBy, AreDrawnBy}
+use Rattle.prop_core.specs.VariableNames.{Name, NamedLiteral, ReadsAs, name_of}
+use Rattle.prop_core.specs.declared.lit.Lit.{Lit}
+use Rattle.run_decode.proofs.FurtherNames.{lifted_reads, once_further}
+use Rattle.run_decode.proofs.Questions.{instances_of}
+use Rattle.run_decode.specs.Question.{IsNamedQuestion}
+use Rattle.weight_counter.proofs.Places.{input_back, amount_back}
+use Rattle.weight_counter.specs.Scales.{place_variable, input_of, amount_of}
+use Rattle.weight_counter.specs.Weighing.{WeightClause, weighs_on, weighs_alone, weighs_up, weight_clause, IsWeightClause}
+use Rattle.weight_counter.specs.declared.scale.Scale.{Scale}
+use Rattle.weight_counter.specs.declared.weighted.Weighted.{Weighted}
+use Rattle.cost_least.proofs.Inputs.{same_length, named_at}
+use Rattle.cost_least.specs.Drawn.{CostName, of_question, weighs, NamedWeighing, keeps_weight, has_weight, adds_weight, weighing_clause, IsNamedWeighing, IsCostClause, weighs_at_most, limit_literals, cost_literals}
+use Rattle.cost_least.specs.Pricing.{named_weights, IsInput, AsksCosts, cost_limit}
+
+-- ---- lists that read as others
+
+-- literal by literal
+reads_zip : {X : Type 0} (names : List (ℕ × X)) (clause : List Lit) (named : List (LiteralOf X)) → AllZip (IsCalled names) clause named → ReadsBy names clause named
+reads_zip names [] [] are = record { only = tt; all = tt }
+reads_zip names [] (m ∷ named) are = absurd are
+reads_zip names (l ∷ clause) [] are = absurd are
+reads_zip {X} names (l ∷ clause) (m ∷ named) are =
+    let rest = reads_zip names clause named are.1 in
+    record {
+      only = (
+        (m, here_first m named m refl, are.0),
+        all_change (λ k. (o : LiteralOf X) × Contains named o × IsCalled names k o) (λ k. (o : LiteralOf X) × Contains (m ∷ named) o × IsCalled names k o) clause (λ k is. (is.0, here_later m named is.0 is.1, is.2)) rest.only,
+      );
+      all = (
+        (l, here_first l clause l refl, are.0),
+        all_change (λ o. (k : Lit) × Contains clause k × IsCalled names k o) (λ o. (k : Lit) × Contains (l ∷ clause) k × IsCalled names k o) named (λ o is. (is.0, here_later l clause is.0 is.1, is.2)) rest.all,
+      );
+    }
+
+-- one behind another
+reads_both : {X : Type 0} (names : List (ℕ × X)) (first second : List Lit) (named other : List (LiteralOf X)) → ReadsBy names first named → ReadsBy names second other → ReadsBy names (first ++ second) (named ++ other)
+reads_both {X} names first second named other one two = record {
+  only = all_append (λ l. (m : LiteralOf X) × Contains (named ++ other) m × IsCalled names l m) first second
+      (all_change (λ l. (m : LiteralOf X) × Contains named m × IsCalled names l m) (λ l. (m : LiteralOf X) × Contains (named ++ other) m × IsCalled names l m) first (λ l is. (is.0, append_left named other is.0 is.1, is.2)) one.only)
+      (all_change (λ l. (m : LiteralOf X) × Contains other m × IsCalled names l m) (λ l. (m : LiteralOf X) × Contains (named ++ other) m × IsCalled names l m) second (λ l is. (is.0, append_right named other is.0 is.1, is.2)) two.only);
+  all = all_append (λ m. (l : Lit) × Contains (first ++ second) l × IsCalled names l m) named other
+      (all_change (λ m. (l : Lit) × Contains first l × IsCalled names l m) (λ m. (l : Lit) × Contains (first ++ second) l × IsCalled names l m) named (λ m is. (is.0, append_left first second is.0 is.1, is.2)) one.all)
+      (all_change (λ m. (l : Lit) × Contains second l × IsCalled names l m) (λ m. (l : Lit) × Contains (first ++ second) l × IsCalled names l m) other (λ m is. (is.0, append_right first second is.0 is.1, is.2)) two.all);
+}
+
+-- ---- the names
+
+-- the variable of a place
+abbrev place_name : Scale → ℕ → ℕ → ℕ × CostName
+place_name scale i j = (place_variable scale i j, weighs i j)
+
+-- those of all places
+abbrev place_names : Scale → List (ℕ × CostName)
+place_names scale = flat_map (λ i. map (place_name scale i) (numbers_below scale.amounts)) (numbers_below scale.inputs)
+
+-- those of a question, and of the places
+abbrev pub cost_names : List (ℕ × Name) → Scale → List (ℕ × CostName)
+cost_names names scale = lifted_names of_question names ++ place_names scale
+
+-- which name it is, where it is one of a question
+question_name : CostName → Name → Name
+question_name (of_question name) other = name
+question_name (weighs i j) other = other
+
+question_injective : (a b : Name) → of_question a ≡ of_question b → a ≡ b
+unfolding question_name
+question_injective a b same = ap (λ name. question_name name a) same
+
+same_place : (i j k l : ℕ) → weighs i j ≡ weighs k l → (i ≡ k) × (j ≡ l)
+same_place i j k l same = (cc, cc)
+
+other_kind : (name : Name) (i j : ℕ) → of_question name ≡ weighs i j → ⊥
+other_kind name i j same = cc
+
+some_not_none : (name : Name) → Some name ≡ None → ⊥
+some_not_none name h = cc
+
+-- no variable of two places is the same
+same_variable : (scale : Scale) (i j k l : ℕ) → j < scale.amounts → l < scale.amounts → place_variable scale i j ≡ place_variable scale k l → (i ≡ k) × (j ≡ l)
+same_variable scale i j k l few less same = (
+  sym (input_back scale i j few) ∙ ap (input_of scale) same ∙ input_back scale k l less,
+  sym (amount_back scale i j few) ∙ ap (amount_of scale) same ∙ amount_back scale k l less,
+)
+
+abbrev Differ : ℕ × CostName → ℕ × CostName → Type 0
+Differ a b = (a.0 ≢ b.0) × (a.1 ≢ b.1)
+
+places_once : (scale : Scale) → AreOnce (place_names scale)
+places_once scale = pairs_flat Differ (λ i. map (place_name scale i) (numbers_below scale.amounts)) scale.inputs
+    (λ i inside. pairs_map Differ (place_name scale i) scale.amounts (λ j l less few. (
+      λ same. let is = (same_variable scale i j i l (omega (arith, less, few)) few same).1 in omega (arith, is, less),
+      λ same. let is = (same_place i j i l same).1 in omega (arith, is, less),
+    )))
+    (λ i k a b less inside here there.
+    let one = map_of (place_name scale i) scale.amounts a here in
+    let other = map_of (place_name scale k) scale.amounts b there in
+    subst (λ (x : ℕ × CostName). Differ x b) one.2
+    (subst (Differ (place_name scale i one.0)) other.2 (
+      λ same. let is = (same_variable scale i one.0 k other.0 one.1 other.1 same).0 in omega (arith, is, less),
+      λ same. let is = (same_place i one.0 k other.0 same).0 in omega (arith, is, less),
+    )))
+
+module _ (net : Net) (cost : ℕ → ℕ) (log : Log) (n : ℕ) (names : List (ℕ × Name)) (scale : Scale) (whole : List Clause) (assumed : List Lit) (asks : AsksCosts net cost log n names scale whole assumed) where
+  inputs_are : length asks.inputs ≡ length (named_weights net cost log n)
+  inputs_are = same_length names asks.inputs (named_weights net cost log n) asks.input_names
+
+  once : AreOnce (cost_names names scale)
+  once = once_further of_question question_injective names (place_names scale) asks.asks.question.once (places_once scale) (λ a b in' there.
+      let from = flat_of (λ i. map (place_name scale i) (numbers_below scale.amounts)) scale.inputs b there in
+      let of' = map_of (place_name scale from.0) scale.amounts b from.2 in
+      let none : name_of names (place_variable scale from.0 of'.0) ≡ None = asks.nameless (place_variable scale from.0 of'.0) (omega arith) in
+      let has = has_name names a asks.asks.question.once in' in
+      subst (λ (x : ℕ × CostName). (a.0 ≢ x.0) × (of_question a.1 ≢ x.1)) of'.2
+      (λ same. some_not_none a.1 (sym has ∙ ap (name_of names) same ∙ none), λ same. other_kind a.1 from.0 of'.0 same))
+
+  of_place : (i j : ℕ) → i < scale.inputs → j < scale.amounts → Contains (cost_names names scale) (place_variable scale i j, weighs i j)
+  of_place i j inside few =
+      append_right (lifted_names of_question names) (place_names scale) (place_name scale i j)
+      (flat_contains (λ k. map (place_name scale k) (numbers_below scale.amounts)) scale.inputs i (place_name scale i j) inside (map_contains (place_name scale i) scale.amounts j few))
+
+  off_place : (i j : ℕ) → i < scale.inputs → j < scale.amounts → IsCalled (cost_names names scale) (negative (place_variable scale i j)) (fails (weighs i j))
+  off_place i j inside few = record { named = of_place i j inside few; sign = refl }
+
+  on_place : (i j : ℕ) → i < scale.inputs → j < scale.amounts → IsCalled (cost_names names scale) (positive (place_variable scale i j)) (holds (weighs i j))
+  on_place i j inside few = record { named = of_place i j inside few; sign = refl }
+
+  off_input : (x : Weighted) (m : Name × ℕ) → IsInput names x m → IsCalled (cost_names names scale) (negation x.input) (fails (of_question m.0))
+  off_input x m is = record {
+    named = append_left (lifted_names of_question names) (place_names scale) (x.input.var, of_question m.0) (map_has (λ (entry : ℕ × Name). (entry.0, of_question entry.1)) names (x.input.var, m.0) (named_entry names x.input.var m.0 is.called));
+    sign = ap not is.positive;
+  }
+
+  of_clause : (clause : Clause) (named : List NamedLiteral) → ReadsAs names clause named → ReadsBy (cost_names names scale) clause (map (lifted of_question) named)
+  of_clause clause named reads = lifted_reads of_question names (place_names scale) clause named reads
+
+  -- ---- the clauses
+
+  abbrev IsFamily : List (LiteralOf CostName) → Type 0
+  IsFamily named = IsCostClause net log n (named_weights net cost log n) (1 + MOST_COST) named
+
+  -- a clause of the counter, by names
+  record IsWeighing (clause : Clause) : Type 0 where
+    which : NamedWeighing
+    written : IsNamedWeighing (named_weights net cost log n) (1 + MOST_COST) which
+    reads : ReadsBy (cost_names names scale) clause (weighing_clause which)
+
+  below_all : (j : ℕ) → j < scale.amounts → j < 1 + MOST_COST
+  below_all j few = let amounts = asks.amounts in omega (arith, amounts, few)
+
+  below_inputs : (i : ℕ) → i < length asks.inputs → i < scale.inputs
+  below_inputs i inside = let counted = asks.counted in omega (arith, counted, inside)
+
+  weighing_reads : (which : WeightClause) → IsWeightClause asks.inputs scale.amounts which → IsWeighing (weight_clause (place_variable scale) which)
+  weighing_reads (weighs_on i j) is =
+      let last = is.0 in
+      let many = inputs_are in
+      let one : i < length asks.inputs = omega (arith, last) in record {
+        which = keeps_weight i j;
+        written = (omega (arith, last, many), below_all j is.1);
+        reads = reads_zip (cost_names names scale) (negative (place_variable scale i j) ∷ positive (place_variable scale (suc i) j) ∷ []) (fails (weighs i j) ∷ holds (weighs (suc i) j) ∷ [])
+            (off_place i j (below_inputs i one) is.1, (on_place (suc i) j (below_inputs (suc i) last) is.1, tt));
+      }
+  weighing_reads (weighs_alone i j x) (weight, at, less, few) =
+      let input : Weighted = record { input = x; weight = weight } in
+      let found = named_at names asks.inputs (named_weights net cost log n) i input asks.input_names at in
+      let heavy = found.is.weight in record {
+        which = has_weight i j found.named.0;
+        written = (found.named.1, found.there, omega (arith, less, heavy), below_all j few);
+        reads = reads_zip (cost_names names scale) (negation x ∷ positive (place_variable scale i j) ∷ []) (fails (of_question found.named.0) ∷ holds (weighs i j) ∷ [])
+            (off_input input found.named found.is, (on_place i j (below_inputs i found.inside) few, tt));
+      }
+  weighing_reads (weighs_up i j weight x) (at, few) =
+      let input : Weighted = record { input = x; weight = weight } in
+      let found = named_at names asks.inputs (named_weights net cost log n) (suc i) input asks.input_names at in
+      let last = found.inside in
+      let one : i < length asks.inputs = omega (arith, last) in
+      let low : j < scale.amounts = omega (arith, few) in
+      subst (λ w. IsWeighing (weight_clause (place_variable scale) (weighs_up i j w x))) (sym found.is.weight) (record {
+        which = adds_weight i j found.named.1 found.named.0;
+        written = (found.there, subst (λ w. j + w < 1 + MOST_COST) found.is.weight (below_all (j + weight) few));
+        reads = reads_zip (cost_names names scale) (negative (place_variable scale i j) ∷ negation x ∷ positive (place_variable scale (suc i) (j + found.named.1)) ∷ [])
+            (fails (weighs i j) ∷ fails (of_question found.named.0) ∷ holds (weighs (suc i) (j + found.named.1)) ∷ [])
+            (off_place i j (below_inputs i one) low, (off_input input found.named found.is, (on_place (suc i) (j + found.named.1) (below_inputs (suc i) last) (subst (λ w. j + w < scale.amounts) found.is.weight few), tt)));
+      })
+
+  abbrev IsOneOf : Clause → Type 0
+  IsOneOf clause = (named : List (LiteralOf CostName)) × IsFamily named × ReadsBy (cost_names names scale) clause named
+
+  instance_of : (clause : Clause) → Contains asks.clauses clause ⊎ Contains asks.weighing clause → IsOneOf clause
+  instance_of clause (inl here) =
+      let found = all_at (λ c. (named : List NamedLiteral) × IsNamedQuestion net log n asks.asks.columns named × ReadsAs names c named) asks.clauses asks.asks.question.code.only clause here in
+      (map (lifted of_question) found.0, inl (found.0, instances_of net log n asks.asks.columns found.0 found.1, refl), of_clause clause found.0 found.2)
+  instance_of clause (inr there) =
+      let found = all_at (λ c. (which : WeightClause) × IsWeightClause asks.inputs scale.amounts which × (weight_clause (place_variable scale) which ≡ c)) asks.weighing asks.weights.only clause there in
+      let is = weighing_reads found.0 found.1 in
+      (weighing_clause is.which, inr (is.which, is.written, refl), subst (λ c. ReadsBy (cost_names names scale) c (weighing_clause is.which)) found.2 is.reads)
+
+  -- ---- what is assumed
+
+  guards_read : ReadsBy (cost_names names scale) assumed (map (lifted of_question) (guard_literals net log))
+  guards_read = subst (λ named. ReadsBy (cost_names names scale) assumed (map (lifted of_question) named)) (append-nil (guard_literals net log)) (of_clause assumed (guard_literals net log ++ []) asks.asks.assumes)
+
+  limit_reads : (b : ℕ) → b < scale.amounts → 0 < scale.inputs → ReadsBy (cost_names names scale) (cost_limit scale (Some b)) (limit_literals (length (named_weights net cost log n)) (Some b))
+  limit_reads b few some = by (length (named_weights net cost log n)) (asks.counted ∙ inputs_are)
+    where
+      by : (inputs : ℕ) → scale.inputs ≡ inputs → ReadsBy (cost_names names scale) (cost_limit scale (Some b)) (weighs_at_most inputs b)
+      by zero none = absurd (omega (arith, none, some))
+      by (suc i) is =
+          let last : scale.inputs - 1 ≡ i = omega (arith, is) in
+          let inside : i < scale.inputs = omega (arith, is) in
+          subst (λ k. ReadsBy (cost_names names scale) (negative (place_variable scale k b) ∷ []) (fails (weighs i b) ∷ [])) (sym last)
+          (reads_zip (cost_names names scale) (negative (place_variable scale i b) ∷ []) (fails (weighs i b) ∷ []) (off_place i b inside few, tt))
+
+  drawn_by : (bound : Option ℕ) → ReadsBy (cost_names names scale) (cost_limit scale bound) (limit_literals (length (named_weights net cost log n)) bound) →
+      AreDrawnBy (cost_names names scale) whole (assumed ++ cost_limit scale bound) IsFamily (cost_literals net log (length (named_weights net cost log n)) bound)
+  drawn_by bound limit = record {
+    once = once;
+    instances = all_from IsOneOf whole (λ clause in'. instance_of clause ((asks.both clause).0 in'));
+    assumes = reads_both (cost_names names scale) assumed (cost_limit scale bound) (map (lifted of_question) (guard_literals net log)) (limit_literals (length (named_weights net cost log n)) bound) guards_read limit;
+  }
+
+  pub drawn_unbounded : AreDrawnBy (cost_names names scale) whole (assumed ++ cost_limit scale None) (IsCostClause net log n (named_weights net cost log n) (1 + MOST_COST)) (cost_literals net log (length (named_weights net cost log n)) None)
+  drawn_unbounded = drawn_by None (record { only = tt; all = tt })
+
+  pub drawn_bounded : (b : ℕ) → b < scale.amounts → 0 < scale.inputs →
+      AreDrawnBy (cost_names names scale) whole (assumed ++ cost_limit scale (Some b)) (IsCostClause net log n (named_weights net cost log n) (1 + MOST_COST)) (cost_literals net log (length (named_weights net cost log n)) (Some b))
+  drawn_bounded b few some = drawn_by (Some b) (limit_reads b few some)
