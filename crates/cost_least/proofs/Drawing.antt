@@ -4,7 +4,7 @@ use Rattle.std.specs.List.{AllZip}
 use Rattle.std.proofs.lemmas.List.Elements.{Contains-append_left as append_left, Contains-append_right as append_right}
 use Rattle.card_counter.proofs.ListLemmas.{flat_contains, flat_of, map_contains, map_of, pairs_flat, pairs_map}
 use Rattle.card_counter.specs.CounterState.{negative, positive}
-use Rattle.des_base.proofs.Elements.{all_append, all_change, all_from, here_first, here_later, map_has}
+use Rattle.des_base.proofs.Elements.{all_append, all_change, all_from, cons_cases, here_first, here_later, map_from, map_has, none_in_nil}
 use Rattle.des_base.specs.Lists.{numbers_below}
 use Rattle.des_net.specs.Network.{Net}
 use Rattle.event_costs.specs.declared.TheConstants.{MOST_COST}
@@ -25,7 +25,7 @@ use Rattle.weight_counter.specs.Weighing.{WeightClause, weighs_on, weighs_alone,
 use Rattle.weight_counter.specs.declared.scale.Scale.{Scale}
 use Rattle.weight_counter.specs.declared.weighted.Weighted.{Weighted}
 use Rattle.cost_least.proofs.Inputs.{same_length, named_at}
-use Rattle.cost_least.specs.Drawn.{CostName, of_question, weighs, NamedWeighing, keeps_weight, has_weight, adds_weight, weighing_clause, IsNamedWeighing, IsCostClause, weighs_at_most, limit_literals, cost_literals}
+use Rattle.cost_least.specs.Drawn.{CostName, of_question, weighs, NamedWeighing, keeps_weight, has_weight, adds_weight, weighing_clause, IsNamedWeighing, IsCostClause, weighs_at_most, limit_literals, cost_literals, BoundsAreNotStated}
 use Rattle.cost_least.specs.Pricing.{named_weights, IsInput, AsksCosts, cost_limit}
 
 -- ---- lists that read as others
@@ -120,8 +120,8 @@ module _ (net : Net) (cost : ℕ → ℕ) (log : Log) (n : ℕ) (names : List (�
   inputs_are : length asks.inputs ≡ length (named_weights net cost log n)
   inputs_are = same_length names asks.inputs (named_weights net cost log n) asks.input_names
 
-  once : AreOnce (cost_names names scale)
-  once = once_further of_question question_injective names (place_names scale) asks.asks.question.once (places_once scale) (λ a b in' there.
+  names_once : AreOnce (cost_names names scale)
+  names_once = once_further of_question question_injective names (place_names scale) asks.asks.question.once (places_once scale) (λ a b in' there.
       let from = flat_of (λ i. map (place_name scale i) (numbers_below scale.amounts)) scale.inputs b there in
       let of' = map_of (place_name scale from.0) scale.amounts b from.2 in
       let none : name_of names (place_variable scale from.0 of'.0) ≡ None = asks.nameless (place_variable scale from.0 of'.0) (omega arith) in
@@ -230,7 +230,7 @@ module _ (net : Net) (cost : ℕ → ℕ) (log : Log) (n : ℕ) (names : List (�
   drawn_by : (bound : Option ℕ) → ReadsBy (cost_names names scale) (cost_limit scale bound) (limit_literals (length (named_weights net cost log n)) bound) →
       AreDrawnBy (cost_names names scale) whole (assumed ++ cost_limit scale bound) IsFamily (cost_literals net log (length (named_weights net cost log n)) bound)
   drawn_by bound limit = record {
-    once = once;
+    once = names_once;
     instances = all_from IsOneOf whole (λ clause in'. instance_of clause ((asks.both clause).0 in'));
     assumes = reads_both (cost_names names scale) assumed (cost_limit scale bound) (map (lifted of_question) (guard_literals net log)) (limit_literals (length (named_weights net cost log n)) bound) guards_read limit;
   }
@@ -241,3 +241,49 @@ module _ (net : Net) (cost : ℕ → ℕ) (log : Log) (n : ℕ) (names : List (�
   pub drawn_bounded : (b : ℕ) → b < scale.amounts → 0 < scale.inputs →
       AreDrawnBy (cost_names names scale) whole (assumed ++ cost_limit scale (Some b)) (IsCostClause net log n (named_weights net cost log n) (1 + MOST_COST)) (cost_literals net log (length (named_weights net cost log n)) (Some b))
   drawn_bounded b few some = drawn_by (Some b) (limit_reads b few some)
+
+-- ---- what can't be an axiom
+
+one_name : {X : Type 0} (names : List (ℕ × X)) → AreOnce names → (var : ℕ) (x y : X) → Contains names (var, x) → Contains names (var, y) → x ≡ y
+one_name [] each_once var x y first second = absurd (none_in_nil (var, x) first)
+one_name {X} (entry ∷ names) each_once var x y first second = by (cons_cases entry names (var, x) first) (cons_cases entry names (var, y) second) (one_name names each_once.1 var x y)
+  where
+    differs : (other : ℕ × X) → Contains names other → entry.0 ≢ other.0
+    differs other in' = (all_at (λ (p : ℕ × X). (entry.0 ≢ p.0) × (entry.1 ≢ p.1)) names each_once.0 other in').0
+
+    by : (entry ≡ (var, x)) ⊎ Contains names (var, x) → (entry ≡ (var, y)) ⊎ Contains names (var, y) → (Contains names (var, x) → Contains names (var, y) → x ≡ y) → x ≡ y
+    by (inl a) (inl b) later = ap (λ (p : ℕ × X). p.1) (sym a ∙ b)
+    by (inl a) (inr b) later = absurd (differs (var, y) b (ap (λ (p : ℕ × X). p.0) a))
+    by (inr a) (inl b) later = absurd (differs (var, x) a (ap (λ (p : ℕ × X). p.0) b))
+    by (inr a) (inr b) later = later a b
+
+module _ (names : List (ℕ × CostName)) (l : Lit) (i j : ℕ) (each_once : AreOnce names) (here : Contains names (l.var, weighs i j)) where
+  -- a clause of one literal reads as one whose literals all have its name
+  each_named : (named : List (LiteralOf CostName)) → ReadsBy names (l ∷ []) named → (m : LiteralOf CostName) → Contains named m → m.name ≡ weighs i j
+  each_named named reads m in' =
+      let of' = all_at (λ o. (k : Lit) × Contains (l ∷ []) k × IsCalled names k o) named reads.all m in' in
+      one_name names each_once l.var m.name (weighs i j) (subst (λ (k : Lit). Contains names (k.var, m.name)) (only of'.0 (cons_cases l [] of'.0 of'.1)) of'.2.named) here
+    where
+      only : (k : Lit) → (l ≡ k) ⊎ Contains [] k → k ≡ l
+      only k (inl is) = sym is
+      only k (inr none) = absurd (none_in_nil k none)
+
+  -- no clause of the counter is like that
+  not_weighing : (which : NamedWeighing) → ((m : LiteralOf CostName) → Contains (weighing_clause which) m → m.name ≡ weighs i j) → ⊥
+  not_weighing (keeps_weight a b) each =
+      let one = (same_place a b i j (each (fails (weighs a b)) (here_first (fails (weighs a b)) (holds (weighs (suc a) b) ∷ []) (fails (weighs a b)) refl))).0 in
+      let other = (same_place (suc a) b i j (each (holds (weighs (suc a) b)) (here_later (fails (weighs a b)) (holds (weighs (suc a) b) ∷ []) (holds (weighs (suc a) b)) (here_first (holds (weighs (suc a) b)) [] (holds (weighs (suc a) b)) refl)))).0 in
+      omega (arith, one, other)
+  not_weighing (has_weight a b x) each = other_kind x i j (each (fails (of_question x)) (here_first (fails (of_question x)) (holds (weighs a b) ∷ []) (fails (of_question x)) refl))
+  not_weighing (adds_weight a b w x) each =
+      other_kind x i j (each (fails (of_question x)) (here_later (fails (weighs a b)) (fails (of_question x) ∷ holds (weighs (suc a) (b + w)) ∷ []) (fails (of_question x)) (here_first (fails (of_question x)) (holds (weighs (suc a) (b + w)) ∷ []) (fails (of_question x)) refl)))
+
+pub bounds_are_not_stated : BoundsAreNotStated
+bounds_are_not_stated net log n inputs amounts names l named i j each_once family reads here = by family
+  where
+    by : IsCostClause net log n inputs amounts named → ⊥
+    by (inl (of_family, is, same)) =
+        let some = reads.only.0 in
+        let from = map_from (lifted of_question) of_family some.0 (subst (λ ms. Contains ms some.0) same some.1) in
+        other_kind from.0.name i j (ap (λ (m : LiteralOf CostName). m.name) from.2 ∙ each_named names l i j each_once here named reads some.0 some.1)
+    by (inr (which, written, same)) = not_weighing names l i j each_once here which (λ m in'. each_named names l i j each_once here named reads m (subst (λ ms. Contains ms m) same in'))

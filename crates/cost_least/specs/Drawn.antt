@@ -1,10 +1,11 @@
 -- When clauses are drawn from the families of a question of costs: by what their variables stand for, each is a clause of the question, or one of the counter that weighs its faults.
-use Rattle.std.specs.Prelude.{◌≡◌, ◌⊎◌, ℕ, zero, suc, ◌+◌, ◌<◌, List, [], ◌∷◌, ◌++◌, length, map, Option, Some, None, slice_get}
+use Rattle.std.specs.Prelude.{◌≡◌, ◌⊎◌, ℕ, zero, suc, ◌+◌, ◌<◌, List, [], ◌∷◌, ◌++◌, length, map, Option, Some, None, slice_get, Contains}
 use Rattle.des_net.specs.Network.{Net}
 use Rattle.log_clauses.specs.LogClauses.{guard_literals}
 use Rattle.log_order.specs.Log.{Log}
-use Rattle.prop_core.specs.FurtherNames.{LiteralOf, holds, fails, lifted, IsLifted}
+use Rattle.prop_core.specs.FurtherNames.{LiteralOf, holds, fails, lifted, IsLifted, AreOnce, ReadsBy}
 use Rattle.prop_core.specs.VariableNames.{Name}
+use Rattle.prop_core.specs.declared.lit.Lit.{Lit}
 use Rattle.run_decode.specs.Drawn.{IsNamedClause}
 
 -- A name of a question, or of a place of the counter of weights. Place (i, j), both from 0, is for that the first i + 1 inputs weigh more than j.
@@ -54,3 +55,8 @@ limit_literals inputs (Some b) = weighs_at_most inputs b
 -- what a question of costs assumes: the guards of its log, and that its inputs, as many as that, weigh no more than the bound
 abbrev pub cost_literals : Net → Log → ℕ → Option ℕ → List (LiteralOf CostName)
 cost_literals net log inputs bound = map (lifted of_question) (guard_literals net log) ++ limit_literals inputs bound
+
+-- By such names no clause is the literal of a place alone, as one that states a bound on the total would be.
+abbrev pub BoundsAreNotStated : Type 0
+BoundsAreNotStated = (net : Net) (log : Log) (n : ℕ) (inputs : List (Name × ℕ)) (amounts : ℕ) (names : List (ℕ × CostName)) (l : Lit) (named : List (LiteralOf CostName)) (i j : ℕ) →
+    AreOnce names → IsCostClause net log n inputs amounts named → ReadsBy names (l ∷ []) named → Contains names (l.var, weighs i j) → ⊥

@@ -99,7 +99,7 @@ assumed_at code scale bound = guards_of code ++ cost_limit scale bound
 
 -- ---- what they tell
 
--- Parts with a scale tell, with the guards of the log, what explains the log within each total, whatever the names of its alarms.
+-- Parts with a scale pose, with the guards of the log, what explains the log within each total, whatever the names of its alarms.
 abbrev pub ScaledPartsTell : Type 0
 ScaledPartsTell = (cost : ℕ → ℕ) (steps : CodedSteps) (code : CodedLog) (counter : CounterState) (vars : ℕ) (axioms : List Clause) (scale : Scale) (log : Log) → AreWeighedParts cost steps code counter vars axioms scale →
     IsNetwork steps.net → IsValidLog log → code.log ≡ without_names log → ReadsAs (read_names code) (guards_of code) (guard_literals code.net code.log) → TellsCosts steps.net cost log steps.steps scale axioms (guards_of code)
