@@ -18,7 +18,6 @@ use Rattle.run_decode.proofs.Tells.{ridden_tells, same_property_told, consistent
 use Rattle.run_decode.specs.Faithful.{MakesTrue}
 use Rattle.run_decode.specs.Tells.{Tells, Rides}
 use Rattle.cost_least.proofs.Drawing.{cost_names, drawn_unbounded, drawn_bounded}
-use Rattle.cost_least.proofs.Inputs.{same_length}
 use Rattle.cost_least.proofs.Sums.{costs_are_weights}
 use Rattle.card_counter.specs.CounterState.{negative}
 use Rattle.weight_counter.proofs.Weights.{weights_are_reached, weights_are_true}

@@ -19,7 +19,8 @@ mod weighing;
 
 pub use answer::{Cheap, Priced};
 pub use laws::{
-    bounds_are_not_stated, costs_are_ruled_out, costs_are_told, costs_are_weights, scaled_parts_tell,
+    bounds_are_not_stated, costs_are_ruled_out, costs_are_told, costs_are_weights,
+    scaled_parts_tell,
 };
 pub use searching::cheapest;
 pub use size::cost_size;
