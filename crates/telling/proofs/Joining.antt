@@ -5,7 +5,7 @@ use Rattle.des_base.specs.Outside.{Took, TookFront}
 use Rattle.telling.specs.Telling.{ComesTo, EachGoes, Tells}
 use Rattle.telling.specs.declared.each.Broken.{Broken}
 use Rattle.telling.specs.declared.each.Broken.TheVariants.{Memory, Put}
-use Rattle.telling.proofs.Taking.{nothing_taken, took_cut, took_texts}
+use Rattle.telling.proofs.Taking.{cut_first, nothing_taken, took_cut, took_texts}
 
 -- one item leads from stage to stage
 pub tells_one : {S I : Type 0} (goes : S → I → S → Option (List ℕ) → Type 0) (s : S) (item : I) (t : S) (text : Option (List ℕ)) → goes s item t text → Tells goes s (item ∷ []) t (option_to_list text)
@@ -96,7 +96,7 @@ module _ {S I : Type 0} (goes : S → I → S → Option (List ℕ) → Type 0) 
   put_cut text before now rose told front failed = record {
     texts = text ∷ [];
     says = record { item = item; mid = s; earlier = []; last = text; comes = comes_to_it; told = told; are = refl };
-    put = (failed, record { earlier = []; last = text; are = refl; mid = before; whole = nothing_taken before; front = front });
+    put = (failed, cut_first before now text front);
   }
 
   pub put_lost : (taken : Option (List ℕ)) (rose : Type 0) → undone s item t → EachGoes goes undone s (item ∷ []) t taken taken rose (Err Memory)

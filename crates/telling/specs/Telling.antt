@@ -1,8 +1,8 @@
 -- What is told of items one after another: the stages that it passes through, the texts, and what a sink took of these.
-use Rattle.std.specs.Prelude.{◌≡◌, ℕ, List, [], ◌∷◌, ◌++◌, Option, Some, Result, Ok, Err}
+use Rattle.std.specs.Prelude.{◌≡◌, ℕ, List, [], ◌∷◌, ◌++◌, take, Option, Some, IfSome, Result, Ok, Err}
 use Rattle.std.specs.List.{concat}
 use Rattle.std.specs.Option.{option_to_list}
-use Rattle.des_base.specs.Outside.{Took, TookFront}
+use Rattle.des_base.specs.Outside.{Took}
 use Rattle.telling.specs.declared.each.Broken.{Broken}
 use Rattle.telling.specs.declared.each.Broken.TheVariants.{Memory, Put}
 
@@ -51,9 +51,7 @@ pub record TookCut (texts : List (List ℕ)) (before now : Option (List ℕ)) : 
   pub earlier : List (List ℕ)
   pub last : List ℕ
   pub are : texts ≡ earlier ++ last ∷ []
-  pub mid : Option (List ℕ)
-  pub whole : Took before mid (concat earlier)
-  pub front : TookFront mid now last
+  pub put : IfSome before (λ b. (count : ℕ) × (now ≡ Some ((b ++ concat earlier) ++ take count last)))
 
 -- What a sink took of the texts, by the way that it ends: all, but where a put failed. Here rose says that the sink's count of faults rose.
 abbrev pub TookTexts : List (List ℕ) → Option (List ℕ) → Option (List ℕ) → Type 0 → Result (Unit {0}) Broken → Type 0
