@@ -123,8 +123,8 @@ module _ (net : Net) (n budget : ℕ) (old : Stage) (row : Row) (new : Stage) wh
       OnOk answer (Becomes net n (with_row old.log row) (row_addition old.log row) old new) → OnOk answer (with_row old.log row ≡ old.log → new ≡ old) → OnErr answer (new ≡ old) → IsSessionBook net n new → IfOk told (IsRowTold net n budget old row new)
   addition_told answer told is addition answers becomes again same book = subst (λ r. IfOk r (IsRowTold net n budget old row new)) (sym is) (by_answer answer addition answers becomes again same book)
 
-  left : new ≡ old → IsLeftUndone budget old row new
-  left same = record {
+  left : new ≡ old → IsSessionBook net n new → IsLeftUndone net n budget old row new
+  left same book = record {
     goes_on = record {
       log = ap (λ (s : Stage). s.log) same;
       columns = 0;
@@ -132,12 +132,13 @@ module _ (net : Net) (n budget : ℕ) (old : Stage) (row : Row) (new : Stage) wh
       grown = record { since = []; whole = ap (λ (s : Stage). s.book) same ∙ sym (append-nil old.book); within = omega arith };
     };
     addition = λ is. same;
+    book = book;
   }
 
-  pub addition_undone : {X : Type 0} (answer : Result X SessionRefusal) (told : Result Told NoMemory) → told ≡ told_by answer → OnErr answer (new ≡ old) → OnErr told (IsLeftUndone budget old row new)
-  addition_undone answer told is same = subst (λ r. OnErr r (IsLeftUndone budget old row new)) (sym is) (by_cases answer same)
+  pub addition_undone : {X : Type 0} (answer : Result X SessionRefusal) (told : Result Told NoMemory) → told ≡ told_by answer → OnErr answer (new ≡ old) → IsSessionBook net n new → OnErr told (IsLeftUndone net n budget old row new)
+  addition_undone answer told is same book = subst (λ r. OnErr r (IsLeftUndone net n budget old row new)) (sym is) (by_cases answer same)
     where
-      by_cases : {X : Type 0} (answer : Result X SessionRefusal) → OnErr answer (new ≡ old) → OnErr (told_by answer) (IsLeftUndone budget old row new)
+      by_cases : {X : Type 0} (answer : Result X SessionRefusal) → OnErr answer (new ≡ old) → OnErr (told_by answer) (IsLeftUndone net n budget old row new)
       by_cases (Ok x) same = tt
       by_cases (Err Double) same = tt
       by_cases (Err Unknown) same = tt
@@ -145,7 +146,7 @@ module _ (net : Net) (n budget : ℕ) (old : Stage) (row : Row) (new : Stage) wh
       by_cases (Err NoLabels) same = tt
       by_cases (Err Limit) same = tt
       by_cases (Err (TooLarge size)) same = tt
-      by_cases (Err Memory) same = left same
+      by_cases (Err Memory) same = left same book
 
   -- a question
   pub question_told : (found : Found) → row ≡ Ask → GoesOn budget old new → IsToldBy net n budget old new found → IsSessionBook net n new → IsRowTold net n budget old row new (Answered found)
@@ -157,8 +158,8 @@ module _ (net : Net) (n budget : ℕ) (old : Stage) (row : Row) (new : Stage) wh
     book = book;
   }
 
-  pub question_undone : row ≡ Ask → GoesOn budget old new → IsLeftUndone budget old row new
-  question_undone ask goes = record { goes_on = goes; addition = λ other. absurd (other ask) }
+  pub question_undone : row ≡ Ask → GoesOn budget old new → IsSessionBook net n new → IsLeftUndone net n budget old row new
+  question_undone ask goes book = record { goes_on = goes; addition = λ other. absurd (other ask); book = book }
 
   -- the book goes on
   pub row_extends : (told : Told) → IsRowTold net n budget old row new told → Extends old.book new.book

@@ -108,10 +108,12 @@ pub record IsRowTold (net : Net) (n budget : ℕ) (old : Stage) (row : Row) (new
   pub built : new.built ≡ built_after net n old.log old.built row columns
   pub book : IsSessionBook net n new
 
--- Memory was wanting. The log is as it was, and question and book got no more than by a search that learns as many clauses as the budget says; by an addition they got nothing.
-pub record IsLeftUndone (budget : ℕ) (old : Stage) (row : Row) (new : Stage) : Type 0 where
+-- Out of memory. The log is as it was, and question and book got no more than by a search that learns as many clauses as the budget says; by an addition they got nothing.
+-- The book has the axioms of the question as it is built so far, is valid and lean, and asks what explains the log.
+pub record IsLeftUndone (net : Net) (n budget : ℕ) (old : Stage) (row : Row) (new : Stage) : Type 0 where
   pub goes_on : GoesOn budget old new
   pub addition : row ≢ Ask → new ≡ old
+  pub book : IsSessionBook net n new
 
 -- what an addition tells that was made, or refused so; want of memory isn't told
 abbrev pub told_by : {X : Type 0} → Result X SessionRefusal → Result Told NoMemory

@@ -35,13 +35,13 @@ pub fn carry_out_kept<R: Fn(u32) -> u64>(
     ensures kept { IsRankedKept R.pre R.post setting.entry.net.now setting.entry.steps kept.new }
     ensures rank { kept.new.parts.solver.order.rank ≡ kept.old.parts.solver.order.rank }
     ensures told { IfOk result (IsRowTold setting.entry.net.now setting.entry.steps budget (stage_of kept.old) row.now (stage_of kept.new)) }
-    ensures undone { OnErr result (IsLeftUndone budget (stage_of kept.old) row.now (stage_of kept.new)) }
+    ensures undone { OnErr result (IsLeftUndone setting.entry.net.now setting.entry.steps budget (stage_of kept.old) row.now (stage_of kept.new)) }
 {
     match row {
         Row::Ask => {
-            let found = ask_kept(setting, kept, budget)?;
+            let found = ask_kept(setting, kept, budget);
             is_session_book(setting, kept);
-            Ok(Told::Answered(found))
+            Ok(Told::Answered(found?))
         }
         _ => {
             let answer = put_row(setting, row, kept);

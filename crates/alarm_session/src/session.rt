@@ -141,7 +141,7 @@ impl<'a, R: Fn(u32) -> u64> Session<'a, R> {
         ensures ranked { IsRanked R.pre R.post self.new.order }
         ensures kept { KeepsSetting self.old self.new }
         ensures told { IfOk result (IsRowTold self.old.net self.old.steps budget self.old.stage row.now self.new.stage) }
-        ensures undone { OnErr result (IsLeftUndone budget self.old.stage row.now self.new.stage) }
+        ensures undone { OnErr result (IsLeftUndone self.old.net self.old.steps budget self.old.stage row.now self.new.stage) }
     {
         carry_out_kept(self.setting, row, &mut self.kept, budget)
     }

@@ -13,5 +13,5 @@ returns-in_default g c =
       rank = c.put_row-answer.ensures.rank;
       told = addition_told net n c.args.budget old c.args.row.now new c.put_row-answer.result c.told_by.result c.told_by.ensures c.in_default.not-Ask c.put_row-answer.ensures.refused
           c.put_row-answer.ensures.added c.put_row-answer.ensures.again c.put_row-answer.ensures.same c.is_session_book-in_default.ensures;
-      undone = addition_undone net n c.args.budget old c.args.row.now new c.put_row-answer.result c.told_by.result c.told_by.ensures c.put_row-answer.ensures.same;
+      undone = addition_undone net n c.args.budget old c.args.row.now new c.put_row-answer.result c.told_by.result c.told_by.ensures c.put_row-answer.ensures.same c.is_session_book-in_default.ensures;
     }
