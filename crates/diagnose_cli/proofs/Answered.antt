@@ -11,28 +11,33 @@ use Rattle.diagnose_cli.specs.declared.stop.Stop.{Stop}
 use Rattle.diagnose_cli.specs.declared.stop.Stop.TheVariants.{Usage, Load, Faulty, Long, Large, Memory}
 use Rattle.diagnose_cli.specs.declared.stop.FaultyText.{FaultyText}
 use Rattle.diagnose_cli.specs.declared.stop.FaultyText.TheVariants.{Model, Log, Run, Cnf, Lrat}
-use Rattle.diagnose_cli.specs.Transcripts.{Ending, Transcript, IsWhole}
-use Rattle.diagnose_cli.specs.Endings.{HasStatus, status_of_stop, status_of_faulty, texts_of}
+use Rattle.diagnose_cli.specs.Transcripts.{End, said, cut, broken, Ending, EndsOne, Transcript, IsOne}
+use Rattle.diagnose_cli.specs.Endings.{HasStatus, status_of_end, status_of_kind, status_of_stop, status_of_faulty, texts_of}
 use Rattle.diagnose_cli.specs.Files.{Loads, StopsAt, WithFile}
 use Rattle.diagnose_cli.specs.Texts.{FileKind, limit_of, fault_of_text}
 use Rattle.diagnose_cli.specs.Commands.{files_of, command_of}
 use Rattle.diagnose_cli.specs.Replies.{Says}
 use Rattle.diagnose_cli.specs.Due.{too_large, SaysInAll, Closes, InOrder, Answers}
-use Rattle.diagnose_cli.specs.Outcomes.{Outcome, Tells}
+use Rattle.diagnose_cli.specs.Outcomes.{IsPut, Outcome, Tells}
 use Rattle.diagnose_cli.specs.Rows.{AreRead, Reads}
 use Rattle.diagnose_cli.specs.Run.{Ends}
 
 -- ---- an ending that has a reply
 
-pub told : (o : Outcome) (P : (Kind × List ℕ) → Type 0) (e : Ending) → IsOkAnd e (IsWhole P) → HasStatus e o.status → Took o.before o.now (concat (texts_of e)) → Tells o P
-told o P (Ok t) (reply, says, is) shown put =
-    record {
-      reply = reply;
-      says = says;
-      shown = subst (λ (x : Transcript). HasStatus (Ok x) o.status) is shown;
-      put = subst (Took o.before o.now) (append-nil reply.1) (subst (λ (x : Transcript). Took o.before o.now (concat (texts_of (Ok x)))) is put);
-    }
-told o P (Err stop) says shown put = absurd says
+-- its status is that of its kind, but where the output can't be written
+status_one : (kind : Kind) (end : End) (status : ℕ) → status ≢ 4 → EndsOne kind end → status ≡ status_of_end end → status ≡ status_of_kind kind
+status_one kind (said other) status four is shown = subst (λ (k : Kind). status ≡ status_of_kind k) is shown
+status_one kind cut status four is shown = absurd (four shown)
+status_one kind broken status four is shown = absurd is
+
+pub told : (o : Outcome) (P : (Kind × List ℕ) → Type 0) (e : Ending) → o.status ≢ 4 → IsOkAnd e (IsOne P) → HasStatus e o.status → Took o.before o.now (concat (texts_of e)) → Tells o P
+told o P (Ok t) four one shown put = record {
+  reply = one.reply;
+  says = one.says;
+  shown = status_one one.reply.0 t.end o.status four one.ends shown;
+  put = subst (Took o.before o.now) (append-nil one.reply.1) (subst (λ (ts : List (List ℕ)). Took o.before o.now (concat ts)) one.alone put);
+}
+told o P (Err stop) four one shown put = absurd one
 
 pub called : (l : Loads) (words : List (List ℕ)) (book : List BookEntry) (o : Option Command) (c : Command) (e : Ending) → o ≡ Some c → MatchOption o (e ≡ Err Usage) (λ c. Answers l words c book e) → Answers l words c book e
 called l words book None c e is h = cc
@@ -103,17 +108,17 @@ said_in_all o c texts ends reads three nine =
 
 -- the command has one reply
 abbrev pub HasOneReply : Command → Type 0
-HasOneReply c = (book : List BookEntry) (texts : List (List ℕ)) (t : Transcript) → SaysInAll c book texts t → IsWhole (Says c book texts) t
+HasOneReply c = (book : List BookEntry) (texts : List (List ℕ)) (t : Transcript) → SaysInAll c book texts t → IsOne (Says c book texts) t
 
 ok_weaker : (e : Ending) (P Q : Transcript → Type 0) → ((t : Transcript) → P t → Q t) → IsOkAnd e P → IsOkAnd e Q
 ok_weaker (Ok t) P Q f h = f t h
 ok_weaker (Err stop) P Q f h = absurd h
 
 -- so status and text tell a reply that such a command may give
-pub row : (o : Outcome) (c : Command) (texts : List (List ℕ)) → HasOneReply c → Ends o → Reads o c texts → o.status ≢ 3 → o.status ≢ 9 → Tells o (Says c o.book texts)
-row o c texts one ends reads three nine =
-    let says = ok_weaker ends.ending (SaysInAll c o.book texts) (IsWhole (Says c o.book texts)) (one o.book texts) (said_in_all o c texts ends reads three nine) in
-    told o (Says c o.book texts) ends.ending says ends.shown ends.put
+pub row : (o : Outcome) (c : Command) (texts : List (List ℕ)) → HasOneReply c → Ends o → Reads o c texts → o.status ≢ 3 → IsPut o.status → Tells o (Says c o.book texts)
+row o c texts one ends reads three put =
+    let says = ok_weaker ends.ending (SaysInAll c o.book texts) (IsOne (Says c o.book texts)) (one o.book texts) (said_in_all o c texts ends reads three put.memory) in
+    told o (Says c o.book texts) ends.ending put.written says ends.shown ends.put
 
 -- ---- by the status, whatever is told of the files
 
@@ -178,18 +183,18 @@ over_files l words i (kind ∷ kinds) files closes t h =
           }
     ]
 
-said : (o : Outcome) (c : Command) → HasOneReply c → (e : Ending) → (IsStopStatus o.status → ⊥) → Answers o.loads o.words c o.book e → HasStatus e o.status → Took o.before o.now (concat (texts_of e)) → SaidOver o c
-said o c one (Ok t) answers h shown put =
+said_by : (o : Outcome) (c : Command) → HasOneReply c → (e : Ending) → (IsStopStatus o.status → ⊥) → Answers o.loads o.words c o.book e → HasStatus e o.status → Took o.before o.now (concat (texts_of e)) → SaidOver o c
+said_by o c one (Ok t) answers h shown put =
     let over = over_files o.loads o.words 1 (files_of c) [] (Closes c o.book) t h in
     let says = one o.book over.texts t (within (too_large c over.texts) t (SaysInAll c o.book over.texts) over.closed) in
-    record { texts = over.texts; held = over.held; tells = told o (Says c o.book over.texts) (Ok t) says shown put }
-said o c one (Err stop) answers h shown put = absurd (answers (subst IsStopStatus (sym shown) (of_stop stop)))
+    record { texts = over.texts; held = over.held; tells = told o (Says c o.book over.texts) (Ok t) (λ four. answers (record { low = omega (arith, four); high = omega (arith, four) })) says shown put }
+said_by o c one (Err stop) answers h shown put = absurd (answers (subst IsStopStatus (sym shown) (of_stop stop)))
 
 pub said_over : (o : Outcome) (c : Command) → HasOneReply c → Ends o → command_of o.words ≡ Some c → (IsStopStatus o.status → ⊥) → SaidOver o c
 said_over o c one ends command answers =
     let e = ends.ending in
     let memory : e ≢ Err Memory = λ p. answers (subst IsStopStatus (sym (subst (λ (x : Ending). HasStatus x o.status) p ends.shown)) (of_stop Memory)) in
-    said o c one e answers (called o.loads o.words o.book (command_of o.words) c e command (ends.due.says memory)) ends.shown ends.put
+    said_by o c one e answers (called o.loads o.words o.book (command_of o.words) c e command (ends.due.says memory)) ends.shown ends.put
 
 -- what is told is held
 pub same_text : (o : Option (List ℕ)) (text held : List ℕ) → o ≡ Some text → IfSome o (λ there. there ≡ held) → text ≡ held

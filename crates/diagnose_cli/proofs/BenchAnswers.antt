@@ -13,7 +13,7 @@ use Rattle.diagnose_cli.specs.declared.ending.Kind.{Kind}
 use Rattle.diagnose_cli.specs.declared.stop.Stop.TheVariants.{Large}
 use Rattle.diagnose_cli.specs.Replies.{Says, SaysFound, SaysSummary, SaysBenched, first_line, summary_of}
 use Rattle.diagnose_cli.specs.Due.{Closes, above_limit}
-use Rattle.diagnose_cli.specs.Transcripts.{Ending, Transcript, IsWhole, once, whole}
+use Rattle.diagnose_cli.specs.Transcripts.{Ending, Transcript, IsOne, once, whole}
 use Rattle.diagnose_cli.proofs.Limits.{within_limit, past_limit}
 
 module _ (units start steps budget : ℕ) (book : List BookEntry) where
@@ -22,7 +22,7 @@ module _ (units start steps budget : ℕ) (book : List BookEntry) where
   size_of_plant = question_size (plant_net units) (plant_log units start) steps
 
   abbrev says : Transcript → Type 0
-  says = IsWhole (Says (Bench units start steps budget) book [])
+  says = IsOne (Says (Bench units start steps budget) book [])
 
   module _ (net : Net) (network : net ≡ plant_net units) (alarms : Log) (log : alarms ≡ plant_log units start) where
     same_size : question_size net alarms steps ≡ size_of_plant
@@ -47,4 +47,4 @@ module _ (units start steps budget : ℕ) (book : List BookEntry) where
         let of_plant : SaysBenched units start steps budget book summary =
         subst (λ (a : Log). SaysSummary units (plant_net units) a steps budget book summary) log (subst (λ (n : Net). SaysSummary units n alarms steps budget book summary) network of_net) in
         subst (λ (o : Option ℕ). MatchOption o (IsOkAnd e says) (λ k. e ≡ Err (Large k)))
-        (sym (within_limit size_of_plant (subst (λ k. k ≤ MOST_SIZE) (is ∙ same_size) small))) (summary, of_plant, refl)
+        (sym (within_limit size_of_plant (subst (λ k. k ≤ MOST_SIZE) (is ∙ same_size) small))) (record { reply = summary; says = of_plant; alone = refl; ends = refl })

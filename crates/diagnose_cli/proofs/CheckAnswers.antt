@@ -14,6 +14,7 @@ use Rattle.diagnose_cli.specs.Files.{Loads, IsText, IsReadAs, StopsIn}
 use Rattle.diagnose_cli.specs.Texts.{lrat, limit_of, fault_of_lrat}
 use Rattle.diagnose_cli.specs.Replies.{reply_of_checked}
 use Rattle.diagnose_cli.specs.Due.{Closes, AnswersAfter}
+use Rattle.diagnose_cli.proofs.Ones.{is_one}
 use Rattle.diagnose_cli.proofs.Orders.{stops_here, goes_on}
 
 module _ (l : Loads) (words : List (List ℕ)) (book : List BookEntry) (cnf : List ℕ) (formula : Formula) (of : formula ≡ formula_of cnf) where
@@ -28,4 +29,4 @@ module _ (l : Loads) (words : List (List ℕ)) (book : List BookEntry) (cnf : Li
   checked proof reply (text, read, is) says =
       goes_on l words 2 lrat [] (cnf ∷ []) (Closes Check book) text (Ok (whole reply))
       (subst (λ (x : Formula). IsText l.held (word_at words 2) (limit_of lrat) (fault_of_lrat x) text) of read)
-      (reply, says ∙ ap (λ (x : Formula). reply_of_checked (check_proof x.clauses proof)) of ∙ ap (λ (p : List ProofStep). reply_of_checked (check_proof (formula_of cnf).clauses p)) is, refl)
+      (is_one _ reply (says ∙ ap (λ (x : Formula). reply_of_checked (check_proof x.clauses proof)) of ∙ ap (λ (p : List ProofStep). reply_of_checked (check_proof (formula_of cnf).clauses p)) is))

@@ -8,7 +8,7 @@ use Rattle.diagnose_cli.specs.declared.stop.FaultyText.TheVariants.{Model, Log, 
 use Rattle.diagnose_cli.specs.declared.ending.Kind.{Kind}
 use Rattle.diagnose_cli.specs.declared.ending.Kind.TheVariants.{Done, Rejected, Absent, Undecided, Many, Nothing}
 use Rattle.std.specs.List.{concat}
-use Rattle.diagnose_cli.specs.Transcripts.{End, finished, cut, broken, Ending, Transcript, replies, whole, UnlessMemory}
+use Rattle.diagnose_cli.specs.Transcripts.{End, said, cut, broken, Ending, Transcript, UnlessMemory}
 use Rattle.diagnose_cli.specs.Endings.{HasStatus, status_of_end, status_of_kind, status_of_faulty, texts_of}
 use Rattle.diagnose_cli.specs.Texts.{FileKind, fault_of_text}
 use Rattle.diagnose_cli.specs.Commands.{files_of, file_count, command_of}
@@ -70,13 +70,12 @@ no_load_text (Cnf fault) p = cc
 no_load_text (Lrat fault) p = cc
 
 no_load_end : (end : End) → 3 ≡ status_of_end end → ⊥
-no_load_end finished p = cc
+no_load_end (said kind) p = no_load_kind kind p
 no_load_end cut p = cc
 no_load_end broken p = cc
 
 load_row_of : (o : Outcome) (e : Ending) → UnlessMemory e (Due o.loads o.words o.book e) → HasStatus e 3 → Took o.before o.now (concat (texts_of e)) → LoadRow o
-load_row_of o (Ok (whole reply)) d p t = absurd (no_load_kind reply.0 p)
-load_row_of o (Ok (replies texts end)) d p t = absurd (no_load_end end p)
+load_row_of o (Ok told) d p t = absurd (no_load_end told.end p)
 load_row_of o (Err Usage) d p t = absurd (omega arith)
 load_row_of o (Err (Load i)) d p t =
     let rose = rose_at o i (command_of o.words) (d (λ m. cc)) in

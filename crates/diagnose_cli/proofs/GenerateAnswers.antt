@@ -12,6 +12,7 @@ use Rattle.diagnose_cli.specs.Files.{Loads}
 use Rattle.diagnose_cli.specs.Commands.{files_of, command_of}
 use Rattle.diagnose_cli.specs.Replies.{reply_of_model, reply_of_log}
 use Rattle.diagnose_cli.specs.Due.{Answers}
+use Rattle.diagnose_cli.proofs.Ones.{is_one}
 use Rattle.diagnose_cli.specs.Run.{AsksNone, LoadsNone, is_question}
 
 -- the words of a command that has files
@@ -23,7 +24,7 @@ pub asks_nothing : (words : List (List ℕ)) (c : Command) → command_of words 
 asks_nothing words c command none = subst (λ (o : Option Command). IfSome o (λ d. is_question d ≡ false)) command none
 
 pub model_said : (l : Loads) (words : List (List ℕ)) (book : List BookEntry) (units start : ℕ) (net : Net) (reply : Kind × List ℕ) → net ≡ plant_net units → reply ≡ reply_of_model net → Answers l words (GenerateModel units start) book (once (Ok reply))
-model_said l words book units start net reply is says = (reply, says ∙ ap reply_of_model is, refl)
+model_said l words book units start net reply is says = is_one _ reply (says ∙ ap reply_of_model is)
 
 pub log_said : (l : Loads) (words : List (List ℕ)) (book : List BookEntry) (units start : ℕ) (log : Log) (reply : Kind × List ℕ) → log ≡ plant_log units start → reply ≡ reply_of_log log → Answers l words (GenerateLog units start) book (once (Ok reply))
-log_said l words book units start log reply is says = (reply, says ∙ ap reply_of_log is, refl)
+log_said l words book units start log reply is says = is_one _ reply (says ∙ ap reply_of_log is)

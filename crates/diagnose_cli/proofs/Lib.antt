@@ -6,7 +6,9 @@ pub mod Reading
 pub mod Answered
 pub mod UsageRows
 pub mod StatusRows
+pub mod Deciding
 pub mod SessionRows
+pub mod Ones
 pub mod Once
 pub mod TraceAnswers
 pub mod ShowAnswers
@@ -25,6 +27,7 @@ pub mod Left
 pub mod Taking
 pub mod GenerateAnswers
 pub mod BenchAnswers
+pub mod Speaking
 pub mod SessionAnswers
 pub mod SessionFronts
 pub mod SessionEnds

@@ -1,5 +1,5 @@
 -- The run of a command, which has one reply or several.
-use Rattle.std.proofs.Common.{◌≡◌, ◌≢◌, ◌⊎◌, ◌<◌, ◌∙◌, arith, inl, inr, ℕ, true, false, IfErr, IfSome, List, [], ◌∷◌, ◌++◌, take, Option, Some, None, Result, Ok, Err, refl, sym, ap, subst, append-nil}
+use Rattle.std.proofs.Common.{◌≡◌, ◌≢◌, ◌⊎◌, ◌<◌, ◌∙◌, arith, inl, inr, ℕ, true, false, IfErr, IfOk, IfSome, List, [], ◌∷◌, Option, Some, None, Result, Ok, Err, refl, sym, ap, subst, append-nil}
 use Rattle.std.specs.List.{concat}
 use Rattle.std.proofs.lemmas.Bool.{cases_order}
 use Rattle.des_base.specs.Outside.{Took, TookFront}
@@ -10,43 +10,26 @@ use Rattle.diagnose_cli.specs.declared.ending.Kind.{Kind}
 use Rattle.diagnose_cli.specs.declared.ending.Kind.TheVariants.{Done, Rejected, Absent, Undecided, Many, Nothing}
 use Rattle.diagnose_cli.specs.declared.stop.Stop.{Stop}
 use Rattle.diagnose_cli.specs.declared.stop.Stop.TheVariants.{Memory}
-use Rattle.diagnose_cli.specs.Transcripts.{Ending, OrMemory, UnlessMemory, TookCut, once}
+use Rattle.diagnose_cli.specs.Transcripts.{Ending, OrMemory, UnlessMemory, cut_short, once}
 use Rattle.diagnose_cli.specs.Endings.{HasStatus, status_of_kind, status_of_stop, texts_of, text_of_stop}
 use Rattle.diagnose_cli.specs.Files.{Loads}
 use Rattle.diagnose_cli.specs.Commands.{command_of, files_of, is_session}
-use Rattle.diagnose_cli.specs.Due.{HasNotBegun, MayCome}
-use Rattle.diagnose_cli.specs.Puts.{EndsCut, Finishes, Puts, Speaks}
+use Rattle.diagnose_cli.specs.Due.{Due, HasNotBegun}
+use Rattle.diagnose_cli.specs.Puts.{Finishes, IsCutOff, Puts, Speaks}
+use Rattle.telling.proofs.Taking.{cut_first}
 use Rattle.diagnose_cli.specs.Outcomes.{Outcome, outcome}
 use Rattle.diagnose_cli.specs.Rows.{Row, RowAlone, CheckRows, DiagnoseRows}
 use Rattle.diagnose_cli.specs.Run.{Ends, Ran, Does, SaysStop}
 use Rattle.diagnose_cli.proofs.Answered.{HasOneReply, row}
+use Rattle.diagnose_cli.proofs.Deciding.{decided_row}
 use Rattle.diagnose_cli.proofs.Exact.{stop_row}
 use Rattle.diagnose_cli.proofs.FailedLoads.{load_row, no_load_failed}
 use Rattle.diagnose_cli.proofs.SessionRows.{session_row}
 use Rattle.diagnose_cli.proofs.StatusRows.{refuted, explained, absent, undecided, many, decided}
 use Rattle.diagnose_cli.proofs.UsageRows.{usage_row}
 
-pub nothing_taken : (t : Option (List ℕ)) → Took t t []
-nothing_taken None = tt
-nothing_taken (Some b) = ap Some (sym (append-nil b))
-
 pub one_text : (texts : List (List ℕ)) (text : List ℕ) → texts ≡ text ∷ [] → concat texts ≡ text
 one_text texts text e = subst (λ ts. concat ts ≡ text) (sym e) (append-nil text)
-
--- the front of one text, after no other
-pub cut_first : (b n : Option (List ℕ)) (text : List ℕ) → TookFront b n text → TookCut b n [] text
-cut_first None n text h = tt
-cut_first (Some b) n text h = (h.0, subst (λ (xs : List ℕ). n ≡ Some (xs ++ take h.0 text)) (sym (append-nil b)) h.1)
-
--- the only text of an ending
-text_of_once : Result (Kind × List ℕ) Stop → List ℕ
-text_of_once (Ok reply) = reply.1
-text_of_once (Err stop) = text_of_stop stop
-
-one : (r : Result (Kind × List ℕ) Stop) → texts_of (once r) ≡ text_of_once r ∷ []
-unfolding text_of_once
-one (Ok reply) = refl
-one (Err stop) = refl
 
 due_once : (may : Ending → Type 0) (Q : Type 0) → Q → (r : Result (Kind × List ℕ) Stop) → UnlessMemory r (may (once r)) → OrMemory may Q (once r)
 due_once may Q q (Ok reply) d = record { says = λ m. d (λ e. cc); wanting = λ e. q }
@@ -61,10 +44,6 @@ due_once may Q q (Err stop) d = record { says = λ m. d (λ e. m (ap_err stop e)
 pub wants_memory : (may : Ending → Type 0) (Q : Type 0) → Q → (before now : Option (List ℕ)) (status : ℕ) → status ≡ 9 → Took before now [] → Finishes (OrMemory may Q) before now status
 wants_memory may Q q before now status nine put = record { ending = Err Memory; due = record { says = λ m. absurd (m refl); wanting = λ e. q }; shown = nine; put = put }
 
-cut_once : (r : Result (Kind × List ℕ) Stop) → EndsCut (once r)
-cut_once (Ok reply) = tt
-cut_once (Err stop) = tt
-
 module _ (may : Ending → Type 0) (Q : Type 0) (q : Q) (r : Result (Kind × List ℕ) Stop) (before now : Option (List ℕ)) (rose : Type 0) (status : ℕ) (due : UnlessMemory r (may (once r))) (puts : Puts (once r) before now rose status) where
   put_whole : status ≢ 4 → status ≢ 9 → Finishes (OrMemory may Q) before now status
   put_whole four nine = record { ending = once r; due = due_once may Q q r due; shown = puts.shown four nine; put = puts.whole four nine }
@@ -74,20 +53,25 @@ module _ (may : Ending → Type 0) (Q : Type 0) (q : Q) (r : Result (Kind × Lis
   ends_once (inr (inl lower)) four = put_whole four (λ nine. omega (arith, nine, lower))
   ends_once (inr (inr higher)) four = put_whole four (λ nine. omega (arith, nine, higher))
 
-  pub speaks_once : Speaks (OrMemory may Q) before now rose status
-  speaks_once = record {
+  -- where what is cut short may come too
+  pub speaks_once : IfOk r (λ reply. may (Ok (cut_short reply))) → Speaks may Q before now rose status
+  speaks_once cuts = record {
     ends = ends_once (cases_order status 9);
     put_failed = puts.put_failed;
-    cut_off = λ four. record {
-      ending = once r;
-      due = due_once may Q q r due;
-      last = cut_once r;
-      texts = [];
-      next = text_of_once r;
-      split = one r;
-      put = cut_first before now (text_of_once r) (subst (TookFront before now) (one_text (texts_of (once r)) (text_of_once r) (one r)) (puts.front four));
-    };
+    cut_off = λ four. cut_by r due cuts (puts.memory four) (puts.front four);
   }
+    where
+      cut_by : (x : Result (Kind × List ℕ) Stop) → UnlessMemory x (may (once x)) → IfOk x (λ reply. may (Ok (cut_short reply))) → once x ≢ Err Memory → TookFront before now (concat (texts_of (once x))) → IsCutOff may before now
+      cut_by (Ok reply) of cuts known front = record { ending = Ok (cut_short reply); due = cuts; last = refl; put = cut_first before now reply.1 (subst (TookFront before now) (append-nil reply.1) front) }
+      cut_by (Err stop) of cuts known front = record {
+        ending = Err stop;
+        due = of (λ e. known (same stop e));
+        last = λ e. known (ap (λ (s : Stop). Err s) e);
+        put = cut_first before now (text_of_stop stop) (subst (TookFront before now) (append-nil (text_of_stop stop)) front);
+      }
+        where
+          same : (s : Stop) → ◌≡◌ {A = Result (Kind × List ℕ) Stop} (Err s) (Err Memory) → ◌≡◌ {A = Ending} (Err s) (Err Memory)
+          same s e = cc
 
 -- which is no session
 pub no_session : (words : List (List ℕ)) (c : Command) (book : List BookEntry) → command_of words ≡ Some c → is_session c ≡ false → HasNotBegun words book
@@ -95,7 +79,7 @@ no_session words c book called other = subst (λ (o : Option Command). IfSome o 
 
 -- ---- what the run of a command does that says what is due
 
-module _ (o : Outcome) (rose : Type 0) (speaks : Speaks (MayCome o.loads o.words o.book) o.before o.now rose o.status) where
+module _ (o : Outcome) (rose : Type 0) (speaks : Speaks (Due o.loads o.words o.book) (HasNotBegun o.words o.book) o.before o.now rose o.status) where
   ran : Ran o rose
   ran = record {
     stops = λ whole. stop_row o (speaks.ends whole.put.written) whole.loaded whole.put.memory;
@@ -104,17 +88,18 @@ module _ (o : Outcome) (rose : Type 0) (speaks : Speaks (MayCome o.loads o.words
     load_failed = λ three. load_row o (speaks.ends (λ four. omega (arith, three, four))) three;
     put_failed = speaks.put_failed;
     cut_off = speaks.cut_off;
+    decided = λ c texts asks enough is. decided_row o (speaks.ends (λ four. omega (arith, is, four))) c texts asks enough is;
   }
 
   -- by its files
   row_of : (c : Command) (texts : List (List ℕ)) → HasOneReply c → Row o c texts
-  row_of c texts one reads whole = row o c texts one (speaks.ends whole.put.written) reads whole.loaded whole.put.memory
+  row_of c texts one reads whole = row o c texts one (speaks.ends whole.put.written) reads whole.loaded whole.put
 
   -- or without files
   row_alone : (c : Command) → HasOneReply c → files_of c ≡ [] → RowAlone o c
   row_alone c one none reads put =
       let e = speaks.ends put.written in
-      row o c [] one e reads (no_load_failed o c e reads.command none) put.memory
+      row o c [] one e reads (no_load_failed o c e reads.command none) put
 
   -- an answer hasn't this status
   answered : (k : ℕ) → o.status ≡ k → k ≢ 4 → Ends o
@@ -154,7 +139,7 @@ module _ (o : Outcome) (rose : Type 0) (speaks : Speaks (MayCome o.loads o.words
   }
 
 pub done : (l : Loads) (words : List (List ℕ)) (before now : Option (List ℕ)) (book : List BookEntry) (status : ℕ) (rose : Type 0)
-    → Speaks (MayCome l words book) before now rose status → Does (outcome l words before now book status) rose
+    → Speaks (Due l words book) (HasNotBegun words book) before now rose status → Does (outcome l words before now book status) rose
 done l words before now book status rose speaks = does (outcome l words before now book status) rose speaks
 
 -- ---- what a command leaves that stops

@@ -20,6 +20,7 @@ use Rattle.diagnose_cli.specs.Files.{Loads, IsText, IsReadAs, StopsIn}
 use Rattle.diagnose_cli.specs.Texts.{run, limit_of, fault_of_run}
 use Rattle.diagnose_cli.specs.Replies.{reply_of_replayed}
 use Rattle.diagnose_cli.specs.Due.{Closes, AnswersAfter}
+use Rattle.diagnose_cli.proofs.Ones.{is_one}
 use Rattle.diagnose_cli.proofs.Orders.{stops_here, goes_on}
 
 module _ (l : Loads) (words : List (List ℕ)) (steps : ℕ) (book : List BookEntry) (model rows : List ℕ) (net : Net) (network : net ≡ network_of model) (alarms : Log) (log : alarms ≡ log_of rows) where
@@ -36,13 +37,10 @@ module _ (l : Loads) (words : List (List ℕ)) (steps : ℕ) (book : List BookEn
       let of_model : IsReplayed (network_of model) alarms (run_of (network_of model) text) steps told = subst (λ (n : Net). IsReplayed n alarms (run_of n text) steps told) network of_text in
       let of_log : IsReplayed (network_of model) (log_of rows) (run_of (network_of model) text) steps told = subst (λ (a : Log). IsReplayed (network_of model) a (run_of (network_of model) text) steps told) log of_model in
       goes_on l words 3 run [] (model ∷ rows ∷ []) (Closes (Replay steps) book) text (Ok (whole reply))
-      (subst (λ (n : Net). IsText l.held (word_at words 3) (limit_of run) (fault_of_run n) text) network read) (
-        reply,
-        record {
-          replayed = told;
-          holds = of_log;
-          accepted = accepted_where (network_of model) (log_of rows) (run_of (network_of model) text) steps told of_log;
-          is = subst (λ (a : Log). reply ≡ reply_of_replayed (names_of a.alarms) told) log says;
-        },
-        refl,
-      )
+      (subst (λ (n : Net). IsText l.held (word_at words 3) (limit_of run) (fault_of_run n) text) network read) (is_one _ reply
+      (record {
+        replayed = told;
+        holds = of_log;
+        accepted = accepted_where (network_of model) (log_of rows) (run_of (network_of model) text) steps told of_log;
+        is = subst (λ (a : Log). reply ≡ reply_of_replayed (names_of a.alarms) told) log says;
+      }))

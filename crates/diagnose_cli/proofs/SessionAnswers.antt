@@ -18,53 +18,43 @@ use Rattle.diagnose_cli.specs.declared.stop.Stop.TheVariants.{Large, Usage, Memo
 use Rattle.diagnose_cli.specs.Texts.{IsPlan, StopsAtFirstTwo, script}
 use Rattle.diagnose_cli.specs.Commands.{command_of, is_session}
 use Rattle.diagnose_cli.specs.SessionReplies.{IsSession}
-use Rattle.diagnose_cli.specs.Due.{Answers, Closes, Due, HasNotBegun, MayCome, above_limit}
+use Rattle.diagnose_cli.specs.Due.{Answers, Closes, Due, HasNotBegun, above_limit}
 use Rattle.diagnose_cli.specs.Files.{Loads}
 use Rattle.diagnose_cli.specs.Puts.{Finishes, IsCutOff, Speaks}
 use Rattle.diagnose_cli.specs.Run.{SaysStop}
 use Rattle.diagnose_cli.specs.Sessions.{MaySay, status_of_session}
 use Rattle.diagnose_cli.specs.Transcripts.{Ending, OrMemory, UnlessMemory, once}
 use Rattle.diagnose_cli.proofs.Limits.{within_limit, past_limit}
-use Rattle.diagnose_cli.proofs.Once.{nothing_taken, wants_memory}
+use Rattle.telling.proofs.Taking.{nothing_taken}
+use Rattle.diagnose_cli.proofs.Once.{wants_memory}
+use Rattle.diagnose_cli.proofs.Speaking.{put_speaks}
 use Rattle.diagnose_cli.proofs.Orders.{stops_in_two, with_two}
 
 -- ---- by its status
 
-module _ (may : Ending → Type 0) (before now : Option (List ℕ)) (rose : Type 0) where
-  -- its texts were put
-  pub put_speaks : (status : ℕ) → status ≢ 4 → Finishes may before now status → Speaks may before now rose status
-  put_speaks status other h = record { ends = λ four. h; put_failed = λ four. absurd (other four); cut_off = λ four. absurd (other four) }
-
-  -- or of the last one a front
-  pub cut_speaks : rose → IsCutOff may before now → Speaks may before now rose 4
-  cut_speaks failed h = record { ends = λ four. absurd (four refl); put_failed = λ four. failed; cut_off = λ four. h }
-
 -- memory was wanting before anything was said
-pub broke_before : (may : Ending → Type 0) (Q : Type 0) → Q → (taken : Option (List ℕ)) (rose : Type 0) → Speaks (OrMemory may Q) taken taken rose 9
-broke_before may Q q taken rose = put_speaks (OrMemory may Q) taken taken rose 9 (λ four. omega (arith, four)) (wants_memory may Q q taken taken 9 refl (nothing_taken taken))
+pub broke_before : (due : Ending → Type 0) (lost : Type 0) → lost → (taken : Option (List ℕ)) (rose : Type 0) → Speaks due lost taken taken rose 9
+broke_before due lost q taken rose = put_speaks due lost taken taken rose 9 (λ four. omega (arith, four)) (wants_memory due lost q taken taken 9 refl (nothing_taken taken))
 
-pub said_nothing : (may : Ending → Type 0) (Q : Type 0) → Q → (taken : Option (List ℕ)) (rose : Type 0) (r : Result (Unit {0}) Broken) → IsErrAnd r (λ e. e ≡ Memory) → Speaks (OrMemory may Q) taken taken rose (status_of_session r)
-said_nothing may Q q taken rose (Ok done) is = absurd is
-said_nothing may Q q taken rose (Err e) is =
-    subst (λ (x : Broken). Speaks (OrMemory may Q) taken taken rose (status_of_session (Err x))) (sym is) (broke_before may Q q taken rose)
+pub said_nothing : (due : Ending → Type 0) (lost : Type 0) → lost → (taken : Option (List ℕ)) (rose : Type 0) (r : Result (Unit {0}) Broken) → IsErrAnd r (λ e. e ≡ Memory) → Speaks due lost taken taken rose (status_of_session r)
+said_nothing due lost q taken rose (Ok done) is = absurd is
+said_nothing due lost q taken rose (Err e) is =
+    subst (λ (x : Broken). Speaks due lost taken taken rose (status_of_session (Err x))) (sym is) (broke_before due lost q taken rose)
 
 -- what holds of each ending that may come holds of it
-module _ (may due : Ending → Type 0) (weaker : (e : Ending) → may e → due e) (before now : Option (List ℕ)) where
-  finishes : (status : ℕ) → Finishes may before now status → Finishes due before now status
-  finishes status h = record { ending = h.ending; due = weaker h.ending h.due; shown = h.shown; put = h.put }
+module _ (may due : Ending → Type 0) (weaker : (e : Ending) → may e → due e) (P Q : Type 0) (lost : P → Q) (before now : Option (List ℕ)) where
+  or_weaker : (e : Ending) → OrMemory may P e → OrMemory due Q e
+  or_weaker e h = record { says = λ never. weaker e (h.says never); wanting = λ is. lost (h.wanting is) }
 
-  cuts : IsCutOff may before now → IsCutOff due before now
-  cuts h = record { ending = h.ending; due = weaker h.ending h.due; last = h.last; texts = h.texts; next = h.next; split = h.split; put = h.put }
+  finishes : (status : ℕ) → Finishes (OrMemory may P) before now status → Finishes (OrMemory due Q) before now status
+  finishes status h = record { ending = h.ending; due = or_weaker h.ending h.due; shown = h.shown; put = h.put }
 
-  pub speaks_weaker : (rose : Type 0) (status : ℕ) → Speaks may before now rose status → Speaks due before now rose status
+  pub speaks_weaker : (rose : Type 0) (status : ℕ) → Speaks may P before now rose status → Speaks due Q before now rose status
   speaks_weaker rose status h = record {
     ends = λ four. finishes status (h.ends four);
     put_failed = h.put_failed;
-    cut_off = λ four. cuts (h.cut_off four);
+    cut_off = λ four. let c = h.cut_off four in record { ending = c.ending; due = weaker c.ending c.due; last = c.last; put = c.put };
   }
-
-or_weaker : (may due : Ending → Type 0) (P Q : Type 0) → ((e : Ending) → may e → due e) → (P → Q) → (e : Ending) → OrMemory may P e → OrMemory due Q e
-or_weaker may due P Q weaker lost e h = record { says = λ never. weaker e (h.says never); wanting = λ is. lost (h.wanting is) }
 
 -- no stop has the status of a session
 pub no_stop : (r : Result (Unit {0}) Broken) (status : ℕ) → status ≡ status_of_session r → SaysStop status → ⊥
@@ -96,11 +86,11 @@ module _ (steps budget : ℕ) (book : List BookEntry) (net : Net) (rows : List R
       closes_by None e (within_limit size (subst (λ j. j ≤ MOST_SIZE) (is ∙ ap (λ m. question_size m no_log steps) network) small)) (subst (λ (rs : List Row). Says (network_of text) rs e) script of_net)
 
   pub session_speaks : (k : ℕ) (before now : Option (List ℕ)) (rose : Type 0) (r : Result (Unit {0}) Broken) (status : ℕ) → k ≡ question_size net no_log steps → k ≤ MOST_SIZE → status ≡ status_of_session r
-      → Speaks (MaySay net steps budget rows book) before now rose (status_of_session r) → Speaks (OrMemory (Closes (Session steps budget) book (text ∷ lines ∷ [])) (book ≡ [])) before now rose status
+      → Speaks (MaySay net steps budget rows book) (book ≡ []) before now rose (status_of_session r) → Speaks (Closes (Session steps budget) book (text ∷ lines ∷ [])) (book ≡ []) before now rose status
   session_speaks k before now rose r status is small shown speaks =
       let closes = Closes (Session steps budget) book (text ∷ lines ∷ []) in
-      subst (Speaks (OrMemory closes (book ≡ [])) before now rose) (sym shown)
-      (speaks_weaker (MaySay net steps budget rows book) (OrMemory closes (book ≡ [])) (or_weaker (Says net rows) closes (book ≡ []) (book ≡ []) (may_say k is small) (λ none. none)) before now rose (status_of_session r) speaks)
+      subst (Speaks closes (book ≡ []) before now rose) (sym shown)
+      (speaks_weaker (MaySay net steps budget rows book) closes (may_say k is small) (book ≡ []) (book ≡ []) (λ none. none) before now rose (status_of_session r) speaks)
 
 -- ---- for the words that call it
 
@@ -116,11 +106,10 @@ not_begun words book none = by (command_of words)
 
 module _ (l : Loads) (words : List (List ℕ)) (steps budget : ℕ) (book : List BookEntry) (called : command_of words ≡ Some (Session steps budget)) where
   pub plan_speaks : (net : Net) (rows : List Row) (before now : Option (List ℕ)) (rose : Type 0) (status : ℕ) (plan : IsPlan l.held words net rows)
-      → Speaks (OrMemory (Closes (Session steps budget) book (plan.text ∷ plan.second ∷ [])) (book ≡ [])) before now rose status → Speaks (MayCome l words book) before now rose status
+      → Speaks (Closes (Session steps budget) book (plan.text ∷ plan.second ∷ [])) (book ≡ []) before now rose status → Speaks (Due l words book) (HasNotBegun words book) before now rose status
   plan_speaks net rows before now rose status plan speaks =
-      let closes = Closes (Session steps budget) book (plan.text ∷ plan.second ∷ []) in
-      speaks_weaker (OrMemory closes (book ≡ [])) (MayCome l words book)
-      (or_weaker closes (Due l words book) (book ≡ []) (HasNotBegun words book) (λ e h. due_for l words (Session steps budget) book e called (with_two l words script [] (Closes (Session steps budget) book) net (λ lines. rows ≡ script_of lines) e plan h)) (not_begun words book))
+      speaks_weaker (Closes (Session steps budget) book (plan.text ∷ plan.second ∷ [])) (Due l words book)
+      (λ e h. due_for l words (Session steps budget) book e called (with_two l words script [] (Closes (Session steps budget) book) net (λ lines. rows ≡ script_of lines) e plan h)) (book ≡ []) (HasNotBegun words book) (not_begun words book)
       before now rose status speaks
 
   pub plan_stops : (stop : Stop) → (stop ≢ NoMemory → StopsAtFirstTwo script l words stop) → UnlessMemory {T = Kind × List ℕ} (Err stop) (Due l words book (once (Err stop)))

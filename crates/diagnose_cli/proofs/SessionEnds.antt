@@ -8,28 +8,20 @@ use Rattle.log_csv.specs.declared.row.Row.{Row}
 use Rattle.proof_ledger.specs.Book.{BookEntry}
 use Rattle.diagnose_cli.specs.declared.session_rows.Broken.{Broken}
 use Rattle.diagnose_cli.specs.declared.session_rows.Broken.TheVariants.{Memory, Put}
-use Rattle.diagnose_cli.specs.SessionReplies.{ComesTo, HasReplies, IsBroken, IsCut, IsSession, IsUntold}
+use Rattle.diagnose_cli.specs.declared.ending.Kind.TheVariants.{Done}
+use Rattle.diagnose_cli.specs.SessionReplies.{ComesTo, EndsSession, HasReplies, IsBroken, IsCut, IsUntold}
 use Rattle.diagnose_cli.specs.Puts.{Speaks}
 use Rattle.diagnose_cli.specs.Sessions.{IsCarriedOut, MaySay, RowGoes, status_of_session}
-use Rattle.diagnose_cli.specs.Transcripts.{End, finished, cut, broken, replies}
-use Rattle.diagnose_cli.proofs.SessionAnswers.{cut_speaks, put_speaks}
-use Rattle.diagnose_cli.proofs.SessionFronts.{HasSaid, replied_more, rose_later, row_replied, took_cut, took_more}
+use Rattle.diagnose_cli.specs.Transcripts.{End, OrMemory, said, cut, broken}
+use Rattle.telling.proofs.Taking.{cut_first, rose_later, took_cut, took_more}
+use Rattle.diagnose_cli.proofs.Speaking.{speaks_broken, speaks_cut, speaks_said}
+use Rattle.diagnose_cli.proofs.SessionFronts.{HasSaid, replied_more, row_replied}
 
 module _ (net : Net) (n budget : ℕ) where
-  -- as much is due that a session says
-  said : (rows : List Row) (book : List BookEntry) (texts : List (List ℕ)) (end : End) → IsSession net n budget rows book (replies texts end) → MaySay net n budget rows book (Ok (replies texts end))
-  said rows book texts end says = record { says = λ never. says; wanting = λ is. cc }
-
   -- all rows
-  pub says_all : (rows : List Row) (left : Stage) (before now : Option (List ℕ)) (rose : Type 0) → HasSaid net n budget rows left before now → Speaks (MaySay net n budget rows left.book) before now rose 0
+  pub says_all : (rows : List Row) (left : Stage) (before now : Option (List ℕ)) (rose : Type 0) → HasSaid net n budget rows left before now → Speaks (MaySay net n budget rows left.book) (left.book ≡ []) before now rose 0
   says_all rows left before now rose so_far =
-      put_speaks (MaySay net n budget rows left.book) before now rose 0 (λ four. omega (arith, four))
-      (record {
-        ending = Ok (replies so_far.texts finished);
-        due = said rows left.book so_far.texts finished (record { left = left; replied = so_far.replied; book_is = refl });
-        shown = refl;
-        put = so_far.put;
-      })
+      speaks_said (MaySay net n budget rows left.book) (left.book ≡ []) before now rose so_far.texts Done (refl, record { left = left; replied = so_far.replied; book_is = refl }) so_far.put
 
   -- it came to a row
   comes_to : (all rows others : List Row) (row : Row) (left : Stage) (before now : Option (List ℕ)) → all ≡ rows ++ row ∷ others → (so_far : HasSaid net n budget rows left before now)
@@ -38,46 +30,33 @@ module _ (net : Net) (n budget : ℕ) where
 
   -- and breaks off at it
   breaks_off : (all rows others : List Row) (row : Row) (old new : Stage) (before mid now : Option (List ℕ)) (start middle end : ℕ) → all ≡ rows ++ row ∷ others → start ≤ middle → (e : Broken)
-      → HasSaid net n budget rows old before mid → RowGoes net n budget old row new mid now (Rose middle end) (Err e) → Speaks (MaySay net n budget all new.book) before now (Rose start end) (status_of_session (Err e))
+      → HasSaid net n budget rows old before mid → RowGoes net n budget old row new mid now (Rose middle end) (Err e) → Speaks (MaySay net n budget all new.book) (new.book ≡ []) before now (Rose start end) (status_of_session (Err e))
   breaks_off all rows others row old new before mid now start middle end split rises Memory so_far goes =
-      put_speaks (MaySay net n budget all new.book) before now (Rose start end) 9 (λ four. omega (arith, four))
-      (record {
-        ending = Ok (replies so_far.texts broken);
-        due = said all new.book so_far.texts broken
-            (record { row = row; left = old; end = new; comes = comes_to all rows others row old before mid split so_far; untold = goes.untold; book_is = refl });
-        shown = refl;
-        put = subst (Took before now) (append-nil (concat so_far.texts)) (took_more before mid now (concat so_far.texts) [] so_far.put goes.put);
-      })
+      speaks_broken (MaySay net n budget all new.book) (new.book ≡ []) before now (Rose start end) so_far.texts
+      (record { row = row; left = old; end = new; comes = comes_to all rows others row old before mid split so_far; untold = goes.untold; book_is = refl })
+      (subst (Took before now) (append-nil (concat so_far.texts)) (took_more before mid now (concat so_far.texts) [] so_far.put goes.put))
   breaks_off all rows others row old new before mid now start middle end split rises Put so_far goes =
       let here = goes.1 in
       let next = here.put.next in
-      cut_speaks (MaySay net n budget all new.book) before now (Rose start end) (rose_later start middle end rises goes.0)
+      speaks_cut (MaySay net n budget all new.book) (new.book ≡ []) before now (Rose start end) (so_far.texts ++ next ∷ [])
       (record {
-        ending = Ok (replies (so_far.texts ++ next ∷ []) cut);
-        due = said all new.book (so_far.texts ++ next ∷ []) cut
-            (record {
-              row = row;
-              left = old;
-              end = new;
-              earlier = so_far.texts;
-              last = next;
-              comes = comes_to all rows others row old before mid split so_far;
-              replied = row_replied net n budget old row new here.told next here.carried here.put.only;
-              book_is = refl;
-              are = refl;
-            });
-        last = refl;
-        texts = so_far.texts;
-        next = next;
-        split = refl;
-        put = took_cut before mid now so_far.texts next so_far.put here.put.put;
+        row = row;
+        left = old;
+        end = new;
+        earlier = so_far.texts;
+        last = next;
+        comes = comes_to all rows others row old before mid split so_far;
+        replied = row_replied net n budget old row new here.told next here.carried here.put.only;
+        book_is = refl;
+        are = refl;
       })
+      (rose_later start middle end rises goes.0) (took_cut before mid now so_far.texts (next ∷ []) so_far.put (cut_first mid now next here.put.put))
 
   pub broken_off : (all rows others : List Row) (row : Row) (old new : Stage) (before mid now : Option (List ℕ)) (start middle end : ℕ) (e : Broken) (r : Result (Unit {0}) Broken) → IsErrAnd r (λ x. x ≡ e) → all ≡ rows ++ row ∷ others
-      → start ≤ middle → HasSaid net n budget rows old before mid → RowGoes net n budget old row new mid now (Rose middle end) (Err e) → Speaks (MaySay net n budget all new.book) before now (Rose start end) (status_of_session r)
+      → start ≤ middle → HasSaid net n budget rows old before mid → RowGoes net n budget old row new mid now (Rose middle end) (Err e) → Speaks (MaySay net n budget all new.book) (new.book ≡ []) before now (Rose start end) (status_of_session r)
   broken_off all rows others row old new before mid now start middle end e (Ok done) is split rises so_far goes = absurd is
   broken_off all rows others row old new before mid now start middle end e (Err x) is split rises so_far goes =
-      subst (λ (y : Broken). Speaks (MaySay net n budget all new.book) before now (Rose start end) (status_of_session (Err y))) (sym is) (breaks_off all rows others row old new before mid now start middle end split rises e so_far goes)
+      subst (λ (y : Broken). Speaks (MaySay net n budget all new.book) (new.book ≡ []) before now (Rose start end) (status_of_session (Err y))) (sym is) (breaks_off all rows others row old new before mid now start middle end split rises e so_far goes)
 
 -- ---- whatever the end
 
@@ -122,7 +101,16 @@ module _ (net : Net) (n budget : ℕ) (rows : List Row) (book : List BookEntry) 
     book_is = h.book_is;
   }
 
-  pub session_tells : (texts : List (List ℕ)) (end : End) → IsSession net n budget rows book (replies texts end) → TellsFront net n budget rows book texts
-  session_tells texts finished h = record { front = rows; others = []; split = sym (append-nil rows); left = h.left; end = h.left; replied = h.replied; behind = inl refl; book_is = h.book_is }
+  pub session_tells : (texts : List (List ℕ)) (end : End) → EndsSession net n budget rows book texts end → TellsFront net n budget rows book texts
+  session_tells texts (said kind) h = record {
+    front = rows;
+    others = [];
+    split = sym (append-nil rows);
+    left = h.1.left;
+    end = h.1.left;
+    replied = h.1.replied;
+    behind = inl refl;
+    book_is = h.1.book_is;
+  }
   session_tells texts cut h = cut_tells texts h
   session_tells texts broken h = broken_tells texts h

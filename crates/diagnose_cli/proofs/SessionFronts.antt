@@ -1,50 +1,34 @@
 -- A session that has carried out some rows, and one row more.
-use Rattle.std.proofs.Common.{◌≡◌, ◌≤◌, ◌∙◌, inl, inr, ℕ, List, [], ◌∷◌, ◌++◌, Option, Some, None, Result, Ok, Err, IsErrAnd, take, refl, sym, ap, subst, append-nil, append_assoc, arith}
+use Rattle.std.proofs.Common.{◌≡◌, ◌≤◌, ◌^◌, ◌∙◌, inl, inr, ℕ, List, [], ◌∷◌, ◌++◌, Option, Some, None, Result, Ok, Err, IsErrAnd, take, refl, sym, ap, subst, append-nil, append_assoc, arith}
 use Rattle.std.specs.Prelude.{flat_map}
 use Rattle.std.specs.List.{concat}
 use Rattle.std.proofs.lemmas.Grind.{flat_map-append}
-use Rattle.std.proofs.lemmas.List.Folds.{concat-append}
 use Rattle.alarm_session.proofs.Rowing.{carried_out_more, nothing_carried_out}
 use Rattle.alarm_session.specs.Rows.{AreRowsTold, IsLeftUndone, IsRowTold, after_row}
 use Rattle.alarm_session.specs.Session.{IsSessionBook, Stage, first_stage}
 use Rattle.alarm_session.specs.declared.rows.Told.{Told}
 use Rattle.alarm_session.specs.declared.rows.Told.TheVariants.{Made, Refused, Answered}
-use Rattle.des_base.specs.Outside.{Rose, Took, TookFront}
+use Rattle.des_base.specs.Outside.{Took}
 use Rattle.des_net.specs.Building.{IsDraft}
 use Rattle.des_net.specs.Network.{Net, IsNetwork}
+use Rattle.least_faults.proofs.Deciding.{undecided_is_small}
+use Rattle.least_faults.specs.Answers.{IsAnswered}
+use Rattle.least_faults.specs.declared.answer.Found.{Found}
+use Rattle.least_faults.specs.declared.answer.Found.TheVariants.{Explained, Absent, Many, Undecided}
 use Rattle.log_csv.specs.declared.row.Row.{Row}
 use Rattle.log_order.specs.Adding.{IsLog}
 use Rattle.log_order.specs.Log.{Log}
 use Rattle.diagnose_cli.specs.declared.session_rows.Broken.{Broken}
 use Rattle.diagnose_cli.specs.declared.session_rows.Broken.TheVariants.{Memory, Put}
-use Rattle.diagnose_cli.specs.SessionReplies.{HasReplies, IsRowReplied, RunsReplay, TellsReplaying, replies_to}
+use Rattle.proof_ledger.specs.Book.{BookEntry}
+use Rattle.prop_core.specs.VariableNames.{Name}
+use Rattle.replay.specs.QuestionSize.{variable_bound}
+use Rattle.run_decode.specs.QuestionAxioms.{BuiltQuestion}
+use Rattle.diagnose_cli.specs.SessionReplies.{AreDecided, HasReplies, IsDecided, IsRowReplied, RunsReplay, TellsDecided, TellsReplaying, replies_to}
 use Rattle.diagnose_cli.specs.Sessions.{IsCarriedOut, IsRowPut, PutsReplies, RowGoes, TellsKnown}
-use Rattle.diagnose_cli.specs.Transcripts.{TookCut}
 use Rattle.diagnose_cli.proofs.KnownRuns.{known}
-use Rattle.diagnose_cli.proofs.Once.{nothing_taken}
+use Rattle.telling.proofs.Taking.{nothing_taken, took_texts}
 use Rattle.diagnose_cli.proofs.RepliesReplay.{run_replays}
-
--- ---- what was taken
-
--- some, and then more
-pub took_more : (before mid now : Option (List ℕ)) (some more : List ℕ) → Took before mid some → Took mid now more → Took before now (some ++ more)
-took_more None mid now some more first then = tt
-took_more (Some b) None now some more first then = cc
-took_more (Some b) (Some m) now some more first then =
-    let is : m ≡ b ++ some = cc in
-    then ∙ ap (λ (front : List ℕ). Some (front ++ more)) is ∙ ap Some (append_assoc b some more)
-
--- texts, and then a front of one more
-pub took_cut : (before mid now : Option (List ℕ)) (texts : List (List ℕ)) (next : List ℕ) → Took before mid (concat texts) → TookFront mid now next → TookCut before now texts next
-took_cut None mid now texts next first front = tt
-took_cut (Some b) None now texts next first front = cc
-took_cut (Some b) (Some m) now texts next first front =
-    let is : m ≡ b ++ concat texts = cc in
-    (front.0, subst (λ (xs : List ℕ). now ≡ Some (xs ++ take front.0 next)) is front.1)
-
--- a count that rose later rose
-pub rose_later : (start mid now : ℕ) → start ≤ mid → Rose mid now → Rose start now
-rose_later start mid now later rose = omega (arith, later, rose)
 
 -- ---- what one row tells
 
@@ -80,9 +64,31 @@ module _ (net : Net) (n budget : ℕ) (old : Stage) (row : Row) (new : Stage) wh
   row_goes told before now rose (Err Put) carried puts = (puts.0, record { told = told; carried = carried; put = puts.1 })
 
   -- where memory was wanting before it told anything
-  pub row_lost : (taken : Option (List ℕ)) (rose : Type 0) (r : Result (Unit {0}) Broken) → IsErrAnd r (λ e. e ≡ Memory) → IsLeftUndone budget old row new → RowGoes net n budget old row new taken taken rose r
+  pub row_lost : (taken : Option (List ℕ)) (rose : Type 0) (r : Result (Unit {0}) Broken) → IsErrAnd r (λ e. e ≡ Memory) → IsLeftUndone net n budget old row new → RowGoes net n budget old row new taken taken rose r
   row_lost taken rose (Ok done) is undone = absurd is
   row_lost taken rose (Err e) is undone = subst (λ (x : Broken). RowGoes net n budget old row new taken taken rose (Err x)) (sym is) (record { untold = inr undone; put = nothing_taken taken })
+
+-- ---- what a budget decides
+
+module _ (net : Net) (n budget : ℕ) where
+  found_decided : (found : Found) (names : List (ℕ × Name)) (built : BuiltQuestion) (alarms : Log) (before after : List BookEntry) → IsAnswered names built net alarms n budget before after found → 3 ^ variable_bound net alarms n ≤ budget → IsDecided found
+  found_decided (Explained best) names built alarms before after answered enough = tt
+  found_decided Absent names built alarms before after answered enough = tt
+  found_decided (Many best) names built alarms before after answered enough = tt
+  found_decided (Undecided lo best) names built alarms before after answered enough =
+      let small = undecided_is_small names built net alarms n budget lo best before after answered in
+      omega (arith, small, enough)
+
+  row_decided : (old : Stage) (row : Row) (new : Stage) (told : Told) → IsRowTold net n budget old row new told → TellsDecided net old.log n budget told
+  row_decided old row new Made is = tt
+  row_decided old row new (Refused refusal) is = tt
+  row_decided old row new (Answered found) is = found_decided found is.tells.told.names old.built old.log old.book new.book is.tells.told.answered
+
+  all_decided : (old : Stage) (rows : List Row) (new : Stage) (told : List Told) → AreRowsTold net n budget old rows new told → AreDecided net n budget old.log rows told
+  all_decided old [] new told are = tt
+  all_decided old (row ∷ rows) new told are =
+      subst (λ (ts : List Told). AreDecided net n budget old.log (row ∷ rows) ts) (sym are.5)
+      (row_decided old row are.0 are.1 are.3, subst (λ (a : Log). AreDecided net n budget a rows are.2) are.3.log (all_decided are.0 rows new are.2 are.4))
 
 -- ---- what some rows told, and one more
 
@@ -104,6 +110,7 @@ module _ (net : Net) (n budget : ℕ) where
     told = replied.told ++ here ∷ [];
     carried = carried_out_more net n budget rows row mid new replied.told here replied.carried is.holds;
     replays = replay_more (first_stage net n) rows row mid replied.told here replied.carried.each replied.replays is.replays;
+    decided = all_decided net n budget (first_stage net n) (rows ++ row ∷ []) new (replied.told ++ here ∷ []) (carried_out_more net n budget rows row mid new replied.told here replied.carried is.holds).each;
     are = ap (λ (ts : List (List ℕ)). ts ++ replies_to net n here) replied.are
         ∙ sym (flat_map-append (replies_to net n) replied.told (here ∷ []) ∙ ap (λ (ts : List (List ℕ)). flat_map (replies_to net n) replied.told ++ ts) (append-nil (replies_to net n here)));
   }
@@ -123,6 +130,7 @@ nothing_said net n budget begun taken begins asks = record {
     told = [];
     carried = nothing_carried_out net n budget begun begins asks;
     replays = tt;
+    decided = tt;
     are = refl;
   };
   put = nothing_taken taken;
@@ -136,5 +144,5 @@ module _ (net : Net) (n budget : ℕ) where
       record {
         texts = said.texts ++ texts;
         replied = replied_more net n budget rows row old new said.texts here.told said.replied here.carried;
-        put = subst (Took before now) (sym (concat-append said.texts texts)) (took_more before mid now (concat said.texts) (concat texts) said.put here.put);
+        put = took_texts before mid now said.texts texts said.put here.put;
       }

@@ -1,5 +1,5 @@
 -- What the whole run of a session tells.
-use Rattle.std.proofs.Common.{ℕ, List, [], ◌∷◌, Ok, Err, IsOkAnd}
+use Rattle.std.proofs.Common.{◌≡◌, ℕ, List, [], ◌∷◌, Ok, Err, IsOkAnd, subst}
 use Rattle.std.specs.List.{concat}
 use Rattle.des_base.specs.Outside.{Took}
 use Rattle.des_net.specs.Network.{Net}
@@ -7,20 +7,30 @@ use Rattle.log_csv.specs.ScriptText.{script_of}
 use Rattle.log_csv.specs.declared.row.Row.{Row}
 use Rattle.model_text.specs.ModelFaults.{network_of}
 use Rattle.diagnose_cli.specs.declared.command.Command.TheVariants.{Session}
-use Rattle.diagnose_cli.specs.SessionReplies.{IsSession}
-use Rattle.diagnose_cli.specs.Endings.{HasStatus, texts_of}
+use Rattle.diagnose_cli.specs.declared.ending.Kind.{Kind}
+use Rattle.diagnose_cli.specs.SessionReplies.{EndsSession, IsSession}
+use Rattle.diagnose_cli.specs.Endings.{HasStatus, status_of_end, status_of_kind, texts_of}
 use Rattle.diagnose_cli.specs.Outcomes.{Outcome, IsPut, IsUnbroken}
 use Rattle.diagnose_cli.specs.Rows.{Reads, TellsSession}
 use Rattle.diagnose_cli.specs.Run.{Ends}
-use Rattle.diagnose_cli.specs.Transcripts.{finished, cut, broken, Ending, replies, whole}
+use Rattle.diagnose_cli.specs.Transcripts.{End, said, cut, broken, Ending}
 use Rattle.diagnose_cli.proofs.Answered.{said_in_all}
 
 -- by its status it is finished
+ended : (o : Outcome) (net : Net) (n budget : ℕ) (rows : List Row) (texts : List (List ℕ)) (end : End) → IsPut o.status → EndsSession net n budget rows o.book texts end → o.status ≡ status_of_end end → Took o.before o.now (concat texts) → TellsSession o net n budget rows
+ended o net n budget rows texts (said kind) is_put says shown put = record {
+  left = says.1.left;
+  texts = texts;
+  replied = says.1.replied;
+  book = says.1.book_is;
+  shown = subst (λ (k : Kind). o.status ≡ status_of_kind k) says.0 shown;
+  put = put;
+}
+ended o net n budget rows texts cut is_put says shown put = absurd (is_put.written shown)
+ended o net n budget rows texts broken is_put says shown put = absurd (is_put.memory shown)
+
 session_told : (o : Outcome) (net : Net) (n budget : ℕ) (rows : List Row) (e : Ending) → IsPut o.status → IsOkAnd e (IsSession net n budget rows o.book) → HasStatus e o.status → Took o.before o.now (concat (texts_of e)) → TellsSession o net n budget rows
-session_told o net n budget rows (Ok (whole reply)) is_put says shown put = absurd says
-session_told o net n budget rows (Ok (replies texts finished)) is_put says shown put = record { left = says.left; texts = texts; replied = says.replied; book = says.book_is; shown = shown; put = put }
-session_told o net n budget rows (Ok (replies texts cut)) is_put says shown put = absurd (is_put.written shown)
-session_told o net n budget rows (Ok (replies texts broken)) is_put says shown put = absurd (is_put.memory shown)
+session_told o net n budget rows (Ok told) is_put says shown put = ended o net n budget rows told.texts told.end is_put says shown put
 session_told o net n budget rows (Err stop) is_put says shown put = absurd says
 
 pub session_row : (o : Outcome) (steps budget : ℕ) (text lines : List ℕ) → Ends o → Reads o (Session steps budget) (text ∷ lines ∷ []) → IsUnbroken o.status → TellsSession o (network_of text) steps budget (script_of lines)

@@ -12,6 +12,7 @@ use Rattle.diagnose_cli.specs.Files.{Loads, IsReadAs}
 use Rattle.diagnose_cli.specs.Texts.{fault_of_model, limit_of, model}
 use Rattle.diagnose_cli.specs.Replies.{reply_of_model}
 use Rattle.diagnose_cli.specs.Due.{Answers, Closes}
+use Rattle.diagnose_cli.proofs.Ones.{is_one}
 use Rattle.diagnose_cli.proofs.Orders.{goes_on}
 use Rattle.diagnose_cli.proofs.Reading.{none_before}
 
@@ -20,4 +21,4 @@ pub shown : (l : Loads) (words : List (List ℕ)) (book : List BookEntry) (net :
     → reply ≡ reply_of_model net → Answers l words Show book (once (Ok reply))
 shown l words book net reply (text, read, is) says =
     goes_on l words 1 model [] [] (Closes Show book) text (Ok (whole reply)) read
-    (reply, record { is = subst (λ (n : Net). reply ≡ reply_of_model n) is says; again = read_and_printed text (none_before _ (first_fault text) read.well) }, refl)
+    (is_one _ reply (record { is = subst (λ (n : Net). reply ≡ reply_of_model n) is says; again = read_and_printed text (none_before _ (first_fault text) read.well) }))

@@ -127,7 +127,7 @@ undecided_of o net alarms steps budget (Undecided lo best) is holds put =
       put = put;
     }
 
-undecided_small : (net : Net) (alarms : Log) (steps budget : ℕ) (book : List BookEntry) (found : Found) → 11 ≡ status_of_kind (kind_of_found found) → IsDiagnosed net alarms steps budget book found → 3 ^ variable_bound net alarms steps ≤ budget → ⊥
+pub undecided_small : (net : Net) (alarms : Log) (steps budget : ℕ) (book : List BookEntry) (found : Found) → 11 ≡ status_of_kind (kind_of_found found) → IsDiagnosed net alarms steps budget book found → 3 ^ variable_bound net alarms steps ≤ budget → ⊥
 undecided_small net alarms steps budget book (Explained best) is holds enough = absurd (omega arith)
 undecided_small net alarms steps budget book Absent is holds enough = absurd (omega arith)
 undecided_small net alarms steps budget book (Many best) is holds enough = absurd (omega arith)

@@ -16,6 +16,7 @@ use Rattle.diagnose_cli.specs.Files.{Loads, IsText, IsReadAs, StopsIn}
 use Rattle.diagnose_cli.specs.Texts.{run, limit_of, fault_of_run}
 use Rattle.diagnose_cli.specs.Replies.{reply_of_traced}
 use Rattle.diagnose_cli.specs.Due.{Closes, AnswersAfter}
+use Rattle.diagnose_cli.proofs.Ones.{is_one}
 use Rattle.diagnose_cli.proofs.Orders.{stops_here, goes_on}
 
 module _ (l : Loads) (words : List (List ℕ)) (book : List BookEntry) (model : List ℕ) (net : Net) (network : net ≡ network_of model) where
@@ -30,4 +31,4 @@ module _ (l : Loads) (words : List (List ℕ)) (book : List BookEntry) (model : 
   traced steps told reply (text, read, is) tells says =
       goes_on l words 2 run [] (model ∷ []) (Closes Trace book) text (Ok (whole reply))
       (subst (λ (n : Net). IsText l.held (word_at words 2) (limit_of run) (fault_of_run n) text) network read)
-      (reply, record { traced = told; holds = subst (λ (n : Net). IsTraced n (run_of n text) told) network (subst (λ (s : List RunStep). IsTraced net s told) is tells); is = says }, refl)
+      (is_one _ reply (record { traced = told; holds = subst (λ (n : Net). IsTraced n (run_of n text) told) network (subst (λ (s : List RunStep). IsTraced net s told) is tells); is = says }))

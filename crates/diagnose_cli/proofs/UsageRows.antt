@@ -7,7 +7,7 @@ use Rattle.diagnose_cli.specs.declared.ending.Kind.TheVariants.{Done, Rejected, 
 use Rattle.diagnose_cli.specs.declared.stop.Stop.TheVariants.{Usage, Load, Faulty, Long, Large, Memory}
 use Rattle.diagnose_cli.specs.declared.stop.FaultyText.{FaultyText}
 use Rattle.diagnose_cli.specs.declared.stop.FaultyText.TheVariants.{Model, Log, Run, Cnf, Lrat}
-use Rattle.diagnose_cli.specs.Transcripts.{End, finished, cut, broken, Ending, Transcript, replies, whole, UnlessMemory}
+use Rattle.diagnose_cli.specs.Transcripts.{End, said, cut, broken, Ending, Transcript, UnlessMemory}
 use Rattle.diagnose_cli.specs.Files.{Loads}
 use Rattle.diagnose_cli.specs.Endings.{HasStatus, status_of_end, status_of_kind, status_of_faulty}
 use Rattle.diagnose_cli.specs.Texts.{FileKind, fault_of_text}
@@ -56,13 +56,12 @@ not_faulty (Cnf fault) p = cc
 not_faulty (Lrat fault) p = cc
 
 not_end : (end : End) → 2 ≡ status_of_end end → ⊥
-not_end finished p = cc
+not_end (said kind) p = not_kind kind p
 not_end cut p = cc
 not_end broken p = cc
 
 of_ending : (o : Outcome) (e : Ending) → UnlessMemory e (Due o.loads o.words o.book e) → HasStatus e 2 → command_of o.words ≡ None
-of_ending o (Ok (whole reply)) d p = absurd (not_kind reply.0 p)
-of_ending o (Ok (replies texts end)) d p = absurd (not_end end p)
+of_ending o (Ok told) d p = absurd (not_end told.end p)
 of_ending o (Err Usage) d p = no_command o.loads o.words o.book (command_of o.words) (d (λ m. cc))
 of_ending o (Err (Load i)) d p = absurd (omega arith)
 of_ending o (Err (Faulty text)) d p = absurd (not_faulty text p)

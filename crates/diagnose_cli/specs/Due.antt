@@ -12,18 +12,18 @@ use Rattle.replay.specs.QuestionSize.{question_size}
 use Rattle.diagnose_cli.specs.declared.command.Command.{Command}
 use Rattle.diagnose_cli.specs.declared.command.Command.TheVariants.{Diagnose, PrintCnf, PrintProof, Bench, Session}
 use Rattle.diagnose_cli.specs.declared.stop.Stop.TheVariants.{Usage, Faulty, Large}
-use Rattle.diagnose_cli.specs.Transcripts.{Ending, IsWhole, OrMemory, Transcript}
+use Rattle.diagnose_cli.specs.Transcripts.{Ending, IsOne, OrMemory, Transcript}
 use Rattle.diagnose_cli.specs.Files.{Loads, WithFile}
 use Rattle.diagnose_cli.specs.Texts.{FileKind, limit_of, fault_of_text}
 use Rattle.diagnose_cli.specs.Commands.{command_of, files_of, is_session}
 use Rattle.diagnose_cli.specs.Replies.{Says}
 use Rattle.diagnose_cli.specs.SessionReplies.{IsSession}
 
--- what a command may say over the bytes of its files: one reply, or those of a session
+-- What a command may say over the bytes of its files: one reply, or those to the rows of a script. One reply is the one line of a command in `Says`.
 abbrev pub SaysInAll : Command → List BookEntry → List (List ℕ) → Transcript → Type 0
 SaysInAll (Session steps budget) book (text ∷ lines ∷ []) told = IsSession (network_of text) steps budget (script_of lines) book told
 SaysInAll (Session steps budget) book _ told = ⊥
-SaysInAll c book files told = IsWhole (Says c book files) told
+SaysInAll c book files told = IsOne (Says c book files) told
 
 -- the size, where it is above the limit
 abbrev pub above_limit : ℕ → Option ℕ
@@ -61,10 +61,10 @@ AnswersAfter l words c book files = InOrder l words (length files + 1) (drop (le
 abbrev pub Due : Loads → List (List ℕ) → List BookEntry → Ending → Type 0
 Due l words book e = MatchOption (command_of words) (e ≡ Err Usage) (λ c. Answers l words c book e)
 
--- where the words call a session, it hasn't begun: the book is empty
+-- where the words call a session the book is empty, as it is before a session begins
 abbrev pub HasNotBegun : List (List ℕ) → List BookEntry → Type 0
 HasNotBegun words book = IfSome (command_of words) (λ c. is_session c ≡ true → book ≡ [])
 
--- What may come for these words with this book left: what is due, or want of memory. Of a session that has begun it is what is due.
+-- What may come for these words with this book left: what is due, or want of memory before any text is put, of which a session leaves an empty book. That a session ran out of memory at one of its rows is due too, with the book that it came to.
 abbrev pub MayCome : Loads → List (List ℕ) → List BookEntry → Ending → Type 0
 MayCome l words book = OrMemory (Due l words book) (HasNotBegun words book)

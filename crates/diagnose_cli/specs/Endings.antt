@@ -7,7 +7,7 @@ use Rattle.diagnose_cli.specs.declared.stop.FaultyText.TheVariants.{Model, Log, 
 use Rattle.diagnose_cli.specs.declared.ending.Kind.{Kind}
 use Rattle.diagnose_cli.specs.declared.ending.Kind.TheVariants.{Done, Rejected, Absent, Undecided, Many, Nothing}
 use Rattle.report.specs.Replies.{numbered, placed}
-use Rattle.diagnose_cli.specs.Transcripts.{End, finished, cut, broken, Ending, whole, replies}
+use Rattle.diagnose_cli.specs.Transcripts.{End, said, cut, broken, Ending}
 
 -- the status of a reply, by its kind
 abbrev pub status_of_kind : Kind → ℕ
@@ -35,16 +35,15 @@ status_of_stop (Long file) = 8
 status_of_stop (Large size) = 8
 status_of_stop Memory = 9
 
--- the status of a session, by how it ends
+-- the status of a command that says something, by how it ends
 abbrev pub status_of_end : End → ℕ
-status_of_end finished = 0
+status_of_end (said kind) = status_of_kind kind
 status_of_end cut = 4
 status_of_end broken = 9
 
 -- the status of an ending
 abbrev pub HasStatus : Ending → ℕ → Type 0
-HasStatus (Ok (whole reply)) status = status ≡ status_of_kind reply.0
-HasStatus (Ok (replies texts end)) status = status ≡ status_of_end end
+HasStatus (Ok told) status = status ≡ status_of_end told.end
 HasStatus (Err stop) status = status ≡ status_of_stop stop
 
 -- the first fault of a text: what it is a text of, the line or the row, and the code of the fault
@@ -66,6 +65,5 @@ text_of_stop Memory = []
 
 -- the texts of an ending, in the order in which they are put
 abbrev pub texts_of : Ending → List (List ℕ)
-texts_of (Ok (whole reply)) = reply.1 ∷ []
-texts_of (Ok (replies texts end)) = texts
+texts_of (Ok told) = told.texts
 texts_of (Err stop) = text_of_stop stop ∷ []

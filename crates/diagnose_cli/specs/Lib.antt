@@ -8,6 +8,7 @@ pub mod Commands
 pub mod Replies
 pub mod SessionReplies
 pub mod Due
+pub mod Deciding
 pub mod Asking
 pub mod Outcomes
 pub mod Exact

@@ -6,8 +6,9 @@ use Rattle.report.specs.Replies.{numbered}
 use Rattle.diagnose_cli.specs.declared.command.Command.{Command}
 use Rattle.diagnose_cli.specs.declared.command.Command.TheVariants.{Diagnose, PrintCnf, PrintProof, Bench, Session}
 use Rattle.diagnose_cli.specs.Commands.{command_of, file_count, files_of}
-use Rattle.diagnose_cli.specs.Due.{MayCome}
+use Rattle.diagnose_cli.specs.Due.{Due, MayCome}
 use Rattle.diagnose_cli.specs.Outcomes.{Outcome, IsUnbroken}
+use Rattle.diagnose_cli.specs.Deciding.{DecidedRow}
 use Rattle.diagnose_cli.specs.Exact.{StopRow}
 use Rattle.diagnose_cli.specs.Puts.{Finishes, IsCutOff}
 use Rattle.diagnose_cli.specs.Rows.{TraceRow, ShowRow, ReplayRow, CheckRows, PrintedRows, GenerateRows, BenchRow, DiagnoseRows, SessionRow}
@@ -18,9 +19,9 @@ use Rattle.diagnose_cli.specs.Rows.{TraceRow, ShowRow, ReplayRow, CheckRows, Pri
 abbrev pub Ends : Outcome → Type 0
 Ends o = Finishes (MayCome o.loads o.words o.book) o.before o.now o.status
 
--- by one whose last text can't be put: the others were put, and of this a front
+-- by one that is due and whose last text can't be put whole: the others were put, and of this a front
 abbrev pub CutOff : Outcome → Type 0
-CutOff o = IsCutOff (MayCome o.loads o.words o.book) o.before o.now
+CutOff o = IsCutOff (Due o.loads o.words o.book) o.before o.now
 
 -- the count of the name of file i rose
 abbrev pub RoseFor : Outcome → ℕ → Type 0
@@ -45,6 +46,7 @@ pub record Ran (o : Outcome) (rose : Type 0) : Type 0 where
   pub load_failed : o.status ≡ 3 → LoadRow o
   pub put_failed : o.status ≡ 4 → rose
   pub cut_off : o.status ≡ 4 → CutOff o
+  pub decided : DecidedRow o
 
 -- ---- what isn't asked for
 

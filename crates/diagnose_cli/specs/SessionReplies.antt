@@ -1,16 +1,20 @@
 -- What a session says: the replies to its rows, and how it ends.
-use Rattle.std.specs.Prelude.{◌≡◌, ◌⊎◌, ℕ, ⊤, List, [], ◌∷◌, ◌++◌, flat_map}
+use Rattle.std.specs.Prelude.{◌≡◌, ◌⊎◌, ◌≤◌, ◌^◌, ℕ, ⊤, List, [], ◌∷◌, ◌++◌, flat_map}
 use Rattle.alarm_session.specs.Rows.{HasCarriedOut, IsLeftUndone, IsRowTold, after_row}
 use Rattle.alarm_session.specs.Session.{Stage}
 use Rattle.alarm_session.specs.Refusals.{refusal_number}
 use Rattle.alarm_session.specs.declared.rows.Told.{Told}
 use Rattle.alarm_session.specs.declared.rows.Told.TheVariants.{Made, Refused, Answered}
 use Rattle.des_net.specs.Network.{Net}
+use Rattle.least_faults.specs.declared.answer.Found.{Found}
+use Rattle.least_faults.specs.declared.answer.Found.TheVariants.{Undecided}
 use Rattle.log_order.specs.Log.{Log as AlarmLog, no_log}
 use Rattle.log_csv.specs.declared.row.Row.{Row}
 use Rattle.proof_ledger.specs.Book.{BookEntry}
+use Rattle.replay.specs.QuestionSize.{variable_bound}
 use Rattle.report.specs.Replies.{text_of_found, text_of_refused}
-use Rattle.diagnose_cli.specs.Transcripts.{finished, cut, broken, Transcript, replies, whole}
+use Rattle.diagnose_cli.specs.declared.ending.Kind.TheVariants.{Done}
+use Rattle.diagnose_cli.specs.Transcripts.{End, said, cut, broken, Transcript}
 use Rattle.diagnose_cli.specs.Replies.{RunReplays}
 
 -- the replies to a row that told this: none where an addition was made
@@ -30,11 +34,28 @@ abbrev pub RunsReplay : Net → ℕ → AlarmLog → List Row → List Told → 
 RunsReplay net n alarms (row ∷ rows) (told ∷ others) = TellsReplaying net alarms n told × RunsReplay net n (after_row net n alarms row) rows others
 RunsReplay net n alarms _ _ = ⊤
 
+-- an answer that isn't left open
+abbrev pub IsDecided : Found → Type 0
+IsDecided (Undecided lo best) = ⊥
+IsDecided _ = ⊤
+
+-- a budget of 3 to the number of variables that network, log and n allow decides what a row asks
+abbrev pub TellsDecided : Net → AlarmLog → ℕ → ℕ → Told → Type 0
+TellsDecided net alarms n budget Made = ⊤
+TellsDecided net alarms n budget (Refused refusal) = ⊤
+TellsDecided net alarms n budget (Answered found) = 3 ^ variable_bound net alarms n ≤ budget → IsDecided found
+
+-- so it is with each row and the log of the rows before it
+abbrev pub AreDecided : Net → ℕ → ℕ → AlarmLog → List Row → List Told → Type 0
+AreDecided net n budget alarms (row ∷ rows) (told ∷ others) = TellsDecided net alarms n budget told × AreDecided net n budget (after_row net n alarms row) rows others
+AreDecided net n budget alarms _ _ = ⊤
+
 -- A session carried out these rows one after another, and came so far. These are their replies, one after another.
 pub record HasReplies (net : Net) (n budget : ℕ) (rows : List Row) (left : Stage) (texts : List (List ℕ)) : Type 0 where
   pub told : List Told
   pub carried : HasCarriedOut net n budget rows left told
   pub replays : RunsReplay net n no_log rows told
+  pub decided : AreDecided net n budget no_log rows told
   pub are : texts ≡ flat_map (replies_to net n) told
 
 -- The row was carried out, a run that it told replays, and this is its reply.
@@ -44,9 +65,9 @@ pub record IsRowReplied (net : Net) (n budget : ℕ) (old : Stage) (row : Row) (
   pub replays : TellsReplaying net old.log n told
   pub is : replies_to net n told ≡ reply ∷ []
 
--- The row has a reply that isn't told, since memory was wanting for its text; or memory was wanting before that, and the row is left undone.
+-- The row has a reply that isn't told, since it ran out of memory for its text; or it ran out before that, and the row is left undone. Either way the book is that of a session.
 abbrev pub IsUntold : Net → ℕ → ℕ → Row → Stage → Stage → Type 0
-IsUntold net n budget row old new = ((reply : List ℕ) × IsRowReplied net n budget old row new reply) ⊎ IsLeftUndone budget old row new
+IsUntold net n budget row old new = ((reply : List ℕ) × IsRowReplied net n budget old row new reply) ⊎ IsLeftUndone net n budget old row new
 
 -- A session over these rows came to one of them: those before it brought it to this stage, and these are their replies.
 pub record ComesTo (net : Net) (n budget : ℕ) (rows : List Row) (row : Row) (left : Stage) (texts : List (List ℕ)) : Type 0 where
@@ -82,9 +103,12 @@ pub record IsBroken (net : Net) (n budget : ℕ) (rows : List Row) (book : List 
   pub untold : IsUntold net n budget row left end
   pub book_is : book ≡ end.book
 
--- What a session over these rows may say where it leaves this book, by how it ends: the replies to all rows, or to those that it came to.
+-- by how it ends: the replies to all rows, which is a yes whatever they say, or to those that it came to
+abbrev pub EndsSession : Net → ℕ → ℕ → List Row → List BookEntry → List (List ℕ) → End → Type 0
+EndsSession net n budget rows book texts (said kind) = (kind ≡ Done) × IsFinished net n budget rows book texts
+EndsSession net n budget rows book texts cut = IsCut net n budget rows book texts
+EndsSession net n budget rows book texts broken = IsBroken net n budget rows book texts
+
+-- what a session over these rows may say where it leaves this book
 abbrev pub IsSession : Net → ℕ → ℕ → List Row → List BookEntry → Transcript → Type 0
-IsSession net n budget rows book (whole reply) = ⊥
-IsSession net n budget rows book (replies texts finished) = IsFinished net n budget rows book texts
-IsSession net n budget rows book (replies texts cut) = IsCut net n budget rows book texts
-IsSession net n budget rows book (replies texts broken) = IsBroken net n budget rows book texts
+IsSession net n budget rows book told = EndsSession net n budget rows book told.texts told.end

@@ -13,7 +13,7 @@ use Rattle.report.specs.Replies.{EventsKnown}
 use Rattle.diagnose_cli.specs.declared.session_rows.Broken.{Broken}
 use Rattle.diagnose_cli.specs.declared.session_rows.Broken.TheVariants.{Memory, Put}
 use Rattle.diagnose_cli.specs.SessionReplies.{IsSession, IsUntold, TellsReplaying, replies_to}
-use Rattle.diagnose_cli.specs.Transcripts.{Ending, OrMemory}
+use Rattle.diagnose_cli.specs.Transcripts.{Ending}
 
 -- ---- one row
 
@@ -65,9 +65,9 @@ RowGoes net n budget old row new before now rose (Err Put) = rose × IsRowPut ne
 
 -- ---- all rows
 
--- What a session may come to that leaves this book. Where memory is wanting before it has begun, the book is empty.
+-- what a session may come to that leaves this book
 abbrev pub MaySay : Net → ℕ → ℕ → List Row → List BookEntry → Ending → Type 0
-MaySay net n budget rows book = OrMemory (λ e. IsOkAnd e (IsSession net n budget rows book)) (book ≡ [])
+MaySay net n budget rows book e = IsOkAnd e (IsSession net n budget rows book)
 
 -- its status, by how its rows went
 abbrev pub status_of_session : Result (Unit {0}) Broken → ℕ

@@ -1,28 +1,44 @@
--- What a command says: texts that are put one after the other, and how it ends.
-use Rattle.std.specs.Prelude.{◌≡◌, ◌≢◌, ℕ, List, ◌++◌, take, Option, Some, IfSome, Result, Ok, Err}
-use Rattle.std.specs.List.{concat}
+-- What a command says, in one form for all: texts that are put one after the other, and how it ends.
+use Rattle.std.specs.Prelude.{◌≡◌, ◌≢◌, ⊤, ℕ, List, [], ◌∷◌, Result, Ok, Err}
 use Rattle.diagnose_cli.specs.declared.ending.Kind.{Kind}
 use Rattle.diagnose_cli.specs.declared.stop.Stop.{Stop}
 use Rattle.diagnose_cli.specs.declared.stop.Stop.TheVariants.{Memory}
 
--- how a session ends: all its rows are carried out, the last of its replies can't be put whole, or memory is wanting
+-- how a command ends that says something: with a last text of this kind, with a last text that can't be put whole, or out of memory behind its texts
 pub data End : Type 0 where
-  finished : End
+  said : Kind → End
   cut : End
   broken : End
 
--- what a command says: the one reply that it has, or the replies of a session and how that ends
-pub data Transcript : Type 0 where
-  whole : (Kind × List ℕ) → Transcript
-  replies : List (List ℕ) → End → Transcript
+-- texts that are put one after the other, and how it ends; where it is cut the last text is the one that can't be put whole
+pub record Transcript : Type 0 where
+  pub texts : List (List ℕ)
+  pub end : End
 
 -- a command says something, or stops before it can
 abbrev pub Ending : Type 0
 Ending = Result Transcript Stop
 
+-- a command with one reply ends with one of this kind, or with one that can't be put whole
+abbrev pub EndsOne : Kind → End → Type 0
+EndsOne kind (said other) = other ≡ kind
+EndsOne kind cut = ⊤
+EndsOne kind broken = ⊥
+
 -- one reply of which P holds
-abbrev pub IsWhole : ((Kind × List ℕ) → Type 0) → Transcript → Type 0
-IsWhole P told = (reply : Kind × List ℕ) × P reply × (told ≡ whole reply)
+pub record IsOne (P : (Kind × List ℕ) → Type 0) (told : Transcript) : Type 0 where
+  pub reply : Kind × List ℕ
+  pub says : P reply
+  pub alone : told.texts ≡ reply.1 ∷ []
+  pub ends : EndsOne reply.0 told.end
+
+-- the transcript of one reply that is put whole
+abbrev pub whole : (Kind × List ℕ) → Transcript
+whole reply = record { texts = reply.1 ∷ []; end = said reply.0 }
+
+-- the transcript of one reply that can't be put whole
+abbrev pub cut_short : (Kind × List ℕ) → Transcript
+cut_short reply = record { texts = reply.1 ∷ []; end = cut }
 
 -- the ending of a command that has one reply: this reply, or why there is none
 abbrev pub once : Result (Kind × List ℕ) Stop → Ending
@@ -37,7 +53,3 @@ UnlessMemory e P = e ≢ Err Memory → P
 pub record OrMemory (may : Ending → Type 0) (Q : Type 0) (e : Ending) : Type 0 where
   pub says : UnlessMemory e (may e)
   pub wanting : e ≡ Err Memory → Q
-
--- these texts were taken, and then a front of one more
-abbrev pub TookCut : Option (List ℕ) → Option (List ℕ) → List (List ℕ) → List ℕ → Type 0
-TookCut before now texts next = IfSome before (λ b. (count : ℕ) × (now ≡ Some ((b ++ concat texts) ++ take count next)))

@@ -1,8 +1,9 @@
 // How a command ends: its reply, or why it has none, and what is put then.
-ghost use Rattle.std.specs.Prelude.{◌≡◌, [], ◌∷◌, IfOk, Ok, Err};
+ghost use Rattle.std.specs.Prelude.{◌≡◌, ◌≢◌, [], ◌∷◌, IfOk, OnOk, Ok, Err};
 ghost use Rattle.des_base.specs.Outside.{Rose};
 ghost use Rattle.diagnose_cli.specs.Transcripts.{once};
 ghost use Rattle.diagnose_cli.specs.Puts.{Puts};
+ghost use Rattle.diagnose_cli.specs.declared.stop.Stop.TheVariants.{Memory as NoMemory};
 ghost use Rattle.diagnose_cli.specs.Endings.{HasStatus, texts_of, status_of_kind};
 
 use crate::stop::{Stop, status_of_stop, text_of_stop};
@@ -64,8 +65,8 @@ impl Reply {
     }
 }
 
-/// Puts the text of an ending, and answers its status.
-#[tactic(auto, using(crate::proofs::Once::nothing_taken, crate::proofs::Once::one_text))]
+/// Puts the text of an ending, and answers its status. Out of memory it puts nothing.
+#[tactic(auto, using(telling::proofs::Taking::nothing_taken, crate::proofs::Once::one_text))]
 pub fn put_once<S: Sink>(alloc: Global, ending: Result<Reply, Stop>, out: &mut S) -> u8
     ensures { Puts (once ending) (S.taken out.old) (S.taken out.new) (Rose (S.faults out.old) (S.faults out.new)) result }
 {
@@ -78,13 +79,15 @@ pub fn put_once<S: Sink>(alloc: Global, ending: Result<Reply, Stop>, out: &mut S
     }
 }
 
-// The status of an ending and its text.
+// The status of an ending and its text, but for want of memory.
 fn told(alloc: Global, ending: Result<Reply, Stop>) -> Result<(u8, Vec<u8>), Memory>
     ensures status { IfOk result (λ r. HasStatus (once ending) r.0) }
     ensures text { IfOk result (λ r. texts_of (once ending) ≡ r.1.items ∷ []) }
+    ensures memory { OnOk result (once ending ≢ Err NoMemory) }
 {
     match ending {
         Ok(reply) => Ok((status_of_kind(reply.kind), reply.text)),
+        Err(Stop::Memory) => Err(Memory),
         Err(stop) => Ok((status_of_stop(stop), text_of_stop(alloc, stop)?)),
     }
 }

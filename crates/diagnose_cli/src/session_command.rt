@@ -3,12 +3,11 @@ ghost use Rattle.std.specs.Prelude.{◌≡◌, ◌<◌, ◌≤◌, ℕ, List, []
 ghost use Rattle.des_base.specs.Outside.{Rose};
 ghost use Rattle.des_base.specs.declared.TheConstants.{MOST_STEPS};
 ghost use Rattle.diagnose_cli.specs.Commands.{command_of};
-ghost use Rattle.diagnose_cli.specs.Due.{Closes, MayCome};
+ghost use Rattle.diagnose_cli.specs.Due.{Closes, Due, HasNotBegun};
 ghost use Rattle.diagnose_cli.specs.Files.{loads};
 ghost use Rattle.diagnose_cli.specs.Puts.{Speaks};
 ghost use Rattle.diagnose_cli.specs.Run.{SaysStop};
 ghost use Rattle.diagnose_cli.specs.Sessions.{MaySay, status_of_session};
-ghost use Rattle.diagnose_cli.specs.Transcripts.{OrMemory};
 ghost use Rattle.indep.specs.StoredTest.{IsTest};
 ghost use Rattle.log_csv.specs.ScriptText.{script_of};
 ghost use Rattle.model_text.specs.ModelFaults.{network_of};
@@ -44,7 +43,7 @@ pub fn session_command<F: Shelf, S: Sink>(
     requires words { 2 < length words.now }
     requires steps { limits.steps ≤ MOST_STEPS }
     requires empty { book.old.entries ≡ [] }
-    ensures speaks { Speaks (MayCome (loads F.held F.faults shelf.old shelf.new) words.now book.new.entries) (S.taken out.old) (S.taken out.new) (Rose (S.faults out.old) (S.faults out.new)) result }
+    ensures speaks { Speaks (Due (loads F.held F.faults shelf.old shelf.new) words.now book.new.entries) (HasNotBegun words.now book.new.entries) (S.taken out.old) (S.taken out.new) (Rose (S.faults out.old) (S.faults out.new)) result }
     ensures stopped { SaysStop result → book.new ≡ book.old }
 {
     match fetch_plan(alloc, words, shelf, limits) {
@@ -57,7 +56,7 @@ pub fn session_command<F: Shelf, S: Sink>(
 fn carry_out<S: Sink>(alloc: Global, plan: &Plan, out: &mut S, book: &mut Ledger) -> u8
     requires steps { plan.now.limits.steps ≤ MOST_STEPS }
     requires empty { book.old.entries ≡ [] }
-    ensures speaks { (text lines : List ℕ) → plan.now.net ≡ network_of text → plan.now.script ≡ script_of lines → Speaks (OrMemory (Closes (Command.Session plan.now.limits.steps plan.now.limits.budget) book.new.entries (text ∷ lines ∷ [])) (book.new.entries ≡ [])) (S.taken out.old) (S.taken out.new) (Rose (S.faults out.old) (S.faults out.new)) result }
+    ensures speaks { (text lines : List ℕ) → plan.now.net ≡ network_of text → plan.now.script ≡ script_of lines → Speaks (Closes (Command.Session plan.now.limits.steps plan.now.limits.budget) book.new.entries (text ∷ lines ∷ [])) (book.new.entries ≡ []) (S.taken out.old) (S.taken out.new) (Rose (S.faults out.old) (S.faults out.new)) result }
     ensures stopped { SaysStop result → book.new ≡ book.old }
 {
     let size = question_size(&plan.net, &AlarmLog::new(alloc), plan.limits.steps);
@@ -87,7 +86,7 @@ fn carry_out_rows<S: Sink>(
 ) -> Result<(), Broken>
     requires steps { plan.now.limits.steps ≤ MOST_STEPS }
     requires empty { book.old.entries ≡ [] }
-    ensures { Speaks (MaySay plan.now.net plan.now.limits.steps plan.now.limits.budget plan.now.script book.new.entries) (S.taken out.old) (S.taken out.new) (Rose (S.faults out.old) (S.faults out.new)) (status_of_session result) }
+    ensures { Speaks (MaySay plan.now.net plan.now.limits.steps plan.now.limits.budget plan.now.script book.new.entries) (book.new.entries ≡ []) (S.taken out.old) (S.taken out.new) (Rose (S.faults out.old) (S.faults out.new)) (status_of_session result) }
 {
     let table = Table::new(alloc, &plan.net)?;
     let test = Indep::new(&plan.net, |a: u32, b: u32| {
@@ -108,7 +107,7 @@ fn carry_out_by_test<T: Fn(u32, u32) -> bool, S: Sink>(
     requires net { test.now.net ≡ plan.now.net }
     requires steps { plan.now.limits.steps ≤ MOST_STEPS }
     requires empty { book.old.entries ≡ [] }
-    ensures { Speaks (MaySay plan.now.net plan.now.limits.steps plan.now.limits.budget plan.now.script book.new.entries) (S.taken out.old) (S.taken out.new) (Rose (S.faults out.old) (S.faults out.new)) (status_of_session result) }
+    ensures { Speaks (MaySay plan.now.net plan.now.limits.steps plan.now.limits.budget plan.now.script book.new.entries) (book.new.entries ≡ []) (S.taken out.old) (S.taken out.new) (Rose (S.faults out.old) (S.faults out.new)) (status_of_session result) }
 {
     let first = step_variables(alloc, &plan.net, plan.limits.steps, test)?;
     let order = Order::new(alloc, |var: u32| u64::from(var >= first));
@@ -130,7 +129,7 @@ fn carry_out_by_order<T: Fn(u32, u32) -> bool, R: Fn(u32) -> u64, S: Sink>(
     requires no_variables { order.waiting ≡ [] }
     requires steps { plan.now.limits.steps ≤ MOST_STEPS }
     requires empty { book.old.entries ≡ [] }
-    ensures { Speaks (MaySay plan.now.net plan.now.limits.steps plan.now.limits.budget plan.now.script book.new.entries) (S.taken out.old) (S.taken out.new) (Rose (S.faults out.old) (S.faults out.new)) (status_of_session result) }
+    ensures { Speaks (MaySay plan.now.net plan.now.limits.steps plan.now.limits.budget plan.now.script book.new.entries) (book.new.entries ≡ []) (S.taken out.old) (S.taken out.new) (Rose (S.faults out.old) (S.faults out.new)) (status_of_session result) }
 {
     let own = mem::replace(book, Ledger::new(alloc));
     match Session::new(alloc, &plan.net, plan.limits.steps, test, order, own) {

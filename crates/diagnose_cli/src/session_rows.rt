@@ -1,5 +1,5 @@
 // The rows of a script, carried out one after another, each with its reply.
-ghost use Rattle.std.specs.Prelude.{◌≡◌, ◌≢◌, ◌≤◌, IfOk, OnErr, option_map};
+ghost use Rattle.std.specs.Prelude.{◌≡◌, ◌≢◌, ◌≤◌, [], IfOk, OnErr, option_map};
 ghost use Rattle.std.specs.Option.{option_to_list};
 ghost use Rattle.alarm_session.specs.Session.{BeginsAs, KeepsSetting};
 ghost use Rattle.alarm_session.specs.declared.rows.Told.TheVariants.{Made as NothingTold};
@@ -56,7 +56,7 @@ pub fn tell_rows<R: Fn(u32) -> u64, S: Sink>(
     requires begins { BeginsAs plan.now.net plan.now.limits.steps session.old.order.rank session.old }
     requires ranked { IsRanked R.pre R.post session.old.order }
     requires steps { plan.now.limits.steps ≤ MOST_STEPS }
-    ensures { Speaks (MaySay plan.now.net plan.now.limits.steps plan.now.limits.budget plan.now.script session.new.stage.book) (S.taken out.old) (S.taken out.new) (Rose (S.faults out.old) (S.faults out.new)) (status_of_session result) }
+    ensures { Speaks (MaySay plan.now.net plan.now.limits.steps plan.now.limits.budget plan.now.script session.new.stage.book) (session.new.stage.book ≡ []) (S.taken out.old) (S.taken out.new) (Rose (S.faults out.old) (S.faults out.new)) (status_of_session result) }
 {
     // Its reader tells that the book asks about the empty log.
     let _book = session.book();

@@ -15,7 +15,7 @@ returns-then-size-gt-MOST_SIZE-clause-speaks g c text lines of_net of_script =
     let budget = c.args.plan.now.limits.budget in
     let book = c.args.book.now.entries in
     speaks_once (Closes (Session steps budget) book (text ∷ lines ∷ [])) (book ≡ []) c.requires.empty (Err (Large c.question_size-size.result)) _ _ _ _
-    (λ never. empty_too_large steps budget book c.args.plan.now.net c.args.plan.now.script text lines of_net of_script c.question_size-size.result (c.question_size-size.ensures.size ∙ ap (λ (l : Log). question_size c.args.plan.now.net l steps) c.new.ensures) (omega (arith, c.if-size-gt-MOST_SIZE.true))) c.put_once.ensures
+    (λ never. empty_too_large steps budget book c.args.plan.now.net c.args.plan.now.script text lines of_net of_script c.question_size-size.result (c.question_size-size.ensures.size ∙ ap (λ (l : Log). question_size c.args.plan.now.net l steps) c.new.ensures) (omega (arith, c.if-size-gt-MOST_SIZE.true))) c.put_once.ensures tt
 
 pub returns-clause-speaks : goal.returns-clause-speaks
 returns-clause-speaks g c text lines of_net of_script =

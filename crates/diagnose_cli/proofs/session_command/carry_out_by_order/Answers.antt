@@ -1,5 +1,5 @@
 -- By the session, whose book is put back.
-use Rattle.std.proofs.Common.{List, subst, sym}
+use Rattle.std.proofs.Common.{◌≡◌, [], List, subst, sym}
 use Rattle.des_base.specs.Outside.{Rose}
 use Rattle.proof_ledger.specs.Book.{BookEntry}
 use Rattle.diagnose_cli.specs.Puts.{Speaks}
@@ -16,7 +16,7 @@ returns-in-Ok g c =
     let now = g.S.Sink.taken c.tell_rows-said.new.out in
     let rose = Rose (g.S.Sink.faults c.args.out.now) (g.S.Sink.faults c.tell_rows-said.new.out) in
     let said = c.tell_rows-said.result in
-    subst (λ (book : List BookEntry). Speaks (MaySay net n budget c.args.plan.now.script book) before now rose (status_of_session said)) (sym c.into_book.ensures) c.tell_rows-said.ensures
+    subst (λ (book : List BookEntry). Speaks (MaySay net n budget c.args.plan.now.script book) (book ≡ []) before now rose (status_of_session said)) (sym c.into_book.ensures) c.tell_rows-said.ensures
 
 pub returns-in-Err : goal.returns-in-Err
 returns-in-Err g c = broke_before _ _ (let new = c.new.ensures in cc) _ _

@@ -1,13 +1,19 @@
 -- By what the row told, and what became of its reply.
 use Rattle.std.proofs.Common.{subst}
-use Rattle.alarm_session.specs.Rows.{IsRowTold}
+use Rattle.alarm_session.specs.Rows.{IsLeftUndone, IsRowTold}
 use Rattle.log_order.specs.Adding.{IsLog}
 use Rattle.diagnose_cli.proofs.SessionFronts.{carried, row_goes, row_known, row_lost, same_setting}
 use Rattle.diagnose_cli.proofs.session_rows.tell_row.Goals as goal
 
 pub returns-in_err-told-clause-goes : goal.returns-in_err-told-clause-goes
 returns-in_err-told-clause-goes g c =
-    row_lost c.args.plan.now.net c.args.plan.now.limits.steps c.args.plan.now.limits.budget c.args.session.now.stage c.args.row.now c.carry_out.new.self.stage _ _ _ c.from_residual.ensures.1 c.in_err-told.ensures.undone
+    let session = c.args.session.now in
+    let later = c.carry_out.new.self.stage in
+    let net = c.args.plan.now.net in
+    let n = c.args.plan.now.limits.steps in
+    let budget = c.args.plan.now.limits.budget in
+    let undone = same_setting (λ m k. IsLeftUndone m k budget session.stage c.args.row.now later) session.net net session.steps n c.requires.net c.requires.time c.in_err-told.ensures.undone in
+    row_lost net n budget session.stage c.args.row.now later _ _ _ c.from_residual.ensures.1 undone
 
 pub put_replies-requires : goal.put_replies-requires
 put_replies-requires g c =

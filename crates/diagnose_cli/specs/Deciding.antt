@@ -1,0 +1,21 @@
+-- A budget that decides each question.
+use Rattle.std.specs.Prelude.{◌≢◌, ℕ, ◌^◌, ◌≤◌, List, [], ◌∷◌}
+use Rattle.gen_plant.specs.Plant.{plant_net, plant_log}
+use Rattle.log_csv.specs.LogText.{log_of}
+use Rattle.model_text.specs.ModelFaults.{network_of}
+use Rattle.replay.specs.QuestionSize.{variable_bound}
+use Rattle.diagnose_cli.specs.declared.command.Command.{Command}
+use Rattle.diagnose_cli.specs.declared.command.Command.TheVariants.{Diagnose, PrintProof, Bench}
+use Rattle.diagnose_cli.specs.Outcomes.{Outcome}
+use Rattle.diagnose_cli.specs.Rows.{Asks}
+
+-- the budget of a command that asks one question is at least 3 to the number of variables that network, log and steps allow
+abbrev pub Suffices : Command → List (List ℕ) → Type 0
+Suffices (Diagnose steps budget) (text ∷ alarms ∷ []) = 3 ^ variable_bound (network_of text) (log_of alarms) steps ≤ budget
+Suffices (PrintProof steps budget) (text ∷ alarms ∷ []) = 3 ^ variable_bound (network_of text) (log_of alarms) steps ≤ budget
+Suffices (Bench units start steps budget) [] = 3 ^ variable_bound (plant_net units) (plant_log units start) steps ≤ budget
+Suffices _ _ = ⊥
+
+-- over whatever bytes the shelf tells, such a budget decides: the status isn't that of a question left open
+abbrev pub DecidedRow : Outcome → Type 0
+DecidedRow o = (c : Command) (texts : List (List ℕ)) → Asks o c texts → Suffices c texts → o.status ≢ 11
