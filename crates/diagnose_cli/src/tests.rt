@@ -9,13 +9,15 @@ use std::process::Abort;
 use std::test::Fail;
 
 // A valve that jams, unseen, which is a fault; then it trips. Of another plant a later alarm tells that there was no fault.
-const FILES: [(&str, &str); 5] = [
+const FILES: [(&str, &str); 7] = [
     (
         "valve",
         "des 1\ncomponent p\nstate ok init\nstate bad\nstate off\ntrans ok jam bad\ntrans bad trip off\nevent jam fault : p.jam\nevent trip alarm T : p.trip\n",
     ),
     ("tripped", "alarm,a1,T\n"),
-    ("both", "run 2\njam\ntrip a1\n"),
+    ("reply", "EXPLAINED 1\nrun 2\njam\ntrip a1\n"),
+    ("formula", "p cnf 2 4\n1 2 0\n-1 2 0\n1 -2 0\n-1 -2 0\n"),
+    ("steps", "5 2 0 1 2 0\n6 0 5 3 4 0\n"),
     (
         "excusing",
         "des 1\ncomponent c\nstate s0 init\nstate s1\nstate s2\ntrans s0 y s1\ntrans s1 x s2\ntrans s0 f s1\nevent ey alarm B : c.y\nevent ex alarm A : c.x\nevent ef fault : c.f\n",
@@ -58,10 +60,10 @@ fn status_of(
 }
 
 // Words, the load that fails, the status and the text that is put.
-const LOADS: [(&str, u32, u8, &str); 9] = [
-    ("trace valve both", 3, 0, "RAN 1\n"),
-    ("trace valve both", 2, 3, "LOAD 2\n"),
-    ("trace valve both", 1, 3, "LOAD 1\n"),
+const LOADS: [(&str, u32, u8, &str); 16] = [
+    ("trace valve reply", 3, 0, "RAN 1\n"),
+    ("trace valve reply", 2, 3, "LOAD 2\n"),
+    ("trace valve reply", 1, 3, "LOAD 1\n"),
     (
         "diagnose valve tripped 2 1000",
         3,
@@ -78,6 +80,13 @@ const LOADS: [(&str, u32, u8, &str); 9] = [
     ),
     ("session excusing rows 2 1000", 2, 3, "LOAD 2\n"),
     ("session excusing rows 2 1000", 1, 3, "LOAD 1\n"),
+    ("replay valve tripped reply 2", 4, 0, "ACCEPTED 1\n"),
+    ("replay valve tripped reply 2", 3, 3, "LOAD 3\n"),
+    ("replay valve tripped reply 2", 2, 3, "LOAD 2\n"),
+    ("replay valve tripped reply 2", 1, 3, "LOAD 1\n"),
+    ("check formula steps", 3, 0, "VERIFIED\n"),
+    ("check formula steps", 2, 3, "LOAD 2\n"),
+    ("check formula steps", 1, 3, "LOAD 1\n"),
 ];
 
 #[test]
@@ -95,12 +104,14 @@ fn loads_fail(rt: HostRuntime) {
 }
 
 // Words after which there is something to tell.
-const TOLD: [&str; 5] = [
-    "trace valve both",
+const TOLD: [&str; 7] = [
+    "trace valve reply",
     "trace valve tripped",
     "trace valve absent",
     "tracer",
     "diagnose valve tripped 2 1000",
+    "replay valve tripped reply 2",
+    "check formula steps",
 ];
 
 #[test]
