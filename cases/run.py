@@ -1,14 +1,13 @@
-"""Runs the cases of files against the program, and tells each answer that isn't the one that is written down.
+"""Runs the cases of files against the program, and prints each answer that isn't the one that is written down.
 
     python3 cases/run.py [--tell] PROGRAM [FOLDER..]
 
 PROGRAM is the compiled program, which `rt run` and `rt ci` leave as crates/diagnose_cli/out/diagnose_cli. A case is a folder with the
 files of a plant and answers.txt; with no FOLDER all in cases/ are run. answers.txt is a transcript: a line `$ WORDS`, what the
-program prints on these words (as a shell reads them), a line `status N`, and an empty line; lines before a `$` are comments. The
-commands run one after another in a copy of the folder, where make.py, if there is one, has made further files. A line `...` stands for
-whatever lines the program prints there. An answer that has a run stands in the file reply.run for the commands that follow, and one
-that is a formula in reply.cnf, or a refutation in reply.lrat. With --tell the transcript of what the program answers is printed,
-and nothing is compared.
+program prints on these words (as a shell reads them, redirections too), a line `status N`, and an empty line; lines before a `$` are
+comments. The commands run one after another in a copy of the folder, where make.py, if there is one, has made further files. So a
+command may read what an earlier one wrote by a redirection, and nothing else is written there. A line `...` stands for
+whatever lines the program prints there. With --tell the transcript of what the program answers is printed, and nothing is compared.
 
 Status 0: every answer is the one that is written down, 1: some isn't, 2: it could not begin.
 """
@@ -23,8 +22,6 @@ HERE = os.path.dirname(os.path.abspath(__file__))
 SECONDS = 120
 # What stands between a command and the next one.
 STATUS = re.compile(rb"status (\d+)\n")
-# The files in which answers stand for later commands, and what such an answer has.
-REPLIES = [("reply.run", re.compile(rb"^run \d+\n", re.M)), ("reply.cnf", re.compile(rb"\Ap cnf ")), ("reply.lrat", re.compile(rb"\Ac cnf "))]
 
 
 class Faulty(Exception):
@@ -68,10 +65,6 @@ def told(program, words, at):
         ran = subprocess.run(["sh", "-c", line], cwd=at, env=variables, stdin=subprocess.DEVNULL, stdout=subprocess.PIPE, timeout=SECONDS)
     except subprocess.TimeoutExpired:
         return f"no answer within {SECONDS} seconds\n".encode()
-    for name, shape in REPLIES:
-        if shape.search(ran.stdout):
-            with open(os.path.join(at, name), "wb") as it:
-                it.write(ran.stdout)
     status = ran.returncode if ran.returncode >= 0 else 128 - ran.returncode
     return ran.stdout + f"status {status}\n".encode()
 

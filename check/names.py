@@ -2,8 +2,8 @@
 
     python3 check/names.py
 
-A name is what README.md and docs/ put between backticks, where it looks like one of code or definitions: with an underscore, with
-two colons, or with a capital and small letters. It stands where each of its words is one of the texts of the crates, or a file's name.
+A name is what README.md, CONTRIBUTING.md and the pages of docs/ and examples/ put between backticks, where it looks like one of code or definitions: with an
+underscore, with two colons, or with a capital and small letters. It stands where each of its words is one of the texts of the crates, or a file's name.
 """
 import glob
 import os
@@ -11,6 +11,7 @@ import re
 import sys
 
 TOP = os.path.dirname(os.path.dirname(os.path.abspath(__file__)))
+PAGES = ["README.md", "CONTRIBUTING.md", "docs/*.md", "examples/README.md", "examples/*/README.md"]
 CITED = re.compile(r"`([^`\n]+)`")
 NAME = re.compile(r"(?:[A-Za-z_][A-Za-z0-9_]*(?:::|\.))*[A-Za-z_][A-Za-z0-9_-]*")
 WORD = re.compile(r"[A-Za-z_][A-Za-z0-9_]*")
@@ -24,7 +25,7 @@ def is_name(cited):
 def known_words():
     """All words of code, definitions, proofs and scripts, and of the names of files."""
     words = set()
-    for pattern in ("crates/*/src", "crates/*/specs", "crates/*/proofs", "bench", "check", "cases", "examples", ".ci"):
+    for pattern in ("crates/*/src", "crates/*/specs", "crates/*/proofs", "bench", "check", "cases", "docs", "examples", "tools", ".ci"):
         for folder in glob.glob(os.path.join(TOP, pattern)):
             for path, _, files in os.walk(folder):
                 words.update(WORD.findall(path))
@@ -39,7 +40,7 @@ def known_words():
 
 def main():
     words, absent = known_words(), 0
-    for document in [os.path.join(TOP, "README.md")] + sorted(glob.glob(os.path.join(TOP, "docs", "*.md"))):
+    for document in sorted(it for pattern in PAGES for it in glob.glob(os.path.join(TOP, pattern))):
         with open(document, encoding="utf-8") as it:
             lines = it.read().split("\n")
         for number, line in enumerate(lines, 1):

@@ -1,103 +1,167 @@
-"""Looks whether each answer that the tutorial, the pages and the top README quote stands in answers.txt, and tells those that don't.
-It looks too whether each timeline of a page has the events of a run that stands there or in the page's folder.
+"""Runs the commands of the top README, the documents and the pages as they stand there, and prints each answer that isn't the one that the page quotes.
 
-    python3 examples/quoted.py
+    python3 examples/quoted.py PROGRAM [PAGE..]
 
-An answer is a fenced block behind an indented command of the program, or behind the answer before it; in the top README it is an
-indented block that begins as a reply with a run does. A timeline has the lines of a run in their order, each with ` (fault)` behind it where
-its event is a fault of the model, in steps no two events of which touch a common component.
+PROGRAM is the compiled program, which `rt run` and `rt ci` leave as crates/diagnose_cli/out/diagnose_cli. With no PAGE, those that have commands are
+read. The commands of a page are those of its blocks that are fenced as sh or indented. One shell runs them from top to bottom, redirections and all, at the
+top of a copy of what the pages name; so no command finds a file that the page doesn't have written. What the commands of a block print must be the fenced
+blocks that follow it at once, one after the other, where a line `...` stands for whatever lines. So a timeline of a page is what tools/timeline.py prints.
+A reply that is printed by itself must have its exit status. Each other fenced block without a kind must stand in a file of the examples.
+Left out are blocks that prove or build; they begin with a command of KIT.
+
+Status 0: every answer is the one that is quoted, 1: some isn't, 2: it could not begin.
 """
 import glob
 import os
 import re
+import shutil
+import subprocess
 import sys
-import textwrap
+import tempfile
 
-HERE = os.path.dirname(os.path.abspath(__file__))
-PAGES = ["../docs/tutorial.md", "propulsion/README.md", "feeder/README.md", "ring/README.md", "grid/README.md"]
-COMMAND = re.compile(r"    rt run -- (trace|show|diagnose|replay|check|cnf|proof|session) ")
+TOP = os.path.dirname(os.path.dirname(os.path.abspath(__file__)))
+BUILT = "crates/diagnose_cli/out/diagnose_cli"
+COPIED = ["bench", "cases", "check", "docs", "examples", "tools"]
+PAGES = ["README.md", "CONTRIBUTING.md", "docs/tutorial.md", "docs/scripts.md", "examples/*/README.md"]
+KIT = re.compile(r"(?:rt|cd crates|git|\.ci/run|python3 examples/quoted\.py)\b")
+SECONDS = 600
+STATUSES = {"EXPLAINED": 0, "RAN": 0, "ACCEPTED": 0, "VERIFIED": 0, "des": 0, "p": 0, "c": 0, "units": None, "USAGE": 2, "LOAD": 3, "MODEL": 5, "LOG": 6, "RUN": 7,
+            "CNF": 7, "LRAT": 7, "LONG": 8, "LARGE": 8, "NONE": 10, "UNDECIDED": 11, "MANY": 12, "REJECTED": 13, "NOTHING": 14}
 
 
-def read(name):
-    with open(os.path.join(HERE, name), encoding="utf-8") as f:
-        return f.read()
+def read(path):
+    with open(path, encoding="utf-8") as it:
+        return it.read()
 
 
-def quoted(page):
-    """The answers that a page quotes."""
-    is_next, lines = False, iter(page.split("\n"))
-    for line in lines:
+def blocks(page):
+    """The blocks of a page that are code, each with its kind, `sh` for commands, its text, and whether it follows the block before at once."""
+    found, lines, follows = [], page.split("\n") + [""], False
+    at = 0
+    while at < len(lines):
+        line = lines[at]
         if line.startswith("```"):
-            block = list(iter(lambda: next(lines), "```"))
-            if is_next and line == "```":
-                yield "\n".join(block)
-        elif line:
-            is_next = COMMAND.match(line) is not None
+            end = lines.index("```", at + 1)
+            found.append((line[3:].strip(), "\n".join(lines[at + 1:end]) + "\n", follows))
+            at, follows = end + 1, True
+        elif line.startswith("    ") and (at == 0 or not lines[at - 1]) and not in_list(lines, at):
+            end = next(it for it in range(at, len(lines)) if not lines[it].startswith("    "))
+            found.append(("sh", "".join(it[4:] + "\n" for it in lines[at:end]), follows))
+            at, follows = end, True
+        else:
+            follows = follows and not line
+            at += 1
+    return found
 
 
-def indented(page):
-    """The replies with a run that a page quotes as indented blocks."""
-    blocks = map(textwrap.dedent, re.findall(r"(?:^    .+\n)+", page, flags=re.M))
-    return [it.rstrip("\n") for it in blocks if re.match(r"(EXPLAINED|MANY|UNDECIDED) [\d ]+\nrun ", it)]
+def in_list(lines, at):
+    """Whether an indented line belongs to an item of a list."""
+    before = [it for it in lines[:at] if it and not it.startswith(" ")]
+    return bool(before) and re.match(r"(?:[-*]|\d+\.) ", before[-1]) is not None
 
 
-def events_of(model):
-    """The events of a model text, each with the components that it touches, and those that are faults."""
-    touched, faults = {}, set()
-    for words in map(str.split, model.split("\n")):
-        if words[:1] == ["event"]:
-            head, parts = words[1:words.index(":")], words[words.index(":") + 1:]
-            touched[head[0]] = {part.split(".")[0] for part in parts}
-            if "fault" in head[1:2] + head[3:4]:
-                faults.add(head[0])
-    return touched, faults
+def questions(page):
+    """The blocks of commands of a page, each with the answers that follow it; and the other blocks."""
+    asked, others, answers = [], [], None
+    for kind, text, follows in blocks(page):
+        if kind == "sh":
+            answers = []
+            asked.append((text, answers))
+        elif follows and answers is not None:
+            answers.append(text)
+        else:
+            answers = None
+            others.append((kind, text))
+    return asked, others
 
 
-def timelines(page):
-    """The timelines of a page: each a list of steps, which are lists of lines."""
-    for block in re.findall(r"^```mermaid\ntimeline\n((?:.*\n)*?)```$", page, flags=re.M):
-        yield [line.strip().split(" : ")[1:] for line in block.rstrip("\n").split("\n")]
+def commands(block):
+    """The commands of a block: lines, joined as long as a shell finds them unfinished."""
+    whole, part = [], ""
+    for line in block.splitlines(True):
+        part += line
+        if not part.rstrip("\n").endswith("\\") and not subprocess.run(["sh", "-n", "-c", part], stderr=subprocess.DEVNULL).returncode:
+            whole.append(part)
+            part = ""
+    return whole + [part] if part else whole
 
 
-def is_true(timeline, model, runs):
-    """Whether the timeline is one of the runs, marks the faults, and has steps whose events touch no common component."""
-    touched, faults = events_of(model)
-    lines = [line.removesuffix(" (fault)") for step in timeline for line in step]
-    marked = [line.split()[0] for step in timeline for line in step if line.endswith(" (fault)")]
-    if lines not in runs or marked != [line.split()[0] for line in lines if line.split()[0] in faults]:
-        return False
-    for step in timeline:
-        components = [it for line in step for it in touched.get(line.split()[0], set())]
-        if len(components) != len(set(components)):
-            return False
-    return True
+def prepared(program, room):
+    """A copy of what the pages name, with the program where it is built."""
+    for name in COPIED:
+        shutil.copytree(os.path.join(TOP, name), os.path.join(room, name))
+    os.makedirs(os.path.join(room, os.path.dirname(BUILT)))
+    os.symlink(os.path.abspath(program), os.path.join(room, BUILT))
 
 
-def drawn(page, answers):
-    """Each timeline of a page, and whether it is true."""
-    folder = os.path.dirname(page)
-    runs = [read(os.path.relpath(it, HERE)) for it in glob.glob(os.path.join(HERE, folder, "*.run"))] + sorted(answers)
-    runs = [text.rstrip("\n").split("\n") for text in runs]
-    runs = [lines[at + 1:] for lines in runs for at in range(min(2, len(lines))) if lines[at].startswith("run ")]
-    for timeline in timelines(read(page)):
-        yield timeline, is_true(timeline, read(os.path.join(folder, "model.des")), runs)
+def ran(lists, room):
+    """What each command of each of the lists prints, and its status, where one shell runs all."""
+    mark = "--- the end of a command:"
+    script = f"after() {{ status=$?; printf '%s %d\\n' '{mark}' $status; return $status; }}\n"
+    script += "".join(f"{command}after\n" for listed in lists for command in listed)
+    variables = {"PATH": os.path.dirname(sys.executable) + ":" + os.defpath, "LC_ALL": "C.UTF-8"}
+    try:
+        said = subprocess.run(["sh", "-c", script], cwd=room, env=variables, stdin=subprocess.DEVNULL, stdout=subprocess.PIPE, stderr=subprocess.STDOUT, timeout=SECONDS).stdout
+    except subprocess.TimeoutExpired as cut:
+        said = cut.stdout or b""
+    pieces = re.split(rf"{mark} (\d+)\n", said.decode(errors="replace"))
+    answers = iter(list(zip(pieces[0::2], map(int, pieces[1::2]))))
+    return [[next(answers, ("the page has no answer to this command, or not in time\n", None)) for _ in listed] for listed in lists]
 
 
-def main():
-    answers = set(re.findall(r"^\$ .*\n((?:.*\n)*?)status", read("answers.txt"), flags=re.M))
-    found = [(page, block) for page in PAGES for block in quoted(read(page))]
-    found += [("../README.md", block) for block in indented(read("../README.md"))]
-    lost = [(page, block) for page, block in found if block + "\n" not in answers]
-    for page, block in lost:
-        print(f"{page} quotes what answers.txt hasn't:\n{block}")
-    pictures = [(page, *it) for page in PAGES if page.endswith("/README.md") for it in drawn(page, answers)]
-    wrong = [(page, timeline) for page, timeline, holds in pictures if not holds]
-    for page, timeline in wrong:
-        print(f"{page} has a timeline that isn't a run of its plant: {timeline}")
-    print(f"{len(found)} answers are quoted, of which {len(lost)} aren't in answers.txt")
-    print(f"{len(pictures)} timelines are drawn, of which {len(wrong)} aren't true")
-    return 1 if lost or wrong or not found else 0
+def fits(wanted, answer):
+    """Whether the answer is the one that is wanted, where a line `...` stands for any lines."""
+    pieces = re.split(r"^\.\.\.\n", wanted, flags=re.M)
+    return re.fullmatch(r"(?:.*\n)*".join(re.escape(piece) for piece in pieces), answer) is not None
+
+
+def has_its_status(command, answer, status):
+    """Whether a reply that the program prints by itself goes with its status."""
+    words = command.split()
+    if not words or words[0] not in ("$d", BUILT) or re.search(r"[|;&<>]", command) or words[1:2] == ["session"] or not answer:
+        return True
+    first = answer.split()[0]
+    return first in STATUSES and STATUSES[first] in (None, status)
+
+
+def wrong_of(page, program, files):
+    """How many commands a page has, and what is wrong with its answers and its other blocks."""
+    asked, others = questions(read(os.path.join(TOP, page)))
+    asked = [(commands(block), "".join(answers)) for block, answers in asked if not KIT.match(block)]
+    wrong = []
+    with tempfile.TemporaryDirectory(prefix="pages-") as room:
+        prepared(program, room)
+        answered = ran([listed for listed, _ in asked], room) if asked else []
+    for (listed, wanted), answers in zip(asked, answered):
+        answer = "".join(text for text, _ in answers)
+        if not fits(wanted, answer):
+            wrong.append(f"it should answer\n{''.join(listed)}by\n{wanted}and is answered\n{answer}")
+        for command, (text, status) in zip(listed, answers):
+            if not has_its_status(command, text, status):
+                wrong.append(f"the status of {command.strip()} is {status}\n")
+    for kind, text in others:
+        if kind == "mermaid" and text.startswith("timeline"):
+            wrong.append(f"no command prints the timeline\n{text}")
+        elif kind == "" and not any(text in it for it in files):
+            wrong.append(f"no command prints and no file has\n{text}")
+    return sum(map(len, (listed for listed, _ in asked))), wrong
+
+
+def main(words):
+    if not words or not os.access(words[0], os.X_OK):
+        print("usage: quoted.py PROGRAM [PAGE..]", file=sys.stderr)
+        return 2
+    pages = words[1:] or sorted(os.path.relpath(it, TOP) for pattern in PAGES for it in glob.glob(os.path.join(TOP, pattern)))
+    files = [read(it) for it in glob.glob(os.path.join(TOP, "examples/*/*")) if it.endswith((".des", ".csv", ".run", ".txt"))]
+    count, faults = 0, 0
+    for page in pages:
+        of_page, wrong = wrong_of(page, words[0], files)
+        count, faults = count + of_page, faults + len(wrong)
+        for it in wrong:
+            print(f"{page}: {it}")
+    print(f"{len(pages)} pages have {count} commands, and {faults} things on them aren't so")
+    return 1 if faults or not count else 0
 
 
 if __name__ == "__main__":
-    sys.exit(main())
+    sys.exit(main(sys.argv[1:]))
