@@ -1,5 +1,5 @@
 -- What a command answers over the bytes of its files.
-use Rattle.std.proofs.Common.{◌≡◌, ◌≢◌, ◌≤◌, ◌<◌, inl, inr, ℕ, ◌+◌, List, [], ◌∷◌, ◌++◌, length, Option, Some, None, Ok, Err, IsOkAnd, IsErrAnd, IfSome, MatchOption, refl, sym, subst, append-nil, append_assoc, arith}
+use Rattle.std.proofs.Common.{◌≡◌, ◌≢◌, ◌≤◌, ◌<◌, ◌⊎◌, inl, inr, ℕ, ◌+◌, List, [], ◌∷◌, ◌++◌, length, Option, Some, None, Ok, Err, IsOkAnd, IsErrAnd, IfSome, MatchOption, refl, sym, subst, append-nil, append_assoc, arith}
 use Rattle.std.specs.Prelude.{⊤}
 use Rattle.std.specs.List.{concat}
 use Rattle.des_base.specs.CommandWords.{word_at}
@@ -8,16 +8,16 @@ use Rattle.proof_ledger.specs.Book.{BookEntry}
 use Rattle.diagnose_cli.specs.declared.command.Command.{Command}
 use Rattle.diagnose_cli.specs.declared.ending.Kind.{Kind}
 use Rattle.diagnose_cli.specs.declared.stop.Stop.{Stop}
-use Rattle.diagnose_cli.specs.declared.stop.Stop.TheVariants.{Usage, Load, Faulty, Long, Large, Memory}
+use Rattle.diagnose_cli.specs.declared.stop.Stop.TheVariants.{Usage, Load, Faulty, Long, NoFault, Large, Memory}
 use Rattle.diagnose_cli.specs.declared.stop.FaultyText.{FaultyText}
-use Rattle.diagnose_cli.specs.declared.stop.FaultyText.TheVariants.{Model, Log, Run, Cnf, Lrat}
+use Rattle.diagnose_cli.specs.declared.stop.FaultyText.TheVariants.{Model, Log, Run, Cnf, Lrat, Cost}
 use Rattle.diagnose_cli.specs.Transcripts.{End, said, cut, broken, Ending, EndsOne, Transcript, IsOne}
 use Rattle.diagnose_cli.specs.Endings.{HasStatus, status_of_end, status_of_kind, status_of_stop, status_of_faulty, texts_of}
 use Rattle.diagnose_cli.specs.Files.{Loads, StopsAt, WithFile}
 use Rattle.diagnose_cli.specs.Texts.{FileKind, limit_of, fault_of_text}
 use Rattle.diagnose_cli.specs.Commands.{files_of, command_of}
 use Rattle.diagnose_cli.specs.Replies.{Says}
-use Rattle.diagnose_cli.specs.Due.{too_large, SaysInAll, Closes, InOrder, Answers}
+use Rattle.diagnose_cli.specs.Due.{halts, SaysInAll, Closes, InOrder, Answers}
 use Rattle.diagnose_cli.specs.Outcomes.{IsPut, Outcome, Tells}
 use Rattle.diagnose_cli.specs.Rows.{AreRead, Reads}
 use Rattle.diagnose_cli.specs.Run.{Ends}
@@ -59,6 +59,7 @@ never_stops l i name limit bytes (Ok told) answer held fits h = absurd h
 never_stops l i name limit bytes (Err Usage) answer held fits h = absurd h
 never_stops l i name limit bytes (Err (Load j)) answer held fits h = answer.load j refl
 never_stops l i name limit bytes (Err (Faulty text)) answer held fits h = absurd h
+never_stops l i name limit bytes (Err NoFault) answer held fits h = absurd h
 never_stops l i name limit bytes (Err (Large size)) answer held fits h = absurd h
 never_stops l i name limit bytes (Err (Long j)) answer held fits h =
     let long : limit < length bytes = subst (λ (o : Option (List ℕ)). IfSome o (λ held. limit < length held)) held h.1 in absurd (omega arith)
@@ -77,10 +78,10 @@ past : (o : Option FaultyText) (e : Ending) (P : Type 0) → o ≡ None → Matc
 past None e P is h = h
 past (Some text) e P is h = cc
 
--- nor does the size of its question, where it isn't too large
-asked : (o : Option ℕ) (e : Ending) (says : Transcript → Type 0) → o ≡ None → MatchOption o (IsOkAnd e says) (λ size. e ≡ Err (Large size)) → IsOkAnd e says
+-- nor does what comes after them, where nothing stops it then
+asked : (o : Option Stop) (e : Ending) (says : Transcript → Type 0) → o ≡ None → MatchOption o (IsOkAnd e says) (λ stop. e ≡ Err stop) → IsOkAnd e says
 asked None e says is h = h
-asked (Some size) e says is h = cc
+asked (Some stop) e says is h = cc
 
 -- in the end it closes over them
 closed : (l : Loads) (words : List (List ℕ)) (i : ℕ) (kinds : List FileKind) (files texts : List (List ℕ)) (closes : List (List ℕ) → Ending → Type 0) (e : Ending)
@@ -96,51 +97,66 @@ closed l words i (kind ∷ kinds) files (text ∷ texts) closes e answer read h 
     (closed l words (i + 1) kinds (files ++ text ∷ []) texts closes e answer read.1 rest)
 
 -- it says what the command may
-pub said_in_all : (o : Outcome) (c : Command) (texts : List (List ℕ)) (ends : Ends o) → Reads o c texts → o.status ≢ 3 → o.status ≢ 9 → IsOkAnd ends.ending (SaysInAll c o.book texts)
+pub said_in_all : (o : Outcome) (c : Command) (texts : List (List ℕ)) (ends : Ends o) → Reads o c texts → o.status ≢ 3 → o.status ≢ 9 → IsOkAnd ends.ending (SaysInAll c o.words o.book texts)
 said_in_all o c texts ends reads three nine =
     let e = ends.ending in
     let answer : HasAnswer e = record {
       memory = λ p. nine (subst (λ (x : Ending). HasStatus x o.status) p ends.shown);
       load = λ j p. three (subst (λ (x : Ending). HasStatus x o.status) p ends.shown);
     } in
-    let closes = closed o.loads o.words 1 (files_of c) [] texts (Closes c o.book) e answer reads.files (called o.loads o.words o.book (command_of o.words) c e reads.command (ends.due.says answer.memory)) in
-    asked (too_large c texts) e (SaysInAll c o.book texts) reads.small closes
+    let closes = closed o.loads o.words 1 (files_of c) [] texts (Closes c o.words o.book) e answer reads.files (called o.loads o.words o.book (command_of o.words) c e reads.command (ends.due.says answer.memory)) in
+    asked (halts c o.words texts) e (SaysInAll c o.words o.book texts) reads.small closes
 
 -- the command has one reply
 abbrev pub HasOneReply : Command → Type 0
-HasOneReply c = (book : List BookEntry) (texts : List (List ℕ)) (t : Transcript) → SaysInAll c book texts t → IsOne (Says c book texts) t
+HasOneReply c = (words : List (List ℕ)) (book : List BookEntry) (texts : List (List ℕ)) (t : Transcript) → SaysInAll c words book texts t → IsOne (Says c words book texts) t
 
 ok_weaker : (e : Ending) (P Q : Transcript → Type 0) → ((t : Transcript) → P t → Q t) → IsOkAnd e P → IsOkAnd e Q
 ok_weaker (Ok t) P Q f h = f t h
 ok_weaker (Err stop) P Q f h = absurd h
 
 -- so status and text tell a reply that such a command may give
-pub row : (o : Outcome) (c : Command) (texts : List (List ℕ)) → HasOneReply c → Ends o → Reads o c texts → o.status ≢ 3 → IsPut o.status → Tells o (Says c o.book texts)
+pub row : (o : Outcome) (c : Command) (texts : List (List ℕ)) → HasOneReply c → Ends o → Reads o c texts → o.status ≢ 3 → IsPut o.status → Tells o (Says c o.words o.book texts)
 row o c texts one ends reads three put =
-    let says = ok_weaker ends.ending (SaysInAll c o.book texts) (IsOne (Says c o.book texts)) (one o.book texts) (said_in_all o c texts ends reads three put.memory) in
-    told o (Says c o.book texts) ends.ending put.written says ends.shown ends.put
+    let says = ok_weaker ends.ending (SaysInAll c o.words o.book texts) (IsOne (Says c o.words o.book texts)) (one o.words o.book texts) (said_in_all o c texts ends reads three put.memory) in
+    told o (Says c o.words o.book texts) ends.ending put.written says ends.shown ends.put
 
 -- ---- by the status, whatever is told of the files
 
 -- no stop has the status of an answer
 pub record IsStopStatus (status : ℕ) : Type 0 where
   pub low : 2 ≤ status
-  pub high : status ≤ 9
+  pub among : (status ≤ 9) ⊎ ((15 ≤ status) × (status ≤ 16))
+
+-- an answer has a status between those of stops, or above them
+pub between : (status k : ℕ) → status ≡ k → 10 ≤ k → k ≤ 14 → IsStopStatus status → ⊥
+between status k is low high stop = elim stop.among [ inl a ↦ omega (arith, a, is, low) | inr b ↦ omega (arith, b.0, is, high) ]
+
+pub above : (status k : ℕ) → status ≡ k → 17 ≤ k → IsStopStatus status → ⊥
+above status k is low stop = elim stop.among [ inl a ↦ omega (arith, a, is, low) | inr b ↦ omega (arith, b.1, is, low) ]
+
+low_stop : (status : ℕ) → 2 ≤ status → status ≤ 9 → IsStopStatus status
+low_stop status low high = record { low = low; among = inl high }
+
+high_stop : (status : ℕ) → 15 ≤ status → status ≤ 16 → IsStopStatus status
+high_stop status low high = record { low = omega (arith, low); among = inr (low, high) }
 
 of_faulty : (text : FaultyText) → IsStopStatus (status_of_faulty text)
-of_faulty (Model fault) = record { low = omega arith; high = omega arith }
-of_faulty (Log fault) = record { low = omega arith; high = omega arith }
-of_faulty (Run fault) = record { low = omega arith; high = omega arith }
-of_faulty (Cnf fault) = record { low = omega arith; high = omega arith }
-of_faulty (Lrat fault) = record { low = omega arith; high = omega arith }
+of_faulty (Model fault) = low_stop 5 (omega arith) (omega arith)
+of_faulty (Log fault) = low_stop 6 (omega arith) (omega arith)
+of_faulty (Run fault) = low_stop 7 (omega arith) (omega arith)
+of_faulty (Cnf fault) = low_stop 7 (omega arith) (omega arith)
+of_faulty (Lrat fault) = low_stop 7 (omega arith) (omega arith)
+of_faulty (Cost fault) = high_stop 15 (omega arith) (omega arith)
 
 of_stop : (stop : Stop) → IsStopStatus (status_of_stop stop)
-of_stop Usage = record { low = omega arith; high = omega arith }
-of_stop (Load file) = record { low = omega arith; high = omega arith }
+of_stop Usage = low_stop 2 (omega arith) (omega arith)
+of_stop (Load file) = low_stop 3 (omega arith) (omega arith)
 of_stop (Faulty text) = of_faulty text
-of_stop (Long file) = record { low = omega arith; high = omega arith }
-of_stop (Large size) = record { low = omega arith; high = omega arith }
-of_stop Memory = record { low = omega arith; high = omega arith }
+of_stop (Long file) = low_stop 8 (omega arith) (omega arith)
+of_stop NoFault = high_stop 16 (omega arith) (omega arith)
+of_stop (Large size) = low_stop 8 (omega arith) (omega arith)
+of_stop Memory = low_stop 9 (omega arith) (omega arith)
 
 -- these are the bytes of the files from number i on, as far as that is told
 abbrev pub AreHeld : (List ℕ → Option (List ℕ)) → List (List ℕ) → ℕ → List (List ℕ) → Type 0
@@ -151,7 +167,7 @@ AreHeld held words i (text ∷ texts) = IfSome (held (word_at words i)) (λ ther
 pub record SaidOver (o : Outcome) (c : Command) : Type 0 where
   pub texts : List (List ℕ)
   pub held : AreHeld o.loads.held o.words 1 texts
-  pub tells : Tells o (Says c o.book texts)
+  pub tells : Tells o (Says c o.words o.book texts)
 
 abbrev saying : Transcript → Ending
 saying t = Ok t
@@ -160,9 +176,9 @@ past_text : (o : Option FaultyText) (t : Transcript) (P : Type 0) → MatchOptio
 past_text None t P h = h
 past_text (Some text) t P h = cc
 
-within : (o : Option ℕ) (t : Transcript) (says : Transcript → Type 0) → MatchOption o (IsOkAnd (saying t) says) (λ size. saying t ≡ Err (Large size)) → says t
+within : (o : Option Stop) (t : Transcript) (says : Transcript → Type 0) → MatchOption o (IsOkAnd (saying t) says) (λ stop. saying t ≡ Err stop) → says t
 within None t says h = h
-within (Some size) t says h = cc
+within (Some stop) t says h = cc
 
 record ClosesOver (l : Loads) (words : List (List ℕ)) (i : ℕ) (files : List (List ℕ)) (closes : List (List ℕ) → Ending → Type 0) (t : Transcript) : Type 0 where
   texts : List (List ℕ)
@@ -185,9 +201,9 @@ over_files l words i (kind ∷ kinds) files closes t h =
 
 said_by : (o : Outcome) (c : Command) → HasOneReply c → (e : Ending) → (IsStopStatus o.status → ⊥) → Answers o.loads o.words c o.book e → HasStatus e o.status → Took o.before o.now (concat (texts_of e)) → SaidOver o c
 said_by o c one (Ok t) answers h shown put =
-    let over = over_files o.loads o.words 1 (files_of c) [] (Closes c o.book) t h in
-    let says = one o.book over.texts t (within (too_large c over.texts) t (SaysInAll c o.book over.texts) over.closed) in
-    record { texts = over.texts; held = over.held; tells = told o (Says c o.book over.texts) (Ok t) (λ four. answers (record { low = omega (arith, four); high = omega (arith, four) })) says shown put }
+    let over = over_files o.loads o.words 1 (files_of c) [] (Closes c o.words o.book) t h in
+    let says = one o.words o.book over.texts t (within (halts c o.words over.texts) t (SaysInAll c o.words o.book over.texts) over.closed) in
+    record { texts = over.texts; held = over.held; tells = told o (Says c o.words o.book over.texts) (Ok t) (λ four. answers (low_stop o.status (omega (arith, four)) (omega (arith, four)))) says shown put }
 said_by o c one (Err stop) answers h shown put = absurd (answers (subst IsStopStatus (sym shown) (of_stop stop)))
 
 pub said_over : (o : Outcome) (c : Command) → HasOneReply c → Ends o → command_of o.words ≡ Some c → (IsStopStatus o.status → ⊥) → SaidOver o c

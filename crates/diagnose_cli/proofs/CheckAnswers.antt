@@ -21,12 +21,12 @@ module _ (l : Loads) (words : List (List ℕ)) (book : List BookEntry) (cnf : Li
   -- it stops at the proof
   pub proof_refused : (stop : Stop) → StopsIn l 2 (word_at words 2) (limit_of lrat) (fault_of_lrat formula) stop → AnswersAfter l words Check book (cnf ∷ []) (Err stop)
   proof_refused stop h =
-      stops_here l words 2 lrat [] (cnf ∷ []) (Closes Check book) stop (subst (λ (x : Formula). StopsIn l 2 (word_at words 2) (limit_of lrat) (fault_of_lrat x) stop) of h)
+      stops_here l words 2 lrat [] (cnf ∷ []) (Closes Check words book) stop (subst (λ (x : Formula). StopsIn l 2 (word_at words 2) (limit_of lrat) (fault_of_lrat x) stop) of h)
 
   -- or says what checking gives
   pub checked : (proof : List ProofStep) (reply : Kind × List ℕ) → IsReadAs l.held (word_at words 2) (limit_of lrat) (fault_of_lrat formula) (λ text. proof ≡ proof_of text)
       → reply ≡ reply_of_checked (check_proof formula.clauses proof) → AnswersAfter l words Check book (cnf ∷ []) (once (Ok reply))
   checked proof reply (text, read, is) says =
-      goes_on l words 2 lrat [] (cnf ∷ []) (Closes Check book) text (Ok (whole reply))
+      goes_on l words 2 lrat [] (cnf ∷ []) (Closes Check words book) text (Ok (whole reply))
       (subst (λ (x : Formula). IsText l.held (word_at words 2) (limit_of lrat) (fault_of_lrat x) text) of read)
       (is_one _ reply (says ∙ ap (λ (x : Formula). reply_of_checked (check_proof x.clauses proof)) of ∙ ap (λ (p : List ProofStep). reply_of_checked (check_proof (formula_of cnf).clauses p)) is))

@@ -11,7 +11,7 @@ use Rattle.model_text.specs.ModelFaults.{network_of}
 use Rattle.proof_ledger.specs.Book.{BookEntry}
 use Rattle.replay.specs.QuestionSize.{variable_bound}
 use Rattle.diagnose_cli.specs.declared.command.Command.{Command}
-use Rattle.diagnose_cli.specs.declared.command.Command.TheVariants.{Trace, Show, Replay, Check, Diagnose, PrintCnf, PrintProof, GenerateModel, GenerateLog, Bench, Session}
+use Rattle.diagnose_cli.specs.declared.command.Command.TheVariants.{Trace, Show, Replay, Check, Diagnose, PrintCnf, PrintProof, GenerateModel, GenerateLog, Bench, Session, Twin}
 use Rattle.diagnose_cli.specs.declared.ending.Kind.{Kind}
 use Rattle.diagnose_cli.specs.Deciding.{DecidedRow, Suffices}
 use Rattle.diagnose_cli.specs.Endings.{status_of_kind}
@@ -19,7 +19,7 @@ use Rattle.diagnose_cli.specs.Outcomes.{Outcome, Tells}
 use Rattle.diagnose_cli.specs.Replies.{Says, SaysBenched, SaysProved, TellsBelow, TellsProof, kind_of_found}
 use Rattle.diagnose_cli.specs.Rows.{AreTold, Asks}
 use Rattle.diagnose_cli.specs.Run.{Ends}
-use Rattle.diagnose_cli.proofs.Answered.{AreHeld, IsStopStatus, said_over, same_text}
+use Rattle.diagnose_cli.proofs.Answered.{AreHeld, between, said_over, same_text}
 use Rattle.diagnose_cli.proofs.StatusRows.{decided, undecided_small}
 
 -- ---- a proof
@@ -37,7 +37,7 @@ proof_open net alarms n book (Undecided lo best) reply tells is = subst (λ (r :
 
 -- over the two texts that are told
 over_texts : (o : Outcome) (steps budget : ℕ) (text alarms : List ℕ) (texts : List (List ℕ)) → AreTold o.loads.held o.words 1 (text ∷ alarms ∷ []) → AreHeld o.loads.held o.words 1 texts
-    → Tells o (Says (PrintProof steps budget) o.book texts) → Tells o (SaysProved (network_of text) (log_of alarms) steps budget o.book)
+    → Tells o (Says (PrintProof steps budget) o.words o.book texts) → Tells o (SaysProved (network_of text) (log_of alarms) steps budget o.book)
 over_texts o steps budget text alarms [] there held tells = absurd tells.says
 over_texts o steps budget text alarms (model ∷ []) there held tells = absurd tells.says
 over_texts o steps budget text alarms (model ∷ rows ∷ []) there held tells =
@@ -48,7 +48,7 @@ over_texts o steps budget text alarms (model ∷ rows ∷ other ∷ texts) there
 -- ---- a summary
 
 -- without texts
-over_none : (o : Outcome) (units start steps budget : ℕ) (texts : List (List ℕ)) → Tells o (Says (Bench units start steps budget) o.book texts) → Tells o (SaysBenched units start steps budget o.book)
+over_none : (o : Outcome) (units start steps budget : ℕ) (texts : List (List ℕ)) → Tells o (Says (Bench units start steps budget) o.words o.book texts) → Tells o (SaysBenched units start steps budget o.book)
 over_none o units start steps budget [] tells = tells
 over_none o units start steps budget (text ∷ texts) tells = absurd tells.says
 
@@ -57,14 +57,14 @@ over_none o units start steps budget (text ∷ texts) tells = absurd tells.says
 module _ (o : Outcome) (ends : Ends o) where
   proof_decided : (steps budget : ℕ) (text alarms : List ℕ) → Asks o (PrintProof steps budget) (text ∷ alarms ∷ []) → 3 ^ variable_bound (network_of text) (log_of alarms) steps ≤ budget → o.status ≡ 11 → ⊥
   proof_decided steps budget text alarms asks enough is =
-      let over = said_over o (PrintProof steps budget) (λ book texts t h. h) ends asks.command (λ stop. omega (arith, is, stop.high)) in
+      let over = said_over o (PrintProof steps budget) (λ words book texts t h. h) ends asks.command (between o.status 11 is (omega arith) (omega arith)) in
       let tells = over_texts o steps budget text alarms over.texts asks.told over.held over.tells in
       let said = tells.says in
       undecided_small (network_of text) (log_of alarms) steps budget o.book said.found (proof_open (network_of text) (log_of alarms) steps o.book said.found tells.reply said.tells (sym is ∙ tells.shown)) said.holds.diagnosed enough
 
   bench_decided : (units start steps budget : ℕ) → Asks o (Bench units start steps budget) [] → 3 ^ variable_bound (plant_net units) (plant_log units start) steps ≤ budget → o.status ≡ 11 → ⊥
   bench_decided units start steps budget asks enough is =
-      let over = said_over o (Bench units start steps budget) (λ book texts t h. h) ends asks.command (λ stop. omega (arith, is, stop.high)) in
+      let over = said_over o (Bench units start steps budget) (λ words book texts t h. h) ends asks.command (between o.status 11 is (omega arith) (omega arith)) in
       let tells = over_none o units start steps budget over.texts over.tells in
       let said = tells.says in
       let open_still : 11 ≡ status_of_kind (kind_of_found said.found) = subst (λ (r : Kind × List ℕ). 11 ≡ status_of_kind r.0) said.is (sym is ∙ tells.shown) in
@@ -89,3 +89,4 @@ module _ (o : Outcome) (ends : Ends o) where
   decided_row (Bench units start steps budget) [] asks enough is = bench_decided units start steps budget asks enough is
   decided_row (Bench units start steps budget) (text ∷ texts) asks enough is = absurd enough
   decided_row (Session steps budget) texts asks enough is = absurd enough
+  decided_row (Twin steps after budget) texts asks enough is = absurd enough

@@ -1,7 +1,7 @@
 -- A cause that came after an earlier moment came after that moment too.
 use Rattle.std.proofs.Common.{◌≡◌, ℕ, ◌≤◌, List, Option, IfSome, ◌<◌, length, arith, subst, ap}
 use Rattle.diagnose_cli.specs.declared.stop.Stop.{Stop}
-use Rattle.diagnose_cli.specs.declared.stop.Stop.TheVariants.{Usage, Load, Faulty, Long, Large, Memory}
+use Rattle.diagnose_cli.specs.declared.stop.Stop.TheVariants.{Usage, Load, Faulty, Long, NoFault, Large, Memory}
 use Rattle.diagnose_cli.specs.Files.{StopsAt}
 
 pub stops_earlier : (held now : List ℕ → Option (List ℕ)) (start before after : List ℕ → ℕ) (i : ℕ) (name : List ℕ) (limit : ℕ) (s : Stop) → now ≡ held → ((n : List ℕ) → start n ≤ before n)
@@ -13,4 +13,5 @@ stops_earlier held now start before after i name limit (Long j) e later h = (h.0
 stops_earlier held now start before after i name limit Memory e later h = tt
 stops_earlier held now start before after i name limit Usage e later h = absurd h
 stops_earlier held now start before after i name limit (Faulty text) e later h = absurd h
+stops_earlier held now start before after i name limit NoFault e later h = absurd h
 stops_earlier held now start before after i name limit (Large size) e later h = absurd h

@@ -1,6 +1,6 @@
 -- Each file that is too long and each fault of a text has its status.
 use Rattle.std.proofs.Common.{◌≡◌, ◌≢◌, inl, inr, ℕ, ◌+◌, ◌<◌, ◌≤◌, List, [], ◌∷◌, ◌++◌, length, Bool, true, false, nat_lt, Option, Some, None, Ok, Err, IfSome, IsOkAnd, MatchOption, IsErrAnd, refl, sym, ap, subst, append-nil, arith}
-use Rattle.std.specs.Prelude.{if◌then◌else◌, option_and_then, option_map}
+use Rattle.std.specs.Prelude.{if◌then◌else◌, option_and_then}
 use Rattle.std.specs.List.{concat}
 use Rattle.std.proofs.lemmas.Bool.Decides.{nat_tests}
 use Rattle.des_base.specs.Outside.{Took}
@@ -8,14 +8,14 @@ use Rattle.des_base.specs.CommandWords.{word_at}
 use Rattle.proof_ledger.specs.Book.{BookEntry}
 use Rattle.diagnose_cli.specs.declared.command.Command.{Command}
 use Rattle.diagnose_cli.specs.declared.stop.Stop.{Stop}
-use Rattle.diagnose_cli.specs.declared.stop.Stop.TheVariants.{Usage, Load, Faulty, Long, Large, Memory}
+use Rattle.diagnose_cli.specs.declared.stop.Stop.TheVariants.{Usage, Load, Faulty, Long, NoFault, Large, Memory}
 use Rattle.diagnose_cli.specs.declared.stop.FaultyText.{FaultyText}
 use Rattle.diagnose_cli.specs.Transcripts.{Ending, Transcript}
 use Rattle.diagnose_cli.specs.Files.{Loads, StopsAt}
 use Rattle.diagnose_cli.specs.Endings.{HasStatus, status_of_stop, text_of_stop, texts_of}
 use Rattle.diagnose_cli.specs.Texts.{FileKind, limit_of, fault_of_text}
 use Rattle.diagnose_cli.specs.Commands.{files_of, command_of}
-use Rattle.diagnose_cli.specs.Due.{too_large, Closes, InOrder, Answers}
+use Rattle.diagnose_cli.specs.Due.{halts, Closes, InOrder, Answers}
 use Rattle.diagnose_cli.specs.Exact.{past, first_stop, stop_of_command, StopRow}
 use Rattle.diagnose_cli.specs.Outcomes.{Outcome}
 use Rattle.diagnose_cli.specs.Run.{Ends}
@@ -53,31 +53,32 @@ stopped_here l i name limit (Ok t) rest m n h = absurd h
 stopped_here l i name limit (Err Usage) rest m n h = absurd h
 stopped_here l i name limit (Err (Load j)) rest m n h = absurd (n j refl)
 stopped_here l i name limit (Err (Faulty text)) rest m n h = absurd h
+stopped_here l i name limit (Err NoFault) rest m n h = absurd h
 stopped_here l i name limit (Err (Large size)) rest m n h = absurd h
 stopped_here l i name limit (Err (Long j)) rest m n h = long_here (l.held name) (Err (Long j)) i limit rest (ap (λ k. Err (Long k)) h.0) h.1
 stopped_here l i name limit (Err Memory) rest m n h = absurd (m refl)
 
--- nor by a file: then by the size of its question, if that is too large
-closes_here : (o : Option ℕ) (e : Ending) (says : Transcript → Type 0) → MatchOption o (IsOkAnd e says) (λ size. e ≡ Err (Large size)) → Is e (option_map (λ n. Large n) o)
+-- nor by a file: then by what stops it after them, if something does
+closes_here : (o : Option Stop) (e : Ending) (says : Transcript → Type 0) → MatchOption o (IsOkAnd e says) (λ stop. e ≡ Err stop) → Is e o
 closes_here None e says h = tt
-closes_here (Some size) e says h = h
+closes_here (Some stop) e says h = h
 
-in_order_exact : (l : Loads) (words : List (List ℕ)) (i : ℕ) (kinds : List FileKind) (files : List (List ℕ)) (closes : List (List ℕ) → Ending → Type 0) (size : List (List ℕ) → Option ℕ) (e : Ending)
-    → ((texts : List (List ℕ)) → closes texts e → Is e (option_map (λ n. Large n) (size texts))) → e ≢ Err Memory → ((j : ℕ) → e ≢ Err (Load j)) → InOrder l words i kinds files closes e → Is e (first_stop l.held words i kinds files size)
-in_order_exact l words i [] files closes size e f m n h = f files h
-in_order_exact l words i (kind ∷ kinds) files closes size e f m n h =
-    let rest : List ℕ → Option Stop = λ bytes. past (fault_of_text kind files bytes) (first_stop l.held words (i + 1) kinds (files ++ bytes ∷ []) size) in
+in_order_exact : (l : Loads) (words : List (List ℕ)) (i : ℕ) (kinds : List FileKind) (files : List (List ℕ)) (closes : List (List ℕ) → Ending → Type 0) (halting : List (List ℕ) → Option Stop) (e : Ending)
+    → ((texts : List (List ℕ)) → closes texts e → Is e (halting texts)) → e ≢ Err Memory → ((j : ℕ) → e ≢ Err (Load j)) → InOrder l words i kinds files closes e → Is e (first_stop l.held words i kinds files halting)
+in_order_exact l words i [] files closes halting e f m n h = f files h
+in_order_exact l words i (kind ∷ kinds) files closes halting e f m n h =
+    let rest : List ℕ → Option Stop = λ bytes. past (fault_of_text kind files bytes) (first_stop l.held words (i + 1) kinds (files ++ bytes ∷ []) halting) in
     elim h [
       | inl s ↦ stopped_here l i (word_at words i) (limit_of kind) e rest m n s
       | inr b ↦
           holds_here (l.held (word_at words i)) e i (limit_of kind) b.0 rest b.1.told b.1.fits
-          (past_here (fault_of_text kind files b.0) e _ _ b.2 (in_order_exact l words (i + 1) kinds (files ++ b.0 ∷ []) closes size e f m n))
+          (past_here (fault_of_text kind files b.0) e _ _ b.2 (in_order_exact l words (i + 1) kinds (files ++ b.0 ∷ []) closes halting e f m n))
     ]
 
 due_exact : (l : Loads) (words : List (List ℕ)) (book : List BookEntry) (o : Option Command) (e : Ending)
     → e ≢ Err Memory → ((j : ℕ) → e ≢ Err (Load j)) → MatchOption o (e ≡ Err Usage) (λ c. Answers l words c book e) → Is e (stop_of_command l.held words o)
 due_exact l words book None e m n h = h
-due_exact l words book (Some c) e m n h = in_order_exact l words 1 (files_of c) [] (Closes c book) (too_large c) e (λ texts. closes_here (too_large c texts) e _) m n h
+due_exact l words book (Some c) e m n h = in_order_exact l words 1 (files_of c) [] (Closes c words book) (halts c words) e (λ texts. closes_here (halts c words texts) e _) m n h
 
 row_here : (stop : Option Stop) (o : Outcome) (e : Ending) → Is e stop → HasStatus e o.status → Took o.before o.now (concat (texts_of e)) → IfSome stop (λ stop. (o.status ≡ status_of_stop stop) × Took o.before o.now (text_of_stop stop))
 row_here None o e h p t = tt

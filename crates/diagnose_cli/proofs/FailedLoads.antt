@@ -1,18 +1,18 @@
 -- What a failed load says, whichever command the words call.
-use Rattle.std.proofs.Common.{◌≡◌, ◌≢◌, inl, inr, ℕ, ◌+◌, ◌≤◌, List, [], ◌∷◌, ◌++◌, length, Option, Some, None, Ok, Err, IsOkAnd, MatchOption, sym, ap, subst, arith, append-nil, IsSomeAnd}
+use Rattle.std.proofs.Common.{◌≡◌, ◌≢◌, inl, inr, ℕ, ◌+◌, ◌≤◌, List, [], ◌∷◌, ◌++◌, length, Bool, true, false, Option, Some, None, Ok, Err, IsOkAnd, MatchOption, sym, ap, subst, arith, append-nil, IsSomeAnd}
 use Rattle.des_base.specs.Outside.{Took}
 use Rattle.diagnose_cli.specs.declared.command.Command.{Command}
-use Rattle.diagnose_cli.specs.declared.stop.Stop.TheVariants.{Usage, Load, Faulty, Long, Large, Memory}
+use Rattle.diagnose_cli.specs.declared.stop.Stop.TheVariants.{Usage, Load, Faulty, Long, NoFault, Large, Memory}
 use Rattle.diagnose_cli.specs.declared.stop.FaultyText.{FaultyText}
-use Rattle.diagnose_cli.specs.declared.stop.FaultyText.TheVariants.{Model, Log, Run, Cnf, Lrat}
+use Rattle.diagnose_cli.specs.declared.stop.FaultyText.TheVariants.{Model, Log, Run, Cnf, Lrat, Cost}
 use Rattle.diagnose_cli.specs.declared.ending.Kind.{Kind}
-use Rattle.diagnose_cli.specs.declared.ending.Kind.TheVariants.{Done, Rejected, Absent, Undecided, Many, Nothing}
+use Rattle.diagnose_cli.specs.declared.ending.Kind.TheVariants.{Done, Rejected, Absent, Undecided, Many, Nothing, Ambiguous}
 use Rattle.std.specs.List.{concat}
 use Rattle.diagnose_cli.specs.Transcripts.{End, said, cut, broken, Ending, Transcript, UnlessMemory}
 use Rattle.diagnose_cli.specs.Endings.{HasStatus, status_of_end, status_of_kind, status_of_faulty, texts_of}
 use Rattle.diagnose_cli.specs.Texts.{FileKind, fault_of_text}
 use Rattle.diagnose_cli.specs.Commands.{files_of, file_count, command_of}
-use Rattle.diagnose_cli.specs.Due.{SaysInAll, too_large, Closes, InOrder, Answers, Due}
+use Rattle.diagnose_cli.specs.Due.{SaysInAll, lacks_fault, stop_by, too_large, Closes, InOrder, Answers, Due}
 use Rattle.diagnose_cli.specs.Outcomes.{Outcome}
 use Rattle.diagnose_cli.specs.Run.{Ends, RoseFor, LoadRow}
 
@@ -44,14 +44,15 @@ rose_in_order o count i (kind ∷ kinds) files closes j f low all h =
     ]
 
 -- after the files no load fails
-never_closes : (j : ℕ) (o : Option ℕ) (says : Transcript → Type 0) → MatchOption o (IsOkAnd (failed j) says) (λ size. failed j ≡ Err (Large size)) → ⊥
-never_closes j None says h = absurd h
-never_closes j (Some size) says h = cc
+never_closes : (j : ℕ) (lacks : Bool) (o : Option ℕ) (says : Transcript → Type 0) → MatchOption (stop_by lacks o) (IsOkAnd (failed j) says) (λ stop. failed j ≡ Err stop) → ⊥
+never_closes j true o says h = cc
+never_closes j false None says h = absurd h
+never_closes j false (Some size) says h = cc
 
 rose_at : (o : Outcome) (j : ℕ) (called : Option Command) → MatchOption called (failed j ≡ Err Usage) (λ c. Answers o.loads o.words c o.book (failed j)) → IsSomeAnd called (λ c. (1 ≤ j) × (j ≤ file_count c)) × RoseFor o j
 rose_at o j None m = absurd (no_usage j m)
 rose_at o j (Some c) m =
-    let rose = rose_in_order o (file_count c) 1 (files_of c) [] (Closes c o.book) j (λ texts. never_closes j (too_large c texts) (SaysInAll c o.book texts)) (omega arith) (omega arith) m in
+    let rose = rose_in_order o (file_count c) 1 (files_of c) [] (Closes c o.words o.book) j (λ texts. never_closes j (lacks_fault c o.words texts) (too_large c texts) (SaysInAll c o.words o.book texts)) (omega arith) (omega arith) m in
     ((rose.first, rose.within), rose.rose)
 
 no_load_kind : (k : Kind) → 3 ≡ status_of_kind k → ⊥
@@ -61,6 +62,7 @@ no_load_kind Absent p = cc
 no_load_kind Undecided p = cc
 no_load_kind Many p = cc
 no_load_kind Nothing p = cc
+no_load_kind Ambiguous p = cc
 
 no_load_text : (text : FaultyText) → 3 ≡ status_of_faulty text → ⊥
 no_load_text (Model fault) p = cc
@@ -68,6 +70,7 @@ no_load_text (Log fault) p = cc
 no_load_text (Run fault) p = cc
 no_load_text (Cnf fault) p = cc
 no_load_text (Lrat fault) p = cc
+no_load_text (Cost fault) p = cc
 
 no_load_end : (end : End) → 3 ≡ status_of_end end → ⊥
 no_load_end (said kind) p = no_load_kind kind p
@@ -82,6 +85,7 @@ load_row_of o (Err (Load i)) d p t =
     record { file = i; known = rose.0; rose = rose.1; put = subst (Took o.before o.now) (append-nil _) t }
 load_row_of o (Err (Faulty text)) d p t = absurd (no_load_text text p)
 load_row_of o (Err (Long i)) d p t = absurd (omega arith)
+load_row_of o (Err NoFault) d p t = absurd (omega arith)
 load_row_of o (Err (Large size)) d p t = absurd (omega arith)
 load_row_of o (Err Memory) d p t = absurd (omega arith)
 

@@ -1,5 +1,6 @@
 -- What is left in the book of a command that asks one question.
 use Rattle.std.proofs.Common.{◌≡◌, ℕ, List, [], ◌∷◌, Option, Some, None, IfSome, sym, subst, ap, ◌∙◌}
+use Rattle.des_base.specs.CommandWords.{word_at}
 use Rattle.des_net.specs.Network.{Net}
 use Rattle.inquiries.specs.Begun.{LeavesQuestion}
 use Rattle.gen_plant.specs.Plant.{plant_net, plant_log}
@@ -8,13 +9,14 @@ use Rattle.log_order.specs.Log.{Log as AlarmLog}
 use Rattle.model_text.specs.ModelFaults.{network_of}
 use Rattle.proof_ledger.specs.Book.{BookEntry}
 use Rattle.diagnose_cli.specs.declared.command.Command.{Command}
-use Rattle.diagnose_cli.specs.declared.command.Command.TheVariants.{Diagnose, PrintCnf, PrintProof, Bench, Session}
+use Rattle.diagnose_cli.specs.declared.command.Command.TheVariants.{Diagnose, PrintCnf, PrintProof, Bench, Session, Twin}
 use Rattle.diagnose_cli.specs.Commands.{command_of}
 use Rattle.diagnose_cli.specs.Outcomes.{Outcome}
 use Rattle.diagnose_cli.specs.Rows.{AreTold, Leaves, LeftRow}
 use Rattle.diagnose_cli.specs.Texts.{IsCase}
+use Rattle.diagnose_cli.specs.TwinReplies.{LeavesOfWord}
 
-told_bytes : (there : Option (List ℕ)) (bytes text : List ℕ) → there ≡ Some text → IfSome there (λ t. t ≡ bytes) → text ≡ bytes
+pub told_bytes : (there : Option (List ℕ)) (bytes text : List ℕ) → there ≡ Some text → IfSome there (λ t. t ≡ bytes) → text ≡ bytes
 told_bytes there bytes text is h = subst (λ (o : Option (List ℕ)). IfSome o (λ t. t ≡ bytes)) is h
 
 -- the bytes that are told are those that were read
@@ -30,7 +32,7 @@ case_left held words net alarms case text rows told steps book left =
 module _ (held : List ℕ → Option (List ℕ)) (words : List (List ℕ)) (book : List BookEntry) where
   -- what a command leaves over files that are told
   abbrev pub LeftBy : Command → Type 0
-  LeftBy c = (texts : List (List ℕ)) → AreTold held words 1 texts → Leaves c texts book
+  LeftBy c = (texts : List (List ℕ)) → AreTold held words 1 texts → Leaves c words texts book
 
   module _ (steps : ℕ) (left : (text alarms : List ℕ) → AreTold held words 1 (text ∷ alarms ∷ []) → LeavesQuestion (network_of text) (log_of alarms) steps book) where
     pub left_diagnose : (budget : ℕ) → LeftBy (Diagnose steps budget)
@@ -55,6 +57,11 @@ module _ (held : List ℕ → Option (List ℕ)) (words : List (List ℕ)) (book
   left_bench units start steps budget left [] told = left
   left_bench units start steps budget left (text ∷ texts) told = tt
 
+  pub left_twin : (steps after budget : ℕ) → ((text : List ℕ) → AreTold held words 1 (text ∷ []) → LeavesOfWord (network_of text) (word_at words 2) steps after book) → LeftBy (Twin steps after budget)
+  left_twin steps after budget left [] told = tt
+  left_twin steps after budget left (text ∷ []) told = left text told
+  left_twin steps after budget left (text ∷ more ∷ texts) told = tt
+
   pub left_so : (c command : Command) → command ≡ c → LeftBy c → LeftBy command
   left_so c command is left = subst LeftBy (sym is) left
 
@@ -66,7 +73,7 @@ none_left o none c texts asks = let called = asks.command in cc
 pub session_left : (o : Outcome) (steps budget : ℕ) → command_of o.words ≡ Some (Session steps budget) → LeftRow o
 session_left o steps budget is c texts asks =
     let same : Session steps budget ≡ c = some_same (Session steps budget) c (sym is ∙ asks.command) in
-    subst (λ (k : Command). Leaves k texts o.book) same tt
+    subst (λ (k : Command). Leaves k o.words texts o.book) same tt
   where
     some_same : (a b : Command) → Some a ≡ Some b → a ≡ b
     some_same a b h = cc
@@ -74,7 +81,7 @@ session_left o steps budget is c texts asks =
 pub command_left : (o : Outcome) (command : Command) → command_of o.words ≡ Some command → LeftBy o.loads.held o.words o.book command → LeftRow o
 command_left o command is left c texts asks =
     let same : command ≡ c = some_same command c (sym is ∙ asks.command) in
-    subst (λ (k : Command). Leaves k texts o.book) same (left texts asks.told)
+    subst (λ (k : Command). Leaves k o.words texts o.book) same (left texts asks.told)
   where
     some_same : (a b : Command) → Some a ≡ Some b → a ≡ b
     some_same a b h = cc

@@ -7,6 +7,9 @@ pub mod Answered
 pub mod UsageRows
 pub mod StatusRows
 pub mod Deciding
+pub mod StopStatus
+pub mod TwinBooks
+pub mod TwinStatus
 pub mod SessionRows
 pub mod Ones
 pub mod Once
@@ -23,6 +26,7 @@ pub mod Diagnosing
 pub mod ProofsReadBack
 pub mod ProofAnswers
 pub mod CaseAnswers
+pub mod TwinAnswers
 pub mod Left
 pub mod Taking
 pub mod GenerateAnswers

@@ -5,9 +5,9 @@ use Rattle.std.proofs.lemmas.Bool.{cases_order}
 use Rattle.des_base.specs.Outside.{Took, TookFront}
 use Rattle.proof_ledger.specs.Book.{BookEntry}
 use Rattle.diagnose_cli.specs.declared.command.Command.{Command}
-use Rattle.diagnose_cli.specs.declared.command.Command.TheVariants.{Trace, Show, Replay, Check, Diagnose, PrintCnf, PrintProof, GenerateModel, GenerateLog, Bench}
+use Rattle.diagnose_cli.specs.declared.command.Command.TheVariants.{Trace, Show, Replay, Check, Diagnose, PrintCnf, PrintProof, GenerateModel, GenerateLog, Bench, Twin}
 use Rattle.diagnose_cli.specs.declared.ending.Kind.{Kind}
-use Rattle.diagnose_cli.specs.declared.ending.Kind.TheVariants.{Done, Rejected, Absent, Undecided, Many, Nothing}
+use Rattle.diagnose_cli.specs.declared.ending.Kind.TheVariants.{Done, Rejected, Absent, Undecided, Many, Nothing, Ambiguous}
 use Rattle.diagnose_cli.specs.declared.stop.Stop.{Stop}
 use Rattle.diagnose_cli.specs.declared.stop.Stop.TheVariants.{Memory}
 use Rattle.diagnose_cli.specs.Transcripts.{Ending, OrMemory, UnlessMemory, cut_short, once}
@@ -26,6 +26,9 @@ use Rattle.diagnose_cli.proofs.Exact.{stop_row}
 use Rattle.diagnose_cli.proofs.FailedLoads.{load_row, no_load_failed}
 use Rattle.diagnose_cli.proofs.SessionRows.{session_row}
 use Rattle.diagnose_cli.proofs.StatusRows.{refuted, explained, absent, undecided, many, decided}
+use Rattle.diagnose_cli.proofs.StopStatus.{above, between}
+use Rattle.diagnose_cli.proofs.TwinStatus.{alike, clear, untested, tested_by}
+use Rattle.diagnose_cli.specs.TwinRows.{TwinRows}
 use Rattle.diagnose_cli.proofs.UsageRows.{usage_row}
 
 pub one_text : (texts : List (List ℕ)) (text : List ℕ) → texts ≡ text ∷ [] → concat texts ≡ text
@@ -107,13 +110,13 @@ module _ (o : Outcome) (rose : Type 0) (speaks : Speaks (Due o.loads o.words o.b
 
   checked : CheckRows o
   checked = record {
-    checked = λ formula proof. row_of Check (formula ∷ proof ∷ []) (λ book texts t h. h);
+    checked = λ formula proof. row_of Check (formula ∷ proof ∷ []) (λ words book texts t h. h);
     refuted = λ formula asks zero. refuted o (answered 0 zero (λ p. cc)) formula asks zero;
   }
 
   diagnosed : DiagnoseRows o
   diagnosed = record {
-    diagnosed = λ steps budget text alarms. row_of (Diagnose steps budget) (text ∷ alarms ∷ []) (λ book texts t h. h);
+    diagnosed = λ steps budget text alarms. row_of (Diagnose steps budget) (text ∷ alarms ∷ []) (λ words book texts t h. h);
     explained = λ steps budget text alarms asks is. explained o (answered 0 is (λ p. cc)) steps budget text alarms asks is;
     absent = λ steps budget text alarms asks is. absent o (answered 10 is (λ p. cc)) steps budget text alarms asks is;
     undecided = λ steps budget text alarms asks is. undecided o (answered 11 is (λ p. cc)) steps budget text alarms asks is;
@@ -121,20 +124,30 @@ module _ (o : Outcome) (rose : Type 0) (speaks : Speaks (Due o.loads o.words o.b
     decided = λ steps budget text alarms asks enough is. decided o (answered 11 is (λ p. cc)) steps budget text alarms asks enough is;
   }
 
+  twinned : TwinRows o
+  twinned = record {
+    answered = λ n d budget text. row_of (Twin n d budget) (text ∷ []) (λ words book texts t h. h);
+    ambiguous = λ n d budget text asks is. alike o (answered 17 is (λ p. cc)) n d budget text asks is;
+    clear = λ n d budget text asks is. clear o (answered 0 is (λ p. cc)) n d budget text asks is;
+    undecided = λ n d budget text asks is. untested o (answered 11 is (λ p. cc)) n d budget text asks is;
+    decided = λ n d budget text asks enough is. tested_by o (answered 11 is (λ p. cc)) n d budget text asks enough is;
+  }
+
   does : Does o rose
   does = record {
     diagnosed = diagnosed;
-    replayed = λ steps text alarms events. row_of (Replay steps) (text ∷ alarms ∷ events ∷ []) (λ book texts t h. h);
+    replayed = λ steps text alarms events. row_of (Replay steps) (text ∷ alarms ∷ events ∷ []) (λ words book texts t h. h);
     checked = checked;
-    traced = λ text steps. row_of Trace (text ∷ steps ∷ []) (λ book texts t h. h);
-    shown = λ text. row_of Show (text ∷ []) (λ book texts t h. h);
+    traced = λ text steps. row_of Trace (text ∷ steps ∷ []) (λ words book texts t h. h);
+    shown = λ text. row_of Show (text ∷ []) (λ words book texts t h. h);
     printed = record {
-      formula = λ steps bound text alarms. row_of (PrintCnf steps bound) (text ∷ alarms ∷ []) (λ book texts t h. h);
-      proof = λ steps budget text alarms. row_of (PrintProof steps budget) (text ∷ alarms ∷ []) (λ book texts t h. h);
+      formula = λ steps bound text alarms. row_of (PrintCnf steps bound) (text ∷ alarms ∷ []) (λ words book texts t h. h);
+      proof = λ steps budget text alarms. row_of (PrintProof steps budget) (text ∷ alarms ∷ []) (λ words book texts t h. h);
     };
-    generated = record { model = λ units start. row_alone (GenerateModel units start) (λ book texts t h. h) refl; log = λ units start. row_alone (GenerateLog units start) (λ book texts t h. h) refl };
-    benched = λ units start steps budget. row_alone (Bench units start steps budget) (λ book texts t h. h) refl;
+    generated = record { model = λ units start. row_alone (GenerateModel units start) (λ words book texts t h. h) refl; log = λ units start. row_alone (GenerateLog units start) (λ words book texts t h. h) refl };
+    benched = λ units start steps budget. row_alone (Bench units start steps budget) (λ words book texts t h. h) refl;
     carried_out = λ steps budget text lines reads whole. session_row o steps budget text lines (speaks.ends whole.put.written) reads whole;
+    twinned = twinned;
     ran = ran;
   }
 
@@ -147,11 +160,12 @@ done l words before now book status rose speaks = does (outcome l words before n
 -- no reply has the status of a stop
 no_reply : (kind : Kind) → SaysStop (status_of_kind kind) → ⊥
 no_reply Done stop = absurd (omega (arith, stop.low))
-no_reply Rejected stop = absurd (omega (arith, stop.high))
-no_reply Absent stop = absurd (omega (arith, stop.high))
-no_reply Undecided stop = absurd (omega (arith, stop.high))
-no_reply Many stop = absurd (omega (arith, stop.high))
-no_reply Nothing stop = absurd (omega (arith, stop.high))
+no_reply Rejected stop = absurd (between 13 stop (omega arith) (omega arith))
+no_reply Absent stop = absurd (between 10 stop (omega arith) (omega arith))
+no_reply Undecided stop = absurd (between 11 stop (omega arith) (omega arith))
+no_reply Many stop = absurd (between 12 stop (omega arith) (omega arith))
+no_reply Nothing stop = absurd (between 14 stop (omega arith) (omega arith))
+no_reply Ambiguous stop = absurd (above 17 stop (omega arith))
 
 nine_of : (stop : Stop) → stop ≡ Memory → status_of_stop stop ≡ 9
 nine_of stop is = ap status_of_stop is
@@ -159,7 +173,7 @@ nine_of stop is = ap status_of_stop is
 -- so what an ending leaves that has none is left
 stop_told : (r : Result (Kind × List ℕ) Stop) (P : Type 0) (status : ℕ) → IfErr r (λ stop. stop ≢ Memory → P) → HasStatus (once r) status → SaysStop status → P
 stop_told (Ok reply) P status left shown stop = absurd (no_reply reply.0 (subst SaysStop shown stop))
-stop_told (Err why) P status left shown stop = left (λ is. let nine = nine_of why is in let high = stop.high in omega (arith, shown, nine, high))
+stop_told (Err why) P status left shown stop = left (λ is. let nine = nine_of why is in between status stop (omega (arith, shown, nine)) (omega (arith, shown, nine)))
 
 pub stop_left : (r : Result (Kind × List ℕ) Stop) (P : Type 0) (before now : Option (List ℕ)) (rose : Type 0) (status : ℕ) → Puts (once r) before now rose status → IfErr r (λ stop. stop ≢ Memory → P) → SaysStop status → P
-stop_left r P before now rose status puts left stop = stop_told r P status left (puts.shown stop.put (λ nine. let high = stop.high in omega (arith, nine, high))) stop
+stop_left r P before now rose status puts left stop = stop_told r P status left (puts.shown stop.put (λ nine. between status stop (omega (arith, nine)) (omega (arith, nine)))) stop

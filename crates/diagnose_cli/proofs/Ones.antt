@@ -2,13 +2,13 @@
 use Rattle.std.proofs.Common.{◌≡◌, inl, inr, ℕ, ◌+◌, List, [], ◌∷◌, ◌++◌, true, false, IfOk, Option, Some, None, Result, Ok, Err, IsOkAnd, MatchOption, refl, subst, sym}
 use Rattle.proof_ledger.specs.Book.{BookEntry}
 use Rattle.diagnose_cli.specs.declared.command.Command.{Command}
-use Rattle.diagnose_cli.specs.declared.command.Command.TheVariants.{Trace, Show, Replay, Check, Diagnose, PrintCnf, PrintProof, GenerateModel, GenerateLog, Bench, Session}
+use Rattle.diagnose_cli.specs.declared.command.Command.TheVariants.{Trace, Show, Replay, Check, Diagnose, PrintCnf, PrintProof, GenerateModel, GenerateLog, Bench, Session, Twin}
 use Rattle.diagnose_cli.specs.declared.ending.Kind.{Kind}
 use Rattle.diagnose_cli.specs.declared.stop.Stop.{Stop}
-use Rattle.diagnose_cli.specs.declared.stop.Stop.TheVariants.{Faulty, Large, Usage}
+use Rattle.diagnose_cli.specs.declared.stop.Stop.TheVariants.{Faulty, Usage}
 use Rattle.diagnose_cli.specs.declared.stop.FaultyText.{FaultyText}
 use Rattle.diagnose_cli.specs.Commands.{command_of, files_of, is_session}
-use Rattle.diagnose_cli.specs.Due.{Answers, Closes, Due, InOrder, SaysInAll, too_large}
+use Rattle.diagnose_cli.specs.Due.{Answers, Closes, Due, InOrder, SaysInAll, halts}
 use Rattle.diagnose_cli.specs.Files.{Loads}
 use Rattle.diagnose_cli.specs.Replies.{Says}
 use Rattle.diagnose_cli.specs.Texts.{FileKind, fault_of_text}
@@ -21,18 +21,19 @@ is_cut : (P : (Kind × List ℕ) → Type 0) (reply : Kind × List ℕ) → IsOn
 is_cut P reply one = record { reply = one.reply; says = one.says; alone = one.alone; ends = tt }
 
 -- what it may say it may also say cut short
-cut_says : (c : Command) → is_session c ≡ false → (book : List BookEntry) (files : List (List ℕ)) (reply : Kind × List ℕ) → SaysInAll c book files (whole reply) → SaysInAll c book files (cut_short reply)
-cut_says Trace one book files reply h = is_cut (Says Trace book files) reply h
-cut_says Show one book files reply h = is_cut (Says Show book files) reply h
-cut_says (Replay steps) one book files reply h = is_cut (Says (Replay steps) book files) reply h
-cut_says Check one book files reply h = is_cut (Says Check book files) reply h
-cut_says (Diagnose steps budget) one book files reply h = is_cut (Says (Diagnose steps budget) book files) reply h
-cut_says (PrintCnf steps bound) one book files reply h = is_cut (Says (PrintCnf steps bound) book files) reply h
-cut_says (PrintProof steps budget) one book files reply h = is_cut (Says (PrintProof steps budget) book files) reply h
-cut_says (GenerateModel units start) one book files reply h = is_cut (Says (GenerateModel units start) book files) reply h
-cut_says (GenerateLog units start) one book files reply h = is_cut (Says (GenerateLog units start) book files) reply h
-cut_says (Bench units start steps budget) one book files reply h = is_cut (Says (Bench units start steps budget) book files) reply h
-cut_says (Session steps budget) one book files reply h = cc
+cut_says : (c : Command) → is_session c ≡ false → (words : List (List ℕ)) (book : List BookEntry) (files : List (List ℕ)) (reply : Kind × List ℕ) → SaysInAll c words book files (whole reply) → SaysInAll c words book files (cut_short reply)
+cut_says Trace one words book files reply h = is_cut (Says Trace words book files) reply h
+cut_says Show one words book files reply h = is_cut (Says Show words book files) reply h
+cut_says (Replay steps) one words book files reply h = is_cut (Says (Replay steps) words book files) reply h
+cut_says Check one words book files reply h = is_cut (Says Check words book files) reply h
+cut_says (Diagnose steps budget) one words book files reply h = is_cut (Says (Diagnose steps budget) words book files) reply h
+cut_says (PrintCnf steps bound) one words book files reply h = is_cut (Says (PrintCnf steps bound) words book files) reply h
+cut_says (PrintProof steps budget) one words book files reply h = is_cut (Says (PrintProof steps budget) words book files) reply h
+cut_says (GenerateModel units start) one words book files reply h = is_cut (Says (GenerateModel units start) words book files) reply h
+cut_says (GenerateLog units start) one words book files reply h = is_cut (Says (GenerateLog units start) words book files) reply h
+cut_says (Bench units start steps budget) one words book files reply h = is_cut (Says (Bench units start steps budget) words book files) reply h
+cut_says (Session steps budget) one words book files reply h = cc
+cut_says (Twin steps after budget) one words book files reply h = is_cut (Says (Twin steps after budget) words book files) reply h
 
 -- ---- over its files, where one transcript takes the place of another
 
@@ -40,9 +41,9 @@ past_text : (o : Option FaultyText) (t u : Transcript) (P Q : Type 0) → (P →
 past_text None t u P Q f h = f h
 past_text (Some text) t u P Q f h = cc
 
-past_size : (o : Option ℕ) (t u : Transcript) (P Q : Type 0) → (P → Q) → MatchOption o P (λ size. ◌≡◌ {A = Ending} (Ok t) (Err (Large size))) → MatchOption o Q (λ size. ◌≡◌ {A = Ending} (Ok u) (Err (Large size)))
-past_size None t u P Q f h = f h
-past_size (Some size) t u P Q f h = cc
+past_stop : (o : Option Stop) (t u : Transcript) (P Q : Type 0) → (P → Q) → MatchOption o P (λ stop. ◌≡◌ {A = Ending} (Ok t) (Err stop)) → MatchOption o Q (λ stop. ◌≡◌ {A = Ending} (Ok u) (Err stop))
+past_stop None t u P Q f h = f h
+past_stop (Some stop) t u P Q f h = cc
 
 in_place : (l : Loads) (words : List (List ℕ)) (i : ℕ) (kinds : List FileKind) (files : List (List ℕ)) (closes : List (List ℕ) → Ending → Type 0) (t u : Transcript) → ((texts : List (List ℕ)) → closes texts (Ok t) → closes texts (Ok u))
     → InOrder l words i kinds files closes (Ok t) → InOrder l words i kinds files closes (Ok u)
@@ -64,8 +65,8 @@ cuts : (l : Loads) (words : List (List ℕ)) (c : Command) (book : List BookEntr
     → IfOk r (λ reply. Answers l words c book (Ok (cut_short reply)))
 cuts l words c book one (Err stop) h = tt
 cuts l words c book one (Ok reply) h =
-    in_place l words 1 (files_of c) [] (Closes c book) (whole reply) (cut_short reply)
-    (λ texts. past_size (too_large c texts) (whole reply) (cut_short reply) (SaysInAll c book texts (whole reply)) (SaysInAll c book texts (cut_short reply)) (cut_says c one book texts reply)) (h (λ never. cc))
+    in_place l words 1 (files_of c) [] (Closes c words book) (whole reply) (cut_short reply)
+    (λ texts. past_stop (halts c words texts) (whole reply) (cut_short reply) (SaysInAll c words book texts (whole reply)) (SaysInAll c words book texts (cut_short reply)) (cut_says c one words book texts reply)) (h (λ never. cc))
 
 pub cuts_due : (l : Loads) (words : List (List ℕ)) (c : Command) (book : List BookEntry) → command_of words ≡ Some c → is_session c ≡ false → (r : Result (Kind × List ℕ) Stop) → UnlessMemory r (Answers l words c book (once r))
     → IfOk r (λ reply. Due l words book (Ok (cut_short reply)))

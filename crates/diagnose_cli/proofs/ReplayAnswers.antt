@@ -27,7 +27,7 @@ module _ (l : Loads) (words : List (List ℕ)) (steps : ℕ) (book : List BookEn
   -- it stops at the run
   pub run_refused : (stop : Stop) → StopsIn l 3 (word_at words 3) (limit_of run) (fault_of_run net) stop → AnswersAfter l words (Replay steps) book (model ∷ rows ∷ []) (Err stop)
   run_refused stop h =
-      stops_here l words 3 run [] (model ∷ rows ∷ []) (Closes (Replay steps) book) stop (subst (λ (n : Net). StopsIn l 3 (word_at words 3) (limit_of run) (fault_of_run n) stop) network h)
+      stops_here l words 3 run [] (model ∷ rows ∷ []) (Closes (Replay steps) words book) stop (subst (λ (n : Net). StopsIn l 3 (word_at words 3) (limit_of run) (fault_of_run n) stop) network h)
 
   -- or says what replaying tells
   pub replayed : (events : List RunStep) (told : Replayed) (reply : Kind × List ℕ) → IsReadAs l.held (word_at words 3) (limit_of run) (fault_of_run net) (λ text. events ≡ run_of net text)
@@ -36,7 +36,7 @@ module _ (l : Loads) (words : List (List ℕ)) (steps : ℕ) (book : List BookEn
       let of_text : IsReplayed net alarms (run_of net text) steps told = subst (λ (es : List RunStep). IsReplayed net alarms es steps told) is tells in
       let of_model : IsReplayed (network_of model) alarms (run_of (network_of model) text) steps told = subst (λ (n : Net). IsReplayed n alarms (run_of n text) steps told) network of_text in
       let of_log : IsReplayed (network_of model) (log_of rows) (run_of (network_of model) text) steps told = subst (λ (a : Log). IsReplayed (network_of model) a (run_of (network_of model) text) steps told) log of_model in
-      goes_on l words 3 run [] (model ∷ rows ∷ []) (Closes (Replay steps) book) text (Ok (whole reply))
+      goes_on l words 3 run [] (model ∷ rows ∷ []) (Closes (Replay steps) words book) text (Ok (whole reply))
       (subst (λ (n : Net). IsText l.held (word_at words 3) (limit_of run) (fault_of_run n) text) network read) (is_one _ reply
       (record {
         replayed = told;

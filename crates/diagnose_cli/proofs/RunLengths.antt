@@ -26,7 +26,7 @@ back : (P : ℕ → Type 0) (xs ys : List ℕ) → All P (xs ++ ys) → All P ys
 back P [] ys all = all
 back P (x ∷ xs) ys all = back P xs ys (All-tail P x (xs ++ ys) all)
 
-pieces_length : (net : Net) (pieces : List (List ℕ)) → IsNetwork net → All (λ e. e < length net.events) (joined pieces) → AllByRecursion (IsPiece net) pieces
+pub pieces_length : (net : Net) (pieces : List (List ℕ)) → IsNetwork net → All (λ e. e < length net.events) (joined pieces) → AllByRecursion (IsPiece net) pieces
     → length (joined pieces) ≤ length pieces * length net.components
 pieces_length net [] network known apart = omega arith
 pieces_length net (piece ∷ pieces) network known apart =

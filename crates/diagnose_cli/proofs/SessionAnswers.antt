@@ -1,5 +1,6 @@
 -- How a session ends, by how its rows went.
 use Rattle.std.proofs.Common.{◌≡◌, ◌≢◌, ◌≤◌, ◌<◌, ◌∙◌, ℕ, List, [], ◌∷◌, Option, Some, None, Result, Ok, Err, IfSome, IsErrAnd, IsOkAnd, MatchOption, true, refl, sym, ap, subst, arith}
+use Rattle.std.specs.Prelude.{option_map}
 use Rattle.des_net.specs.Network.{Net}
 use Rattle.least_faults.specs.declared.TheConstants.{MOST_SIZE}
 use Rattle.log_csv.specs.ScriptText.{script_of}
@@ -29,6 +30,7 @@ use Rattle.telling.proofs.Taking.{nothing_taken}
 use Rattle.diagnose_cli.proofs.Once.{wants_memory}
 use Rattle.diagnose_cli.proofs.Speaking.{put_speaks}
 use Rattle.diagnose_cli.proofs.Orders.{stops_in_two, with_two}
+use Rattle.diagnose_cli.proofs.StopStatus.{between}
 
 -- ---- by its status
 
@@ -59,20 +61,20 @@ module _ (may due : Ending → Type 0) (weaker : (e : Ending) → may e → due 
 -- no stop has the status of a session
 pub no_stop : (r : Result (Unit {0}) Broken) (status : ℕ) → status ≡ status_of_session r → SaysStop status → ⊥
 no_stop (Ok done) status is stop = absurd (omega (arith, is, stop.low))
-no_stop (Err Memory) status is stop = absurd (omega (arith, is, stop.high))
+no_stop (Err Memory) status is stop = absurd (between status stop (omega (arith, is)) (omega (arith, is)))
 no_stop (Err Put) status is stop = absurd (stop.put is)
 
 -- ---- over its two files
 
-module _ (steps budget : ℕ) (book : List BookEntry) (net : Net) (rows : List Row) (text lines : List ℕ) (network : net ≡ network_of text) (script : rows ≡ script_of lines) where
+module _ (steps budget : ℕ) (words : List (List ℕ)) (book : List BookEntry) (net : Net) (rows : List Row) (text lines : List ℕ) (network : net ≡ network_of text) (script : rows ≡ script_of lines) where
   abbrev size : ℕ
   size = question_size (network_of text) no_log steps
 
   -- what closes over them where the size is known
-  closes_by : (o : Option ℕ) (e : Ending) → above_limit size ≡ o → MatchOption o (IsOkAnd e (IsSession (network_of text) steps budget (script_of lines) book)) (λ k. e ≡ Err (Large k)) → Closes (Session steps budget) book (text ∷ lines ∷ []) e
-  closes_by o e is h = subst (λ (p : Option ℕ). MatchOption p (IsOkAnd e (IsSession (network_of text) steps budget (script_of lines) book)) (λ k. e ≡ Err (Large k))) (sym is) h
+  closes_by : (o : Option ℕ) (e : Ending) → above_limit size ≡ o → MatchOption (option_map (λ k. Large k) o) (IsOkAnd e (IsSession (network_of text) steps budget (script_of lines) book)) (λ stop. e ≡ Err stop) → Closes (Session steps budget) words book (text ∷ lines ∷ []) e
+  closes_by o e is h = subst (λ (p : Option ℕ). MatchOption (option_map (λ k. Large k) p) (IsOkAnd e (IsSession (network_of text) steps budget (script_of lines) book)) (λ stop. e ≡ Err stop)) (sym is) h
 
-  pub empty_too_large : (k : ℕ) → k ≡ question_size net no_log steps → MOST_SIZE < k → Closes (Session steps budget) book (text ∷ lines ∷ []) (Err (Large k))
+  pub empty_too_large : (k : ℕ) → k ≡ question_size net no_log steps → MOST_SIZE < k → Closes (Session steps budget) words book (text ∷ lines ∷ []) (Err (Large k))
   empty_too_large k is above =
       closes_by (Some k) (Err (Large k)) (ap above_limit (sym (is ∙ ap (λ m. question_size m no_log steps) network)) ∙ past_limit k above) refl
 
@@ -80,15 +82,15 @@ module _ (steps budget : ℕ) (book : List BookEntry) (net : Net) (rows : List R
   abbrev Says : Net → List Row → Ending → Type 0
   Says of_net of_rows e = IsOkAnd e (IsSession of_net steps budget of_rows book)
 
-  may_say : (k : ℕ) → k ≡ question_size net no_log steps → k ≤ MOST_SIZE → (e : Ending) → Says net rows e → Closes (Session steps budget) book (text ∷ lines ∷ []) e
+  may_say : (k : ℕ) → k ≡ question_size net no_log steps → k ≤ MOST_SIZE → (e : Ending) → Says net rows e → Closes (Session steps budget) words book (text ∷ lines ∷ []) e
   may_say k is small e says =
       let of_net = subst (λ (m : Net). Says m rows e) network says in
       closes_by None e (within_limit size (subst (λ j. j ≤ MOST_SIZE) (is ∙ ap (λ m. question_size m no_log steps) network) small)) (subst (λ (rs : List Row). Says (network_of text) rs e) script of_net)
 
   pub session_speaks : (k : ℕ) (before now : Option (List ℕ)) (rose : Type 0) (r : Result (Unit {0}) Broken) (status : ℕ) → k ≡ question_size net no_log steps → k ≤ MOST_SIZE → status ≡ status_of_session r
-      → Speaks (MaySay net steps budget rows book) (book ≡ []) before now rose (status_of_session r) → Speaks (Closes (Session steps budget) book (text ∷ lines ∷ [])) (book ≡ []) before now rose status
+      → Speaks (MaySay net steps budget rows book) (book ≡ []) before now rose (status_of_session r) → Speaks (Closes (Session steps budget) words book (text ∷ lines ∷ [])) (book ≡ []) before now rose status
   session_speaks k before now rose r status is small shown speaks =
-      let closes = Closes (Session steps budget) book (text ∷ lines ∷ []) in
+      let closes = Closes (Session steps budget) words book (text ∷ lines ∷ []) in
       subst (Speaks closes (book ≡ []) before now rose) (sym shown)
       (speaks_weaker (MaySay net steps budget rows book) closes (may_say k is small) (book ≡ []) (book ≡ []) (λ none. none) before now rose (status_of_session r) speaks)
 
@@ -106,12 +108,12 @@ not_begun words book none = by (command_of words)
 
 module _ (l : Loads) (words : List (List ℕ)) (steps budget : ℕ) (book : List BookEntry) (called : command_of words ≡ Some (Session steps budget)) where
   pub plan_speaks : (net : Net) (rows : List Row) (before now : Option (List ℕ)) (rose : Type 0) (status : ℕ) (plan : IsPlan l.held words net rows)
-      → Speaks (Closes (Session steps budget) book (plan.text ∷ plan.second ∷ [])) (book ≡ []) before now rose status → Speaks (Due l words book) (HasNotBegun words book) before now rose status
+      → Speaks (Closes (Session steps budget) words book (plan.text ∷ plan.second ∷ [])) (book ≡ []) before now rose status → Speaks (Due l words book) (HasNotBegun words book) before now rose status
   plan_speaks net rows before now rose status plan speaks =
-      speaks_weaker (Closes (Session steps budget) book (plan.text ∷ plan.second ∷ [])) (Due l words book)
-      (λ e h. due_for l words (Session steps budget) book e called (with_two l words script [] (Closes (Session steps budget) book) net (λ lines. rows ≡ script_of lines) e plan h)) (book ≡ []) (HasNotBegun words book) (not_begun words book)
+      speaks_weaker (Closes (Session steps budget) words book (plan.text ∷ plan.second ∷ [])) (Due l words book)
+      (λ e h. due_for l words (Session steps budget) book e called (with_two l words script [] (Closes (Session steps budget) words book) net (λ lines. rows ≡ script_of lines) e plan h)) (book ≡ []) (HasNotBegun words book) (not_begun words book)
       before now rose status speaks
 
   pub plan_stops : (stop : Stop) → (stop ≢ NoMemory → StopsAtFirstTwo script l words stop) → UnlessMemory {T = Kind × List ℕ} (Err stop) (Due l words book (once (Err stop)))
   plan_stops stop h never =
-      due_for l words (Session steps budget) book (Err stop) called (stops_in_two l words script [] (Closes (Session steps budget) book) stop (h (λ is. never (ap (λ s. Err s) is))))
+      due_for l words (Session steps budget) book (Err stop) called (stops_in_two l words script [] (Closes (Session steps budget) words book) stop (h (λ is. never (ap (λ s. Err s) is))))

@@ -20,5 +20,5 @@ use Rattle.diagnose_cli.proofs.Reading.{none_before}
 pub shown : (l : Loads) (words : List (List ℕ)) (book : List BookEntry) (net : Net) (reply : Kind × List ℕ) → IsReadAs l.held (word_at words 1) (limit_of model) fault_of_model (λ text. net ≡ network_of text)
     → reply ≡ reply_of_model net → Answers l words Show book (once (Ok reply))
 shown l words book net reply (text, read, is) says =
-    goes_on l words 1 model [] [] (Closes Show book) text (Ok (whole reply)) read
+    goes_on l words 1 model [] [] (Closes Show words book) text (Ok (whole reply)) read
     (is_one _ reply (record { is = subst (λ (n : Net). reply ≡ reply_of_model n) is says; again = read_and_printed text (none_before _ (first_fault text) read.well) }))

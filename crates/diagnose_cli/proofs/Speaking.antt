@@ -4,7 +4,7 @@ use Rattle.std.specs.List.{concat}
 use Rattle.des_base.specs.Outside.{Took}
 use Rattle.telling.specs.Telling.{TookCut}
 use Rattle.diagnose_cli.specs.declared.ending.Kind.{Kind}
-use Rattle.diagnose_cli.specs.declared.ending.Kind.TheVariants.{Done, Rejected, Absent, Undecided, Many, Nothing}
+use Rattle.diagnose_cli.specs.declared.ending.Kind.TheVariants.{Done, Rejected, Absent, Undecided, Many, Nothing, Ambiguous}
 use Rattle.diagnose_cli.specs.Endings.{status_of_kind}
 use Rattle.diagnose_cli.specs.Puts.{Finishes, IsCutOff, Speaks}
 use Rattle.diagnose_cli.specs.Transcripts.{End, Ending, OrMemory, said, cut, broken}
@@ -17,6 +17,7 @@ not_four Absent four = cc
 not_four Undecided four = cc
 not_four Many four = cc
 not_four Nothing four = cc
+not_four Ambiguous four = cc
 
 module _ (due : Ending → Type 0) (lost : Type 0) (before now : Option (List ℕ)) (rose : Type 0) where
   -- its texts were put

@@ -31,7 +31,7 @@ use Rattle.diagnose_cli.specs.Replies.{kind_of_found, reply_of_checked, AnswersQ
 use Rattle.diagnose_cli.specs.Outcomes.{Outcome, Tells}
 use Rattle.diagnose_cli.specs.Rows.{AreTold, Asks, TellsLeast, TellsMany, TellsUndecided}
 use Rattle.diagnose_cli.specs.Run.{Ends}
-use Rattle.diagnose_cli.proofs.Answered.{AreHeld, IsStopStatus, said_over, same_text}
+use Rattle.diagnose_cli.proofs.Answered.{AreHeld, IsStopStatus, between, said_over, same_text}
 
 -- ---- a proof that is verified
 
@@ -40,7 +40,7 @@ yes : (axioms : List Clause) (steps : List ProofStep) (checked : Checked) → ch
 yes axioms steps Verified is status = verified_refutes axioms steps is
 yes axioms steps (Rejected line kind) is status = absurd (omega arith)
 
-of_checked : (o : Outcome) (formula : List ℕ) (texts : List (List ℕ)) → o.loads.held (word_at o.words 1) ≡ Some formula → o.status ≡ 0 → AreHeld o.loads.held o.words 1 texts → Tells o (Says Check o.book texts)
+of_checked : (o : Outcome) (formula : List ℕ) (texts : List (List ℕ)) → o.loads.held (word_at o.words 1) ≡ Some formula → o.status ≡ 0 → AreHeld o.loads.held o.words 1 texts → Tells o (Says Check o.words o.book texts)
     → IsUnsatisfiable (formula_of formula).clauses
 of_checked o formula [] there zero held tells = absurd tells.says
 of_checked o formula (text ∷ []) there zero held tells = absurd tells.says
@@ -52,7 +52,7 @@ of_checked o formula (text ∷ proof ∷ other ∷ texts) there zero held tells 
 
 pub refuted : (o : Outcome) → Ends o → (formula : List ℕ) → Asks o Check (formula ∷ []) → o.status ≡ 0 → IsUnsatisfiable (formula_of formula).clauses
 refuted o ends formula asks zero =
-    let over = said_over o Check (λ book texts t h. h) ends asks.command (λ stop. omega (arith, zero, stop.low)) in
+    let over = said_over o Check (λ words book texts t h. h) ends asks.command (λ stop. omega (arith, zero, stop.low)) in
     of_checked o formula over.texts asks.told.0 zero over.held over.tells
 
 -- ---- what is found of a log
@@ -73,7 +73,7 @@ of_reply o steps budget text alarms tells = record {
 
 -- over the two texts that are told
 over_texts : (o : Outcome) (steps budget : ℕ) (text alarms : List ℕ) (texts : List (List ℕ)) → AreTold o.loads.held o.words 1 (text ∷ alarms ∷ []) → AreHeld o.loads.held o.words 1 texts
-    → Tells o (Says (Diagnose steps budget) o.book texts) → Tells o (SaysDiagnosed steps budget text alarms o.book)
+    → Tells o (Says (Diagnose steps budget) o.words o.book texts) → Tells o (SaysDiagnosed steps budget text alarms o.book)
 over_texts o steps budget text alarms [] there held tells = absurd tells.says
 over_texts o steps budget text alarms (model ∷ []) there held tells = absurd tells.says
 over_texts o steps budget text alarms (model ∷ rows ∷ []) there held tells =
@@ -83,7 +83,7 @@ over_texts o steps budget text alarms (model ∷ rows ∷ other ∷ texts) there
 
 found_told : (o : Outcome) (steps budget : ℕ) (text alarms : List ℕ) → Ends o → Asks o (Diagnose steps budget) (text ∷ alarms ∷ []) → (IsStopStatus o.status → ⊥) → TellsFound o (network_of text) (log_of alarms) steps budget
 found_told o steps budget text alarms ends asks answers =
-    let over = said_over o (Diagnose steps budget) (λ book texts t h. h) ends asks.command answers in
+    let over = said_over o (Diagnose steps budget) (λ words book texts t h. h) ends asks.command answers in
     of_reply o steps budget text alarms (over_texts o steps budget text alarms over.texts asks.told over.held over.tells)
 
 -- ---- by the status
@@ -143,20 +143,20 @@ module _ (o : Outcome) (ends : Ends o) where
 
   pub absent : (steps budget : ℕ) (text alarms : List ℕ) → Asks o (Diagnose steps budget) (text ∷ alarms ∷ []) → o.status ≡ 10 → IsAbsent (network_of text) (log_of alarms) steps
   absent steps budget text alarms asks is =
-      let tells = found_told o steps budget text alarms ends asks (λ stop. omega (arith, is, stop.high)) in
+      let tells = found_told o steps budget text alarms ends asks (λ stop. between o.status _ is (omega arith) (omega arith) stop) in
       absent_of o (network_of text) (log_of alarms) steps budget tells.found (sym is ∙ tells.shown) tells.holds.diagnosed
 
   pub undecided : (steps budget : ℕ) (text alarms : List ℕ) → Asks o (Diagnose steps budget) (text ∷ alarms ∷ []) → o.status ≡ 11 → TellsUndecided o (network_of text) (log_of alarms) steps budget
   undecided steps budget text alarms asks is =
-      let tells = found_told o steps budget text alarms ends asks (λ stop. omega (arith, is, stop.high)) in
+      let tells = found_told o steps budget text alarms ends asks (λ stop. between o.status _ is (omega arith) (omega arith) stop) in
       undecided_of o (network_of text) (log_of alarms) steps budget tells.found (sym is ∙ tells.shown) tells.holds.diagnosed tells.put
 
   pub many : (steps budget : ℕ) (text alarms : List ℕ) → Asks o (Diagnose steps budget) (text ∷ alarms ∷ []) → o.status ≡ 12 → TellsMany o (network_of text) (log_of alarms) steps
   many steps budget text alarms asks is =
-      let tells = found_told o steps budget text alarms ends asks (λ stop. omega (arith, is, stop.high)) in
+      let tells = found_told o steps budget text alarms ends asks (λ stop. between o.status _ is (omega arith) (omega arith) stop) in
       many_of o (network_of text) (log_of alarms) steps budget tells.found (sym is ∙ tells.shown) tells.holds.diagnosed tells.put
 
   pub decided : (steps budget : ℕ) (text alarms : List ℕ) → Asks o (Diagnose steps budget) (text ∷ alarms ∷ []) → 3 ^ variable_bound (network_of text) (log_of alarms) steps ≤ budget → o.status ≡ 11 → ⊥
   decided steps budget text alarms asks enough is =
-      let tells = found_told o steps budget text alarms ends asks (λ stop. omega (arith, is, stop.high)) in
+      let tells = found_told o steps budget text alarms ends asks (λ stop. between o.status _ is (omega arith) (omega arith) stop) in
       undecided_small (network_of text) (log_of alarms) steps budget o.book tells.found (sym is ∙ tells.shown) tells.holds.diagnosed enough

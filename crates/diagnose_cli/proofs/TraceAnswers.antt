@@ -23,12 +23,12 @@ module _ (l : Loads) (words : List (List ℕ)) (book : List BookEntry) (model : 
   -- it stops at the run
   pub run_refused : (stop : Stop) → StopsIn l 2 (word_at words 2) (limit_of run) (fault_of_run net) stop → AnswersAfter l words Trace book (model ∷ []) (Err stop)
   run_refused stop h =
-      stops_here l words 2 run [] (model ∷ []) (Closes Trace book) stop (subst (λ (n : Net). StopsIn l 2 (word_at words 2) (limit_of run) (fault_of_run n) stop) network h)
+      stops_here l words 2 run [] (model ∷ []) (Closes Trace words book) stop (subst (λ (n : Net). StopsIn l 2 (word_at words 2) (limit_of run) (fault_of_run n) stop) network h)
 
   -- or says what tracing tells
   pub traced : (steps : List RunStep) (told : Traced) (reply : Kind × List ℕ) → IsReadAs l.held (word_at words 2) (limit_of run) (fault_of_run net) (λ text. steps ≡ run_of net text)
       → IsTraced net steps told → reply ≡ reply_of_traced told → AnswersAfter l words Trace book (model ∷ []) (once (Ok reply))
   traced steps told reply (text, read, is) tells says =
-      goes_on l words 2 run [] (model ∷ []) (Closes Trace book) text (Ok (whole reply))
+      goes_on l words 2 run [] (model ∷ []) (Closes Trace words book) text (Ok (whole reply))
       (subst (λ (n : Net). IsText l.held (word_at words 2) (limit_of run) (fault_of_run n) text) network read)
       (is_one _ reply (record { traced = told; holds = subst (λ (n : Net). IsTraced n (run_of n text) told) network (subst (λ (s : List RunStep). IsTraced net s told) is tells); is = says }))

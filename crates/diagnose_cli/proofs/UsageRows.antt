@@ -1,18 +1,18 @@
 -- `USAGE` is said of no command.
-use Rattle.std.proofs.Common.{◌≡◌, inl, inr, ℕ, ◌+◌, List, [], ◌∷◌, ◌++◌, Option, Some, None, Ok, Err, IsOkAnd, MatchOption, refl, subst, arith}
+use Rattle.std.proofs.Common.{◌≡◌, inl, inr, ℕ, ◌+◌, List, [], ◌∷◌, ◌++◌, Bool, true, false, Option, Some, None, Ok, Err, IsOkAnd, MatchOption, refl, subst, arith}
 use Rattle.proof_ledger.specs.Book.{BookEntry}
 use Rattle.diagnose_cli.specs.declared.command.Command.{Command}
 use Rattle.diagnose_cli.specs.declared.ending.Kind.{Kind}
-use Rattle.diagnose_cli.specs.declared.ending.Kind.TheVariants.{Done, Rejected, Absent, Undecided, Many, Nothing}
-use Rattle.diagnose_cli.specs.declared.stop.Stop.TheVariants.{Usage, Load, Faulty, Long, Large, Memory}
+use Rattle.diagnose_cli.specs.declared.ending.Kind.TheVariants.{Done, Rejected, Absent, Undecided, Many, Nothing, Ambiguous}
+use Rattle.diagnose_cli.specs.declared.stop.Stop.TheVariants.{Usage, Load, Faulty, Long, NoFault, Large, Memory}
 use Rattle.diagnose_cli.specs.declared.stop.FaultyText.{FaultyText}
-use Rattle.diagnose_cli.specs.declared.stop.FaultyText.TheVariants.{Model, Log, Run, Cnf, Lrat}
+use Rattle.diagnose_cli.specs.declared.stop.FaultyText.TheVariants.{Model, Log, Run, Cnf, Lrat, Cost}
 use Rattle.diagnose_cli.specs.Transcripts.{End, said, cut, broken, Ending, Transcript, UnlessMemory}
 use Rattle.diagnose_cli.specs.Files.{Loads}
 use Rattle.diagnose_cli.specs.Endings.{HasStatus, status_of_end, status_of_kind, status_of_faulty}
 use Rattle.diagnose_cli.specs.Texts.{FileKind, fault_of_text}
 use Rattle.diagnose_cli.specs.Commands.{files_of, command_of}
-use Rattle.diagnose_cli.specs.Due.{SaysInAll, too_large, Closes, InOrder, Answers, Due}
+use Rattle.diagnose_cli.specs.Due.{SaysInAll, lacks_fault, stop_by, too_large, Closes, InOrder, Answers, Due}
 use Rattle.diagnose_cli.specs.Outcomes.{Outcome}
 use Rattle.diagnose_cli.specs.Run.{Ends}
 
@@ -32,13 +32,14 @@ not_in_order l words i (kind ∷ kinds) files closes f h =
       | inr b ↦ after_text (fault_of_text kind files b.0) _ (not_in_order l words (i + 1) kinds (files ++ b.0 ∷ []) closes f) b.2
     ]
 
-never_closes : (o : Option ℕ) (says : Transcript → Type 0) → MatchOption o (IsOkAnd usage says) (λ size. usage ≡ Err (Large size)) → ⊥
-never_closes None says h = absurd h
-never_closes (Some size) says h = cc
+never_closes : (lacks : Bool) (o : Option ℕ) (says : Transcript → Type 0) → MatchOption (stop_by lacks o) (IsOkAnd usage says) (λ stop. usage ≡ Err stop) → ⊥
+never_closes true o says h = cc
+never_closes false None says h = absurd h
+never_closes false (Some size) says h = cc
 
 no_command : (l : Loads) (words : List (List ℕ)) (book : List BookEntry) (o : Option Command) → MatchOption o (usage ≡ Err Usage) (λ c. Answers l words c book usage) → o ≡ None
 no_command l words book None h = refl
-no_command l words book (Some c) h = absurd (not_in_order l words 1 (files_of c) [] (Closes c book) (λ texts. never_closes (too_large c texts) (SaysInAll c book texts)) h)
+no_command l words book (Some c) h = absurd (not_in_order l words 1 (files_of c) [] (Closes c words book) (λ texts. never_closes (lacks_fault c words texts) (too_large c texts) (SaysInAll c words book texts)) h)
 
 not_kind : (k : Kind) → 2 ≡ status_of_kind k → ⊥
 not_kind Done p = cc
@@ -47,6 +48,7 @@ not_kind Absent p = cc
 not_kind Undecided p = cc
 not_kind Many p = cc
 not_kind Nothing p = cc
+not_kind Ambiguous p = cc
 
 not_faulty : (text : FaultyText) → 2 ≡ status_of_faulty text → ⊥
 not_faulty (Model fault) p = cc
@@ -54,6 +56,7 @@ not_faulty (Log fault) p = cc
 not_faulty (Run fault) p = cc
 not_faulty (Cnf fault) p = cc
 not_faulty (Lrat fault) p = cc
+not_faulty (Cost fault) p = cc
 
 not_end : (end : End) → 2 ≡ status_of_end end → ⊥
 not_end (said kind) p = not_kind kind p
@@ -66,6 +69,7 @@ of_ending o (Err Usage) d p = no_command o.loads o.words o.book (command_of o.wo
 of_ending o (Err (Load i)) d p = absurd (omega arith)
 of_ending o (Err (Faulty text)) d p = absurd (not_faulty text p)
 of_ending o (Err (Long i)) d p = absurd (omega arith)
+of_ending o (Err NoFault) d p = absurd (omega arith)
 of_ending o (Err (Large size)) d p = absurd (omega arith)
 of_ending o (Err Memory) d p = absurd (omega arith)
 

@@ -4,7 +4,7 @@ use Rattle.des_base.specs.CommandWords.{word_at}
 use Rattle.des_base.specs.Numbers.{number_up_to}
 use Rattle.gen_plant.specs.Plant.{most_units}
 use Rattle.diagnose_cli.specs.declared.command.Command.{Command}
-use Rattle.diagnose_cli.specs.declared.command.Command.TheVariants.{Trace, Show, Replay, Check, Diagnose, PrintCnf, PrintProof, GenerateModel, GenerateLog, Bench, Session}
+use Rattle.diagnose_cli.specs.declared.command.Command.TheVariants.{Trace, Show, Replay, Check, Diagnose, PrintCnf, PrintProof, GenerateModel, GenerateLog, Bench, Session, Twin}
 use Rattle.diagnose_cli.specs.Texts.{FileKind, model, log, script, run, cnf, lrat}
 
 -- this many words, of which the first is the name
@@ -65,6 +65,12 @@ bench_of units start steps budget =
 abbrev pub session_of : List ℕ → List ℕ → Option Command
 session_of steps budget = option_and_then (λ n. option_map (λ b. Session n b) (number_up_to most_budget budget)) (number_up_to most_steps steps)
 
+-- what they ask of `twin`: its event is a word too, which stands behind the model
+abbrev pub twin_of : List ℕ → List ℕ → List ℕ → Option Command
+twin_of steps after budget =
+    option_and_then (λ n.
+    option_and_then (λ d. option_map (λ b. Twin n d b) (number_up_to most_budget budget)) (number_up_to most_steps after)) (number_up_to most_steps steps)
+
 -- the command that the words call, if they call one
 abbrev pub command_of : List (List ℕ) → Option Command
 command_of words =
@@ -78,15 +84,17 @@ command_of words =
     else if calls words (codes "generate") 4 then generate_of (word_at words 1) (word_at words 2) (word_at words 3)
     else if calls words (codes "bench") 5 then bench_of (word_at words 1) (word_at words 2) (word_at words 3) (word_at words 4)
     else if calls words (codes "session") 5 then session_of (word_at words 3) (word_at words 4)
+    else if calls words (codes "twin") 6 then twin_of (word_at words 3) (word_at words 4) (word_at words 5)
     else None
 
--- a question is asked for no more steps than that
+-- a question is asked for no more steps than that, and a twin question for no more to be seen
 abbrev pub HasFewSteps : Command → Type 0
 HasFewSteps (Diagnose steps budget) = steps ≤ most_steps
 HasFewSteps (PrintCnf steps bound) = steps ≤ most_steps
 HasFewSteps (PrintProof steps budget) = steps ≤ most_steps
 HasFewSteps (Bench units start steps budget) = steps ≤ most_steps
 HasFewSteps (Session steps budget) = steps ≤ most_steps
+HasFewSteps (Twin steps after budget) = (steps ≤ most_steps) × (after ≤ most_steps)
 HasFewSteps _ = ⊤
 
 -- a plant is asked for with no more units than it may have
@@ -113,11 +121,17 @@ files_of (GenerateModel units start) = []
 files_of (GenerateLog units start) = []
 files_of (Bench units start steps budget) = []
 files_of (Session steps budget) = model ∷ script ∷ []
+files_of (Twin steps after budget) = model ∷ []
 
 -- the command has a reply for each of several rows
 abbrev pub is_session : Command → Bool
 is_session (Session steps budget) = true
 is_session _ = false
+
+-- how many words behind the first stand for themselves: those of the files, and of `twin` that of the event too
+abbrev pub read_words : Command → ℕ
+read_words (Twin steps after budget) = 2
+read_words c = length (files_of c)
 
 -- how many files a command names
 abbrev pub file_count : Command → ℕ

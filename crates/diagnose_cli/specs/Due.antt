@@ -1,6 +1,7 @@
 -- What may come for the words of a command line: a stop by the first cause in order, what the command says, or want of memory.
-use Rattle.std.specs.Prelude.{◌≡◌, ℕ, ◌+◌, List, [], ◌∷◌, ◌++◌, length, drop, true, nat_lt, Option, Some, None, if◌then◌else◌, Err, IfSome, IsOkAnd, MatchOption}
+use Rattle.std.specs.Prelude.{◌≡◌, ℕ, ◌+◌, List, [], ◌∷◌, ◌++◌, length, drop, Bool, true, false, nat_lt, is_none, option_map, Option, Some, None, if◌then◌else◌, Err, IfSome, IsOkAnd, MatchOption}
 use Rattle.des_base.specs.CommandWords.{word_at}
+use Rattle.event_costs.specs.CostText.{fault_event_of}
 use Rattle.gen_plant.specs.Plant.{plant_net, plant_log}
 use Rattle.model_text.specs.ModelFaults.{network_of}
 use Rattle.least_faults.specs.declared.TheConstants.{MOST_SIZE}
@@ -10,20 +11,22 @@ use Rattle.log_csv.specs.ScriptText.{script_of}
 use Rattle.proof_ledger.specs.Book.{BookEntry}
 use Rattle.replay.specs.QuestionSize.{question_size}
 use Rattle.diagnose_cli.specs.declared.command.Command.{Command}
-use Rattle.diagnose_cli.specs.declared.command.Command.TheVariants.{Diagnose, PrintCnf, PrintProof, Bench, Session}
-use Rattle.diagnose_cli.specs.declared.stop.Stop.TheVariants.{Usage, Faulty, Large}
+use Rattle.diagnose_cli.specs.declared.command.Command.TheVariants.{Diagnose, PrintCnf, PrintProof, Bench, Session, Twin}
+use Rattle.diagnose_cli.specs.declared.stop.Stop.{Stop}
+use Rattle.diagnose_cli.specs.declared.stop.Stop.TheVariants.{Usage, Faulty, NoFault, Large}
 use Rattle.diagnose_cli.specs.Transcripts.{Ending, IsOne, OrMemory, Transcript}
 use Rattle.diagnose_cli.specs.Files.{Loads, WithFile}
 use Rattle.diagnose_cli.specs.Texts.{FileKind, limit_of, fault_of_text}
 use Rattle.diagnose_cli.specs.Commands.{command_of, files_of, is_session}
 use Rattle.diagnose_cli.specs.Replies.{Says}
 use Rattle.diagnose_cli.specs.SessionReplies.{IsSession}
+use Rattle.twin_test.specs.Twins.{twin_size}
 
--- What a command may say over the bytes of its files: one reply, or those to the rows of a script. One reply is the one line of a command in `Says`.
-abbrev pub SaysInAll : Command → List BookEntry → List (List ℕ) → Transcript → Type 0
-SaysInAll (Session steps budget) book (text ∷ lines ∷ []) told = IsSession (network_of text) steps budget (script_of lines) book told
-SaysInAll (Session steps budget) book _ told = ⊥
-SaysInAll c book files told = IsOne (Says c book files) told
+-- What a command may say by its words and over the bytes of its files: one reply, or those to the rows of a script. One reply is the one line of a command in `Says`.
+abbrev pub SaysInAll : Command → List (List ℕ) → List BookEntry → List (List ℕ) → Transcript → Type 0
+SaysInAll (Session steps budget) words book (text ∷ lines ∷ []) told = IsSession (network_of text) steps budget (script_of lines) book told
+SaysInAll (Session steps budget) words book _ told = ⊥
+SaysInAll c words book files told = IsOne (Says c words book files) told
 
 -- the size, where it is above the limit
 abbrev pub above_limit : ℕ → Option ℕ
@@ -36,11 +39,25 @@ too_large (PrintCnf steps bound) (text ∷ alarms ∷ []) = above_limit (questio
 too_large (PrintProof steps budget) (text ∷ alarms ∷ []) = above_limit (question_size (network_of text) (log_of alarms) steps)
 too_large (Bench units start steps budget) [] = above_limit (question_size (plant_net units) (plant_log units start) steps)
 too_large (Session steps budget) (text ∷ lines ∷ []) = above_limit (question_size (network_of text) no_log steps)
+too_large (Twin steps after budget) (text ∷ []) = above_limit (twin_size (network_of text) steps after)
 too_large _ _ = None
 
--- after its files a command stops by the size of its question, or says what it may
-abbrev pub Closes : Command → List BookEntry → List (List ℕ) → Ending → Type 0
-Closes c book files e = MatchOption (too_large c files) (IsOkAnd e (SaysInAll c book files)) (λ size. e ≡ Err (Large size))
+-- a twin question is about a fault event, and its word names none
+abbrev pub lacks_fault : Command → List (List ℕ) → List (List ℕ) → Bool
+lacks_fault (Twin steps after budget) words (text ∷ []) = is_none (fault_event_of (network_of text) (word_at words 2))
+lacks_fault _ words _ = false
+
+-- the stop by these two causes, of which the first goes before the second
+abbrev pub stop_by : Bool → Option ℕ → Option Stop
+stop_by lacks size = if lacks then Some NoFault else option_map (λ n. Large n) size
+
+-- why a command stops after its files: it lacks a fault event, or its question is too large
+abbrev pub halts : Command → List (List ℕ) → List (List ℕ) → Option Stop
+halts c words files = stop_by (lacks_fault c words files) (too_large c files)
+
+-- after its files a command stops so, or says what it may
+abbrev pub Closes : Command → List (List ℕ) → List BookEntry → List (List ℕ) → Ending → Type 0
+Closes c words book files e = MatchOption (halts c words files) (IsOkAnd e (SaysInAll c words book files)) (λ stop. e ≡ Err stop)
 
 -- The files from number i on, in order: for each its load, its length and its text. Then the end.
 abbrev pub InOrder : Loads → List (List ℕ) → ℕ → List FileKind → List (List ℕ) → (List (List ℕ) → Ending → Type 0) → Ending → Type 0
@@ -51,11 +68,11 @@ InOrder l words i (kind ∷ kinds) files closes e =
 
 -- what may be answered to a command with this book left: its files in order, which stand from word 1 on, and then the end
 abbrev pub Answers : Loads → List (List ℕ) → Command → List BookEntry → Ending → Type 0
-Answers l words c book = InOrder l words 1 (files_of c) [] (Closes c book)
+Answers l words c book = InOrder l words 1 (files_of c) [] (Closes c words book)
 
 -- the same where the first of the files are read, and these are their bytes
 abbrev pub AnswersAfter : Loads → List (List ℕ) → Command → List BookEntry → List (List ℕ) → Ending → Type 0
-AnswersAfter l words c book files = InOrder l words (length files + 1) (drop (length files) (files_of c)) files (Closes c book)
+AnswersAfter l words c book files = InOrder l words (length files + 1) (drop (length files) (files_of c)) files (Closes c words book)
 
 -- what may be answered for these words with this book left, but for want of memory
 abbrev pub Due : Loads → List (List ℕ) → List BookEntry → Ending → Type 0

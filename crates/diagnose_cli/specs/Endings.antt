@@ -1,11 +1,11 @@
 -- The status of an ending, and its texts.
 use Rattle.std.specs.Prelude.{◌≡◌, ℕ, List, [], ◌∷◌, codes, Ok, Err}
 use Rattle.diagnose_cli.specs.declared.stop.Stop.{Stop}
-use Rattle.diagnose_cli.specs.declared.stop.Stop.TheVariants.{Usage, Load, Faulty, Long, Large, Memory}
+use Rattle.diagnose_cli.specs.declared.stop.Stop.TheVariants.{Usage, Load, Faulty, Long, NoFault, Large, Memory}
 use Rattle.diagnose_cli.specs.declared.stop.FaultyText.{FaultyText}
-use Rattle.diagnose_cli.specs.declared.stop.FaultyText.TheVariants.{Model, Log, Run, Cnf, Lrat}
+use Rattle.diagnose_cli.specs.declared.stop.FaultyText.TheVariants.{Model, Log, Run, Cnf, Lrat, Cost}
 use Rattle.diagnose_cli.specs.declared.ending.Kind.{Kind}
-use Rattle.diagnose_cli.specs.declared.ending.Kind.TheVariants.{Done, Rejected, Absent, Undecided, Many, Nothing}
+use Rattle.diagnose_cli.specs.declared.ending.Kind.TheVariants.{Done, Rejected, Absent, Undecided, Many, Nothing, Ambiguous}
 use Rattle.report.specs.Replies.{numbered, placed}
 use Rattle.diagnose_cli.specs.Transcripts.{End, said, cut, broken, Ending}
 
@@ -17,6 +17,7 @@ status_of_kind Absent = 10
 status_of_kind Undecided = 11
 status_of_kind Many = 12
 status_of_kind Nothing = 14
+status_of_kind Ambiguous = 17
 
 -- the status where a text has a fault, by what it is a text of; a script counts as a log
 abbrev pub status_of_faulty : FaultyText → ℕ
@@ -25,6 +26,7 @@ status_of_faulty (Log fault) = 6
 status_of_faulty (Run fault) = 7
 status_of_faulty (Cnf fault) = 7
 status_of_faulty (Lrat fault) = 7
+status_of_faulty (Cost fault) = 15
 
 -- the status of a stop
 abbrev pub status_of_stop : Stop → ℕ
@@ -32,6 +34,7 @@ status_of_stop Usage = 2
 status_of_stop (Load file) = 3
 status_of_stop (Faulty text) = status_of_faulty text
 status_of_stop (Long file) = 8
+status_of_stop NoFault = 16
 status_of_stop (Large size) = 8
 status_of_stop Memory = 9
 
@@ -53,6 +56,7 @@ text_of_faulty (Log fault) = placed (codes "LOG ") fault.row fault.code
 text_of_faulty (Run fault) = placed (codes "RUN ") fault.line fault.code
 text_of_faulty (Cnf fault) = placed (codes "CNF ") fault.line fault.code
 text_of_faulty (Lrat fault) = placed (codes "LRAT ") fault.line fault.code
+text_of_faulty (Cost fault) = placed (codes "COST ") fault.line fault.code
 
 -- the text of a stop, on one line; it is empty where memory is wanting
 abbrev pub text_of_stop : Stop → List ℕ
@@ -60,6 +64,7 @@ text_of_stop Usage = codes "USAGE\n"
 text_of_stop (Load file) = numbered (codes "LOAD ") file
 text_of_stop (Faulty text) = text_of_faulty text
 text_of_stop (Long file) = numbered (codes "LONG ") file
+text_of_stop NoFault = codes "NOFAULT\n"
 text_of_stop (Large size) = numbered (codes "LARGE ") size
 text_of_stop Memory = []
 

@@ -3,7 +3,7 @@ use Rattle.std.specs.Prelude.{◌≡◌, ◌⊎◌, ℕ, ◌<◌, ◌≤◌, ⊤
 use Rattle.std.specs.declared.alloc.Global.{Global}
 use Rattle.des_base.specs.Outside.{Rose}
 use Rattle.diagnose_cli.specs.declared.stop.Stop.{Stop}
-use Rattle.diagnose_cli.specs.declared.stop.Stop.TheVariants.{Usage, Load, Faulty, Long, Large, Memory}
+use Rattle.diagnose_cli.specs.declared.stop.Stop.TheVariants.{Usage, Load, Faulty, Long, NoFault, Large, Memory}
 use Rattle.diagnose_cli.specs.declared.stop.FaultyText.{FaultyText}
 use Rattle.diagnose_cli.specs.Transcripts.{Ending}
 
@@ -29,6 +29,7 @@ StopsAt l i name limit (Long j) = (j ≡ i) × IfSome (l.held name) (λ held. li
 StopsAt l i name limit Memory = ⊤
 StopsAt l i name limit Usage = ⊥
 StopsAt l i name limit (Faulty text) = ⊥
+StopsAt l i name limit NoFault = ⊥
 StopsAt l i name limit (Large size) = ⊥
 
 -- the bytes of file i, or why it stops there

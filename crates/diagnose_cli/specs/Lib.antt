@@ -5,6 +5,7 @@ pub mod Files
 pub mod ProofText
 pub mod Texts
 pub mod Commands
+pub mod TwinReplies
 pub mod Replies
 pub mod SessionReplies
 pub mod Due
@@ -15,4 +16,5 @@ pub mod Exact
 pub mod Puts
 pub mod Sessions
 pub mod Rows
+pub mod TwinRows
 pub mod Run

@@ -1,4 +1,6 @@
 -- Why a command stops where a reader refuses a text.
+use Rattle.event_costs.specs.declared.fault.CostRefusal.{CostRefusal}
+use Rattle.event_costs.specs.declared.fault.CostRefusal.TheVariants.{Fault as CostFaulty, Memory as CostMemory}
 use Rattle.model_text.specs.declared.fault.ModelRefusal.{ModelRefusal}
 use Rattle.model_text.specs.declared.fault.ModelRefusal.TheVariants.{Fault as ModelFaulty, Memory as ModelMemory}
 use Rattle.log_csv.specs.declared.fault.LogReadRefusal.{LogReadRefusal}
@@ -7,7 +9,7 @@ use Rattle.proof_text.specs.declared.fault.TextRefusal.{TextRefusal}
 use Rattle.proof_text.specs.declared.fault.TextRefusal.TheVariants.{Fault as TextFaulty, Memory as TextMemory}
 use Rattle.replay.specs.declared.run_text.RunRefusal.{RunRefusal}
 use Rattle.replay.specs.declared.run_text.RunRefusal.TheVariants.{Fault as RunFaulty, Memory as RunMemory}
-use Rattle.diagnose_cli.specs.declared.stop.FaultyText.TheVariants.{Model, Log, Run, Cnf, Lrat}
+use Rattle.diagnose_cli.specs.declared.stop.FaultyText.TheVariants.{Model, Log, Run, Cnf, Lrat, Cost}
 use Rattle.diagnose_cli.specs.declared.stop.Stop.{Stop}
 use Rattle.diagnose_cli.specs.declared.stop.Stop.TheVariants.{Faulty, Memory}
 
@@ -35,3 +37,8 @@ stop_of_cnf TextMemory = Memory
 abbrev pub stop_of_lrat : TextRefusal → Stop
 stop_of_lrat (TextFaulty fault) = Faulty (Lrat fault)
 stop_of_lrat TextMemory = Memory
+
+-- where a cost text is refused
+abbrev pub stop_of_cost : CostRefusal → Stop
+stop_of_cost (CostFaulty fault) = Faulty (Cost fault)
+stop_of_cost CostMemory = Memory

@@ -1,6 +1,7 @@
 -- What each command with one reply may say over the bytes of its files.
 use Rattle.std.specs.Prelude.{◌≡◌, ◌↔◌, ℕ, zero, suc, ◌+◌, ◌≤◌, List, [], ◌∷◌, ◌++◌, length, take, codes, ◌==◌, Option, Some, None, IfSome}
 use Rattle.std.specs.List.{position_or_len}
+use Rattle.des_base.specs.CommandWords.{word_at}
 use Rattle.des_net.specs.Network.{Net}
 use Rattle.gen_plant.specs.Plant.{plant_net, plant_log}
 use Rattle.model_text.specs.ModelFaults.{network_of}
@@ -30,7 +31,7 @@ use Rattle.replay.specs.declared.tracing.Traced.{Traced}
 use Rattle.replay.specs.declared.tracing.Traced.TheVariants.{Ran, Stuck}
 use Rattle.report.specs.Replies.{text_of_traced, text_of_replayed, text_of_checked, text_of_found, told_run, numbered}
 use Rattle.diagnose_cli.specs.declared.command.Command.{Command}
-use Rattle.diagnose_cli.specs.declared.command.Command.TheVariants.{Trace, Show, Replay, Check, Diagnose, PrintCnf, PrintProof, GenerateModel, GenerateLog, Bench}
+use Rattle.diagnose_cli.specs.declared.command.Command.TheVariants.{Trace, Show, Replay, Check, Diagnose, PrintCnf, PrintProof, GenerateModel, GenerateLog, Bench, Twin}
 use Rattle.diagnose_cli.specs.declared.ending.Kind.{Kind}
 use Rattle.diagnose_cli.specs.declared.ending.Kind.TheVariants.{Done, Rejected, Absent, Undecided, Many, Nothing}
 use Rattle.inquiries.specs.Diagnosed.{IsDiagnosed}
@@ -38,6 +39,7 @@ use Rattle.inquiries.specs.Formula.{IsFormulaOf, question_formula}
 use Rattle.inquiries.specs.Refuted.{IsRefuted}
 use Rattle.diagnose_cli.specs.ProofText.{IsCheckedText, proof_head}
 use Rattle.diagnose_cli.specs.Texts.{limit_of, run}
+use Rattle.diagnose_cli.specs.TwinReplies.{SaysOfWord}
 
 -- a run that the network can perform is the yes of `trace`; one that gets stuck is rejected
 abbrev pub kind_of_traced : Traced → Kind
@@ -198,16 +200,17 @@ pub record SaysSummary (units : ℕ) (net : Net) (alarms : AlarmLog) (n budget :
 abbrev pub SaysBenched : ℕ → ℕ → ℕ → ℕ → List BookEntry → (Kind × List ℕ) → Type 0
 SaysBenched units start steps budget book reply = SaysSummary units (plant_net units) (plant_log units start) steps budget book reply
 
--- the replies that a command may give over the bytes of its files, where it leaves this book
-abbrev pub Says : Command → List BookEntry → List (List ℕ) → (Kind × List ℕ) → Type 0
-Says Trace book (text ∷ steps ∷ []) reply = SaysTraced text steps reply
-Says Show book (text ∷ []) reply = SaysShown text reply
-Says (Replay steps) book (text ∷ alarms ∷ events ∷ []) reply = SaysReplayed steps text alarms events reply
-Says Check book (formula ∷ proof ∷ []) reply = SaysChecked formula proof reply
-Says (Diagnose steps budget) book (text ∷ alarms ∷ []) reply = SaysDiagnosed steps budget text alarms book reply
-Says (PrintCnf steps bound) book (text ∷ alarms ∷ []) reply = SaysFormula (network_of text) (log_of alarms) steps bound book reply
-Says (PrintProof steps budget) book (text ∷ alarms ∷ []) reply = SaysProved (network_of text) (log_of alarms) steps budget book reply
-Says (GenerateModel units start) book [] reply = reply ≡ reply_of_model (plant_net units)
-Says (GenerateLog units start) book [] reply = reply ≡ reply_of_log (plant_log units start)
-Says (Bench units start steps budget) book [] reply = SaysBenched units start steps budget book reply
-Says _ _ _ reply = ⊥
+-- the replies that a command may give by its words and over the bytes of its files, where it leaves this book
+abbrev pub Says : Command → List (List ℕ) → List BookEntry → List (List ℕ) → (Kind × List ℕ) → Type 0
+Says Trace words book (text ∷ steps ∷ []) reply = SaysTraced text steps reply
+Says Show words book (text ∷ []) reply = SaysShown text reply
+Says (Replay steps) words book (text ∷ alarms ∷ events ∷ []) reply = SaysReplayed steps text alarms events reply
+Says Check words book (formula ∷ proof ∷ []) reply = SaysChecked formula proof reply
+Says (Diagnose steps budget) words book (text ∷ alarms ∷ []) reply = SaysDiagnosed steps budget text alarms book reply
+Says (PrintCnf steps bound) words book (text ∷ alarms ∷ []) reply = SaysFormula (network_of text) (log_of alarms) steps bound book reply
+Says (PrintProof steps budget) words book (text ∷ alarms ∷ []) reply = SaysProved (network_of text) (log_of alarms) steps budget book reply
+Says (GenerateModel units start) words book [] reply = reply ≡ reply_of_model (plant_net units)
+Says (GenerateLog units start) words book [] reply = reply ≡ reply_of_log (plant_log units start)
+Says (Bench units start steps budget) words book [] reply = SaysBenched units start steps budget book reply
+Says (Twin steps after budget) words book (text ∷ []) reply = SaysOfWord (network_of text) (word_at words 2) steps after budget book reply
+Says _ _ _ _ reply = ⊥

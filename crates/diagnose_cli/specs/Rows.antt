@@ -24,12 +24,13 @@ use Rattle.replay.specs.Explanation.{NeedsFaults, IsLeast, IsAbsent, IsMany}
 use Rattle.replay.specs.QuestionSize.{variable_bound}
 use Rattle.report.specs.Replies.{text_of_found}
 use Rattle.diagnose_cli.specs.declared.command.Command.{Command}
-use Rattle.diagnose_cli.specs.declared.command.Command.TheVariants.{Trace, Show, Replay, Check, Diagnose, PrintCnf, PrintProof, GenerateModel, GenerateLog, Bench, Session}
+use Rattle.diagnose_cli.specs.declared.command.Command.TheVariants.{Trace, Show, Replay, Check, Diagnose, PrintCnf, PrintProof, GenerateModel, GenerateLog, Bench, Session, Twin}
 use Rattle.diagnose_cli.specs.Texts.{FileKind, limit_of, fault_of_text}
 use Rattle.diagnose_cli.specs.Commands.{files_of, command_of}
 use Rattle.diagnose_cli.specs.Replies.{Says}
 use Rattle.diagnose_cli.specs.SessionReplies.{HasReplies}
-use Rattle.diagnose_cli.specs.Due.{too_large}
+use Rattle.diagnose_cli.specs.TwinReplies.{LeavesOfWord}
+use Rattle.diagnose_cli.specs.Due.{halts}
 use Rattle.diagnose_cli.specs.Outcomes.{Outcome, IsPut, IsUnbroken, Tells}
 
 -- ---- the files of a command
@@ -47,11 +48,11 @@ AreRead held words i (kind ∷ kinds) files (text ∷ texts) = IsRead held (word
 AreRead held words i [] files (text ∷ texts) = ⊥
 AreRead held words i (kind ∷ kinds) files [] = ⊥
 
--- the words call the command, all its files can be read, and its question isn't too large
+-- the words call the command, all its files can be read, and nothing stops it then: it lacks no fault event, and its question isn't too large
 pub record Reads (o : Outcome) (c : Command) (texts : List (List ℕ)) : Type 0 where
   pub command : command_of o.words ≡ Some c
   pub files : AreRead o.loads.held o.words 1 (files_of c) [] texts
-  pub small : too_large c texts ≡ None
+  pub small : halts c o.words texts ≡ None
 
 -- the shelf tells these bytes, from number i on
 abbrev pub AreTold : (List ℕ → Option (List ℕ)) → List (List ℕ) → ℕ → List (List ℕ) → Type 0
@@ -67,11 +68,11 @@ pub record Asks (o : Outcome) (c : Command) (texts : List (List ℕ)) : Type 0 w
 
 -- where its files can be read, status and text are those of a reply that the command may give
 abbrev pub Row : Outcome → Command → List (List ℕ) → Type 0
-Row o c texts = Reads o c texts → IsUnbroken o.status → Tells o (Says c o.book texts)
+Row o c texts = Reads o c texts → IsUnbroken o.status → Tells o (Says c o.words o.book texts)
 
 -- so it is with a command that has no files, of which none can fail
 abbrev pub RowAlone : Outcome → Command → Type 0
-RowAlone o c = Reads o c [] → IsPut o.status → Tells o (Says c o.book [])
+RowAlone o c = Reads o c [] → IsPut o.status → Tells o (Says c o.words o.book [])
 
 -- so `trace` answers, over a model text and a run text
 abbrev pub TraceRow : Outcome → Type 0
@@ -160,14 +161,15 @@ pub record DiagnoseRows (o : Outcome) : Type 0 where
 
 -- ---- what is left in the book
 
--- of a command that asks one question: nothing, or a book whose axioms are those of the question over the bytes of its files
-abbrev pub Leaves : Command → List (List ℕ) → List BookEntry → Type 0
-Leaves (Diagnose steps budget) (text ∷ alarms ∷ []) book = LeavesQuestion (network_of text) (log_of alarms) steps book
-Leaves (PrintCnf steps bound) (text ∷ alarms ∷ []) book = LeavesQuestion (network_of text) (log_of alarms) steps book
-Leaves (PrintProof steps budget) (text ∷ alarms ∷ []) book = LeavesQuestion (network_of text) (log_of alarms) steps book
-Leaves (Bench units start steps budget) [] book = LeavesQuestion (plant_net units) (plant_log units start) steps book
-Leaves _ _ book = ⊤
+-- of a command that asks one question: nothing, or a book whose axioms are those of the question by its words and over the bytes of its files
+abbrev pub Leaves : Command → List (List ℕ) → List (List ℕ) → List BookEntry → Type 0
+Leaves (Diagnose steps budget) words (text ∷ alarms ∷ []) book = LeavesQuestion (network_of text) (log_of alarms) steps book
+Leaves (PrintCnf steps bound) words (text ∷ alarms ∷ []) book = LeavesQuestion (network_of text) (log_of alarms) steps book
+Leaves (PrintProof steps budget) words (text ∷ alarms ∷ []) book = LeavesQuestion (network_of text) (log_of alarms) steps book
+Leaves (Bench units start steps budget) words [] book = LeavesQuestion (plant_net units) (plant_log units start) steps book
+Leaves (Twin steps after budget) words (text ∷ []) book = LeavesOfWord (network_of text) (word_at words 2) steps after book
+Leaves _ _ _ book = ⊤
 
 -- so it is over whatever bytes the shelf tells, and whatever the status
 abbrev pub LeftRow : Outcome → Type 0
-LeftRow o = (c : Command) (texts : List (List ℕ)) → Asks o c texts → Leaves c texts o.book
+LeftRow o = (c : Command) (texts : List (List ℕ)) → Asks o c texts → Leaves c o.words texts o.book

@@ -1,10 +1,10 @@
 -- What the whole run does.
-use Rattle.std.specs.Prelude.{◌≡◌, ◌≢◌, ℕ, List, [], ◌≤◌, codes, None, IfSome, IsSomeAnd, Bool, true, false}
+use Rattle.std.specs.Prelude.{◌≡◌, ◌≢◌, ◌⊎◌, ℕ, List, [], ◌≤◌, codes, None, IfSome, IsSomeAnd, Bool, true, false}
 use Rattle.des_base.specs.Outside.{Rose, Took}
 use Rattle.des_base.specs.CommandWords.{word_at}
 use Rattle.report.specs.Replies.{numbered}
 use Rattle.diagnose_cli.specs.declared.command.Command.{Command}
-use Rattle.diagnose_cli.specs.declared.command.Command.TheVariants.{Diagnose, PrintCnf, PrintProof, Bench, Session}
+use Rattle.diagnose_cli.specs.declared.command.Command.TheVariants.{Diagnose, PrintCnf, PrintProof, Bench, Session, Twin}
 use Rattle.diagnose_cli.specs.Commands.{command_of, file_count, files_of}
 use Rattle.diagnose_cli.specs.Due.{Due, MayCome}
 use Rattle.diagnose_cli.specs.Outcomes.{Outcome, IsUnbroken}
@@ -12,6 +12,7 @@ use Rattle.diagnose_cli.specs.Deciding.{DecidedRow}
 use Rattle.diagnose_cli.specs.Exact.{StopRow}
 use Rattle.diagnose_cli.specs.Puts.{Finishes, IsCutOff}
 use Rattle.diagnose_cli.specs.Rows.{TraceRow, ShowRow, ReplayRow, CheckRows, PrintedRows, GenerateRows, BenchRow, DiagnoseRows, SessionRow}
+use Rattle.diagnose_cli.specs.TwinRows.{TwinRows}
 
 -- ---- how it ends
 
@@ -57,6 +58,7 @@ is_question (PrintCnf steps bound) = true
 is_question (PrintProof steps budget) = true
 is_question (Bench units start steps budget) = true
 is_question (Session steps budget) = true
+is_question (Twin steps after budget) = true
 is_question _ = false
 
 -- the words call no command that asks a question
@@ -67,10 +69,10 @@ AsksNone words = IfSome (command_of words) (λ c. is_question c ≡ false)
 abbrev pub LoadsNone : List (List ℕ) → Type 0
 LoadsNone words = IfSome (command_of words) (λ c. files_of c ≡ [])
 
--- the status says why there is no reply: the words, a file, its text, or the size of the question
+-- the status says why there is no reply: the words, a file, its text, that there is no such fault event, or the size of the question
 pub record SaysStop (status : ℕ) : Type 0 where
   pub low : 2 ≤ status
-  pub high : status ≤ 8
+  pub among : (status ≤ 8) ⊎ ((15 ≤ status) × (status ≤ 16))
   pub put : status ≢ 4
 
 -- A shelf that no file is loaded from is as it was. So is a book in which no question is asked, by the words or since the command stops before.
@@ -92,4 +94,5 @@ pub record Does (o : Outcome) (rose : Type 0) : Type 0 where
   pub generated : GenerateRows o
   pub benched : BenchRow o
   pub carried_out : SessionRow o
+  pub twinned : TwinRows o
   pub ran : Ran o rose

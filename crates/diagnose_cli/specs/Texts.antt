@@ -2,6 +2,7 @@
 use Rattle.std.specs.Prelude.{◌≡◌, ◌⊎◌, ℕ, List, [], ◌∷◌, length, Option, None, option_map}
 use Rattle.des_base.specs.CommandWords.{word_at}
 use Rattle.des_net.specs.Network.{Net}
+use Rattle.event_costs.specs.CostText.{first_fault as first_cost_fault}
 use Rattle.model_text.specs.ModelFaults.{network_of, first_fault as first_model_fault}
 use Rattle.replay.specs.RunText.{first_fault as first_run_fault}
 use Rattle.log_order.specs.Log.{Log as AlarmLog}
@@ -11,7 +12,7 @@ use Rattle.log_csv.specs.declared.row.Row.{Row}
 use Rattle.proof_text.specs.CnfText.{Formula, formula_of, first_cnf_fault}
 use Rattle.proof_text.specs.LratText.{first_lrat_fault}
 use Rattle.diagnose_cli.specs.declared.stop.FaultyText.{FaultyText}
-use Rattle.diagnose_cli.specs.declared.stop.FaultyText.TheVariants.{Model, Log, Run, Cnf, Lrat}
+use Rattle.diagnose_cli.specs.declared.stop.FaultyText.TheVariants.{Model, Log, Run, Cnf, Lrat, Cost}
 use Rattle.diagnose_cli.specs.declared.stop.Stop.{Stop}
 use Rattle.diagnose_cli.specs.Files.{Loads, IsText, StopsIn}
 
@@ -23,6 +24,7 @@ pub data FileKind : Type 0 where
   run : FileKind
   cnf : FileKind
   lrat : FileKind
+  costs : FileKind
 
 -- how many bytes a file of this kind may have
 abbrev pub limit_of : FileKind → ℕ
@@ -32,6 +34,7 @@ limit_of script = 16777216
 limit_of run = 536870912
 limit_of cnf = 536870912
 limit_of lrat = 536870912
+limit_of costs = 16777216
 
 -- the first fault of a model text
 abbrev pub fault_of_model : List ℕ → Option FaultyText
@@ -57,7 +60,11 @@ fault_of_cnf bytes = option_map (λ fault. Cnf fault) (first_cnf_fault bytes)
 abbrev pub fault_of_lrat : Formula → List ℕ → Option FaultyText
 fault_of_lrat formula bytes = option_map (λ fault. Lrat fault) (first_lrat_fault formula.vars (length formula.clauses) bytes)
 
--- the first fault of a text by the kind of its file, where the files before it are given: a run is read over the model, and a proof over the formula
+-- the first fault of a cost text over this network
+abbrev pub fault_of_costs : Net → List ℕ → Option FaultyText
+fault_of_costs net bytes = option_map (λ fault. Cost fault) (first_cost_fault net bytes)
+
+-- the first fault of a text by the kind of its file, where the files before it are given: a run and costs are read over the model, and a proof over the formula
 abbrev pub fault_of_text : FileKind → List (List ℕ) → List ℕ → Option FaultyText
 fault_of_text model files bytes = fault_of_model bytes
 fault_of_text log files bytes = fault_of_log bytes
@@ -67,6 +74,8 @@ fault_of_text run (text ∷ files) bytes = fault_of_run (network_of text) bytes
 fault_of_text cnf files bytes = fault_of_cnf bytes
 fault_of_text lrat [] bytes = None
 fault_of_text lrat (text ∷ files) bytes = fault_of_lrat (formula_of text) bytes
+fault_of_text costs [] bytes = None
+fault_of_text costs (text ∷ files) bytes = fault_of_costs (network_of text) bytes
 
 -- the texts of a model and of one file more of this kind, which are the first two files of a command, with the network of the one and P of the other
 pub record AreFirstTwo (held : List ℕ → Option (List ℕ)) (words : List (List ℕ)) (kind : FileKind) (net : Net) (P : List ℕ → Type 0) : Type 0 where

@@ -86,7 +86,7 @@ fn ask<Q: Replying>(
 ) -> Result<Reply, Stop>
     requires steps { steps ≤ MOST_STEPS }
     requires empty { book.old.entries ≡ [] }
-    ensures due { (text alarms : List ℕ) → case.now.net ≡ network_of text → case.now.log ≡ log_of alarms → UnlessMemory result (Closes (Q.command inquiry.now steps) book.new.entries (text ∷ alarms ∷ []) (once result)) }
+    ensures due { (words : List (List ℕ)) (text alarms : List ℕ) → case.now.net ≡ network_of text → case.now.log ≡ log_of alarms → UnlessMemory result (Closes (Q.command inquiry.now steps) words book.new.entries (text ∷ alarms ∷ []) (once result)) }
     ensures stopped { IfErr result (λ stop. stop ≢ Stop.Memory → book.new ≡ book.old) }
     ensures left { LeavesQuestion case.now.net case.now.log steps book.new.entries }
 {

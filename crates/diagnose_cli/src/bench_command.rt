@@ -55,7 +55,7 @@ fn bench(
 ) -> Result<Reply, Stop>
     requires steps { limits.steps ≤ MOST_STEPS }
     requires empty { book.old.entries ≡ [] }
-    ensures due { (start : ℕ) → case.now.net ≡ plant_net units → case.now.log ≡ plant_log units start → UnlessMemory result (Closes (Command.Bench units start limits.steps limits.budget) book.new.entries [] (once result)) }
+    ensures due { (words : List (List ℕ)) (start : ℕ) → case.now.net ≡ plant_net units → case.now.log ≡ plant_log units start → UnlessMemory result (Closes (Command.Bench units start limits.steps limits.budget) words book.new.entries [] (once result)) }
     ensures stopped { IfErr result (λ stop. stop ≢ Stop.Memory → book.new ≡ book.old) }
     ensures left { LeavesQuestion case.now.net case.now.log limits.steps book.new.entries }
 {

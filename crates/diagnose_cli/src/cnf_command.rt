@@ -19,7 +19,7 @@ impl Replying for FormulaWithin {
 
     ghost replies = { λ s n net log book reply. SaysFormula net log n s.bound book reply };
 
-    ghost is_of_case = { λ s n. record { files = refl; size = λ text alarms. refl; says = λ book text alarms reply says. record { reply = reply; says = says; alone = refl; ends = refl } } };
+    ghost is_of_case = { λ s n. record { files = refl; size = λ words text alarms. refl; says = λ words book text alarms reply says. record { reply = reply; says = says; alone = refl; ends = refl } } };
 
     fn reply(
         &self,

@@ -1,7 +1,7 @@
 // The commands, and which one the words of a command line call.
 ghost use Rattle.std.specs.Prelude.{◌≡◌, ◌≤◌, length, IfSome, ◌<◌};
 ghost use Rattle.gen_plant.specs.Plant.{most_units};
-ghost use Rattle.diagnose_cli.specs.Commands.{calls, command_of, bound_of, cnf_of, proof_words_of, units_of, generate_of, bench_of, session_of, file_count, HasFewSteps, HasFewUnits};
+ghost use Rattle.diagnose_cli.specs.Commands.{calls, command_of, bound_of, cnf_of, proof_words_of, units_of, generate_of, bench_of, session_of, twin_of, read_words, HasFewSteps, HasFewUnits};
 
 use des_base::{WordList, read_number};
 
@@ -57,6 +57,13 @@ pub enum Command {
         steps: u32,
         budget: u64,
     },
+    /// `twin MODEL EVENT N AFTER BUDGET`: whether a run with the fault event and a run without it look alike within this many
+    /// parallel steps, where after the fault something has to be seen in so many of them. The event is the word behind the model.
+    Twin {
+        steps: u32,
+        after: u32,
+        budget: u64,
+    },
 }
 
 const STEP_LIMIT: u64 = 1000;
@@ -76,7 +83,7 @@ fn is_call(words: &WordList, name: &str, count: usize) -> bool
 /// The command that the words call, if they call one.
 pub fn command_of(words: &WordList) -> Option<Command>
     ensures command { result ≡ command_of words.now }
-    ensures files { IfSome result (λ c. file_count c < length words.now) }
+    ensures files { IfSome result (λ c. read_words c < length words.now) }
     ensures steps { IfSome result HasFewSteps }
     ensures units { IfSome result HasFewUnits }
 {
@@ -106,6 +113,8 @@ pub fn command_of(words: &WordList) -> Option<Command>
         bench_of(words.word(1), words.word(2), words.word(3), words.word(4))
     } else if is_call(words, "session", 5) {
         session_of(words.word(3), words.word(4))
+    } else if is_call(words, "twin", 6) {
+        twin_of(words.word(3), words.word(4), words.word(5))
     } else {
         None
     }
@@ -124,7 +133,7 @@ fn bound_of(text: &str) -> Option<Option<u8>>
 
 fn cnf_of(steps: &str, bound: &str) -> Option<Command>
     ensures command { result ≡ cnf_of steps.now bound.now }
-    ensures files { IfSome result (λ c. file_count c ≡ 2) }
+    ensures files { IfSome result (λ c. read_words c ≡ 2) }
     ensures steps { IfSome result HasFewSteps }
     ensures units { IfSome result HasFewUnits }
 {
@@ -138,7 +147,7 @@ fn cnf_of(steps: &str, bound: &str) -> Option<Command>
 
 fn proof_words_of(steps: &str, budget: &str) -> Option<Command>
     ensures command { result ≡ proof_words_of steps.now budget.now }
-    ensures files { IfSome result (λ c. file_count c ≡ 2) }
+    ensures files { IfSome result (λ c. read_words c ≡ 2) }
     ensures steps { IfSome result HasFewSteps }
     ensures units { IfSome result HasFewUnits }
 {
@@ -161,7 +170,7 @@ fn units_of(text: &str) -> Option<u32>
 
 fn generate_of(what: &str, units: &str, start: &str) -> Option<Command>
     ensures command { result ≡ generate_of what.now units.now start.now }
-    ensures files { IfSome result (λ c. file_count c ≡ 0) }
+    ensures files { IfSome result (λ c. read_words c ≡ 0) }
     ensures steps { IfSome result HasFewSteps }
     ensures units { IfSome result HasFewUnits }
 {
@@ -180,7 +189,7 @@ fn generate_of(what: &str, units: &str, start: &str) -> Option<Command>
 
 fn bench_of(units: &str, start: &str, steps: &str, budget: &str) -> Option<Command>
     ensures command { result ≡ bench_of units.now start.now steps.now budget.now }
-    ensures files { IfSome result (λ c. file_count c ≡ 0) }
+    ensures files { IfSome result (λ c. read_words c ≡ 0) }
     ensures steps { IfSome result HasFewSteps }
     ensures units { IfSome result HasFewUnits }
 {
@@ -198,7 +207,7 @@ fn bench_of(units: &str, start: &str, steps: &str, budget: &str) -> Option<Comma
 
 fn session_of(steps: &str, budget: &str) -> Option<Command>
     ensures command { result ≡ session_of steps.now budget.now }
-    ensures files { IfSome result (λ c. file_count c ≡ 2) }
+    ensures files { IfSome result (λ c. read_words c ≡ 2) }
     ensures steps { IfSome result HasFewSteps }
     ensures units { IfSome result HasFewUnits }
 {
@@ -206,6 +215,22 @@ fn session_of(steps: &str, budget: &str) -> Option<Command>
     let budget = read_number(budget.as_bytes(), u64::MAX)?;
     Some(Command::Session {
         steps: steps as u32,
+        budget,
+    })
+}
+
+fn twin_of(steps: &str, after: &str, budget: &str) -> Option<Command>
+    ensures command { result ≡ twin_of steps.now after.now budget.now }
+    ensures files { IfSome result (λ c. read_words c ≡ 2) }
+    ensures steps { IfSome result HasFewSteps }
+    ensures units { IfSome result HasFewUnits }
+{
+    let steps = read_number(steps.as_bytes(), STEP_LIMIT)?;
+    let after = read_number(after.as_bytes(), STEP_LIMIT)?;
+    let budget = read_number(budget.as_bytes(), u64::MAX)?;
+    Some(Command::Twin {
+        steps: steps as u32,
+        after: after as u32,
         budget,
     })
 }

@@ -26,6 +26,8 @@ pub enum Kind {
     Many,
     /// There is nothing to refute, since a run without faults explains the log.
     Nothing,
+    /// A run with a fault and a run without it look alike.
+    Ambiguous,
 }
 
 /// What a command answers: what it says, and the text.
@@ -102,5 +104,6 @@ fn status_of_kind(kind: Kind) -> u8
         Kind::Undecided => 11,
         Kind::Many => 12,
         Kind::Nothing => 14,
+        Kind::Ambiguous => 17,
     }
 }

@@ -26,6 +26,7 @@ mod stop;
 #[cfg(test)]
 mod tests;
 mod trace_command;
+mod twin_command;
 
 use des_base::{Memory, WordList};
 use disk_shelf::DiskShelf;

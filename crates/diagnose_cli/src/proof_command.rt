@@ -21,7 +21,7 @@ impl Replying for Refutation {
 
     ghost replies = { λ s n net log book reply. SaysProved net log n s.budget book reply };
 
-    ghost is_of_case = { λ s n. record { files = refl; size = λ text alarms. refl; says = λ book text alarms reply says. record { reply = reply; says = says; alone = refl; ends = refl } } };
+    ghost is_of_case = { λ s n. record { files = refl; size = λ words text alarms. refl; says = λ words book text alarms reply says. record { reply = reply; says = says; alone = refl; ends = refl } } };
 
     fn reply(
         &self,

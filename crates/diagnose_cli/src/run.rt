@@ -1,11 +1,12 @@
 // All that the program does, but for where its words, files and output come from.
 ghost use Rattle.std.specs.Prelude.{◌≡◌, ◌≢◌, ◌<◌, ℕ, List, [], false, length, IfErr};
 ghost use Rattle.des_base.specs.Outside.{Rose};
-ghost use Rattle.diagnose_cli.specs.Commands.{IsWithinBounds, file_count, files_of, is_session};
+ghost use Rattle.diagnose_cli.specs.Commands.{IsWithinBounds, files_of, is_session, read_words};
 ghost use Rattle.diagnose_cli.specs.Due.{Answers};
 ghost use Rattle.diagnose_cli.specs.Files.{loads};
 ghost use Rattle.diagnose_cli.specs.Outcomes.{outcome};
 ghost use Rattle.diagnose_cli.specs.Rows.{TraceRow, ShowRow, ReplayRow, CheckRows, DiagnoseRows, PrintedRows, GenerateRows, BenchRow, SessionRow, AreTold, Leaves, LeftRow};
+ghost use Rattle.diagnose_cli.specs.TwinRows.{TwinRows};
 ghost use Rattle.diagnose_cli.specs.Run.{Does, LeavesAlone, Ran, is_question};
 ghost use Rattle.diagnose_cli.specs.Transcripts.{UnlessMemory, once};
 
@@ -20,6 +21,7 @@ use crate::session_command::session_command;
 use crate::show_command::show_command;
 use crate::stop::Stop;
 use crate::trace_command::trace_command;
+use crate::twin_command::{TwinLimits, twin_command};
 use des_base::{Shelf, Sink, WordList};
 use inquiries::{FormulaWithin, LeastFaults, Refutation};
 use proof_ledger::Ledger;
@@ -48,6 +50,7 @@ pub fn run<F: Shelf, S: Sink>(
     ensures generated { GenerateRows (outcome (loads F.held F.faults shelf.old shelf.new) words.now (S.taken out.old) (S.taken out.new) book.new.entries result) }
     ensures benched { BenchRow (outcome (loads F.held F.faults shelf.old shelf.new) words.now (S.taken out.old) (S.taken out.new) book.new.entries result) }
     ensures carried_out { SessionRow (outcome (loads F.held F.faults shelf.old shelf.new) words.now (S.taken out.old) (S.taken out.new) book.new.entries result) }
+    ensures twinned { TwinRows (outcome (loads F.held F.faults shelf.old shelf.new) words.now (S.taken out.old) (S.taken out.new) book.new.entries result) }
     ensures ran { Ran (outcome (loads F.held F.faults shelf.old shelf.new) words.now (S.taken out.old) (S.taken out.new) book.new.entries result) (Rose (S.faults out.old) (S.faults out.new)) }
     ensures left_alone { LeavesAlone words.now result shelf.old shelf.new book.old book.new }
     ensures left { LeftRow (outcome (loads F.held F.faults shelf.old shelf.new) words.now (S.taken out.old) (S.taken out.new) book.new.entries result) }
@@ -90,13 +93,13 @@ fn answer<F: Shelf>(
 ) -> Result<Reply, Stop>
     requires empty { book.old.entries ≡ [] }
     requires once { is_session command ≡ false }
-    requires words { file_count command < length words.now }
+    requires words { read_words command < length words.now }
     requires bounds { IsWithinBounds command }
     ensures due { UnlessMemory result (Answers (loads F.held F.faults shelf.old shelf.new) words.now command book.new.entries (once result)) }
     ensures no_load { files_of command ≡ [] → shelf.new ≡ shelf.old }
     ensures no_question { is_question command ≡ false → book.new ≡ book.old }
     ensures stopped { IfErr result (λ stop. stop ≢ Stop.Memory → book.new ≡ book.old) }
-    ensures left { (texts : List (List ℕ)) → AreTold (F.held shelf.old) words.now 1 texts → Leaves command texts book.new.entries }
+    ensures left { (texts : List (List ℕ)) → AreTold (F.held shelf.old) words.now 1 texts → Leaves command words.now texts book.new.entries }
 {
     match command {
         Command::Trace => trace_command(alloc, words, shelf),
@@ -120,6 +123,21 @@ fn answer<F: Shelf>(
             steps,
             budget,
         } => bench_command(alloc, units, start, Limits { steps, budget }, book),
+        Command::Twin {
+            steps,
+            after,
+            budget,
+        } => twin_command(
+            alloc,
+            words,
+            shelf,
+            TwinLimits {
+                steps,
+                after,
+                budget,
+            },
+            book,
+        ),
         Command::Session { .. } => unreachable!(),
     }
 }

@@ -56,7 +56,7 @@ pub fn session_command<F: Shelf, S: Sink>(
 fn carry_out<S: Sink>(alloc: Global, plan: &Plan, out: &mut S, book: &mut Ledger) -> u8
     requires steps { plan.now.limits.steps ≤ MOST_STEPS }
     requires empty { book.old.entries ≡ [] }
-    ensures speaks { (text lines : List ℕ) → plan.now.net ≡ network_of text → plan.now.script ≡ script_of lines → Speaks (Closes (Command.Session plan.now.limits.steps plan.now.limits.budget) book.new.entries (text ∷ lines ∷ [])) (book.new.entries ≡ []) (S.taken out.old) (S.taken out.new) (Rose (S.faults out.old) (S.faults out.new)) result }
+    ensures speaks { (words : List (List ℕ)) (text lines : List ℕ) → plan.now.net ≡ network_of text → plan.now.script ≡ script_of lines → Speaks (Closes (Command.Session plan.now.limits.steps plan.now.limits.budget) words book.new.entries (text ∷ lines ∷ [])) (book.new.entries ≡ []) (S.taken out.old) (S.taken out.new) (Rose (S.faults out.old) (S.faults out.new)) result }
     ensures stopped { SaysStop result → book.new ≡ book.old }
 {
     let size = question_size(&plan.net, &AlarmLog::new(alloc), plan.limits.steps);

@@ -3,9 +3,10 @@ ghost use Rattle.std.specs.Prelude.{◌≡◌, ◌∷◌, ◌++◌, [], IfOk, st
 ghost use Rattle.diagnose_cli.specs.declared.stop.Stop.TheVariants.{Memory as NoMemory};
 ghost use Rattle.diagnose_cli.specs.Endings.{status_of_faulty, status_of_stop, text_of_faulty, text_of_stop};
 ghost use Rattle.report.specs.Replies.{placed};
-ghost use Rattle.diagnose_cli.specs.Refusals.{stop_of_model, stop_of_log, stop_of_run, stop_of_cnf, stop_of_lrat};
+ghost use Rattle.diagnose_cli.specs.Refusals.{stop_of_model, stop_of_log, stop_of_run, stop_of_cnf, stop_of_lrat, stop_of_cost};
 
 use des_base::Memory;
+use event_costs::{CostFault, CostRefusal};
 use log_csv::{LogFault, LogReadRefusal};
 use model_text::{ModelFault, ModelRefusal};
 use proof_text::{TextFault, TextRefusal};
@@ -20,6 +21,7 @@ pub enum FaultyText {
     Run(RunFault),
     Cnf(TextFault),
     Lrat(TextFault),
+    Cost(CostFault),
 }
 
 /// Why a command has no reply.
@@ -33,6 +35,8 @@ pub enum Stop {
     Faulty(FaultyText),
     /// The file of this number is longer than its limit.
     Long(u32),
+    /// The word of a twin question names no fault event of the model.
+    NoFault,
     /// The question has this size, which is above the limit.
     Large(u64),
     /// Want of memory.
@@ -80,6 +84,17 @@ impl From<RunRefusal> for Stop {
     }
 }
 
+impl From<CostRefusal> for Stop {
+    ghost from_gives = { λ refusal e. e ≡ stop_of_cost refusal };
+
+    fn from(refusal: CostRefusal) -> Stop {
+        match refusal {
+            CostRefusal::Fault(fault) => Stop::Faulty(FaultyText::Cost(fault)),
+            CostRefusal::Memory => Stop::Memory,
+        }
+    }
+}
+
 /// Why a command stops where the text of a formula is refused.
 pub fn stop_of_cnf(refusal: TextRefusal) -> Stop
     ensures { result ≡ stop_of_cnf refusal }
@@ -117,6 +132,7 @@ pub fn status_of_stop(stop: Stop) -> u8
         Stop::Load(_) => 3,
         Stop::Faulty(text) => status_of_faulty(text),
         Stop::Long(_) | Stop::Large(_) => 8,
+        Stop::NoFault => 16,
         Stop::Memory => 9,
     }
 }
@@ -128,6 +144,7 @@ fn status_of_faulty(text: FaultyText) -> u8
         FaultyText::Model(_) => 5,
         FaultyText::Log(_) => 6,
         FaultyText::Run(_) | FaultyText::Cnf(_) | FaultyText::Lrat(_) => 7,
+        FaultyText::Cost(_) => 15,
     }
 }
 
@@ -140,6 +157,7 @@ pub fn text_of_stop(alloc: Global, stop: Stop) -> Result<Vec<u8>, Memory>
         Stop::Load(file) => format!(in alloc; "LOAD {file}\n")?,
         Stop::Faulty(text) => text_of_faulty(alloc, text)?,
         Stop::Long(file) => format!(in alloc; "LONG {file}\n")?,
+        Stop::NoFault => format!(in alloc; "NOFAULT\n")?,
         Stop::Large(size) => format!(in alloc; "LARGE {size}\n")?,
         Stop::Memory => String::new(alloc),
     };
@@ -155,6 +173,7 @@ fn text_of_faulty(alloc: Global, text: FaultyText) -> Result<String, Memory>
         FaultyText::Run(fault) => placed(alloc, "RUN", fault.line, fault.code),
         FaultyText::Cnf(fault) => placed(alloc, "CNF", fault.line, fault.code),
         FaultyText::Lrat(fault) => placed(alloc, "LRAT", fault.line, fault.code),
+        FaultyText::Cost(fault) => placed(alloc, "COST", fault.line, fault.code),
     }
 }
 

@@ -12,6 +12,7 @@ mod stored;
 mod table;
 
 pub use fault::{CostFault, CostRefusal};
+pub use line::find_fault;
 pub use reader::read_costs;
 pub use stored::Costs;
 pub use table::{CostTable, Price};

@@ -58,8 +58,8 @@ fn cost_words<'a>(mut tokens: Tokens<'a>) -> Option<CostWords<'a>>
     Some(CostWords { event, cost })
 }
 
-// The fault event of this name.
-fn find_fault(net: &Network, name: &[u8]) -> Option<EventId>
+/// The fault event of this name, if there is one.
+pub fn find_fault(net: &Network, name: &[u8]) -> Option<EventId>
     ensures event { result ≡ fault_event_of net.now name.now }
     ensures within { IfSome result (λ e. e < length net.now.events) }
     ensures fault { IfSome result (λ e. is_fault net.now e ≡ true) }

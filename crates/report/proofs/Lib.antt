@@ -4,3 +4,4 @@ pub mod PrintedRuns
 pub mod ReadsBack
 pub mod PrintedLengths
 pub mod Vectors
+pub mod Appending

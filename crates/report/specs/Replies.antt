@@ -13,6 +13,8 @@ use Rattle.replay.specs.declared.run.RunStep.TheVariants.{Happens, Dropped}
 use Rattle.replay.specs.Traced.{word_of}
 use Rattle.replay.specs.declared.tracing.Traced.{Traced}
 use Rattle.replay.specs.declared.tracing.Traced.TheVariants.{Ran, Stuck}
+use Rattle.twin_test.specs.declared.answer.Twin.{Twin}
+use Rattle.twin_test.specs.declared.answer.Twin.TheVariants.{Ambiguous, Clear, Undecided as NotTested}
 
 -- ---- lines
 
@@ -100,3 +102,21 @@ told_run (Explained best) = Some best
 told_run Absent = None
 told_run (Many best) = Some best
 told_run (Undecided lo best) = best
+
+-- ---- what a twin test came to
+
+-- both runs, each behind a line that says which it is
+abbrev pub text_of_both : Net → List RunStep → List RunStep → List ℕ
+text_of_both net faulty healthy = (codes "faulty\n" ++ text_of_run net faulty) ++ (codes "healthy\n" ++ text_of_run net healthy)
+
+-- by the number of steps within which it was asked: both runs, or that there are none
+abbrev pub text_of_twin : Net → ℕ → Twin → List ℕ
+text_of_twin net n (Ambiguous faulty healthy) = numbered (codes "AMBIGUOUS ") n ++ text_of_both net faulty healthy
+text_of_twin net n Clear = numbered (codes "CLEAR ") n
+text_of_twin net n NotTested = codes "UNDECIDED\n"
+
+-- the events of the runs that are told, if they are, are the network's
+abbrev pub TwinEventsKnown : Net → Twin → Type 0
+TwinEventsKnown net (Ambiguous faulty healthy) = All (λ e. e < length net.events) (word_of faulty) × All (λ e. e < length net.events) (word_of healthy)
+TwinEventsKnown net Clear = ⊤
+TwinEventsKnown net NotTested = ⊤

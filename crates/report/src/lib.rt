@@ -14,6 +14,7 @@ mod replayed;
 mod run;
 mod theorems;
 mod traced;
+mod twin;
 
 pub use checked::print_checked;
 pub use found::print_found;
@@ -22,3 +23,4 @@ pub use replayed::print_replayed;
 pub use run::print_run;
 pub use theorems::{replies_fit, replies_read_back, runs_read_back};
 pub use traced::print_traced;
+pub use twin::print_twin;

@@ -17,7 +17,7 @@ returns-in_err-case-clause-due g c =
     let command = g.Q.Replying.command asked c.args.steps in
     let book = c.args.book.now.entries in
     handed_after _ _ (Answers l words command book) c.from_residual.ensures.1 (λ never.
-    case_files command c.args.steps (g.Q.Replying.replies asked c.args.steps) (g.met.Q.Replying.is_of_case asked c.args.steps) l words book _ (stops_in_two l words log [] (Closes command book) _ (c.in_err-case.ensures.stop never)))
+    case_files command c.args.steps (g.Q.Replying.replies asked c.args.steps) (g.met.Q.Replying.is_of_case asked c.args.steps) l words book _ (stops_in_two l words log [] (Closes command words book) _ (c.in_err-case.ensures.stop never)))
 
 pub returns-clause-due : goal.returns-clause-due
 returns-clause-due g c never =
@@ -28,7 +28,7 @@ returns-clause-due g c never =
     let book = c.ask.new.book.entries in
     let case = c.in_ok-case.ensures.read in
     case_files command c.args.steps (g.Q.Replying.replies asked c.args.steps) (g.met.Q.Replying.is_of_case asked c.args.steps) l words book (once c.ask.result)
-    (with_two l words log [] (Closes command book) c.in_ok-case.case.net _ (once c.ask.result) case (c.ask.ensures.due case.text case.second case.net_is case.second_is never))
+    (with_two l words log [] (Closes command words book) c.in_ok-case.case.net _ (once c.ask.result) case (c.ask.ensures.due words case.text case.second case.net_is case.second_is never))
 
 pub returns-in_err-case-clause-left : goal.returns-in_err-case-clause-left
 returns-in_err-case-clause-left g c text alarms told = inl c.requires.empty

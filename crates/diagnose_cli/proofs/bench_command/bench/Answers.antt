@@ -5,8 +5,8 @@ use Rattle.diagnose_cli.proofs.BenchAnswers.{large_plant, summed_up}
 use Rattle.diagnose_cli.proofs.bench_command.bench.Goals as goal
 
 pub returns-then-size-gt-MOST_SIZE-clause-due : goal.returns-then-size-gt-MOST_SIZE-clause-due
-returns-then-size-gt-MOST_SIZE-clause-due c start of_net of_log _ =
-    large_plant c.args.units start c.args.limits.steps c.args.limits.budget c.args.book.now.entries c.args.case.now.net of_net c.args.case.now.log of_log c.question_size-size.result c.question_size-size.ensures.size
+returns-then-size-gt-MOST_SIZE-clause-due c words start of_net of_log _ =
+    large_plant c.args.units start c.args.limits.steps c.args.limits.budget words c.args.book.now.entries c.args.case.now.net of_net c.args.case.now.log of_log c.question_size-size.result c.question_size-size.ensures.size
     (omega (arith, c.if-size-gt-MOST_SIZE.true))
 
 pub reply_to-requires-clause-limits : goal.reply_to-requires-clause-limits
@@ -16,8 +16,8 @@ reply_to-requires-clause-limits c = record {
 }
 
 pub returns-clause-due : goal.returns-clause-due
-returns-clause-due c start of_net of_log _ =
-    summed_up c.args.units start c.args.limits.steps c.args.limits.budget c.reply_to.new.book.entries c.args.case.now.net of_net c.args.case.now.log of_log c.question_size-size.result
+returns-clause-due c words start of_net of_log _ =
+    summed_up c.args.units start c.args.limits.steps c.args.limits.budget words c.reply_to.new.book.entries c.args.case.now.net of_net c.args.case.now.log of_log c.question_size-size.result
     c.in_ok-reply.reply c.in_ok-sum_up.field-0 c.alarms.result c.question_size-size.ensures.size (omega (arith, c.if-size-gt-MOST_SIZE.false)) c.alarms.ensures.count c.in_ok-reply.ensures.replies c.in_ok-sum_up.ensures
 
 pub returns-then-size-gt-MOST_SIZE-clause-left : goal.returns-then-size-gt-MOST_SIZE-clause-left

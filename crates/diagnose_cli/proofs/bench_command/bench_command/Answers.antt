@@ -7,7 +7,7 @@ use Rattle.log_order.specs.Log.{Log}
 use Rattle.diagnose_cli.proofs.bench_command.bench_command.Goals as goal
 
 pub returns-clause-due : goal.returns-clause-due
-returns-clause-due c l words = c.bench.ensures.due c.args.start c.in_ok-plant.ensures.net c.in_ok-plant.ensures.log
+returns-clause-due c l words = c.bench.ensures.due words c.args.start c.in_ok-plant.ensures.net c.in_ok-plant.ensures.log
 
 pub returns-in_err-plant-clause-left : goal.returns-in_err-plant-clause-left
 returns-in_err-plant-clause-left c = inl c.requires.empty

@@ -1,8 +1,8 @@
 -- Each command answers what is due for it.
 use Rattle.std.proofs.Common.{sym}
-use Rattle.diagnose_cli.specs.declared.command.Command.TheVariants.{Trace, Show, Replay, Check, Diagnose, PrintCnf, PrintProof, GenerateModel, GenerateLog, Bench}
+use Rattle.diagnose_cli.specs.declared.command.Command.TheVariants.{Trace, Show, Replay, Check, Diagnose, PrintCnf, PrintProof, GenerateModel, GenerateLog, Bench, Twin}
 use Rattle.diagnose_cli.specs.Files.{loads}
-use Rattle.diagnose_cli.proofs.Left.{left_bench, left_cnf, left_diagnose, left_proof, left_so}
+use Rattle.diagnose_cli.proofs.Left.{left_bench, left_cnf, left_diagnose, left_proof, left_so, left_twin}
 use Rattle.diagnose_cli.proofs.Orders.{due_alike}
 use Rattle.diagnose_cli.proofs.run.answer.Goals as goal
 
@@ -97,3 +97,14 @@ returns-in-Bench-clause-left g c =
     let book = c.bench_command.new.book.entries in
     let b = c.in-Bench in
     left_so held c.args.words.now book (Bench b.units b.start b.steps b.budget) c.args.command b.is (left_bench held c.args.words.now book b.units b.start b.steps b.budget c.bench_command.ensures.left)
+
+pub returns-in-Twin-clause-due : goal.returns-in-Twin-clause-due
+returns-in-Twin-clause-due g c =
+    due_alike (loads g.F.Shelf.held g.F.Shelf.faults c.args.shelf.now c.twin_command.new.shelf) c.args.words.now (Twin c.in-Twin.steps c.in-Twin.after c.in-Twin.budget) c.args.command c.twin_command.new.book.entries c.twin_command.result (sym c.in-Twin.is) c.twin_command.ensures.due
+
+pub returns-in-Twin-clause-left : goal.returns-in-Twin-clause-left
+returns-in-Twin-clause-left g c =
+    let held = g.F.Shelf.held c.args.shelf.now in
+    let book = c.twin_command.new.book.entries in
+    let t = c.in-Twin in
+    left_so held c.args.words.now book (Twin t.steps t.after t.budget) c.args.command t.is (left_twin held c.args.words.now book t.steps t.after t.budget c.twin_command.ensures.left)

@@ -10,16 +10,16 @@ use Rattle.diagnose_cli.proofs.SessionAnswers.{empty_too_large, no_stop, session
 use Rattle.diagnose_cli.proofs.session_command.carry_out.Goals as goal
 
 pub returns-then-size-gt-MOST_SIZE-clause-speaks : goal.returns-then-size-gt-MOST_SIZE-clause-speaks
-returns-then-size-gt-MOST_SIZE-clause-speaks g c text lines of_net of_script =
+returns-then-size-gt-MOST_SIZE-clause-speaks g c words text lines of_net of_script =
     let steps = c.args.plan.now.limits.steps in
     let budget = c.args.plan.now.limits.budget in
     let book = c.args.book.now.entries in
-    speaks_once (Closes (Session steps budget) book (text ∷ lines ∷ [])) (book ≡ []) c.requires.empty (Err (Large c.question_size-size.result)) _ _ _ _
-    (λ never. empty_too_large steps budget book c.args.plan.now.net c.args.plan.now.script text lines of_net of_script c.question_size-size.result (c.question_size-size.ensures.size ∙ ap (λ (l : Log). question_size c.args.plan.now.net l steps) c.new.ensures) (omega (arith, c.if-size-gt-MOST_SIZE.true))) c.put_once.ensures tt
+    speaks_once (Closes (Session steps budget) words book (text ∷ lines ∷ [])) (book ≡ []) c.requires.empty (Err (Large c.question_size-size.result)) _ _ _ _
+    (λ never. empty_too_large steps budget words book c.args.plan.now.net c.args.plan.now.script text lines of_net of_script c.question_size-size.result (c.question_size-size.ensures.size ∙ ap (λ (l : Log). question_size c.args.plan.now.net l steps) c.new.ensures) (omega (arith, c.if-size-gt-MOST_SIZE.true))) c.put_once.ensures tt
 
 pub returns-clause-speaks : goal.returns-clause-speaks
-returns-clause-speaks g c text lines of_net of_script =
-    session_speaks c.args.plan.now.limits.steps c.args.plan.now.limits.budget c.carry_out_rows.new.book.entries c.args.plan.now.net c.args.plan.now.script text lines of_net of_script c.question_size-size.result _ _ _ c.carry_out_rows.result c.status_of.result
+returns-clause-speaks g c words text lines of_net of_script =
+    session_speaks c.args.plan.now.limits.steps c.args.plan.now.limits.budget words c.carry_out_rows.new.book.entries c.args.plan.now.net c.args.plan.now.script text lines of_net of_script c.question_size-size.result _ _ _ c.carry_out_rows.result c.status_of.result
     (c.question_size-size.ensures.size ∙ ap (λ (l : Log). question_size c.args.plan.now.net l c.args.plan.now.limits.steps) c.new.ensures) (omega (arith, c.if-size-gt-MOST_SIZE.false)) c.status_of.ensures c.carry_out_rows.ensures
 
 pub returns-clause-stopped : goal.returns-clause-stopped

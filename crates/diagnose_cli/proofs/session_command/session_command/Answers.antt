@@ -16,7 +16,7 @@ returns-in-Ok-clause-speaks g c =
     let limits = c.in-Ok.plan.limits in
     let called = subst (λ (asked : Limits). command_of c.args.words.now ≡ Some (Session asked.steps asked.budget)) (sym c.in-Ok.ensures.limits) c.requires.called in
     plan_speaks l c.args.words.now limits.steps limits.budget c.carry_out.new.book.entries called c.in-Ok.plan.net c.in-Ok.plan.script _ _ _ c.carry_out.result plan
-    (c.carry_out.ensures.speaks plan.text plan.second plan.net_is plan.second_is)
+    (c.carry_out.ensures.speaks c.args.words.now plan.text plan.second plan.net_is plan.second_is)
 
 pub returns-in-Err-clause-speaks : goal.returns-in-Err-clause-speaks
 returns-in-Err-clause-speaks g c =

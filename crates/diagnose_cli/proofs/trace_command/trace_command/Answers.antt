@@ -11,4 +11,4 @@ returns g c book =
     let shelf = g.F.Shelf in
     let m = c.in_ok-net.ensures.net in
     goes_on_later (shelf.held c.args.shelf.now) (shelf.held c.fetch_model.new.shelf) (shelf.faults c.args.shelf.now) (shelf.faults c.fetch_model.new.shelf) (shelf.faults c.trace_over.new.shelf)
-    c.in_ok-net.ensures.kept c.in_ok-net.ensures.never_falls c.args.words.now (Closes Trace book) 1 model (run ∷ []) [] m.0 c.trace_over.result m.1 (c.trace_over.ensures book m.0 m.2)
+    c.in_ok-net.ensures.kept c.in_ok-net.ensures.never_falls c.args.words.now (Closes Trace c.args.words.now book) 1 model (run ∷ []) [] m.0 c.trace_over.result m.1 (c.trace_over.ensures book m.0 m.2)

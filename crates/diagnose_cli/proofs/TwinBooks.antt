@@ -1,0 +1,91 @@
+-- The book that a twin test leaves, as a whole.
+use Rattle.std.proofs.Common.{◌≡◌, ◌∙◌, ◌<◌, ◌^◌, ℕ, Bool, true, false, List, [], ◌∷◌, ◌++◌, map, length, refl, sym, ap, subst, arith, append-nil, append_assoc, Contains, ◌==◌}
+use Rattle.std.specs.Prelude.{All}
+use Rattle.std.specs.List.{AllByRecursion, list_any}
+use Rattle.std.proofs.lemmas.Bool.{eqb-true}
+use Rattle.std.proofs.lemmas.List.Elements.{All-head, All-tail, Contains-append_left, Contains-append_right, filter_map-append}
+use Rattle.std.proofs.lemmas.List.FromFn.{length-range_with_len, get_or-range_with_len}
+use Rattle.des_base.proofs.Elements.{all_at, here_later}
+use Rattle.des_base.specs.Lists.{numbers_below}
+use Rattle.des_net.specs.Network.{Net}
+use Rattle.least_faults.proofs.FreshCount.{fresh_below}
+use Rattle.least_faults.proofs.Freshness.{fresh_closed}
+use Rattle.proof_ledger.specs.Book.{BookEntry, axiomatic, final, mark, axiom_of, axioms_of, clause_of, clauses_of}
+use Rattle.proof_ledger.specs.Fresh.{AreFresh, occurs}
+use Rattle.prop_core.specs.Clauses.{Clause, HasValues}
+use Rattle.prop_core.specs.Trail.{has_var}
+use Rattle.twin_test.proofs.Lists.{any_from}
+use Rattle.twin_test.proofs.Testing.{book_axioms, book_clauses, marked}
+use Rattle.twin_test.specs.Tested.{IsClosedBook, IsTested}
+use Rattle.twin_test.specs.TwinCodes.{AskTwins, twin_clauses, twin_variables}
+use Rattle.twin_test.specs.declared.answer.Twin.{Twin}
+use Rattle.twin_test.specs.declared.answer.Twin.TheVariants.{Undecided}
+
+-- ---- the closing mark has no clause
+
+axioms_inside : (cs : List Clause) (since : List BookEntry) → axioms_of (map axiomatic cs ++ mark 0 ∷ since ++ mark 1 ∷ []) ≡ axioms_of (marked cs ++ since)
+axioms_inside cs since =
+    filter_map-append axiom_of (map axiomatic cs ++ mark 0 ∷ since) (mark 1 ∷ []) ∙ append-nil (axioms_of (map axiomatic cs ++ mark 0 ∷ since)) ∙ ap axioms_of (sym (append_assoc (map axiomatic cs) (mark 0 ∷ []) since))
+
+clauses_inside : (cs : List Clause) (since : List BookEntry) → clauses_of (map axiomatic cs ++ mark 0 ∷ since ++ mark 1 ∷ []) ≡ clauses_of (marked cs ++ since)
+clauses_inside cs since =
+    filter_map-append clause_of (map axiomatic cs ++ mark 0 ∷ since) (mark 1 ∷ []) ∙ append-nil (clauses_of (map axiomatic cs ++ mark 0 ∷ since)) ∙ ap clauses_of (sym (append_assoc (map axiomatic cs) (mark 0 ∷ []) since))
+
+-- ---- variables below a number
+
+below_var : (count var : ℕ) (clause : Clause) → HasValues count clause → has_var var clause ≡ true → var < count
+below_var count var [] below there = cc
+below_var count var (l ∷ clause) below there = by (l.var == var) refl (below_var count var clause (All-tail (λ m. m.var < count) l clause below))
+  where
+    by : (b : Bool) → (l.var == var) ≡ b → (has_var var clause ≡ true → var < count) → var < count
+    by true e later = subst (λ v. v < count) (eqb-true l.var var e) (All-head (λ m. m.var < count) l clause below)
+    by false e later = later (rw e at there)
+
+among_numbers : (count var : ℕ) → var < count → Contains (numbers_below count) var
+among_numbers count var below = (var, omega (arith, length-range_with_len 0 count), omega (arith, get_or-range_with_len 0 count var var below))
+
+known_below : (count : ℕ) (clauses : List Clause) → AllByRecursion (HasValues count) clauses → (var : ℕ) → list_any (has_var var) clauses ≡ true → Contains (numbers_below count) var
+known_below count clauses below var there =
+    let some = any_from (has_var var) clauses there in
+    among_numbers count var (below_var count var some.0 (all_at (HasValues count) clauses some.0 below some.1) some.2)
+
+-- ---- the book
+
+module _ (net : Net) (fault n d budget : ℕ) (book : List BookEntry) where
+  abbrev cs : List Clause
+  cs = twin_clauses net fault n d
+
+  module _ (answer : Twin) (tested : IsTested net fault n d budget book answer) where
+    axioms_are : axioms_of book ≡ cs
+    axioms_are = ap axioms_of tested.whole ∙ axioms_inside cs tested.since ∙ book_axioms cs tested.since tested.derived
+
+    -- its axioms ask for twins
+    pub book_asks : AskTwins net fault n d (axioms_of book)
+    book_asks = subst (AskTwins net fault n d) (sym axioms_are) tested.asks
+
+    pub all_clauses : clauses_of book ≡ clauses_of (marked cs ++ tested.since)
+    all_clauses = ap clauses_of tested.whole ∙ clauses_inside cs tested.since
+
+    -- what stands behind the opening mark stands in the book
+    pub closed_book : IsClosedBook tested.since → IsClosedBook book
+    closed_book (hints, there) = (
+      hints,
+      subst (λ b. Contains b (final [] hints)) (sym tested.whole)
+          (Contains-append_left (map axiomatic cs ++ mark 0 ∷ tested.since) (mark 1 ∷ []) (final [] hints)
+          (Contains-append_right (map axiomatic cs) (mark 0 ∷ tested.since) (final [] hints) (here_later (mark 0) tested.since (final [] hints) there))),
+    )
+
+  module _ (tested : IsTested net fault n d budget book Undecided) where
+    -- each clause that was learnt was fresh
+    pub fresh_book : AreFresh [] book budget
+    fresh_book = fresh_closed cs tested.since book budget tested.whole (record { number = refl; each = tested.told.0.each }) tested.told.0.number
+
+    -- they are fewer than the sets of literals, no variable twice
+    pub undecided_is_small : budget < 3 ^ twin_variables net n d
+    undecided_is_small =
+        let count = twin_variables net n d in
+        let known = λ (var : ℕ) (there : occurs var (marked cs ++ tested.since) ≡ true).
+        known_below count cs tested.asks.below var (ap (list_any (has_var var)) (sym (book_axioms cs tested.since tested.derived)) ∙ there) in
+        let small = fresh_below (numbers_below count) (marked cs) tested.since budget known tested.told.0 in
+        let power = ap (λ k. 3 ^ k) (length-range_with_len 0 count) in
+        omega (arith, small, power)
