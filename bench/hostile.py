@@ -26,8 +26,11 @@ checks at run time, the others by the proved program. None ended otherwise than 
 | * 4,000,000 events | run | 0 (1) | `trace`, 20,000,012 | 1.19 | 173 | 1.27 | 173 |
 | * | run | 13 (2) | `replay`, 32,000,012 | 1.90 | 306 | 1.16 | 173 |
 | * the same with names of 64 signs | run | 0 (1) | `trace`, 520,000,012 | 8.09 | 955 | | |
+| 100,000,000 variables | formula | 7 (2), 13 (1) | `check`, 400,000,026 | 9.09 | 1527 | 7.34 | 1473 |
 | 2,000 alarms with one label, without an order, 3 steps | log | 10 (1) | `diagnose`, 26,890 | 0.03 | 15 | 0.01 | 15 |
 | the same, 100 steps | log | 10 (1) | `diagnose`, 26,890 | 1.94 | 184 | 0.17 | 32 |
+
+Not measured to the end: 2,000 alarms with one label within 1,000 steps, which had 1,590 MiB after 33 seconds, and the rows behind it, with 64 labels and as scripts.
 """
 import glob
 import itertools
@@ -61,21 +64,46 @@ LONG = "des 1\ncomponent p\nstate s init\ntrans s a s\nevent " + "e" * 64 + " : 
 LABELLED = "des 1\n" + "".join(f"component u{it}\nstate s init\ntrans s a s\nevent e{it} alarm T{it:063} : u{it}.a\n" for it in range(64))
 # The ends of the names of well-formed and other texts of each kind, in the cases.
 ENDS = {"model": ".des", "log": ".csv", "script": ".csv", "run": ".run", "formula": ".cnf", "proof": ".lrat"}
-SIGNS = {"model": b"des component state init trans event alarm fault : . p a 1 # -_", "log": b"alarm maybe before ask , | \" T a1 a2", "run": b"run 0 1 2 ! # jam trip a1",
-         "formula": b"p cnf 0 1 2 - c", "proof": b"0 1 2 5 6 d - c"}
+SIGNS = {
+    "model": b"des component state init trans event alarm fault : . p a 1 # -_",
+    "log": b"alarm maybe before ask , | \" T a1 a2",
+    "run": b"run 0 1 2 ! # jam trip a1",
+    "formula": b"p cnf 0 1 2 - c",
+    "proof": b"0 1 2 5 6 d - c",
+}
 # The statuses that each command may have beside those for words, files and memory.
-STATUSES = {"show": [0, 5], "diagnose": [0, 5, 6, 10, 11, 12], "cnf": [0, 5, 6], "proof": [0, 5, 6, 11, 14], "session": [0, 5, 6], "trace": [0, 5, 7, 13],
-            "replay": [0, 5, 6, 7, 13], "check": [0, 7, 13]}
+STATUSES = {
+    "show": [0, 5], "diagnose": [0, 5, 6, 10, 11, 12], "cnf": [0, 5, 6], "proof": [0, 5, 6, 11, 14], "session": [0, 5, 6], "trace": [0, 5, 7, 13],
+    "replay": [0, 5, 6, 7, 13], "check": [0, 7, 13],
+}
 EVERYWHERE = [3, 8, 9]
 NAME = r"[A-Za-z0-9_-]{1,64}"
 STEP = rf"(?:!|{NAME})(?: {NAME})?"
 RUN = rf"run \d+\n(?:{STEP}\n)*"
 FIRST = r"EXPLAINED \d+|NONE \d+|MANY 255|UNDECIDED \d+ (?:\d+|-)|REFUSED [1-58]|run \d+"
 # What goes with a status, and with 0 for each command.
-OUTPUTS = {3: r"LOAD [123]\n", 5: r"MODEL \d+ [1-8]\n", 6: r"LOG \d+ [1-7]\n", 7: r"(?:RUN|CNF|LRAT) \d+ [1-8]\n", 8: r"(?:LONG [123]|LARGE \d+)\n", 10: r"NONE \d+\n",
-           11: rf"UNDECIDED (?:0 -\n|\d+ \d+\n{RUN})", 12: rf"MANY 255\n{RUN}", 13: r"REJECTED (?:STUCK \d+|ALARM \d+|MISSING \S+|ORDER \S+ \S+|WIDE \d+|\d+ [1-4])\n", 14: r"NOTHING\n"}
-ANSWERS = {"show": r"des 1\n(?:[^\n]+\n)*", "diagnose": rf"EXPLAINED \d+\n{RUN}", "cnf": r"p cnf \d+ \d+\n(?:[^\n]*0\n)*", "proof": r"c cnf (?:\d+|any)\n(?:[^\n]*0\n)*", "session": rf"(?:(?:{FIRST}|{STEP})\n)*",
-           "trace": r"RAN \d+\n", "replay": r"ACCEPTED \d+\n", "check": r"VERIFIED\n"}
+OUTPUTS = {
+    3: r"LOAD [123]\n",
+    5: r"MODEL \d+ [1-8]\n",
+    6: r"LOG \d+ [1-7]\n",
+    7: r"(?:RUN|CNF|LRAT) \d+ [1-8]\n",
+    8: r"(?:LONG [123]|LARGE \d+)\n",
+    10: r"NONE \d+\n",
+    11: rf"UNDECIDED (?:0 -\n|\d+ \d+\n{RUN})",
+    12: rf"MANY 255\n{RUN}",
+    13: r"REJECTED (?:STUCK \d+|ALARM \d+|MISSING \S+|ORDER \S+ \S+|WIDE \d+|\d+ [1-4])\n",
+    14: r"NOTHING\n",
+}
+ANSWERS = {
+    "show": r"des 1\n(?:[^\n]+\n)*",
+    "diagnose": rf"EXPLAINED \d+\n{RUN}",
+    "cnf": r"p cnf \d+ \d+\n(?:[^\n]*0\n)*",
+    "proof": r"c cnf (?:\d+|any)\n(?:[^\n]*0\n)*",
+    "session": rf"(?:(?:{FIRST}|{STEP})\n)*",
+    "trace": r"RAN \d+\n",
+    "replay": r"ACCEPTED \d+\n",
+    "check": r"VERIFIED\n",
+}
 
 
 def put(path, pieces):

@@ -6,7 +6,7 @@ PROGRAM is the compiled program, which `rt run` and `rt ci` leave as crates/diag
 read. The commands of a page are those of its blocks that are fenced as sh or indented. One shell runs them from top to bottom, redirections and all, at the
 top of a copy of what the pages name; so no command finds a file that the page doesn't have written. What the commands of a block print must be the fenced
 blocks that follow it at once, one after the other, where a line `...` stands for whatever lines. So a timeline of a page is what tools/timeline.py prints.
-A reply that is printed by itself must have its exit status. Each other fenced block without a kind must stand in a file of the examples.
+A reply that is printed by itself must have its exit status. Each other fenced block without a kind must stand in a file of FILES.
 Left out are blocks that prove or build; they begin with a command of KIT.
 
 Status 0: every answer is the one that is quoted, 1: some isn't, 2: it could not begin.
@@ -23,6 +23,7 @@ TOP = os.path.dirname(os.path.dirname(os.path.abspath(__file__)))
 BUILT = "crates/diagnose_cli/out/diagnose_cli"
 COPIED = ["bench", "cases", "check", "docs", "examples", "tools"]
 PAGES = ["README.md", "CONTRIBUTING.md", "docs/tutorial.md", "docs/scripts.md", "examples/*/README.md"]
+FILES = ["examples/*/*.des", "examples/*/*.csv", "examples/*/*.run", "crates/*/must-fail/*.edit", "crates/*/more-edits/*.edit"]
 KIT = re.compile(r"(?:rt|cd crates|git|\.ci/run|python3 examples/quoted\.py)\b")
 SECONDS = 600
 STATUSES = {"EXPLAINED": 0, "RAN": 0, "ACCEPTED": 0, "VERIFIED": 0, "des": 0, "p": 0, "c": 0, "units": None, "USAGE": 2, "LOAD": 3, "MODEL": 5, "LOG": 6, "RUN": 7,
@@ -87,9 +88,13 @@ def commands(block):
 
 
 def prepared(program, room):
-    """A copy of what the pages name, with the program where it is built."""
+    """What the pages name, in a copy if commands may write there, with the program where it is built."""
     for name in COPIED:
         shutil.copytree(os.path.join(TOP, name), os.path.join(room, name))
+    for path in ["README.md", "CONTRIBUTING.md", "crates.txt"] + [os.path.relpath(it, TOP) for it in glob.glob(os.path.join(TOP, "crates/*/*"))]:
+        if os.path.basename(path) != "out":
+            os.makedirs(os.path.dirname(os.path.join(room, path)), exist_ok=True)
+            os.symlink(os.path.join(TOP, path), os.path.join(room, path))
     os.makedirs(os.path.join(room, os.path.dirname(BUILT)))
     os.symlink(os.path.abspath(program), os.path.join(room, BUILT))
 
@@ -152,7 +157,7 @@ def main(words):
         print("usage: quoted.py PROGRAM [PAGE..]", file=sys.stderr)
         return 2
     pages = words[1:] or sorted(os.path.relpath(it, TOP) for pattern in PAGES for it in glob.glob(os.path.join(TOP, pattern)))
-    files = [read(it) for it in glob.glob(os.path.join(TOP, "examples/*/*")) if it.endswith((".des", ".csv", ".run", ".txt"))]
+    files = [read(it) for pattern in FILES for it in glob.glob(os.path.join(TOP, pattern))]
     count, faults = 0, 0
     for page in pages:
         of_page, wrong = wrong_of(page, words[0], files)
