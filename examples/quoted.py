@@ -27,7 +27,7 @@ FILES = ["examples/*/*.des", "examples/*/*.csv", "examples/*/*.run", "crates/*/m
 KIT = re.compile(r"(?:rt|cd crates|git|\.ci/run|python3 examples/quoted\.py)\b")
 SECONDS = 600
 STATUSES = {"EXPLAINED": 0, "RAN": 0, "ACCEPTED": 0, "VERIFIED": 0, "des": 0, "p": 0, "c": 0, "units": None, "USAGE": 2, "LOAD": 3, "MODEL": 5, "LOG": 6, "RUN": 7,
-            "CNF": 7, "LRAT": 7, "LONG": 8, "LARGE": 8, "NONE": 10, "UNDECIDED": 11, "MANY": 12, "REJECTED": 13, "NOTHING": 14}
+            "CNF": 7, "LRAT": 7, "LONG": 8, "LARGE": 8, "NONE": 10, "UNDECIDED": 11, "MANY": 12, "REJECTED": 13, "NOTHING": 14, "CLEAR": 0, "NOFAULT": 16, "AMBIGUOUS": 17}
 
 
 def read(path):
