@@ -51,7 +51,7 @@ LIMITED = f'ulimit -t {SECONDS}; ulimit -v {GIBIBYTES * 2**20}; exec "$@"'
 TEXT = "text"
 # The commands that read a kind of text; the other files are those of FILES.
 READERS = {
-    "model": [["show", TEXT], ["diagnose", TEXT, "log", "3", "1000"], ["cnf", TEXT, "log", "3", "any"]],
+    "model": [["show", TEXT], ["diagnose", TEXT, "log", "3", "1000"], ["cnf", TEXT, "log", "3", "any"], ["twin", TEXT, "jam", "3", "1", "1000"]],
     "log": [["diagnose", "model", TEXT, "3", "1000"], ["proof", "model", TEXT, "3", "1000"]],
     "script": [["session", "model", TEXT, "3", "1000"]],
     "run": [["trace", "model", TEXT], ["replay", "model", "log", TEXT, "3"]],
@@ -74,14 +74,14 @@ SIGNS = {
 # The statuses that each command may have beside those for words, files and memory.
 STATUSES = {
     "show": [0, 5], "diagnose": [0, 5, 6, 10, 11, 12], "cnf": [0, 5, 6], "proof": [0, 5, 6, 11, 14], "session": [0, 5, 6], "trace": [0, 5, 7, 13],
-    "replay": [0, 5, 6, 7, 13], "check": [0, 7, 13],
+    "replay": [0, 5, 6, 7, 13], "check": [0, 7, 13], "twin": [0, 5, 11, 16, 17],
 }
 EVERYWHERE = [3, 8, 9]
 NAME = r"[A-Za-z0-9_-]{1,64}"
 STEP = rf"(?:!|{NAME})(?: {NAME})?"
 RUN = rf"run \d+\n(?:{STEP}\n)*"
 FIRST = r"EXPLAINED \d+|NONE \d+|MANY 255|UNDECIDED \d+ (?:\d+|-)|REFUSED [1-58]|run \d+"
-# What goes with a status, and with 0 for each command.
+# What goes with a status, with 0 for each command, and with 11 for `twin`.
 OUTPUTS = {
     3: r"LOAD [123]\n",
     5: r"MODEL \d+ [1-8]\n",
@@ -93,7 +93,10 @@ OUTPUTS = {
     12: rf"MANY 255\n{RUN}",
     13: r"REJECTED (?:STUCK \d+|ALARM \d+|MISSING \S+|ORDER \S+ \S+|WIDE \d+|\d+ [1-4])\n",
     14: r"NOTHING\n",
+    16: r"NOFAULT\n",
+    17: rf"AMBIGUOUS \d+\nfaulty\n{RUN}healthy\n{RUN}",
 }
+UNDECIDED_TWIN = r"UNDECIDED\n"
 ANSWERS = {
     "show": r"des 1\n(?:[^\n]+\n)*",
     "diagnose": rf"EXPLAINED \d+\n{RUN}",
@@ -103,6 +106,7 @@ ANSWERS = {
     "trace": r"RAN \d+\n",
     "replay": r"ACCEPTED \d+\n",
     "check": r"VERIFIED\n",
+    "twin": r"CLEAR \d+\n",
 }
 
 
@@ -132,6 +136,8 @@ def told(program, words, folder):
     command = words[0]
     # (where memory is wanting, a session has put whole replies, and another command nothing)
     pattern = ANSWERS[command] if status == 0 or (status, command) == (9, "session") else OUTPUTS.get(status, "")
+    if (status, command) == (11, "twin"):
+        pattern = UNDECIDED_TWIN
     is_well = status in STATUSES[command] + EVERYWHERE and re.fullmatch(pattern, front) is not None
     return status, usage.ru_utime + usage.ru_stime, usage.ru_maxrss / 1024, is_well
 
@@ -234,9 +240,17 @@ def transitions():
     return lines_of(b"des 1\ncomponent p\n" + states, lambda it: b"trans s%d a s%d\n" % (it // 256, it % 256), 50_000)
 
 
-def events(mark, others):
-    """4,000 events that touch one component, 1,800 of them with a mark of their own."""
-    return lines_of(LOOP, lambda it: b"event e%d%s : p.a\n" % (it, mark if it < 1_800 else others), 4_000)
+def events(mark, others, count=4_000):
+    """So many events that touch one component, 1,800 of them with a mark of their own."""
+    return lines_of(LOOP, lambda it: b"event e%d%s : p.a\n" % (it, mark if it < 1_800 else others), count)
+
+
+def devices(count, seen):
+    """Devices of one state, each with events that are seen; the first has a fault."""
+    def device(it):
+        events = b"".join(b"event e%d-%d alarm A%d : d%d.a\n" % (it, number, number, it) for number in range(seen))
+        return b"component d%d\nstate s init\ntrans s a s\n%s" % (it, events + (b"event jam fault : d0.a\n" if it == 0 else b""))
+    return lines_of(b"des 1\n", device, count)
 
 
 def alarms(labels_of, end=b""):
@@ -281,6 +295,13 @@ def large():
         yield "50,000 transitions", "model", words, transitions()
         yield "4,000 events of one device", "model", words, events(b" alarm Z", b" fault")
         yield "4,000 events of one device", "model", words, events(b" alarm T", b" fault")
+    for mark, others in [(b" fault", b" alarm T"), (b" alarm T fault", b""), (b" fault", b"")]:
+        yield "3,000 events of one device, 1 step", "model", ["twin", TEXT, "e0", "1", "0", "1000"], events(mark, others, 3_000)
+    # (questions of a size below the limit, with 36, 360 and 960 million literals)
+    yield "40 devices with 9 events that are seen, 1,000 steps, AFTER 100", "model", ["twin", TEXT, "jam", "1000", "100", "1000"], devices(40, 9)
+    yield "40 devices with 9 events that are seen, 1,000 steps, AFTER 1,000", "model", ["twin", TEXT, "jam", "1000", "1000", "1000"], devices(40, 9)
+    yield "960 devices with an event that is seen, 1,000 steps, AFTER 1,000", "model", ["twin", TEXT, "jam", "1000", "1000", "1000"], devices(960, 1)
+    yield "a word of 100,000 signs", "model", ["twin", TEXT, "x" * 100_000, "3", "1", "1000"], lines_of(LOOP + b"event e fault : p.a\n", None, 0)
     yield "16 MiB of components", "model", SHOW, lines_of(b"des 1\n", lambda it: b"component c%061d\nstate s init\n" % it, 180_000)
     yield "16 MiB of events", "model", SHOW, lines_of(LOOP, lambda it: b"event e%061d : p.a\n" % it, 220_000)
     for kind, end in [("log", b""), ("script", b"ask\n")]:
@@ -357,10 +378,12 @@ class Kind:
     def tell(self, program, folder):
         seconds, memory, size, words = self.dearest
         put(os.path.join(folder, TEXT), well(self.kind, size))
-        _, their_seconds, their_memory, is_well = told(program, words, folder)
+        # (its faults have other names, and as many events as it has may make too large a question)
+        status, their_seconds, their_memory, is_well = told(program, words[:2] + ["jam-0"] + words[3:] if words[0] == "twin" else words, folder)
         self.wrong += not is_well
-        statuses = ", ".join(f"{status} ({count})" for status, count in sorted(self.statuses.items()))
-        cells = [self.name, self.kind, statuses, f"`{words[0]}`, {size:,}", f"{seconds:.2f}", f"{memory:.0f}", f"{their_seconds:.2f}", f"{their_memory:.0f}"]
+        statuses = ", ".join(f"{it} ({count})" for it, count in sorted(self.statuses.items()))
+        theirs = ["`LARGE`", ""] if status == 8 else [f"{their_seconds:.2f}", f"{their_memory:.0f}"]
+        cells = [self.name, self.kind, statuses, f"`{words[0]}`, {size:,}", f"{seconds:.2f}", f"{memory:.0f}", *theirs]
         print("| " + " | ".join(cells) + " |", flush=True)
 
 

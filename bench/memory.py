@@ -51,6 +51,9 @@ ROWS = [
     ("show", "show valve.des"),
     ("generate", "generate log 12 7"),
     ("bench", "bench 12 7 3 1000"),
+    ("twins", "twin two_ways.des ef 2 1 1000"),
+    ("twins", "twin excused.des ef 2 1 1000"),
+    ("twins", "twin valve.des trip 2 1 1000"),
 ]
 # Where a reply of a session begins.
 REPLY = re.compile(r"^(?=(?:EXPLAINED|NONE|MANY|UNDECIDED|REFUSED) )", re.M)
