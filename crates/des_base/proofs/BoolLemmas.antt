@@ -1,6 +1,7 @@
 -- What tests that are joined by `&&`, `||` and `not` say of their parts, and tests on numbers.
 use Rattle.std.proofs.Common.{◌≡◌, ℕ, ◌<◌, ◌≤◌, Bool, true, false, ◌&&◌, ◌||◌, refl, arith, ap, sym}
-use Rattle.std.specs.Prelude.{◌==◌, nat_lt, nat_le}
+use Rattle.std.specs.Bool.{beq}
+use Rattle.std.specs.Prelude.{◌==◌, nat_lt, nat_le, not}
 use Rattle.std.proofs.lemmas.Bool.Decides.{nat_tests, Decides-eqb}
 pub use Rattle.std.proofs.lemmas.Bool.{and_parts as both, and_from as join, or_cases as either, or_left, or_right, or_parts as neither, not_from_false as not_false, not-true as not_true, not-false as not_is_false, false_from_ne_true as otherwise}
 
@@ -11,6 +12,20 @@ or_assoc false b c = refl
 pub and_assoc : (a b c : Bool) → ((a && b) && c) ≡ (a && (b && c))
 and_assoc true b c = refl
 and_assoc false b c = refl
+
+-- no test both passes and fails
+pub clash : {A : Type 0} (b : Bool) → b ≡ true → b ≡ false → A
+clash true h k = cc
+clash false h k = cc
+
+-- a test that is compared with an answer
+pub beq_true : (b : Bool) → beq b true ≡ b
+beq_true true = refl
+beq_true false = refl
+
+pub beq_false : (b : Bool) → beq b false ≡ not b
+beq_false true = refl
+beq_false false = refl
 
 -- two tests that pass alike are one
 pub alike : (a b : Bool) → (a ≡ true → b ≡ true) → (b ≡ true → a ≡ true) → a ≡ b

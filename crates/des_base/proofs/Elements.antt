@@ -1,8 +1,8 @@
--- What a list has: elements by their places, what holds of each, and lists that are made of others.
-use Rattle.std.proofs.Common.{◌≡◌, ℕ, zero, suc, ◌<◌, Bool, true, List, [], ◌∷◌, ◌++◌, length, take, map, flat_map, filter, Some, inl, inr, ◌⊎◌, refl, sym, ap, subst, arith, Contains, slice_get}
-use Rattle.std.specs.List.{AllByRecursion, AllZip, list_all}
+-- What a list has: elements by their places, what holds of each, lists that are made of others, and what a test finds.
+use Rattle.std.proofs.Common.{◌≡◌, ℕ, zero, suc, ◌<◌, Bool, true, false, ◌||◌, ◌∙◌, List, [], ◌∷◌, ◌++◌, length, take, map, flat_map, filter, filter_map, cond, Option, Some, None, inl, inr, ◌⊎◌, refl, sym, ap, subst, arith, Contains, slice_get}
+use Rattle.std.specs.List.{AllByRecursion, AllZip, list_all, list_any}
 use Rattle.std.proofs.lemmas.List.Elements.{Contains-append_left, Contains-append_right, Contains-append_cases}
-use Rattle.des_base.proofs.BoolLemmas.{both, join}
+use Rattle.des_base.proofs.BoolLemmas.{both, join, either, or_left, or_right, clash}
 use Rattle.des_base.specs.Lists.{EachPair}
 
 -- ---- elements by their places
@@ -122,3 +122,84 @@ flat_from {X} {Y} f (x ∷ xs) y here = by (Contains-append_cases (f x) (flat_ma
     by : Contains (f x) y ⊎ Contains (flat_map f xs) y → (Contains (flat_map f xs) y → (z : X) × Contains xs z × Contains (f z) y) → (z : X) × Contains (x ∷ xs) z × Contains (f z) y
     by (inl first) later = (x, (0, omega arith, refl), first)
     by (inr more) later = let rest = later more in (rest.0, (suc rest.1.0, omega (arith, rest.1.1), rest.1.2), rest.2)
+
+pub filter_has : {X : Type 0} (p : X → Bool) (xs : List X) (x : X) → p x ≡ true → Contains xs x → Contains (filter p xs) x
+filter_has p [] x h in' = absurd (none_in_nil x in')
+filter_has p (y ∷ xs) x h in' = by (p y) refl (cons_cases y xs x in') (filter_has p xs x h)
+  where
+    by : (b : Bool) → p y ≡ b → (y ≡ x) ⊎ Contains xs x → (Contains xs x → Contains (filter p xs) x) → Contains (cond b (y ∷ filter p xs) (filter p xs)) x
+    by true e (inl is) later = here_first y (filter p xs) x is
+    by true e (inr rest) later = here_later y (filter p xs) x (later rest)
+    by false e (inl is) later = clash (p x) h (ap p (sym is) ∙ e)
+    by false e (inr rest) later = later rest
+
+pub filter_from : {X : Type 0} (p : X → Bool) (xs : List X) (x : X) → Contains (filter p xs) x → (p x ≡ true) × Contains xs x
+filter_from p [] x in' = absurd (none_in_nil x in')
+filter_from p (y ∷ xs) x in' = by (p y) refl in' (filter_from p xs x)
+  where
+    by : (b : Bool) → p y ≡ b → Contains (cond b (y ∷ filter p xs) (filter p xs)) x → (Contains (filter p xs) x → (p x ≡ true) × Contains xs x) → (p x ≡ true) × Contains (y ∷ xs) x
+    by true e here later = at (cons_cases y (filter p xs) x here)
+      where
+        at : (y ≡ x) ⊎ Contains (filter p xs) x → (p x ≡ true) × Contains (y ∷ xs) x
+        at (inl is) = (ap p (sym is) ∙ e, here_first y xs x is)
+        at (inr rest) = let found = later rest in (found.0, here_later y xs x found.1)
+    by false e here later = let found = later here in (found.0, here_later y xs x found.1)
+
+pub pairs_filter : {X : Type 0} (R : X → X → Type 0) (p : X → Bool) (xs : List X) → EachPair R xs → EachPair R (filter p xs)
+pairs_filter R p [] each = tt
+pairs_filter R p (y ∷ xs) each = by (p y) (pairs_filter R p xs each.1)
+  where
+    by : (b : Bool) → EachPair R (filter p xs) → EachPair R (cond b (y ∷ filter p xs) (filter p xs))
+    by true rest = (all_from (R y) (filter p xs) (λ x in'. all_at (R y) xs x each.0 (filter_from p xs x in').1), rest)
+    by false rest = rest
+
+-- an element before the rest, where there is one
+abbrev with_first : {X : Type 0} → Option X → List X → List X
+with_first None xs = xs
+with_first (Some x) xs = x ∷ xs
+
+pub mapped_has : {X Y : Type 0} (f : X → Option Y) (xs : List X) (x : X) (y : Y) → Contains xs x → f x ≡ Some y → Contains (filter_map f xs) y
+mapped_has f [] x y in' is = absurd (none_in_nil x in')
+mapped_has f (z ∷ xs) x y in' is = by (f z) refl (cons_cases z xs x in') (mapped_has f xs x y)
+  where
+    by : (o : Option _) → f z ≡ o → (z ≡ x) ⊎ Contains xs x → (Contains xs x → f x ≡ Some y → Contains (filter_map f xs) y) → Contains (with_first o (filter_map f xs)) y
+    by None e (inl same) later = let none : None ≡ Some y = sym e ∙ ap f same ∙ is in cc
+    by None e (inr rest) later = later rest is
+    by (Some w) e (inl same) later = let here : Some w ≡ Some y = sym e ∙ ap f same ∙ is in here_first w (filter_map f xs) y cc
+    by (Some w) e (inr rest) later = here_later w (filter_map f xs) y (later rest is)
+
+pub mapped_from : {X Y : Type 0} (f : X → Option Y) (xs : List X) (y : Y) → Contains (filter_map f xs) y → (x : X) × Contains xs x × (f x ≡ Some y)
+mapped_from f [] y in' = absurd (none_in_nil y in')
+mapped_from f (z ∷ xs) y in' = by (f z) refl in' (mapped_from f xs y)
+  where
+    by : (o : Option _) → f z ≡ o → Contains (with_first o (filter_map f xs)) y → (Contains (filter_map f xs) y → (x : _) × Contains xs x × (f x ≡ Some y)) → (x : _) × Contains (z ∷ xs) x × (f x ≡ Some y)
+    by None e here later = let found = later here in (found.0, here_later z xs found.0 found.1, found.2)
+    by (Some w) e here later = at (cons_cases w (filter_map f xs) y here)
+      where
+        at : (w ≡ y) ⊎ Contains (filter_map f xs) y → (x : _) × Contains (z ∷ xs) x × (f x ≡ Some y)
+        at (inl same) = (z, here_first z xs z refl, e ∙ ap Some same)
+        at (inr rest) = let found = later rest in (found.0, here_later z xs found.0 found.1, found.2)
+
+-- a front of the list with one element more
+pub take_push : {X : Type 0} (xs : List X) (k : ℕ) (x : X) → slice_get xs k ≡ Some x → take (suc k) xs ≡ take k xs ++ x ∷ []
+take_push [] k x h = cc
+take_push (y ∷ xs) zero x h = let same : y ≡ x = cc in ap (λ z. z ∷ []) same
+take_push (y ∷ xs) (suc k) x h = ap (λ rest. y ∷ rest) (take_push xs k x h)
+
+-- ---- what a test finds
+
+pub has_any : {X : Type 0} (p : X → Bool) (xs : List X) (x : X) → Contains xs x → p x ≡ true → list_any p xs ≡ true
+has_any p [] x in' h = absurd (none_in_nil x in')
+has_any p (y ∷ xs) x in' h = by (cons_cases y xs x in') (λ rest. has_any p xs x rest h)
+  where
+    by : (y ≡ x) ⊎ Contains xs x → (Contains xs x → list_any p xs ≡ true) → p y || list_any p xs ≡ true
+    by (inl is) later = or_left (p y) (list_any p xs) (ap p is ∙ h)
+    by (inr rest) later = or_right (p y) (list_any p xs) (later rest)
+
+pub any_has : {X : Type 0} (p : X → Bool) (xs : List X) → list_any p xs ≡ true → (x : X) × Contains xs x × (p x ≡ true)
+any_has p [] h = cc
+any_has p (y ∷ xs) h = by (either (p y) (list_any p xs) h) (any_has p xs)
+  where
+    by : (p y ≡ true) ⊎ (list_any p xs ≡ true) → (list_any p xs ≡ true → (x : _) × Contains xs x × (p x ≡ true)) → (x : _) × Contains (y ∷ xs) x × (p x ≡ true)
+    by (inl e) later = (y, here_first y xs y refl, e)
+    by (inr rest) later = let found = later rest in (found.0, here_later y xs found.0 found.1, found.2)
