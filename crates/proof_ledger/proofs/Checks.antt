@@ -65,7 +65,7 @@ one_of value [] all k given h = cc
 one_of value (c ∷ clauses) all zero given h = let is : c ≡ given = cc in subst (λ (d : Clause). IsTrue (clause_true value d)) is all.0
 one_of value (c ∷ clauses) all (suc k) given h = one_of value clauses all.1 k given h
 
-numbered_true : (value : ℕ → Bool) (clauses : List Clause) → AllClausesTrue value clauses → MakesHeldTrue value (clause_numbered clauses)
+pub numbered_true : (value : ℕ → Bool) (clauses : List Clause) → AllClausesTrue value clauses → MakesHeldTrue value (clause_numbered clauses)
 numbered_true value clauses all number given e = by (number == 0) e
   where
     by : (b : Bool) → cond b None (slice_get clauses (number - 1)) ≡ Some given → IsTrue (clause_true value given)

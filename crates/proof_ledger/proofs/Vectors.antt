@@ -2,7 +2,7 @@
 use Rattle.std.proofs.Common.{◌≡◌, ℕ, List, [], ◌∷◌, ◌++◌, refl, true, false, map}
 use Rattle.prop_core.specs.declared.lit.Lit.{Lit}
 use Rattle.prop_core.specs.Clauses.{Clause}
-use Rattle.proof_ledger.specs.Book.{axiomatic, learnt, final, mark, IsValidBook, IsQuestion}
+use Rattle.proof_ledger.specs.Book.{axiomatic, learnt, final, mark, IsValidBook}
 use Rattle.proof_ledger.specs.Checking.{check_proof}
 use Rattle.proof_ledger.specs.declared.checker.ProofStep.{ProofStep}
 use Rattle.proof_ledger.specs.declared.checker.ProofStep.TheVariants.{Add, Delete}
@@ -26,17 +26,6 @@ empty line = Add line 6 [] (5 ∷ 3 ∷ 4 ∷ [])
 
 refuted : IsValidBook (map axiomatic all_four ++ learnt (yes 2 ∷ []) (1 ∷ 2 ∷ []) ∷ mark 7 ∷ final [] (5 ∷ 3 ∷ 4 ∷ []) ∷ [])
 refuted = (tt, (tt, (tt, (tt, (refl, (tt, (refl, tt)))))))
-
--- the second question of a book, whose first opening mark was not closed
-second_question : IsQuestion (mark 0 ∷ mark 1 ∷ mark 0 ∷ mark 0 ∷ mark 1 ∷ mark 2 ∷ []) 2 (mark 0 ∷ mark 1 ∷ mark 0 ∷ mark 0 ∷ []) (mark 1 ∷ [])
-second_question = record {
-  later = mark 2 ∷ [];
-  whole = refl;
-  opened = (mark 0 ∷ mark 1 ∷ mark 0 ∷ [], refl);
-  closed = ([], refl);
-  last = refl;
-  number = refl;
-}
 
 verified : check_proof all_four (second 1 ∷ empty 2 ∷ []) ≡ Verified
 verified = refl

@@ -1,5 +1,5 @@
 -- The book of a ledger: what was put down, in order.
-use Rattle.std.specs.Prelude.{◌≡◌, ℕ, ◌+◌, Bool, false, List, [], ◌∷◌, ◌++◌, length, take, filter_map, count_by, Option, Some, None, slice_get, ◌==◌, ⊤, MatchOption}
+use Rattle.std.specs.Prelude.{◌≡◌, ℕ, ◌+◌, Bool, false, List, [], ◌∷◌, ◌++◌, length, take, filter_map, Option, Some, None, slice_get, ◌==◌, ⊤, MatchOption}
 use Rattle.prop_core.specs.Clauses.{Clause}
 use Rattle.prop_core.specs.Derivation.{Derives, clause_numbered}
 use Rattle.proof_ledger.specs.declared.entry.Entry.{Entry}
@@ -71,16 +71,6 @@ EachAfter P earlier (x ∷ xs) = P earlier x × EachAfter P (earlier ++ x ∷ []
 -- each learnt and each final clause of the book derives by its hints from the clauses before it
 abbrev pub IsValidBook : List BookEntry → Type 0
 IsValidBook book = EachAfter IsDerived [] book
-
--- The r-th question, from 1, is closed by the r-th closing mark, 1. It was opened by the last mark 0 before that.
--- Earlier are the entries up to the opening mark, and since are those after it, up to the closing mark.
-pub record IsQuestion (book : List BookEntry) (r : ℕ) (earlier since : List BookEntry) : Type 0 where
-  pub later : List BookEntry
-  pub whole : book ≡ earlier ++ since ++ later
-  pub opened : (before : List BookEntry) × (earlier ≡ before ++ mark 0 ∷ [])
-  pub closed : (body : List BookEntry) × (since ≡ body ++ mark 1 ∷ [])
-  pub last : count_by (is_mark 0) since ≡ 0
-  pub number : count_by (is_mark 1) (earlier ++ since) ≡ r
 
 -- an entry as a caller sees it, with the number of its clause
 abbrev pub shown : ℕ → BookEntry → Entry

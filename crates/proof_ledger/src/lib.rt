@@ -8,6 +8,7 @@
 //!   after the other, up to the empty clause; then no assignment makes all axioms true.
 #![tactic(auto)]
 
+mod axioms;
 mod checker;
 mod entry;
 mod follow;
