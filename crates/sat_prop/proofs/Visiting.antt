@@ -1,10 +1,10 @@
 -- Watches that wait are looked at one by one, and clauses are attached.
-use Rattle.std.proofs.Common.{◌≡◌, ◌∙◌, ℕ, suc, ◌+◌, ◌-◌, ◌<◌, ◌≤◌, true, false, ◌||◌, ◌++◌, ◌∷◌, [], List, refl, ap, sym, subst, length, take, get_or, max, arith, inl, inr, ⊎_elim, Some}
-use Rattle.std.specs.Prelude.{◌⊎◌, Contains, Result, Ok, Err, OnOk, OnErr, slice_set, nat_eq}
+use Rattle.std.proofs.Common.{◌≡◌, ◌∙◌, ℕ, suc, ◌+◌, ◌-◌, ◌<◌, ◌≤◌, true, false, ◌++◌, ◌∷◌, [], List, refl, ap, sym, subst, length, take, get_or, max, arith, inl, inr, ⊎_elim, Some, Option}
+use Rattle.std.specs.Prelude.{◌⊎◌, Contains, IfSome, Result, Ok, Err, OnOk, OnErr, slice_set, nat_eq}
 use Rattle.des_base.specs.declared.memory.Memory.{Memory}
-use Rattle.std.specs.List.{list_any, list_all}
+use Rattle.std.specs.List.{list_any}
 use Rattle.std.proofs.lemmas.Grind.{common_steps}
-use Rattle.std.proofs.lemmas.Bool.{cases_eq, cases_lt, and_from, ne_eqb, or_right}
+use Rattle.std.proofs.lemmas.Bool.{cases_eq, cases_lt, ne_eqb, or_right}
 use Rattle.std.proofs.lemmas.List.Folds.{list_any-append}
 use Rattle.prop_core.specs.declared.lit.Lit.{Lit}
 use Rattle.prop_core.specs.Clauses.{Clause, HasValues, negation, same_literal, is_true, is_false, AreConsistent}
@@ -16,8 +16,10 @@ use Rattle.prop_core.proofs.Forcing.{forced_stands}
 use Rattle.sat_prop.specs.TrailState.{TrailState, literal_at, IsKnownClause}
 use Rattle.sat_prop.specs.Changes.{IsFront, Propagates, with_literal, with_clause}
 use Rattle.sat_prop.specs.declared.watch_lists.Watch.{Watch}
+use Rattle.sat_prop.specs.declared.watched.Judged.{Judged}
+use Rattle.sat_prop.specs.declared.watched.Judged.TheVariants.{Stays, Moves, False}
 use Rattle.sat_prop.specs.Watches.{WatchState, IsNext, Puts, watch_at, watching, is_among, with_pair}
-use Rattle.sat_prop.specs.Watching.{WatchedState, AreWatched, AreVisited, IsVisiting, Visits, IsWatch, IsSettled, MakesUp, IsReplacement, IsShort, AreTwo, other_of}
+use Rattle.sat_prop.specs.Watching.{WatchedState, AreWatched, AreVisited, IsVisiting, Visits, IsWatch, IsSettled, MakesUp, IsJudged, IsReplaced, IsReplacement, IsShort, AreTwo, other_of}
 use Rattle.sat_prop.specs.Kept.{IsTrailState}
 use Rattle.sat_prop.proofs.Fronts.{split_last, front_trans, front_length, front_at, held_same, front_held, front_same, number_of, known_at, contains_more}
 use Rattle.sat_prop.proofs.Links.{not_both}
@@ -523,18 +525,8 @@ watched_kept old new w l id k a = ⊎_elim (λ e. rw e a) (λ e. rw e (watched_m
 pub visited_kept : (old new : TrailState) (w : WatchedState) (l : Lit) (id : ℕ) → IsKeptOr old new l id → w.seen < length old.literals → AreVisited old w → AreVisited new w
 visited_kept old new w l id k b a = ⊎_elim (λ e. rw e a) (λ e. rw e (visited_more old w l (Some id) b a)) k
 
--- all literals of a clause but the other watched one are false by the first ones
-pub forced_found : (t : TrailState) (w : WatchedState) (n : ℕ) (clause : Clause) → AreWatched t w → n < length w.lists.watches → clause_numbered t.clauses (watch_at w.lists.watches n).clause ≡ Some clause
-    → list_all (λ l. same_literal (other_of w.lists.watches n) l || is_false (take (w.seen + 1) t.literals) l) clause ≡ true → is_forced_by (take (w.seen + 1) t.literals) (other_of w.lists.watches n) clause ≡ true
-forced_found t w n clause a h held all =
-    let here = a.each n h in
-    let there = a.each (watch_at w.lists.watches n).twin here.twin in
-    let among = other_among t w.lists.watches n here there in
-    let e = held_same t.clauses (watch_at w.lists.watches n).clause here.clause clause here.held held in
-    and_from _ _ (subst (λ (c : Clause). list_any (same_literal (other_of w.lists.watches n)) c ≡ true) e among) all
-
--- then the watch is settled once that one is true
-pub judged_forced : (old new : TrailState) (w : WatchedState) (n : ℕ) (clause : Clause) (l : Lit) (id : ℕ) → IsKeptOr old new l id → w.seen < length old.literals → AreWatched old w → n < length w.lists.watches
+-- where all literals of its clause but the other watched one are false by the first ones, a watch is settled once that one is true
+judged_forced : (old new : TrailState) (w : WatchedState) (n : ℕ) (clause : Clause) (l : Lit) (id : ℕ) → IsKeptOr old new l id → w.seen < length old.literals → AreWatched old w → n < length w.lists.watches
     → clause_numbered old.clauses (watch_at w.lists.watches n).clause ≡ Some clause → is_forced_by (take (w.seen + 1) old.literals) (other_of w.lists.watches n) clause ≡ true
     → is_true new.literals (other_of w.lists.watches n) ≡ true → IsSettled new.clauses new.literals (w.seen + 1) w.lists.watches n
 judged_forced old new w n clause l id k b a h held forced t = ⊎_elim
@@ -549,6 +541,34 @@ judged_forced old new w n clause l id k b a h held forced t = ⊎_elim
   where
     take_more : (literals : List Lit) (l : Lit) (k : ℕ) → k ≤ length literals → take k (literals ++ l ∷ []) ≡ take k literals
     take_more literals l k h = grind (arith, common_steps)
+
+-- ---- another literal was looked for, or the other one was made true
+
+-- the clause has the other literal
+pub other_has : (t : TrailState) (w : WatchedState) (n : ℕ) → AreWatched t w → n < length w.lists.watches → IfSome (clause_numbered t.clauses (watch_at w.lists.watches n).clause) (λ clause. list_any (same_literal (other_of w.lists.watches n)) clause ≡ true)
+other_has t w n a h =
+    let here = a.each n h in
+    let there = a.each (watch_at w.lists.watches n).twin here.twin in
+    subst (λ (o : Option Clause). IfSome o (λ clause. list_any (same_literal (other_of w.lists.watches n)) clause ≡ true)) (sym here.held) (other_among t w.lists.watches n here there)
+
+judged_replaced : (old new : TrailState) (w : WatchedState) (n : ℕ) (result : Judged) → IsKeptOr old new (other_of w.lists.watches n) (watch_at w.lists.watches n).clause → w.seen < length old.literals → AreWatched old w → n < length w.lists.watches
+    → literal_at old.literals w.seen ≡ negation (watch_at w.lists.watches n).lit → IsReplaced old new (watch_at w.lists.watches n).clause (other_of w.lists.watches n) w.seen result → IsJudged new w n result
+judged_replaced old new w n Stays k b a h falls r =
+    let here = a.each n h in
+    let forced = subst (λ (o : Option Clause). IfSome o (λ clause. is_forced_by (take (w.seen + 1) old.literals) (other_of w.lists.watches n) clause ≡ true)) here.held r.0 in
+    judged_forced old new w n here.clause (other_of w.lists.watches n) (watch_at w.lists.watches n).clause k b a h here.held forced r.1
+judged_replaced old new w n (Moves l) k b a h falls r =
+    let here = a.each n h in
+    let found = subst (λ (o : Option Clause). IfSome o (λ clause. IsReplacement old.literals clause (other_of w.lists.watches n) w.seen l)) here.held r.1 in
+    subst (λ (t : TrailState). IsJudged t w n (Moves l)) (sym r.0) (falls, (here.clause, here.held, found))
+judged_replaced old new w n False k b a h falls r = r
+
+-- what becomes of a watch, as it and the other literal were read
+pub judged_read : (old new : TrailState) (w : WatchedState) (n : ℕ) (watch : Watch) (other : Lit) (result : Judged) → watch ≡ watch_at w.lists.watches n → other ≡ other_of w.lists.watches n → IsKeptOr old new other watch.clause → w.seen < length old.literals → AreWatched old w → n < length w.lists.watches
+    → literal_at old.literals w.seen ≡ negation watch.lit → IsReplaced old new watch.clause other w.seen result → IsJudged new w n result
+judged_read old new w n watch other result e f k b a h falls r = judged_replaced old new w n result
+    (subst (λ (l : Lit). IsKeptOr old new l (watch_at w.lists.watches n).clause) f (subst (λ (x : Watch). IsKeptOr old new other x.clause) e k)) b a h (falls ∙ ap (λ (x : Watch). negation x.lit) e)
+    (subst (λ (l : Lit). IsReplaced old new (watch_at w.lists.watches n).clause l w.seen result) f (subst (λ (x : Watch). IsReplaced old new x.clause other w.seen result) e r))
 
 -- ---- what becomes of the next watch that waits
 

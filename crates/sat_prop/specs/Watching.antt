@@ -1,5 +1,5 @@
 -- What holds of attached clauses and their watches, so that only those have to be looked at of which a watched literal became false.
-use Rattle.std.specs.Prelude.{◌≡◌, ℕ, ◌+◌, ◌<◌, ◌≤◌, ◌⊎◌, true, false, List, [], length, take, Some, Contains}
+use Rattle.std.specs.Prelude.{◌≡◌, ℕ, ◌+◌, ◌<◌, ◌≤◌, ◌⊎◌, true, false, List, [], length, take, Some, Contains, IfSome}
 use Rattle.std.specs.List.{list_any, list_all}
 use Rattle.prop_core.specs.declared.lit.Lit.{Lit}
 use Rattle.prop_core.specs.Clauses.{Clause, negation, same_literal, is_true, is_false, is_open}
@@ -122,3 +122,11 @@ IsJudged t w number (Moves l) =
     (literal_at t.literals w.seen ≡ negation (watch_at w.lists.watches number).lit)
     × ((clause : Clause) × (clause_numbered t.clauses (watch_at w.lists.watches number).clause ≡ Some clause) × IsReplacement t.literals clause (other_of w.lists.watches number) w.seen l)
 IsJudged t w number False = IsConflict t (watch_at w.lists.watches number).clause
+
+-- What comes of a watch whose literal is false, in a clause of this number that is watched at another one too: the literals up to a place force
+-- the other one, and it is true; or nothing changes, and another literal replaces it; or the clause is false.
+abbrev pub IsReplaced : TrailState → TrailState → ℕ → Lit → ℕ → Judged → Type 0
+IsReplaced t new number other place Stays =
+    (IfSome (clause_numbered t.clauses number) (λ clause. is_forced_by (take (place + 1) t.literals) other clause ≡ true)) × (is_true new.literals other ≡ true)
+IsReplaced t new number other place (Moves l) = (new ≡ t) × IfSome (clause_numbered t.clauses number) (λ clause. IsReplacement t.literals clause other place l)
+IsReplaced t new number other place False = IsConflict new number

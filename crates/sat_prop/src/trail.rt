@@ -82,10 +82,13 @@ impl Trail {
         ensures err { OnErr result (self.new ≡ self.old) }
     {
         let count = self.places.len().max(vars as usize);
-        self.literals.reserve(count)?;
-        self.reasons.reserve(count)?;
-        self.levels.reserve(count)?;
-        self.starts.reserve(count)?;
+        reserve_literals(
+            &mut self.literals,
+            &mut self.reasons,
+            &mut self.levels,
+            &mut self.starts,
+            count,
+        )?;
         widen(&mut self.values, count)?;
         self.places.resize(count, 0)?;
         Ok(())
@@ -317,6 +320,28 @@ impl Trail {
         append(&mut self.reasons, Some(id));
         append(&mut self.levels, self.starts.len() as u32);
     }
+}
+
+// Sees to it that there is room for this many literals, with the reason and the level of each, and for as many levels.
+fn reserve_literals(
+    literals: &mut Vec<Lit>,
+    reasons: &mut Vec<Option<ClauseId>>,
+    levels: &mut Vec<u32>,
+    starts: &mut Vec<u32>,
+    count: usize,
+) -> Result<(), Memory>
+    ensures literals { literals.new.items ≡ literals.old.items }
+    ensures reasons { reasons.new.items ≡ reasons.old.items }
+    ensures levels { levels.new.items ≡ levels.old.items }
+    ensures starts { starts.new.items ≡ starts.old.items }
+    ensures no_less { (vec_capacity literals.old ≤ vec_capacity literals.new) × (vec_capacity reasons.old ≤ vec_capacity reasons.new) × (vec_capacity levels.old ≤ vec_capacity levels.new) × (vec_capacity starts.old ≤ vec_capacity starts.new) }
+    ensures room { OnOk result ((count ≤ vec_capacity literals.new) × (count ≤ vec_capacity reasons.new) × (count ≤ vec_capacity levels.new) × (count ≤ vec_capacity starts.new)) }
+{
+    literals.reserve(count)?;
+    reasons.reserve(count)?;
+    levels.reserve(count)?;
+    starts.reserve(count)?;
+    Ok(())
 }
 
 // Sees to it that values of so many variables can be kept.

@@ -8,7 +8,7 @@ ghost use Rattle.sat_prop.specs.Quiet.{AreQuiet, IsConflict, IsPropagated, Joins
 ghost use Rattle.sat_prop.specs.Kept.{IsTrailState};
 ghost use Rattle.sat_prop.specs.Changes.{IsFront, Propagates, with_clause, with_literal};
 ghost use Rattle.sat_prop.specs.Watches.{IsNext, watch_at};
-ghost use Rattle.sat_prop.specs.Watching.{AreWatched, AreVisited, IsVisiting, Visits, AreTwo, IsForcing, IsJudged, IsReplacement, IsNarrow, no_watched};
+ghost use Rattle.sat_prop.specs.Watching.{AreWatched, AreVisited, IsVisiting, Visits, AreTwo, IsForcing, IsJudged, IsReplacement, IsReplaced, IsNarrow, no_watched};
 
 use crate::propagator::Propagated;
 use crate::standing::Stands;
@@ -272,18 +272,7 @@ impl Watched {
         if watch.lit != lit || trail.holds_up_to(other, self.seen) {
             return Judged::Stays;
         }
-        trail.is_sound();
-        let id = ClauseId(watch.clause as u64);
-        match replacement(trail, db.clause(id), other, self.seen) {
-            Some(found) => Judged::Moves(found),
-            None => {
-                if make_true(trail, db, id, other) {
-                    Judged::Stays
-                } else {
-                    Judged::False
-                }
-            }
-        }
+        replace_or_force(trail, db, ClauseId(watch.clause as u64), other, self.seen)
     }
 }
 
@@ -293,6 +282,29 @@ enum Judged {
     Stays,
     Moves(Lit),
     False,
+}
+
+// What becomes of a watch whose literal is false, where no literal up to a place makes the other one true: another literal of the
+// clause is found that these don't make false, or else the other one is made true.
+fn replace_or_force(trail: &mut Trail, db: &Clauses, id: ClauseId, other: Lit, place: u32) -> Judged
+    requires grown { IsFront trail.old.clauses db.now.clauses }
+    requires attached { Contains trail.old.attached id }
+    requires among { IfSome (clause_numbered trail.old.clauses id) (λ clause. list_any (same_literal other) clause ≡ true) }
+    requires place { place < length trail.old.literals }
+    ensures kept { (trail.new ≡ trail.old) ⊎ (trail.new ≡ with_literal trail.old other (Some id)) }
+    ensures replaced { IsReplaced trail.old trail.new id other place result }
+{
+    trail.is_sound();
+    match replacement(trail, db.clause(id), other, place) {
+        Some(found) => Judged::Moves(found),
+        None => {
+            if make_true(trail, db, id, other) {
+                Judged::Stays
+            } else {
+                Judged::False
+            }
+        }
+    }
 }
 
 // Sees to it that a literal is true that a clause forces if it is open. Answers whether it is; else the clause is false.
