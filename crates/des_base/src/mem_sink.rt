@@ -82,6 +82,8 @@ impl Sink for MemSink {
 
     ghost faults = { λ s. s.faults };
 
+    ghost failures = { λ s. Some s.faults };
+
     fn put(&mut self, piece: &[u8]) -> Result<(), PutFault>
         ensures state { self.new ≡ after_put self.old piece.now }
         ensures failed { IsErr result ↔ IsTrue (put_fails self.old piece.now) }

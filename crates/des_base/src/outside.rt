@@ -1,6 +1,6 @@
 // A shelf of files and a sink of bytes, whatever stands behind them.
-ghost use Rattle.std.specs.Prelude.{◌≡◌, ℕ, ◌+◌, ◌^◌, ◌<◌, ◌≤◌, List, [], length, take, Option, OnOk, OnErr, IfSome, IsErrOf};
-ghost use Rattle.des_base.specs.Outside.{Rose, Took, TookFront};
+ghost use Rattle.std.specs.Prelude.{◌≡◌, ℕ, ◌+◌, ◌^◌, ◌<◌, ◌≤◌, List, [], length, take, Option, None, OnOk, OnErr, IfSome, IsErrOf, option_map};
+ghost use Rattle.des_base.specs.Outside.{Rose, Took, TookFront, raised};
 
 /// Why a load gave no bytes: the shelf failed, which it counts, or memory was wanting.
 #[derive(Clone, Copy)]
@@ -40,10 +40,15 @@ pub trait Sink {
     /// A count that a put that fails raises, and that no call lowers.
     ghost faults: { Self → ℕ };
 
+    /// How many puts have failed, where it tells that. The count of faults may rise beside a put that succeeds, this one not.
+    ghost failures: { Self → Option ℕ } = { λ _. None };
+
     /// Takes the piece. Where that fails, a front of it may have been taken.
     fn put(&mut self, piece: &[u8]) -> Result<(), PutFault>
         ensures ok { OnOk result (Took (taken self.old) (taken self.new) piece.now) }
         ensures front { OnErr result (TookFront (taken self.old) (taken self.new) piece.now) }
         ensures never_falls { faults self.old ≤ faults self.new }
-        ensures failed { OnErr result (Rose (faults self.old) (faults self.new)) };
+        ensures failed { OnErr result (Rose (faults self.old) (faults self.new)) }
+        ensures none { OnOk result (failures self.new ≡ failures self.old) }
+        ensures one { OnErr result (failures self.new ≡ option_map raised (failures self.old)) };
 }
