@@ -119,7 +119,13 @@ module _ (q : CostAsked) (axioms : List Clause) (front since : List BookEntry) (
   known_later lo (Some priced) given = record {
     given = given.given;
     above = given.above;
-    greatest = record { limits = given.greatest.limits; told = given.greatest.told; finals = λ b few has. given.greatest.finals b few (final_later (given.greatest.limits b) has); last = λ b is. last_later (given.greatest.limits b) (given.greatest.last b is) };
+    greatest = record {
+      code = given.greatest.code;
+      scale = given.greatest.scale;
+      told = given.greatest.told;
+      finals = λ b few has. given.greatest.finals b few (final_later (assumed_at given.greatest.code given.greatest.scale (Some b)) has);
+      last = λ b is. last_later (assumed_at given.greatest.code given.greatest.scale (Some b)) (given.greatest.last b is);
+    };
   }
 
   unknown_later : (lo : ℕ) (best : Option Priced) → IfNone best ((lo ≡ 0) × (list_any is_final since ≡ false)) → IfNone best ((lo ≡ 0) × (list_any is_final (front ++ since) ≡ false))

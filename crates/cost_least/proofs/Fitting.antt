@@ -42,17 +42,32 @@ bare cost steps code inputs weighted = record {
   read = weighted.read;
 }
 
-pub scale_fits : (net : Net) (log : Log) (cost : ℕ → ℕ) (steps : CodedSteps) (code : CodedLog) (counter : CounterState) (vars : ℕ) (axioms : List Clause) (inputs : List Weighted) → IsDraft net → length log.alarms ≤ 2000 → BelongTogether net log steps code →
-    steps.steps ≤ MOST_STEPS → cost_size net log steps.steps ≤ MOST_SIZE → AreParts steps code counter vars axioms → AreWeightedInputs steps code cost inputs → vars + length inputs * 1001 ≤ VAR_LIMIT
-scale_fits net log cost steps code counter vars axioms inputs draft alarms belong time size parts weighted =
+-- they are as many as the faults in all steps and the doubtful alarms
+pub inputs_counted : (net : Net) (log : Log) (cost : ℕ → ℕ) (steps : CodedSteps) (code : CodedLog) (inputs : List Weighted) → BelongTogether net log steps code → AreWeightedInputs steps code cost inputs → length inputs ≡ steps.steps * fault_event_count net + doubtful_count log
+inputs_counted net log cost steps code inputs belong weighted =
     let n = steps.steps in
     let count = sym (length-map inputs (λ (x : Weighted). x.input)) ∙ inputs_are_counted steps code (map (λ (x : Weighted). x.input) inputs) (bare cost steps code inputs weighted)
     ∙ ap (λ m. fault_event_count m * n + doubtful_count code.log) belong.of_steps ∙ ap (λ l. fault_event_count net * n + doubtful_count l) belong.same_log ∙ ap (λ d. fault_event_count net * n + d) (sym (nameless_doubtful log)) in
     let turn : fault_event_count net * n ≡ n * fault_event_count net = grind arith in
+    omega (arith, count, turn)
+
+-- the variables of the question
+pub first_few : (net : Net) (log : Log) (steps : CodedSteps) (code : CodedLog) (counter : CounterState) (vars : ℕ) (axioms : List Clause) → BelongTogether net log steps code → AreParts steps code counter vars axioms → vars ≤ question_variables net log steps.steps
+first_few net log steps code counter vars axioms belong parts =
+    let n = steps.steps in
+    let variables = parts.bounded.variables in
+    let same = ap (λ m. question_variables m code.log n) belong.of_steps ∙ ap (λ l. question_variables net l n) belong.same_log ∙ sym (nameless_variables net log n) in
+    omega (arith, variables, same)
+
+pub scale_fits : (net : Net) (log : Log) (cost : ℕ → ℕ) (steps : CodedSteps) (code : CodedLog) (counter : CounterState) (vars : ℕ) (axioms : List Clause) (inputs : List Weighted) → IsDraft net → length log.alarms ≤ 2000 → BelongTogether net log steps code →
+    steps.steps ≤ MOST_STEPS → cost_size net log steps.steps ≤ MOST_SIZE → AreParts steps code counter vars axioms → AreWeightedInputs steps code cost inputs → vars + length inputs * 1001 ≤ VAR_LIMIT
+scale_fits net log cost steps code counter vars axioms inputs draft alarms belong time size parts weighted =
+    let n = steps.steps in
+    let count = inputs_counted net log cost steps code inputs belong weighted in
     let room = question_room net log n draft alarms time (omega (arith, size)) in
     let variables = parts.bounded.variables in
     let same = ap (λ m. question_variables m code.log n) belong.of_steps ∙ ap (λ l. question_variables net l n) belong.same_log ∙ sym (nameless_variables net log n) in
-    omega (arith, count, turn, room, variables, same, size)
+    omega (arith, count, room, variables, same, size)
 
 each_below : (vars : ℕ) (xs : List Weighted) → HasValues vars (map (λ (x : Weighted). x.input) xs) → AllByRecursion (λ (x : Weighted). x.input.var < vars) xs
 each_below vars [] all = tt

@@ -263,7 +263,8 @@ module _ (q : CostAsked) (code : CodedLog) (scale : Scale) where
               given = come.given;
               above = omega (arith, less);
               greatest = record {
-                limits = λ k. assumed_at code scale (Some k);
+                code = code;
+                scale = scale;
                 told = λ k few. told k few some;
                 finals = λ k few has. finals_tell valid guards unbounded k has;
                 last = come.last;

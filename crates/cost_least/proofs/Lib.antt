@@ -14,3 +14,4 @@ pub mod Fitting
 pub mod Answering
 pub mod Halving
 pub mod Finding
+pub mod SameCosts

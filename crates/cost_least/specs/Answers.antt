@@ -5,6 +5,7 @@ use Rattle.des_net.specs.Network.{Net}
 use Rattle.event_costs.specs.declared.TheConstants.{MOST_COST}
 use Rattle.least_faults.specs.Answers.{HaveLearntFresh}
 use Rattle.least_faults.specs.Evidence.{is_final, HasFinal, HasLastFinal}
+use Rattle.log_encode.specs.CodedLog.{CodedLog}
 use Rattle.log_order.specs.Log.{Log}
 use Rattle.proof_ledger.specs.Book.{BookEntry, mark, axioms_of, clauses_of, is_mark}
 use Rattle.proof_ledger.specs.Fresh.{is_learnt}
@@ -15,8 +16,10 @@ use Rattle.replay.specs.Explanation.{Explains, IsAbsent}
 use Rattle.replay.specs.Matching.{IsWellMatched, order_of}
 use Rattle.replay.specs.Traced.{word_of}
 use Rattle.replay.specs.declared.run.RunStep.{RunStep}
+use Rattle.weight_counter.specs.declared.scale.Scale.{Scale}
 use Rattle.cost_least.specs.Costs.{total, NeedsCost, IsCheapest, IsDear}
 use Rattle.cost_least.specs.Pricing.{PosesCosts}
+use Rattle.cost_least.specs.Weighed.{assumed_at}
 use Rattle.cost_least.specs.declared.answer.Priced.{Priced}
 use Rattle.cost_least.specs.declared.answer.Cheap.{Cheap}
 use Rattle.cost_least.specs.declared.answer.Cheap.TheVariants.{Found, Absent, Dear, Undecided}
@@ -74,12 +77,13 @@ pub record IsDearFound (q : CostAsked) (axioms : List Clause) (since : List Book
   pub dear : IsDear q.net q.cost q.log q.steps
   pub evidence : IsCostEvidence q (Some MOST_COST) axioms since
 
--- By some literals, for each total that is asked for, the axioms tell what explains within it; lo is above each total that a final entry refutes by its literals, and the last of these entries so refutes the one just below lo.
+-- With what is assumed for a total, by the guards of one log and the bounds of one scale, the axioms tell what explains within it. Each total that a final entry refutes, by what is assumed for it, is below lo, and the last of these entries so refutes the one just below lo.
 pub record IsAboveFinals (q : CostAsked) (axioms : List Clause) (since : List BookEntry) (lo : ℕ) : Type 0 where
-  pub limits : ℕ → List Lit
-  pub told : (b : ℕ) → b ≤ MOST_COST → AreTold q (Some b) axioms (limits b)
-  pub finals : (b : ℕ) → b ≤ MOST_COST → HasFinal since (limits b) → b < lo
-  pub last : (b : ℕ) → lo ≡ suc b → HasLastFinal since (limits b)
+  pub code : CodedLog
+  pub scale : Scale
+  pub told : (b : ℕ) → b ≤ MOST_COST → AreTold q (Some b) axioms (assumed_at code scale (Some b))
+  pub finals : (b : ℕ) → b ≤ MOST_COST → HasFinal since (assumed_at code scale (Some b)) → b < lo
+  pub last : (b : ℕ) → lo ≡ suc b → HasLastFinal since (assumed_at code scale (Some b))
 
 -- Where a run is known, its total is above lo, which is one more than the greatest total that is refuted, or 0.
 pub record IsKnownAbove (q : CostAsked) (axioms : List Clause) (since : List BookEntry) (lo : ℕ) (priced : Priced) : Type 0 where

@@ -18,7 +18,7 @@ use Rattle.prop_core.specs.declared.lit.Lit.{Lit}
 use Rattle.run_decode.specs.Decided.{Entails}
 use Rattle.cost_least.specs.Asking.{RulesOut}
 use Rattle.cost_least.specs.Answers.{CostAsked, AreTold, IsPriced, Needs, IsCheapFound, HasConflictOf, IsCostAnswered}
-use Rattle.cost_least.specs.Weighed.{AreWeighed, AreWeightedInputs, assumed_at}
+use Rattle.cost_least.specs.Weighed.{AreWeighed, AreWeighedParts, AreWeightedInputs, assumed_at}
 use Rattle.cost_least.specs.declared.answer.Cheap.{Cheap}
 use Rattle.cost_least.specs.declared.answer.Priced.{Priced}
 
@@ -73,11 +73,13 @@ pub record HasFoundCost (q : CostAsked) (budget : ℕ) (old new : List BookEntry
   pub found : IsCheapFound q (axioms_of new) since budget answer
   pub conflict : HasConflictOf q new answer
 
--- By some costs that the stored closure answers, which are what it answers on each fault event, the answer means this.
+-- By some costs that the stored closure answers, which are what it answers on each fault event, the answer means this. The axioms of the book are those of the question and of a scale that weighs its faults with these costs.
 pub record HasAnsweredCosts {R C : Type 0} (answers : C → ℕ → ℕ → Type 0) (stored : C) (net : Net) (log : Log) (parts : Parts R) (budget : ℕ) (old new : List BookEntry) (cheap : Cheap) : Type 0 where
   pub cost : ℕ → ℕ
   pub answered : IsAnswered answers stored net cost
   pub means : IsCostAnswered (asked_of net cost log parts) budget old new cheap
+  pub scale : Scale
+  pub weighed : AreWeighedParts cost parts.step parts.code.code parts.counter parts.vars (axioms_of new) scale
 
 -- ---- what a refutation decides
 

@@ -1,6 +1,9 @@
 -- The texts of replies. Each line ends with a line feed.
 use Rattle.std.specs.Prelude.{⊤, ℕ, ◌<◌, All, IfSome, List, [], ◌∷◌, ◌++◌, length, codes, decimal, flat_map, Option, Some, None, slice_index_or}
 use Rattle.des_net.specs.Network.{Net}
+use Rattle.cost_least.specs.declared.answer.Cheap.{Cheap}
+use Rattle.cost_least.specs.declared.answer.Cheap.TheVariants.{Found as Cheapest, Absent as NotPriced, Dear, Undecided as NotWeighed}
+use Rattle.cost_least.specs.declared.answer.Priced.{Priced}
 use Rattle.least_faults.specs.declared.answer.Best.{Best}
 use Rattle.least_faults.specs.declared.answer.Found.{Found}
 use Rattle.least_faults.specs.declared.answer.Found.TheVariants.{Explained, Absent, Many, Undecided}
@@ -120,3 +123,32 @@ abbrev pub TwinEventsKnown : Net → Twin → Type 0
 TwinEventsKnown net (Ambiguous faulty healthy) = All (λ e. e < length net.events) (word_of faulty) × All (λ e. e < length net.events) (word_of healthy)
 TwinEventsKnown net Clear = ⊤
 TwinEventsKnown net NotTested = ⊤
+
+-- ---- what was found of the least total cost
+
+-- the total below which nothing explains, that of the run that is known, and the run
+abbrev pub text_of_totals : Net → ℕ → Option Priced → List ℕ
+text_of_totals net lo (Some priced) = placed (codes "UNDECIDED ") lo priced.cost ++ text_of_run net priced.run
+text_of_totals net lo None = codes "UNDECIDED " ++ decimal lo ++ codes " -\n"
+
+-- by the number of steps within which it was asked
+abbrev pub text_of_cheap : Net → ℕ → Cheap → List ℕ
+text_of_cheap net n (Cheapest priced) = numbered (codes "CHEAPEST ") priced.cost ++ text_of_run net priced.run
+text_of_cheap net n NotPriced = numbered (codes "NONE ") n
+text_of_cheap net n (Dear run) = codes "DEAR 1000\n" ++ text_of_run net run
+text_of_cheap net n (NotWeighed lo best) = text_of_totals net lo best
+
+-- the run that is told, if one is
+abbrev pub cheap_run : Cheap → Option (List RunStep)
+cheap_run (Cheapest priced) = Some priced.run
+cheap_run NotPriced = None
+cheap_run (Dear run) = Some run
+cheap_run (NotWeighed lo None) = None
+cheap_run (NotWeighed lo (Some priced)) = Some priced.run
+
+-- the events of the run that is told, if one is, are the network's
+abbrev pub CheapEventsKnown : Net → Cheap → Type 0
+CheapEventsKnown net (Cheapest priced) = All (λ e. e < length net.events) (word_of priced.run)
+CheapEventsKnown net NotPriced = ⊤
+CheapEventsKnown net (Dear run) = All (λ e. e < length net.events) (word_of run)
+CheapEventsKnown net (NotWeighed lo best) = IfSome best (λ priced. All (λ e. e < length net.events) (word_of priced.run))

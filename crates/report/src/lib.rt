@@ -6,6 +6,7 @@
 //! (`specs/ReadBack.antt`).
 #![tactic(auto)]
 
+mod cheap;
 mod checked;
 mod found;
 mod pieces;
@@ -16,6 +17,7 @@ mod theorems;
 mod traced;
 mod twin;
 
+pub use cheap::print_cheap;
 pub use checked::print_checked;
 pub use found::print_found;
 pub use refused::print_refused;

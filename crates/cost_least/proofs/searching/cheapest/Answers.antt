@@ -1,12 +1,15 @@
-use Rattle.std.proofs.Common.{◌≤◌, ap, subst, sym}
+use Rattle.std.proofs.Common.{◌≤◌, ◌∙◌, List, ap, subst, sym}
 use Rattle.des_base.specs.declared.TheConstants.{MOST_STEPS}
-use Rattle.least_faults.proofs.Closing.{grown_closed, grown_not, marked_ready}
+use Rattle.least_faults.proofs.Closing.{grown_closed, grown_not, marked_axioms, marked_ready}
 use Rattle.least_faults.specs.Growing.{HasGrownWithin}
+use Rattle.proof_ledger.specs.Book.{axioms_of}
 use Rattle.proof_ledger.specs.Kept.{LedgerState}
+use Rattle.prop_core.specs.Clauses.{Clause}
 use Rattle.step_encode.specs.Coded.{CodedSteps}
 use Rattle.cost_least.proofs.Finding.{answered, grown_weighed, grown_searched}
 use Rattle.cost_least.proofs.Weighed.{belongs_still, keeps_same, keeps_both}
 use Rattle.cost_least.specs.Searching.{asked_of}
+use Rattle.cost_least.specs.Weighed.{AreWeighedParts}
 use Rattle.cost_least.proofs.searching.cheapest.Goals as goal
 
 pub weigh-requires-clause-ready : goal.weigh-requires-clause-ready
@@ -54,10 +57,15 @@ returns-clause-grown g c =
 
 pub returns-clause-answered : goal.returns-clause-answered
 returns-clause-answered g c =
-    let asked = c.in_ok-scale.ensures.weighed in record {
+    let asked = c.in_ok-scale.ensures.weighed in
+    let closing = ap (λ (b : LedgerState). b.entries) c.in_ok-put_mark-2.ensures.added in
+    let now = c.search.new.parts in record {
       cost = asked.cost;
       answered = asked.answered;
       means = answered (asked_of c.args.net.now asked.cost c.args.log.now c.search.new.parts) c.args.budget c.args.book.now.entries c.put_mark.new.self.entries c.weigh.new.book.entries c.search.new.book.entries c.put_mark-2.new.self.entries c.in_ok-cheap.cheap
           (ap (λ (b : LedgerState). b.entries) c.in_ok-put_mark.ensures.added) c.weigh.ensures.axioms (ap (λ (b : LedgerState). b.entries) c.in_ok-put_mark-2.ensures.added)
           (c.in_ok-cheap.ensures.found asked.cost asked.answered asked.weighed);
+      scale = c.in_ok-scale.scale;
+      weighed = subst (λ (axioms : List Clause). AreWeighedParts asked.cost now.step now.code.code now.counter now.vars axioms c.in_ok-scale.scale) (sym (ap axioms_of closing ∙ marked_axioms c.search.new.book.entries 1))
+          (c.search.ensures.still asked.cost asked.weighed).coded;
     }

@@ -192,3 +192,17 @@ returns-else-best-gt-MOST_COST-clause-found g c = λ cost answered weighed.
     (halved_cheapest q old.code.code scale first new c.args.budget.now c.loop-lo.budget c.loop-lo.lo c.loop-lo.best (c.loop-lo.invariant.come cost answered weighed)
     (λ k few some. told cost old.step old.code.code now.counter now.vars (axioms_of new) scale coded net log c.requires.belong.of_steps c.is_built.ensures.network c.is_whole.ensures.whole.valid c.requires.belong.same_log c.has_guards.ensures (Some k) (record { some = some; few = omega (arith, amounts, few) }))
     (omega (arith, end, most)) (omega (arith, side)))
+
+pub returns-in_err-asked-clause-still : goal.returns-in_err-asked-clause-still
+returns-in_err-asked-clause-still g c =
+    stay_both (goal.R-pre g) (goal.R-post g) c.args.parts.now c.loop-lo.parts c.ask.new.parts c.args.question.scale c.args.book.now.entries c.loop-lo.book.entries c.ask.new.book.entries c.loop-lo.invariant.still c.ask.ensures.still
+
+pub returns-in-Spent-clause-still : goal.returns-in-Spent-clause-still
+returns-in-Spent-clause-still g c =
+    stay_both (goal.R-pre g) (goal.R-post g) c.args.parts.now c.loop-lo.parts c.ask.new.parts c.args.question.scale c.args.book.now.entries c.loop-lo.book.entries c.ask.new.book.entries c.loop-lo.invariant.still c.ask.ensures.still
+
+pub returns-then-best-gt-MOST_COST-clause-still : goal.returns-then-best-gt-MOST_COST-clause-still
+returns-then-best-gt-MOST_COST-clause-still g c = c.loop-lo.invariant.still
+
+pub returns-else-best-gt-MOST_COST-clause-still : goal.returns-else-best-gt-MOST_COST-clause-still
+returns-else-best-gt-MOST_COST-clause-still g c = c.loop-lo.invariant.still

@@ -8,7 +8,7 @@ use Rattle.proof_ledger.specs.Book.{axioms_of}
 use Rattle.step_encode.specs.Coded.{CodedSteps}
 use Rattle.cost_least.proofs.Answering.{told}
 use Rattle.cost_least.proofs.Finding.{asked_back, coded_back, found_absent, found_later, found_nothing, found_still}
-use Rattle.cost_least.proofs.Weighed.{belongs_still, keeps_both}
+use Rattle.cost_least.proofs.Weighed.{belongs_still, keeps_both, stay_both}
 use Rattle.cost_least.specs.Asking.{IsGiven}
 use Rattle.cost_least.specs.Searching.{HasFoundCost, asked_of}
 use Rattle.cost_least.specs.Weighed.{AreWeighed}
@@ -88,3 +88,7 @@ returns-in-Explained-clause-found g c =
 pub halve-requires-clause-known : goal.halve-requires-clause-known
 halve-requires-clause-known g c = λ cost answered.
     subst (IsGiven (asked_of c.args.question.net.now cost c.args.question.log.now c.ask.new.parts)) c.in-Explained.is (c.in_ok-ask.ensures.given cost answered)
+
+pub returns-in-Explained-clause-still : goal.returns-in-Explained-clause-still
+returns-in-Explained-clause-still g c =
+    stay_both (goal.R-pre g) (goal.R-post g) c.args.parts.now c.ask.new.parts c.halve.new.parts c.args.question.scale c.args.book.now.entries c.ask.new.book.entries c.halve.new.book.entries c.ask.ensures.still c.halve.ensures.still
