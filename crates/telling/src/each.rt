@@ -1,7 +1,8 @@
 // What tells of items one after another, and the loop that puts what it tells.
-ghost use Rattle.std.specs.Prelude.{◌≤◌, ℕ, List, [], ◌∷◌, Option, IfOk, OnErr, option_map};
+ghost use Rattle.std.specs.Prelude.{◌≡◌, ◌≤◌, ℕ, List, [], ◌∷◌, Option, IfOk, OnErr, option_map};
 ghost use Rattle.des_base.specs.Outside.{Rose};
 ghost use Rattle.telling.specs.Telling.{EachGoes};
+ghost use Rattle.telling.specs.declared.each.Broken.TheVariants.{Memory as NoMemory};
 
 use des_base::{Memory, Sink};
 use std::alloc::Global;
@@ -13,6 +14,14 @@ pub enum Broken {
     Memory,
     /// A text can't be put.
     Put,
+}
+
+impl From<Memory> for Broken {
+    ghost from_gives = { λ _ e. e ≡ NoMemory };
+
+    fn from(_: Memory) -> Broken {
+        Broken::Memory
+    }
 }
 
 /// Tells of items, and goes on from stage to stage.
