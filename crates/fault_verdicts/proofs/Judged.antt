@@ -37,7 +37,7 @@ use Rattle.step_encode.specs.FaultInputs.{event_literal, event_literals}
 
 -- ---- whether a word has an event
 
-has_or_not : (word : List ℕ) (e : ℕ) → Contains word e ⊎ (Contains word e → ⊥)
+pub has_or_not : (word : List ℕ) (e : ℕ) → Contains word e ⊎ (Contains word e → ⊥)
 has_or_not [] e = inr (λ in'. none_in_nil e in')
 has_or_not (x ∷ word) e = by (x == e) refl (has_or_not word e)
   where

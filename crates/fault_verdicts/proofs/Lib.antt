@@ -12,3 +12,5 @@ pub mod Making
 pub mod Steps
 pub mod Guarding
 pub mod Calling
+pub mod Witnesses
+pub mod FaultLists

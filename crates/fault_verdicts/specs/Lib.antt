@@ -4,3 +4,4 @@ pub mod Telling
 pub mod Ready
 pub mod Judged
 pub mod Judging
+pub mod Judges

@@ -140,7 +140,7 @@ fn assume<R: Fn(u32) -> u64>(
 }
 
 // Whether the event is among those of the steps.
-fn has_event(steps: &[RunStep], event: EventId) -> bool
+pub fn has_event(steps: &[RunStep], event: EventId) -> bool
     ensures { result ≡ true ↔ Contains (word_of steps.now) event }
 {
     for step in steps {

@@ -12,6 +12,7 @@ use Rattle.replay.specs.declared.run.RunStep.TheVariants.{Happens, Dropped}
 use Rattle.least_faults.specs.declared.answer.Found.TheVariants.{Explained, Absent, Many, Undecided}
 use Rattle.report.specs.Replies.{numbered, placed, text_of_alarm, text_of_step, text_of_run}
 use Rattle.report.specs.ReadBack.{HasNames, RepliesAreShort, RepliesFit}
+use Rattle.report.specs.VerdictTexts.{RunsFit}
 use Rattle.des_base.proofs.PrintedLines.{name_text}
 
 -- ---- numbers and names
@@ -97,3 +98,6 @@ replies_fit net n Absent whole = tt
 replies_fit net n (Many best) whole = λ h. short_enough _ (length best.run) (replies_are_short net n (Many best) whole h.named) h.few
 replies_fit net n (Undecided lo None) whole = tt
 replies_fit net n (Undecided lo (Some best)) whole = λ h. short_enough _ (length best.run) (replies_are_short net n (Undecided lo (Some best)) whole h.named) h.few
+
+pub runs_fit : RunsFit
+runs_fit net steps whole h = let short = run-length net steps whole.event_names.each h.named in let few = h.few in omega (arith, short, few)

@@ -3,6 +3,7 @@ use Rattle.std.proofs.Common.{◌≡◌, List, [], ◌∷◌, Some, None, refl}
 use Rattle.std.specs.Prelude.{codes}
 use Rattle.std.specs.Fmt.{digits}
 use Rattle.des_net.specs.Models.{pump}
+use Rattle.fault_verdicts.specs.declared.answer.Verdict.TheVariants.{Certain, Excluded, Possible, Open}
 use Rattle.least_faults.specs.declared.answer.Found.TheVariants.{Explained, Absent, Many, Undecided}
 use Rattle.proof_ledger.specs.declared.checker.Checked.TheVariants.{Rejected}
 use Rattle.replay.specs.declared.run.RunStep.{RunStep}
@@ -10,6 +11,7 @@ use Rattle.replay.specs.declared.run.RunStep.TheVariants.{Happens, Dropped}
 use Rattle.replay.specs.declared.replaying.Replayed.TheVariants.{Missing, Order}
 use Rattle.replay.specs.declared.tracing.Traced.TheVariants.{Stuck}
 use Rattle.report.specs.Replies.{text_of_traced, text_of_replayed, text_of_checked, text_of_refused, text_of_run, text_of_found}
+use Rattle.report.specs.VerdictTexts.{text_of_verdict}
 
 pub third_event_stuck : text_of_traced (Stuck 3) ≡ codes "REJECTED STUCK 3\n"
 unfolding digits
@@ -64,3 +66,16 @@ between_two_and_four = refl
 pub nothing_known : text_of_found pump 2 (Undecided 0 None) ≡ codes "UNDECIDED 0 -\n"
 unfolding digits
 nothing_known = refl
+
+pub certainly_jammed : text_of_verdict pump 0 Certain ≡ codes "CERTAIN jam\n"
+certainly_jammed = refl
+
+pub surely_not_jammed : text_of_verdict pump 0 Excluded ≡ codes "EXCLUDED jam\n"
+surely_not_jammed = refl
+
+pub perhaps_jammed : text_of_verdict pump 0 (Possible jammed) ≡ codes "POSSIBLE jam\nrun 1\njam\n"
+unfolding digits
+perhaps_jammed = refl
+
+pub jam_left_open : text_of_verdict pump 0 Open ≡ codes "OPEN jam\n"
+jam_left_open = refl

@@ -2,7 +2,7 @@
 //!
 //! A reply tells what was found, each part of it on a line that ends with a line feed: a word that says which answer it is,
 //! and then numbers and names. `specs/Replies.antt` says the text of each answer. Each printer appends it whole or, where
-//! memory is wanting, appends nothing. A printed run reads back as that run, and so does a reply that tells one
+//! memory is wanting, appends nothing. `specs/VerdictTexts.antt` has those of verdicts on fault events. A printed run reads back as that run, and so does a reply that tells one
 //! (`specs/ReadBack.antt`).
 #![tactic(auto)]
 
@@ -16,6 +16,7 @@ mod run;
 mod theorems;
 mod traced;
 mod twin;
+mod verdict;
 
 pub use cheap::print_cheap;
 pub use checked::print_checked;
@@ -23,6 +24,7 @@ pub use found::print_found;
 pub use refused::print_refused;
 pub use replayed::print_replayed;
 pub use run::print_run;
-pub use theorems::{replies_fit, replies_read_back, runs_read_back};
+pub use theorems::{replies_fit, replies_read_back, runs_fit, runs_read_back};
 pub use traced::print_traced;
 pub use twin::print_twin;
+pub use verdict::print_verdict;

@@ -71,7 +71,7 @@ fn push_event(
 }
 
 // The name of an event of the network.
-fn name_of(net: &Network, event: EventId) -> &str
+pub fn name_of(net: &Network, event: EventId) -> &str
     requires { event < length net.now.events }
     ensures { result.now ≡ slice_index_or net.now.event_names event [] }
 {

@@ -1,0 +1,48 @@
+use Rattle.std.proofs.Common.{refl}
+use Rattle.fault_verdicts.proofs.Witnesses.{asked_of, judge_after, judge_stays, steps_kept}
+use Rattle.fault_verdicts.proofs.others.ask_kept.Goals as goal
+use Rattle.least_faults.proofs.Closing.{grown_not}
+
+pub returns-then-count-gt-MOST_VARIABLES-clause-grown : goal.returns-then-count-gt-MOST_VARIABLES-clause-grown
+returns-then-count-gt-MOST_VARIABLES-clause-grown g c = grown_not c.args.about.budget c.args.kept.now.book.entries
+
+pub returns-in_err-found-clause-ready : goal.returns-in_err-found-clause-ready
+returns-in_err-found-clause-ready g c =
+    let about = c.args.about in
+    record {
+      is_of = judge_stays about.net.now about.log.now about.best.now c.args.kept.now (record c.args.kept.now { parts = c.verdict.new.parts; book = c.verdict.new.book }) c.verdict.ensures.goes_on refl c.requires.ready.is_of;
+      ready = c.verdict.ensures.ready;
+    }
+
+pub returns-in_err-found-clause-stays : goal.returns-in_err-found-clause-stays
+returns-in_err-found-clause-stays g c = steps_kept c.args.kept.now (record c.args.kept.now { parts = c.verdict.new.parts; book = c.verdict.new.book }) c.verdict.ensures.goes_on
+
+pub returns-in_err-keep-clause-ready : goal.returns-in_err-keep-clause-ready
+returns-in_err-keep-clause-ready g c =
+    let about = c.args.about in
+    record {
+      is_of = judge_after about.net.now about.log.now about.best.now c.args.event about.budget c.args.kept.now (record { parts = c.verdict.new.parts; book = c.verdict.new.book; others = c.keep.new.others }) c.args.kept.now.book.entries c.verdict.new.book.entries c.in_ok-found.found
+          c.verdict.ensures.goes_on c.requires.ready.is_of c.keep.ensures c.in_ok-found.ensures.judged;
+      ready = c.verdict.ensures.ready;
+    }
+
+pub returns-in_err-keep-clause-stays : goal.returns-in_err-keep-clause-stays
+returns-in_err-keep-clause-stays g c = steps_kept c.args.kept.now (record { parts = c.verdict.new.parts; book = c.verdict.new.book; others = c.keep.new.others }) c.verdict.ensures.goes_on
+
+pub returns-clause-ready : goal.returns-clause-ready
+returns-clause-ready g c =
+    let about = c.args.about in
+    record {
+      is_of = judge_after about.net.now about.log.now about.best.now c.args.event about.budget c.args.kept.now (record { parts = c.verdict.new.parts; book = c.verdict.new.book; others = c.keep.new.others }) c.args.kept.now.book.entries c.verdict.new.book.entries c.in_ok-found.found
+          c.verdict.ensures.goes_on c.requires.ready.is_of c.keep.ensures c.in_ok-found.ensures.judged;
+      ready = c.verdict.ensures.ready;
+    }
+
+pub returns-clause-stays : goal.returns-clause-stays
+returns-clause-stays g c = steps_kept c.args.kept.now (record { parts = c.verdict.new.parts; book = c.verdict.new.book; others = c.keep.new.others }) c.verdict.ensures.goes_on
+
+pub returns-clause-judged : goal.returns-clause-judged
+returns-clause-judged g c =
+    let about = c.args.about in
+    asked_of about.net.now about.log.now about.best.now c.args.event about.budget c.args.kept.now (record { parts = c.verdict.new.parts; book = c.verdict.new.book; others = c.keep.new.others }) c.args.kept.now.book.entries c.verdict.new.book.entries c.in_ok-found.found
+    c.verdict.ensures.goes_on c.in_ok-found.ensures.judged
