@@ -1,10 +1,11 @@
 """Runs the gate from nothing, and prints what it costs: seconds of the processor by crate and kind, as a table.
 
-    python3 check/cost.py [CRATE..]
+    python3 check/cost.py [--kept] [CRATE..]
 
 It clones the last commit into a temporary folder, where nothing is kept, and runs .ci/run there, which calls `rt ci --anew` in place of
 `rt ci`, so that nothing is taken from earlier runs on this machine. With crates it runs `rt ci --anew CRATE..` instead, which proves these and
-those below. The gate's own lines go to standard error and the table to standard output.
+those below. The gate's own lines go to standard error and the table to standard output. With --kept it takes what earlier runs on this machine
+kept, as the gate does: then the table has what a change costs.
 
 The command tells no seconds, so the processes are looked at ten times a second. A process counts for the crate and the kind that its words
 and its folder name: the proof of a crate, the proofs of its tests, its must-fail edits with the checks that they begin from and end with, and runs, which
@@ -120,7 +121,9 @@ def tell(crates, clock, whole, accounts):
     print(f"\n{whole:,.0f} seconds of the processor, and {clock / 60:.1f} minutes by the clock on {os.cpu_count()} processors")
 
 
-def main(names):
+def main(words):
+    names = [word for word in words if word != "--kept"]
+    anew = [] if "--kept" in words else ["--anew"]
     with tempfile.TemporaryDirectory(prefix="cost-") as room:
         clone = os.path.join(room, "clone")
         subprocess.run(["git", "clone", "--quiet", "--local", TOP, clone], check=True)
@@ -130,9 +133,9 @@ def main(names):
             print("the gate doesn't call `rt ci` as this expects", file=sys.stderr)
             return 2
         with open(gate, "w", encoding="utf-8") as it:
-            it.write(gate_text.replace("rt ci ||", "rt ci --anew ||"))
+            it.write(gate_text.replace("rt ci ||", " ".join(["rt", "ci", *anew, "||"])))
         crates = [line.split(":")[0].split()[0] for line in text(f"{clone}/crates.txt").split("\n") if ":" in line and not line.startswith("#")]
-        command = ["rt", "ci", "--anew", *names] if names else [gate]
+        command = ["rt", "ci", *anew, *names] if names else [gate]
         status, clock, whole, accounts = run(command, clone, crates)
         tell(crates, clock, whole, accounts)
         return status

@@ -60,10 +60,10 @@ pub record SaysTraced (text steps : List ℕ) (reply : Kind × List ℕ) : Type 
 abbrev pub reply_of_model : Net → Kind × List ℕ
 reply_of_model net = (Done, model_text net)
 
--- the reply has the plain form of the network of the model text, and read again that says the same network
-pub record SaysShown (text : List ℕ) (reply : Kind × List ℕ) : Type 0 where
-  pub is : reply ≡ reply_of_model (network_of text)
-  pub again : ReadsBack (network_of text)
+-- the reply has the plain form of the network, and read again that says the same network
+pub record SaysModel (net : Net) (reply : Kind × List ℕ) : Type 0 where
+  pub is : reply ≡ reply_of_model net
+  pub again : ReadsBack net
 
 -- an accepted run is the yes of `replay`; any other is rejected, whatever is wrong with it
 abbrev pub kind_of_replayed : Replayed → Kind
@@ -203,13 +203,13 @@ SaysBenched units start steps budget book reply = SaysSummary units (plant_net u
 -- the replies that a command may give by its words and over the bytes of its files, where it leaves this book
 abbrev pub Says : Command → List (List ℕ) → List BookEntry → List (List ℕ) → (Kind × List ℕ) → Type 0
 Says Trace words book (text ∷ steps ∷ []) reply = SaysTraced text steps reply
-Says Show words book (text ∷ []) reply = SaysShown text reply
+Says Show words book (text ∷ []) reply = SaysModel (network_of text) reply
 Says (Replay steps) words book (text ∷ alarms ∷ events ∷ []) reply = SaysReplayed steps text alarms events reply
 Says Check words book (formula ∷ proof ∷ []) reply = SaysChecked formula proof reply
 Says (Diagnose steps budget) words book (text ∷ alarms ∷ []) reply = SaysDiagnosed steps budget text alarms book reply
 Says (PrintCnf steps bound) words book (text ∷ alarms ∷ []) reply = SaysFormula (network_of text) (log_of alarms) steps bound book reply
 Says (PrintProof steps budget) words book (text ∷ alarms ∷ []) reply = SaysProved (network_of text) (log_of alarms) steps budget book reply
-Says (GenerateModel units start) words book [] reply = reply ≡ reply_of_model (plant_net units)
+Says (GenerateModel units start) words book [] reply = SaysModel (plant_net units) reply
 Says (GenerateLog units start) words book [] reply = reply ≡ reply_of_log (plant_log units start)
 Says (Bench units start steps budget) words book [] reply = SaysBenched units start steps budget book reply
 Says (Twin steps after budget) words book (text ∷ []) reply = SaysOfWord (network_of text) (word_at words 2) steps after budget book reply

@@ -1,6 +1,7 @@
 // The command `show`: a model in its plain form.
-ghost use Rattle.std.specs.Prelude.{◌≡◌, ◌<◌, List, length, IfOk};
+ghost use Rattle.std.specs.Prelude.{◌≡◌, ◌<◌, List, length, IfOk, OnOk};
 ghost use Rattle.proof_ledger.specs.Book.{BookEntry};
+ghost use Rattle.model_text.specs.ReadBack.{IsAsRead, ReadsBack};
 ghost use Rattle.diagnose_cli.specs.Files.{loads};
 ghost use Rattle.diagnose_cli.specs.Transcripts.{UnlessMemory, once};
 ghost use Rattle.diagnose_cli.specs.Replies.{reply_of_model};
@@ -26,7 +27,8 @@ pub fn show_command<F: Shelf>(alloc: Global, words: &WordList, shelf: &mut F) ->
 
 /// The reply that has the text of the network.
 pub fn reply_of_model(alloc: Global, net: &Network) -> Result<Reply, Memory>
-    ensures { IfOk result (λ reply. reply ≡ reply_of_model net.now) }
+    ensures is { IfOk result (λ reply. reply ≡ reply_of_model net.now) }
+    ensures again { OnOk result (IsAsRead net.now → ReadsBack net.now) }
 {
     let mut text = Vec::new(alloc);
     print_model(net, &mut text)?;

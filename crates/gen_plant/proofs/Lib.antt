@@ -1,4 +1,5 @@
 pub mod AlarmLemmas
+pub mod AsRead
 pub mod ComponentLemmas
 pub mod EventLemmas
 pub mod Lists

@@ -2,6 +2,7 @@
 ghost use Rattle.std.specs.Prelude.{◌≡◌, ◌≤◌, length, IfOk, OnOk};
 ghost use Rattle.des_net.specs.Network.{no_net};
 ghost use Rattle.gen_plant.specs.Plant.{most_units, plant_net, plant_log, tripping};
+ghost use Rattle.model_text.specs.ReadBack.{IsAsRead};
 
 use crate::alarms::add_alarms;
 use crate::events::add_events;
@@ -21,10 +22,12 @@ pub struct Plant {
     pub tripped: u32,
 }
 
-/// The plant of so many units, of which those trip that the start tells.
+/// The plant of so many units, of which those trip that the start tells. Its network is as one that was read (`as_read`), so the text
+/// that is printed of it reads back as that network.
 pub fn generate(alloc: Global, units: u32, start: u64) -> Result<Plant, Memory>
     requires { units ≤ most_units }
     ensures net { IfOk result (λ plant. plant.net ≡ plant_net units) }
+    ensures as_read { IfOk result (λ plant. IsAsRead plant.net) }
     ensures log { IfOk result (λ plant. plant.log ≡ plant_log units start) }
     ensures tripped { IfOk result (λ plant. plant.tripped ≡ length (tripping units start)) }
 {
