@@ -4,10 +4,7 @@
 //! is tried first, by the log and by the size of the question; then all memory is taken; and then it joins log, clauses,
 //! solver and book, or none of them. A question goes on with all that earlier ones have learnt.
 //!
-//! How large a question is ([`question_size`]) is told before any clause is written, without memory, so that one that is too
-//! large is refused at once. It is the number `question_size` of the definitions beside the replay of runs: in each step the
-//! squares of what each component and each alarm takes and one for each pair, and a counter of the faults and of the doubtful
-//! alarms. No sum of it passes 64 bits, since networks and logs have limits.
+//! How large its question is, it keeps and counts on, addition by addition.
 #![tactic(auto)]
 
 mod adding;
@@ -22,4 +19,3 @@ mod whole;
 pub use refusal::SessionRefusal;
 pub use rows::Told;
 pub use session::Session;
-pub use size::{doubtful_alarms, fault_events, question_size};

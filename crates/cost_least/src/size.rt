@@ -3,10 +3,10 @@ ghost use Rattle.std.specs.Prelude.{◌≡◌, ◌≤◌};
 ghost use Rattle.des_base.specs.declared.TheConstants.{MOST_STEPS};
 ghost use Rattle.cost_least.specs.Costs.{cost_size};
 
-use alarm_session::{doubtful_alarms, fault_events, question_size};
 use des_net::Network;
 use event_costs::MOST_COST;
 use log_order::AlarmLog;
+use sizing::{doubtful_alarms, fault_events, question_size};
 
 /// The size of a question of costs, told before any clause is written.
 ///

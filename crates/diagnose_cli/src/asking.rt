@@ -17,11 +17,11 @@ ghost use Rattle.proof_ledger.specs.Book.{BookEntry};
 use crate::ending::Reply;
 use crate::files::fetch_case;
 use crate::stop::Stop;
-use alarm_session::question_size;
 use des_base::{Memory, Shelf, WordList};
 use inquiries::{Case, Inquiry, pose};
 use least_faults::MOST_SIZE;
 use proof_ledger::Ledger;
+use sizing::question_size;
 use std::alloc::Global;
 
 /// What is asked for: a run of so many parallel steps at most, found by a search that may learn as many clauses as the budget says.

@@ -14,12 +14,12 @@ use crate::asking::{Limits, reply_to};
 use crate::command::Command;
 use crate::ending::Reply;
 use crate::stop::Stop;
-use alarm_session::question_size;
 use des_base::Memory;
 use gen_plant::generate;
 use inquiries::{Case, LeastFaults};
 use least_faults::MOST_SIZE;
 use proof_ledger::Ledger;
+use sizing::question_size;
 use std::alloc::Global;
 
 /// Says what is the least number of faults of a generated plant within so many parallel steps, and how large the question is.

@@ -30,7 +30,7 @@ unit_named i h =
     let fix = seen (fix_label i) (takes i 2 ∷ []) in
     All-cons HasNamedLabel jam (trip ∷ fix ∷ []) refl
     (All-cons HasNamedLabel trip (fix ∷ []) (join (is_name_text (trip_label i)) true (numbered_is_name (codes "T-") i refl h) refl)
-        (All-cons HasNamedLabel fix [] (join (is_name_text (fix_label i)) true (numbered_is_name (codes "F-") i refl h) refl) (All-nil HasNamedLabel)))
+    (All-cons HasNamedLabel fix [] (join (is_name_text (fix_label i)) true (numbered_is_name (codes "F-") i refl h) refl) (All-nil HasNamedLabel)))
 
 units_named : (most : ℕ) (xs : List ℕ) → most ≤ 1000 → AllByRecursion (λ j. j < most) xs → All HasNamedLabel (flat_map events_of xs)
 units_named most [] small h = All-nil HasNamedLabel

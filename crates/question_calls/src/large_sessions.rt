@@ -1,9 +1,9 @@
 // Sessions whose questions would become too large: the sizes of a plant that anybody can make again, and what a session refuses.
 use crate::models::{alarm_log, network};
 use crate::sessions::{Asked, assert_printed};
-use alarm_session::question_size;
 use des_net::Network;
 use gen_plant::{Plant, generate};
+use sizing::question_size;
 use std::alloc::Global;
 use std::process::Abort;
 

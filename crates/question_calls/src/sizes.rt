@@ -1,9 +1,9 @@
 // Sizes of questions that were worked by hand, on networks and logs of a few rows and of many.
 use crate::models::{EMPTY, VALVE, VALVE_AND_BELL, alarm_log, network};
-use alarm_session::question_size;
 use des_net::Network;
 use least_faults::MOST_SIZE;
 use log_order::AlarmLog;
+use sizing::question_size;
 use std::alloc::Global;
 use std::process::Abort;
 

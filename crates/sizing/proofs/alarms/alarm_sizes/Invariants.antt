@@ -4,7 +4,7 @@ use Rattle.std.specs.Prelude.{sum_by}
 use Rattle.des_base.specs.Lists.{numbers_below}
 use Rattle.des_net.specs.Limits.{most_events}
 use Rattle.replay.specs.QuestionSize.{matching_count}
-use Rattle.alarm_session.proofs.size.alarm_sizes.Given as goal
+use Rattle.sizing.proofs.alarms.alarm_sizes.Given as goal
 
 abbrev pub invariant-loop-alarm : goal.invariant-loop-alarm
 invariant-loop-alarm l = record {
