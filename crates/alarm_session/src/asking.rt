@@ -10,7 +10,6 @@ ghost use Rattle.sat_order.specs.Rank.{IsRanked};
 
 use crate::kept::{Kept, Setting};
 use crate::refusal::SessionRefusal;
-use crate::size::question_size;
 use des_base::Memory;
 use indep::Indep;
 use least_faults::{Found, MOST_SIZE, build, least};
@@ -18,6 +17,7 @@ use log_order::AlarmLog;
 use proof_ledger::Ledger;
 use sat_order::Order;
 use sat_solve::Solver;
+use sizing::question_size;
 
 // Begins with an empty log, over an empty book.
 pub fn begin<T: Fn(u32, u32) -> bool, R: Fn(u32) -> u64>(
