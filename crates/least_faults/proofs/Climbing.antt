@@ -19,9 +19,9 @@ use Rattle.least_faults.specs.declared.asking.Asked.{Asked}
 use Rattle.least_faults.specs.declared.asking.Asked.TheVariants as asked
 use Rattle.least_faults.specs.Answers.{HasConflict, IsExplanation, IsLeastFound, IsAbsentFound, IsManyFound, IsUndecidedFound}
 use Rattle.least_faults.specs.Ascending.{FinalsAreBelow, IsRefutedBelow, HasComeToBy, HasFound}
-use Rattle.least_faults.specs.Asking.{AreAssumptions, IsSearching, HasAskedBy, IsRefusal, IsStopped}
+use Rattle.least_faults.specs.Asking.{AreAssumptions, ArePut, IsSearching, HasAskedBy, IsRefusal, IsStopped}
 use Rattle.least_faults.specs.Columns.{built_within}
-use Rattle.least_faults.specs.Evidence.{is_final, IsEvidence, IsPosed, IsRefutation}
+use Rattle.least_faults.specs.Evidence.{FinalsNegate, is_final, IsEvidence, IsPosed, IsRefutation, NegatesAssumed}
 use Rattle.least_faults.specs.Growing.{KeepsColumns}
 use Rattle.least_faults.specs.Parts.{AreParts}
 use Rattle.log_encode.specs.CodedLog.{CodedLog, without_names}
@@ -250,6 +250,21 @@ module _ (steps : CodedSteps) (code : CodedLog) (counter : CounterState) (vars :
     clashes = stopped.clashes;
   }
 
+  -- what is assumed reads as the guards and the bound
+  negates_assumed : (bound : Option ℕ) (assumed : List Lit) (clause : Clause) → AreAssumptions code counter bound assumed → NegatesOnly assumed clause → NegatesAssumed (whole_names steps code counter) steps.net log steps.steps clause
+  negates_assumed bound assumed clause assumptions negates = record {
+    bound = bound;
+    assumed = assumed;
+    assumes = (poses steps code counter vars (axioms_of book) bound assumed parts assumptions log own valid same).assumes;
+    negates = negates;
+  }
+
+  finals_below : (k : ℕ) (since : List BookEntry) → FinalsAreBelow code counter k since → FinalsNegate (whole_names steps code counter) since steps.net log steps.steps
+  finals_below k since finals clause hints there = let found = finals clause hints there in negates_assumed (Some found.0) found.2 clause found.3 found.4
+
+  finals_put : (bound : Option ℕ) (since : List BookEntry) (what : Asked) → ArePut code counter bound since what → FinalsNegate (whole_names steps code counter) since steps.net log steps.steps
+  finals_put bound since what put clause hints there = let found = put.finals clause hints there in negates_assumed bound found.0 clause found.1 found.2
+
   nothing_left : (count left : ℕ) → count + left ≡ budget → left ≡ 0 → count ≡ budget
   nothing_left count left paid none = omega (arith, paid, none)
 
@@ -263,6 +278,7 @@ module _ (steps : CodedSteps) (code : CodedLog) (counter : CounterState) (vars :
         unmarked = here.unmarked;
         within = paid_within (count_by is_learnt here.since) left budget here.paid;
         fresh = here.fresh;
+        finals = finals_below k here.since here.finals;
         conflict = tt;
         found = least_found steps code counter vars log first book here.since here.whole parts own valid same begun at_first k best small here.below here.needs (given_back best given) within;
       })
@@ -277,6 +293,7 @@ module _ (steps : CodedSteps) (code : CodedLog) (counter : CounterState) (vars :
         unmarked = here.unmarked;
         within = paid_within (count_by is_learnt here.since) left budget here.paid;
         fresh = here.fresh;
+        finals = finals_below 256 here.since here.finals;
         conflict = tt;
         found = many_found steps code counter vars log first book here.since here.whole parts own valid same begun at_first best here.below here.needs (given_back best given);
       })
@@ -291,6 +308,7 @@ module _ (steps : CodedSteps) (code : CodedLog) (counter : CounterState) (vars :
         unmarked = here.unmarked;
         within = paid_within (count_by is_learnt here.since) 0 budget here.paid;
         fresh = here.fresh;
+        finals = finals_below k here.since here.finals;
         conflict = at_conflict (Some k) 0 stopped;
         found = undecided_found steps code counter vars log first book here.since here.whole parts own valid same begun at_first k budget best whole (omega (arith, here.paid)) here.finals here.below here.needs (given_back best given) more;
       })
@@ -298,7 +316,16 @@ module _ (steps : CodedSteps) (code : CodedLog) (counter : CounterState) (vars :
   pub answers_absent : (left : ℕ) → HasAskedBy code counter begun net log steps.steps None first book budget left asked.Refuted → HasFound (whole_names steps code counter) begun net log steps.steps budget first book Absent
   answers_absent left asked' =
       let here = subst (λ net'. HasAskedBy code counter begun net' log steps.steps None first book budget left asked.Refuted) (sym of_net) asked' in
-      found_as Absent (record { since = here.since; whole = here.whole; unmarked = here.unmarked; within = paid_within (count_by is_learnt here.since) left budget here.paid; fresh = here.fresh; conflict = tt; found = absent_found steps code counter vars log first book here.since here.whole parts own valid same begun at_first here.means })
+      found_as Absent (record {
+        since = here.since;
+        whole = here.whole;
+        unmarked = here.unmarked;
+        within = paid_within (count_by is_learnt here.since) left budget here.paid;
+        fresh = here.fresh;
+        finals = finals_put None here.since asked.Refuted here.put;
+        conflict = tt;
+        found = absent_found steps code counter vars log first book here.since here.whole parts own valid same begun at_first here.means;
+      })
 
   pub answers_nothing : (left : ℕ) → HasAskedBy code counter begun net log steps.steps None first book budget left asked.Spent → HasFound (whole_names steps code counter) begun net log steps.steps budget first book (Undecided 0 None)
   answers_nothing left asked' =
@@ -308,6 +335,7 @@ module _ (steps : CodedSteps) (code : CodedLog) (counter : CounterState) (vars :
         unmarked = asked'.unmarked;
         within = paid_within (count_by is_learnt asked'.since) left budget asked'.paid;
         fresh = asked'.fresh;
+        finals = finals_put None asked'.since asked.Spent asked'.put;
         conflict = at_conflict None left asked'.means;
         found = nothing_found steps code counter vars log first book asked'.since asked'.whole parts own valid same begun at_first budget (nothing_left (count_by is_learnt asked'.since) left asked'.paid asked'.means.nothing) (asked'.put.unbounded spent_not);
       })

@@ -17,7 +17,7 @@ use Rattle.least_faults.specs.declared.answer.Found.TheVariants.{Explained, Abse
 use Rattle.least_faults.specs.Answers.{asked_last, HasConflictFor, HaveLearntFresh, IsFound, IsAnswered}
 use Rattle.least_faults.specs.Ascending.{HasFound}
 use Rattle.least_faults.specs.Columns.{built_within, columns_for}
-use Rattle.least_faults.specs.Evidence.{HasFinal, IsEvidence, IsPosed}
+use Rattle.least_faults.specs.Evidence.{FinalsNegate, HasFinal, IsEvidence, IsPosed, NegatesAssumed}
 use Rattle.least_faults.specs.Parts.{AreParts, AreReady, built_of}
 use Rattle.log_order.specs.Log.{Log}
 use Rattle.proof_ledger.specs.Book.{BookEntry, final, mark, clause_of, clauses_of, axiom_of, axioms_of, is_mark}
@@ -77,6 +77,14 @@ final_later front since assumed all_learnt has = record { clause = has.clause; h
     by (inl here) = absurd (no_final_in front has.clause has.hints (learnt_no_final front all_learnt) here)
     by (inr here) = here
 
+-- learnt entries are no final ones
+finals_later : (names : List (ℕ × Name)) (front since : List BookEntry) (net : Net) (log : Log) (n : ℕ) → list_all is_learnt front ≡ true → FinalsNegate names since net log n → FinalsNegate names (front ++ since) net log n
+finals_later names front since net log n all_learnt finals clause hints there = by (append_cases front since (final clause hints) there)
+  where
+    by : Contains front (final clause hints) ⊎ Contains since (final clause hints) → NegatesAssumed names net log n clause
+    by (inl here) = absurd (no_final_in front clause hints (learnt_no_final front all_learnt) here)
+    by (inr here) = finals clause hints here
+
 -- what was found holds too where learnt entries came before
 is_found_later : (names : List (ℕ × Name)) (first : BuiltQuestion) (front since : List BookEntry) (net : Net) (log : Log) (n budget left : ℕ) (answer : Found) → list_all is_learnt front ≡ true → AllByRecursion (HasValues first.vars) (clauses_of front) → count_by is_learnt front + left ≡ budget →
     IsFound names first since net log n left answer → IsFound names first (front ++ since) net log n budget answer
@@ -106,6 +114,7 @@ found_later names begun now net log n budget left old mid new front answer same 
   unmarked = λ number. count_append (is_mark number) front found.since ∙ (let one = unmarked number in let two = found.unmarked number in omega (arith, one, two));
   within = within (count_by is_learnt front) (count_by is_learnt found.since) (count_by is_learnt (front ++ found.since)) (count_append is_learnt front found.since) found.within refl;
   fresh = fresh_both old mid front found.since whole fresh found.fresh;
+  finals = finals_later names front found.since net log n all_learnt found.finals;
   conflict = found.conflict;
   found = is_found_later names begun front found.since net log n budget left answer all_learnt front_known paid (subst (λ (first : BuiltQuestion). IsFound names first found.since net log n left answer) same found.found);
 }
@@ -188,6 +197,7 @@ answered names begun now net log n budget old opened searched new answer at_firs
   unmarked = found.unmarked;
   within = found.within;
   fresh = subst (λ earlier. HaveLearntFresh earlier found.since) begins found.fresh;
+  finals = found.finals;
   few = few;
   conflict = conflict_closed names searched new 1 net log n answer ends found.conflict;
   asks = (asks.0, subst (λ axioms. IsPosed names axioms asks.0 net log n None) (sym (ap axioms_of ends ∙ marked_axioms searched 1)) asks.1);

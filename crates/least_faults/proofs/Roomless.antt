@@ -94,6 +94,7 @@ answered_roomless names first net log n budget old new answer is = record {
   unmarked = is.unmarked;
   within = is.within;
   fresh = is.fresh;
+  finals = is.finals;
   few = is.few;
   asks = is.asks;
   found = found_roomless names first is.since net log n budget answer is.found;

@@ -5,7 +5,7 @@ use Rattle.des_net.specs.Network.{Net}
 use Rattle.least_faults.specs.declared.answer.Best.{Best}
 use Rattle.least_faults.specs.declared.answer.Found.{Found}
 use Rattle.least_faults.specs.declared.answer.Found.TheVariants.{Explained, Absent, Many, Undecided}
-use Rattle.least_faults.specs.Evidence.{HasFinal, IsEvidence, IsPosed}
+use Rattle.least_faults.specs.Evidence.{FinalsNegate, HasFinal, IsEvidence, IsPosed}
 use Rattle.log_order.specs.Log.{Log}
 use Rattle.proof_ledger.specs.Book.{BookEntry, mark, axioms_of, clauses_of, is_mark}
 use Rattle.proof_ledger.specs.Fresh.{AreFresh, is_learnt}
@@ -91,7 +91,7 @@ HasConflictFor names book net log n Absent = ⊤
 HasConflictFor names book net log n (Many best) = ⊤
 HasConflictFor names book net log n (Undecided lo best) = HasConflict names book net log n (asked_last lo best)
 
--- The axioms of the book were those of the question as it was built first. The question was opened by a mark 0 and closed by a mark 1, and the entries between show what was found. At most as many clauses as the budget says were learnt, each of them fresh. The axioms of the whole book pose the question without a bound, by these names and under some assumptions; the names are no more than network, log and n allow.
+-- The axioms of the book were those of the question as it was built first. The question was opened by a mark 0 and closed by a mark 1, and the entries between show what was found. At most as many clauses as the budget says were learnt, each of them fresh, and each final one has no literals but negations of assumptions. The axioms of the whole book pose the question without a bound, by these names and under some assumptions; the names are no more than network, log and n allow.
 pub record IsAnswered (names : List (ℕ × Name)) (first : BuiltQuestion) (net : Net) (log : Log) (n budget : ℕ) (old new : List BookEntry) (answer : Found) : Type 0 where
   pub begun : first.axioms ≡ axioms_of old
   pub since : List BookEntry
@@ -99,6 +99,7 @@ pub record IsAnswered (names : List (ℕ × Name)) (first : BuiltQuestion) (net 
   pub unmarked : (number : ℕ) → count_by (is_mark number) since ≡ 0
   pub within : count_by is_learnt since ≤ budget
   pub fresh : HaveLearntFresh (old ++ mark 0 ∷ []) since
+  pub finals : FinalsNegate names since net log n
   pub few : length names ≤ variable_bound net log n
   pub asks : (assumed : List Lit) × IsPosed names (axioms_of new) assumed net log n None
   pub found : IsFound names first since net log n budget answer

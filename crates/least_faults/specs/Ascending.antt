@@ -6,7 +6,7 @@ use Rattle.least_faults.specs.declared.answer.Found.{Found}
 use Rattle.least_faults.specs.declared.parts.Parts.{Parts}
 use Rattle.least_faults.specs.Answers.{HasConflictFor, HaveLearntFresh, IsFound}
 use Rattle.least_faults.specs.Asking.{AreAssumptions}
-use Rattle.least_faults.specs.Evidence.{IsRefutation}
+use Rattle.least_faults.specs.Evidence.{FinalsNegate, IsRefutation}
 use Rattle.log_encode.specs.CodedLog.{CodedLog}
 use Rattle.log_order.specs.Log.{Log}
 use Rattle.proof_ledger.specs.Book.{BookEntry, final, is_mark}
@@ -43,12 +43,13 @@ pub record HasComeToBy (code : CodedLog) (counter : CounterState) (first : Built
 abbrev pub HasComeTo : {R : Type 0} → Parts R → BuiltQuestion → Net → Log → ℕ → List BookEntry → List BookEntry → ℕ → ℕ → Type 0
 HasComeTo parts first net log k old new budget_old budget_new = HasComeToBy parts.code.code parts.counter first net log parts.step.steps k old new budget_old budget_new
 
--- The entries that were put show what was found, and no more clauses were learnt than the budget says, each of them fresh.
+-- The entries that were put show what was found, and no more clauses were learnt than the budget says, each of them fresh. No other clause was derived but final ones, of negated assumptions alone.
 pub record HasFound (names : List (ℕ × Name)) (first : BuiltQuestion) (net : Net) (log : Log) (n budget : ℕ) (old new : List BookEntry) (answer : Found) : Type 0 where
   pub since : List BookEntry
   pub whole : new ≡ old ++ since
   pub unmarked : (number : ℕ) → count_by (is_mark number) since ≡ 0
   pub within : count_by is_learnt since ≤ budget
   pub fresh : HaveLearntFresh old since
+  pub finals : FinalsNegate names since net log n
   pub found : IsFound names first since net log n budget answer
   pub conflict : HasConflictFor names new net log n answer

@@ -33,6 +33,17 @@ pub record HasFinal (entries : List BookEntry) (assumed : List Lit) : Type 0 whe
   pub there : Contains entries (final clause hints)
   pub negates : NegatesOnly assumed clause
 
+-- the clause has no literals but negations of what is assumed by these names: of the guards, and of some bound
+pub record NegatesAssumed (names : List (ℕ × Name)) (net : Net) (log : Log) (n : ℕ) (clause : Clause) : Type 0 where
+  pub bound : Option ℕ
+  pub assumed : List Lit
+  pub assumes : ReadsAs names assumed (assumption_literals net log n bound)
+  pub negates : NegatesOnly assumed clause
+
+-- so it is with each final entry
+abbrev pub FinalsNegate : List (ℕ × Name) → List BookEntry → Net → Log → ℕ → Type 0
+FinalsNegate names entries net log n = (clause : Clause) (hints : List ℕ) → Contains entries (final clause hints) → NegatesAssumed names net log n clause
+
 -- the last final entry has no literals but negations of assumptions
 pub record HasLastFinal (entries : List BookEntry) (assumed : List Lit) : Type 0 where
   pub earlier : List BookEntry

@@ -1,5 +1,5 @@
 -- How a question and its book grow together.
-use Rattle.std.specs.Prelude.{◌≡◌, ◌≤◌, ℕ, List, ◌++◌, length, map, count_by}
+use Rattle.std.specs.Prelude.{◌≡◌, ◌≤◌, ℕ, List, ◌++◌, length, map, take, count_by}
 use Rattle.card_counter.specs.CounterState.{CounterState}
 use Rattle.least_faults.specs.declared.parts.Parts.{Parts}
 use Rattle.least_faults.specs.Columns.{columns_built}
@@ -26,6 +26,11 @@ pub record KeepsQuestion {R : Type 0} (old new : Parts R) (old_book new_book : L
 pub record AddsAxioms (old new : List BookEntry) : Type 0 where
   pub axioms : List Clause
   pub more : new ≡ old ++ map axiomatic axioms
+
+-- the book has a front of these axioms, and nothing else
+pub record HasFrontOf (axioms : List Clause) (book : List BookEntry) : Type 0 where
+  pub count : ℕ
+  pub front : book ≡ map axiomatic (take count axioms)
 
 -- the book got further entries, and no more of them are learnt clauses than the budget says
 pub record HasGrownWithin (budget : ℕ) (old new : List BookEntry) : Type 0 where

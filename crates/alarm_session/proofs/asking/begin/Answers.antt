@@ -2,8 +2,10 @@ use Rattle.std.proofs.Common.{◌∙◌, None, ap, arith, refl}
 use Rattle.alarm_session.proofs.Refusing.{accepted}
 use Rattle.alarm_session.proofs.Stages.{stage_begun}
 use Rattle.alarm_session.proofs.asking.begin.Goals as goal
+use Rattle.least_faults.proofs.AxiomLists.{front_adds}
 use Rattle.log_order.specs.Log.{no_log}
 use Rattle.replay.specs.QuestionSize.{question_size}
+use Rattle.run_decode.specs.QuestionAxioms.{question_axioms}
 use Rattle.sat_solve.specs.Solving.{SolverState}
 
 pub returns-in-Ok-clause-refused : goal.returns-in-Ok-clause-refused
@@ -14,8 +16,9 @@ returns-in-Ok-clause-refused g c =
 pub returns-in-Ok-clause-begun : goal.returns-in-Ok-clause-begun
 returns-in-Ok-clause-begun g c =
     let built = c.in-Ok.ensures.built in
+    let adds = front_adds (question_axioms c.args.setting.net.now c.new-log.result c.args.setting.steps 0) c.args.book.entries c.build.new.book.entries c.requires.empty c.build.ensures.front in
     record {
       stage = stage_begun c.args.setting.net.now c.args.setting.steps (record { log = c.new-log.result; size = c.question_size-size.result; parts = c.in-Ok.parts; book = c.build.new.book }) c.args.book.entries
-          c.new-log.ensures c.requires.empty c.build.ensures.axioms built.columns built.built;
+          c.new-log.ensures c.requires.empty adds built.columns built.built;
       rank_is = built.rank ∙ ap (λ (s : SolverState _). s.order.rank) c.new-solver.ensures;
     }

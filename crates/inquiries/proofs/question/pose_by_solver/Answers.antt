@@ -1,6 +1,8 @@
 -- The question is built into an empty book.
 use Rattle.std.proofs.Common.{◌∙◌, ℕ, IfOk, ap, inl, inr, sym, subst}
+use Rattle.least_faults.proofs.AxiomLists.{front_adds}
 use Rattle.least_faults.specs.Building.{AreBuilt}
+use Rattle.run_decode.specs.QuestionAxioms.{question_axioms}
 use Rattle.inquiries.specs.Begun.{HasQuestion}
 use Rattle.inquiries.proofs.Diagnosing.{begins, ok_some}
 use Rattle.inquiries.proofs.question.pose_by_solver.Goals as goal
@@ -11,8 +13,9 @@ ask-requires g c =
     let log = c.args.case.now.log in
     let parts = c.in-Some.parts in
     let built = ok_some c.build.result (AreBuilt (goal.R-pre g) (goal.R-post g) net log c.args.steps c.args.solver c.build.new.book.entries) parts (sym c.in-Some.is ∙ c.ok.ensures.value) c.build.ensures.built in
+    let adds = front_adds (question_axioms net log c.args.steps 0) c.args.book.now.entries c.build.new.book.entries c.requires.empty c.build.ensures.front in
     record {
-      begun = begins (goal.R-pre g) (goal.R-post g) net log c.args.steps c.args.solver parts c.args.book.now.entries c.build.new.book.entries c.requires.limits.steps c.requires.empty c.build.ensures.axioms built;
+      begun = begins (goal.R-pre g) (goal.R-post g) net log c.args.steps c.args.solver parts c.args.book.now.entries c.build.new.book.entries c.requires.limits.steps c.requires.empty adds built;
     }
 
 pub returns-in-Some-clause-says : goal.returns-in-Some-clause-says
