@@ -11,7 +11,7 @@ use Rattle.model_text.specs.ModelFaults.{network_of}
 use Rattle.proof_ledger.specs.Book.{BookEntry}
 use Rattle.replay.specs.QuestionSize.{variable_bound}
 use Rattle.diagnose_cli.specs.declared.command.Command.{Command}
-use Rattle.diagnose_cli.specs.declared.command.Command.TheVariants.{Trace, Show, Replay, Check, Diagnose, PrintCnf, PrintProof, GenerateModel, GenerateLog, Bench, Session, Twin}
+use Rattle.diagnose_cli.specs.declared.command.Command.TheVariants.{Trace, Show, Replay, Check, Diagnose, PrintCnf, PrintProof, GenerateModel, GenerateLog, Bench, Session, Twin, Cheapest}
 use Rattle.diagnose_cli.specs.declared.ending.Kind.{Kind}
 use Rattle.diagnose_cli.specs.Deciding.{DecidedRow, Suffices}
 use Rattle.diagnose_cli.specs.Endings.{status_of_kind}
@@ -20,6 +20,7 @@ use Rattle.diagnose_cli.specs.Replies.{Says, SaysBenched, SaysProved, TellsBelow
 use Rattle.diagnose_cli.specs.Rows.{AreTold, Asks}
 use Rattle.diagnose_cli.specs.Run.{Ends}
 use Rattle.diagnose_cli.proofs.Answered.{AreHeld, between, said_over, same_text}
+use Rattle.diagnose_cli.proofs.CheapStatus.{priced_by}
 use Rattle.diagnose_cli.proofs.StatusRows.{decided, undecided_small}
 
 -- ---- a proof
@@ -90,3 +91,8 @@ module _ (o : Outcome) (ends : Ends o) where
   decided_row (Bench units start steps budget) (text ∷ texts) asks enough is = absurd enough
   decided_row (Session steps budget) texts asks enough is = absurd enough
   decided_row (Twin steps after budget) texts asks enough is = absurd enough
+  decided_row (Cheapest steps budget) [] asks enough is = absurd enough
+  decided_row (Cheapest steps budget) (text ∷ []) asks enough is = absurd enough
+  decided_row (Cheapest steps budget) (text ∷ alarms ∷ []) asks enough is = absurd enough
+  decided_row (Cheapest steps budget) (text ∷ alarms ∷ prices ∷ []) asks enough is = priced_by o ends steps budget text alarms prices asks enough is
+  decided_row (Cheapest steps budget) (text ∷ alarms ∷ prices ∷ more ∷ texts) asks enough is = absurd enough

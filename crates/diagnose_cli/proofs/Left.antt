@@ -2,14 +2,16 @@
 use Rattle.std.proofs.Common.{◌≡◌, ℕ, List, [], ◌∷◌, Option, Some, None, IfSome, sym, subst, ap, ◌∙◌}
 use Rattle.des_base.specs.CommandWords.{word_at}
 use Rattle.des_net.specs.Network.{Net}
+use Rattle.event_costs.specs.CostText.{cost_of}
 use Rattle.inquiries.specs.Begun.{LeavesQuestion}
+use Rattle.inquiries.specs.LeastCost.{LeavesCosts}
 use Rattle.gen_plant.specs.Plant.{plant_net, plant_log}
 use Rattle.log_csv.specs.LogText.{log_of}
 use Rattle.log_order.specs.Log.{Log as AlarmLog}
 use Rattle.model_text.specs.ModelFaults.{network_of}
 use Rattle.proof_ledger.specs.Book.{BookEntry}
 use Rattle.diagnose_cli.specs.declared.command.Command.{Command}
-use Rattle.diagnose_cli.specs.declared.command.Command.TheVariants.{Diagnose, PrintCnf, PrintProof, Bench, Session, Twin}
+use Rattle.diagnose_cli.specs.declared.command.Command.TheVariants.{Diagnose, PrintCnf, PrintProof, Bench, Session, Twin, Cheapest}
 use Rattle.diagnose_cli.specs.Commands.{command_of}
 use Rattle.diagnose_cli.specs.Outcomes.{Outcome}
 use Rattle.diagnose_cli.specs.Rows.{AreTold, Leaves, LeftRow}
@@ -61,6 +63,13 @@ module _ (held : List ℕ → Option (List ℕ)) (words : List (List ℕ)) (book
   left_twin steps after budget left [] told = tt
   left_twin steps after budget left (text ∷ []) told = left text told
   left_twin steps after budget left (text ∷ more ∷ texts) told = tt
+
+  pub left_cheapest : (steps budget : ℕ) → ((text alarms prices : List ℕ) → AreTold held words 1 (text ∷ alarms ∷ prices ∷ []) → LeavesCosts (network_of text) (cost_of (network_of text) prices) (log_of alarms) steps book) → LeftBy (Cheapest steps budget)
+  left_cheapest steps budget left [] told = tt
+  left_cheapest steps budget left (text ∷ []) told = tt
+  left_cheapest steps budget left (text ∷ alarms ∷ []) told = tt
+  left_cheapest steps budget left (text ∷ alarms ∷ prices ∷ []) told = left text alarms prices told
+  left_cheapest steps budget left (text ∷ alarms ∷ prices ∷ more ∷ texts) told = tt
 
   pub left_so : (c command : Command) → command ≡ c → LeftBy c → LeftBy command
   left_so c command is left = subst LeftBy (sym is) left

@@ -6,10 +6,11 @@ pub mod Reading
 pub mod Answered
 pub mod UsageRows
 pub mod StatusRows
-pub mod Deciding
 pub mod StopStatus
 pub mod TwinBooks
 pub mod TwinStatus
+pub mod CheapStatus
+pub mod Deciding
 pub mod SessionRows
 pub mod Ones
 pub mod Once
@@ -27,6 +28,7 @@ pub mod ProofsReadBack
 pub mod ProofAnswers
 pub mod CaseAnswers
 pub mod TwinAnswers
+pub mod CheapAnswers
 pub mod Left
 pub mod Taking
 pub mod GenerateAnswers

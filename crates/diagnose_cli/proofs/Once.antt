@@ -5,7 +5,7 @@ use Rattle.std.proofs.lemmas.Bool.{cases_order}
 use Rattle.des_base.specs.Outside.{Took, TookFront}
 use Rattle.proof_ledger.specs.Book.{BookEntry}
 use Rattle.diagnose_cli.specs.declared.command.Command.{Command}
-use Rattle.diagnose_cli.specs.declared.command.Command.TheVariants.{Trace, Show, Replay, Check, Diagnose, PrintCnf, PrintProof, GenerateModel, GenerateLog, Bench, Twin}
+use Rattle.diagnose_cli.specs.declared.command.Command.TheVariants.{Trace, Show, Replay, Check, Diagnose, PrintCnf, PrintProof, GenerateModel, GenerateLog, Bench, Twin, Cheapest}
 use Rattle.diagnose_cli.specs.declared.ending.Kind.{Kind}
 use Rattle.diagnose_cli.specs.declared.ending.Kind.TheVariants.{Done, Rejected, Absent, Undecided, Many, Nothing, Ambiguous}
 use Rattle.diagnose_cli.specs.declared.stop.Stop.{Stop}
@@ -29,6 +29,8 @@ use Rattle.diagnose_cli.proofs.StatusRows.{refuted, explained, absent, undecided
 use Rattle.diagnose_cli.proofs.StopStatus.{above, between}
 use Rattle.diagnose_cli.proofs.TwinStatus.{alike, clear, untested, tested_by}
 use Rattle.diagnose_cli.specs.TwinRows.{TwinRows}
+use Rattle.diagnose_cli.specs.CheapRows.{CheapRows}
+use Rattle.diagnose_cli.proofs.CheapStatus.{cheapest, dear, unexplained, unpriced}
 use Rattle.diagnose_cli.proofs.UsageRows.{usage_row}
 
 pub one_text : (texts : List (List ℕ)) (text : List ℕ) → texts ≡ text ∷ [] → concat texts ≡ text
@@ -133,6 +135,15 @@ module _ (o : Outcome) (rose : Type 0) (speaks : Speaks (Due o.loads o.words o.b
     decided = λ n d budget text asks enough is. tested_by o (answered 11 is (λ p. cc)) n d budget text asks enough is;
   }
 
+  priced : CheapRows o
+  priced = record {
+    answered = λ n budget text alarms prices. row_of (Cheapest n budget) (text ∷ alarms ∷ prices ∷ []) (λ words book texts t h. h);
+    cheapest = λ n budget text alarms prices asks is. cheapest o (answered 0 is (λ p. cc)) n budget text alarms prices asks is;
+    absent = λ n budget text alarms prices asks is. unexplained o (answered 10 is (λ p. cc)) n budget text alarms prices asks is;
+    dear = λ n budget text alarms prices asks is. dear o (answered 12 is (λ p. cc)) n budget text alarms prices asks is;
+    undecided = λ n budget text alarms prices asks is. unpriced o (answered 11 is (λ p. cc)) n budget text alarms prices asks is;
+  }
+
   does : Does o rose
   does = record {
     diagnosed = diagnosed;
@@ -148,6 +159,7 @@ module _ (o : Outcome) (rose : Type 0) (speaks : Speaks (Due o.loads o.words o.b
     benched = λ units start steps budget. row_alone (Bench units start steps budget) (λ words book texts t h. h) refl;
     carried_out = λ steps budget text lines reads whole. session_row o steps budget text lines (speaks.ends whole.put.written) reads whole;
     twinned = twinned;
+    priced = priced;
     ran = ran;
   }
 

@@ -2,7 +2,7 @@
 use Rattle.std.proofs.Common.{◌≡◌, inl, inr, ℕ, ◌+◌, List, [], ◌∷◌, ◌++◌, true, false, IfOk, Option, Some, None, Result, Ok, Err, IsOkAnd, MatchOption, refl, subst, sym}
 use Rattle.proof_ledger.specs.Book.{BookEntry}
 use Rattle.diagnose_cli.specs.declared.command.Command.{Command}
-use Rattle.diagnose_cli.specs.declared.command.Command.TheVariants.{Trace, Show, Replay, Check, Diagnose, PrintCnf, PrintProof, GenerateModel, GenerateLog, Bench, Session, Twin}
+use Rattle.diagnose_cli.specs.declared.command.Command.TheVariants.{Trace, Show, Replay, Check, Diagnose, PrintCnf, PrintProof, GenerateModel, GenerateLog, Bench, Session, Twin, Cheapest}
 use Rattle.diagnose_cli.specs.declared.ending.Kind.{Kind}
 use Rattle.diagnose_cli.specs.declared.stop.Stop.{Stop}
 use Rattle.diagnose_cli.specs.declared.stop.Stop.TheVariants.{Faulty, Usage}
@@ -32,8 +32,9 @@ cut_says (PrintProof steps budget) one words book files reply h = is_cut (Says (
 cut_says (GenerateModel units start) one words book files reply h = is_cut (Says (GenerateModel units start) words book files) reply h
 cut_says (GenerateLog units start) one words book files reply h = is_cut (Says (GenerateLog units start) words book files) reply h
 cut_says (Bench units start steps budget) one words book files reply h = is_cut (Says (Bench units start steps budget) words book files) reply h
-cut_says (Session steps budget) one words book files reply h = cc
 cut_says (Twin steps after budget) one words book files reply h = is_cut (Says (Twin steps after budget) words book files) reply h
+cut_says (Cheapest steps budget) one words book files reply h = is_cut (Says (Cheapest steps budget) words book files) reply h
+cut_says (Session steps budget) one words book files reply h = cc
 
 -- ---- over its files, where one transcript takes the place of another
 

@@ -2,6 +2,9 @@
 use Rattle.std.proofs.Common.{◌≡◌, ◌≢◌, inr, ℕ, List, length, Option, Some, None, ap, subst, refl}
 use Rattle.std.specs.Prelude.{option_map}
 use Rattle.des_net.specs.Network.{Net}
+use Rattle.event_costs.specs.CostText.{IsDue as IsCostDue, IsTableOf, first_fault as first_cost_fault}
+use Rattle.event_costs.specs.declared.fault.CostRefusal.{CostRefusal}
+use Rattle.event_costs.specs.declared.fault.CostRefusal.TheVariants.{Fault as CostFaulty, Memory as CostMemory}
 use Rattle.model_text.specs.declared.fault.ModelRefusal.{ModelRefusal}
 use Rattle.model_text.specs.declared.fault.ModelRefusal.TheVariants.{Fault, Memory as ModelMemory}
 use Rattle.model_text.specs.ModelFaults.{network_of, first_fault as first_model_fault, IsDue as IsModelDue}
@@ -26,9 +29,9 @@ use Rattle.replay.specs.RunText.{run_of, first_fault as first_run_fault, Tells a
 use Rattle.diagnose_cli.specs.declared.stop.Stop.{Stop}
 use Rattle.diagnose_cli.specs.declared.stop.Stop.TheVariants.{Faulty, Memory}
 use Rattle.diagnose_cli.specs.declared.stop.FaultyText.{FaultyText}
-use Rattle.diagnose_cli.specs.declared.stop.FaultyText.TheVariants.{Model, Log, Run, Cnf, Lrat}
-use Rattle.diagnose_cli.specs.Refusals.{stop_of_model, stop_of_log, stop_of_run, stop_of_cnf, stop_of_lrat}
-use Rattle.diagnose_cli.specs.Texts.{fault_of_model, fault_of_log, fault_of_script, fault_of_run, fault_of_cnf, fault_of_lrat}
+use Rattle.diagnose_cli.specs.declared.stop.FaultyText.TheVariants.{Model, Log, Run, Cnf, Lrat, Cost}
+use Rattle.diagnose_cli.specs.Refusals.{stop_of_model, stop_of_log, stop_of_run, stop_of_cnf, stop_of_lrat, stop_of_cost}
+use Rattle.diagnose_cli.specs.Texts.{fault_of_model, fault_of_log, fault_of_script, fault_of_run, fault_of_cnf, fault_of_lrat, fault_of_costs}
 use Rattle.diagnose_cli.specs.Files.{Loads, Holds, IsText, IsReadAs, StopsIn}
 
 pub none_told : {X : Type 0} (f : X → FaultyText) (o : Option X) → o ≡ None → option_map f o ≡ None
@@ -108,3 +111,12 @@ pub lrat_read : (held : List ℕ → Option (List ℕ)) (name : List ℕ) (limit
     → IsReadAs held name limit (fault_of_lrat (formula vars clauses)) (λ text. proof ≡ proof_of text)
 lrat_read held name limit vars clauses count text proof same holds well is =
     (text, is_well held name limit (first_lrat_fault vars (length clauses)) (λ f. Lrat f) text holds (subst (λ (n : ℕ). first_lrat_fault vars n text ≡ None) same well), is)
+
+pub costs_stop : (l : Loads) (i : ℕ) (name : List ℕ) (limit : ℕ) (net : Net) (text : List ℕ) (refusal : CostRefusal) (stop : Stop)
+    → Holds l.held name limit text → IsCostDue (first_cost_fault net text) refusal → stop ≡ stop_of_cost refusal → stop ≢ Memory → StopsIn l i name limit (fault_of_costs net) stop
+costs_stop l i name limit net text (CostFaulty fault) stop holds due is never = by_fault l i name limit (first_cost_fault net) (λ f. Cost f) text fault stop holds due is
+costs_stop l i name limit net text CostMemory stop holds due is never = absurd (never is)
+
+pub costs_read : (held : List ℕ → Option (List ℕ)) (name : List ℕ) (limit : ℕ) (net : Net) (text : List ℕ) (table : List (Option ℕ)) → Holds held name limit text → first_cost_fault net text ≡ None → IsTableOf net text table
+    → IsReadAs held name limit (fault_of_costs net) (λ text. IsTableOf net text table)
+costs_read held name limit net text table holds well is = (text, is_well held name limit (first_cost_fault net) (λ f. Cost f) text holds well, is)

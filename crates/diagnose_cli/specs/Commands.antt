@@ -4,8 +4,8 @@ use Rattle.des_base.specs.CommandWords.{word_at}
 use Rattle.des_base.specs.Numbers.{number_up_to}
 use Rattle.gen_plant.specs.Plant.{most_units}
 use Rattle.diagnose_cli.specs.declared.command.Command.{Command}
-use Rattle.diagnose_cli.specs.declared.command.Command.TheVariants.{Trace, Show, Replay, Check, Diagnose, PrintCnf, PrintProof, GenerateModel, GenerateLog, Bench, Session, Twin}
-use Rattle.diagnose_cli.specs.Texts.{FileKind, model, log, script, run, cnf, lrat}
+use Rattle.diagnose_cli.specs.declared.command.Command.TheVariants.{Trace, Show, Replay, Check, Diagnose, PrintCnf, PrintProof, GenerateModel, GenerateLog, Bench, Session, Twin, Cheapest}
+use Rattle.diagnose_cli.specs.Texts.{FileKind, model, log, script, run, cnf, lrat, costs}
 
 -- this many words, of which the first is the name
 abbrev pub calls : List (List ℕ) → List ℕ → ℕ → Bool
@@ -71,6 +71,10 @@ twin_of steps after budget =
     option_and_then (λ n.
     option_and_then (λ d. option_map (λ b. Twin n d b) (number_up_to most_budget budget)) (number_up_to most_steps after)) (number_up_to most_steps steps)
 
+-- what they ask of `cheapest`
+abbrev pub cheapest_of : List ℕ → List ℕ → Option Command
+cheapest_of steps budget = option_and_then (λ n. option_map (λ b. Cheapest n b) (number_up_to most_budget budget)) (number_up_to most_steps steps)
+
 -- the command that the words call, if they call one
 abbrev pub command_of : List (List ℕ) → Option Command
 command_of words =
@@ -85,6 +89,7 @@ command_of words =
     else if calls words (codes "bench") 5 then bench_of (word_at words 1) (word_at words 2) (word_at words 3) (word_at words 4)
     else if calls words (codes "session") 5 then session_of (word_at words 3) (word_at words 4)
     else if calls words (codes "twin") 6 then twin_of (word_at words 3) (word_at words 4) (word_at words 5)
+    else if calls words (codes "cheapest") 6 then cheapest_of (word_at words 4) (word_at words 5)
     else None
 
 -- a question is asked for no more steps than that, and a twin question for no more to be seen
@@ -94,6 +99,7 @@ HasFewSteps (PrintCnf steps bound) = steps ≤ most_steps
 HasFewSteps (PrintProof steps budget) = steps ≤ most_steps
 HasFewSteps (Bench units start steps budget) = steps ≤ most_steps
 HasFewSteps (Session steps budget) = steps ≤ most_steps
+HasFewSteps (Cheapest steps budget) = steps ≤ most_steps
 HasFewSteps (Twin steps after budget) = (steps ≤ most_steps) × (after ≤ most_steps)
 HasFewSteps _ = ⊤
 
@@ -122,6 +128,7 @@ files_of (GenerateLog units start) = []
 files_of (Bench units start steps budget) = []
 files_of (Session steps budget) = model ∷ script ∷ []
 files_of (Twin steps after budget) = model ∷ []
+files_of (Cheapest steps budget) = model ∷ log ∷ costs ∷ []
 
 -- the command has a reply for each of several rows
 abbrev pub is_session : Command → Bool

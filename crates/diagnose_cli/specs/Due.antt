@@ -1,6 +1,7 @@
 -- What may come for the words of a command line: a stop by the first cause in order, what the command says, or want of memory.
 use Rattle.std.specs.Prelude.{◌≡◌, ℕ, ◌+◌, List, [], ◌∷◌, ◌++◌, length, drop, Bool, true, false, nat_lt, is_none, option_map, Option, Some, None, if◌then◌else◌, Err, IfSome, IsOkAnd, MatchOption}
 use Rattle.des_base.specs.CommandWords.{word_at}
+use Rattle.cost_least.specs.Costs.{cost_size}
 use Rattle.event_costs.specs.CostText.{fault_event_of}
 use Rattle.gen_plant.specs.Plant.{plant_net, plant_log}
 use Rattle.model_text.specs.ModelFaults.{network_of}
@@ -11,7 +12,7 @@ use Rattle.log_csv.specs.ScriptText.{script_of}
 use Rattle.proof_ledger.specs.Book.{BookEntry}
 use Rattle.replay.specs.QuestionSize.{question_size}
 use Rattle.diagnose_cli.specs.declared.command.Command.{Command}
-use Rattle.diagnose_cli.specs.declared.command.Command.TheVariants.{Diagnose, PrintCnf, PrintProof, Bench, Session, Twin}
+use Rattle.diagnose_cli.specs.declared.command.Command.TheVariants.{Diagnose, PrintCnf, PrintProof, Bench, Session, Twin, Cheapest}
 use Rattle.diagnose_cli.specs.declared.stop.Stop.{Stop}
 use Rattle.diagnose_cli.specs.declared.stop.Stop.TheVariants.{Usage, Faulty, NoFault, Large}
 use Rattle.diagnose_cli.specs.Transcripts.{Ending, IsOne, OrMemory, Transcript}
@@ -39,6 +40,7 @@ too_large (PrintCnf steps bound) (text ∷ alarms ∷ []) = above_limit (questio
 too_large (PrintProof steps budget) (text ∷ alarms ∷ []) = above_limit (question_size (network_of text) (log_of alarms) steps)
 too_large (Bench units start steps budget) [] = above_limit (question_size (plant_net units) (plant_log units start) steps)
 too_large (Session steps budget) (text ∷ lines ∷ []) = above_limit (question_size (network_of text) no_log steps)
+too_large (Cheapest steps budget) (text ∷ alarms ∷ prices ∷ []) = above_limit (cost_size (network_of text) (log_of alarms) steps)
 too_large (Twin steps after budget) (text ∷ []) = above_limit (twin_size (network_of text) steps after)
 too_large _ _ = None
 

@@ -6,6 +6,7 @@ pub mod ProofText
 pub mod Texts
 pub mod Commands
 pub mod TwinReplies
+pub mod CheapReplies
 pub mod Replies
 pub mod SessionReplies
 pub mod Due
@@ -17,4 +18,5 @@ pub mod Puts
 pub mod Sessions
 pub mod Rows
 pub mod TwinRows
+pub mod CheapRows
 pub mod Run

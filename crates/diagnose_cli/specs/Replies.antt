@@ -3,6 +3,7 @@ use Rattle.std.specs.Prelude.{◌≡◌, ◌↔◌, ℕ, zero, suc, ◌+◌, ◌
 use Rattle.std.specs.List.{position_or_len}
 use Rattle.des_base.specs.CommandWords.{word_at}
 use Rattle.des_net.specs.Network.{Net}
+use Rattle.event_costs.specs.CostText.{cost_of}
 use Rattle.gen_plant.specs.Plant.{plant_net, plant_log}
 use Rattle.model_text.specs.ModelFaults.{network_of}
 use Rattle.model_text.specs.PrintedModel.{model_text}
@@ -31,7 +32,7 @@ use Rattle.replay.specs.declared.tracing.Traced.{Traced}
 use Rattle.replay.specs.declared.tracing.Traced.TheVariants.{Ran, Stuck}
 use Rattle.report.specs.Replies.{text_of_traced, text_of_replayed, text_of_checked, text_of_found, told_run, numbered}
 use Rattle.diagnose_cli.specs.declared.command.Command.{Command}
-use Rattle.diagnose_cli.specs.declared.command.Command.TheVariants.{Trace, Show, Replay, Check, Diagnose, PrintCnf, PrintProof, GenerateModel, GenerateLog, Bench, Twin}
+use Rattle.diagnose_cli.specs.declared.command.Command.TheVariants.{Trace, Show, Replay, Check, Diagnose, PrintCnf, PrintProof, GenerateModel, GenerateLog, Bench, Twin, Cheapest}
 use Rattle.diagnose_cli.specs.declared.ending.Kind.{Kind}
 use Rattle.diagnose_cli.specs.declared.ending.Kind.TheVariants.{Done, Rejected, Absent, Undecided, Many, Nothing}
 use Rattle.inquiries.specs.Diagnosed.{IsDiagnosed}
@@ -39,6 +40,7 @@ use Rattle.inquiries.specs.Formula.{IsFormulaOf, question_formula}
 use Rattle.inquiries.specs.Refuted.{IsRefuted}
 use Rattle.diagnose_cli.specs.ProofText.{IsCheckedText, proof_head}
 use Rattle.diagnose_cli.specs.Texts.{limit_of, run}
+use Rattle.diagnose_cli.specs.CheapReplies.{SaysCheap}
 use Rattle.diagnose_cli.specs.TwinReplies.{SaysOfWord}
 
 -- a run that the network can perform is the yes of `trace`; one that gets stuck is rejected
@@ -213,4 +215,5 @@ Says (GenerateModel units start) words book [] reply = SaysModel (plant_net unit
 Says (GenerateLog units start) words book [] reply = reply ≡ reply_of_log (plant_log units start)
 Says (Bench units start steps budget) words book [] reply = SaysBenched units start steps budget book reply
 Says (Twin steps after budget) words book (text ∷ []) reply = SaysOfWord (network_of text) (word_at words 2) steps after budget book reply
+Says (Cheapest steps budget) words book (text ∷ alarms ∷ prices ∷ []) reply = SaysCheap (network_of text) (cost_of (network_of text) prices) (log_of alarms) steps budget book reply
 Says _ _ _ _ reply = ⊥

@@ -5,8 +5,10 @@ use Rattle.alarm_session.specs.Session.{Stage}
 use Rattle.des_base.specs.CommandWords.{word_at}
 use Rattle.des_base.specs.Outside.{Took}
 use Rattle.des_net.specs.Network.{Net}
+use Rattle.event_costs.specs.CostText.{cost_of}
 use Rattle.gen_plant.specs.Plant.{plant_net, plant_log}
 use Rattle.inquiries.specs.Begun.{LeavesQuestion}
+use Rattle.inquiries.specs.LeastCost.{LeavesCosts}
 use Rattle.least_faults.specs.Answers.{asked_last, HasConflict, IsExplanation}
 use Rattle.least_faults.specs.declared.answer.Best.{Best}
 use Rattle.least_faults.specs.declared.answer.Found.TheVariants.{Explained, Many, Undecided}
@@ -24,7 +26,7 @@ use Rattle.replay.specs.Explanation.{NeedsFaults, IsLeast, IsAbsent, IsMany}
 use Rattle.replay.specs.QuestionSize.{variable_bound}
 use Rattle.report.specs.Replies.{text_of_found}
 use Rattle.diagnose_cli.specs.declared.command.Command.{Command}
-use Rattle.diagnose_cli.specs.declared.command.Command.TheVariants.{Trace, Show, Replay, Check, Diagnose, PrintCnf, PrintProof, GenerateModel, GenerateLog, Bench, Session, Twin}
+use Rattle.diagnose_cli.specs.declared.command.Command.TheVariants.{Trace, Show, Replay, Check, Diagnose, PrintCnf, PrintProof, GenerateModel, GenerateLog, Bench, Session, Twin, Cheapest}
 use Rattle.diagnose_cli.specs.Texts.{FileKind, limit_of, fault_of_text}
 use Rattle.diagnose_cli.specs.Commands.{files_of, command_of}
 use Rattle.diagnose_cli.specs.Replies.{Says}
@@ -168,6 +170,7 @@ Leaves (PrintCnf steps bound) words (text ∷ alarms ∷ []) book = LeavesQuesti
 Leaves (PrintProof steps budget) words (text ∷ alarms ∷ []) book = LeavesQuestion (network_of text) (log_of alarms) steps book
 Leaves (Bench units start steps budget) words [] book = LeavesQuestion (plant_net units) (plant_log units start) steps book
 Leaves (Twin steps after budget) words (text ∷ []) book = LeavesOfWord (network_of text) (word_at words 2) steps after book
+Leaves (Cheapest steps budget) words (text ∷ alarms ∷ prices ∷ []) book = LeavesCosts (network_of text) (cost_of (network_of text) prices) (log_of alarms) steps book
 Leaves _ _ _ book = ⊤
 
 -- so it is over whatever bytes the shelf tells, and whatever the status

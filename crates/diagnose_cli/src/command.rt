@@ -1,7 +1,7 @@
 // The commands, and which one the words of a command line call.
 ghost use Rattle.std.specs.Prelude.{◌≡◌, ◌≤◌, length, IfSome, ◌<◌};
 ghost use Rattle.gen_plant.specs.Plant.{most_units};
-ghost use Rattle.diagnose_cli.specs.Commands.{calls, command_of, bound_of, cnf_of, proof_words_of, units_of, generate_of, bench_of, session_of, twin_of, read_words, HasFewSteps, HasFewUnits};
+ghost use Rattle.diagnose_cli.specs.Commands.{calls, command_of, bound_of, cnf_of, proof_words_of, units_of, generate_of, bench_of, session_of, twin_of, cheapest_of, read_words, HasFewSteps, HasFewUnits};
 
 use des_base::{WordList, read_number};
 
@@ -54,6 +54,12 @@ pub enum Command {
     Bench {
         units: u32,
         start: u64,
+        steps: u32,
+        budget: u64,
+    },
+    /// `cheapest MODEL LOG COSTS N BUDGET`: the least total cost of what explains the log within this many parallel steps, where
+    /// fault events have the costs of a text.
+    Cheapest {
         steps: u32,
         budget: u64,
     },
@@ -115,6 +121,8 @@ pub fn command_of(words: &WordList) -> Option<Command>
         session_of(words.word(3), words.word(4))
     } else if is_call(words, "twin", 6) {
         twin_of(words.word(3), words.word(4), words.word(5))
+    } else if is_call(words, "cheapest", 6) {
+        cheapest_of(words.word(4), words.word(5))
     } else {
         None
     }
@@ -231,6 +239,20 @@ fn twin_of(steps: &str, after: &str, budget: &str) -> Option<Command>
     Some(Command::Twin {
         steps: steps as u32,
         after: after as u32,
+        budget,
+    })
+}
+
+fn cheapest_of(steps: &str, budget: &str) -> Option<Command>
+    ensures command { result ≡ cheapest_of steps.now budget.now }
+    ensures files { IfSome result (λ c. read_words c ≡ 3) }
+    ensures steps { IfSome result HasFewSteps }
+    ensures units { IfSome result HasFewUnits }
+{
+    let steps = read_number(steps.as_bytes(), STEP_LIMIT)?;
+    let budget = read_number(budget.as_bytes(), u64::MAX)?;
+    Some(Command::Cheapest {
+        steps: steps as u32,
         budget,
     })
 }

@@ -1,6 +1,7 @@
 // The files of a command: each is loaded, held against its limit and read.
 ghost use Rattle.std.specs.Prelude.{◌≡◌, ◌≢◌, ℕ, ◌^◌, ◌<◌, ◌≤◌, List, length, All, IfOk, IfErr, OnOk};
 ghost use Rattle.des_base.specs.CommandWords.{word_at};
+ghost use Rattle.event_costs.specs.CostText.{IsTableOf};
 ghost use Rattle.model_text.specs.ModelFaults.{network_of};
 ghost use Rattle.log_csv.specs.LogText.{log_of};
 ghost use Rattle.log_csv.specs.ScriptText.{script_of};
@@ -8,7 +9,7 @@ ghost use Rattle.proof_text.specs.CnfText.{formula, formula_of};
 ghost use Rattle.proof_text.specs.LratText.{proof_of};
 ghost use Rattle.replay.specs.RunText.{run_of};
 ghost use Rattle.replay.specs.Traced.{word_of};
-ghost use Rattle.diagnose_cli.specs.Texts.{log, script, IsCase, IsPlan, StopsAtFirstTwo, fault_of_model, fault_of_log, fault_of_script, fault_of_run, fault_of_cnf, fault_of_lrat};
+ghost use Rattle.diagnose_cli.specs.Texts.{log, script, IsCase, IsPlan, StopsAtFirstTwo, fault_of_model, fault_of_log, fault_of_script, fault_of_run, fault_of_cnf, fault_of_lrat, fault_of_costs};
 ghost use Rattle.diagnose_cli.specs.Files.{loads, Fetches, IsReadAs, StopsIn};
 
 use crate::asking::Limits;
@@ -16,6 +17,7 @@ use crate::session_rows::Plan;
 use crate::stop::{Stop, stop_of_cnf, stop_of_lrat};
 use des_base::{LoadFault, Shelf, WordList};
 use des_net::Network;
+use event_costs::{CostTable, read_costs};
 use inquiries::Case;
 use log_csv::{Script, read_log, read_script};
 use log_order::AlarmLog;
@@ -29,6 +31,8 @@ const MODEL_LIMIT: u64 = 16_777_216;
 const LOG_LIMIT: u64 = 16_777_216;
 
 const RUN_LIMIT: u64 = 536_870_912;
+
+const COST_LIMIT: u64 = 16_777_216;
 
 const FORMULA_LIMIT: u64 = 536_870_912;
 
@@ -140,6 +144,25 @@ pub fn fetch_plan<F: Shelf>(
         script,
         limits,
     })
+}
+
+/// The costs in this place among the command's files, of the network's fault events.
+#[tactic(auto, using(crate::proofs::Reading::costs_stop, crate::proofs::Reading::costs_read))]
+pub fn fetch_costs<F: Shelf>(
+    alloc: Global,
+    words: &WordList,
+    shelf: &mut F,
+    place: u32,
+    net: &Network,
+) -> Result<CostTable, Stop>
+    requires { place < length words.now }
+    ensures table { IfOk result (λ table. IsReadAs (F.held shelf.old) (word_at words.now place) COST_LIMIT (fault_of_costs net.now) (λ text. IsTableOf net.now text table)) }
+    ensures stop { IfErr result (λ stop. stop ≢ Stop.Memory → StopsIn (loads F.held F.faults shelf.old shelf.new) place (word_at words.now place) COST_LIMIT (fault_of_costs net.now) stop) }
+    ensures kept { F.held shelf.new ≡ F.held shelf.old }
+    ensures never_falls { (n : List ℕ) → F.faults shelf.old n ≤ F.faults shelf.new n }
+{
+    let text = fetch(alloc, shelf, place, words.word(place as usize), COST_LIMIT)?;
+    Ok(read_costs(alloc, text.as_slice(), net)?)
 }
 
 /// The formula in this place among the command's files.

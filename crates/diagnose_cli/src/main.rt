@@ -7,6 +7,7 @@
 
 mod asking;
 mod bench_command;
+mod cheapest_command;
 mod check_command;
 mod cnf_command;
 mod command;

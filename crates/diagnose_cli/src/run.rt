@@ -6,12 +6,14 @@ ghost use Rattle.diagnose_cli.specs.Due.{Answers};
 ghost use Rattle.diagnose_cli.specs.Files.{loads};
 ghost use Rattle.diagnose_cli.specs.Outcomes.{outcome};
 ghost use Rattle.diagnose_cli.specs.Rows.{TraceRow, ShowRow, ReplayRow, CheckRows, DiagnoseRows, PrintedRows, GenerateRows, BenchRow, SessionRow, AreTold, Leaves, LeftRow};
+ghost use Rattle.diagnose_cli.specs.CheapRows.{CheapRows};
 ghost use Rattle.diagnose_cli.specs.TwinRows.{TwinRows};
 ghost use Rattle.diagnose_cli.specs.Run.{Does, LeavesAlone, Ran, is_question};
 ghost use Rattle.diagnose_cli.specs.Transcripts.{UnlessMemory, once};
 
 use crate::asking::{Limits, ask_case};
 use crate::bench_command::bench_command;
+use crate::cheapest_command::cheapest_command;
 use crate::check_command::check_command;
 use crate::command::{Command, command_of};
 use crate::ending::{Reply, put_once};
@@ -51,6 +53,7 @@ pub fn run<F: Shelf, S: Sink>(
     ensures benched { BenchRow (outcome (loads F.held F.faults shelf.old shelf.new) words.now (S.taken out.old) (S.taken out.new) book.new.entries result) }
     ensures carried_out { SessionRow (outcome (loads F.held F.faults shelf.old shelf.new) words.now (S.taken out.old) (S.taken out.new) book.new.entries result) }
     ensures twinned { TwinRows (outcome (loads F.held F.faults shelf.old shelf.new) words.now (S.taken out.old) (S.taken out.new) book.new.entries result) }
+    ensures priced { CheapRows (outcome (loads F.held F.faults shelf.old shelf.new) words.now (S.taken out.old) (S.taken out.new) book.new.entries result) }
     ensures ran { Ran (outcome (loads F.held F.faults shelf.old shelf.new) words.now (S.taken out.old) (S.taken out.new) book.new.entries result) (Rose (S.faults out.old) (S.faults out.new)) }
     ensures left_alone { LeavesAlone words.now result shelf.old shelf.new book.old book.new }
     ensures left { LeftRow (outcome (loads F.held F.faults shelf.old shelf.new) words.now (S.taken out.old) (S.taken out.new) book.new.entries result) }
@@ -138,6 +141,9 @@ fn answer<F: Shelf>(
             },
             book,
         ),
+        Command::Cheapest { steps, budget } => {
+            cheapest_command(alloc, words, shelf, Limits { steps, budget }, book)
+        }
         Command::Session { .. } => unreachable!(),
     }
 }

@@ -2,3 +2,4 @@ pub mod Begun
 pub mod Diagnosed
 pub mod Formula
 pub mod Refuted
+pub mod LeastCost

@@ -1,8 +1,8 @@
 -- Each command answers what is due for it.
 use Rattle.std.proofs.Common.{sym}
-use Rattle.diagnose_cli.specs.declared.command.Command.TheVariants.{Trace, Show, Replay, Check, Diagnose, PrintCnf, PrintProof, GenerateModel, GenerateLog, Bench, Twin}
+use Rattle.diagnose_cli.specs.declared.command.Command.TheVariants.{Trace, Show, Replay, Check, Diagnose, PrintCnf, PrintProof, GenerateModel, GenerateLog, Bench, Twin, Cheapest}
 use Rattle.diagnose_cli.specs.Files.{loads}
-use Rattle.diagnose_cli.proofs.Left.{left_bench, left_cnf, left_diagnose, left_proof, left_so, left_twin}
+use Rattle.diagnose_cli.proofs.Left.{left_bench, left_cheapest, left_cnf, left_diagnose, left_proof, left_so, left_twin}
 use Rattle.diagnose_cli.proofs.Orders.{due_alike}
 use Rattle.diagnose_cli.proofs.run.answer.Goals as goal
 
@@ -108,3 +108,14 @@ returns-in-Twin-clause-left g c =
     let book = c.twin_command.new.book.entries in
     let t = c.in-Twin in
     left_so held c.args.words.now book (Twin t.steps t.after t.budget) c.args.command t.is (left_twin held c.args.words.now book t.steps t.after t.budget c.twin_command.ensures.left)
+
+pub returns-in-Cheapest-clause-due : goal.returns-in-Cheapest-clause-due
+returns-in-Cheapest-clause-due g c =
+    due_alike (loads g.F.Shelf.held g.F.Shelf.faults c.args.shelf.now c.cheapest_command.new.shelf) c.args.words.now (Cheapest c.in-Cheapest.steps c.in-Cheapest.budget) c.args.command c.cheapest_command.new.book.entries c.cheapest_command.result (sym c.in-Cheapest.is) c.cheapest_command.ensures.due
+
+pub returns-in-Cheapest-clause-left : goal.returns-in-Cheapest-clause-left
+returns-in-Cheapest-clause-left g c =
+    let held = g.F.Shelf.held c.args.shelf.now in
+    let book = c.cheapest_command.new.book.entries in
+    let asked = c.in-Cheapest in
+    left_so held c.args.words.now book (Cheapest asked.steps asked.budget) c.args.command asked.is (left_cheapest held c.args.words.now book asked.steps asked.budget c.cheapest_command.ensures.left)

@@ -1,0 +1,148 @@
+-- What the status of a question of costs tells.
+use Rattle.std.proofs.Common.{◌≡◌, ◌≤◌, ◌<◌, ◌^◌, ℕ, List, [], ◌∷◌, Option, Some, None, IfSome, refl, sym, ◌∙◌, subst, arith}
+use Rattle.cost_least.specs.Answers.{CostAsked, IsKnownAbove, IsPriced}
+use Rattle.cost_least.specs.declared.answer.Cheap.{Cheap}
+use Rattle.cost_least.specs.declared.answer.Cheap.TheVariants.{Found, Absent, Dear, Undecided}
+use Rattle.cost_least.specs.declared.answer.Priced.{Priced}
+use Rattle.des_base.specs.CommandWords.{word_at}
+use Rattle.des_base.specs.Outside.{Took}
+use Rattle.des_net.specs.Network.{Net}
+use Rattle.event_costs.specs.CostText.{cost_of}
+use Rattle.inquiries.specs.LeastCost.{IsPricedBy, cost_variables}
+use Rattle.inquiries.proofs.PricedBooks.{unpriced_is_small}
+use Rattle.least_faults.proofs.Freshness.{fresh_closed}
+use Rattle.log_csv.specs.LogText.{log_of}
+use Rattle.log_order.specs.Log.{Log}
+use Rattle.model_text.specs.ModelFaults.{network_of}
+use Rattle.proof_ledger.specs.Book.{BookEntry}
+use Rattle.replay.specs.Explanation.{IsAbsent}
+use Rattle.report.specs.Replies.{text_of_cheap}
+use Rattle.run_decode.specs.QuestionAxioms.{question_axioms}
+use Rattle.diagnose_cli.specs.declared.command.Command.TheVariants.{Cheapest}
+use Rattle.diagnose_cli.specs.declared.ending.Kind.{Kind}
+use Rattle.diagnose_cli.specs.CheapReplies.{SaysCheap, kind_of_cheap}
+use Rattle.diagnose_cli.specs.CheapRows.{TellsCheapest, TellsDear, TellsUnpriced, cost_asked}
+use Rattle.diagnose_cli.specs.Endings.{status_of_kind}
+use Rattle.diagnose_cli.specs.Outcomes.{Outcome, Tells}
+use Rattle.diagnose_cli.specs.Replies.{Says}
+use Rattle.diagnose_cli.specs.Rows.{AreTold, Asks}
+use Rattle.diagnose_cli.specs.Run.{Ends}
+use Rattle.diagnose_cli.proofs.Answered.{AreHeld, IsStopStatus, between, said_over, same_text}
+
+-- ---- what is told of a question of costs
+
+record TellsPriced (o : Outcome) (q : CostAsked) (budget : ℕ) : Type 0 where
+  answer : Cheap
+  priced : IsPricedBy q.net q.cost q.log q.steps budget o.book answer
+  shown : o.status ≡ status_of_kind (kind_of_cheap answer)
+  put : Took o.before o.now (text_of_cheap q.net q.steps answer)
+
+abbrev Saying : CostAsked → ℕ → List BookEntry → (Kind × List ℕ) → Type 0
+Saying q budget book reply = SaysCheap q.net q.cost q.log q.steps budget book reply
+
+of_reply : (o : Outcome) (q : CostAsked) (budget : ℕ) → Tells o (Saying q budget o.book) → TellsPriced o q budget
+of_reply o q budget tells = record {
+  answer = tells.says.answer;
+  priced = tells.says.priced;
+  shown = subst (λ (r : Kind × List ℕ). o.status ≡ status_of_kind r.0) tells.says.is tells.shown;
+  put = subst (λ (r : Kind × List ℕ). Took o.before o.now r.1) tells.says.is tells.put;
+}
+
+-- over the three texts that are told
+over_texts : (o : Outcome) (n budget : ℕ) (text alarms prices : List ℕ) (texts : List (List ℕ)) → AreTold o.loads.held o.words 1 (text ∷ alarms ∷ prices ∷ []) → AreHeld o.loads.held o.words 1 texts
+    → Tells o (Says (Cheapest n budget) o.words o.book texts) → Tells o (Saying (cost_asked text alarms prices n) budget o.book)
+over_texts o n budget text alarms prices [] there held tells = absurd tells.says
+over_texts o n budget text alarms prices (model ∷ []) there held tells = absurd tells.says
+over_texts o n budget text alarms prices (model ∷ rows ∷ []) there held tells = absurd tells.says
+over_texts o n budget text alarms prices (model ∷ rows ∷ costs ∷ []) there held tells =
+    let of_model = subst (λ (m : List ℕ). Tells o (Saying (cost_asked m rows costs n) budget o.book)) (sym (same_text (o.loads.held (word_at o.words 1)) text model there.0 held.0)) tells in
+    let of_log = subst (λ (a : List ℕ). Tells o (Saying (cost_asked text a costs n) budget o.book)) (sym (same_text (o.loads.held (word_at o.words 2)) alarms rows there.1.0 held.1.0)) of_model in
+    subst (λ (p : List ℕ). Tells o (Saying (cost_asked text alarms p n) budget o.book)) (sym (same_text (o.loads.held (word_at o.words 3)) prices costs there.1.1.0 held.1.1.0)) of_log
+over_texts o n budget text alarms prices (model ∷ rows ∷ costs ∷ other ∷ texts) there held tells = absurd tells.says
+
+told : (o : Outcome) (n budget : ℕ) (text alarms prices : List ℕ) → Ends o → Asks o (Cheapest n budget) (text ∷ alarms ∷ prices ∷ []) → (IsStopStatus o.status → ⊥) → TellsPriced o (cost_asked text alarms prices n) budget
+told o n budget text alarms prices ends asks answers =
+    let over = said_over o (Cheapest n budget) (λ words book texts t h. h) ends asks.command answers in
+    of_reply o (cost_asked text alarms prices n) budget (over_texts o n budget text alarms prices over.texts asks.told over.held over.tells)
+
+-- ---- by the status
+
+module _ (o : Outcome) (q : CostAsked) (budget : ℕ) where
+  abbrev Shown : Cheap → Type 0
+  Shown answer = IsPricedBy q.net q.cost q.log q.steps budget o.book answer
+
+  abbrev Put : Cheap → Type 0
+  Put answer = Took o.before o.now (text_of_cheap q.net q.steps answer)
+
+  cheapest_of : (answer : Cheap) → 0 ≡ status_of_kind (kind_of_cheap answer) → Shown answer → Put answer → TellsCheapest o q
+  cheapest_of (Found priced) is shown put = record { priced = priced; given = shown.answered.found.given; cheapest = shown.answered.found.cheapest; put = put }
+  cheapest_of Absent is shown put = absurd (omega arith)
+  cheapest_of (Dear run) is shown put = absurd (omega arith)
+  cheapest_of (Undecided lo best) is shown put = absurd (omega arith)
+
+  absent_of : (answer : Cheap) → 10 ≡ status_of_kind (kind_of_cheap answer) → Shown answer → IsAbsent q.net q.log q.steps
+  absent_of (Found priced) is shown = absurd (omega arith)
+  absent_of Absent is shown = shown.answered.found.absent
+  absent_of (Dear run) is shown = absurd (omega arith)
+  absent_of (Undecided lo best) is shown = absurd (omega arith)
+
+  dear_of : (answer : Cheap) → 12 ≡ status_of_kind (kind_of_cheap answer) → Shown answer → Put answer → TellsDear o q
+  dear_of (Found priced) is shown put = absurd (omega arith)
+  dear_of Absent is shown put = absurd (omega arith)
+  dear_of (Dear run) is shown put = record { run = run; total = shown.answered.found.total; given = shown.answered.found.given; dear = shown.answered.found.dear; put = put }
+  dear_of (Undecided lo best) is shown put = absurd (omega arith)
+
+  known_of : (axioms : List _) (since : List BookEntry) (lo : ℕ) (best : Option Priced) → IfSome best (IsKnownAbove q axioms since lo) → IfSome best (λ priced. IsPriced q priced × (lo < priced.cost))
+  known_of axioms since lo None h = tt
+  known_of axioms since lo (Some priced) h = (h.given, h.above)
+
+  unpriced_of : (answer : Cheap) → 11 ≡ status_of_kind (kind_of_cheap answer) → Shown answer → Put answer → TellsUnpriced o q budget
+  unpriced_of (Found priced) is shown put = absurd (omega arith)
+  unpriced_of Absent is shown put = absurd (omega arith)
+  unpriced_of (Dear run) is shown put = absurd (omega arith)
+  unpriced_of (Undecided lo best) is shown put =
+      let answered = shown.answered in
+      record {
+        lo = lo;
+        best = best;
+        question = shown.question;
+        spent = fresh_closed (question_axioms q.net q.log q.steps 0) answered.since o.book budget answered.whole answered.fresh answered.found.spent;
+        conflict = answered.conflict;
+        above = answered.found.needs;
+        known = known_of _ answered.since lo best answered.found.given;
+        put = put;
+      }
+
+  small_of : (answer : Cheap) → 11 ≡ status_of_kind (kind_of_cheap answer) → Shown answer → 3 ^ cost_variables q.net q.log q.steps ≤ budget → ⊥
+  small_of (Found priced) is shown enough = absurd (omega arith)
+  small_of Absent is shown enough = absurd (omega arith)
+  small_of (Dear run) is shown enough = absurd (omega arith)
+  small_of (Undecided lo best) is shown enough =
+      let small = unpriced_is_small q.net q.cost q.log q.steps budget o.book lo best shown in
+      omega (arith, small, enough)
+
+module _ (o : Outcome) (ends : Ends o) (n budget : ℕ) (text alarms prices : List ℕ) (asks : Asks o (Cheapest n budget) (text ∷ alarms ∷ prices ∷ [])) where
+  pub cheapest : o.status ≡ 0 → TellsCheapest o (cost_asked text alarms prices n)
+  cheapest is =
+      let tells = told o n budget text alarms prices ends asks (λ stop. omega (arith, is, stop.low)) in
+      cheapest_of o (cost_asked text alarms prices n) budget tells.answer (sym is ∙ tells.shown) tells.priced tells.put
+
+  pub unexplained : o.status ≡ 10 → IsAbsent (network_of text) (log_of alarms) n
+  unexplained is =
+      let tells = told o n budget text alarms prices ends asks (between o.status 10 is (omega arith) (omega arith)) in
+      absent_of o (cost_asked text alarms prices n) budget tells.answer (sym is ∙ tells.shown) tells.priced
+
+  pub dear : o.status ≡ 12 → TellsDear o (cost_asked text alarms prices n)
+  dear is =
+      let tells = told o n budget text alarms prices ends asks (between o.status 12 is (omega arith) (omega arith)) in
+      dear_of o (cost_asked text alarms prices n) budget tells.answer (sym is ∙ tells.shown) tells.priced tells.put
+
+  pub unpriced : o.status ≡ 11 → TellsUnpriced o (cost_asked text alarms prices n) budget
+  unpriced is =
+      let tells = told o n budget text alarms prices ends asks (between o.status 11 is (omega arith) (omega arith)) in
+      unpriced_of o (cost_asked text alarms prices n) budget tells.answer (sym is ∙ tells.shown) tells.priced tells.put
+
+  pub priced_by : 3 ^ cost_variables (network_of text) (log_of alarms) n ≤ budget → o.status ≡ 11 → ⊥
+  priced_by enough is =
+      let tells = told o n budget text alarms prices ends asks (between o.status 11 is (omega arith) (omega arith)) in
+      small_of o (cost_asked text alarms prices n) budget tells.answer (sym is ∙ tells.shown) tells.priced enough

@@ -1,0 +1,124 @@
+-- The book that a question of costs leaves, as a whole.
+use Rattle.std.proofs.Common.{◌≡◌, ◌∙◌, ◌<◌, ◌≤◌, ◌+◌, ◌*◌, ◌^◌, ◌⊎◌, inl, inr, ℕ, Bool, true, false, List, [], ◌∷◌, ◌++◌, map, length, Option, refl, sym, ap, subst, arith, append-nil, append_assoc, Contains, ◌==◌, count_by}
+use Rattle.std.specs.Prelude.{All}
+use Rattle.std.specs.List.{AllByRecursion, list_any}
+use Rattle.std.proofs.Math.Nat.{pow-le-pow_right}
+use Rattle.std.proofs.lemmas.Bool.{eqb-true}
+use Rattle.std.proofs.lemmas.List.Elements.{All-nil, All-cons, All-head, All-tail, filter_map-append}
+use Rattle.std.proofs.lemmas.List.FromFn.{length-range_with_len, get_or-range_with_len}
+use Rattle.cost_least.proofs.Fitting.{first_few, inputs_below, inputs_counted}
+use Rattle.cost_least.proofs.SameCosts.{same_answered, same_parts}
+use Rattle.cost_least.specs.Weighed.{AreWeighedParts}
+use Rattle.cost_least.specs.declared.answer.Cheap.{Cheap}
+use Rattle.cost_least.specs.declared.answer.Cheap.TheVariants.{Undecided}
+use Rattle.cost_least.specs.declared.answer.Priced.{Priced}
+use Rattle.card_counter.specs.CounterState.{CounterState}
+use Rattle.des_base.proofs.Elements.{all_append, all_at}
+use Rattle.des_base.specs.Lists.{numbers_below}
+use Rattle.des_net.specs.Network.{Net}
+use Rattle.des_net.specs.QuestionSize.{fault_event_count}
+use Rattle.least_faults.proofs.Below.{axioms_below}
+use Rattle.least_faults.proofs.FreshCount.{fresh_below}
+use Rattle.least_faults.specs.Bounds.{question_variables}
+use Rattle.log_clauses.proofs.Fronts.{any_has}
+use Rattle.log_encode.specs.CodedLog.{CodedLog}
+use Rattle.log_order.specs.Log.{Log}
+use Rattle.proof_ledger.specs.Book.{BookEntry, axiomatic, mark, axiom_of, axioms_of}
+use Rattle.proof_ledger.specs.Fresh.{is_learnt, occurs}
+use Rattle.prop_core.specs.Clauses.{Clause, HasValues}
+use Rattle.prop_core.specs.Trail.{has_var}
+use Rattle.replay.specs.QuestionSize.{doubtful_count}
+use Rattle.run_decode.specs.QuestionAxioms.{question_axioms, question_built}
+use Rattle.step_encode.specs.Coded.{CodedSteps}
+use Rattle.weight_counter.proofs.Small.{scales_are_small}
+use Rattle.weight_counter.specs.Scales.{place_variable, scale_clauses}
+use Rattle.weight_counter.specs.declared.scale.Scale.{Scale}
+use Rattle.inquiries.specs.LeastCost.{CostAlike, HasCostQuestion, IsPricedBy, LeavesCosts, cost_variables}
+
+-- ---- with costs that the fault events have alike
+
+question_alike : (net : Net) (a b : ℕ → ℕ) (alike : CostAlike net a b) (log : Log) (n : ℕ) (book : List BookEntry) → HasCostQuestion net a log n book → HasCostQuestion net b log n book
+question_alike net a b alike log n book h = record {
+  belong = h.belong;
+  of_steps = h.of_steps;
+  vars = h.vars;
+  scale = h.scale;
+  weighed = same_parts net a b alike _ _ _ h.vars (axioms_of book) h.scale h.belong.of_steps h.weighed;
+}
+
+pub priced_alike : (net : Net) (a b : ℕ → ℕ) (alike : CostAlike net a b) (log : Log) (n budget : ℕ) (book : List BookEntry) (answer : Cheap) → IsPricedBy net a log n budget book answer → IsPricedBy net b log n budget book answer
+priced_alike net a b alike log n budget book answer h = record {
+  answered = same_answered net a b alike log n budget (map axiomatic (question_axioms net log n 0)) book answer h.answered;
+  question = question_alike net a b alike log n book h.question;
+  valid = h.valid;
+}
+
+pub leaves_alike : (net : Net) (a b : ℕ → ℕ) (alike : CostAlike net a b) (log : Log) (n : ℕ) (book : List BookEntry) → LeavesCosts net a log n book → LeavesCosts net b log n book
+leaves_alike net a b alike log n book (inl empty) = inl empty
+leaves_alike net a b alike log n book (inr h) = inr (question_alike net a b alike log n book h)
+
+-- ---- variables below a number
+
+more_values : (few more : ℕ) (clause : Clause) → few ≤ more → HasValues few clause → HasValues more clause
+more_values few more [] less all = All-nil (λ l. l.var < more)
+more_values few more (l ∷ clause) less all =
+    let first = All-head (λ m. m.var < few) l clause all in
+    All-cons (λ m. m.var < more) l clause (omega (arith, less, first)) (more_values few more clause less (All-tail (λ m. m.var < few) l clause all))
+
+more_below : (few more : ℕ) (clauses : List Clause) → few ≤ more → AllByRecursion (HasValues few) clauses → AllByRecursion (HasValues more) clauses
+more_below few more [] less all = tt
+more_below few more (clause ∷ clauses) less all = (more_values few more clause less all.0, more_below few more clauses less all.1)
+
+below_var : (count var : ℕ) (clause : Clause) → HasValues count clause → has_var var clause ≡ true → var < count
+below_var count var [] below there = cc
+below_var count var (l ∷ clause) below there = by (l.var == var) refl (below_var count var clause (All-tail (λ m. m.var < count) l clause below))
+  where
+    by : (b : Bool) → (l.var == var) ≡ b → (has_var var clause ≡ true → var < count) → var < count
+    by true e later = subst (λ v. v < count) (eqb-true l.var var e) (All-head (λ m. m.var < count) l clause below)
+    by false e later = later (rw e at there)
+
+among_numbers : (count var : ℕ) → var < count → Contains (numbers_below count) var
+among_numbers count var below = (var, omega (arith, length-range_with_len 0 count), omega (arith, get_or-range_with_len 0 count var var below))
+
+known_below : (count : ℕ) (clauses : List Clause) → AllByRecursion (HasValues count) clauses → (var : ℕ) → list_any (has_var var) clauses ≡ true → Contains (numbers_below count) var
+known_below count clauses below var there =
+    let some = any_has (has_var var) clauses there in
+    among_numbers count var (below_var count var some.0 (all_at (HasValues count) clauses some.0 below some.1) some.2)
+
+-- ---- those of a question of costs
+
+weighed_below : (cost : ℕ → ℕ) (steps : CodedSteps) (code : CodedLog) (counter : CounterState) (vars : ℕ) (axioms : List Clause) (scale : Scale) → AreWeighedParts cost steps code counter vars axioms scale → AllByRecursion (HasValues vars) axioms
+weighed_below cost steps code counter vars axioms scale h =
+    let vars_are = h.vars_are in
+    let own = more_below scale.first vars h.own (omega (arith, vars_are)) (axioms_below steps code counter scale.first h.own h.coded) in
+    let weighing = (scales_are_small scale h.inputs h.counted (inputs_below cost steps code counter scale.first h.own h.inputs h.coded h.weighted)).known in
+    let clauses = scale_clauses (place_variable scale) scale.amounts h.inputs in
+    subst (AllByRecursion (HasValues vars)) (sym h.whole) (all_append (HasValues vars) h.own clauses own (subst (λ v. AllByRecursion (HasValues v) clauses) (sym vars_are) weighing))
+
+few_variables : (net : Net) (cost : ℕ → ℕ) (log : Log) (n : ℕ) (book : List BookEntry) (h : HasCostQuestion net cost log n book) → h.vars ≤ cost_variables net log n
+few_variables net cost log n book h =
+    let w = h.weighed in
+    let built = question_built net log n 0 in
+    let count = inputs_counted net log cost built.steps built.code w.inputs h.belong w.weighted ∙ ap (λ k. k * fault_event_count net + doubtful_count log) h.of_steps in
+    let first = subst (λ k. h.scale.first ≤ question_variables net log k) h.of_steps (first_few net log built.steps built.code built.counter h.scale.first w.own h.belong w.coded) in
+    let places = w.vars_are ∙ ap (λ k. h.scale.first + k * h.scale.amounts) (w.counted ∙ count) ∙ ap (λ k. h.scale.first + (n * fault_event_count net + doubtful_count log) * k) w.amounts in
+    omega (arith, places, first)
+
+-- marks are no axioms
+marked_axioms : (old since : List BookEntry) → axioms_of (old ++ mark 0 ∷ since ++ mark 1 ∷ []) ≡ axioms_of ((old ++ mark 0 ∷ []) ++ since)
+marked_axioms old since =
+    filter_map-append axiom_of (old ++ mark 0 ∷ since) (mark 1 ∷ []) ∙ append-nil (axioms_of (old ++ mark 0 ∷ since)) ∙ ap axioms_of (sym (append_assoc old (mark 0 ∷ []) since))
+
+-- a budget that leaves it undecided is small
+pub unpriced_is_small : (net : Net) (cost : ℕ → ℕ) (log : Log) (n budget : ℕ) (book : List BookEntry) (lo : ℕ) (best : Option Priced) → IsPricedBy net cost log n budget book (Undecided lo best) → budget < 3 ^ cost_variables net log n
+unpriced_is_small net cost log n budget book lo best h =
+    let since = h.answered.since in
+    let old = map axiomatic (question_axioms net log n 0) in
+    let count = h.question.vars in
+    let same = ap axioms_of h.answered.whole ∙ marked_axioms old since in
+    let all = subst (AllByRecursion (HasValues count)) same (weighed_below cost _ _ _ count (axioms_of book) h.question.scale h.question.weighed) in
+    let known = λ (var : ℕ) (there : occurs var ((old ++ mark 0 ∷ []) ++ since) ≡ true). known_below count (axioms_of ((old ++ mark 0 ∷ []) ++ since)) all var there in
+    let small = fresh_below (numbers_below count) (old ++ mark 0 ∷ []) since (count_by is_learnt since) known h.answered.fresh in
+    let power = ap (λ k. 3 ^ k) (length-range_with_len 0 count) in
+    let most = pow-le-pow_right {n = 3} (omega arith) (few_variables net cost log n book h.question) in
+    omega (arith, small, power, most, h.answered.found.spent)
