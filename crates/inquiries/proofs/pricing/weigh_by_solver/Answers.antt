@@ -1,7 +1,9 @@
 -- The question is built into an empty book, and then weighed.
 use Rattle.std.proofs.Common.{◌∙◌, ℕ, IfOk, subst, sym}
 use Rattle.event_costs.specs.Prices.{cost_at}
+use Rattle.least_faults.proofs.AxiomLists.{front_adds}
 use Rattle.least_faults.specs.Building.{AreBuilt}
+use Rattle.run_decode.specs.QuestionAxioms.{question_axioms}
 use Rattle.inquiries.specs.LeastCost.{IsPricedBy, IsWithinCosts}
 use Rattle.inquiries.proofs.Diagnosing.{begins, ok_some}
 use Rattle.inquiries.proofs.Weighing.{within_question}
@@ -16,7 +18,8 @@ weigh_parts-requires-clause-begun g c =
     let log = c.args.case.now.log in
     let parts = c.in-Some.parts in
     let built = ok_some c.build.result (AreBuilt (goal.R-pre g) (goal.R-post g) net log c.args.steps c.args.solver c.build.new.book.entries) parts (sym c.in-Some.is ∙ c.ok.ensures.value) c.build.ensures.built in
-    begins (goal.R-pre g) (goal.R-post g) net log c.args.steps c.args.solver parts c.args.book.now.entries c.build.new.book.entries c.requires.limits.steps c.requires.empty c.build.ensures.axioms built
+    let adds = front_adds (question_axioms net log c.args.steps 0) c.args.book.now.entries c.build.new.book.entries c.requires.empty c.build.ensures.front in
+    begins (goal.R-pre g) (goal.R-post g) net log c.args.steps c.args.solver parts c.args.book.now.entries c.build.new.book.entries c.requires.limits.steps c.requires.empty adds built
 
 pub weigh_parts-requires-clause-limits : goal.weigh_parts-requires-clause-limits
 weigh_parts-requires-clause-limits g c =
