@@ -3,7 +3,7 @@ use Rattle.std.proofs.Common.{◌≡◌, ℕ, List, [], ◌∷◌, Option, Some,
 use Rattle.des_base.specs.CommandWords.{word_at}
 use Rattle.des_net.specs.Network.{Net}
 use Rattle.event_costs.specs.CostText.{cost_of}
-use Rattle.inquiries.specs.Begun.{LeavesQuestion}
+use Rattle.inquiries.specs.Begun.{HasAxiomsAlone, HasLearntWithin, LeavesQuestion}
 use Rattle.inquiries.specs.LeastCost.{LeavesCosts}
 use Rattle.gen_plant.specs.Plant.{plant_net, plant_log}
 use Rattle.log_csv.specs.LogText.{log_of}
@@ -22,12 +22,12 @@ pub told_bytes : (there : Option (List ℕ)) (bytes text : List ℕ) → there �
 told_bytes there bytes text is h = subst (λ (o : Option (List ℕ)). IfSome o (λ t. t ≡ bytes)) is h
 
 -- the bytes that are told are those that were read
-pub case_left : (held : List ℕ → Option (List ℕ)) (words : List (List ℕ)) (net : Net) (alarms : AlarmLog) (case : IsCase held words net alarms) (text rows : List ℕ) → AreTold held words 1 (text ∷ rows ∷ []) → (steps : ℕ) (book : List BookEntry)
-    → LeavesQuestion net alarms steps book → LeavesQuestion (network_of text) (log_of rows) steps book
-case_left held words net alarms case text rows told steps book left =
+pub case_left : (held : List ℕ → Option (List ℕ)) (words : List (List ℕ)) (net : Net) (alarms : AlarmLog) (case : IsCase held words net alarms) (text rows : List ℕ) → AreTold held words 1 (text ∷ rows ∷ []) → (steps : ℕ) (P : List BookEntry → Type 0) (book : List BookEntry)
+    → LeavesQuestion net alarms steps P book → LeavesQuestion (network_of text) (log_of rows) steps P book
+case_left held words net alarms case text rows told steps P book left =
     let first : net ≡ network_of text = case.net_is ∙ ap network_of (sym (told_bytes _ case.text text told.0 case.model_read.holds.told)) in
     let second : alarms ≡ log_of rows = case.second_is ∙ ap log_of (sym (told_bytes _ case.second rows told.1.0 case.second_read.holds.told)) in
-    subst (λ (a : AlarmLog). LeavesQuestion (network_of text) a steps book) second (subst (λ (n : Net). LeavesQuestion n alarms steps book) first left)
+    subst (λ (a : AlarmLog). LeavesQuestion (network_of text) a steps P book) second (subst (λ (n : Net). LeavesQuestion n alarms steps P book) first left)
 
 -- ---- command by command
 
@@ -36,26 +36,29 @@ module _ (held : List ℕ → Option (List ℕ)) (words : List (List ℕ)) (book
   abbrev pub LeftBy : Command → Type 0
   LeftBy c = (texts : List (List ℕ)) → AreTold held words 1 texts → Leaves c words texts book
 
-  module _ (steps : ℕ) (left : (text alarms : List ℕ) → AreTold held words 1 (text ∷ alarms ∷ []) → LeavesQuestion (network_of text) (log_of alarms) steps book) where
-    pub left_diagnose : (budget : ℕ) → LeftBy (Diagnose steps budget)
-    left_diagnose budget [] told = tt
-    left_diagnose budget (text ∷ []) told = tt
-    left_diagnose budget (text ∷ alarms ∷ []) told = left text alarms told
-    left_diagnose budget (text ∷ alarms ∷ more ∷ texts) told = tt
+  -- a question over a model and a log leaves the axioms, and beside them what P says
+  abbrev LeavesCase : ℕ → (List BookEntry → Type 0) → Type 0
+  LeavesCase steps P = (text alarms : List ℕ) → AreTold held words 1 (text ∷ alarms ∷ []) → LeavesQuestion (network_of text) (log_of alarms) steps P book
 
-    pub left_cnf : (bound : Option ℕ) → LeftBy (PrintCnf steps bound)
-    left_cnf bound [] told = tt
-    left_cnf bound (text ∷ []) told = tt
-    left_cnf bound (text ∷ alarms ∷ []) told = left text alarms told
-    left_cnf bound (text ∷ alarms ∷ more ∷ texts) told = tt
+  pub left_diagnose : (steps budget : ℕ) → LeavesCase steps (HasLearntWithin budget) → LeftBy (Diagnose steps budget)
+  left_diagnose steps budget left [] told = tt
+  left_diagnose steps budget left (text ∷ []) told = tt
+  left_diagnose steps budget left (text ∷ alarms ∷ []) told = left text alarms told
+  left_diagnose steps budget left (text ∷ alarms ∷ more ∷ texts) told = tt
 
-    pub left_proof : (budget : ℕ) → LeftBy (PrintProof steps budget)
-    left_proof budget [] told = tt
-    left_proof budget (text ∷ []) told = tt
-    left_proof budget (text ∷ alarms ∷ []) told = left text alarms told
-    left_proof budget (text ∷ alarms ∷ more ∷ texts) told = tt
+  pub left_cnf : (steps : ℕ) (bound : Option ℕ) → LeavesCase steps HasAxiomsAlone → LeftBy (PrintCnf steps bound)
+  left_cnf steps bound left [] told = tt
+  left_cnf steps bound left (text ∷ []) told = tt
+  left_cnf steps bound left (text ∷ alarms ∷ []) told = left text alarms told
+  left_cnf steps bound left (text ∷ alarms ∷ more ∷ texts) told = tt
 
-  pub left_bench : (units start steps budget : ℕ) → LeavesQuestion (plant_net units) (plant_log units start) steps book → LeftBy (Bench units start steps budget)
+  pub left_proof : (steps budget : ℕ) → LeavesCase steps (HasLearntWithin budget) → LeftBy (PrintProof steps budget)
+  left_proof steps budget left [] told = tt
+  left_proof steps budget left (text ∷ []) told = tt
+  left_proof steps budget left (text ∷ alarms ∷ []) told = left text alarms told
+  left_proof steps budget left (text ∷ alarms ∷ more ∷ texts) told = tt
+
+  pub left_bench : (units start steps budget : ℕ) → LeavesQuestion (plant_net units) (plant_log units start) steps (HasLearntWithin budget) book → LeftBy (Bench units start steps budget)
   left_bench units start steps budget left [] told = left
   left_bench units start steps budget left (text ∷ texts) told = tt
 

@@ -7,7 +7,7 @@ use Rattle.des_base.specs.Outside.{Took}
 use Rattle.des_net.specs.Network.{Net}
 use Rattle.event_costs.specs.CostText.{cost_of}
 use Rattle.gen_plant.specs.Plant.{plant_net, plant_log}
-use Rattle.inquiries.specs.Begun.{LeavesQuestion}
+use Rattle.inquiries.specs.Begun.{HasAxiomsAlone, HasLearntWithin, LeavesQuestion}
 use Rattle.inquiries.specs.LeastCost.{LeavesCosts}
 use Rattle.least_faults.specs.Answers.{asked_last, HasConflict, IsExplanation}
 use Rattle.least_faults.specs.declared.answer.Best.{Best}
@@ -163,12 +163,12 @@ pub record DiagnoseRows (o : Outcome) : Type 0 where
 
 -- ---- what is left in the book
 
--- of a command that asks one question: nothing, or a book whose axioms are those of the question by its words and over the bytes of its files
+-- Of a command that asks one question: nothing, or a book whose axioms are those of the question by its words and over the bytes of its files. No more was learnt than its budget says, and by `cnf` nothing.
 abbrev pub Leaves : Command → List (List ℕ) → List (List ℕ) → List BookEntry → Type 0
-Leaves (Diagnose steps budget) words (text ∷ alarms ∷ []) book = LeavesQuestion (network_of text) (log_of alarms) steps book
-Leaves (PrintCnf steps bound) words (text ∷ alarms ∷ []) book = LeavesQuestion (network_of text) (log_of alarms) steps book
-Leaves (PrintProof steps budget) words (text ∷ alarms ∷ []) book = LeavesQuestion (network_of text) (log_of alarms) steps book
-Leaves (Bench units start steps budget) words [] book = LeavesQuestion (plant_net units) (plant_log units start) steps book
+Leaves (Diagnose steps budget) words (text ∷ alarms ∷ []) book = LeavesQuestion (network_of text) (log_of alarms) steps (HasLearntWithin budget) book
+Leaves (PrintCnf steps bound) words (text ∷ alarms ∷ []) book = LeavesQuestion (network_of text) (log_of alarms) steps HasAxiomsAlone book
+Leaves (PrintProof steps budget) words (text ∷ alarms ∷ []) book = LeavesQuestion (network_of text) (log_of alarms) steps (HasLearntWithin budget) book
+Leaves (Bench units start steps budget) words [] book = LeavesQuestion (plant_net units) (plant_log units start) steps (HasLearntWithin budget) book
 Leaves (Twin steps after budget) words (text ∷ []) book = LeavesOfWord (network_of text) (word_at words 2) steps after book
 Leaves (Cheapest steps budget) words (text ∷ alarms ∷ prices ∷ []) book = LeavesCosts (network_of text) (cost_of (network_of text) prices) (log_of alarms) steps book
 Leaves _ _ _ book = ⊤

@@ -70,7 +70,7 @@ pub fn ask_case<F: Shelf, Q: Replying>(
     requires empty { book.old.entries ≡ [] }
     ensures due { UnlessMemory result (Answers (loads F.held F.faults shelf.old shelf.new) words.now (Q.command inquiry.now steps) book.new.entries (once result)) }
     ensures stopped { IfErr result (λ stop. stop ≢ Stop.Memory → book.new ≡ book.old) }
-    ensures left { (text alarms : List ℕ) → AreTold (F.held shelf.old) words.now 1 (text ∷ alarms ∷ []) → LeavesQuestion (network_of text) (log_of alarms) steps book.new.entries }
+    ensures left { (text alarms : List ℕ) → AreTold (F.held shelf.old) words.now 1 (text ∷ alarms ∷ []) → LeavesQuestion (network_of text) (log_of alarms) steps (Q.leaves inquiry.now) book.new.entries }
 {
     let case = fetch_case(alloc, words, shelf)?;
     ask(alloc, &case, steps, inquiry, book)
@@ -88,7 +88,7 @@ fn ask<Q: Replying>(
     requires empty { book.old.entries ≡ [] }
     ensures due { (words : List (List ℕ)) (text alarms : List ℕ) → case.now.net ≡ network_of text → case.now.log ≡ log_of alarms → UnlessMemory result (Closes (Q.command inquiry.now steps) words book.new.entries (text ∷ alarms ∷ []) (once result)) }
     ensures stopped { IfErr result (λ stop. stop ≢ Stop.Memory → book.new ≡ book.old) }
-    ensures left { LeavesQuestion case.now.net case.now.log steps book.new.entries }
+    ensures left { LeavesQuestion case.now.net case.now.log steps (Q.leaves inquiry.now) book.new.entries }
 {
     let size = question_size(&case.net, &case.log, steps);
     if size > MOST_SIZE {
@@ -108,7 +108,7 @@ pub fn reply_to<Q: Replying>(
     requires limits { IsWithinLimits case.now.net case.now.log steps }
     requires empty { book.old.entries ≡ [] }
     ensures replies { IfOk result (Q.replies inquiry.now steps case.now.net case.now.log book.new.entries) }
-    ensures left { LeavesQuestion case.now.net case.now.log steps book.new.entries }
+    ensures left { LeavesQuestion case.now.net case.now.log steps (Q.leaves inquiry.now) book.new.entries }
 {
     let answer = pose(alloc, case, steps, inquiry, book)?;
     inquiry.reply(alloc, case, steps, answer, book)

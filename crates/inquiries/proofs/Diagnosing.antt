@@ -1,22 +1,26 @@
 -- A question that is built into an empty book, what is found then, and what is left of it.
-use Rattle.std.proofs.Common.{◌≡◌, ◌≤◌, ℕ, List, [], ◌++◌, length, map, Some, Result, Ok, Err, IfOk, ap, ◌∙◌, subst, sym}
+use Rattle.std.proofs.Common.{◌≡◌, ◌≤◌, ℕ, List, [], ◌++◌, length, map, Some, Result, Ok, Err, IfOk, ap, arith, count_by, ◌∙◌, subst, sym}
 use Rattle.std.specs.Result.{result_ok}
 use Rattle.des_base.specs.declared.TheConstants.{MOST_STEPS}
 use Rattle.des_net.specs.Network.{Net}
-use Rattle.least_faults.proofs.AxiomLists.{axioms_added}
+use Rattle.least_faults.proofs.AxiomLists.{adds_both, axioms_added}
+use Rattle.least_faults.proofs.Putting.{none_learnt}
 use Rattle.least_faults.specs.declared.answer.Found.{Found}
 use Rattle.least_faults.specs.declared.parts.Parts.{Parts}
 use Rattle.least_faults.specs.Answers.{IsAnswered}
 use Rattle.least_faults.proofs.Staying.{built_still}
 use Rattle.least_faults.specs.Building.{AreBuilt}
-use Rattle.least_faults.specs.Growing.{AddsAxioms, KeepsQuestion}
+use Rattle.least_faults.specs.Growing.{AddsAxioms, HasGrownWithin, KeepsQuestion}
 use Rattle.least_faults.specs.Parts.{IsBuilt, built_of, names_of}
 use Rattle.log_order.specs.Log.{Log}
 use Rattle.proof_ledger.specs.Book.{BookEntry, axiomatic, axioms_of, IsValidBook}
+use Rattle.proof_ledger.specs.Fresh.{is_learnt}
+use Rattle.prop_core.specs.Clauses.{Clause}
 use Rattle.prop_core.specs.VariableNames.{Name}
+use Rattle.run_decode.proofs.Faults.{count_append}
 use Rattle.run_decode.specs.QuestionAxioms.{BuiltQuestion, question_axioms, question_built}
 use Rattle.sat_solve.specs.Solving.{SolverState}
-use Rattle.inquiries.specs.Begun.{HasBegun, HasQuestion}
+use Rattle.inquiries.specs.Begun.{HasAxiomsAlone, HasBegun, HasLearntWithin, HasQuestion}
 use Rattle.inquiries.specs.Diagnosed.{IsDiagnosed}
 
 -- what is built is what was answered
@@ -52,6 +56,10 @@ diagnosed_by names first net log n steps budget parts built new found is_first b
   valid = valid;
 }
 
+-- a book that got axioms alone has nothing else
+pub axioms_alone : (book : List BookEntry) → AddsAxioms [] book → book ≡ map axiomatic (axioms_of book)
+axioms_alone book adds = adds.more ∙ ap (λ (cs : List Clause). map axiomatic cs) (sym (ap axioms_of adds.more ∙ axioms_added [] adds.axioms))
+
 -- ---- from the one to the other
 
 -- what is built into an empty book is a question of which nothing has been asked
@@ -78,8 +86,21 @@ module _ {R : Type 0} (may : R → ℕ → Type 0) (gives : R → ℕ → ℕ �
   first_built = question_begins net log parts.step.steps parts old begun.columns begun.built
 
   -- and so are the axioms of the book
-  pub question_left : HasQuestion net log parts.step.steps book
-  question_left = record { columns = length later.counter.columns; axioms = ap (λ (q : BuiltQuestion). q.axioms) stays_built.determined }
+  pub question_left : (P : List BookEntry → Type 0) → P book → HasQuestion net log parts.step.steps P book
+  question_left P beside = record { columns = length later.counter.columns; axioms = ap (λ (q : BuiltQuestion). q.axioms) stays_built.determined; beside = beside }
+
+  -- with what a search learnt, or with further axioms alone
+  pub search_left : (budget : ℕ) → HasGrownWithin budget old book → IsValidBook book → HasQuestion net log parts.step.steps (HasLearntWithin budget) book
+  search_left budget grown valid = question_left (HasLearntWithin budget) (record {
+    within = (let none = ap (count_by is_learnt) begun.axioms ∙ none_learnt (question_axioms net log parts.step.steps 0) in
+        let all = ap (count_by is_learnt) grown.whole ∙ count_append is_learnt old grown.since in
+        let few = grown.within in
+        omega (arith, none, all, few));
+    valid = valid;
+  })
+
+  pub axioms_left : AddsAxioms old book → HasQuestion net log parts.step.steps HasAxiomsAlone book
+  axioms_left adds = question_left HasAxiomsAlone (axioms_alone book (adds_both [] old book (record { axioms = question_axioms net log parts.step.steps 0; more = begun.axioms }) adds))
 
   pub diagnosed_begun : (budget : ℕ) (found : Found) → IsValidBook book → IsAnswered (names_of later) (built_of parts old) net log later.step.steps budget old book found → IsDiagnosed net log parts.step.steps budget book found
   diagnosed_begun budget found valid answered =

@@ -35,6 +35,7 @@ use Rattle.run_decode.specs.Question.{Asks, HasColumn}
 use Rattle.run_decode.specs.QuestionAxioms.{BuiltQuestion, question_built}
 use Rattle.run_decode.specs.WholeNaming.{whole_names}
 use Rattle.step_encode.specs.Coded.{CodedSteps}
+use Rattle.inquiries.proofs.Diagnosing.{axioms_alone}
 use Rattle.inquiries.specs.Formula.{IsFormulaOf, IsSatisfiable, bound_within, counted_bound, question_assumed, question_formula, question_within}
 
 -- ---- what makes it true
@@ -132,9 +133,6 @@ module _ (steps : CodedSteps) (code : CodedLog) (counter : CounterState) (vars :
 
 axioms_are_clauses : (book : List BookEntry) → AddsAxioms [] book → clauses_of book ≡ axioms_of book
 axioms_are_clauses book adds = ap clauses_of adds.more ∙ clauses_added [] adds.axioms ∙ sym (ap axioms_of adds.more ∙ axioms_added [] adds.axioms)
-
-axioms_alone : (book : List BookEntry) → AddsAxioms [] book → book ≡ map axiomatic (axioms_of book)
-axioms_alone book adds = adds.more ∙ ap (λ (cs : List Clause). map axiomatic cs) (sym (ap axioms_of adds.more ∙ axioms_added [] adds.axioms))
 
 -- ---- all of it
 

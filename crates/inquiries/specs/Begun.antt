@@ -1,11 +1,12 @@
 -- A question that is written into a book, before anything is asked of it, and what stays of it whatever is asked.
-use Rattle.std.specs.Prelude.{◌≡◌, ◌⊎◌, ◌≤◌, ℕ, List, [], map}
+use Rattle.std.specs.Prelude.{◌≡◌, ◌⊎◌, ◌≤◌, ℕ, List, [], map, count_by}
 use Rattle.des_base.specs.declared.TheConstants.{MOST_STEPS}
 use Rattle.des_net.specs.Network.{Net}
 use Rattle.least_faults.specs.declared.parts.Parts.{Parts}
 use Rattle.least_faults.specs.Parts.{AreReady, BelongTo, IsBuilt}
 use Rattle.log_order.specs.Log.{Log}
-use Rattle.proof_ledger.specs.Book.{BookEntry, axiomatic, axioms_of}
+use Rattle.proof_ledger.specs.Book.{BookEntry, axiomatic, axioms_of, IsValidBook}
+use Rattle.proof_ledger.specs.Fresh.{is_learnt}
 use Rattle.run_decode.specs.QuestionAxioms.{question_axioms}
 
 -- The book has the axioms of the question without columns, and nothing else. The parts are theirs, and belong to network and log.
@@ -17,11 +18,23 @@ pub record HasBegun {R : Type 0} (may : R → ℕ → Type 0) (gives : R → ℕ
   pub columns : parts.counter.columns ≡ []
   pub few : parts.step.steps ≤ MOST_STEPS
 
--- the axioms of the book are those of the question with some number of columns, in their order
-pub record HasQuestion (net : Net) (log : Log) (n : ℕ) (book : List BookEntry) : Type 0 where
+-- ---- what is left
+
+-- The axioms of the book are those of the question with some number of columns, in their order, and P holds of the book.
+pub record HasQuestion (net : Net) (log : Log) (n : ℕ) (P : List BookEntry → Type 0) (book : List BookEntry) : Type 0 where
   pub columns : ℕ
   pub axioms : axioms_of book ≡ question_axioms net log n columns
+  pub beside : P book
 
--- The book is empty, or its axioms are those of the question.
-abbrev pub LeavesQuestion : Net → Log → ℕ → List BookEntry → Type 0
-LeavesQuestion net log n book = (book ≡ []) ⊎ HasQuestion net log n book
+-- the book is empty, or a question stands in it so
+abbrev pub LeavesQuestion : Net → Log → ℕ → (List BookEntry → Type 0) → List BookEntry → Type 0
+LeavesQuestion net log n P book = (book ≡ []) ⊎ HasQuestion net log n P book
+
+-- the book has axioms and nothing else
+abbrev pub HasAxiomsAlone : List BookEntry → Type 0
+HasAxiomsAlone book = book ≡ map axiomatic (axioms_of book)
+
+-- at most as many clauses were learnt as the budget says, and each derives by its hints from those before it
+pub record HasLearntWithin (budget : ℕ) (book : List BookEntry) : Type 0 where
+  pub within : count_by is_learnt book ≤ budget
+  pub valid : IsValidBook book

@@ -1,5 +1,6 @@
 // A question as a formula: its axioms, and a unit clause for each assumption.
 ghost use Rattle.std.specs.Prelude.{◌≡◌, ◌++◌, IfOk, IfSome};
+ghost use Rattle.inquiries.specs.Begun.{HasAxiomsAlone};
 ghost use Rattle.inquiries.specs.Formula.{IsFormulaOf, counted_bound};
 ghost use Rattle.least_faults.specs.Asking.{IsBoundable};
 ghost use Rattle.proof_ledger.specs.Book.{clauses_of};
@@ -25,6 +26,8 @@ impl Inquiry for FormulaWithin {
     type Answer = Cnf;
 
     ghost says = { λ s net log n book cnf. IsFormulaOf net log n s.bound book (formula cnf.vars cnf.clauses.clauses) };
+
+    ghost leaves = { λ s book. HasAxiomsAlone book };
 
     fn ask<R: Fn(u32) -> u64>(
         &self,

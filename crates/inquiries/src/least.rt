@@ -1,4 +1,5 @@
 // The least number of faults, as an inquiry.
+ghost use Rattle.inquiries.specs.Begun.{HasLearntWithin};
 ghost use Rattle.inquiries.specs.Diagnosed.{IsDiagnosed};
 
 use crate::question::{Case, Inquiry, is_valid};
@@ -17,6 +18,8 @@ impl Inquiry for LeastFaults {
     type Answer = Found;
 
     ghost says = { λ s net log n book found. IsDiagnosed net log n s.budget book found };
+
+    ghost leaves = { λ s book. HasLearntWithin s.budget book };
 
     fn ask<R: Fn(u32) -> u64>(
         &self,

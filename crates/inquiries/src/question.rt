@@ -33,7 +33,10 @@ pub trait Inquiry {
 
     ghost says: { Self → Net → Log → ℕ → List BookEntry → Self.Answer → Type 0 };
 
-    /// Asks it. The book has the axioms of the question alone, and the parts are theirs.
+    ghost leaves: { Self → List BookEntry → Type 0 };
+
+    /// Asks it. The book has the axioms of the question alone, and the parts are theirs. What is left in it is said of want of
+    /// memory too.
     fn ask<R: Fn(u32) -> u64>(
         &self,
         alloc: Global,
@@ -43,7 +46,7 @@ pub trait Inquiry {
     ) -> Result<Self::Answer, Memory>
         requires begun { HasBegun R.pre R.post case.now.net case.now.log parts.old book.old.entries }
         ensures says { IfOk result (says self.now case.now.net case.now.log parts.old.step.steps book.new.entries) }
-        ensures left { HasQuestion case.now.net case.now.log parts.old.step.steps book.new.entries };
+        ensures left { HasQuestion case.now.net case.now.log parts.old.step.steps (leaves self.now) book.new.entries };
 }
 
 /// Writes the question which runs within so many parallel steps explain the log into an empty book, and makes the inquiry.
@@ -60,7 +63,7 @@ pub fn pose<Q: Inquiry>(
     requires limits { IsWithinLimits case.now.net case.now.log steps }
     requires empty { book.old.entries ≡ [] }
     ensures says { IfOk result (Q.says inquiry.now case.now.net case.now.log steps book.new.entries) }
-    ensures left { LeavesQuestion case.now.net case.now.log steps book.new.entries }
+    ensures left { LeavesQuestion case.now.net case.now.log steps (Q.leaves inquiry.now) book.new.entries }
 {
     let table = Table::new(alloc, &case.net)?;
     let test = Indep::new(&case.net, |a: u32, b: u32| {
@@ -84,7 +87,7 @@ fn pose_by_test<T: Fn(u32, u32) -> bool, Q: Inquiry>(
     requires limits { IsWithinLimits case.now.net case.now.log steps }
     requires empty { book.old.entries ≡ [] }
     ensures says { IfOk result (Q.says inquiry.now case.now.net case.now.log steps book.new.entries) }
-    ensures left { LeavesQuestion case.now.net case.now.log steps book.new.entries }
+    ensures left { LeavesQuestion case.now.net case.now.log steps (Q.leaves inquiry.now) book.new.entries }
 {
     let first = step_variables(alloc, &case.net, steps, test)?;
     let order = Order::new(alloc, |var: u32| u64::from(var >= first));
@@ -108,7 +111,7 @@ fn pose_by_solver<T: Fn(u32, u32) -> bool, R: Fn(u32) -> u64, Q: Inquiry>(
     requires limits { IsWithinLimits case.now.net case.now.log steps }
     requires empty { book.old.entries ≡ [] }
     ensures says { IfOk result (Q.says inquiry.now case.now.net case.now.log steps book.new.entries) }
-    ensures left { LeavesQuestion case.now.net case.now.log steps book.new.entries }
+    ensures left { LeavesQuestion case.now.net case.now.log steps (Q.leaves inquiry.now) book.new.entries }
 {
     match build(alloc, &case.net, &case.log, steps, test, solver, book).ok() {
         Some(parts) => {

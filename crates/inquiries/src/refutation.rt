@@ -1,5 +1,6 @@
 // The refutation of the bound below the least number of faults, as an inquiry.
 ghost use Rattle.std.specs.Prelude.{◌≡◌, ◌≤◌, ℕ, suc, Some, IfOk};
+ghost use Rattle.inquiries.specs.Begun.{HasLearntWithin};
 ghost use Rattle.inquiries.specs.Refuted.{HasEvidence, HasEvidenceFor, IsRefutedBelow, IsRefutedFor, IsRefutedWithin, IsRefuting};
 ghost use Rattle.least_faults.specs.Parts.{AreReady, BelongTo, IsBuilt};
 
@@ -33,6 +34,8 @@ impl Inquiry for Refutation {
 
     ghost says = { λ s net log n book refuted. IsRefuting net log n s.budget book refuted };
 
+    ghost leaves = { λ s book. HasLearntWithin s.budget book };
+
     fn ask<R: Fn(u32) -> u64>(
         &self,
         alloc: Global,
@@ -40,9 +43,9 @@ impl Inquiry for Refutation {
         parts: &mut Parts<R>,
         book: &mut Ledger,
     ) -> Result<Refuted, Memory> {
-        let found = least(alloc, &case.net, &case.log, parts, book, self.budget)?;
+        let found = least(alloc, &case.net, &case.log, parts, book, self.budget);
         is_valid(book);
-        refuted_for(alloc, case, parts, book, found)
+        refuted_for(alloc, case, parts, book, found?)
     }
 }
 

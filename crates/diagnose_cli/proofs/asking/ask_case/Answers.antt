@@ -35,4 +35,4 @@ returns-in_err-case-clause-left g c text alarms told = inl c.requires.empty
 
 pub returns-clause-left : goal.returns-clause-left
 returns-clause-left g c text alarms told =
-    case_left (g.F.Shelf.held c.args.shelf.now) c.args.words.now c.in_ok-case.case.net c.in_ok-case.case.log c.in_ok-case.ensures.read text alarms told c.args.steps c.ask.new.book.entries c.ask.ensures.left
+    case_left (g.F.Shelf.held c.args.shelf.now) c.args.words.now c.in_ok-case.case.net c.in_ok-case.case.log c.in_ok-case.ensures.read text alarms told c.args.steps (g.Q.Inquiry.leaves c.args.inquiry.now) c.ask.new.book.entries c.ask.ensures.left

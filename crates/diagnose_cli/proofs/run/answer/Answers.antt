@@ -77,19 +77,19 @@ pub returns-in-Diagnose-clause-left : goal.returns-in-Diagnose-clause-left
 returns-in-Diagnose-clause-left g c =
     let held = g.F.Shelf.held c.args.shelf.now in
     let book = c.ask_case.new.book.entries in
-    left_so held c.args.words.now book (Diagnose c.in-Diagnose.steps c.in-Diagnose.budget) c.args.command c.in-Diagnose.is (left_diagnose held c.args.words.now book c.in-Diagnose.steps c.ask_case.ensures.left c.in-Diagnose.budget)
+    left_so held c.args.words.now book (Diagnose c.in-Diagnose.steps c.in-Diagnose.budget) c.args.command c.in-Diagnose.is (left_diagnose held c.args.words.now book c.in-Diagnose.steps c.in-Diagnose.budget c.ask_case.ensures.left)
 
 pub returns-in-PrintCnf-clause-left : goal.returns-in-PrintCnf-clause-left
 returns-in-PrintCnf-clause-left g c =
     let held = g.F.Shelf.held c.args.shelf.now in
     let book = c.ask_case-in-PrintCnf.new.book.entries in
-    left_so held c.args.words.now book (PrintCnf c.in-PrintCnf.steps c.in-PrintCnf.bound) c.args.command c.in-PrintCnf.is (left_cnf held c.args.words.now book c.in-PrintCnf.steps c.ask_case-in-PrintCnf.ensures.left c.in-PrintCnf.bound)
+    left_so held c.args.words.now book (PrintCnf c.in-PrintCnf.steps c.in-PrintCnf.bound) c.args.command c.in-PrintCnf.is (left_cnf held c.args.words.now book c.in-PrintCnf.steps c.in-PrintCnf.bound c.ask_case-in-PrintCnf.ensures.left)
 
 pub returns-in-PrintProof-clause-left : goal.returns-in-PrintProof-clause-left
 returns-in-PrintProof-clause-left g c =
     let held = g.F.Shelf.held c.args.shelf.now in
     let book = c.ask_case-in-PrintProof.new.book.entries in
-    left_so held c.args.words.now book (PrintProof c.in-PrintProof.steps c.in-PrintProof.budget) c.args.command c.in-PrintProof.is (left_proof held c.args.words.now book c.in-PrintProof.steps c.ask_case-in-PrintProof.ensures.left c.in-PrintProof.budget)
+    left_so held c.args.words.now book (PrintProof c.in-PrintProof.steps c.in-PrintProof.budget) c.args.command c.in-PrintProof.is (left_proof held c.args.words.now book c.in-PrintProof.steps c.in-PrintProof.budget c.ask_case-in-PrintProof.ensures.left)
 
 pub returns-in-Bench-clause-left : goal.returns-in-Bench-clause-left
 returns-in-Bench-clause-left g c =

@@ -32,7 +32,7 @@ returns-in-Some-clause-left g c =
     let log = c.args.case.now.log in
     let parts = c.in-Some.parts in
     let built = ok_some c.build.result (AreBuilt (goal.R-pre g) (goal.R-post g) net log c.args.steps c.args.solver c.build.new.book.entries) parts (sym c.in-Some.is ∙ c.ok.ensures.value) c.build.ensures.built in
-    inr (subst (λ (n : ℕ). HasQuestion net log n c.ask.new.book.entries) built.steps c.ask.ensures.left)
+    inr (subst (λ (n : ℕ). HasQuestion net log n (g.Q.Inquiry.leaves c.args.inquiry.now) c.ask.new.book.entries) built.steps c.ask.ensures.left)
 
 pub returns-in-None-clause-left : goal.returns-in-None-clause-left
 returns-in-None-clause-left g c = inl (ap (λ (b : _). b.entries) c.new.ensures)

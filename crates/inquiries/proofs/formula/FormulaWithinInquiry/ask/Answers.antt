@@ -8,17 +8,17 @@ use Rattle.proof_text.specs.declared.cnf.Cnf.{Cnf}
 use Rattle.prop_core.specs.declared.lit.Lit.{Lit}
 use Rattle.run_decode.specs.QuestionAxioms.{question_axioms}
 use Rattle.inquiries.specs.Formula.{IsFormulaOf}
-use Rattle.inquiries.proofs.Diagnosing.{question_left}
+use Rattle.inquiries.proofs.Diagnosing.{axioms_left}
 use Rattle.inquiries.proofs.Formulas.{IsAsked, is_formula}
 use Rattle.inquiries.proofs.formula.FormulaWithinInquiry.ask.Goals as goal
 
 pub returns-in_err-assumed-clause-left : goal.returns-in_err-assumed-clause-left
 returns-in_err-assumed-clause-left g c =
-    question_left (goal.R-pre g) (goal.R-post g) c.args.case.now.net c.args.case.now.log c.args.parts.now c.assumptions.new.parts c.args.book.now.entries c.assumptions.new.book.entries c.requires.begun c.assumptions.ensures.kept
+    axioms_left (goal.R-pre g) (goal.R-post g) c.args.case.now.net c.args.case.now.log c.args.parts.now c.assumptions.new.parts c.args.book.now.entries c.assumptions.new.book.entries c.requires.begun c.assumptions.ensures.kept c.assumptions.ensures.axioms
 
 pub returns-clause-left : goal.returns-clause-left
 returns-clause-left g c =
-    question_left (goal.R-pre g) (goal.R-post g) c.args.case.now.net c.args.case.now.log c.args.parts.now c.assumptions.new.parts c.args.book.now.entries c.assumptions.new.book.entries c.requires.begun c.assumptions.ensures.kept
+    axioms_left (goal.R-pre g) (goal.R-post g) c.args.case.now.net c.args.case.now.log c.args.parts.now c.assumptions.new.parts c.args.book.now.entries c.assumptions.new.book.entries c.requires.begun c.assumptions.ensures.kept c.assumptions.ensures.axioms
 
 pub returns-clause-says : goal.returns-clause-says
 returns-clause-says g c =

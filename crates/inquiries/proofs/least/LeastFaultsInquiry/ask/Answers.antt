@@ -3,7 +3,7 @@ use Rattle.least_faults.proofs.Closing.{ok_weaker}
 use Rattle.least_faults.specs.Answers.{IsAnswered}
 use Rattle.least_faults.specs.Parts.{built_of, names_of}
 use Rattle.inquiries.specs.Diagnosed.{IsDiagnosed}
-use Rattle.inquiries.proofs.Diagnosing.{diagnosed_begun, question_left}
+use Rattle.inquiries.proofs.Diagnosing.{diagnosed_begun, search_left}
 use Rattle.inquiries.proofs.least.LeastFaultsInquiry.ask.Goals as goal
 
 pub returns-clause-says : goal.returns-clause-says
@@ -20,4 +20,4 @@ returns-clause-says g c =
 
 pub returns-clause-left : goal.returns-clause-left
 returns-clause-left g c =
-    question_left (goal.R-pre g) (goal.R-post g) c.args.case.now.net c.args.case.now.log c.args.parts.now c.least-found.new.parts c.args.book.now.entries c.least-found.new.book.entries c.requires.begun c.least-found.ensures.kept
+    search_left (goal.R-pre g) (goal.R-post g) c.args.case.now.net c.args.case.now.log c.args.parts.now c.least-found.new.parts c.args.book.now.entries c.least-found.new.book.entries c.requires.begun c.least-found.ensures.kept c.args.self.now.budget c.least-found.ensures.grown c.is_valid.ensures
