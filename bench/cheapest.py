@@ -1,11 +1,13 @@
-"""Times `cheapest` as steps, alarms and costs grow, and prints a table: plant, steps, costs, size, seconds, memory, answer.
+"""Times `cheapest` beside `diagnose`, and prints a table: plant, steps, what is asked, size, variables, seconds, memory, answer.
 
     python3 bench/cheapest.py PROGRAM
 
 PROGRAM is the program as `rt run` builds it, crates/diagnose_cli/out/diagnose_cli. It's no part of the gate.
 
 The plant is a bus and Z units as `generate` makes it, with its log; so each unit that trips has jammed, and the least total is the sum of
-their costs. Jams cost 1, or a number from 1 to the greatest cost, by their number. The size is that of docs/formats.md, counted here.
+their costs. Jams cost 1, or from 1 to the greatest cost, by their number. The size is that of docs/formats.md, counted here. The variables
+of `diagnose` are those of the formula that `cnf` prints for its answer. A question of costs has those of the formula for any number of
+faults, and 1,001 for each fault event in each step.
 """
 import os
 import sys
@@ -18,47 +20,59 @@ BUDGET = 1_000_000
 SECONDS = 200
 
 
-def generated(program, kind, units):
-    _, _, status, text = timed(program, "generate", kind, str(units), str(START))
+def answered(program, *words):
+    """What the program prints, which must not be a mistake."""
+    _, _, status, text = timed(program, *words)
     if status != 0:
-        sys.exit(f"generate {kind} {units} {START} ended with status {status}")
-    return text.split("\n") if text else []
+        sys.exit(f"{' '.join(words)} ended with status {status}")
+    return text
 
 
 def costs(units, most):
-    """Each jam its cost: 1, and on by 7 modulo the greatest."""
-    return ["costs 1"] + [f"cost jam-{unit} {1 + 7 * unit % most}" for unit in range(1, units + 1)]
+    """Each jam its cost: 1 or more, up to the greatest."""
+    return "\n".join(["costs 1"] + [f"cost jam-{unit} {1 + 377 * unit % most}" for unit in range(1, units + 1)])
 
 
 def size(units, trips, steps):
     """By components, alarms, pairs and faults."""
     sides = (1 + units) ** 2 + units * 36
-    return steps * (sides + 2 * trips + max(0, trips - 1)) + 256 * steps * units + 1000 * steps * units
+    return steps * (sides + 2 * trips + max(0, trips - 1)) + 256 * steps * units
 
 
-def questions():
-    """Units, steps behind the number of trips, and the greatest cost."""
-    for units in [4, 12, 20, 40]:
-        for more in [1, 3]:
-            for most in [1, 10, 100, 1000]:
-                yield units, more, most
+def variables(program, model, log, steps, bound):
+    return int(answered(program, "cnf", model, log, str(steps), bound).split(maxsplit=3)[2])
+
+
+def written(folder, name, text):
+    path = os.path.join(folder, name)
+    with open(path, "w", encoding="ascii") as f:
+        f.write(text + "\n" if text else "")
+    return path
+
+
+def rows(program, folder, units, more):
+    """What is asked, the words, the size and the variables of each question about a plant."""
+    model = written(folder, "model.des", answered(program, "generate", "model", str(units), str(START)))
+    text = answered(program, "generate", "log", str(units), str(START))
+    log, trips = written(folder, "log.csv", text), text.count("alarm,")
+    steps = trips + more
+    whole = size(units, trips, steps)
+    yield steps, "faults", ["diagnose", model, log], whole, variables(program, model, log, steps, str(trips))
+    for most in [1, 10, 1000]:
+        path = written(folder, f"{most}.costs", costs(units, most))
+        asked = "costs of 1" if most == 1 else f"costs of 1 to {most:,}"
+        yield steps, asked, ["cheapest", model, log, path], whole + 1000 * steps * units, variables(program, model, log, steps, "any") + 1001 * steps * units
 
 
 def main(program, folder):
-    print("| Plant | Steps | Costs up to | Size | Seconds | Memory MiB | Answer |")
-    print("|---|---|---|---|---|---|---|")
-    files = [os.path.join(folder, name) for name in ["model.des", "log.csv", "plant.costs"]]
-    for units, more, most in questions():
-        model, log = generated(program, "model", units), generated(program, "log", units)
-        trips = sum(line.startswith("alarm,") for line in log)
-        for file, lines in zip(files, [model, log, costs(units, most)]):
-            with open(file, "w", encoding="ascii") as f:
-                f.write("\n".join(lines) + "\n")
-        steps = trips + more
-        seconds, memory, status, out = timed("timeout", str(SECONDS), program, "cheapest", *files, str(steps), str(BUDGET))
-        answer = out.split("\n")[0] if status != 124 else "none"
-        cells = [f"{units} units", str(steps), str(most), str(size(units, trips, steps)), f"{seconds:.2f}", f"{memory:.0f}", answer]
-        print("| " + " | ".join(cells) + " |", flush=True)
+    print("| Plant | Steps | Asked | Size | Variables | Seconds | Memory MiB | Answer |")
+    print("|---|---|---|---|---|---|---|---|")
+    for units in [4, 12, 20, 40]:
+        for more in [1, 3]:
+            for steps, asked, words, whole, count in rows(program, folder, units, more):
+                seconds, memory, status, out = timed("timeout", str(SECONDS), program, *words, str(steps), str(BUDGET))
+                answer = out.split("\n")[0] if status != 124 else "none"
+                print(f"| {units} units | {steps} | {asked} | {whole:,} | {count:,} | {seconds:.2f} | {memory:.0f} | {answer} |", flush=True)
 
 
 if __name__ == "__main__":

@@ -23,11 +23,11 @@ TOP = os.path.dirname(os.path.dirname(os.path.abspath(__file__)))
 BUILT = "crates/diagnose_cli/out/diagnose_cli"
 COPIED = ["bench", "cases", "check", "docs", "examples", "tools"]
 PAGES = ["README.md", "CONTRIBUTING.md", "docs/tutorial.md", "docs/scripts.md", "examples/*/README.md"]
-FILES = ["examples/*/*.des", "examples/*/*.csv", "examples/*/*.run", "crates/*/must-fail/*.edit", "crates/*/more-edits/*.edit"]
+FILES = ["examples/*/*.des", "examples/*/*.csv", "examples/*/*.costs", "examples/*/*.run", "crates/*/must-fail/*.edit", "crates/*/more-edits/*.edit"]
 KIT = re.compile(r"(?:rt|cd crates|git|\.ci/run|python3 examples/quoted\.py)\b")
 SECONDS = 600
 STATUSES = {"EXPLAINED": 0, "RAN": 0, "ACCEPTED": 0, "VERIFIED": 0, "des": 0, "p": 0, "c": 0, "units": None, "USAGE": 2, "LOAD": 3, "MODEL": 5, "LOG": 6, "RUN": 7,
-            "CNF": 7, "LRAT": 7, "LONG": 8, "LARGE": 8, "NONE": 10, "UNDECIDED": 11, "MANY": 12, "REJECTED": 13, "NOTHING": 14, "CLEAR": 0, "NOFAULT": 16, "AMBIGUOUS": 17}
+            "CNF": 7, "LRAT": 7, "LONG": 8, "LARGE": 8, "NONE": 10, "UNDECIDED": 11, "MANY": 12, "REJECTED": 13, "NOTHING": 14, "CLEAR": 0, "CHEAPEST": 0, "DEAR": 12, "COST": 15, "NOFAULT": 16, "AMBIGUOUS": 17}
 
 
 def read(path):
