@@ -1,5 +1,5 @@
 -- How a session ends, by how its rows went.
-use Rattle.std.proofs.Common.{◌≡◌, ◌≢◌, ◌≤◌, ◌<◌, ◌∙◌, ℕ, List, [], ◌∷◌, Option, Some, None, Result, Ok, Err, IfSome, IsErrAnd, IsOkAnd, MatchOption, true, refl, sym, ap, subst, arith}
+use Rattle.std.proofs.Common.{◌≡◌, ◌≢◌, ◌≤◌, ◌<◌, ◌∙◌, ℕ, List, [], ◌∷◌, Option, Some, None, Result, Ok, Err, IfSome, IsErrAnd, IsErrOf, IsOkAnd, MatchOption, true, refl, sym, ap, subst, arith}
 use Rattle.std.specs.Prelude.{option_map}
 use Rattle.des_net.specs.Network.{Net}
 use Rattle.least_faults.specs.declared.TheConstants.{MOST_SIZE}
@@ -11,8 +11,8 @@ use Rattle.proof_ledger.specs.Book.{BookEntry}
 use Rattle.replay.specs.QuestionSize.{question_size}
 use Rattle.diagnose_cli.specs.declared.command.Command.{Command}
 use Rattle.diagnose_cli.specs.declared.command.Command.TheVariants.{Session}
-use Rattle.diagnose_cli.specs.declared.session_rows.Broken.{Broken}
-use Rattle.diagnose_cli.specs.declared.session_rows.Broken.TheVariants.{Memory, Put}
+use Rattle.telling.specs.declared.each.Broken.{Broken}
+use Rattle.telling.specs.declared.each.Broken.TheVariants.{Memory, Put}
 use Rattle.diagnose_cli.specs.declared.ending.Kind.{Kind}
 use Rattle.diagnose_cli.specs.declared.stop.Stop.{Stop}
 use Rattle.diagnose_cli.specs.declared.stop.Stop.TheVariants.{Large, Usage, Memory as NoMemory}
@@ -26,6 +26,8 @@ use Rattle.diagnose_cli.specs.Run.{SaysStop}
 use Rattle.diagnose_cli.specs.Sessions.{MaySay, status_of_session}
 use Rattle.diagnose_cli.specs.Transcripts.{Ending, OrMemory, UnlessMemory, once}
 use Rattle.diagnose_cli.proofs.Limits.{within_limit, past_limit}
+use Rattle.telling.specs.Telling.{RisesJustWhere}
+use Rattle.telling.proofs.Failing.{fails_alike, none_failed}
 use Rattle.telling.proofs.Taking.{nothing_taken}
 use Rattle.diagnose_cli.proofs.Once.{wants_memory}
 use Rattle.diagnose_cli.proofs.Speaking.{put_speaks}
@@ -42,6 +44,17 @@ pub said_nothing : (due : Ending → Type 0) (lost : Type 0) → lost → (taken
 said_nothing due lost q taken rose (Ok done) is = absurd is
 said_nothing due lost q taken rose (Err e) is =
     subst (λ (x : Broken). Speaks due lost taken taken rose (status_of_session (Err x))) (sym is) (broke_before due lost q taken rose)
+
+-- and no put failed
+pub failed_nothing : (count : Option ℕ) (r : Result (Unit {0}) Broken) → IsErrAnd r (λ e. e ≡ Memory) → RisesJustWhere (IsErrOf r Put) count count
+failed_nothing count (Ok done) is = absurd is
+failed_nothing count (Err e) is = let memory : e ≡ Memory = is in none_failed (IsErrOf (Err e) Put) count count (λ put. cc) refl
+
+-- a put failed where the status is 4
+pub session_fails : (r : Result (Unit {0}) Broken) (status : ℕ) (before now : Option ℕ) → status ≡ status_of_session r → RisesJustWhere (IsErrOf r Put) before now → RisesJustWhere (status ≡ 4) before now
+session_fails (Ok done) status before now is h = fails_alike _ _ before now (λ put. cc) (λ four. absurd (omega (arith, is, four))) h
+session_fails (Err Memory) status before now is h = fails_alike _ _ before now (λ put. cc) (λ four. absurd (omega (arith, is, four))) h
+session_fails (Err Put) status before now is h = fails_alike _ _ before now (λ put. is) (λ four. refl) h
 
 -- what holds of each ending that may come holds of it
 module _ (may due : Ending → Type 0) (weaker : (e : Ending) → may e → due e) (P Q : Type 0) (lost : P → Q) (before now : Option (List ℕ)) where

@@ -1,62 +1,75 @@
 -- How a session ends that has carried out some rows: finished, or cut off or broken off at a row that it came to.
-use Rattle.std.proofs.Common.{◌≡◌, ◌≤◌, ◌⊎◌, ◌∙◌, inl, inr, ℕ, List, [], ◌∷◌, ◌++◌, Option, Result, Ok, Err, IsErrAnd, refl, sym, ap, subst, append-nil, append_assoc, arith}
-use Rattle.std.specs.List.{concat}
-use Rattle.alarm_session.specs.Session.{Stage}
-use Rattle.des_base.specs.Outside.{Rose, Took}
+use Rattle.std.proofs.Common.{◌≡◌, ◌⊎◌, ◌∙◌, inl, inr, ℕ, List, [], ◌∷◌, ◌++◌, Option, Result, Ok, Err, refl, sym, ap, subst, append-nil, append_assoc}
+use Rattle.alarm_session.specs.Session.{IsSessionBook, Stage, first_stage}
 use Rattle.des_net.specs.Network.{Net}
 use Rattle.log_csv.specs.declared.row.Row.{Row}
 use Rattle.proof_ledger.specs.Book.{BookEntry}
-use Rattle.diagnose_cli.specs.declared.session_rows.Broken.{Broken}
-use Rattle.diagnose_cli.specs.declared.session_rows.Broken.TheVariants.{Memory, Put}
+use Rattle.telling.specs.Telling.{BreaksOff, ComesTo as TellsTo, EachGoes, IsCutShort, Tells}
+use Rattle.telling.specs.declared.each.Broken.{Broken}
+use Rattle.telling.specs.declared.each.Broken.TheVariants.{Memory, Put}
 use Rattle.diagnose_cli.specs.declared.ending.Kind.TheVariants.{Done}
-use Rattle.diagnose_cli.specs.SessionReplies.{ComesTo, EndsSession, HasReplies, IsBroken, IsCut, IsUntold}
+use Rattle.diagnose_cli.specs.declared.session_rows.Plan.{Plan}
 use Rattle.diagnose_cli.specs.Puts.{Speaks}
-use Rattle.diagnose_cli.specs.Sessions.{IsCarriedOut, MaySay, RowGoes, status_of_session}
-use Rattle.diagnose_cli.specs.Transcripts.{End, OrMemory, said, cut, broken}
-use Rattle.telling.proofs.Taking.{cut_first, rose_later, took_cut, took_more}
+use Rattle.diagnose_cli.specs.SessionReplies.{ComesTo, EndsSession, HasReplies, IsBroken, IsCut, IsRowReplied, IsUntold}
+use Rattle.diagnose_cli.specs.Sessions.{IsCarriedOut, MaySay, RowIsUntold, RowTells, status_of_session}
+use Rattle.diagnose_cli.specs.Transcripts.{End, said, cut, broken}
+use Rattle.diagnose_cli.proofs.SessionFronts.{nothing_replied, replied_more, row_replied, rows_told}
 use Rattle.diagnose_cli.proofs.Speaking.{speaks_broken, speaks_cut, speaks_said}
-use Rattle.diagnose_cli.proofs.SessionFronts.{HasSaid, replied_more, row_replied}
 
-module _ (net : Net) (n budget : ℕ) where
-  -- all rows
-  pub says_all : (rows : List Row) (left : Stage) (before now : Option (List ℕ)) (rose : Type 0) → HasSaid net n budget rows left before now → Speaks (MaySay net n budget rows left.book) (left.book ≡ []) before now rose 0
-  says_all rows left before now rose so_far =
-      speaks_said (MaySay net n budget rows left.book) (left.book ≡ []) before now rose so_far.texts Done (refl, record { left = left; replied = so_far.replied; book_is = refl }) so_far.put
+module _ {S : Type 0} (plan : S → Plan) (stage : S → Stage) (s : S) (rows : List Row) (t : S) (begins : stage s ≡ first_stage (plan s).net (plan s).limits.steps) (asks : IsSessionBook (plan s).net (plan s).limits.steps (stage s)) where
+  -- the rows so far, from the beginning on
+  so_far : (front : List Row) (left : S) (texts : List (List ℕ)) → Tells (RowTells plan stage) s front left texts → (plan left ≡ plan s) × HasReplies (plan s).net (plan s).limits.steps (plan s).limits.budget front (stage left) texts
+  so_far front left texts told = rows_told plan stage s [] front left [] texts (nothing_replied (plan s).net (plan s).limits.steps (plan s).limits.budget (stage s) begins asks) told
 
   -- it came to a row
-  comes_to : (all rows others : List Row) (row : Row) (left : Stage) (before now : Option (List ℕ)) → all ≡ rows ++ row ∷ others → (so_far : HasSaid net n budget rows left before now)
-      → ComesTo net n budget all row left so_far.texts
-  comes_to all rows others row left before now split so_far = record { front = rows; others = others; split = split; replied = so_far.replied }
+  comes_to : (row : Row) (left : S) (texts : List (List ℕ)) → TellsTo (RowTells plan stage) s rows row left texts → ComesTo (plan s).net (plan s).limits.steps (plan s).limits.budget rows row (stage left) texts
+  comes_to row left texts comes = record { front = comes.front; others = comes.others; split = comes.split; replied = (so_far comes.front left texts comes.told).1 }
 
-  -- and breaks off at it
-  breaks_off : (all rows others : List Row) (row : Row) (old new : Stage) (before mid now : Option (List ℕ)) (start middle end : ℕ) → all ≡ rows ++ row ∷ others → start ≤ middle → (e : Broken)
-      → HasSaid net n budget rows old before mid → RowGoes net n budget old row new mid now (Rose middle end) (Err e) → Speaks (MaySay net n budget all new.book) (new.book ≡ []) before now (Rose start end) (status_of_session (Err e))
-  breaks_off all rows others row old new before mid now start middle end split rises Memory so_far goes =
-      speaks_broken (MaySay net n budget all new.book) (new.book ≡ []) before now (Rose start end) so_far.texts
-      (record { row = row; left = old; end = new; comes = comes_to all rows others row old before mid split so_far; untold = goes.untold; book_is = refl })
-      (subst (Took before now) (append-nil (concat so_far.texts)) (took_more before mid now (concat so_far.texts) [] so_far.put goes.put))
-  breaks_off all rows others row old new before mid now start middle end split rises Put so_far goes =
-      let here = goes.1 in
-      let next = here.put.next in
-      speaks_cut (MaySay net n budget all new.book) (new.book ≡ []) before now (Rose start end) (so_far.texts ++ next ∷ [])
-      (record {
-        row = row;
-        left = old;
-        end = new;
-        earlier = so_far.texts;
-        last = next;
-        comes = comes_to all rows others row old before mid split so_far;
-        replied = row_replied net n budget old row new here.told next here.carried here.put.only;
+  -- what is said is what a session says, by the way that it ends
+  finished : (texts : List (List ℕ)) → Tells (RowTells plan stage) s rows t texts → EndsSession (plan s).net (plan s).limits.steps (plan s).limits.budget rows (stage t).book texts (said Done)
+  finished texts told = (refl, record { left = stage t; replied = (so_far rows t texts told).1; book_is = refl })
+
+  broken_off : (texts : List (List ℕ)) → BreaksOff (RowTells plan stage) (RowIsUntold plan stage) s rows t texts → EndsSession (plan s).net (plan s).limits.steps (plan s).limits.budget rows (stage t).book texts broken
+  broken_off texts h =
+      let same = (so_far h.comes.front h.mid texts h.comes.told).0 in
+      record {
+        row = h.item;
+        left = stage h.mid;
+        end = stage t;
+        comes = comes_to h.item h.mid texts h.comes;
+        untold = subst (λ (p : Plan). IsUntold p.net p.limits.steps p.limits.budget h.item (stage h.mid) (stage t)) same h.untold.untold;
         book_is = refl;
-        are = refl;
-      })
-      (rose_later start middle end rises goes.0) (took_cut before mid now so_far.texts (next ∷ []) so_far.put (cut_first mid now next here.put.put))
+      }
 
-  pub broken_off : (all rows others : List Row) (row : Row) (old new : Stage) (before mid now : Option (List ℕ)) (start middle end : ℕ) (e : Broken) (r : Result (Unit {0}) Broken) → IsErrAnd r (λ x. x ≡ e) → all ≡ rows ++ row ∷ others
-      → start ≤ middle → HasSaid net n budget rows old before mid → RowGoes net n budget old row new mid now (Rose middle end) (Err e) → Speaks (MaySay net n budget all new.book) (new.book ≡ []) before now (Rose start end) (status_of_session r)
-  broken_off all rows others row old new before mid now start middle end e (Ok done) is split rises so_far goes = absurd is
-  broken_off all rows others row old new before mid now start middle end e (Err x) is split rises so_far goes =
-      subst (λ (y : Broken). Speaks (MaySay net n budget all new.book) (new.book ≡ []) before now (Rose start end) (status_of_session (Err y))) (sym is) (breaks_off all rows others row old new before mid now start middle end split rises e so_far goes)
+  cut_off : (texts : List (List ℕ)) → IsCutShort (RowTells plan stage) s rows t texts → EndsSession (plan s).net (plan s).limits.steps (plan s).limits.budget rows (stage t).book texts cut
+  cut_off texts h =
+      let same = (so_far h.comes.front h.mid h.earlier h.comes.told).0 in
+      let replied : IsRowReplied (plan h.mid).net (plan h.mid).limits.steps (plan h.mid).limits.budget (stage h.mid) h.item (stage t) h.last =
+      row_replied (plan h.mid).net (plan h.mid).limits.steps (plan h.mid).limits.budget (stage h.mid) h.item (stage t) h.told.told h.last h.told.carried h.told.is in
+      record {
+        row = h.item;
+        left = stage h.mid;
+        end = stage t;
+        earlier = h.earlier;
+        last = h.last;
+        comes = comes_to h.item h.mid h.earlier h.comes;
+        replied = subst (λ (p : Plan). IsRowReplied p.net p.limits.steps p.limits.budget (stage h.mid) h.item (stage t) h.last) same replied;
+        book_is = refl;
+        are = h.are;
+      }
+
+  -- so it speaks as a session may
+  by_end : (before now : Option (List ℕ)) (rose : Type 0) (r : Result (Unit {0}) Broken) → EachGoes (RowTells plan stage) (RowIsUntold plan stage) s rows t before now rose r
+      → Speaks (MaySay (plan s).net (plan s).limits.steps (plan s).limits.budget rows (stage t).book) ((stage t).book ≡ []) before now rose (status_of_session r)
+  by_end before now rose (Ok done) goes = speaks_said (MaySay (plan s).net (plan s).limits.steps (plan s).limits.budget rows (stage t).book) ((stage t).book ≡ []) before now rose goes.texts Done (finished goes.texts goes.says) goes.put
+  by_end before now rose (Err Memory) goes = speaks_broken (MaySay (plan s).net (plan s).limits.steps (plan s).limits.budget rows (stage t).book) ((stage t).book ≡ []) before now rose goes.texts (broken_off goes.texts goes.says) goes.put
+  by_end before now rose (Err Put) goes = speaks_cut (MaySay (plan s).net (plan s).limits.steps (plan s).limits.budget rows (stage t).book) ((stage t).book ≡ []) before now rose goes.texts (cut_off goes.texts goes.says) goes.put.0 goes.put.1
+
+-- what is told and put of all rows is what a session may say
+pub rows_speak : {S : Type 0} (t : S) (plan : S → Plan) (stage : S → Stage) (s : S) (rows : List Row) (before now : Option (List ℕ)) (rose : Type 0) (r : Result (Unit {0}) Broken) → EachGoes (RowTells plan stage) (RowIsUntold plan stage) s rows t before now rose r
+    → stage s ≡ first_stage (plan s).net (plan s).limits.steps → IsSessionBook (plan s).net (plan s).limits.steps (stage s)
+    → Speaks (MaySay (plan s).net (plan s).limits.steps (plan s).limits.budget rows (stage t).book) ((stage t).book ≡ []) before now rose (status_of_session r)
+rows_speak t plan stage s rows before now rose r goes begins asks = by_end plan stage s rows t begins asks before now rose r goes
 
 -- ---- whatever the end
 

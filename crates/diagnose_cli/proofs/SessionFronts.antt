@@ -1,14 +1,13 @@
--- A session that has carried out some rows, and one row more.
-use Rattle.std.proofs.Common.{◌≡◌, ◌≤◌, ◌^◌, ◌∙◌, inl, inr, ℕ, List, [], ◌∷◌, ◌++◌, Option, Some, None, Result, Ok, Err, IsErrAnd, take, refl, sym, ap, subst, append-nil, append_assoc, arith}
+-- What one row of a session tells, and what its rows tell one after another.
+use Rattle.std.proofs.Common.{◌≡◌, ◌≢◌, ◌≤◌, ◌^◌, ◌∙◌, inl, inr, ℕ, List, [], ◌∷◌, ◌++◌, Option, Result, Ok, Err, IfOk, OnErr, option_map, refl, sym, ap, subst, append-nil, append_assoc, arith}
+use Rattle.std.specs.Option.{option_to_list}
 use Rattle.std.specs.Prelude.{flat_map}
-use Rattle.std.specs.List.{concat}
 use Rattle.std.proofs.lemmas.Grind.{flat_map-append}
 use Rattle.alarm_session.proofs.Rowing.{carried_out_more, nothing_carried_out}
 use Rattle.alarm_session.specs.Rows.{AreRowsTold, IsLeftUndone, IsRowTold, after_row}
 use Rattle.alarm_session.specs.Session.{IsSessionBook, Stage, first_stage}
 use Rattle.alarm_session.specs.declared.rows.Told.{Told}
 use Rattle.alarm_session.specs.declared.rows.Told.TheVariants.{Made, Refused, Answered}
-use Rattle.des_base.specs.Outside.{Took}
 use Rattle.des_net.specs.Building.{IsDraft}
 use Rattle.des_net.specs.Network.{Net, IsNetwork}
 use Rattle.least_faults.proofs.Deciding.{undecided_is_small}
@@ -18,16 +17,15 @@ use Rattle.least_faults.specs.declared.answer.Found.TheVariants.{Explained, Abse
 use Rattle.log_csv.specs.declared.row.Row.{Row}
 use Rattle.log_order.specs.Adding.{IsLog}
 use Rattle.log_order.specs.Log.{Log}
-use Rattle.diagnose_cli.specs.declared.session_rows.Broken.{Broken}
-use Rattle.diagnose_cli.specs.declared.session_rows.Broken.TheVariants.{Memory, Put}
 use Rattle.proof_ledger.specs.Book.{BookEntry}
 use Rattle.prop_core.specs.VariableNames.{Name}
 use Rattle.replay.specs.QuestionSize.{variable_bound}
 use Rattle.run_decode.specs.QuestionAxioms.{BuiltQuestion}
+use Rattle.telling.specs.Telling.{Tells}
+use Rattle.diagnose_cli.specs.declared.session_rows.Plan.{Plan}
 use Rattle.diagnose_cli.specs.SessionReplies.{AreDecided, HasReplies, IsDecided, IsRowReplied, RunsReplay, TellsDecided, TellsReplaying, replies_to}
-use Rattle.diagnose_cli.specs.Sessions.{IsCarriedOut, IsRowPut, PutsReplies, RowGoes, TellsKnown}
+use Rattle.diagnose_cli.specs.Sessions.{IsCarriedOut, RowIsUntold, RowTells, TellsKnown}
 use Rattle.diagnose_cli.proofs.KnownRuns.{known}
-use Rattle.telling.proofs.Taking.{nothing_taken, took_texts}
 use Rattle.diagnose_cli.proofs.RepliesReplay.{run_replays}
 
 -- ---- what one row tells
@@ -56,17 +54,11 @@ module _ (net : Net) (n budget : ℕ) (old : Stage) (row : Row) (new : Stage) wh
   pub row_replied : (told : Told) (reply : List ℕ) → IsCarriedOut net n budget old row new told → replies_to net n told ≡ reply ∷ [] → IsRowReplied net n budget old row new reply
   row_replied told reply carried only = record { told = told; holds = carried.holds; replays = carried.replays; is = only }
 
-  -- by what became of its replies
-  pub row_goes : (told : Told) (before now : Option (List ℕ)) (rose : Type 0) (r : Result (Unit {0}) Broken) → IsCarriedOut net n budget old row new told → PutsReplies (replies_to net n told) before now rose r
-      → RowGoes net n budget old row new before now rose r
-  row_goes told before now rose (Ok done) carried puts = record { told = told; carried = carried; put = puts }
-  row_goes told before now rose (Err Memory) carried puts = record { untold = inl (puts.next, row_replied told puts.next carried puts.only); put = puts.put }
-  row_goes told before now rose (Err Put) carried puts = (puts.0, record { told = told; carried = carried; put = puts.1 })
-
-  -- where memory was wanting before it told anything
-  pub row_lost : (taken : Option (List ℕ)) (rose : Type 0) (r : Result (Unit {0}) Broken) → IsErrAnd r (λ e. e ≡ Memory) → IsLeftUndone net n budget old row new → RowGoes net n budget old row new taken taken rose r
-  row_lost taken rose (Ok done) is undone = absurd is
-  row_lost taken rose (Err e) is undone = subst (λ (x : Broken). RowGoes net n budget old row new taken taken rose (Err x)) (sym is) (record { untold = inr undone; put = nothing_taken taken })
+  -- what is no addition that was made has a reply
+  pub has_reply : (told : Told) → told ≢ Made → (reply : List ℕ) × (replies_to net n told ≡ reply ∷ [])
+  has_reply Made other = absurd (other refl)
+  has_reply (Refused refusal) other = (_, refl)
+  has_reply (Answered found) other = (_, refl)
 
 -- ---- what a budget decides
 
@@ -115,34 +107,58 @@ module _ (net : Net) (n budget : ℕ) where
         ∙ sym (flat_map-append (replies_to net n) replied.told (here ∷ []) ∙ ap (λ (ts : List (List ℕ)). flat_map (replies_to net n) replied.told ++ ts) (append-nil (replies_to net n here)));
   }
 
--- ---- what a session has said so far
-
--- the rows were carried out, and their replies were taken
-pub record HasSaid (net : Net) (n budget : ℕ) (rows : List Row) (left : Stage) (before now : Option (List ℕ)) : Type 0 where
-  pub texts : List (List ℕ)
-  pub replied : HasReplies net n budget rows left texts
-  pub put : Took before now (concat texts)
-
-pub nothing_said : (net : Net) (n budget : ℕ) (begun : Stage) (taken : Option (List ℕ)) → begun ≡ first_stage net n → IsSessionBook net n begun → HasSaid net n budget [] begun taken taken
-nothing_said net n budget begun taken begins asks = record {
-  texts = [];
-  replied = record {
-    told = [];
-    carried = nothing_carried_out net n budget begun begins asks;
-    replays = tt;
-    decided = tt;
-    are = refl;
-  };
-  put = nothing_taken taken;
+-- no row yet
+pub nothing_replied : (net : Net) (n budget : ℕ) (begun : Stage) → begun ≡ first_stage net n → IsSessionBook net n begun → HasReplies net n budget [] begun []
+nothing_replied net n budget begun begins asks = record {
+  told = [];
+  carried = nothing_carried_out net n budget begun begins asks;
+  replays = tt;
+  decided = tt;
+  are = refl;
 }
 
-module _ (net : Net) (n budget : ℕ) where
-  pub said_more : (rows : List Row) (row : Row) (old new : Stage) (before mid now : Option (List ℕ)) → HasSaid net n budget rows old before mid
-      → IsRowPut net n budget old row new (λ texts. Took mid now (concat texts)) → HasSaid net n budget (rows ++ row ∷ []) new before now
-  said_more rows row old new before mid now said here =
-      let texts = replies_to net n here.told in
-      record {
-        texts = said.texts ++ texts;
-        replied = replied_more net n budget rows row old new said.texts here.told said.replied here.carried;
-        put = took_texts before mid now said.texts texts said.put here.put;
-      }
+-- ---- what is told of rows, one after another
+
+module _ {S : Type 0} (plan : S → Plan) (stage : S → Stage) where
+  -- by a plan
+  abbrev Replied : Plan → List Row → Stage → List (List ℕ) → Type 0
+  Replied p rows left texts = HasReplies p.net p.limits.steps p.limits.budget rows left texts
+
+  pub rows_told : (s : S) (front rows : List Row) (t : S) (before texts : List (List ℕ)) → Replied (plan s) front (stage s) before → Tells (RowTells plan stage) s rows t texts
+      → (plan t ≡ plan s) × Replied (plan s) (front ++ rows) (stage t) (before ++ texts)
+  rows_told s front [] t before texts so_far told = (
+    ap plan told.0,
+    subst (λ (x : S). Replied (plan s) (front ++ []) (stage x) (before ++ texts)) (sym told.0)
+        (subst (λ (ts : List (List ℕ)). Replied (plan s) (front ++ []) (stage s) (before ++ ts)) (sym told.1)
+        (subst (λ (ts : List (List ℕ)). Replied (plan s) (front ++ []) (stage s) ts) (sym (append-nil before)) (subst (λ (rs : List Row). Replied (plan s) rs (stage s) before) (sym (append-nil front)) so_far))),
+  )
+  rows_told s front (row ∷ rows) t before texts so_far (mid, text, rest, here, further, are) =
+      let p = plan s in
+      let more = replied_more p.net p.limits.steps p.limits.budget front row (stage s) (stage mid) before here.told so_far here.carried in
+      let by_text = subst (λ (ts : List (List ℕ)). Replied p (front ++ row ∷ []) (stage mid) (before ++ ts)) here.is more in
+      let others = rows_told mid (front ++ row ∷ []) rows t (before ++ option_to_list text) rest (subst (λ (q : Plan). Replied q (front ++ row ∷ []) (stage mid) (before ++ option_to_list text)) (sym here.same) by_text) further in
+      let of_plan = subst (λ (q : Plan). Replied q ((front ++ row ∷ []) ++ rows) (stage t) ((before ++ option_to_list text) ++ rest)) here.same others.1 in
+      let of_rows = subst (λ (rs : List Row). Replied p rs (stage t) ((before ++ option_to_list text) ++ rest)) (append_assoc front (row ∷ []) rows) of_plan in
+      let of_texts = subst (λ (ts : List (List ℕ)). Replied p (front ++ row ∷ rows) (stage t) ts) (append_assoc before (option_to_list text) rest ∙ ap (λ (ts : List (List ℕ)). before ++ ts) (sym are)) of_rows in
+      (others.0 ∙ here.same, of_texts)
+
+-- ---- one row of a plan
+
+-- which is left undone
+pub row_undone : {S V E : Type 0} (s t : S) (plan : S → Plan) (stage : S → Stage) (row : Row) → plan t ≡ plan s → (r : Result V E) → IsLeftUndone (plan s).net (plan s).limits.steps (plan s).limits.budget (stage s) row (stage t) → OnErr r (RowIsUntold plan stage s row t)
+row_undone s t plan stage row same (Ok text) undone = tt
+row_undone s t plan stage row same (Err e) undone = record { same = same; untold = inr undone }
+
+module _ {S : Type 0} (s t : S) (plan : S → Plan) (stage : S → Stage) (row : Row) (same : plan t ≡ plan s) (told : Told) (carried : IsCarriedOut (plan s).net (plan s).limits.steps (plan s).limits.budget (stage s) row (stage t) told) where
+  -- with its reply, where it has one
+  pub row_tells : {V E : Type 0} (text_of : V → List ℕ) (r : Result (Option V) E) → IfOk r (λ text. replies_to (plan s).net (plan s).limits.steps told ≡ option_to_list (option_map text_of text))
+      → IfOk r (λ text. RowTells plan stage s row t (option_map text_of text))
+  row_tells text_of (Ok text) is = record { same = same; told = told; carried = carried; is = is }
+  row_tells text_of (Err e) is = tt
+
+  -- or out of memory for its text
+  pub row_untold : {V E : Type 0} (r : Result (Option V) E) → OnErr r (told ≢ Made) → OnErr r (RowIsUntold plan stage s row t)
+  row_untold (Ok text) other = tt
+  row_untold (Err e) other =
+      let reply = has_reply (plan s).net (plan s).limits.steps (plan s).limits.budget (stage s) row (stage t) told other in
+      record { same = same; untold = inl (reply.0, row_replied (plan s).net (plan s).limits.steps (plan s).limits.budget (stage s) row (stage t) told reply.0 carried reply.1) }

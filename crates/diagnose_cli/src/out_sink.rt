@@ -1,5 +1,5 @@
 // A writer, such as the standard output, as a sink.
-ghost use Rattle.std.specs.Prelude.{◌≡◌};
+ghost use Rattle.std.specs.Prelude.{◌≡◌, Some};
 
 use des_base::{PutFault, Sink};
 use std::io::Write;
@@ -24,6 +24,8 @@ impl<W: Write + Drop> Sink for OutSink<W> {
     ghost taken = { λ s. W.contents s.to };
 
     ghost faults = { λ s. s.faults };
+
+    ghost failures = { λ s. Some s.faults };
 
     fn put(&mut self, piece: &[u8]) -> Result<(), PutFault> {
         let mut done = 0;

@@ -1,5 +1,6 @@
 // The command `session`: the rows of a script, additions to a log and questions about it, over one book.
-ghost use Rattle.std.specs.Prelude.{◌≡◌, ◌<◌, ◌≤◌, ℕ, List, [], ◌∷◌, length, Some};
+ghost use Rattle.std.specs.Prelude.{◌≡◌, ◌<◌, ◌≤◌, ℕ, List, [], ◌∷◌, length, Some, IsErrOf};
+ghost use Rattle.alarm_session.specs.Session.{BeginsAs};
 ghost use Rattle.des_base.specs.Outside.{Rose};
 ghost use Rattle.des_base.specs.declared.TheConstants.{MOST_STEPS};
 ghost use Rattle.diagnose_cli.specs.Commands.{command_of};
@@ -12,12 +13,13 @@ ghost use Rattle.indep.specs.StoredTest.{IsTest};
 ghost use Rattle.log_csv.specs.ScriptText.{script_of};
 ghost use Rattle.model_text.specs.ModelFaults.{network_of};
 ghost use Rattle.sat_order.specs.Rank.{IsRanked};
+ghost use Rattle.telling.specs.Telling.{RisesJustWhere};
 
 use crate::asking::Limits;
 use crate::command::Command;
 use crate::ending::put_once;
 use crate::files::fetch_plan;
-use crate::session_rows::{Broken, Plan, tell_rows};
+use crate::session_rows::{Plan, RowTeller};
 use crate::stop::Stop;
 use alarm_session::Session;
 use des_base::{EventId, Shelf, Sink, WordList};
@@ -30,6 +32,7 @@ use sizing::question_size;
 use std::alloc::Global;
 use std::mem;
 use step_encode::step_variables;
+use telling::{Broken, put_each};
 
 /// Carries out the rows of a script, puts the reply to each before the next one is taken, and answers the exit status.
 pub fn session_command<F: Shelf, S: Sink>(
@@ -46,6 +49,7 @@ pub fn session_command<F: Shelf, S: Sink>(
     requires empty { book.old.entries ≡ [] }
     ensures speaks { Speaks (Due (loads F.held F.faults shelf.old shelf.new) words.now book.new.entries) (HasNotBegun words.now book.new.entries) (S.taken out.old) (S.taken out.new) (Rose (S.faults out.old) (S.faults out.new)) result }
     ensures stopped { SaysStop result → book.new ≡ book.old }
+    ensures failures { RisesJustWhere (result ≡ 4) (S.failures out.old) (S.failures out.new) }
 {
     match fetch_plan(alloc, words, shelf, limits) {
         Ok(plan) => carry_out(alloc, &plan, out, book),
@@ -59,6 +63,7 @@ fn carry_out<S: Sink>(alloc: Global, plan: &Plan, out: &mut S, book: &mut Ledger
     requires empty { book.old.entries ≡ [] }
     ensures speaks { (words : List (List ℕ)) (text lines : List ℕ) → plan.now.net ≡ network_of text → plan.now.script ≡ script_of lines → Speaks (Closes (Command.Session plan.now.limits.steps plan.now.limits.budget) words book.new.entries (text ∷ lines ∷ [])) (book.new.entries ≡ []) (S.taken out.old) (S.taken out.new) (Rose (S.faults out.old) (S.faults out.new)) result }
     ensures stopped { SaysStop result → book.new ≡ book.old }
+    ensures failures { RisesJustWhere (result ≡ 4) (S.failures out.old) (S.failures out.new) }
 {
     let size = question_size(&plan.net, &AlarmLog::new(alloc), plan.limits.steps);
     if size > MOST_SIZE {
@@ -87,7 +92,8 @@ fn carry_out_rows<S: Sink>(
 ) -> Result<(), Broken>
     requires steps { plan.now.limits.steps ≤ MOST_STEPS }
     requires empty { book.old.entries ≡ [] }
-    ensures { Speaks (MaySay plan.now.net plan.now.limits.steps plan.now.limits.budget plan.now.script book.new.entries) (book.new.entries ≡ []) (S.taken out.old) (S.taken out.new) (Rose (S.faults out.old) (S.faults out.new)) (status_of_session result) }
+    ensures speaks { Speaks (MaySay plan.now.net plan.now.limits.steps plan.now.limits.budget plan.now.script book.new.entries) (book.new.entries ≡ []) (S.taken out.old) (S.taken out.new) (Rose (S.faults out.old) (S.faults out.new)) (status_of_session result) }
+    ensures failures { RisesJustWhere (IsErrOf result Broken.Put) (S.failures out.old) (S.failures out.new) }
 {
     let table = Table::new(alloc, &plan.net)?;
     let test = Indep::new(&plan.net, |a: u32, b: u32| {
@@ -108,14 +114,15 @@ fn carry_out_by_test<T: Fn(u32, u32) -> bool, S: Sink>(
     requires net { test.now.net ≡ plan.now.net }
     requires steps { plan.now.limits.steps ≤ MOST_STEPS }
     requires empty { book.old.entries ≡ [] }
-    ensures { Speaks (MaySay plan.now.net plan.now.limits.steps plan.now.limits.budget plan.now.script book.new.entries) (book.new.entries ≡ []) (S.taken out.old) (S.taken out.new) (Rose (S.faults out.old) (S.faults out.new)) (status_of_session result) }
+    ensures speaks { Speaks (MaySay plan.now.net plan.now.limits.steps plan.now.limits.budget plan.now.script book.new.entries) (book.new.entries ≡ []) (S.taken out.old) (S.taken out.new) (Rose (S.faults out.old) (S.faults out.new)) (status_of_session result) }
+    ensures failures { RisesJustWhere (IsErrOf result Broken.Put) (S.failures out.old) (S.failures out.new) }
 {
     let first = step_variables(alloc, &plan.net, plan.limits.steps, test)?;
     let order = Order::new(alloc, |var: u32| u64::from(var >= first));
     carry_out_by_order(alloc, plan, test, order, out, book)
 }
 
-// The same with an order that is given too. The book is the session's, and put back.
+// The same with an order that is given too. The book is the session's.
 fn carry_out_by_order<T: Fn(u32, u32) -> bool, R: Fn(u32) -> u64, S: Sink>(
     alloc: Global,
     plan: &Plan,
@@ -130,16 +137,35 @@ fn carry_out_by_order<T: Fn(u32, u32) -> bool, R: Fn(u32) -> u64, S: Sink>(
     requires no_variables { order.waiting ≡ [] }
     requires steps { plan.now.limits.steps ≤ MOST_STEPS }
     requires empty { book.old.entries ≡ [] }
-    ensures { Speaks (MaySay plan.now.net plan.now.limits.steps plan.now.limits.budget plan.now.script book.new.entries) (book.new.entries ≡ []) (S.taken out.old) (S.taken out.new) (Rose (S.faults out.old) (S.faults out.new)) (status_of_session result) }
+    ensures speaks { Speaks (MaySay plan.now.net plan.now.limits.steps plan.now.limits.budget plan.now.script book.new.entries) (book.new.entries ≡ []) (S.taken out.old) (S.taken out.new) (Rose (S.faults out.old) (S.faults out.new)) (status_of_session result) }
+    ensures failures { RisesJustWhere (IsErrOf result Broken.Put) (S.failures out.old) (S.failures out.new) }
 {
     let own = mem::replace(book, Ledger::new(alloc));
     match Session::new(alloc, &plan.net, plan.limits.steps, test, order, own) {
-        Ok(session) => {
-            let mut session = session;
-            let said = tell_rows(alloc, plan, &mut session, out);
-            *book = session.into_book();
-            said
-        }
+        Ok(session) => tell_rows(alloc, plan, session, out, book),
         Err(_) => Err(Broken::Memory),
     }
+}
+
+// Carries out all rows, and puts the reply to each before the next one is taken. The book is put back.
+fn tell_rows<'a, R: Fn(u32) -> u64, S: Sink>(
+    alloc: Global,
+    plan: &'a Plan,
+    session: Session<'a, R>,
+    out: &mut S,
+    book: &mut Ledger,
+) -> Result<(), Broken>
+    requires begins { BeginsAs plan.now.net plan.now.limits.steps session.order.rank session }
+    requires ranked { IsRanked R.pre R.post session.order }
+    requires steps { plan.now.limits.steps ≤ MOST_STEPS }
+    ensures speaks { Speaks (MaySay plan.now.net plan.now.limits.steps plan.now.limits.budget plan.now.script book.new.entries) (book.new.entries ≡ []) (S.taken out.old) (S.taken out.new) (Rose (S.faults out.old) (S.faults out.new)) (status_of_session result) }
+    ensures failures { RisesJustWhere (IsErrOf result Broken.Put) (S.failures out.old) (S.failures out.new) }
+{
+    // Its reader tells that the book asks about the empty log.
+    let _book = session.book();
+    let mut teller = RowTeller { plan, session };
+    let said = put_each(alloc, &mut teller, plan.script.rows(), out);
+    let RowTeller { plan: _, session } = teller;
+    *book = session.into_book();
+    said
 }

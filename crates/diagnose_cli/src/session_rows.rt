@@ -1,25 +1,20 @@
-// The rows of a script, carried out one after another, each with its reply.
-ghost use Rattle.std.specs.Prelude.{◌≡◌, ◌≢◌, ◌≤◌, [], IfOk, OnErr, option_map};
+// The rows of a script, each of which a session carries out and tells of.
+ghost use Rattle.std.specs.Prelude.{◌≡◌, ◌≢◌, IfOk, OnErr, option_map};
 ghost use Rattle.std.specs.Option.{option_to_list};
-ghost use Rattle.alarm_session.specs.Session.{BeginsAs, KeepsSetting};
 ghost use Rattle.alarm_session.specs.declared.rows.Told.TheVariants.{Made as NothingTold};
-ghost use Rattle.des_base.specs.Outside.{Rose};
-ghost use Rattle.des_base.specs.declared.TheConstants.{MOST_STEPS};
 ghost use Rattle.diagnose_cli.specs.SessionReplies.{replies_to};
-ghost use Rattle.diagnose_cli.specs.Puts.{Speaks};
-ghost use Rattle.diagnose_cli.specs.Sessions.{MaySay, PutsReplies, RowGoes, TellsKnown, status_of_session};
-ghost use Rattle.diagnose_cli.specs.declared.session_rows.Broken.TheVariants.{Memory as NoMemory};
+ghost use Rattle.diagnose_cli.specs.Sessions.{IsOfPlan, RowIsUntold, RowTells, TellsKnown};
 ghost use Rattle.report.specs.Replies.{EventsKnown, text_of_found, text_of_refused};
-ghost use Rattle.sat_order.specs.Rank.{IsRanked};
 
 use crate::asking::Limits;
 use alarm_session::{Session, Told};
-use des_base::{Memory, Sink};
+use des_base::Memory;
 use des_net::Network;
 use least_faults::Found;
 use log_csv::{Row, Script};
 use report::{print_found, print_refused};
 use std::alloc::Global;
+use telling::Teller;
 
 /// A network, the script that is carried out over it, and what is asked of its questions.
 #[derive(Drop)]
@@ -29,85 +24,26 @@ pub struct Plan {
     pub limits: Limits,
 }
 
-/// Why a session broke off.
-#[derive(Clone, Copy)]
-pub enum Broken {
-    /// Want of memory.
-    Memory,
-    /// A reply can't be put.
-    Put,
+/// A session that tells of the rows of a plan.
+pub struct RowTeller<'a, R> {
+    pub plan: &'a Plan,
+    pub session: Session<'a, R>,
 }
 
-impl From<Memory> for Broken {
-    ghost from_gives = { λ _ e. e ≡ NoMemory };
+impl<'a, R: Fn(u32) -> u64> Teller for RowTeller<'a, R> {
+    type Item = Row;
 
-    fn from(_: Memory) -> Broken {
-        Broken::Memory
-    }
-}
+    ghost goes = { RowTells (λ s. s.plan.now) (λ s. s.session.stage) };
 
-/// Carries out all rows, and puts the reply to each before the next one is taken.
-pub fn tell_rows<R: Fn(u32) -> u64, S: Sink>(
-    alloc: Global,
-    plan: &Plan,
-    session: &mut Session<'_, R>,
-    out: &mut S,
-) -> Result<(), Broken>
-    requires begins { BeginsAs plan.now.net plan.now.limits.steps session.old.order.rank session.old }
-    requires ranked { IsRanked R.pre R.post session.old.order }
-    requires steps { plan.now.limits.steps ≤ MOST_STEPS }
-    ensures { Speaks (MaySay plan.now.net plan.now.limits.steps plan.now.limits.budget plan.now.script session.new.stage.book) (session.new.stage.book ≡ []) (S.taken out.old) (S.taken out.new) (Rose (S.faults out.old) (S.faults out.new)) (status_of_session result) }
-{
-    // Its reader tells that the book asks about the empty log.
-    let _book = session.book();
-    let rows = plan.script.rows();
-    for row in rows {
-        tell_row(alloc, plan, row, session, out)?;
-    }
-    Ok(())
-}
+    ghost undone = { RowIsUntold (λ s. s.plan.now) (λ s. s.session.stage) };
 
-// Carries out a row, and puts its reply.
-fn tell_row<R: Fn(u32) -> u64, S: Sink>(
-    alloc: Global,
-    plan: &Plan,
-    row: &Row,
-    session: &mut Session<'_, R>,
-    out: &mut S,
-) -> Result<(), Broken>
-    requires ranked { IsRanked R.pre R.post session.old.order }
-    requires net { session.old.net ≡ plan.now.net }
-    requires time { session.old.steps ≡ plan.now.limits.steps }
-    requires steps { plan.now.limits.steps ≤ MOST_STEPS }
-    ensures ranked { IsRanked R.pre R.post session.new.order }
-    ensures kept { KeepsSetting session.old session.new }
-    ensures never_falls { S.faults out.old ≤ S.faults out.new }
-    ensures goes { RowGoes plan.now.net plan.now.limits.steps plan.now.limits.budget session.old.stage row.now session.new.stage (S.taken out.old) (S.taken out.new) (Rose (S.faults out.old) (S.faults out.new)) result }
-{
-    let told = session.carry_out(row, plan.limits.budget)?;
-    session.log().is_whole();
-    plan.net.is_built();
-    put_replies(alloc, &plan.net, plan.limits.steps, &told, out)
-}
+    ghost ready = { λ s. IsOfPlan R.pre R.post s.plan.now s.session };
 
-// Puts the reply to a row that told this, where it has one.
-fn put_replies<S: Sink>(
-    alloc: Global,
-    net: &Network,
-    steps: u32,
-    told: &Told,
-    out: &mut S,
-) -> Result<(), Broken>
-    requires { TellsKnown net.now told.now }
-    ensures puts { PutsReplies (replies_to net.now steps told.now) (S.taken out.old) (S.taken out.new) (Rose (S.faults out.old) (S.faults out.new)) result }
-    ensures never_falls { S.faults out.old ≤ S.faults out.new }
-{
-    match reply_to(alloc, net, steps, told)? {
-        Some(text) => match out.put(text.as_slice()) {
-            Ok(()) => Ok(()),
-            Err(_) => Err(Broken::Put),
-        },
-        None => Ok(()),
+    fn tell(&mut self, alloc: Global, row: &Row) -> Result<Option<Vec<u8>>, Memory> {
+        let told = self.session.carry_out(row, self.plan.limits.budget)?;
+        self.session.log().is_whole();
+        self.plan.net.is_built();
+        reply_to(alloc, &self.plan.net, self.plan.limits.steps, &told)
     }
 }
 

@@ -1,2 +1,3 @@
 pub mod Taking
+pub mod Failing
 pub mod Joining

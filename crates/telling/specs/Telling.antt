@@ -1,8 +1,8 @@
--- What is told of items one after another: the stages that it passes through, the texts, and what a sink took of these.
-use Rattle.std.specs.Prelude.{◌≡◌, ℕ, List, [], ◌∷◌, ◌++◌, take, Option, Some, IfSome, Result, Ok, Err}
+-- What is told of items one after another: the stages that it passes through, the texts, what a sink took of these, and whether a put failed.
+use Rattle.std.specs.Prelude.{◌≡◌, ℕ, List, [], ◌∷◌, ◌++◌, take, Option, Some, IfSome, option_map, Result, Ok, Err}
 use Rattle.std.specs.List.{concat}
 use Rattle.std.specs.Option.{option_to_list}
-use Rattle.des_base.specs.Outside.{Took}
+use Rattle.des_base.specs.Outside.{Took, raised}
 use Rattle.telling.specs.declared.each.Broken.{Broken}
 use Rattle.telling.specs.declared.each.Broken.TheVariants.{Memory, Put}
 
@@ -66,3 +66,10 @@ pub record EachGoes {S I : Type 0} (goes : S → I → S → Option (List ℕ) �
   pub texts : List (List ℕ)
   pub says : Says goes undone s items t texts result
   pub put : TookTexts texts before now rose result
+
+-- ---- what fails
+
+-- A count went up by one where this is so, and stays where it isn't: of puts that failed there was one then, and else none. Nothing is said of a count that isn't told.
+pub record RisesJustWhere (P : Type 0) (before now : Option ℕ) : Type 0 where
+  pub rises : P → now ≡ option_map raised before
+  pub stays : (P → ⊥) → now ≡ before

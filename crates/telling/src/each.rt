@@ -1,7 +1,7 @@
 // What tells of items one after another, and the loop that puts what it tells.
-ghost use Rattle.std.specs.Prelude.{◌≡◌, ◌≤◌, ℕ, List, [], ◌∷◌, Option, IfOk, OnErr, option_map};
+ghost use Rattle.std.specs.Prelude.{◌≡◌, ◌≤◌, ℕ, List, [], ◌∷◌, Option, IfOk, OnErr, IsErrOf, option_map};
 ghost use Rattle.des_base.specs.Outside.{Rose};
-ghost use Rattle.telling.specs.Telling.{EachGoes};
+ghost use Rattle.telling.specs.Telling.{EachGoes, RisesJustWhere};
 ghost use Rattle.telling.specs.declared.each.Broken.TheVariants.{Memory as NoMemory};
 
 use des_base::{Memory, Sink};
@@ -45,7 +45,7 @@ pub trait Teller {
         ensures undone { OnErr result (undone self.old item.now self.new) };
 }
 
-/// Tells of all items, and puts the text of each before the next one is taken.
+/// Tells of all items, and puts the text of each before the next one is taken. It ends with the first put that fails.
 pub fn put_each<T: Teller, S: Sink>(
     alloc: Global,
     teller: &mut T,
@@ -56,6 +56,7 @@ pub fn put_each<T: Teller, S: Sink>(
     ensures ready { T.ready teller.new }
     ensures goes { EachGoes T.goes T.undone teller.old items.now teller.new (S.taken out.old) (S.taken out.new) (Rose (S.faults out.old) (S.faults out.new)) result }
     ensures never_falls { S.faults out.old ≤ S.faults out.new }
+    ensures failures { RisesJustWhere (IsErrOf result Broken.Put) (S.failures out.old) (S.failures out.new) }
 {
     for item in items {
         put_one(alloc, teller, item, out)?;
@@ -74,6 +75,7 @@ fn put_one<T: Teller, S: Sink>(
     ensures ready { T.ready teller.new }
     ensures goes { EachGoes T.goes T.undone teller.old (item.now ∷ []) teller.new (S.taken out.old) (S.taken out.new) (Rose (S.faults out.old) (S.faults out.new)) result }
     ensures never_falls { S.faults out.old ≤ S.faults out.new }
+    ensures failures { RisesJustWhere (IsErrOf result Broken.Put) (S.failures out.old) (S.failures out.new) }
 {
     match teller.tell(alloc, item) {
         Ok(Some(text)) => match out.put(text.as_slice()) {

@@ -20,7 +20,7 @@ returns-in-None-clause-does g c =
     let book = c.args.book.now.entries in
     let none = sym c.command_of.ensures.command ∙ c.in-None.is in
     done l words (g.S.Sink.taken c.args.out.now) (g.S.Sink.taken c.put_once.new.out) book c.put_once.result _
-    (speaks_once (Due l words book) (HasNotBegun words book) (not_begun words book c.requires) (Err Usage) _ _ _ _ (λ never. usage_due l words book none) c.put_once.ensures tt)
+    (speaks_once (Due l words book) (HasNotBegun words book) (not_begun words book c.requires) (Err Usage) _ _ _ _ (λ never. usage_due l words book none) c.put_once.ensures.puts tt)
 
 pub returns-in-Some-Session-clause-does : goal.returns-in-Some-Session-clause-does
 returns-in-Some-Session-clause-does g c =
@@ -46,7 +46,7 @@ returns-in-Some-clause-does g c =
     let called = sym c.command_of.ensures.command ∙ c.in-Some.is in
     let other : is_session command ≡ false = search rules in
     done l words (g.S.Sink.taken c.args.out.now) (g.S.Sink.taken c.put_once-in-Some.new.out) book c.put_once-in-Some.result _
-    (speaks_once (Due l words book) (HasNotBegun words book) (no_session words command book called other) c.answer-ending.result _ _ _ _ (due_of l words command book c.answer-ending.result called c.answer-ending.ensures.due) c.put_once-in-Some.ensures (cuts_due l words command book called other c.answer-ending.result c.answer-ending.ensures.due))
+    (speaks_once (Due l words book) (HasNotBegun words book) (no_session words command book called other) c.answer-ending.result _ _ _ _ (due_of l words command book c.answer-ending.result called c.answer-ending.ensures.due) c.put_once-in-Some.ensures.puts (cuts_due l words command book called other c.answer-ending.result c.answer-ending.ensures.due))
 
 pub returns-in-Some-clause-left_alone : goal.returns-in-Some-clause-left_alone
 returns-in-Some-clause-left_alone g c =
@@ -56,7 +56,7 @@ returns-in-Some-clause-left_alone g c =
     record {
       no_load = λ none. c.answer-ending.ensures.no_load (has_files words command called none);
       no_question = λ none. c.answer-ending.ensures.no_question (asks_nothing words command called none);
-      stopped = stop_left c.answer-ending.result _ _ _ _ _ c.put_once-in-Some.ensures c.answer-ending.ensures.stopped;
+      stopped = stop_left c.answer-ending.result _ _ _ _ _ c.put_once-in-Some.ensures.puts c.answer-ending.ensures.stopped;
     }
 
 pub returns-in-None-clause-left : goal.returns-in-None-clause-left

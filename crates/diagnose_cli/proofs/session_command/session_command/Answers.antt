@@ -23,4 +23,4 @@ returns-in-Err-clause-speaks g c =
     let l = loads g.F.Shelf.held g.F.Shelf.faults c.args.shelf.now c.fetch_plan.new.shelf in
     let book = c.args.book.now.entries in
     speaks_once (Due l c.args.words.now book) (HasNotBegun c.args.words.now book) (not_begun c.args.words.now book c.requires.empty) (Err c.in-Err.stop) _ _ _ _
-    (plan_stops l c.args.words.now c.args.limits.steps c.args.limits.budget book c.requires.called c.in-Err.stop c.in-Err.ensures.stop) c.put_once.ensures tt
+    (plan_stops l c.args.words.now c.args.limits.steps c.args.limits.budget book c.requires.called c.in-Err.stop c.in-Err.ensures.stop) c.put_once.ensures.puts tt
