@@ -24,8 +24,6 @@ mod session_command;
 mod session_rows;
 mod show_command;
 mod stop;
-#[cfg(test)]
-mod tests;
 mod trace_command;
 mod twin_command;
 
