@@ -1,28 +1,27 @@
-// Names, tables and lists of them, numbers, lines, tokens, and files and output in memory.
+// Names and tables of them, numbers, lines, tokens, and files and output in memory.
 use crate::made::name;
 use des_base::{
-    CountSink, Line, Lines, LoadFault, MemShelf, MemSink, Name, NameFault, NameList, NameTable,
-    Shelf, Sink, Tokens, WordList, read_number,
+    CountSink, Line, Lines, LoadFault, MemShelf, MemSink, Name, NameFault, NameTable, Shelf, Sink,
+    Token, read_number,
 };
 use std::alloc::Global;
 use std::cmp::Ordering;
 use std::hash::{DefaultHasher, Hash, Hasher};
-use std::process::Abort;
 
-fn copied(rt: &impl Abort, name: &Name) -> Name {
+// Whether a name has this text, and its copy is equal.
+fn is_kept(name: &Name, text: &str) -> bool {
     match name.copy() {
-        Ok(copy) => copy,
-        Err(_) => panic!(rt; "no memory"),
+        Ok(copy) => name.as_str() == text && copy == *name,
+        Err(_) => false,
     }
-}
-
-fn keeps_its_text(rt: &impl Abort, name: &Name) -> bool {
-    name.as_str() == "ab" && copied(rt, name).as_str() == "ab"
 }
 
 #[test]
 fn makes_names(rt: HostRuntime) {
-    assert!(rt; keeps_its_text(&rt, &name(&rt, rt.alloc(), b"ab")));
+    match Name::new(rt.alloc(), b"ab") {
+        Ok(name) => assert!(rt; is_kept(&name, "ab")),
+        Err(_) => panic!(rt; "no name"),
+    }
     assert!(rt; matches!(Name::new(rt.alloc(), b"a b"), Err(NameFault::Shape)));
 }
 
@@ -41,45 +40,44 @@ fn compare(left: &Name, right: &Name, want: Ordering) -> bool {
         && (hash_of(left) == hash_of(right)) == equal
 }
 
-fn texts_compare(
-    rt: &impl Abort,
-    alloc: Global,
-    left: &[u8],
-    right: &[u8],
-    want: Ordering,
-) -> bool {
-    compare(&name(rt, alloc, left), &name(rt, alloc, right), want)
+fn texts_compare(alloc: Global, left: &[u8], right: &[u8], want: Ordering) -> bool {
+    match (name(alloc, left), name(alloc, right)) {
+        (Some(left), Some(right)) => compare(&left, &right, want),
+        _ => false,
+    }
 }
+
+const ORDERS: [(&[u8], &[u8], Ordering); 5] = [
+    (b"ab", b"ab", Ordering::Equal),
+    (b"a", b"ab", Ordering::Less),
+    (b"b", b"ab", Ordering::Greater),
+    (b"B", b"a", Ordering::Less),
+    (b"a-", b"a_", Ordering::Less),
+];
 
 #[test]
 fn compares_names(rt: HostRuntime) {
-    let alloc = rt.alloc();
-    assert!(rt; texts_compare(&rt, alloc, b"ab", b"ab", Ordering::Equal));
-    assert!(rt; texts_compare(&rt, alloc, b"a", b"ab", Ordering::Less));
-    assert!(rt; texts_compare(&rt, alloc, b"b", b"ab", Ordering::Greater));
-    assert!(rt; texts_compare(&rt, alloc, b"B", b"a", Ordering::Less));
-    assert!(rt; texts_compare(&rt, alloc, b"a-", b"a_", Ordering::Less));
-}
-
-// Adds a new name to a table, in the next place.
-fn add(rt: &impl Abort, table: &mut NameTable, name: Name) {
-    let next = table.len();
-    assert!(rt; table.find(name.as_str().as_bytes()).is_none() && next < 9);
-    assert!(rt; matches!(table.add(name), Ok(place) if place == next));
-}
-
-fn table(rt: &impl Abort, alloc: Global) -> NameTable {
-    let mut table = NameTable::new(alloc);
-    assert!(rt; table.len() == 0);
-    for text in &[b"idle".as_slice(), b"a", b"A"] {
-        add(rt, &mut table, name(rt, alloc, text));
+    for (left, right, want) in ORDERS {
+        assert!(rt; texts_compare(rt.alloc(), left, right, want));
     }
-    table
+}
+
+// Adds a name that isn't there, and tells its place.
+fn add(table: &mut NameTable, name: Name) -> Option<u32> {
+    if table.find(name.as_str().as_bytes()).is_some() || table.len() > 9 {
+        return None;
+    }
+    table.add(name).ok()
+}
+
+fn fill(table: &mut NameTable, alloc: Global) -> Option<u32> {
+    add(table, name(alloc, b"idle")?)?;
+    add(table, name(alloc, b"a")?)?;
+    add(table, name(alloc, b"A")?)
 }
 
 fn has_places(table: &NameTable) -> bool {
     table.find(b"idle") == Some(0)
-        && table.find(b"a") == Some(1)
         && table.find(b"A") == Some(2)
         && table.find(b"aa").is_none()
         && table.find(b"").is_none()
@@ -89,166 +87,50 @@ fn has_places(table: &NameTable) -> bool {
 
 #[test]
 fn numbers_names(rt: HostRuntime) {
-    assert!(rt; has_places(&table(&rt, rt.alloc())));
+    let mut table = NameTable::new(rt.alloc());
+    assert!(rt; fill(&mut table, rt.alloc()) == Some(2));
+    assert!(rt; has_places(&table));
 }
 
-const NUMBERS: [(&[u8], u64, Option<u64>); 16] = [
-    (b"0", u64::MAX, Some(0)),
-    (b"0", 0, Some(0)),
-    (b"7", u64::MAX, Some(7)),
-    (
-        b"18446744073709551615",
-        u64::MAX,
-        Some(18446744073709551615),
-    ),
-    (b"1000", 1000, Some(1000)),
-    (b"1001", 1000, None),
-    (b"1", 0, None),
-    (b"", u64::MAX, None),
-    (b"00", u64::MAX, None),
-    (b"007", u64::MAX, None),
-    (b"-1", u64::MAX, None),
-    (b"+1", u64::MAX, None),
-    (b"1 ", u64::MAX, None),
-    (b"x", u64::MAX, None),
-    (b"18446744073709551616", u64::MAX, None),
-    (b"1844674407370955161500000", u64::MAX, None),
-];
-
-#[test]
-fn reads_numbers(rt: HostRuntime) {
-    for (text, max, want) in &NUMBERS {
-        assert!(rt; read_number(text, *max) == *want, "{text:?} up to {max}");
-    }
-}
-
-fn is_line(lines: &mut Lines, number: u32, text: &[u8]) -> bool {
-    match lines.next_line() {
-        Some(line) => line.number == number && line.text == text,
-        None => false,
-    }
-}
-
-// Whether these are three lines, and then there is none, and none again.
-fn are_three(lines: &mut Lines) -> bool {
-    is_line(lines, 1, b"ab c")
-        && is_line(lines, 2, b"\td ")
-        && is_line(lines, 3, b"last")
-        && lines.next_line().is_none()
-        && lines.next_line().is_none()
-}
-
-#[test]
-fn counts_lines(rt: HostRuntime) {
-    assert!(rt; are_three(&mut Lines::new(b"ab c\r\n\td \r\nlast\r", b'#')));
-}
-
-// Whether the next token is this, also by looking ahead.
-fn is_token(tokens: &mut Tokens, start: usize, text: &[u8]) -> bool {
-    let ahead = tokens.again().next_token();
-    match tokens.next_token() {
-        Some(token) => token.start == start && token.text == text && ahead == Some(token),
-        None => false,
-    }
-}
-
-// Whether there is no further token, and none again.
-fn is_end(tokens: &mut Tokens) -> bool {
-    tokens.next_token().is_none() && tokens.next_token().is_none()
-}
-
-fn has_none(text: &[u8]) -> bool {
-    is_end(&mut Line { number: 1, text }.tokens())
-}
-
-fn has_one(tokens: &mut Tokens) -> bool {
-    is_token(tokens, 0, b"abc") && is_end(tokens)
-}
-
-fn has_two(tokens: &mut Tokens) -> bool {
-    is_token(tokens, 0, b"a\rb") && is_token(tokens, 4, b"#\xff") && is_end(tokens)
-}
-
-fn has_three(tokens: &mut Tokens) -> bool {
-    is_token(tokens, 1, b"ab")
-        && is_token(tokens, 4, b"c")
-        && is_token(tokens, 7, b"d")
-        && is_end(tokens)
-}
-
-fn line(text: &[u8]) -> Line<'_> {
-    Line { number: 1, text }
-}
-
-#[test]
-fn cuts_tokens(rt: HostRuntime) {
-    assert!(rt; has_none(b"") && has_none(b" \t "));
-    assert!(rt; has_one(&mut line(b"abc").tokens()));
-    assert!(rt; has_two(&mut line(b"a\rb #\xff").tokens()));
-    assert!(rt; has_three(&mut line(b" ab\tc  d ").tokens()));
-}
-
-// Whether the first token from a place on begins there and has this text; there is none where it has no text.
-fn finds(from: usize, start: usize, text: &[u8]) -> bool {
-    match line(b" ab\tc  d ").token(from) {
+fn is_token(token: Option<Token<'_>>, start: usize, text: &[u8]) -> bool {
+    match token {
         Some(token) => token.start == start && token.text == text,
         None => text.is_empty(),
     }
 }
 
-#[test]
-fn finds_tokens(rt: HostRuntime) {
-    assert!(rt; finds(0, 1, b"ab") && finds(1, 1, b"ab") && finds(2, 4, b"c") && finds(4, 4, b"c"));
-    assert!(rt; finds(5, 7, b"d") && finds(7, 7, b"d"));
-    assert!(rt; finds(8, 0, b"") && finds(9, 0, b"") && finds(1000, 0, b""));
+// Whether the first token is this one, also by looking ahead.
+fn begins(line: &Line<'_>, start: usize, text: &[u8]) -> bool {
+    let mut tokens = line.tokens();
+    let ahead = tokens.again().next_token();
+    is_token(ahead, start, text) && is_token(tokens.next_token(), start, text)
 }
 
-fn words(rt: &impl Abort, alloc: Global) -> WordList {
-    let mut words = WordList::new(alloc);
-    for word in &["trace", "", "a b"] {
-        assert!(rt; words.push(word).is_ok());
-    }
-    words
-}
-
-fn has_words(words: &WordList) -> bool {
-    words.len() == 3 && words.word(0) == "trace" && words.word(1) == "" && words.word(2) == "a b"
-}
-
-#[test]
-fn keeps_words(rt: HostRuntime) {
-    assert!(rt; has_words(&words(&rt, rt.alloc())));
-}
-
-fn names(rt: &impl Abort, alloc: Global) -> NameList {
-    let mut names = NameList::new(alloc);
-    for text in &[b"T-1".as_slice(), b"F", b"T-1"] {
-        assert!(rt; names.push(name(rt, alloc, text)).is_ok());
-    }
-    names
-}
-
-fn has_names(names: &NameList) -> bool {
-    match names.as_slice() {
-        [first, second, third] => first.as_str() == "T-1"
-            && second.as_str() == "F"
-            && first == third,
-        _ => false,
-    }
-}
+// The first token from a place on: where it begins and its text, which is empty where there is none.
+const TOKENS: [(usize, usize, &[u8]); 9] = [
+    (0, 1, b"ab"),
+    (1, 1, b"ab"),
+    (2, 4, b"c"),
+    (4, 4, b"c"),
+    (5, 7, b"d"),
+    (7, 7, b"d"),
+    (8, 0, b""),
+    (9, 0, b""),
+    (1000, 0, b""),
+];
 
 #[test]
-fn keeps_names(rt: HostRuntime) {
-    assert!(rt; has_names(&names(&rt, rt.alloc())));
-}
-
-fn shelf(rt: &impl Abort, alloc: Global) -> MemShelf {
-    let mut shelf = MemShelf::new(alloc);
-    assert!(rt; shelf.add_file("net", b"older").is_ok());
-    assert!(rt; shelf.add_file("net", b"newer!").is_ok());
-    assert!(rt; shelf.add_file("none", b"").is_ok());
-    assert!(rt; shelf.fail_call(3).is_ok());
-    shelf
+fn cuts_lines(rt: HostRuntime) {
+    let mut lines = Lines::new(b"# x\r\n ab\tc  d \r\n", b'#');
+    let Some(line) = lines.next_line() else {
+        panic!(rt; "no line")
+    };
+    assert!(rt; line.number == 2 && begins(&line, 1, b"ab"));
+    for (from, start, text) in TOKENS {
+        assert!(rt; is_token(line.token(from), start, text));
+    }
+    assert!(rt; lines.next_line().is_none());
+    assert!(rt; read_number(b"0", 0) == Some(0) && read_number(b"1", 0).is_none());
 }
 
 // Whether a load of at most 101 bytes gives these, or fails and leaves none.
@@ -278,35 +160,24 @@ const LOADS: [(&str, u8, Option<&[u8]>, u64); 8] = [
     ("none", 0, Some(b""), 2),
 ];
 
-fn expect_loads(rt: &impl Abort, shelf: &mut MemShelf, into: &mut Vec<u8>) {
-    for (name, limit, want, failures) in &LOADS {
-        assert!(rt; loads(shelf, into, name, *limit, *want), "{name} {limit}");
-        assert!(rt; shelf.failures() == *failures, "{name} {limit}");
+// Whether all loads go so, one after another.
+fn loads_all(shelf: &mut MemShelf, into: &mut Vec<u8>) -> bool {
+    for (name, limit, want, failures) in LOADS {
+        if !loads(shelf, into, name, limit, want) || shelf.failures() != failures {
+            return false;
+        }
     }
-}
-
-fn left_over(rt: &impl Abort, alloc: Global) -> Vec<u8> {
-    match b"left over".to_vec(alloc) {
-        Ok(bytes) => bytes,
-        Err(_) => panic!(rt; "no memory"),
-    }
+    true
 }
 
 #[test]
 fn loads_files(rt: HostRuntime) {
-    expect_loads(
-        &rt,
-        &mut shelf(&rt, rt.alloc()),
-        &mut left_over(&rt, rt.alloc()),
-    );
-}
-
-fn sink(rt: &impl Abort, alloc: Global) -> MemSink {
-    let mut sink = MemSink::new(alloc);
-    assert!(rt; sink.put(b"a").is_err());
-    assert!(rt; sink.reserve(6).is_ok());
-    assert!(rt; sink.fail_call(4).is_ok());
-    sink
+    let mut shelf = MemShelf::new(rt.alloc());
+    assert!(rt; shelf.add_file("net", b"older").is_ok());
+    assert!(rt; shelf.add_file("net", b"newer!").is_ok());
+    assert!(rt; shelf.add_file("none", b"").is_ok());
+    assert!(rt; shelf.fail_call(3).is_ok());
+    assert!(rt; loads_all(&mut shelf, &mut Vec::new(rt.alloc())));
 }
 
 // The piece, whether it is taken, what has been taken then, and how many puts have failed.
@@ -320,19 +191,19 @@ const PUTS: [(&[u8], bool, &[u8], u64); 7] = [
     (b"g", false, b"abcdef", 4),
 ];
 
-fn expect_puts(rt: &impl Abort, sink: &mut MemSink) {
-    for (piece, done, taken, failures) in &PUTS {
-        assert!(rt; sink.put(piece).is_ok() == *done, "{piece:?}");
-        assert!(rt;
-            sink.taken() == *taken && sink.failures() == *failures,
-            "{piece:?}"
-        );
-    }
+fn puts(sink: &mut MemSink, piece: &[u8], done: bool, taken: &[u8], failures: u64) -> bool {
+    sink.put(piece).is_ok() == done && sink.taken() == taken && sink.failures() == failures
 }
 
+// Nothing is reserved for the first put, and the fourth is told to fail.
 #[test]
 fn takes_pieces(rt: HostRuntime) {
-    expect_puts(&rt, &mut sink(&rt, rt.alloc()));
+    let mut sink = MemSink::new(rt.alloc());
+    assert!(rt; sink.put(b"a").is_err());
+    assert!(rt; sink.reserve(6).is_ok() && sink.fail_call(4).is_ok());
+    for (piece, done, taken, failures) in PUTS {
+        assert!(rt; puts(&mut sink, piece, done, taken, failures));
+    }
 }
 
 // The piece, and how many bytes were taken then.
@@ -342,10 +213,7 @@ const COUNTS: [(&[u8], u64); 4] = [(b"abc", 3), (b"", 3), (b"d", 4), (b"efgh", 8
 fn counts_bytes(rt: HostRuntime) {
     let mut sink = CountSink::new();
     assert!(rt; sink.bytes() == 0);
-    for (piece, bytes) in &COUNTS {
-        assert!(rt;
-            sink.put(piece).is_ok() && sink.bytes() == *bytes,
-            "{piece:?}"
-        );
+    for (piece, bytes) in COUNTS {
+        assert!(rt; sink.put(piece).is_ok() && sink.bytes() == bytes);
     }
 }

@@ -1,7 +1,7 @@
 //! Calls of the crates that hold plants and logs, with the answers that are due.
 //!
-//! Here stands what only a call shows: names and tables, the builder's refusals and the order among them, what a network
-//! says of itself, orders of alarms, scripts and printed logs. What a command of the program shows stands in `cases/`.
+//! Each public call is made once, where memory is ample, with what only a call shows: names and tables, what a network says
+//! of itself, orders of alarms, scripts and printed logs. What a command of the program shows stands in `cases/`.
 #![tactic(auto)]
 
 #[cfg(test)]
@@ -12,8 +12,6 @@ mod csv_calls;
 mod generated_calls;
 #[cfg(test)]
 mod indep_calls;
-#[cfg(test)]
-mod limit_calls;
 #[cfg(test)]
 mod made;
 #[cfg(test)]

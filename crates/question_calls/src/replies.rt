@@ -1,41 +1,45 @@
 // Replies that the program can't be brought to print, and runs that were read and are printed again, with their texts written by hand.
-ghost use Rattle.std.specs.Prelude.{◌<◌, All, length};
+ghost use Rattle.std.specs.Prelude.{◌<◌, All, IfSome, length};
 ghost use Rattle.replay.specs.Traced.{word_of};
-ghost use Rattle.report.specs.Replies.{EventsKnown};
 
-use crate::models::{PUMP, network};
+use crate::models::network;
 use des_net::Network;
 use least_faults::{Best, Found};
 use replay::{Run, Traced, read_run};
 use report::{print_found, print_run, print_traced};
 use std::alloc::Global;
-use std::process::Abort;
 
-// A text to append to.
-fn started(rt: &impl Abort, alloc: Global) -> Vec<u8> {
-    let mut out = Vec::new(alloc);
-    assert!(rt; out.extend_from_slice(b"> ").is_ok());
-    out
+// One component, and the events jam and trip, which are not seen.
+const PUMP: &str =
+    "des 1\ncomponent pump\nstate on init\ntrans on turn on\nevent jam fault : pump.turn\nevent trip : pump.turn\n";
+
+// Begins a text to append to.
+fn begins(out: &mut Vec<u8>) -> bool {
+    out.extend_from_slice(b"> ").is_ok()
+}
+
+fn prints_stuck(out: &mut Vec<u8>) -> bool {
+    begins(out)
+        && print_traced(&Traced::Stuck { at: 4_294_967_295 }, out).is_ok()
+        && out.as_slice() == b"> REJECTED STUCK 4294967295\n".as_slice()
 }
 
 #[test]
 fn appends_what_was_traced(rt: HostRuntime) {
-    let mut out = started(&rt, rt.alloc());
-    assert!(rt; print_traced(&Traced::Stuck { at: 4_294_967_295 }, &mut out).is_ok());
-    assert!(rt; out.as_slice() == b"> REJECTED STUCK 4294967295\n".as_slice());
+    assert!(rt; prints_stuck(&mut Vec::new(rt.alloc())));
 }
 
 // The run of a text, whose events are the network's.
-fn run_of(rt: &impl Abort, alloc: Global, net: &Network, text: &str) -> Run
-    ensures { All (λ e. e < length net.now.events) (word_of result) }
+fn run_of(alloc: Global, net: &Network, text: &str) -> Option<Run>
+    ensures { IfSome result (λ run. All (λ e. e < length net.now.events) (word_of run)) }
 {
-    assert!(rt; text.len() < 100);
-    read_run(alloc, text.as_bytes(), net)
-        .ok()
-        .expect(rt, "a run without a fault")
+    if text.len() > 100 {
+        return None;
+    }
+    read_run(alloc, text.as_bytes(), net).ok()
 }
 
-// A text of a run, and how the run is printed.
+// A text of a run, and how the run is printed behind the sign `> `.
 const RUNS: [(&str, &str); 5] = [
     ("run 0", "> run 0\n"),
     ("run 1\njam\n", "> run 1\njam\n"),
@@ -50,57 +54,58 @@ const RUNS: [(&str, &str); 5] = [
     ),
 ];
 
-fn assert_printed(rt: &impl Abort, alloc: Global, net: &Network, run: &Run, text: &str)
-    requires { All (λ e. e < length net.now.events) (word_of run.now) }
-{
-    let mut out = started(rt, alloc);
-    assert!(rt; print_run(run, net, &mut out).is_ok());
-    assert!(rt; out.as_slice() == text.as_bytes());
-}
-
-fn assert_row(rt: &impl Abort, alloc: Global, net: &Network, row: &(&str, &str)) {
-    let run = run_of(rt, alloc, net, row.0);
-    assert_printed(rt, alloc, net, &run, row.1);
-}
-
-#[test]
-fn appends_runs(rt: HostRuntime) {
-    let net = network(&rt, rt.alloc(), PUMP);
-    for row in &RUNS {
-        assert_row(&rt, rt.alloc(), &net, row);
+fn prints(alloc: Global, net: &Network, text: &str, out: &mut Vec<u8>) -> bool {
+    match run_of(alloc, net, text) {
+        Some(run) => print_run(&run, net, out).is_ok(),
+        None => false,
     }
 }
 
-// That 13 to 25 faults are needed, by a run of two events.
-fn undecided(rt: &impl Abort, alloc: Global, net: &Network) -> Found
-    ensures { EventsKnown net.now result }
+fn prints_row(alloc: Global, net: &Network, row: &(&str, &str), out: &mut Vec<u8>) -> bool {
+    out.clear();
+    begins(out) && prints(alloc, net, row.0, out) && out.as_slice() == row.1.as_bytes()
+}
+
+// Appends that 13 to 25 faults are needed, by a run.
+fn prints_undecided(net: &Network, run: Run, out: &mut Vec<u8>) -> bool
+    requires { All (λ e. e < length net.now.events) (word_of run) }
 {
-    let run = run_of(rt, alloc, net, "run 2\njam\ntrip a1\n");
     let best = Some(Best { faults: 25, run });
-    Found::Undecided { lo: 13, best }
+    print_found(&Found::Undecided { lo: 13, best }, net, 40, out).is_ok()
 }
 
-fn assert_told(rt: &impl Abort, net: &Network, found: &Found, text: &str, out: &mut Vec<u8>)
-    requires { EventsKnown net.now found.now }
-{
-    assert!(rt; print_found(found, net, 40, out).is_ok());
-    assert!(rt; out.as_slice() == text.as_bytes());
+// The same by a run of two events.
+fn prints_two(alloc: Global, net: &Network, out: &mut Vec<u8>) -> bool {
+    match run_of(alloc, net, "run 2\njam\ntrip a1\n") {
+        Some(run) => prints_undecided(net, run, out),
+        None => false,
+    }
 }
 
-fn assert_undecided(rt: &impl Abort, alloc: Global, net: &Network, out: &mut Vec<u8>) {
-    let found = undecided(rt, alloc, net);
-    assert_told(
-        rt,
-        net,
-        &found,
-        "> UNDECIDED 13 25\nrun 2\njam\ntrip a1\n",
-        out,
-    );
+fn prints_range(alloc: Global, net: &Network, out: &mut Vec<u8>) -> bool {
+    out.clear();
+    begins(out)
+        && prints_two(alloc, net, out)
+        && out.as_slice() == b"> UNDECIDED 13 25\nrun 2\njam\ntrip a1\n".as_slice()
+}
+
+fn prints_all(alloc: Global, net: &Network, out: &mut Vec<u8>) -> bool {
+    for row in &RUNS {
+        if !prints_row(alloc, net, row, out) {
+            return false;
+        }
+    }
+    prints_range(alloc, net, out)
+}
+
+fn are_printed(alloc: Global, out: &mut Vec<u8>) -> bool {
+    match network(alloc, PUMP) {
+        Some(net) => prints_all(alloc, &net, out),
+        None => false,
+    }
 }
 
 #[test]
-fn appends_what_is_undecided(rt: HostRuntime) {
-    let mut out = started(&rt, rt.alloc());
-    let net = network(&rt, rt.alloc(), PUMP);
-    assert_undecided(&rt, rt.alloc(), &net, &mut out);
+fn appends_runs_and_what_is_undecided(rt: HostRuntime) {
+    assert!(rt; are_printed(rt.alloc(), &mut Vec::new(rt.alloc())));
 }

@@ -2,114 +2,139 @@
 ghost use Rattle.std.specs.Prelude.{◌≡◌};
 ghost use Rattle.sat_order.specs.Rank.{IsRanked};
 
-use crate::models::{LATER_ALARM_EXCUSES, network};
+use crate::models::network;
 use alarm_session::{Session, SessionRefusal};
 use des_base::{EventId, Name};
+use des_net::Network;
 use indep::{Indep, plain_touch};
 use least_faults::Found;
 use proof_ledger::Ledger;
 use sat_order::Order;
 use std::alloc::Global;
-use std::process::Abort;
 
-fn name(rt: &impl Abort, alloc: Global, text: &str) -> Name {
-    Name::new(alloc, text.as_bytes()).ok().expect(rt, "a name")
+// A later alarm tells that there was no fault.
+const LATER_ALARM_EXCUSES: &str =
+    "des 1\ncomponent c\nstate s0 init\nstate s1\nstate s2\ntrans s0 y s1\ntrans s1 x s2\ntrans s0 f s1\nevent ey alarm B : c.y\nevent ex alarm A : c.x\nevent ef fault : c.f\n";
+
+fn name(alloc: Global, text: &str) -> Option<Name> {
+    Name::new(alloc, text.as_bytes()).ok()
 }
 
-// Adds an alarm with one label, and sees what is answered.
-fn assert_alarm<R: Fn(u32) -> u64>(
-    rt: &impl Abort,
+// What is answered to an alarm with one label, or to one that is perhaps false.
+fn alarm<R: Fn(u32) -> u64>(
+    session: &mut Session<'_, R>,
+    id: Name,
+    label: Name,
+    maybe: bool,
+) -> Result<u32, SessionRefusal>
+    requires ranked { IsRanked R.pre R.post session.old.order }
+    ensures ranked { IsRanked R.pre R.post session.new.order }
+{
+    let labels = [label];
+    if maybe {
+        session.maybe(id, &labels)
+    } else {
+        session.alarm(id, &labels)
+    }
+}
+
+// Whether an alarm is answered so.
+fn adds<R: Fn(u32) -> u64>(
     alloc: Global,
     session: &mut Session<'_, R>,
     id: &str,
     label: &str,
+    maybe: bool,
     want: Result<u32, SessionRefusal>,
-)
+) -> bool
     requires ranked { IsRanked R.pre R.post session.old.order }
     ensures ranked { IsRanked R.pre R.post session.new.order }
 {
-    let labels = [name(rt, alloc, label)];
-    let answer = session.alarm(name(rt, alloc, id), &labels);
-    assert!(rt; answer == want);
+    match (name(alloc, id), name(alloc, label)) {
+        (Some(id), Some(label)) => alarm(session, id, label, maybe) == want,
+        _ => false,
+    }
 }
 
-// The same of one that is perhaps false.
-fn assert_maybe<R: Fn(u32) -> u64>(
-    rt: &impl Abort,
-    alloc: Global,
-    session: &mut Session<'_, R>,
-    id: &str,
-    label: &str,
-    want: Result<u32, SessionRefusal>,
-)
-    requires ranked { IsRanked R.pre R.post session.old.order }
-    ensures ranked { IsRanked R.pre R.post session.new.order }
-{
-    let labels = [name(rt, alloc, label)];
-    let answer = session.maybe(name(rt, alloc, id), &labels);
-    assert!(rt; answer == want);
-}
-
-// Adds a pair, and sees what is answered.
-fn assert_before<R: Fn(u32) -> u64>(
-    rt: &impl Abort,
+// Whether a pair is answered so.
+fn orders<R: Fn(u32) -> u64>(
     alloc: Global,
     session: &mut Session<'_, R>,
     first: &str,
     second: &str,
     want: Result<bool, SessionRefusal>,
-)
+) -> bool
     requires ranked { IsRanked R.pre R.post session.old.order }
     ensures ranked { IsRanked R.pre R.post session.new.order }
 {
-    let first = name(rt, alloc, first);
-    let second = name(rt, alloc, second);
-    assert!(rt; session.before(&first, &second) == want);
-}
-
-// Asks, and sees that so many faults explain the log.
-fn assert_least<R: Fn(u32) -> u64>(rt: &impl Abort, session: &mut Session<'_, R>, want: u32)
-    requires ranked { IsRanked R.pre R.post session.old.order }
-    ensures ranked { IsRanked R.pre R.post session.new.order }
-{
-    let found = session.ask(1000).ok().expect(rt, "memory is ample");
-    match found {
-        Found::Explained(best) => assert!(rt; best.faults == want),
-        _ => panic!(rt; "something explains the log"),
+    match (name(alloc, first), name(alloc, second)) {
+        (Some(first), Some(second)) => session.before(&first, &second) == want,
+        _ => false,
     }
 }
 
-// A later alarm tells that there was no fault. A second one of its kind can only be false, which is one.
-fn assert_calls<R: Fn(u32) -> u64>(rt: &impl Abort, alloc: Global, session: &mut Session<'_, R>)
+// Whether so many faults explain the log.
+fn takes<R: Fn(u32) -> u64>(session: &mut Session<'_, R>, want: u32) -> bool
     requires ranked { IsRanked R.pre R.post session.old.order }
+    ensures ranked { IsRanked R.pre R.post session.new.order }
 {
-    assert_alarm(rt, alloc, session, "a", "A", Ok(0));
-    assert_least(rt, session, 1);
-    assert_alarm(rt, alloc, session, "b", "B", Ok(1));
-    assert_before(rt, alloc, session, "b", "a", Ok(true));
-    assert_before(rt, alloc, session, "b", "a", Ok(false));
-    assert_before(rt, alloc, session, "a", "b", Err(SessionRefusal::Cycle));
-    assert_least(rt, session, 0);
-    assert_maybe(rt, alloc, session, "b", "B", Err(SessionRefusal::Double));
-    assert_maybe(rt, alloc, session, "c", "B", Ok(2));
-    assert_least(rt, session, 1);
-    assert!(rt; session.log().alarms() == 3 && session.log().pair_count() == 1);
-    assert!(rt; session.book().entries() > 0);
+    match session.ask(1000) {
+        Ok(Found::Explained(best)) => best.faults == want,
+        _ => false,
+    }
+}
+
+// A later alarm tells that there was no fault.
+fn excuses<R: Fn(u32) -> u64>(alloc: Global, session: &mut Session<'_, R>) -> bool
+    requires ranked { IsRanked R.pre R.post session.old.order }
+    ensures ranked { IsRanked R.pre R.post session.new.order }
+{
+    adds(alloc, session, "a", "A", false, Ok(0))
+        && takes(session, 1)
+        && adds(alloc, session, "b", "B", false, Ok(1))
+        && orders(alloc, session, "b", "a", Ok(true))
+        && orders(alloc, session, "b", "a", Ok(false))
+        && orders(alloc, session, "a", "b", Err(SessionRefusal::Cycle))
+        && takes(session, 0)
+}
+
+// A second alarm of its kind can only be false, which is a fault.
+fn doubts<R: Fn(u32) -> u64>(alloc: Global, session: &mut Session<'_, R>) -> bool
+    requires ranked { IsRanked R.pre R.post session.old.order }
+    ensures ranked { IsRanked R.pre R.post session.new.order }
+{
+    adds(alloc, session, "b", "B", true, Err(SessionRefusal::Double))
+        && adds(alloc, session, "c", "B", true, Ok(2))
+        && takes(session, 1)
+        && session.log().alarms() == 3
+        && session.log().pair_count() == 1
+        && session.book().entries() > 0
+}
+
+// Whether all is answered so by a session that decides the last variable first, and its book is handed back.
+fn is_answered(alloc: Global, net: &Network) -> bool {
+    let test = Indep::new(net, |a: u32, b: u32| {
+        plain_touch(net, EventId(a), EventId(b))
+    });
+    let rank = Order::new(alloc, |var: u32| var as u64);
+    match Session::new(alloc, net, 2, &test, rank, Ledger::new(alloc)) {
+        Ok(session) => {
+            let mut session = session;
+            let answered = excuses(alloc, &mut session) && doubts(alloc, &mut session);
+            session.into_book().entries() > 0 && answered
+        }
+        Err(_) => false,
+    }
+}
+
+fn answers(alloc: Global) -> bool {
+    match network(alloc, LATER_ALARM_EXCUSES) {
+        Some(net) => is_answered(alloc, &net),
+        None => false,
+    }
 }
 
 #[test]
 fn answers_call_by_call(rt: HostRuntime) {
-    let net = network(&rt, rt.alloc(), LATER_ALARM_EXCUSES);
-    let test = Indep::new(&net, |a: u32, b: u32| {
-        plain_touch(&net, EventId(a), EventId(b))
-    });
-    let rank = Order::new(rt.alloc(), |var: u32| var as u64);
-    match Session::new(rt.alloc(), &net, 2, &test, rank, Ledger::new(rt.alloc())) {
-        Ok(session) => {
-            let mut session = session;
-            assert_calls(&rt, rt.alloc(), &mut session);
-            assert!(rt; session.into_book().entries() > 0);
-        }
-        Err(_) => panic!(rt; "a small question is refused"),
-    }
+    assert!(rt; answers(rt.alloc()));
 }

@@ -1,124 +1,97 @@
-// Sizes of questions that were worked by hand, on networks and logs of a few rows and of many.
-use crate::models::{EMPTY, VALVE, VALVE_AND_BELL, alarm_log, network};
+// Sizes of questions that were worked by hand.
+use crate::models::{alarm_log, network};
 use des_net::Network;
-use least_faults::MOST_SIZE;
-use log_order::AlarmLog;
+use gen_plant::generate;
 use sizing::question_size;
 use std::alloc::Global;
-use std::process::Abort;
 
 // A log, the steps, and the size.
 type Row = (&'static str, u32, u64);
 
+const EMPTY: &str = "des 1\n";
+
 // An alarm that no event can be, in each of the steps.
 const SIZES_OF_NOTHING: [Row; 2] = [("", 3, 0), ("alarm,x0,T\n", 3, 3)];
 
+// A valve that beats until it jams; then it trips, and is fixed.
+const VALVE: &str =
+    "des 1\ncomponent p\nstate ok init\nstate bad\nstate off\ntrans ok jam bad\ntrans bad trip off\ntrans off fix ok\ntrans ok beat ok\nevent jam fault : p.jam\nevent trip alarm T : p.trip\nevent fix alarm F : p.fix\nevent beat alarm B : p.beat\n";
+
 // One component, of 3 states, which 4 events touch; one of these is a fault.
 const SIZES_OF_VALVE: [Row; 5] = [
-    ("", 2, 2 * 49 + 512),
+    ("", 2, 610),
     ("alarm,x0,T\n", 2, 614),
     ("maybe,x0,T\n", 2, 870),
     ("alarm,x0,T\n", 0, 0),
-    (
-        "alarm,x0,T|F|B\nalarm,x1,X\nbefore,x0,x1\n",
-        1,
-        49 + 10 + 1 + 1 + 256,
-    ),
+    ("alarm,x0,T|F|B\nalarm,x1,X\nbefore,x0,x1\n", 1, 317),
 ];
+
+// The valve and a bell, which rings by itself, by a fault, and as the valve trips.
+const VALVE_AND_BELL: &str =
+    "des 1\ncomponent valve\nstate ok init\nstate bad\nstate off\ntrans ok jam bad\ntrans bad trip off\ntrans off fix ok\ntrans ok beat ok\nevent jam fault : valve.jam\ncomponent bell\nstate idle init\ntrans idle ring idle\nevent R alarm R : bell.ring\nevent crack fault : bell.ring\nevent trip alarm R : valve.trip bell.ring\n";
 
 // Two components, of 3 states and 2 events and of 1 state and 3 events; two events are faults.
 const SIZES_OF_VALVE_AND_BELL: [Row; 4] = [
-    (
-        "alarm,x0,R\nalarm,x1,B\nbefore,x0,x1\n",
-        1,
-        25 + 16 + 5 + 1 + 1 + 512,
-    ),
-    ("alarm,x0,R\nalarm,x1,B\n", 1, 25 + 16 + 5 + 1 + 512),
+    ("alarm,x0,R\nalarm,x1,B\nbefore,x0,x1\n", 1, 560),
+    ("alarm,x0,R\nalarm,x1,B\n", 1, 559),
     (
         "alarm,x0,B|R\nalarm,x1,R\nalarm,x2,R|R\nalarm,x3,B\nbefore,x0,x1\nbefore,x1,x2\nbefore,x2,x3\n",
         7,
-        7 * (41 + 5 + 5 + 5 + 1 + 3) + 3584,
+        4_004,
     ),
-    ("alarm,x0,R\n", 1000, 1000 * (41 + 5) + 512_000),
+    ("alarm,x0,R\n", 1000, 558_000),
 ];
 
-fn assert_size(rt: &impl Abort, alloc: Global, net: &Network, row: &Row) {
-    let (text, n, want) = *row;
-    assert!(rt; n <= 1000);
-    let log = alarm_log(rt, alloc, text);
-    assert!(rt; question_size(net, &log, n) == want, "{text} in {n} steps");
+// Of 40 units that trip over a bus. The alarm has their first labels, 64 in all.
+const SIZES_OF_UNITS: [Row; 2] = [
+    ("", 1000, 13_361_000),
+    (
+        "alarm,a,T-1|T-2|T-3|T-4|T-5|T-6|T-7|T-8|T-9|T-10|T-11|T-12|T-13|T-14|T-15|T-16|T-17|T-18|T-19|T-20|T-21|T-22|T-23|T-24|T-25|T-26|T-27|T-28|T-29|T-30|T-31|T-32|T-33|T-34|T-35|T-36|T-37|T-38|T-39|T-40|F-1|F-2|F-3|F-4|F-5|F-6|F-7|F-8|F-9|F-10|F-11|F-12|F-13|F-14|F-15|F-16|F-17|F-18|F-19|F-20|F-21|F-22|F-23|F-24\n",
+        1000,
+        17_458_000,
+    ),
+];
+
+// Whether these are the sizes of questions about a network.
+fn are_sizes(alloc: Global, net: &Network, rows: &[Row]) -> bool {
+    for (text, steps, want) in rows {
+        if size_of(alloc, net, text, *steps) != Some(*want) {
+            return false;
+        }
+    }
+    true
 }
 
-fn assert_sizes(rt: &impl Abort, alloc: Global, model: &str, rows: &[Row]) {
-    let net = network(rt, alloc, model);
-    for row in rows {
-        assert_size(rt, alloc, &net, row);
+fn size_of(alloc: Global, net: &Network, text: &str, steps: u32) -> Option<u64> {
+    let log = alarm_log(alloc, text)?;
+    if steps > 1000 {
+        return None;
     }
+    Some(question_size(net, &log, steps))
+}
+
+fn has_sizes(alloc: Global, model: &str, rows: &[Row]) -> bool {
+    match network(alloc, model) {
+        Some(net) => are_sizes(alloc, &net, rows),
+        None => false,
+    }
+}
+
+fn units_have_sizes(alloc: Global) -> bool {
+    match generate(alloc, 40, 7) {
+        Ok(plant) => are_sizes(alloc, &plant.net, &SIZES_OF_UNITS),
+        Err(_) => false,
+    }
+}
+
+fn are_told(alloc: Global) -> bool {
+    has_sizes(alloc, EMPTY, &SIZES_OF_NOTHING)
+        && has_sizes(alloc, VALVE, &SIZES_OF_VALVE)
+        && has_sizes(alloc, VALVE_AND_BELL, &SIZES_OF_VALVE_AND_BELL)
+        && units_have_sizes(alloc)
 }
 
 #[test]
 fn tells_sizes(rt: HostRuntime) {
-    assert_sizes(&rt, rt.alloc(), EMPTY, &SIZES_OF_NOTHING);
-    assert_sizes(&rt, rt.alloc(), VALVE, &SIZES_OF_VALVE);
-    assert_sizes(&rt, rt.alloc(), VALVE_AND_BELL, &SIZES_OF_VALVE_AND_BELL);
-}
-
-// Appends a unit with one state, which an event moves by itself: a fault that can be seen.
-fn push_unit(rt: &impl Abort, alloc: Global, model: &mut String, number: u32) {
-    let unit = format!(in alloc;
-        "component u{number}\nstate s init\ntrans s a s\nevent e{number} alarm L{number} fault : u{number}.a\n"
-    );
-    assert!(rt;
-        model
-            .push_str(unit.ok().expect(rt, "memory is ample").as_str())
-            .is_ok()
-    );
-}
-
-// Appends its alarm.
-fn push_alarm(rt: &impl Abort, alloc: Global, log: &mut String, number: u32) {
-    let alarm = format!(in alloc; "alarm,x{number},L{number}\n");
-    assert!(rt;
-        log.push_str(alarm.ok().expect(rt, "memory is ample").as_str())
-            .is_ok()
-    );
-}
-
-// 256 of them.
-fn units(rt: &impl Abort, alloc: Global) -> Network {
-    let mut model = String::new(alloc);
-    assert!(rt; model.push_str(EMPTY).is_ok());
-    for number in 1..257 {
-        push_unit(rt, alloc, &mut model, number);
-    }
-    network(rt, alloc, model.as_str())
-}
-
-fn alarms_of_units(rt: &impl Abort, alloc: Global) -> AlarmLog {
-    let mut log = String::new(alloc);
-    for number in 1..257 {
-        push_alarm(rt, alloc, &mut log, number);
-    }
-    alarm_log(rt, alloc, log.as_str())
-}
-
-// The steps, the size, and whether it is too large.
-const SIZES_OF_UNITS: [(u32, u64, bool); 3] = [
-    (1, 67_072, false),
-    (298, 19_987_456, false),
-    (299, 20_054_528, true),
-];
-
-fn assert_sizes_of_units(rt: &impl Abort, alloc: Global, net: &Network) {
-    let log = alarms_of_units(rt, alloc);
-    for (n, want, large) in SIZES_OF_UNITS {
-        let size = question_size(net, &log, n);
-        assert!(rt; size == want && (size > MOST_SIZE) == large, "{n} steps");
-    }
-}
-
-#[test]
-fn tells_what_is_too_large(rt: HostRuntime) {
-    let net = units(&rt, rt.alloc());
-    assert_sizes_of_units(&rt, rt.alloc(), &net);
+    assert!(rt; are_told(rt.alloc()));
 }
