@@ -26,7 +26,7 @@ use Rattle.diagnose_cli.specs.Run.{SaysStop}
 use Rattle.diagnose_cli.specs.Sessions.{MaySay, status_of_session}
 use Rattle.diagnose_cli.specs.Transcripts.{Ending, OrMemory, UnlessMemory, once}
 use Rattle.diagnose_cli.proofs.Limits.{within_limit, past_limit}
-use Rattle.telling.specs.Telling.{RisesJustWhere}
+use Rattle.telling.specs.Telling.{RisesExactlyIf}
 use Rattle.telling.proofs.Failing.{fails_alike, none_failed}
 use Rattle.telling.proofs.Taking.{nothing_taken}
 use Rattle.diagnose_cli.proofs.Once.{wants_memory}
@@ -46,12 +46,12 @@ said_nothing due lost q taken rose (Err e) is =
     subst (λ (x : Broken). Speaks due lost taken taken rose (status_of_session (Err x))) (sym is) (broke_before due lost q taken rose)
 
 -- and no put failed
-pub failed_nothing : (count : Option ℕ) (r : Result (Unit {0}) Broken) → IsErrAnd r (λ e. e ≡ Memory) → RisesJustWhere (IsErrOf r Put) count count
+pub failed_nothing : (count : Option ℕ) (r : Result (Unit {0}) Broken) → IsErrAnd r (λ e. e ≡ Memory) → RisesExactlyIf (IsErrOf r Put) count count
 failed_nothing count (Ok done) is = absurd is
 failed_nothing count (Err e) is = let memory : e ≡ Memory = is in none_failed (IsErrOf (Err e) Put) count count (λ put. cc) refl
 
 -- a put failed where the status is 4
-pub session_fails : (r : Result (Unit {0}) Broken) (status : ℕ) (before now : Option ℕ) → status ≡ status_of_session r → RisesJustWhere (IsErrOf r Put) before now → RisesJustWhere (status ≡ 4) before now
+pub session_fails : (r : Result (Unit {0}) Broken) (status : ℕ) (before now : Option ℕ) → status ≡ status_of_session r → RisesExactlyIf (IsErrOf r Put) before now → RisesExactlyIf (status ≡ 4) before now
 session_fails (Ok done) status before now is h = fails_alike _ _ before now (λ put. cc) (λ four. absurd (omega (arith, is, four))) h
 session_fails (Err Memory) status before now is h = fails_alike _ _ before now (λ put. cc) (λ four. absurd (omega (arith, is, four))) h
 session_fails (Err Put) status before now is h = fails_alike _ _ before now (λ put. is) (λ four. refl) h

@@ -1,7 +1,7 @@
 // How a command ends: its reply, or why it has none, and what is put then.
 ghost use Rattle.std.specs.Prelude.{◌≡◌, ◌≢◌, [], ◌∷◌, IfOk, OnOk, Ok, Err};
 ghost use Rattle.des_base.specs.Outside.{Rose};
-ghost use Rattle.telling.specs.Telling.{RisesJustWhere};
+ghost use Rattle.telling.specs.Telling.{RisesExactlyIf};
 ghost use Rattle.diagnose_cli.specs.Transcripts.{once};
 ghost use Rattle.diagnose_cli.specs.Puts.{Puts};
 ghost use Rattle.diagnose_cli.specs.declared.stop.Stop.TheVariants.{Memory as NoMemory};
@@ -72,7 +72,7 @@ impl Reply {
 #[tactic(auto, using(telling::proofs::Taking::nothing_taken, crate::proofs::Once::one_text))]
 pub fn put_once<S: Sink>(alloc: Global, ending: Result<Reply, Stop>, out: &mut S) -> u8
     ensures puts { Puts (once ending) (S.taken out.old) (S.taken out.new) (Rose (S.faults out.old) (S.faults out.new)) result }
-    ensures failures { RisesJustWhere (result ≡ 4) (S.failures out.old) (S.failures out.new) }
+    ensures failures { RisesExactlyIf (result ≡ 4) (S.failures out.old) (S.failures out.new) }
 {
     match told(alloc, ending) {
         Ok((status, text)) => match out.put(text.as_slice()) {

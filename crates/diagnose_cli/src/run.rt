@@ -10,7 +10,7 @@ ghost use Rattle.diagnose_cli.specs.CheapRows.{CheapRows};
 ghost use Rattle.diagnose_cli.specs.TwinRows.{TwinRows};
 ghost use Rattle.diagnose_cli.specs.Run.{Does, LeavesAlone, Ran, is_question};
 ghost use Rattle.diagnose_cli.specs.Transcripts.{UnlessMemory, once};
-ghost use Rattle.telling.specs.Telling.{RisesJustWhere};
+ghost use Rattle.telling.specs.Telling.{RisesExactlyIf};
 
 use crate::asking::{Limits, ask_case};
 use crate::bench_command::bench_command;
@@ -58,7 +58,7 @@ pub fn run<F: Shelf, S: Sink>(
     ensures ran { Ran (outcome (loads F.held F.faults shelf.old shelf.new) words.now (S.taken out.old) (S.taken out.new) book.new.entries result) (Rose (S.faults out.old) (S.faults out.new)) }
     ensures left_alone { LeavesAlone words.now result shelf.old shelf.new book.old book.new }
     ensures left { LeftRow (outcome (loads F.held F.faults shelf.old shelf.new) words.now (S.taken out.old) (S.taken out.new) book.new.entries result) }
-    ensures failures { RisesJustWhere (result ≡ 4) (S.failures out.old) (S.failures out.new) }
+    ensures failures { RisesExactlyIf (result ≡ 4) (S.failures out.old) (S.failures out.new) }
 {
     respond(alloc, words, shelf, out, book)
 }
@@ -75,7 +75,7 @@ fn respond<F: Shelf, S: Sink>(
     ensures does { Does (outcome (loads F.held F.faults shelf.old shelf.new) words.now (S.taken out.old) (S.taken out.new) book.new.entries result) (Rose (S.faults out.old) (S.faults out.new)) }
     ensures left_alone { LeavesAlone words.now result shelf.old shelf.new book.old book.new }
     ensures left { LeftRow (outcome (loads F.held F.faults shelf.old shelf.new) words.now (S.taken out.old) (S.taken out.new) book.new.entries result) }
-    ensures failures { RisesJustWhere (result ≡ 4) (S.failures out.old) (S.failures out.new) }
+    ensures failures { RisesExactlyIf (result ≡ 4) (S.failures out.old) (S.failures out.new) }
 {
     match command_of(words) {
         None => put_once(alloc, Err(Stop::Usage), out),

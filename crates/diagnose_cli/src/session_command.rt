@@ -13,7 +13,7 @@ ghost use Rattle.indep.specs.StoredTest.{IsTest};
 ghost use Rattle.log_csv.specs.ScriptText.{script_of};
 ghost use Rattle.model_text.specs.ModelFaults.{network_of};
 ghost use Rattle.sat_order.specs.Rank.{IsRanked};
-ghost use Rattle.telling.specs.Telling.{RisesJustWhere};
+ghost use Rattle.telling.specs.Telling.{RisesExactlyIf};
 
 use crate::asking::Limits;
 use crate::command::Command;
@@ -49,7 +49,7 @@ pub fn session_command<F: Shelf, S: Sink>(
     requires empty { book.old.entries ≡ [] }
     ensures speaks { Speaks (Due (loads F.held F.faults shelf.old shelf.new) words.now book.new.entries) (HasNotBegun words.now book.new.entries) (S.taken out.old) (S.taken out.new) (Rose (S.faults out.old) (S.faults out.new)) result }
     ensures stopped { SaysStop result → book.new ≡ book.old }
-    ensures failures { RisesJustWhere (result ≡ 4) (S.failures out.old) (S.failures out.new) }
+    ensures failures { RisesExactlyIf (result ≡ 4) (S.failures out.old) (S.failures out.new) }
 {
     match fetch_plan(alloc, words, shelf, limits) {
         Ok(plan) => carry_out(alloc, &plan, out, book),
@@ -63,7 +63,7 @@ fn carry_out<S: Sink>(alloc: Global, plan: &Plan, out: &mut S, book: &mut Ledger
     requires empty { book.old.entries ≡ [] }
     ensures speaks { (words : List (List ℕ)) (text lines : List ℕ) → plan.now.net ≡ network_of text → plan.now.script ≡ script_of lines → Speaks (Closes (Command.Session plan.now.limits.steps plan.now.limits.budget) words book.new.entries (text ∷ lines ∷ [])) (book.new.entries ≡ []) (S.taken out.old) (S.taken out.new) (Rose (S.faults out.old) (S.faults out.new)) result }
     ensures stopped { SaysStop result → book.new ≡ book.old }
-    ensures failures { RisesJustWhere (result ≡ 4) (S.failures out.old) (S.failures out.new) }
+    ensures failures { RisesExactlyIf (result ≡ 4) (S.failures out.old) (S.failures out.new) }
 {
     let size = question_size(&plan.net, &AlarmLog::new(alloc), plan.limits.steps);
     if size > MOST_SIZE {
@@ -93,7 +93,7 @@ fn carry_out_rows<S: Sink>(
     requires steps { plan.now.limits.steps ≤ MOST_STEPS }
     requires empty { book.old.entries ≡ [] }
     ensures speaks { Speaks (MaySay plan.now.net plan.now.limits.steps plan.now.limits.budget plan.now.script book.new.entries) (book.new.entries ≡ []) (S.taken out.old) (S.taken out.new) (Rose (S.faults out.old) (S.faults out.new)) (status_of_session result) }
-    ensures failures { RisesJustWhere (IsErrOf result Broken.Put) (S.failures out.old) (S.failures out.new) }
+    ensures failures { RisesExactlyIf (IsErrOf result Broken.Put) (S.failures out.old) (S.failures out.new) }
 {
     let table = Table::new(alloc, &plan.net)?;
     let test = Indep::new(&plan.net, |a: u32, b: u32| {
@@ -115,7 +115,7 @@ fn carry_out_by_test<T: Fn(u32, u32) -> bool, S: Sink>(
     requires steps { plan.now.limits.steps ≤ MOST_STEPS }
     requires empty { book.old.entries ≡ [] }
     ensures speaks { Speaks (MaySay plan.now.net plan.now.limits.steps plan.now.limits.budget plan.now.script book.new.entries) (book.new.entries ≡ []) (S.taken out.old) (S.taken out.new) (Rose (S.faults out.old) (S.faults out.new)) (status_of_session result) }
-    ensures failures { RisesJustWhere (IsErrOf result Broken.Put) (S.failures out.old) (S.failures out.new) }
+    ensures failures { RisesExactlyIf (IsErrOf result Broken.Put) (S.failures out.old) (S.failures out.new) }
 {
     let first = step_variables(alloc, &plan.net, plan.limits.steps, test)?;
     let order = Order::new(alloc, |var: u32| u64::from(var >= first));
@@ -138,7 +138,7 @@ fn carry_out_by_order<T: Fn(u32, u32) -> bool, R: Fn(u32) -> u64, S: Sink>(
     requires steps { plan.now.limits.steps ≤ MOST_STEPS }
     requires empty { book.old.entries ≡ [] }
     ensures speaks { Speaks (MaySay plan.now.net plan.now.limits.steps plan.now.limits.budget plan.now.script book.new.entries) (book.new.entries ≡ []) (S.taken out.old) (S.taken out.new) (Rose (S.faults out.old) (S.faults out.new)) (status_of_session result) }
-    ensures failures { RisesJustWhere (IsErrOf result Broken.Put) (S.failures out.old) (S.failures out.new) }
+    ensures failures { RisesExactlyIf (IsErrOf result Broken.Put) (S.failures out.old) (S.failures out.new) }
 {
     let own = mem::replace(book, Ledger::new(alloc));
     match Session::new(alloc, &plan.net, plan.limits.steps, test, order, own) {
@@ -159,7 +159,7 @@ fn tell_rows<'a, R: Fn(u32) -> u64, S: Sink>(
     requires ranked { IsRanked R.pre R.post session.order }
     requires steps { plan.now.limits.steps ≤ MOST_STEPS }
     ensures speaks { Speaks (MaySay plan.now.net plan.now.limits.steps plan.now.limits.budget plan.now.script book.new.entries) (book.new.entries ≡ []) (S.taken out.old) (S.taken out.new) (Rose (S.faults out.old) (S.faults out.new)) (status_of_session result) }
-    ensures failures { RisesJustWhere (IsErrOf result Broken.Put) (S.failures out.old) (S.failures out.new) }
+    ensures failures { RisesExactlyIf (IsErrOf result Broken.Put) (S.failures out.old) (S.failures out.new) }
 {
     // Its reader tells that the book asks about the empty log.
     let _book = session.book();

@@ -70,6 +70,6 @@ pub record EachGoes {S I : Type 0} (goes : S → I → S → Option (List ℕ) �
 -- ---- what fails
 
 -- A count went up by one where this is so, and stays where it isn't: of puts that failed there was one then, and else none. Nothing is said of a count that isn't told.
-pub record RisesJustWhere (P : Type 0) (before now : Option ℕ) : Type 0 where
+pub record RisesExactlyIf (P : Type 0) (before now : Option ℕ) : Type 0 where
   pub rises : P → now ≡ option_map raised before
   pub stays : (P → ⊥) → now ≡ before

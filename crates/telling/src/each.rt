@@ -1,7 +1,7 @@
 // What tells of items one after another, and the loop that puts what it tells.
 ghost use Rattle.std.specs.Prelude.{◌≡◌, ◌≤◌, ℕ, List, [], ◌∷◌, Option, IfOk, OnErr, IsErrOf, option_map};
 ghost use Rattle.des_base.specs.Outside.{Rose};
-ghost use Rattle.telling.specs.Telling.{EachGoes, RisesJustWhere};
+ghost use Rattle.telling.specs.Telling.{EachGoes, RisesExactlyIf};
 ghost use Rattle.telling.specs.declared.each.Broken.TheVariants.{Memory as NoMemory};
 
 use des_base::{Memory, Sink};
@@ -56,7 +56,7 @@ pub fn put_each<T: Teller, S: Sink>(
     ensures ready { T.ready teller.new }
     ensures goes { EachGoes T.goes T.undone teller.old items.now teller.new (S.taken out.old) (S.taken out.new) (Rose (S.faults out.old) (S.faults out.new)) result }
     ensures never_falls { S.faults out.old ≤ S.faults out.new }
-    ensures failures { RisesJustWhere (IsErrOf result Broken.Put) (S.failures out.old) (S.failures out.new) }
+    ensures failures { RisesExactlyIf (IsErrOf result Broken.Put) (S.failures out.old) (S.failures out.new) }
 {
     for item in items {
         put_one(alloc, teller, item, out)?;
@@ -75,7 +75,7 @@ fn put_one<T: Teller, S: Sink>(
     ensures ready { T.ready teller.new }
     ensures goes { EachGoes T.goes T.undone teller.old (item.now ∷ []) teller.new (S.taken out.old) (S.taken out.new) (Rose (S.faults out.old) (S.faults out.new)) result }
     ensures never_falls { S.faults out.old ≤ S.faults out.new }
-    ensures failures { RisesJustWhere (IsErrOf result Broken.Put) (S.failures out.old) (S.failures out.new) }
+    ensures failures { RisesExactlyIf (IsErrOf result Broken.Put) (S.failures out.old) (S.failures out.new) }
 {
     match teller.tell(alloc, item) {
         Ok(Some(text)) => match out.put(text.as_slice()) {
