@@ -15,6 +15,7 @@ use Rattle.log_csv.specs.LogText.{log_of}
 use Rattle.log_order.specs.Log.{Log}
 use Rattle.model_text.specs.ModelFaults.{network_of}
 use Rattle.proof_ledger.specs.Book.{BookEntry}
+use Rattle.prop_core.specs.Clauses.{Clause}
 use Rattle.replay.specs.Explanation.{IsAbsent}
 use Rattle.report.specs.Replies.{text_of_cheap}
 use Rattle.run_decode.specs.QuestionAxioms.{question_axioms}
@@ -92,7 +93,7 @@ module _ (o : Outcome) (q : CostAsked) (budget : ℕ) where
   dear_of (Dear run) is shown put = record { run = run; total = shown.answered.found.total; given = shown.answered.found.given; dear = shown.answered.found.dear; put = put }
   dear_of (Undecided lo best) is shown put = absurd (omega arith)
 
-  known_of : (axioms : List _) (since : List BookEntry) (lo : ℕ) (best : Option Priced) → IfSome best (IsKnownAbove q axioms since lo) → IfSome best (λ priced. IsPriced q priced × (lo < priced.cost))
+  known_of : (axioms : List Clause) (since : List BookEntry) (lo : ℕ) (best : Option Priced) → IfSome best (IsKnownAbove q axioms since lo) → IfSome best (λ priced. IsPriced q priced × (lo < priced.cost))
   known_of axioms since lo None h = tt
   known_of axioms since lo (Some priced) h = (h.given, h.above)
 

@@ -111,16 +111,15 @@ fn reply_to_costs(
 fn tell(
     alloc: Global,
     case: &Case,
-    table: &CostTable,
+    _table: &CostTable,
     limits: Limits,
     cheap: &Cheap,
-    book: &Ledger,
+    _book: &Ledger,
 ) -> Result<Reply, Memory>
     requires steps { limits.steps ≤ MOST_STEPS }
-    requires priced { IsPricedBy case.now.net (cost_at table.now) case.now.log limits.steps limits.budget book.now.entries cheap.now }
-    ensures { IfOk result (SaysCheap case.now.net (cost_at table.now) case.now.log limits.steps limits.budget book.now.entries) }
+    requires priced { IsPricedBy case.now.net (cost_at _table.now) case.now.log limits.steps limits.budget _book.now.entries cheap.now }
+    ensures { IfOk result (SaysCheap case.now.net (cost_at _table.now) case.now.log limits.steps limits.budget _book.now.entries) }
 {
-    let _ = (table, book);
     case.net.is_built();
     case.log.is_whole();
     reply_of_cheap(alloc, &case.net, limits.steps, cheap)

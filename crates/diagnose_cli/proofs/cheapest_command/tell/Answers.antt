@@ -10,7 +10,7 @@ use Rattle.diagnose_cli.proofs.cheapest_command.tell.Goals as goal
 
 pub reply_of_cheap-requires : goal.reply_of_cheap-requires
 reply_of_cheap-requires c =
-    let q : CostAsked = record { net = c.args.case.now.net; cost = cost_at c.args.table.now; log = c.args.case.now.log; steps = c.args.limits.steps } in
+    let q : CostAsked = record { net = c.args.case.now.net; cost = cost_at c.args._table.now; log = c.args.case.now.log; steps = c.args.limits.steps } in
     cheap_known q _ c.requires.priced.answered.since c.args.limits.budget c.args.cheap.now c.requires.priced.answered.found
 
 pub returns : goal.returns
@@ -19,10 +19,10 @@ returns c =
     let log = c.args.case.now.log in
     let n = c.args.limits.steps in
     let budget = c.args.limits.budget in
-    let book = c.args.book.now.entries in
+    let book = c.args._book.now.entries in
     let answer = c.args.cheap.now in
-    let q : CostAsked = record { net = net; cost = cost_at c.args.table.now; log = log; steps = n } in
-    ok_weaker c.reply_of_cheap.result (λ (reply : Kind × List ℕ). reply ≡ reply_of_cheap net n answer) (SaysCheap net (cost_at c.args.table.now) log n budget book)
+    let q : CostAsked = record { net = net; cost = cost_at c.args._table.now; log = log; steps = n } in
+    ok_weaker c.reply_of_cheap.result (λ (reply : Kind × List ℕ). reply ≡ reply_of_cheap net n answer) (SaysCheap net (cost_at c.args._table.now) log n budget book)
     (λ reply is. record {
       answer = answer;
       priced = c.requires.priced;
