@@ -73,24 +73,27 @@ READERS = {
     "run": [["trace", "model", TEXT], ["replay", "model", "log", TEXT, "3"]],
     "formula": [["check", TEXT, "proof"]],
     "proof": [["check", "formula", TEXT]],
+    "costs": [["cheapest", "model", "log", TEXT, "3", "1000"]],
 }
 FILES = {"model": "valve/model.des", "log": "valve/tripped.csv", "formula": "checked_proofs/four_clauses.cnf", "proof": "checked_proofs/two_steps.lrat"}
 # A plant with an event whose name has 64 signs, and another; and one of 64 components, each with an event and a label of its own.
 LONG = "des 1\ncomponent p\nstate s init\ntrans s a s\nevent " + "e" * 64 + " : p.a\nevent beat : p.a\n"
 LABELLED = "des 1\n" + "".join(f"component u{it}\nstate s init\ntrans s a s\nevent e{it} alarm T{it:063} : u{it}.a\n" for it in range(64))
 # The ends of the names of well-formed and other texts of each kind, in the cases.
-ENDS = {"model": ".des", "log": ".csv", "script": ".csv", "run": ".run", "formula": ".cnf", "proof": ".lrat"}
+ENDS = {"model": ".des", "log": ".csv", "script": ".csv", "run": ".run", "formula": ".cnf", "proof": ".lrat", "costs": ".costs"}
 SIGNS = {
     "model": b"des component state init trans event alarm fault : . p a 1 # -_",
     "log": b"alarm maybe before ask , | \" T a1 a2",
     "run": b"run 0 1 2 ! # jam trip a1",
     "formula": b"p cnf 0 1 2 - c",
     "proof": b"0 1 2 5 6 d - c",
+    "costs": b"costs cost 0 1 7 1000 1001 jam trip #",
 }
 # The statuses that each command may have beside those for words, files and memory.
 STATUSES = {
     "show": [0, 5], "diagnose": [0, 5, 6, 10, 11, 12], "cnf": [0, 5, 6], "proof": [0, 5, 6, 11, 14], "session": [0, 5, 6], "trace": [0, 5, 7, 13],
     "replay": [0, 5, 6, 7, 13], "check": [0, 7, 13], "twin": [0, 5, 11, 16, 17],
+    "cheapest": [0, 5, 6, 10, 11, 12, 15],
 }
 EVERYWHERE = [3, 8, 9]
 NAME = r"[A-Za-z0-9_-]{1,64}"
@@ -106,9 +109,10 @@ OUTPUTS = {
     8: r"(?:LONG [123]|LARGE \d+)\n",
     10: r"NONE \d+\n",
     11: rf"UNDECIDED (?:0 -\n|\d+ \d+\n{RUN})",
-    12: rf"MANY 255\n{RUN}",
+    12: rf"(?:MANY 255|DEAR 1000)\n{RUN}",
     13: r"REJECTED (?:STUCK \d+|ALARM \d+|MISSING \S+|ORDER \S+ \S+|WIDE \d+|\d+ [1-4])\n",
     14: r"NOTHING\n",
+    15: r"COST \d+ [1-8]\n",
     16: r"NOFAULT\n",
     17: rf"AMBIGUOUS \d+\nfaulty\n{RUN}healthy\n{RUN}",
 }
@@ -123,6 +127,7 @@ ANSWERS = {
     "replay": r"ACCEPTED \d+\n",
     "check": r"VERIFIED\n",
     "twin": r"CLEAR \d+\n",
+    "cheapest": rf"CHEAPEST \d+\n{RUN}",
 }
 
 

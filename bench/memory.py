@@ -54,6 +54,9 @@ ROWS = [
     ("twins", "twin two_ways.des ef 2 1 1000"),
     ("twins", "twin excused.des ef 2 1 1000"),
     ("twins", "twin valve.des trip 2 1 1000"),
+    ("costs", "cheapest ways.des seen.csv ways.costs 3 1000"),
+    ("costs", "cheapest starts.des both.csv none.costs 2 0"),
+    ("costs", "cheapest valve.des tripped.csv header.costs 2 1000"),
 ]
 # Where a reply of a session begins.
 REPLY = re.compile(r"^(?=(?:EXPLAINED|NONE|MANY|UNDECIDED|REFUSED) )", re.M)
