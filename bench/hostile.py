@@ -361,6 +361,8 @@ def well(kind, size):
         count = min(100_000_000, size // 7)
         front = b"p cnf 2 %d\n" % count
         return filled(front, b"1 -2 0\n", size=len(front) + 7 * count)
+    if kind == "costs":
+        return filled(b"costs 1\ncost jam 7\n", COMMENT, size=size)
     return filled(b"5 2 0 1 2 0\n6 0 5 3 4 0\n", b"1 d 7 8 9 0\n", size=size)
 
 
