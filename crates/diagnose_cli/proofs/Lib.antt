@@ -30,7 +30,6 @@ pub mod CaseAnswers
 pub mod TwinAnswers
 pub mod CheapAnswers
 pub mod Left
-pub mod Taking
 pub mod GenerateAnswers
 pub mod BenchAnswers
 pub mod Speaking

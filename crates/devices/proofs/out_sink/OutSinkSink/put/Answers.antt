@@ -2,8 +2,8 @@
 use Rattle.std.proofs.Common.{rules, ℕ, List, take, subst}
 use Rattle.std.proofs.lemmas.List.{take_rest}
 use Rattle.std.specs.Io.KnownBytes.{Appends}
-use Rattle.diagnose_cli.proofs.Taking.{more_taken}
-use Rattle.diagnose_cli.proofs.out_sink.OutSinkSink.put.Goals as goal
+use Rattle.devices.proofs.Taking.{more_taken}
+use Rattle.devices.proofs.out_sink.OutSinkSink.put.Goals as goal
 
 pub loop-done-preserved : goal.loop-done-preserved
 loop-done-preserved g c =

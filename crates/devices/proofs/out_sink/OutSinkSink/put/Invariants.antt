@@ -1,6 +1,6 @@
 use Rattle.std.proofs.Common.{◌≡◌, ◌≤◌, ◌-◌, ℕ, List, Option, length, take}
 use Rattle.des_base.specs.Outside.{Took}
-use Rattle.diagnose_cli.proofs.out_sink.OutSinkSink.put.Given as goal
+use Rattle.devices.proofs.out_sink.OutSinkSink.put.Given as goal
 
 -- the count has not changed, no more was done than there is, and that front was taken
 pub record Going (before now : ℕ) (held holds : Option (List ℕ)) (done : ℕ) (piece : List ℕ) : Type 0 where

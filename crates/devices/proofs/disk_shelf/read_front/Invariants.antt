@@ -1,5 +1,5 @@
 use Rattle.std.proofs.Common.{◌≤◌, ◌+◌, ◌-◌, vec_len}
-use Rattle.diagnose_cli.proofs.disk_shelf.read_front.Given as goal
+use Rattle.devices.proofs.disk_shelf.read_front.Given as goal
 
 -- no more than the limit and one were read
 abbrev pub invariant-loop-buf : goal.invariant-loop-buf
