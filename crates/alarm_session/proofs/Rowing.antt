@@ -12,6 +12,7 @@ use Rattle.alarm_session.specs.declared.rows.Told.TheVariants.{Made, Refused, An
 use Rattle.des_base.specs.Lists.{Extends}
 use Rattle.des_base.specs.declared.memory.Memory.{Memory as NoMemory}
 use Rattle.des_net.specs.Network.{Net}
+use Rattle.least_faults.proofs.Freshness.{fresh_none}
 use Rattle.least_faults.specs.declared.answer.Found.{Found}
 use Rattle.log_csv.specs.declared.row.Row.{Row}
 use Rattle.log_csv.specs.declared.row.Row.TheVariants.{Alarm, Maybe, Before, Ask}
@@ -129,7 +130,7 @@ module _ (net : Net) (n budget : ℕ) (old : Stage) (row : Row) (new : Stage) wh
       log = ap (λ (s : Stage). s.log) same;
       columns = 0;
       built = ap (λ (s : Stage). s.built) same;
-      grown = record { since = []; whole = ap (λ (s : Stage). s.book) same ∙ sym (append-nil old.book); within = omega arith };
+      grown = record { since = []; whole = ap (λ (s : Stage). s.book) same ∙ sym (append-nil old.book); within = omega arith; fresh = fresh_none old.book };
     };
     addition = λ is. same;
     book = book;

@@ -101,7 +101,7 @@ pub record Becomes (net : Net) (n : ℕ) (wanted : Log) (added : Option Addition
   pub built : new.built ≡ built_on old.built added
   pub few : AddsFew net n old.log wanted old.book new.book
 
--- The log stays, its question perhaps gets further columns, and the book got entries, with no more learnt clauses than the budget says.
+-- The log stays, its question perhaps gets further columns, and the book got entries, of which no more are learnt clauses than the budget says, each of them fresh.
 pub record GoesOn (budget : ℕ) (old new : Stage) : Type 0 where
   pub log : new.log ≡ old.log
   pub columns : ℕ

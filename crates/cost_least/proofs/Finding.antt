@@ -5,7 +5,7 @@ use Rattle.std.proofs.lemmas.List.Elements.{filter_map-append, Contains-append_c
 use Rattle.event_costs.specs.declared.TheConstants.{MOST_COST}
 use Rattle.des_net.specs.Network.{Net}
 use Rattle.log_order.specs.Log.{Log}
-use Rattle.least_faults.proofs.Freshness.{fresh_both}
+use Rattle.least_faults.proofs.Freshness.{fresh_axioms, fresh_both, fresh_mark}
 use Rattle.least_faults.proofs.Putting.{learnt_no_final, no_final_in, none_final, none_joined, none_learnt, none_marked}
 use Rattle.least_faults.specs.Answers.{HaveLearntFresh}
 use Rattle.least_faults.specs.Asking.{IsSearching}
@@ -14,8 +14,8 @@ use Rattle.least_faults.specs.Growing.{AddsAxioms, HasGrownWithin}
 use Rattle.least_faults.specs.declared.parts.Parts.{Parts}
 use Rattle.log_encode.specs.CodedLog.{CodedLog}
 use Rattle.log_encode.specs.Drafted.{LogCodeState}
-use Rattle.proof_ledger.specs.Book.{BookEntry, axiomatic, final, mark, axiom_of, clause_of, axioms_of, clauses_of, is_mark, EachAfter}
-use Rattle.proof_ledger.specs.Fresh.{is_learnt, IfLearnt, IsFreshClause}
+use Rattle.proof_ledger.specs.Book.{BookEntry, axiomatic, final, mark, axiom_of, clause_of, axioms_of, clauses_of, is_mark}
+use Rattle.proof_ledger.specs.Fresh.{is_learnt}
 use Rattle.prop_core.specs.Clauses.{Clause}
 use Rattle.prop_core.specs.Trail.{Clashes}
 use Rattle.prop_core.specs.declared.lit.Lit.{Lit}
@@ -182,11 +182,6 @@ conflict_closed q book new Absent axioms clauses has = tt
 conflict_closed q book new (Dear run) axioms clauses has = tt
 conflict_closed q book new (Undecided lo best) axioms clauses has = conflict_at q book new lo best axioms clauses has
 
--- axioms are learnt from nothing
-each_axiom : (earlier : List BookEntry) (clauses : List Clause) → EachAfter (λ before entry. IfLearnt entry (IsFreshClause before)) earlier (map axiomatic clauses)
-each_axiom earlier [] = tt
-each_axiom earlier (clause ∷ clauses) = (tt, each_axiom (earlier ++ axiomatic clause ∷ []) clauses)
-
 answered_by : (q : CostAsked) (budget : ℕ) (old opened searched new : List BookEntry) (answer : Cheap) → opened ≡ old ++ mark 0 ∷ [] → new ≡ searched ++ mark 1 ∷ [] → HasFoundCost q budget opened searched answer → IsCostAnswered q budget old new answer
 answered_by q budget old opened searched new answer begins ends found =
     let axioms = ap axioms_of ends ∙ marked_axioms searched 1 in
@@ -205,7 +200,7 @@ pub answered : (q : CostAsked) (budget : ℕ) (old opened mid searched new : Lis
 answered q budget old opened mid searched new answer begins adds ends found =
     answered_by q budget old opened searched new answer begins ends
     (found_later q budget budget opened mid searched (map axiomatic adds.axioms) answer adds.more (λ number. none_marked number adds.axioms) (none_final adds.axioms) (let none = none_learnt adds.axioms in omega (arith, none))
-    (record { number = refl; each = each_axiom opened adds.axioms }) found)
+    (fresh_axioms opened adds.axioms) found)
 
 -- ---- how the book grows
 
@@ -214,6 +209,7 @@ grown_weighed budget old opened mid begins adds = record {
   since = mark 0 ∷ map axiomatic adds.axioms;
   whole = adds.more ∙ ap (λ b. b ++ map axiomatic adds.axioms) begins ∙ append_assoc old (mark 0 ∷ []) (map axiomatic adds.axioms);
   within = (let none = none_learnt adds.axioms in let one = count_append is_learnt (mark 0 ∷ []) (map axiomatic adds.axioms) in omega (arith, none, one));
+  fresh = fresh_both old opened (mark 0 ∷ []) (map axiomatic adds.axioms) begins (fresh_mark old 0) (fresh_axioms opened adds.axioms);
 }
 
 pub grown_searched : (budget left : ℕ) (old opened mid searched : List BookEntry) → opened ≡ old ++ mark 0 ∷ [] → AddsAxioms opened mid → IsSearching mid searched budget left → HasGrownWithin budget old searched
@@ -222,4 +218,5 @@ grown_searched budget left old opened mid searched begins adds searching =
       since = grown.since ++ searching.since;
       whole = searching.whole ∙ ap (λ b. b ++ searching.since) grown.whole ∙ append_assoc old grown.since searching.since;
       within = (let paid = searching.paid in let less = grown.within in let count = count_append is_learnt grown.since searching.since in omega (arith, paid, less, count));
+      fresh = fresh_both old mid grown.since searching.since grown.whole grown.fresh searching.fresh;
     }

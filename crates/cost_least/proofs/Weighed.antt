@@ -3,6 +3,7 @@ use Rattle.std.proofs.Common.{◌≡◌, ◌∙◌, ℕ, ◌+◌, ◌*◌, ◌�
 use Rattle.event_costs.specs.declared.TheConstants.{MOST_COST}
 use Rattle.card_counter.specs.CounterState.{CounterState}
 use Rattle.least_faults.proofs.AxiomLists.{axioms_added}
+use Rattle.least_faults.proofs.Freshness.{fresh_none, fresh_searched}
 use Rattle.least_faults.proofs.Putting.{derived_unmarked, same_axioms}
 use Rattle.least_faults.proofs.Ranking.{still_ranked}
 use Rattle.least_faults.specs.Asking.{IsSearching}
@@ -17,7 +18,7 @@ use Rattle.proof_ledger.specs.Book.{BookEntry, axiomatic, axioms_of, clauses_of}
 use Rattle.prop_core.specs.Clauses.{Clause}
 use Rattle.run_decode.specs.Decoding.{BelongTogether}
 use Rattle.sat_order.specs.Rank.{KeepsRanks}
-use Rattle.sat_solve.specs.Searching.{IsSearched}
+use Rattle.sat_solve.specs.Searching.{HasAxiomVars, IsSearched}
 use Rattle.sat_solve.specs.Solving.{SolverState}
 use Rattle.step_encode.specs.Coded.{CodedSteps}
 use Rattle.weight_counter.specs.Scales.{AddsScale, place_variable, scale_clauses}
@@ -64,17 +65,18 @@ weighed_after may gives cost parts scale solver before after mid new weighed sea
   ranked = still_ranked may gives parts.solver.order solver.order same_ranks weighed.ranked;
 }
 
--- what a search puts has no marks, and as many learnt entries as were paid for
-pub searching_of : (mid new : List BookEntry) (before after : ℕ) → IsSearched mid new before after → IsSearching mid new before after
-searching_of mid new before after searched = record {
+-- what a search puts has no marks, and as many learnt entries as were paid for, each of them fresh
+pub searching_of : (mid new : List BookEntry) (before after : ℕ) → IsSearched mid new before after → HasAxiomVars mid → IsSearching mid new before after
+searching_of mid new before after searched known = record {
   since = searched.since;
   whole = searched.whole;
   unmarked = λ number. derived_unmarked number searched.since searched.derived;
   paid = omega (arith, searched.number, searched.paid);
+  fresh = fresh_searched mid new before after searched known;
 }
 
 pub searching_none : (book : List BookEntry) (left : ℕ) → IsSearching book book left left
-searching_none book left = record { since = []; whole = sym (append-nil book); unmarked = λ number. refl; paid = omega arith }
+searching_none book left = record { since = []; whole = sym (append-nil book); unmarked = λ number. refl; paid = omega arith; fresh = fresh_none book }
 
 pub stay_same : {R : Type 0} (may : R → ℕ → Type 0) (gives : R → ℕ → ℕ → Type 0) (parts : Parts R) (scale : Scale) (book : List BookEntry) → StayWeighed may gives parts parts scale book book
 stay_same may gives parts scale book = λ cost weighed. weighed

@@ -1,13 +1,14 @@
 -- A question that is built into an empty book, what is found then, and what is left of it.
-use Rattle.std.proofs.Common.{◌≡◌, ◌≤◌, ℕ, List, [], ◌++◌, length, map, Some, Result, Ok, Err, IfOk, ap, arith, count_by, ◌∙◌, subst, sym}
+use Rattle.std.proofs.Common.{◌≡◌, ◌≤◌, ℕ, List, [], ◌++◌, length, map, Some, Result, Ok, Err, IfOk, ap, arith, count_by, ◌∙◌, refl, subst, sym}
 use Rattle.std.specs.Result.{result_ok}
 use Rattle.des_base.specs.declared.TheConstants.{MOST_STEPS}
 use Rattle.des_net.specs.Network.{Net}
 use Rattle.least_faults.proofs.AxiomLists.{adds_both, axioms_added}
+use Rattle.least_faults.proofs.Freshness.{fresh_axioms, fresh_both}
 use Rattle.least_faults.proofs.Putting.{none_learnt}
 use Rattle.least_faults.specs.declared.answer.Found.{Found}
 use Rattle.least_faults.specs.declared.parts.Parts.{Parts}
-use Rattle.least_faults.specs.Answers.{IsAnswered}
+use Rattle.least_faults.specs.Answers.{HaveLearntFresh, IsAnswered}
 use Rattle.least_faults.proofs.Staying.{built_still}
 use Rattle.least_faults.specs.Building.{AreBuilt}
 use Rattle.least_faults.specs.Growing.{AddsAxioms, HasGrownWithin, KeepsQuestion}
@@ -96,6 +97,8 @@ module _ {R : Type 0} (may : R → ℕ → Type 0) (gives : R → ℕ → ℕ �
         let all = ap (count_by is_learnt) grown.whole ∙ count_append is_learnt old grown.since in
         let few = grown.within in
         omega (arith, none, all, few));
+    fresh = (let axioms = question_axioms net log parts.step.steps 0 in
+        subst (HaveLearntFresh []) (sym grown.whole) (fresh_both [] old old grown.since refl (subst (HaveLearntFresh []) (sym begun.axioms) (fresh_axioms [] axioms)) grown.fresh));
     valid = valid;
   })
 

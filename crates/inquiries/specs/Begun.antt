@@ -3,6 +3,7 @@ use Rattle.std.specs.Prelude.{◌≡◌, ◌⊎◌, ◌≤◌, ℕ, List, [], ma
 use Rattle.des_base.specs.declared.TheConstants.{MOST_STEPS}
 use Rattle.des_net.specs.Network.{Net}
 use Rattle.least_faults.specs.declared.parts.Parts.{Parts}
+use Rattle.least_faults.specs.Answers.{HaveLearntFresh}
 use Rattle.least_faults.specs.Parts.{AreReady, BelongTo, IsBuilt}
 use Rattle.log_order.specs.Log.{Log}
 use Rattle.proof_ledger.specs.Book.{BookEntry, axiomatic, axioms_of, IsValidBook}
@@ -34,7 +35,8 @@ LeavesQuestion net log n P book = (book ≡ []) ⊎ HasQuestion net log n P book
 abbrev pub HasAxiomsAlone : List BookEntry → Type 0
 HasAxiomsAlone book = book ≡ map axiomatic (axioms_of book)
 
--- at most as many clauses were learnt as the budget says, and each derives by its hints from those before it
+-- at most as many clauses were learnt as the budget says, each of them fresh, and each derives by its hints from those before it
 pub record HasLearntWithin (budget : ℕ) (book : List BookEntry) : Type 0 where
   pub within : count_by is_learnt book ≤ budget
+  pub fresh : HaveLearntFresh [] book
   pub valid : IsValidBook book

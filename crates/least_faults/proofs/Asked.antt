@@ -11,7 +11,7 @@ use Rattle.des_net.specs.Network.{Net, IsNetwork}
 use Rattle.least_faults.proofs.Assuming.{assumed_below, negates_only}
 use Rattle.least_faults.proofs.Below.{axioms_below}
 use Rattle.least_faults.proofs.Entailing.{final_entailed}
-use Rattle.least_faults.proofs.Freshness.{fresh_after}
+use Rattle.least_faults.proofs.Freshness.{fresh_after, fresh_axioms}
 use Rattle.least_faults.proofs.KnownVariables.{book_below, known_back}
 use Rattle.least_faults.proofs.Posing.{poses}
 use Rattle.least_faults.proofs.Putting.{none_learnt, none_marked, none_final, derived_unmarked, same_axioms, learnt_no_final, no_final_in, none_joined, only_final, same_last, axioms_with_learnt}
@@ -56,6 +56,7 @@ searching_axioms old new left adds = record {
   whole = adds.more;
   unmarked = λ number. none_marked number adds.axioms;
   paid = (let none = none_learnt adds.axioms in omega (arith, none));
+  fresh = fresh_axioms old adds.axioms;
 }
 
 pub both_whole : (old mid new : List BookEntry) (before after : ℕ) → (adds : AddsAxioms old mid) → (searched : IsSearched mid new before after) → new ≡ old ++ (map axiomatic adds.axioms ++ searched.since)
@@ -74,12 +75,13 @@ both_paid old mid new before after adds searched =
     let none = none_learnt adds.axioms in
     omega (arith, count, none, searched.number, searched.paid)
 
-pub searching_both : (old mid new : List BookEntry) (before after : ℕ) → AddsAxioms old mid → IsSearched mid new before after → IsSearching old new before after
-searching_both old mid new before after adds searched = record {
+pub searching_both : (old mid new : List BookEntry) (before after : ℕ) → AddsAxioms old mid → IsSearched mid new before after → HasAxiomVars mid → IsSearching old new before after
+searching_both old mid new before after adds searched known = record {
   since = map axiomatic adds.axioms ++ searched.since;
   whole = both_whole old mid new before after adds searched;
   unmarked = both_unmarked old mid new before after adds searched;
   paid = both_paid old mid new before after adds searched;
+  fresh = fresh_after old mid new before after adds searched known;
 }
 
 -- the parts stay ready where their solver has searched

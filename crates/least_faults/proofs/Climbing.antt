@@ -124,7 +124,7 @@ come_on code old new begun now net log n k first mid last budget before after wh
 }
 
 pub searched_so_far : (code : CodedLog) (counter : CounterState) (begun : BuiltQuestion) (net : Net) (log : Log) (n k : ℕ) (first last : List BookEntry) (budget left : ℕ) → HasComeToBy code counter begun net log n k first last budget left → IsSearching first last budget left
-searched_so_far code counter begun net log n k first last budget left come = record { since = come.since; whole = come.whole; unmarked = come.unmarked; paid = come.paid }
+searched_so_far code counter begun net log n k first last budget left come = record { since = come.since; whole = come.whole; unmarked = come.unmarked; paid = come.paid; fresh = come.fresh }
 
 pub searching_further : (first mid last : List BookEntry) (budget before after : ℕ) → IsSearching first mid budget before → IsSearching mid last before after → IsSearching first last budget after
 searching_further first mid last budget before after one two = record {
@@ -132,6 +132,7 @@ searching_further first mid last budget before after one two = record {
   whole = two.whole ∙ ap (λ b. b ++ two.since) one.whole ∙ append_assoc first one.since two.since;
   unmarked = λ number. count_append (is_mark number) one.since two.since ∙ (let a = one.unmarked number in let b = two.unmarked number in omega (arith, a, b));
   paid = (let count = count_append is_learnt one.since two.since in omega (arith, count, one.paid, two.paid));
+  fresh = fresh_both first mid one.since two.since one.whole one.fresh two.fresh;
 }
 
 paid_within : (count left budget : ℕ) → count + left ≡ budget → count ≤ budget

@@ -7,7 +7,7 @@ use Rattle.des_base.proofs.Elements.{all_append, all_change, all_split}
 use Rattle.des_net.specs.Network.{Net}
 use Rattle.least_faults.proofs.Assuming.{below_more}
 use Rattle.least_faults.proofs.ColumnsBuilt.{vars_grow, within_none}
-use Rattle.least_faults.proofs.Freshness.{fresh_both, known_same}
+use Rattle.least_faults.proofs.Freshness.{fresh_both, fresh_mark, fresh_none, known_same}
 use Rattle.least_faults.proofs.KnownVariables.{known_back, known_joined}
 use Rattle.least_faults.proofs.Putting.{learnt_no_final, no_final_in, learnt_no_axioms}
 use Rattle.least_faults.proofs.Staying.{kept_by_axioms, with_axioms}
@@ -157,16 +157,17 @@ kept_opened old new book opened searched begins = kept_by_axioms old new book op
 pub kept_closed : {R : Type 0} (old new : Parts R) (book searched closed : List BookEntry) → closed ≡ searched ++ mark 1 ∷ [] → KeepsQuestion old new book searched → KeepsQuestion old new book closed
 kept_closed old new book searched closed ends = kept_by_axioms old new book book searched closed refl (ap axioms_of ends ∙ marked_axioms searched 1)
 
--- ---- no more learnt clauses than the budget says
+-- ---- no more learnt clauses than the budget says, each of them fresh
 
 pub grown_not : (budget : ℕ) (old : List BookEntry) → HasGrownWithin budget old old
-grown_not budget old = record { since = []; whole = sym (append-nil old); within = omega arith }
+grown_not budget old = record { since = []; whole = sym (append-nil old); within = omega arith; fresh = fresh_none old }
 
 pub grown_opened : (budget left : ℕ) (old opened searched : List BookEntry) → opened ≡ old ++ mark 0 ∷ [] → IsSearching opened searched budget left → HasGrownWithin budget old searched
 grown_opened budget left old opened searched begins searching = record {
   since = mark 0 ∷ searching.since;
   whole = searching.whole ∙ ap (λ b. b ++ searching.since) begins ∙ append_assoc old (mark 0 ∷ []) searching.since;
   within = (let paid = searching.paid in let one = count_append is_learnt (mark 0 ∷ []) searching.since in omega (arith, paid, one));
+  fresh = fresh_both old opened (mark 0 ∷ []) searching.since begins (fresh_mark old 0) searching.fresh;
 }
 
 pub grown_closed : (budget : ℕ) (old searched new : List BookEntry) → new ≡ searched ++ mark 1 ∷ [] → HasGrownWithin budget old searched → HasGrownWithin budget old new
@@ -174,6 +175,7 @@ grown_closed budget old searched new ends grown = record {
   since = grown.since ++ mark 1 ∷ [];
   whole = ends ∙ ap (λ b. b ++ mark 1 ∷ []) grown.whole ∙ append_assoc old grown.since (mark 1 ∷ []);
   within = (let less = grown.within in let more = count_append is_learnt grown.since (mark 1 ∷ []) in omega (arith, less, more));
+  fresh = fresh_both old searched grown.since (mark 1 ∷ []) grown.whole grown.fresh (fresh_mark searched 1);
 }
 
 -- a conflict stays one

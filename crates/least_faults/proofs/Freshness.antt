@@ -32,6 +32,14 @@ axioms_fresh : (earlier : List BookEntry) (clauses : List Clause) → EachAfter 
 axioms_fresh earlier [] = tt
 axioms_fresh earlier (clause ∷ clauses) = (tt, axioms_fresh (earlier ++ axiomatic clause ∷ []) clauses)
 
+-- none is learnt among axioms
+pub fresh_axioms : (earlier : List BookEntry) (clauses : List Clause) → HaveLearntFresh earlier (map axiomatic clauses)
+fresh_axioms earlier clauses = record { number = refl; each = axioms_fresh earlier clauses }
+
+-- nor is a mark
+pub fresh_mark : (earlier : List BookEntry) (number : ℕ) → HaveLearntFresh earlier (mark number ∷ [])
+fresh_mark earlier number = record { number = refl; each = (tt, tt) }
+
 learnt_between : (axioms : List Clause) (since : List BookEntry) → count_by is_learnt (map axiomatic axioms ++ mark 0 ∷ since ++ mark 1 ∷ []) ≡ count_by is_learnt since
 learnt_between axioms since =
     let opened : count_by is_learnt (mark 0 ∷ since) ≡ count_by is_learnt since = refl in
@@ -45,9 +53,13 @@ learnt_between axioms since =
       closing,
     )
 
+-- what a search learnt, where all variables occur in axioms
+pub fresh_searched : (mid new : List BookEntry) (before after : ℕ) → (searched : IsSearched mid new before after) → HasAxiomVars mid → HaveLearntFresh mid searched.since
+fresh_searched mid new before after searched known = record { number = refl; each = (searched.learnt_entries known).each }
+
 -- a search after axioms
 pub fresh_after : (old mid new : List BookEntry) (before after : ℕ) → (adds : AddsAxioms old mid) → (searched : IsSearched mid new before after) → HasAxiomVars mid → HaveLearntFresh old (map axiomatic adds.axioms ++ searched.since)
-fresh_after old mid new before after adds searched known = fresh_both old mid (map axiomatic adds.axioms) searched.since adds.more (record { number = refl; each = axioms_fresh old adds.axioms }) (record { number = refl; each = (searched.learnt_entries known).each })
+fresh_after old mid new before after adds searched known = fresh_both old mid (map axiomatic adds.axioms) searched.since adds.more (fresh_axioms old adds.axioms) (fresh_searched mid new before after searched known)
 
 -- what was learnt between the marks, after the axioms, is all that was learnt
 pub fresh_closed : (axioms : List Clause) (since book : List BookEntry) (count : ℕ) → book ≡ map axiomatic axioms ++ mark 0 ∷ since ++ mark 1 ∷ [] → HaveLearntFresh (map axiomatic axioms ++ mark 0 ∷ []) since → count_by is_learnt since ≡ count → AreFresh [] book count

@@ -70,12 +70,13 @@ pub record IsBoundLiteral {R : Type 0} (before : CounterState) (parts : Parts R)
 
 -- ---- what is put down
 
--- no marks were put, and as many learnt entries as were paid for
+-- no marks were put, and as many learnt entries as were paid for, each of them fresh
 pub record IsSearching (old new : List BookEntry) (budget_old budget_new : ℕ) : Type 0 where
   pub since : List BookEntry
   pub whole : new ≡ old ++ since
   pub unmarked : (number : ℕ) → count_by (is_mark number) since ≡ 0
   pub paid : count_by is_learnt since + budget_new ≡ budget_old
+  pub fresh : HaveLearntFresh old since
 
 -- Each final entry negates assumptions with the bound alone, and there is none where nothing is refuted. Without a bound learnt entries alone are put then.
 pub record ArePut (code : CodedLog) (counter : CounterState) (bound : Option ℕ) (since : List BookEntry) (asked : Asked) : Type 0 where

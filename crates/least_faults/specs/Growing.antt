@@ -2,6 +2,7 @@
 use Rattle.std.specs.Prelude.{◌≡◌, ◌≤◌, ℕ, List, ◌++◌, length, map, take, count_by}
 use Rattle.card_counter.specs.CounterState.{CounterState}
 use Rattle.least_faults.specs.declared.parts.Parts.{Parts}
+use Rattle.least_faults.specs.Answers.{HaveLearntFresh}
 use Rattle.least_faults.specs.Columns.{columns_built}
 use Rattle.least_faults.specs.Parts.{built_of}
 use Rattle.proof_ledger.specs.Book.{BookEntry, axiomatic}
@@ -32,11 +33,12 @@ pub record HasFrontOf (axioms : List Clause) (book : List BookEntry) : Type 0 wh
   pub count : ℕ
   pub front : book ≡ map axiomatic (take count axioms)
 
--- the book got further entries, and no more of them are learnt clauses than the budget says
+-- the book got further entries, of which no more are learnt clauses than the budget says, each of them fresh
 pub record HasGrownWithin (budget : ℕ) (old new : List BookEntry) : Type 0 where
   pub since : List BookEntry
   pub whole : new ≡ old ++ since
   pub within : count_by is_learnt since ≤ budget
+  pub fresh : HaveLearntFresh old since
 
 -- counter and book are as before
 pub record StandsStill (old new : CounterState) (old_book new_book : List BookEntry) : Type 0 where

@@ -117,19 +117,19 @@ pub returns-clause-still : goal.returns-clause-still
 returns-clause-still g c = λ cost weighed. weighed_after (goal.R-pre g) (goal.R-post g) cost c.args.parts.now c.args.question.scale c.solve.new.self c.args.budget.now c.solve.new.budget c.args.book.now.entries c.solve.new.book.entries weighed c.solve.ensures.searched c.solve.ensures.adopted c.solve.ensures.kept.vars c.solve.ensures.kept.order
 
 pub returns-in_err-answer-clause-searching : goal.returns-in_err-answer-clause-searching
-returns-in_err-answer-clause-searching g c = searching_of c.args.book.now.entries c.solve.new.book.entries c.args.budget.now c.solve.new.budget c.solve.ensures.searched
+returns-in_err-answer-clause-searching g c = searching_of c.args.book.now.entries c.solve.new.book.entries c.args.budget.now c.solve.new.budget c.solve.ensures.searched c.requires.asked.weighed.known
 
 pub returns-in-Unsat-clause-searching : goal.returns-in-Unsat-clause-searching
-returns-in-Unsat-clause-searching g c = searching_of c.args.book.now.entries c.solve.new.book.entries c.args.budget.now c.solve.new.budget c.solve.ensures.searched
+returns-in-Unsat-clause-searching g c = searching_of c.args.book.now.entries c.solve.new.book.entries c.args.budget.now c.solve.new.budget c.solve.ensures.searched c.requires.asked.weighed.known
 
 pub returns-in-Spent-clause-searching : goal.returns-in-Spent-clause-searching
-returns-in-Spent-clause-searching g c = searching_of c.args.book.now.entries c.solve.new.book.entries c.args.budget.now c.solve.new.budget c.solve.ensures.searched
+returns-in-Spent-clause-searching g c = searching_of c.args.book.now.entries c.solve.new.book.entries c.args.budget.now c.solve.new.budget c.solve.ensures.searched c.requires.asked.weighed.known
 
 pub returns-in_err-found_run-in-Sat-clause-searching : goal.returns-in_err-found_run-in-Sat-clause-searching
-returns-in_err-found_run-in-Sat-clause-searching g c = searching_of c.args.book.now.entries c.solve.new.book.entries c.args.budget.now c.solve.new.budget c.solve.ensures.searched
+returns-in_err-found_run-in-Sat-clause-searching g c = searching_of c.args.book.now.entries c.solve.new.book.entries c.args.budget.now c.solve.new.budget c.solve.ensures.searched c.requires.asked.weighed.known
 
 pub returns-clause-searching : goal.returns-clause-searching
-returns-clause-searching g c = searching_of c.args.book.now.entries c.solve.new.book.entries c.args.budget.now c.solve.new.budget c.solve.ensures.searched
+returns-clause-searching g c = searching_of c.args.book.now.entries c.solve.new.book.entries c.args.budget.now c.solve.new.budget c.solve.ensures.searched c.requires.asked.weighed.known
 
 pub returns-clause-given : goal.returns-clause-given
 returns-clause-given g c = λ cost answered. c.in_ok-found_run-in-Sat.ensures.given cost answered

@@ -60,7 +60,7 @@ returns-in_err-answer-clause-goes_on g c =
     goes_both 1 0 1 c.args.parts.now c.assume.new.parts (record c.assume.new.parts { solver = c.solve.new.self }) (omega arith) c.assume.ensures.goes_on (goes_by_solver 0 c.assume.new.parts c.solve.new.self c.solve.ensures.kept.order.rank)
 
 pub returns-in_err-answer-clause-searching : goal.returns-in_err-answer-clause-searching
-returns-in_err-answer-clause-searching g c = searching_both c.args.book.now.entries c.assume.new.book.entries c.solve.new.book.entries c.args.left.now c.solve.new.budget c.assume.ensures.axioms c.solve.ensures.searched
+returns-in_err-answer-clause-searching g c = searching_both c.args.book.now.entries c.assume.new.book.entries c.solve.new.book.entries c.args.left.now c.solve.new.budget c.assume.ensures.axioms c.solve.ensures.searched c.assume.ensures.ready.1.beside.known
 
 pub returns-in-Unsat-clause-ready : goal.returns-in-Unsat-clause-ready
 returns-in-Unsat-clause-ready g c =
@@ -72,7 +72,7 @@ returns-in-Unsat-clause-goes_on g c =
     goes_both 1 0 1 c.args.parts.now c.assume.new.parts (record c.assume.new.parts { solver = c.solve.new.self }) (omega arith) c.assume.ensures.goes_on (goes_by_solver 0 c.assume.new.parts c.solve.new.self c.solve.ensures.kept.order.rank)
 
 pub returns-in-Unsat-clause-searching : goal.returns-in-Unsat-clause-searching
-returns-in-Unsat-clause-searching g c = searching_both c.args.book.now.entries c.assume.new.book.entries c.solve.new.book.entries c.args.left.now c.solve.new.budget c.assume.ensures.axioms c.solve.ensures.searched
+returns-in-Unsat-clause-searching g c = searching_both c.args.book.now.entries c.assume.new.book.entries c.solve.new.book.entries c.args.left.now c.solve.new.budget c.assume.ensures.axioms c.solve.ensures.searched c.assume.ensures.ready.1.beside.known
 
 pub returns-in-Spent-clause-ready : goal.returns-in-Spent-clause-ready
 returns-in-Spent-clause-ready g c =
@@ -84,7 +84,7 @@ returns-in-Spent-clause-goes_on g c =
     goes_both 1 0 1 c.args.parts.now c.assume.new.parts (record c.assume.new.parts { solver = c.solve.new.self }) (omega arith) c.assume.ensures.goes_on (goes_by_solver 0 c.assume.new.parts c.solve.new.self c.solve.ensures.kept.order.rank)
 
 pub returns-in-Spent-clause-searching : goal.returns-in-Spent-clause-searching
-returns-in-Spent-clause-searching g c = searching_both c.args.book.now.entries c.assume.new.book.entries c.solve.new.book.entries c.args.left.now c.solve.new.budget c.assume.ensures.axioms c.solve.ensures.searched
+returns-in-Spent-clause-searching g c = searching_both c.args.book.now.entries c.assume.new.book.entries c.solve.new.book.entries c.args.left.now c.solve.new.budget c.assume.ensures.axioms c.solve.ensures.searched c.assume.ensures.ready.1.beside.known
 
 pub returns-in_err-decode-in-Sat-clause-ready : goal.returns-in_err-decode-in-Sat-clause-ready
 returns-in_err-decode-in-Sat-clause-ready g c =
@@ -96,7 +96,7 @@ returns-in_err-decode-in-Sat-clause-goes_on g c =
     goes_both 1 0 1 c.args.parts.now c.assume.new.parts (record c.assume.new.parts { solver = c.solve.new.self }) (omega arith) c.assume.ensures.goes_on (goes_by_solver 0 c.assume.new.parts c.solve.new.self c.solve.ensures.kept.order.rank)
 
 pub returns-in_err-decode-in-Sat-clause-searching : goal.returns-in_err-decode-in-Sat-clause-searching
-returns-in_err-decode-in-Sat-clause-searching g c = searching_both c.args.book.now.entries c.assume.new.book.entries c.solve.new.book.entries c.args.left.now c.solve.new.budget c.assume.ensures.axioms c.solve.ensures.searched
+returns-in_err-decode-in-Sat-clause-searching g c = searching_both c.args.book.now.entries c.assume.new.book.entries c.solve.new.book.entries c.args.left.now c.solve.new.budget c.assume.ensures.axioms c.solve.ensures.searched c.assume.ensures.ready.1.beside.known
 
 pub returns-clause-ready : goal.returns-clause-ready
 returns-clause-ready g c =
@@ -108,7 +108,7 @@ returns-clause-goes_on g c =
     goes_both 1 0 1 c.args.parts.now c.assume.new.parts (record c.assume.new.parts { solver = c.solve.new.self }) (omega arith) c.assume.ensures.goes_on (goes_by_solver 0 c.assume.new.parts c.solve.new.self c.solve.ensures.kept.order.rank)
 
 pub returns-clause-searching : goal.returns-clause-searching
-returns-clause-searching g c = searching_both c.args.book.now.entries c.assume.new.book.entries c.solve.new.book.entries c.args.left.now c.solve.new.budget c.assume.ensures.axioms c.solve.ensures.searched
+returns-clause-searching g c = searching_both c.args.book.now.entries c.assume.new.book.entries c.solve.new.book.entries c.args.left.now c.solve.new.budget c.assume.ensures.axioms c.solve.ensures.searched c.assume.ensures.ready.1.beside.known
 
 pub returns-in_err-assumed-clause-searching : goal.returns-in_err-assumed-clause-searching
 returns-in_err-assumed-clause-searching g c = searching_axioms c.args.book.now.entries c.assume.new.book.entries c.args.left.now c.assume.ensures.axioms

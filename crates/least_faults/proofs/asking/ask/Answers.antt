@@ -138,20 +138,20 @@ returns-in_err-assumed-clause-searching g c =
 
 pub returns-in_err-answer-clause-searching : goal.returns-in_err-answer-clause-searching
 returns-in_err-answer-clause-searching g c =
-    searching_both c.args.book.now.entries c.assumptions.new.book.entries c.solve.new.book.entries c.args.budget.now c.solve.new.budget c.assumptions.ensures.axioms c.solve.ensures.searched
+    searching_both c.args.book.now.entries c.assumptions.new.book.entries c.solve.new.book.entries c.args.budget.now c.solve.new.budget c.assumptions.ensures.axioms c.solve.ensures.searched c.assumptions.ensures.ready.known
 
 pub returns-in-Unsat-clause-searching : goal.returns-in-Unsat-clause-searching
 returns-in-Unsat-clause-searching g c =
-    searching_both c.args.book.now.entries c.assumptions.new.book.entries c.solve.new.book.entries c.args.budget.now c.solve.new.budget c.assumptions.ensures.axioms c.solve.ensures.searched
+    searching_both c.args.book.now.entries c.assumptions.new.book.entries c.solve.new.book.entries c.args.budget.now c.solve.new.budget c.assumptions.ensures.axioms c.solve.ensures.searched c.assumptions.ensures.ready.known
 
 pub returns-in-Spent-clause-searching : goal.returns-in-Spent-clause-searching
 returns-in-Spent-clause-searching g c =
-    searching_both c.args.book.now.entries c.assumptions.new.book.entries c.solve.new.book.entries c.args.budget.now c.solve.new.budget c.assumptions.ensures.axioms c.solve.ensures.searched
+    searching_both c.args.book.now.entries c.assumptions.new.book.entries c.solve.new.book.entries c.args.budget.now c.solve.new.budget c.assumptions.ensures.axioms c.solve.ensures.searched c.assumptions.ensures.ready.known
 
 pub returns-in_err-found_run-in-Sat-clause-searching : goal.returns-in_err-found_run-in-Sat-clause-searching
 returns-in_err-found_run-in-Sat-clause-searching g c =
-    searching_both c.args.book.now.entries c.assumptions.new.book.entries c.solve.new.book.entries c.args.budget.now c.solve.new.budget c.assumptions.ensures.axioms c.solve.ensures.searched
+    searching_both c.args.book.now.entries c.assumptions.new.book.entries c.solve.new.book.entries c.args.budget.now c.solve.new.budget c.assumptions.ensures.axioms c.solve.ensures.searched c.assumptions.ensures.ready.known
 
 pub returns-clause-searching : goal.returns-clause-searching
 returns-clause-searching g c =
-    searching_both c.args.book.now.entries c.assumptions.new.book.entries c.solve.new.book.entries c.args.budget.now c.solve.new.budget c.assumptions.ensures.axioms c.solve.ensures.searched
+    searching_both c.args.book.now.entries c.assumptions.new.book.entries c.solve.new.book.entries c.args.budget.now c.solve.new.budget c.assumptions.ensures.axioms c.solve.ensures.searched c.assumptions.ensures.ready.known
