@@ -53,9 +53,9 @@ priced_alike net a b alike log n budget book answer h = record {
   valid = h.valid;
 }
 
-pub leaves_alike : (net : Net) (a b : ℕ → ℕ) (alike : CostAlike net a b) (log : Log) (n : ℕ) (book : List BookEntry) → LeavesCosts net a log n book → LeavesCosts net b log n book
-leaves_alike net a b alike log n book (inl empty) = inl empty
-leaves_alike net a b alike log n book (inr h) = inr (question_alike net a b alike log n book h)
+pub leaves_alike : (net : Net) (a b : ℕ → ℕ) (alike : CostAlike net a b) (log : Log) (n budget : ℕ) (book : List BookEntry) → LeavesCosts net a log n budget book → LeavesCosts net b log n budget book
+leaves_alike net a b alike log n budget book (inl empty) = inl empty
+leaves_alike net a b alike log n budget book (inr (answer, h)) = inr (answer, priced_alike net a b alike log n budget book answer h)
 
 -- ---- variables below a number
 

@@ -43,12 +43,12 @@ pub record HasCostQuestion (net : Net) (cost : ℕ → ℕ) (log : Log) (n : ℕ
 abbrev pub cost_variables : Net → Log → ℕ → ℕ
 cost_variables net log n = question_variables net log n + (n * fault_event_count net + doubtful_count log) * (1 + MOST_COST)
 
--- The book is empty, or its axioms are those of the question of costs.
-abbrev pub LeavesCosts : Net → (ℕ → ℕ) → Log → ℕ → List BookEntry → Type 0
-LeavesCosts net cost log n book = (book ≡ []) ⊎ HasCostQuestion net cost log n book
-
 -- The book is valid. It has the axioms of the question first, then what weighs its faults, and then what shows the answer.
 pub record IsPricedBy (net : Net) (cost : ℕ → ℕ) (log : Log) (n budget : ℕ) (book : List BookEntry) (answer : Cheap) : Type 0 where
   pub answered : IsCostAnswered (record { net = net; cost = cost; log = log; steps = n }) budget (map axiomatic (question_axioms net log n 0)) book answer
   pub question : HasCostQuestion net cost log n book
   pub valid : IsValidBook book
+
+-- the book is empty, or that of an answer
+abbrev pub LeavesCosts : Net → (ℕ → ℕ) → Log → (n budget : ℕ) → List BookEntry → Type 0
+LeavesCosts net cost log n budget book = (book ≡ []) ⊎ ((answer : Cheap) × IsPricedBy net cost log n budget book answer)

@@ -36,7 +36,7 @@ pub fn least_cost(
     requires long { length table.now ≡ length case.now.net.events }
     requires empty { book.old.entries ≡ [] }
     ensures priced { IfOk result (IsPricedBy case.now.net (cost_at table.now) case.now.log steps budget book.new.entries) }
-    ensures left { LeavesCosts case.now.net (cost_at table.now) case.now.log steps book.new.entries }
+    ensures left { LeavesCosts case.now.net (cost_at table.now) case.now.log steps budget book.new.entries }
 {
     match weigh_case(alloc, case, steps, table, budget, book) {
         Ok(cheap) => Ok(cheap),
