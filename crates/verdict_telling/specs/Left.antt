@@ -1,0 +1,27 @@
+-- What is left in the book: the question of the log with what was learnt for it, and behind that what was asked about fault events.
+use Rattle.std.specs.Prelude.{◌≡◌, ◌⊎◌, ◌+◌, ◌*◌, ℕ, List, [], ◌++◌, length}
+use Rattle.des_net.specs.Network.{Net}
+use Rattle.fault_verdicts.specs.Ready.{AreReadyForVerdicts}
+use Rattle.inquiries.specs.Begun.{HasLearntWithin, HasQuestion}
+use Rattle.least_faults.specs.declared.parts.Parts.{Parts}
+use Rattle.log_order.specs.Log.{Log}
+use Rattle.proof_ledger.specs.Book.{BookEntry}
+use Rattle.step_encode.specs.FaultInputs.{fault_events}
+
+-- The codes of steps and log are the same, and parts and book are ready for verdicts.
+pub record StaysReady {R : Type 0} (may : R → ℕ → Type 0) (gives : R → ℕ → ℕ → Type 0) (old new : Parts R) (book : List BookEntry) : Type 0 where
+  pub step : new.step ≡ old.step
+  pub code : new.code ≡ old.code
+  pub ready : AreReadyForVerdicts may gives new book
+
+-- The question of the log comes first, with no more learnt than the budget says. With what was asked about the fault events behind it, as much again may be learnt for each of them.
+pub record BeginsWithQuestion (net : Net) (log : Log) (n budget : ℕ) (book : List BookEntry) : Type 0 where
+  pub first : List BookEntry
+  pub question : HasQuestion net log n (HasLearntWithin budget) first
+  pub since : List BookEntry
+  pub whole : book ≡ first ++ since
+  pub learnt : HasLearntWithin (budget + length (fault_events net) * budget) book
+
+-- the book is empty, or begins so
+abbrev pub LeavesVerdicts : Net → Log → ℕ → ℕ → List BookEntry → Type 0
+LeavesVerdicts net log n budget book = (book ≡ []) ⊎ BeginsWithQuestion net log n budget book

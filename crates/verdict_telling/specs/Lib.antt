@@ -1,0 +1,5 @@
+pub mod Deciding
+pub mod Left
+pub mod Replied
+pub mod Stages
+pub mod Whole

@@ -1,0 +1,120 @@
+-- What is told of a log: what was found, and behind a least number of faults the verdict on each fault event.
+use Rattle.std.specs.Prelude.{◌≡◌, ◌⊎◌, ℕ, Bool, List, [], ◌∷◌, Option, Result, Ok, Err}
+use Rattle.std.specs.List.{concat, list_any}
+use Rattle.des_base.specs.Outside.{Took, TookFront}
+use Rattle.des_net.specs.Network.{Net}
+use Rattle.fault_verdicts.specs.Judges.{Matter}
+use Rattle.fault_verdicts.specs.declared.answer.Verdict.{Verdict}
+use Rattle.inquiries.specs.Diagnosed.{IsDiagnosed}
+use Rattle.least_faults.specs.Growing.{HasGrownWithin}
+use Rattle.least_faults.specs.declared.answer.Best.{Best}
+use Rattle.least_faults.specs.declared.answer.Found.{Found}
+use Rattle.least_faults.specs.declared.answer.Found.TheVariants.{Explained, Absent, Many, Undecided}
+use Rattle.log_order.specs.Log.{Log}
+use Rattle.proof_ledger.specs.Book.{BookEntry}
+use Rattle.report.specs.Replies.{text_of_found}
+use Rattle.step_encode.specs.FaultInputs.{fault_events}
+use Rattle.telling.specs.Telling.{TookCut}
+use Rattle.telling.specs.declared.each.Broken.{Broken}
+use Rattle.telling.specs.declared.each.Broken.TheVariants.{Memory, Put}
+use Rattle.verdict_telling.specs.Replied.{IsFront, is_undecided}
+use Rattle.verdict_telling.specs.declared.whole.Told.{Told}
+use Rattle.verdict_telling.specs.declared.whole.Told.TheVariants.{Judged, NotExplained, TooMany, NotDecided}
+
+-- ---- what was found
+
+-- what is judged behind a least number of faults
+abbrev pub matter_behind : Net → Log → ℕ → ℕ → Best → Matter
+matter_behind net log n budget best = record { net = net; log = log; steps = n; best = best; budget = budget }
+
+-- It was found with the book that shows it, and the reply was taken. Or it ran out of memory before, and nothing was taken; or a front alone of the reply was. Here rose says that the sink's count of faults rose.
+abbrev pub TellsFound : Net → Log → ℕ → ℕ → List BookEntry → Option (List ℕ) → Option (List ℕ) → Type 0 → Result Found Broken → Type 0
+TellsFound net log n budget book before now rose (Ok found) = IsDiagnosed net log n budget book found × Took before now (text_of_found net n found)
+TellsFound net log n budget book before now rose (Err Memory) = Took before now []
+TellsFound net log n budget book before now rose (Err Put) = rose × (found : Found) × IsDiagnosed net log n budget book found × TookFront before now (text_of_found net n found)
+
+-- a text that tells what was found was taken, or nothing of it, or a front
+abbrev pub PutsFound : List ℕ → Found → Option (List ℕ) → Option (List ℕ) → Type 0 → Result Found Broken → Type 0
+PutsFound text found before now rose (Ok same) = (same ≡ found) × Took before now text
+PutsFound text found before now rose (Err Memory) = Took before now []
+PutsFound text found before now rose (Err Put) = rose × TookFront before now text
+
+-- ---- the verdicts behind it
+
+-- nothing was judged
+pub record AreNone (old new : List BookEntry) (events : List ℕ) (verdicts : List Verdict) (texts : List (List ℕ)) : Type 0 where
+  pub book : new ≡ old
+  pub no_events : events ≡ []
+  pub no_verdicts : verdicts ≡ []
+  pub no_texts : texts ≡ []
+
+-- behind what was found: these first of all fault events were judged where a least number of faults is told, and else none
+abbrev pub FollowsFound : Net → Log → ℕ → ℕ → Found → List BookEntry → List BookEntry → List ℕ → List Verdict → List (List ℕ) → Type 0
+FollowsFound net log n budget (Explained best) old new events verdicts texts = IsFront (matter_behind net log n budget best) old new events verdicts texts
+FollowsFound net log n budget Absent old new events verdicts texts = AreNone old new events verdicts texts
+FollowsFound net log n budget (Many best) old new events verdicts texts = AreNone old new events verdicts texts
+FollowsFound net log n budget (Undecided lo best) old new events verdicts texts = AreNone old new events verdicts texts
+
+-- What was found came first, with the book that shows it, and then the verdicts on these events, over the book behind it. The texts are the reply about the log and those on the events.
+pub record HaveReplies (net : Net) (log : Log) (n budget : ℕ) (found : Found) (events : List ℕ) (book : List BookEntry) (verdicts : List Verdict) (texts : List (List ℕ)) : Type 0 where
+  pub front : List BookEntry
+  pub diagnosed : IsDiagnosed net log n budget front found
+  pub later : List (List ℕ)
+  pub follows : FollowsFound net log n budget found front book events verdicts later
+  pub are : texts ≡ text_of_found net n found ∷ later
+
+-- ---- how it ends
+
+-- the events that are to be judged behind what was found
+abbrev pub events_behind : Net → Found → List ℕ
+events_behind net (Explained best) = fault_events net
+events_behind net Absent = []
+events_behind net (Many best) = []
+events_behind net (Undecided lo best) = []
+
+-- what is answered: where events were judged, whether some was left open
+abbrev pub told_of : Found → List Verdict → Told
+told_of (Explained best) verdicts = Judged (list_any is_undecided verdicts)
+told_of Absent verdicts = NotExplained
+told_of (Many best) verdicts = TooMany
+told_of (Undecided lo best) verdicts = NotDecided
+
+-- All was told, and the replies were taken.
+pub record IsAllSaid (net : Net) (log : Log) (n budget : ℕ) (book : List BookEntry) (before now : Option (List ℕ)) (told : Told) : Type 0 where
+  pub found : Found
+  pub verdicts : List Verdict
+  pub texts : List (List ℕ)
+  pub have : HaveReplies net log n budget found (events_behind net found) book verdicts texts
+  pub told_is : told ≡ told_of found verdicts
+  pub put : Took before now (concat texts)
+
+-- It ran out of memory behind some of the replies, which were taken. The book has at most what was put for the next event.
+pub record IsBrokenOff (net : Net) (log : Log) (n budget : ℕ) (book : List BookEntry) (before now : Option (List ℕ)) : Type 0 where
+  pub found : Found
+  pub events : List ℕ
+  pub verdicts : List Verdict
+  pub texts : List (List ℕ)
+  pub mid : List BookEntry
+  pub have : HaveReplies net log n budget found events mid verdicts texts
+  pub grown : HasGrownWithin budget mid book
+  pub put : Took before now (concat texts)
+
+-- The last reply couldn't be put whole: that about the log, or on the last of these events.
+pub record IsCutOff (net : Net) (log : Log) (n budget : ℕ) (book : List BookEntry) (before now : Option (List ℕ)) : Type 0 where
+  pub found : Found
+  pub events : List ℕ
+  pub verdicts : List Verdict
+  pub texts : List (List ℕ)
+  pub have : HaveReplies net log n budget found events book verdicts texts
+  pub put : TookCut texts before now
+
+-- by how telling ends; it may run out of memory before anything is taken
+abbrev pub TellsWhole : Net → Log → ℕ → ℕ → List BookEntry → Option (List ℕ) → Option (List ℕ) → Type 0 → Result Told Broken → Type 0
+TellsWhole net log n budget book before now rose (Ok told) = IsAllSaid net log n budget book before now told
+TellsWhole net log n budget book before now rose (Err Memory) = Took before now [] ⊎ IsBrokenOff net log n budget book before now
+TellsWhole net log n budget book before now rose (Err Put) = rose × IsCutOff net log n budget book before now
+
+-- where all were judged that is told with whether some was left open
+abbrev pub HasJudged : Result Bool Broken → Result Told Broken → Type 0
+HasJudged (Ok open_left) result = result ≡ Ok (Judged open_left)
+HasJudged (Err broken) result = result ≡ Err broken
