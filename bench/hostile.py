@@ -68,8 +68,9 @@ LIMITED = f'ulimit -t {SECONDS}; ulimit -v {GIBIBYTES * 2**20}; exec "$@"'
 TEXT = "text"
 # The commands that read a kind of text; the other files are those of FILES.
 READERS = {
-    "model": [["show", TEXT], ["diagnose", TEXT, "log", "3", "1000"], ["cnf", TEXT, "log", "3", "any"], ["twin", TEXT, "jam", "3", "1", "1000"]],
-    "log": [["diagnose", "model", TEXT, "3", "1000"], ["proof", "model", TEXT, "3", "1000"]],
+    "model": [["show", TEXT], ["diagnose", TEXT, "log", "3", "1000"], ["cnf", TEXT, "log", "3", "any"], ["twin", TEXT, "jam", "3", "1", "1000"],
+              ["verdicts", TEXT, "log", "3", "1000"]],
+    "log": [["diagnose", "model", TEXT, "3", "1000"], ["proof", "model", TEXT, "3", "1000"], ["verdicts", "model", TEXT, "3", "1000"]],
     "script": [["session", "model", TEXT, "3", "1000"]],
     "run": [["trace", "model", TEXT], ["replay", "model", "log", TEXT, "3"]],
     "formula": [["check", TEXT, "proof"]],
@@ -94,14 +95,15 @@ SIGNS = {
 STATUSES = {
     "show": [0, 5], "diagnose": [0, 5, 6, 10, 11, 12], "cnf": [0, 5, 6], "proof": [0, 5, 6, 11, 14], "session": [0, 5, 6], "trace": [0, 5, 7, 13],
     "replay": [0, 5, 6, 7, 13], "check": [0, 7, 13], "twin": [0, 5, 11, 16, 17],
-    "cheapest": [0, 5, 6, 10, 11, 12, 15],
+    "cheapest": [0, 5, 6, 10, 11, 12, 15], "verdicts": [0, 5, 6, 10, 11, 12],
 }
 EVERYWHERE = [3, 8, 9]
 NAME = r"[A-Za-z0-9_-]{1,64}"
 STEP = rf"(?:!|{NAME})(?: {NAME})?"
 RUN = rf"run \d+\n(?:{STEP}\n)*"
 FIRST = r"EXPLAINED \d+|NONE \d+|MANY 255|UNDECIDED \d+ (?:\d+|-)|REFUSED [1-58]|run \d+"
-# What goes with a status, with 0 for each command, and with 11 for `twin`.
+VERDICT = rf"(?:CERTAIN|EXCLUDED|OPEN) {NAME}\n|POSSIBLE {NAME}\n{RUN}"
+# What goes with a status, with 0 for each command, and with 11 for `twin` and `verdicts`.
 OUTPUTS = {
     3: r"LOAD [123]\n",
     5: r"MODEL \d+ [1-8]\n",
@@ -117,7 +119,7 @@ OUTPUTS = {
     16: r"NOFAULT\n",
     17: rf"AMBIGUOUS \d+\nfaulty\n{RUN}healthy\n{RUN}",
 }
-UNDECIDED_TWIN = r"UNDECIDED\n"
+UNDECIDED = {"twin": r"UNDECIDED\n", "verdicts": rf"{OUTPUTS[11]}|EXPLAINED \d+\n{RUN}(?:{VERDICT})*"}
 ANSWERS = {
     "show": r"des 1\n(?:[^\n]+\n)*",
     "diagnose": rf"EXPLAINED \d+\n{RUN}",
@@ -129,6 +131,7 @@ ANSWERS = {
     "check": r"VERIFIED\n",
     "twin": r"CLEAR \d+\n",
     "cheapest": rf"CHEAPEST \d+\n{RUN}",
+    "verdicts": rf"EXPLAINED \d+\n{RUN}(?:{VERDICT})*",
 }
 
 
@@ -156,10 +159,12 @@ def told(program, words, folder):
     if len(front) == 2**16:
         front = front[:front.rindex("\n") + 1] if "\n" in front else front
     command = words[0]
-    # (where memory is wanting, a session has put whole replies, and another command nothing)
-    pattern = ANSWERS[command] if status == 0 or (status, command) == (9, "session") else OUTPUTS.get(status, "")
-    if (status, command) == (11, "twin"):
-        pattern = UNDECIDED_TWIN
+    # (out of memory, a session and `verdicts` have put whole replies, and another command nothing)
+    pattern = ANSWERS[command] if status == 0 else OUTPUTS.get(status, "")
+    if status == 9 and command in ["session", "verdicts"]:
+        pattern = rf"(?:{ANSWERS[command]})?"
+    if status == 11:
+        pattern = UNDECIDED.get(command, pattern)
     is_well = status in STATUSES[command] + EVERYWHERE and re.fullmatch(pattern, front) is not None
     return status, usage.ru_utime + usage.ru_stime, usage.ru_maxrss / 1024, is_well
 

@@ -7,7 +7,7 @@ is written and compiled here by `cc` and refuses one request of a run, the first
 round that one and all that come later. It's no part of the gate.
 
 The rows are commands of `cases/`, with the answers that stand there. Each run must have status 9, or status and output of its row. At status 9 the
-output must be whole replies: nothing, or of a session the replies to some of its rows. Status 1: some run answered otherwise.
+output must be whole replies: nothing, or of a session the replies to some of its rows, or of `verdicts` some of its replies. Status 1: some run answered otherwise.
 
 A new command is a line in ROWS, once a case of files has it.
 
@@ -57,9 +57,11 @@ ROWS = [
     ("costs", "cheapest ways.des seen.csv ways.costs 3 1000"),
     ("costs", "cheapest starts.des both.csv none.costs 2 0"),
     ("costs", "cheapest valve.des tripped.csv header.costs 2 1000"),
+    ("verdicts", "verdicts two_ways.des seen.csv 2 1000"),
+    ("verdicts", "verdicts valve.des tripped.csv 2 1000"),
 ]
-# Where a reply of a session begins.
-REPLY = re.compile(r"^(?=(?:EXPLAINED|NONE|MANY|UNDECIDED|REFUSED) )", re.M)
+# Where a reply of a session or of `verdicts` begins.
+REPLY = re.compile(r"^(?=(?:EXPLAINED|NONE|MANY|UNDECIDED|REFUSED|CERTAIN|EXCLUDED|POSSIBLE|OPEN) )", re.M)
 # The allocator: it refuses the request with the number in REFUSED, and with LATER those that follow too, and writes to descriptor MARK when it does.
 SHIM = r"""
 #include <errno.h>
@@ -149,7 +151,7 @@ def wanted(folder, words):
 
 def fronts(words, text):
     """What may have been put where memory is wanting: whole replies, but not all."""
-    replies = REPLY.split(text)[1:] if words[0] == "session" else [text]
+    replies = REPLY.split(text)[1:] if words[0] in ["session", "verdicts"] else [text]
     return ["".join(replies[:count]) for count in range(len(replies))]
 
 

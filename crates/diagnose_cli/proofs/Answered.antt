@@ -212,6 +212,29 @@ said_over o c one ends command answers =
     let memory : e ≢ Err Memory = λ p. answers (subst IsStopStatus (sym (subst (λ (x : Ending). HasStatus x o.status) p ends.shown)) (of_stop Memory)) in
     said_by o c one e answers (called o.loads o.words o.book (command_of o.words) c e command (ends.due.says memory)) ends.shown ends.put
 
+-- ---- one reply or several over such bytes
+
+-- what the command says over them
+pub record ToldOver (o : Outcome) (c : Command) : Type 0 where
+  pub texts : List (List ℕ)
+  pub held : AreHeld o.loads.held o.words 1 texts
+  pub told : Transcript
+  pub says : SaysInAll c o.words o.book texts told
+  pub shown : o.status ≡ status_of_end told.end
+  pub put : Took o.before o.now (concat told.texts)
+
+told_by : (o : Outcome) (c : Command) (e : Ending) → (IsStopStatus o.status → ⊥) → Answers o.loads o.words c o.book e → HasStatus e o.status → Took o.before o.now (concat (texts_of e)) → ToldOver o c
+told_by o c (Ok t) answers h shown put =
+    let over = over_files o.loads o.words 1 (files_of c) [] (Closes c o.words o.book) t h in
+    record { texts = over.texts; held = over.held; told = t; says = within (halts c o.words over.texts) t (SaysInAll c o.words o.book over.texts) over.closed; shown = shown; put = put }
+told_by o c (Err stop) answers h shown put = absurd (answers (subst IsStopStatus (sym shown) (of_stop stop)))
+
+pub told_over : (o : Outcome) (c : Command) → Ends o → command_of o.words ≡ Some c → (IsStopStatus o.status → ⊥) → ToldOver o c
+told_over o c ends command answers =
+    let e = ends.ending in
+    let memory : e ≢ Err Memory = λ p. answers (subst IsStopStatus (sym (subst (λ (x : Ending). HasStatus x o.status) p ends.shown)) (of_stop Memory)) in
+    told_by o c e answers (called o.loads o.words o.book (command_of o.words) c e command (ends.due.says memory)) ends.shown ends.put
+
 -- what is told is held
 pub same_text : (o : Option (List ℕ)) (text held : List ℕ) → o ≡ Some text → IfSome o (λ there. there ≡ held) → text ≡ held
 same_text o text held told is = subst (λ (o : Option (List ℕ)). IfSome o (λ there. there ≡ held)) told is

@@ -112,18 +112,18 @@ module _ (n budget : ℕ) (words : List (List ℕ)) (book : List BookEntry) (tex
 
 -- over the costs that are told
 pub prices_left : (held : List ℕ → Option (List ℕ)) (name : List ℕ) (limit : ℕ) (fault : List ℕ → Option FaultyText) (net : Net) (table : List (Option ℕ)) (read : IsReadAs held name limit fault (λ text. IsTableOf net text table)) (prices : List ℕ)
-    → held name ≡ Some prices → (alarms : Log) (n : ℕ) (book : List BookEntry) → LeavesCosts net (cost_at table) alarms n book → LeavesCosts net (cost_of net prices) alarms n book
-prices_left held name limit fault net table (bytes, read, of) prices told alarms n book left =
+    → held name ≡ Some prices → (alarms : Log) (n budget : ℕ) (book : List BookEntry) → LeavesCosts net (cost_at table) alarms n budget book → LeavesCosts net (cost_of net prices) alarms n budget book
+prices_left held name limit fault net table (bytes, read, of) prices told alarms n budget book left =
     let same : prices ≡ bytes = told_bytes (held name) bytes prices told read.holds.told in
-    leaves_alike net (cost_at table) (cost_of net prices) (as_text net prices table (subst (λ (text : List ℕ). IsTableOf net text table) (sym same) of)) alarms n book left
+    leaves_alike net (cost_at table) (cost_of net prices) (as_text net prices table (subst (λ (text : List ℕ). IsTableOf net text table) (sym same) of)) alarms n budget book left
 
 -- over the model and the log that are told
-pub case_prices_left : (held : List ℕ → Option (List ℕ)) (words : List (List ℕ)) (net : Net) (alarms : Log) (case : IsCase held words net alarms) (text rows prices : List ℕ) → AreTold held words 1 (text ∷ rows ∷ prices ∷ []) → (n : ℕ) (book : List BookEntry)
-    → LeavesCosts net (cost_of net prices) alarms n book → LeavesCosts (network_of text) (cost_of (network_of text) prices) (log_of rows) n book
-case_prices_left held words net alarms case text rows prices told n book left =
+pub case_prices_left : (held : List ℕ → Option (List ℕ)) (words : List (List ℕ)) (net : Net) (alarms : Log) (case : IsCase held words net alarms) (text rows prices : List ℕ) → AreTold held words 1 (text ∷ rows ∷ prices ∷ []) → (n budget : ℕ) (book : List BookEntry)
+    → LeavesCosts net (cost_of net prices) alarms n budget book → LeavesCosts (network_of text) (cost_of (network_of text) prices) (log_of rows) n budget book
+case_prices_left held words net alarms case text rows prices told n budget book left =
     let first : net ≡ network_of text = case.net_is ∙ ap network_of (sym (told_bytes _ case.text text told.0 case.model_read.holds.told)) in
     let second : alarms ≡ log_of rows = case.second_is ∙ ap log_of (sym (told_bytes _ case.second rows told.1.0 case.second_read.holds.told)) in
-    subst (λ (a : Log). LeavesCosts (network_of text) (cost_of (network_of text) prices) a n book) second (subst (λ (m : Net). LeavesCosts m (cost_of m prices) alarms n book) first left)
+    subst (λ (a : Log). LeavesCosts (network_of text) (cost_of (network_of text) prices) a n budget book) second (subst (λ (m : Net). LeavesCosts m (cost_of m prices) alarms n budget book) first left)
 
 -- ---- at the costs
 

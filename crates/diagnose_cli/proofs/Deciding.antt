@@ -11,7 +11,7 @@ use Rattle.model_text.specs.ModelFaults.{network_of}
 use Rattle.proof_ledger.specs.Book.{BookEntry}
 use Rattle.replay.specs.QuestionSize.{variable_bound}
 use Rattle.diagnose_cli.specs.declared.command.Command.{Command}
-use Rattle.diagnose_cli.specs.declared.command.Command.TheVariants.{Trace, Show, Replay, Check, Diagnose, PrintCnf, PrintProof, GenerateModel, GenerateLog, Bench, Session, Twin, Cheapest}
+use Rattle.diagnose_cli.specs.declared.command.Command.TheVariants.{Trace, Show, Replay, Check, Diagnose, PrintCnf, PrintProof, GenerateModel, GenerateLog, Bench, Session, Twin, Cheapest, Verdicts}
 use Rattle.diagnose_cli.specs.declared.ending.Kind.{Kind}
 use Rattle.diagnose_cli.specs.Deciding.{DecidedRow, Suffices}
 use Rattle.diagnose_cli.specs.Endings.{status_of_kind}
@@ -90,6 +90,7 @@ module _ (o : Outcome) (ends : Ends o) where
   decided_row (Bench units start steps budget) [] asks enough is = bench_decided units start steps budget asks enough is
   decided_row (Bench units start steps budget) (text ∷ texts) asks enough is = absurd enough
   decided_row (Session steps budget) texts asks enough is = absurd enough
+  decided_row (Verdicts steps budget) texts asks enough is = absurd enough
   decided_row (Twin steps after budget) texts asks enough is = absurd enough
   decided_row (Cheapest steps budget) [] asks enough is = absurd enough
   decided_row (Cheapest steps budget) (text ∷ []) asks enough is = absurd enough

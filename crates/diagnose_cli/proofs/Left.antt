@@ -10,8 +10,9 @@ use Rattle.log_csv.specs.LogText.{log_of}
 use Rattle.log_order.specs.Log.{Log as AlarmLog}
 use Rattle.model_text.specs.ModelFaults.{network_of}
 use Rattle.proof_ledger.specs.Book.{BookEntry}
+use Rattle.verdict_telling.specs.Left.{LeavesVerdicts}
 use Rattle.diagnose_cli.specs.declared.command.Command.{Command}
-use Rattle.diagnose_cli.specs.declared.command.Command.TheVariants.{Diagnose, PrintCnf, PrintProof, Bench, Session, Twin, Cheapest}
+use Rattle.diagnose_cli.specs.declared.command.Command.TheVariants.{Diagnose, PrintCnf, PrintProof, Bench, Session, Twin, Cheapest, Verdicts}
 use Rattle.diagnose_cli.specs.Commands.{command_of}
 use Rattle.diagnose_cli.specs.Outcomes.{Outcome}
 use Rattle.diagnose_cli.specs.Rows.{AreTold, Leaves, LeftRow}
@@ -22,12 +23,12 @@ pub told_bytes : (there : Option (List ℕ)) (bytes text : List ℕ) → there �
 told_bytes there bytes text is h = subst (λ (o : Option (List ℕ)). IfSome o (λ t. t ≡ bytes)) is h
 
 -- the bytes that are told are those that were read
-pub case_left : (held : List ℕ → Option (List ℕ)) (words : List (List ℕ)) (net : Net) (alarms : AlarmLog) (case : IsCase held words net alarms) (text rows : List ℕ) → AreTold held words 1 (text ∷ rows ∷ []) → (steps : ℕ) (P : List BookEntry → Type 0) (book : List BookEntry)
-    → LeavesQuestion net alarms steps P book → LeavesQuestion (network_of text) (log_of rows) steps P book
-case_left held words net alarms case text rows told steps P book left =
+pub case_left : (held : List ℕ → Option (List ℕ)) (words : List (List ℕ)) (net : Net) (alarms : AlarmLog) (case : IsCase held words net alarms) (text rows : List ℕ) → AreTold held words 1 (text ∷ rows ∷ []) → (L : Net → AlarmLog → Type 0)
+    → L net alarms → L (network_of text) (log_of rows)
+case_left held words net alarms case text rows told L left =
     let first : net ≡ network_of text = case.net_is ∙ ap network_of (sym (told_bytes _ case.text text told.0 case.model_read.holds.told)) in
     let second : alarms ≡ log_of rows = case.second_is ∙ ap log_of (sym (told_bytes _ case.second rows told.1.0 case.second_read.holds.told)) in
-    subst (λ (a : AlarmLog). LeavesQuestion (network_of text) a steps P book) second (subst (λ (n : Net). LeavesQuestion n alarms steps P book) first left)
+    subst (λ (a : AlarmLog). L (network_of text) a) second (subst (λ (n : Net). L n alarms) first left)
 
 -- ---- command by command
 
@@ -62,17 +63,23 @@ module _ (held : List ℕ → Option (List ℕ)) (words : List (List ℕ)) (book
   left_bench units start steps budget left [] told = left
   left_bench units start steps budget left (text ∷ texts) told = tt
 
-  pub left_twin : (steps after budget : ℕ) → ((text : List ℕ) → AreTold held words 1 (text ∷ []) → LeavesOfWord (network_of text) (word_at words 2) steps after book) → LeftBy (Twin steps after budget)
+  pub left_twin : (steps after budget : ℕ) → ((text : List ℕ) → AreTold held words 1 (text ∷ []) → LeavesOfWord (network_of text) (word_at words 2) steps after budget book) → LeftBy (Twin steps after budget)
   left_twin steps after budget left [] told = tt
   left_twin steps after budget left (text ∷ []) told = left text told
   left_twin steps after budget left (text ∷ more ∷ texts) told = tt
 
-  pub left_cheapest : (steps budget : ℕ) → ((text alarms prices : List ℕ) → AreTold held words 1 (text ∷ alarms ∷ prices ∷ []) → LeavesCosts (network_of text) (cost_of (network_of text) prices) (log_of alarms) steps book) → LeftBy (Cheapest steps budget)
+  pub left_cheapest : (steps budget : ℕ) → ((text alarms prices : List ℕ) → AreTold held words 1 (text ∷ alarms ∷ prices ∷ []) → LeavesCosts (network_of text) (cost_of (network_of text) prices) (log_of alarms) steps budget book) → LeftBy (Cheapest steps budget)
   left_cheapest steps budget left [] told = tt
   left_cheapest steps budget left (text ∷ []) told = tt
   left_cheapest steps budget left (text ∷ alarms ∷ []) told = tt
   left_cheapest steps budget left (text ∷ alarms ∷ prices ∷ []) told = left text alarms prices told
   left_cheapest steps budget left (text ∷ alarms ∷ prices ∷ more ∷ texts) told = tt
+
+  pub left_verdicts : (steps budget : ℕ) → ((text alarms : List ℕ) → AreTold held words 1 (text ∷ alarms ∷ []) → LeavesVerdicts (network_of text) (log_of alarms) steps budget book) → LeftBy (Verdicts steps budget)
+  left_verdicts steps budget left [] told = tt
+  left_verdicts steps budget left (text ∷ []) told = tt
+  left_verdicts steps budget left (text ∷ alarms ∷ []) told = left text alarms told
+  left_verdicts steps budget left (text ∷ alarms ∷ more ∷ texts) told = tt
 
   pub left_so : (c command : Command) → command ≡ c → LeftBy c → LeftBy command
   left_so c command is left = subst LeftBy (sym is) left

@@ -9,6 +9,7 @@ pub mod StatusRows
 pub mod StopStatus
 pub mod TwinBooks
 pub mod TwinStatus
+pub mod VerdictStatus
 pub mod CheapStatus
 pub mod Deciding
 pub mod SessionRows
@@ -34,5 +35,6 @@ pub mod GenerateAnswers
 pub mod BenchAnswers
 pub mod Speaking
 pub mod SessionAnswers
+pub mod VerdictAnswers
 pub mod SessionFronts
 pub mod SessionEnds

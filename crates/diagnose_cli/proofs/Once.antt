@@ -32,6 +32,8 @@ use Rattle.diagnose_cli.specs.TwinRows.{TwinRows}
 use Rattle.diagnose_cli.specs.CheapRows.{CheapRows}
 use Rattle.diagnose_cli.proofs.CheapStatus.{cheapest, dear, unexplained, unpriced}
 use Rattle.diagnose_cli.proofs.UsageRows.{usage_row}
+use Rattle.diagnose_cli.proofs.VerdictStatus.{is_put, left_open, none_explains, too_many, verdicts_row, verdicts_told}
+use Rattle.diagnose_cli.specs.VerdictRows.{VerdictRows}
 
 pub one_text : (texts : List (List ℕ)) (text : List ℕ) → texts ≡ text ∷ [] → concat texts ≡ text
 one_text texts text e = subst (λ ts. concat ts ≡ text) (sym e) (append-nil text)
@@ -144,6 +146,15 @@ module _ (o : Outcome) (rose : Type 0) (speaks : Speaks (Due o.loads o.words o.b
     undecided = λ n budget text alarms prices asks is. unpriced o (answered 11 is (λ p. cc)) n budget text alarms prices asks is;
   }
 
+  judged : VerdictRows o
+  judged = record {
+    judged = λ steps budget text alarms reads whole. verdicts_row o steps budget text alarms (speaks.ends whole.put.written) reads whole;
+    told = λ steps budget text alarms asks answer. verdicts_told o (speaks.ends (is_put o.status answer).written) steps budget text alarms asks answer;
+    absent = λ steps budget text alarms asks is. none_explains o (answered 10 is (λ p. cc)) steps budget text alarms asks is;
+    many = λ steps budget text alarms asks is. too_many o (answered 12 is (λ p. cc)) steps budget text alarms asks is;
+    undecided = λ steps budget text alarms asks is. left_open o (answered 11 is (λ p. cc)) steps budget text alarms asks is;
+  }
+
   does : Does o rose
   does = record {
     diagnosed = diagnosed;
@@ -159,6 +170,7 @@ module _ (o : Outcome) (rose : Type 0) (speaks : Speaks (Due o.loads o.words o.b
     benched = λ units start steps budget. row_alone (Bench units start steps budget) (λ words book texts t h. h) refl;
     carried_out = λ steps budget text lines reads whole. session_row o steps budget text lines (speaks.ends whole.put.written) reads whole;
     twinned = twinned;
+    judged = judged;
     priced = priced;
     ran = ran;
   }

@@ -2,12 +2,12 @@
 use Rattle.std.proofs.Common.{◌≡◌, inl, inr, ℕ, ◌+◌, List, [], ◌∷◌, ◌++◌, true, false, IfOk, Option, Some, None, Result, Ok, Err, IsOkAnd, MatchOption, refl, subst, sym}
 use Rattle.proof_ledger.specs.Book.{BookEntry}
 use Rattle.diagnose_cli.specs.declared.command.Command.{Command}
-use Rattle.diagnose_cli.specs.declared.command.Command.TheVariants.{Trace, Show, Replay, Check, Diagnose, PrintCnf, PrintProof, GenerateModel, GenerateLog, Bench, Session, Twin, Cheapest}
+use Rattle.diagnose_cli.specs.declared.command.Command.TheVariants.{Trace, Show, Replay, Check, Diagnose, PrintCnf, PrintProof, GenerateModel, GenerateLog, Bench, Session, Twin, Cheapest, Verdicts}
 use Rattle.diagnose_cli.specs.declared.ending.Kind.{Kind}
 use Rattle.diagnose_cli.specs.declared.stop.Stop.{Stop}
 use Rattle.diagnose_cli.specs.declared.stop.Stop.TheVariants.{Faulty, Usage}
 use Rattle.diagnose_cli.specs.declared.stop.FaultyText.{FaultyText}
-use Rattle.diagnose_cli.specs.Commands.{command_of, files_of, is_session}
+use Rattle.diagnose_cli.specs.Commands.{command_of, files_of, has_several}
 use Rattle.diagnose_cli.specs.Due.{Answers, Closes, Due, InOrder, SaysInAll, halts}
 use Rattle.diagnose_cli.specs.Files.{Loads}
 use Rattle.diagnose_cli.specs.Replies.{Says}
@@ -21,7 +21,7 @@ is_cut : (P : (Kind × List ℕ) → Type 0) (reply : Kind × List ℕ) → IsOn
 is_cut P reply one = record { reply = one.reply; says = one.says; alone = one.alone; ends = tt }
 
 -- what it may say it may also say cut short
-cut_says : (c : Command) → is_session c ≡ false → (words : List (List ℕ)) (book : List BookEntry) (files : List (List ℕ)) (reply : Kind × List ℕ) → SaysInAll c words book files (whole reply) → SaysInAll c words book files (cut_short reply)
+cut_says : (c : Command) → has_several c ≡ false → (words : List (List ℕ)) (book : List BookEntry) (files : List (List ℕ)) (reply : Kind × List ℕ) → SaysInAll c words book files (whole reply) → SaysInAll c words book files (cut_short reply)
 cut_says Trace one words book files reply h = is_cut (Says Trace words book files) reply h
 cut_says Show one words book files reply h = is_cut (Says Show words book files) reply h
 cut_says (Replay steps) one words book files reply h = is_cut (Says (Replay steps) words book files) reply h
@@ -35,6 +35,7 @@ cut_says (Bench units start steps budget) one words book files reply h = is_cut 
 cut_says (Twin steps after budget) one words book files reply h = is_cut (Says (Twin steps after budget) words book files) reply h
 cut_says (Cheapest steps budget) one words book files reply h = is_cut (Says (Cheapest steps budget) words book files) reply h
 cut_says (Session steps budget) one words book files reply h = cc
+cut_says (Verdicts steps budget) one words book files reply h = cc
 
 -- ---- over its files, where one transcript takes the place of another
 
@@ -62,14 +63,14 @@ in_place l words i (kind ∷ kinds) files closes t u f h =
     ]
 
 -- so a command with one reply, where it may answer that
-cuts : (l : Loads) (words : List (List ℕ)) (c : Command) (book : List BookEntry) → is_session c ≡ false → (r : Result (Kind × List ℕ) Stop) → UnlessMemory r (Answers l words c book (once r))
+cuts : (l : Loads) (words : List (List ℕ)) (c : Command) (book : List BookEntry) → has_several c ≡ false → (r : Result (Kind × List ℕ) Stop) → UnlessMemory r (Answers l words c book (once r))
     → IfOk r (λ reply. Answers l words c book (Ok (cut_short reply)))
 cuts l words c book one (Err stop) h = tt
 cuts l words c book one (Ok reply) h =
     in_place l words 1 (files_of c) [] (Closes c words book) (whole reply) (cut_short reply)
     (λ texts. past_stop (halts c words texts) (whole reply) (cut_short reply) (SaysInAll c words book texts (whole reply)) (SaysInAll c words book texts (cut_short reply)) (cut_says c one words book texts reply)) (h (λ never. cc))
 
-pub cuts_due : (l : Loads) (words : List (List ℕ)) (c : Command) (book : List BookEntry) → command_of words ≡ Some c → is_session c ≡ false → (r : Result (Kind × List ℕ) Stop) → UnlessMemory r (Answers l words c book (once r))
+pub cuts_due : (l : Loads) (words : List (List ℕ)) (c : Command) (book : List BookEntry) → command_of words ≡ Some c → has_several c ≡ false → (r : Result (Kind × List ℕ) Stop) → UnlessMemory r (Answers l words c book (once r))
     → IfOk r (λ reply. Due l words book (Ok (cut_short reply)))
 cuts_due l words c book called one (Err stop) h = tt
 cuts_due l words c book called one (Ok reply) h =

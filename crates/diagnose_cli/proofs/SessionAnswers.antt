@@ -109,7 +109,7 @@ module _ (steps budget : ℕ) (words : List (List ℕ)) (book : List BookEntry) 
 
 -- ---- for the words that call it
 
-due_for : (l : Loads) (words : List (List ℕ)) (c : Command) (book : List BookEntry) (e : Ending) → command_of words ≡ Some c → Answers l words c book e → Due l words book e
+pub due_for : (l : Loads) (words : List (List ℕ)) (c : Command) (book : List BookEntry) (e : Ending) → command_of words ≡ Some c → Answers l words c book e → Due l words book e
 due_for l words c book e called h = subst (λ (o : Option Command). MatchOption o (e ≡ Err Usage) (λ d. Answers l words d book e)) (sym called) h
 
 pub not_begun : (words : List (List ℕ)) (book : List BookEntry) → book ≡ [] → HasNotBegun words book

@@ -22,7 +22,7 @@ use Rattle.report.proofs.ReadsBack.{printed_runs_read_back}
 use Rattle.report.specs.ReadBack.{HasNames, IsRunText}
 use Rattle.report.specs.Replies.{TwinEventsKnown, text_of_run}
 use Rattle.twin_test.proofs.Decoding.{word_is}
-use Rattle.twin_test.specs.Tested.{IsTested, LeavesTwinQuestion, run_of, unnamed}
+use Rattle.twin_test.specs.Tested.{IsTested, LeavesTwins, run_of, unnamed}
 use Rattle.twin_test.specs.TwinCodes.{twin_clauses}
 use Rattle.twin_test.specs.Twins.{AreAligned, twin_size}
 use Rattle.twin_test.specs.declared.answer.Twin.{Twin as TwinAnswer}
@@ -106,19 +106,19 @@ module _ (n d budget : ℕ) (words : List (List ℕ)) (book : List BookEntry) (t
 -- ---- what it leaves
 
 -- the book stays empty, whatever the word names
-pub none_left : (net : Net) (word : List ℕ) (n d : ℕ) (book : List BookEntry) → book ≡ [] → LeavesOfWord net word n d book
-none_left net word n d book empty = by (fault_event_of net word)
+pub none_left : (net : Net) (word : List ℕ) (n d budget : ℕ) (book : List BookEntry) → book ≡ [] → LeavesOfWord net word n d budget book
+none_left net word n d budget book empty = by (fault_event_of net word)
   where
-    by : (o : Option ℕ) → MatchOption o (book ≡ []) (λ fault. (book ≡ []) ⊎ (axioms_of book ≡ twin_clauses net fault n d))
+    by : (o : Option ℕ) → MatchOption o (book ≡ []) (λ fault. LeavesTwins net fault n d budget book)
     by None = empty
     by (Some fault) = inl empty
 
-pub fault_left : (net : Net) (word : List ℕ) (fault n d : ℕ) (book : List BookEntry) → fault_event_of net word ≡ Some fault → LeavesTwinQuestion net fault n d book → LeavesOfWord net word n d book
-fault_left net word fault n d book named left = subst (λ (o : Option ℕ). MatchOption o (book ≡ []) (λ f. LeavesTwinQuestion net f n d book)) (sym named) left
+pub fault_left : (net : Net) (word : List ℕ) (fault n d budget : ℕ) (book : List BookEntry) → fault_event_of net word ≡ Some fault → LeavesTwins net fault n d budget book → LeavesOfWord net word n d budget book
+fault_left net word fault n d budget book named left = subst (λ (o : Option ℕ). MatchOption o (book ≡ []) (λ f. LeavesTwins net f n d budget book)) (sym named) left
 
 -- over the text that is told
 pub word_left : (held : List ℕ → Option (List ℕ)) (words : List (List ℕ)) (limit : ℕ) (fault : List ℕ → Option FaultyText) (net : Net) (read : IsReadAs held (word_at words 1) limit fault (λ text. net ≡ network_of text)) (text : List ℕ)
-    → AreTold held words 1 (text ∷ []) → (word : List ℕ) → word ≡ word_at words 2 → (n d : ℕ) (book : List BookEntry) → LeavesOfWord net word n d book → LeavesOfWord (network_of text) (word_at words 2) n d book
-word_left held words limit fault net (bytes, read, is) text told word second n d book left =
+    → AreTold held words 1 (text ∷ []) → (word : List ℕ) → word ≡ word_at words 2 → (n d budget : ℕ) (book : List BookEntry) → LeavesOfWord net word n d budget book → LeavesOfWord (network_of text) (word_at words 2) n d budget book
+word_left held words limit fault net (bytes, read, is) text told word second n d budget book left =
     let same : net ≡ network_of text = is ∙ ap network_of (sym (told_bytes (held (word_at words 1)) bytes text told.0 read.holds.told)) in
-    subst (λ (m : Net). LeavesOfWord m (word_at words 2) n d book) same (subst (λ (w : List ℕ). LeavesOfWord net w n d book) second left)
+    subst (λ (m : Net). LeavesOfWord m (word_at words 2) n d budget book) same (subst (λ (w : List ℕ). LeavesOfWord net w n d budget book) second left)

@@ -4,7 +4,7 @@ use Rattle.des_base.specs.CommandWords.{word_at}
 use Rattle.des_base.specs.Numbers.{number_up_to}
 use Rattle.gen_plant.specs.Plant.{most_units}
 use Rattle.diagnose_cli.specs.declared.command.Command.{Command}
-use Rattle.diagnose_cli.specs.declared.command.Command.TheVariants.{Trace, Show, Replay, Check, Diagnose, PrintCnf, PrintProof, GenerateModel, GenerateLog, Bench, Session, Twin, Cheapest}
+use Rattle.diagnose_cli.specs.declared.command.Command.TheVariants.{Trace, Show, Replay, Check, Diagnose, PrintCnf, PrintProof, GenerateModel, GenerateLog, Bench, Session, Twin, Cheapest, Verdicts}
 use Rattle.diagnose_cli.specs.Texts.{FileKind, model, log, script, run, cnf, lrat, costs}
 
 -- this many words, of which the first is the name
@@ -75,6 +75,10 @@ twin_of steps after budget =
 abbrev pub cheapest_of : List ℕ → List ℕ → Option Command
 cheapest_of steps budget = option_and_then (λ n. option_map (λ b. Cheapest n b) (number_up_to most_budget budget)) (number_up_to most_steps steps)
 
+-- what they ask of `verdicts`
+abbrev pub verdicts_of : List ℕ → List ℕ → Option Command
+verdicts_of steps budget = option_and_then (λ n. option_map (λ b. Verdicts n b) (number_up_to most_budget budget)) (number_up_to most_steps steps)
+
 -- the command that the words call, if they call one
 abbrev pub command_of : List (List ℕ) → Option Command
 command_of words =
@@ -90,6 +94,7 @@ command_of words =
     else if calls words (codes "session") 5 then session_of (word_at words 3) (word_at words 4)
     else if calls words (codes "twin") 6 then twin_of (word_at words 3) (word_at words 4) (word_at words 5)
     else if calls words (codes "cheapest") 6 then cheapest_of (word_at words 4) (word_at words 5)
+    else if calls words (codes "verdicts") 5 then verdicts_of (word_at words 3) (word_at words 4)
     else None
 
 -- a question is asked for no more steps than that, and a twin question for no more to be seen
@@ -99,6 +104,7 @@ HasFewSteps (PrintCnf steps bound) = steps ≤ most_steps
 HasFewSteps (PrintProof steps budget) = steps ≤ most_steps
 HasFewSteps (Bench units start steps budget) = steps ≤ most_steps
 HasFewSteps (Session steps budget) = steps ≤ most_steps
+HasFewSteps (Verdicts steps budget) = steps ≤ most_steps
 HasFewSteps (Cheapest steps budget) = steps ≤ most_steps
 HasFewSteps (Twin steps after budget) = (steps ≤ most_steps) × (after ≤ most_steps)
 HasFewSteps _ = ⊤
@@ -128,12 +134,19 @@ files_of (GenerateLog units start) = []
 files_of (Bench units start steps budget) = []
 files_of (Session steps budget) = model ∷ script ∷ []
 files_of (Twin steps after budget) = model ∷ []
+files_of (Verdicts steps budget) = model ∷ log ∷ []
 files_of (Cheapest steps budget) = model ∷ log ∷ costs ∷ []
 
 -- the command has a reply for each of several rows
 abbrev pub is_session : Command → Bool
 is_session (Session steps budget) = true
 is_session _ = false
+
+-- it has several replies: to the rows of a session, or about a log and then on each fault event
+abbrev pub has_several : Command → Bool
+has_several (Session steps budget) = true
+has_several (Verdicts steps budget) = true
+has_several _ = false
 
 -- how many words behind the first stand for themselves: those of the files, and of `twin` that of the event too
 abbrev pub read_words : Command → ℕ

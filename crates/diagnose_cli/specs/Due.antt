@@ -12,7 +12,7 @@ use Rattle.log_csv.specs.ScriptText.{script_of}
 use Rattle.proof_ledger.specs.Book.{BookEntry}
 use Rattle.replay.specs.QuestionSize.{question_size}
 use Rattle.diagnose_cli.specs.declared.command.Command.{Command}
-use Rattle.diagnose_cli.specs.declared.command.Command.TheVariants.{Diagnose, PrintCnf, PrintProof, Bench, Session, Twin, Cheapest}
+use Rattle.diagnose_cli.specs.declared.command.Command.TheVariants.{Diagnose, PrintCnf, PrintProof, Bench, Session, Twin, Cheapest, Verdicts}
 use Rattle.diagnose_cli.specs.declared.stop.Stop.{Stop}
 use Rattle.diagnose_cli.specs.declared.stop.Stop.TheVariants.{Usage, Faulty, NoFault, Large}
 use Rattle.diagnose_cli.specs.Transcripts.{Ending, IsOne, OrMemory, Transcript}
@@ -21,12 +21,15 @@ use Rattle.diagnose_cli.specs.Texts.{FileKind, limit_of, fault_of_text}
 use Rattle.diagnose_cli.specs.Commands.{command_of, files_of, is_session}
 use Rattle.diagnose_cli.specs.Replies.{Says}
 use Rattle.diagnose_cli.specs.SessionReplies.{IsSession}
+use Rattle.diagnose_cli.specs.VerdictReplies.{IsVerdicts}
 use Rattle.twin_test.specs.Twins.{twin_size}
 
--- What a command may say by its words and over the bytes of its files: one reply, or those to the rows of a script. One reply is the one line of a command in `Says`.
+-- What a command may say by its words and over the bytes of its files: one reply, those to the rows of a script, or those about a log and on each fault event. One reply is the one line of a command in `Says`.
 abbrev pub SaysInAll : Command → List (List ℕ) → List BookEntry → List (List ℕ) → Transcript → Type 0
 SaysInAll (Session steps budget) words book (text ∷ lines ∷ []) told = IsSession (network_of text) steps budget (script_of lines) book told
 SaysInAll (Session steps budget) words book _ told = ⊥
+SaysInAll (Verdicts steps budget) words book (text ∷ alarms ∷ []) told = IsVerdicts (network_of text) (log_of alarms) steps budget book told
+SaysInAll (Verdicts steps budget) words book _ told = ⊥
 SaysInAll c words book files told = IsOne (Says c words book files) told
 
 -- the size, where it is above the limit
@@ -39,6 +42,7 @@ too_large (Diagnose steps budget) (text ∷ alarms ∷ []) = above_limit (questi
 too_large (PrintCnf steps bound) (text ∷ alarms ∷ []) = above_limit (question_size (network_of text) (log_of alarms) steps)
 too_large (PrintProof steps budget) (text ∷ alarms ∷ []) = above_limit (question_size (network_of text) (log_of alarms) steps)
 too_large (Bench units start steps budget) [] = above_limit (question_size (plant_net units) (plant_log units start) steps)
+too_large (Verdicts steps budget) (text ∷ alarms ∷ []) = above_limit (question_size (network_of text) (log_of alarms) steps)
 too_large (Session steps budget) (text ∷ lines ∷ []) = above_limit (question_size (network_of text) no_log steps)
 too_large (Cheapest steps budget) (text ∷ alarms ∷ prices ∷ []) = above_limit (cost_size (network_of text) (log_of alarms) steps)
 too_large (Twin steps after budget) (text ∷ []) = above_limit (twin_size (network_of text) steps after)

@@ -9,6 +9,7 @@ pub mod TwinReplies
 pub mod CheapReplies
 pub mod Replies
 pub mod SessionReplies
+pub mod VerdictReplies
 pub mod Due
 pub mod Deciding
 pub mod Asking
@@ -18,5 +19,6 @@ pub mod Puts
 pub mod Sessions
 pub mod Rows
 pub mod TwinRows
+pub mod VerdictRows
 pub mod CheapRows
 pub mod Run

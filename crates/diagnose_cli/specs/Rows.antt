@@ -25,8 +25,9 @@ use Rattle.prop_core.specs.VariableNames.{Name}
 use Rattle.replay.specs.Explanation.{NeedsFaults, IsLeast, IsAbsent, IsMany}
 use Rattle.replay.specs.QuestionSize.{variable_bound}
 use Rattle.report.specs.Replies.{text_of_found}
+use Rattle.verdict_telling.specs.Left.{LeavesVerdicts}
 use Rattle.diagnose_cli.specs.declared.command.Command.{Command}
-use Rattle.diagnose_cli.specs.declared.command.Command.TheVariants.{Trace, Show, Replay, Check, Diagnose, PrintCnf, PrintProof, GenerateModel, GenerateLog, Bench, Session, Twin, Cheapest}
+use Rattle.diagnose_cli.specs.declared.command.Command.TheVariants.{Trace, Show, Replay, Check, Diagnose, PrintCnf, PrintProof, GenerateModel, GenerateLog, Bench, Session, Twin, Cheapest, Verdicts}
 use Rattle.diagnose_cli.specs.Texts.{FileKind, limit_of, fault_of_text}
 use Rattle.diagnose_cli.specs.Commands.{files_of, command_of}
 use Rattle.diagnose_cli.specs.Replies.{Says}
@@ -163,14 +164,15 @@ pub record DiagnoseRows (o : Outcome) : Type 0 where
 
 -- ---- what is left in the book
 
--- Of a command that asks one question: nothing, or a book whose axioms are those of the question by its words and over the bytes of its files. No more was learnt than its budget says, and by `cnf` nothing.
+-- Of a command that asks one question: nothing, or a book whose axioms are those of the question by its words and over the bytes of its files. No more was learnt than its budget says, and by `cnf` nothing. Of `twin` and `cheapest`: nothing, or the book of an answer. Of `verdicts`: nothing, or a book that begins with the question of the log.
 abbrev pub Leaves : Command → List (List ℕ) → List (List ℕ) → List BookEntry → Type 0
 Leaves (Diagnose steps budget) words (text ∷ alarms ∷ []) book = LeavesQuestion (network_of text) (log_of alarms) steps (HasLearntWithin budget) book
 Leaves (PrintCnf steps bound) words (text ∷ alarms ∷ []) book = LeavesQuestion (network_of text) (log_of alarms) steps HasAxiomsAlone book
 Leaves (PrintProof steps budget) words (text ∷ alarms ∷ []) book = LeavesQuestion (network_of text) (log_of alarms) steps (HasLearntWithin budget) book
 Leaves (Bench units start steps budget) words [] book = LeavesQuestion (plant_net units) (plant_log units start) steps (HasLearntWithin budget) book
-Leaves (Twin steps after budget) words (text ∷ []) book = LeavesOfWord (network_of text) (word_at words 2) steps after book
-Leaves (Cheapest steps budget) words (text ∷ alarms ∷ prices ∷ []) book = LeavesCosts (network_of text) (cost_of (network_of text) prices) (log_of alarms) steps book
+Leaves (Twin steps after budget) words (text ∷ []) book = LeavesOfWord (network_of text) (word_at words 2) steps after budget book
+Leaves (Cheapest steps budget) words (text ∷ alarms ∷ prices ∷ []) book = LeavesCosts (network_of text) (cost_of (network_of text) prices) (log_of alarms) steps budget book
+Leaves (Verdicts steps budget) words (text ∷ alarms ∷ []) book = LeavesVerdicts (network_of text) (log_of alarms) steps budget book
 Leaves _ _ _ book = ⊤
 
 -- so it is over whatever bytes the shelf tells, and whatever the status

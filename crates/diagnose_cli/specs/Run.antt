@@ -4,7 +4,7 @@ use Rattle.des_base.specs.Outside.{Rose, Took}
 use Rattle.des_base.specs.CommandWords.{word_at}
 use Rattle.report.specs.Replies.{numbered}
 use Rattle.diagnose_cli.specs.declared.command.Command.{Command}
-use Rattle.diagnose_cli.specs.declared.command.Command.TheVariants.{Diagnose, PrintCnf, PrintProof, Bench, Session, Twin, Cheapest}
+use Rattle.diagnose_cli.specs.declared.command.Command.TheVariants.{Diagnose, PrintCnf, PrintProof, Bench, Session, Twin, Cheapest, Verdicts}
 use Rattle.diagnose_cli.specs.Commands.{command_of, file_count, files_of}
 use Rattle.diagnose_cli.specs.Due.{Due, MayCome}
 use Rattle.diagnose_cli.specs.Outcomes.{Outcome, IsUnbroken}
@@ -13,6 +13,7 @@ use Rattle.diagnose_cli.specs.Exact.{StopRow}
 use Rattle.diagnose_cli.specs.Puts.{Finishes, IsCutOff}
 use Rattle.diagnose_cli.specs.Rows.{TraceRow, ShowRow, ReplayRow, CheckRows, PrintedRows, GenerateRows, BenchRow, DiagnoseRows, SessionRow}
 use Rattle.diagnose_cli.specs.TwinRows.{TwinRows}
+use Rattle.diagnose_cli.specs.VerdictRows.{VerdictRows}
 use Rattle.diagnose_cli.specs.CheapRows.{CheapRows}
 
 -- ---- how it ends
@@ -60,6 +61,7 @@ is_question (PrintProof steps budget) = true
 is_question (Bench units start steps budget) = true
 is_question (Session steps budget) = true
 is_question (Twin steps after budget) = true
+is_question (Verdicts steps budget) = true
 is_question (Cheapest steps budget) = true
 is_question _ = false
 
@@ -97,5 +99,6 @@ pub record Does (o : Outcome) (rose : Type 0) : Type 0 where
   pub benched : BenchRow o
   pub carried_out : SessionRow o
   pub twinned : TwinRows o
+  pub judged : VerdictRows o
   pub priced : CheapRows o
   pub ran : Ran o rose

@@ -5,7 +5,7 @@ use Rattle.event_costs.specs.CostText.{fault_event_of}
 use Rattle.proof_ledger.specs.Book.{BookEntry, IsValidBook}
 use Rattle.report.specs.Replies.{text_of_twin, text_of_run}
 use Rattle.report.specs.ReadBack.{IsRunText}
-use Rattle.twin_test.specs.Tested.{IsTested, LeavesTwinQuestion}
+use Rattle.twin_test.specs.Tested.{IsTested, LeavesTwins}
 use Rattle.twin_test.specs.declared.answer.Twin.{Twin as TwinAnswer}
 use Rattle.twin_test.specs.declared.answer.Twin.TheVariants.{Ambiguous as AlikeRuns, Clear, Undecided as NotTested}
 use Rattle.diagnose_cli.specs.declared.ending.Kind.{Kind}
@@ -39,6 +39,6 @@ pub record SaysTwin (net : Net) (fault n d budget : ℕ) (book : List BookEntry)
 abbrev pub SaysOfWord : Net → List ℕ → (n d budget : ℕ) → List BookEntry → (Kind × List ℕ) → Type 0
 SaysOfWord net word n d budget book reply = IsSomeAnd (fault_event_of net word) (λ fault. SaysTwin net fault n d budget book reply)
 
--- the book is empty, or its axioms are those of the twin question about that event
-abbrev pub LeavesOfWord : Net → List ℕ → (n d : ℕ) → List BookEntry → Type 0
-LeavesOfWord net word n d book = MatchOption (fault_event_of net word) (book ≡ []) (λ fault. LeavesTwinQuestion net fault n d book)
+-- the book is empty, or that of an answer about that event
+abbrev pub LeavesOfWord : Net → List ℕ → (n d budget : ℕ) → List BookEntry → Type 0
+LeavesOfWord net word n d budget book = MatchOption (fault_event_of net word) (book ≡ []) (λ fault. LeavesTwins net fault n d budget book)

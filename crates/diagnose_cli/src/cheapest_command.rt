@@ -41,7 +41,7 @@ pub fn cheapest_command<F: Shelf>(
     requires empty { book.old.entries ≡ [] }
     ensures due { UnlessMemory result (Answers (loads F.held F.faults shelf.old shelf.new) words.now (Command.Cheapest limits.steps limits.budget) book.new.entries (once result)) }
     ensures stopped { IfErr result (λ stop. stop ≢ Stop.Memory → book.new ≡ book.old) }
-    ensures left { (text alarms prices : List ℕ) → AreTold (F.held shelf.old) words.now 1 (text ∷ alarms ∷ prices ∷ []) → LeavesCosts (network_of text) (cost_of (network_of text) prices) (log_of alarms) limits.steps book.new.entries }
+    ensures left { (text alarms prices : List ℕ) → AreTold (F.held shelf.old) words.now 1 (text ∷ alarms ∷ prices ∷ []) → LeavesCosts (network_of text) (cost_of (network_of text) prices) (log_of alarms) limits.steps limits.budget book.new.entries }
 {
     let case = fetch_case(alloc, words, shelf)?;
     price_case(alloc, words, shelf, &case, limits, book)
@@ -61,7 +61,7 @@ fn price_case<F: Shelf>(
     requires empty { book.old.entries ≡ [] }
     ensures due { (text alarms : List ℕ) → case.now.net ≡ network_of text → case.now.log ≡ log_of alarms → UnlessMemory result (AnswersAfter (loads F.held F.faults shelf.old shelf.new) words.now (Command.Cheapest limits.steps limits.budget) book.new.entries (text ∷ alarms ∷ []) (once result)) }
     ensures stopped { IfErr result (λ stop. stop ≢ Stop.Memory → book.new ≡ book.old) }
-    ensures left { (prices : List ℕ) → AreTold (F.held shelf.old) words.now 3 (prices ∷ []) → LeavesCosts case.now.net (cost_of case.now.net prices) case.now.log limits.steps book.new.entries }
+    ensures left { (prices : List ℕ) → AreTold (F.held shelf.old) words.now 3 (prices ∷ []) → LeavesCosts case.now.net (cost_of case.now.net prices) case.now.log limits.steps limits.budget book.new.entries }
 {
     let table = fetch_costs(alloc, words, shelf, 3, &case.net)?;
     ask_costs(alloc, case, &table, limits, book)
@@ -80,7 +80,7 @@ fn ask_costs(
     requires empty { book.old.entries ≡ [] }
     ensures due { (words : List (List ℕ)) (text alarms prices : List ℕ) → case.now.net ≡ network_of text → case.now.log ≡ log_of alarms → IsTableOf case.now.net prices table.now → UnlessMemory result (Closes (Command.Cheapest limits.steps limits.budget) words book.new.entries (text ∷ alarms ∷ prices ∷ []) (once result)) }
     ensures stopped { IfErr result (λ stop. stop ≢ Stop.Memory → book.new ≡ book.old) }
-    ensures left { LeavesCosts case.now.net (cost_at table.now) case.now.log limits.steps book.new.entries }
+    ensures left { LeavesCosts case.now.net (cost_at table.now) case.now.log limits.steps limits.budget book.new.entries }
 {
     let size = cost_size(&case.net, &case.log, limits.steps);
     if size > MOST_SIZE {
@@ -101,7 +101,7 @@ fn reply_to_costs(
     requires within { IsWithinCosts case.now.net case.now.log limits.steps }
     requires empty { book.old.entries ≡ [] }
     ensures says { IfOk result (SaysCheap case.now.net (cost_at table.now) case.now.log limits.steps limits.budget book.new.entries) }
-    ensures left { LeavesCosts case.now.net (cost_at table.now) case.now.log limits.steps book.new.entries }
+    ensures left { LeavesCosts case.now.net (cost_at table.now) case.now.log limits.steps limits.budget book.new.entries }
 {
     let cheap = least_cost(alloc, case, limits.steps, table, limits.budget, book)?;
     tell(alloc, case, table, limits, &cheap, book)

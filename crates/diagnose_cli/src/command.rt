@@ -1,7 +1,7 @@
 // The commands, and which one the words of a command line call.
 ghost use Rattle.std.specs.Prelude.{◌≡◌, ◌≤◌, length, IfSome, ◌<◌};
 ghost use Rattle.gen_plant.specs.Plant.{most_units};
-ghost use Rattle.diagnose_cli.specs.Commands.{calls, command_of, bound_of, cnf_of, proof_words_of, units_of, generate_of, bench_of, session_of, twin_of, cheapest_of, read_words, HasFewSteps, HasFewUnits};
+ghost use Rattle.diagnose_cli.specs.Commands.{calls, command_of, bound_of, cnf_of, proof_words_of, units_of, generate_of, bench_of, session_of, twin_of, verdicts_of, cheapest_of, read_words, HasFewSteps, HasFewUnits};
 
 use des_base::{WordList, read_number};
 
@@ -47,6 +47,12 @@ pub enum Command {
     /// `session MODEL SCRIPT N BUDGET`: the rows of the script one after another, additions to a log and questions about it, each
     /// with the whole budget.
     Session {
+        steps: u32,
+        budget: u64,
+    },
+    /// `verdicts MODEL LOG N BUDGET`: what `diagnose` says, and then of each fault event whether all explanations with that number of
+    /// faults have it, some or none. Each question has the whole budget.
+    Verdicts {
         steps: u32,
         budget: u64,
     },
@@ -123,6 +129,8 @@ pub fn command_of(words: &WordList) -> Option<Command>
         twin_of(words.word(3), words.word(4), words.word(5))
     } else if is_call(words, "cheapest", 6) {
         cheapest_of(words.word(4), words.word(5))
+    } else if is_call(words, "verdicts", 5) {
+        verdicts_of(words.word(3), words.word(4))
     } else {
         None
     }
@@ -252,6 +260,20 @@ fn cheapest_of(steps: &str, budget: &str) -> Option<Command>
     let steps = read_number(steps.as_bytes(), STEP_LIMIT)?;
     let budget = read_number(budget.as_bytes(), u64::MAX)?;
     Some(Command::Cheapest {
+        steps: steps as u32,
+        budget,
+    })
+}
+
+fn verdicts_of(steps: &str, budget: &str) -> Option<Command>
+    ensures command { result ≡ verdicts_of steps.now budget.now }
+    ensures files { IfSome result (λ c. read_words c ≡ 2) }
+    ensures steps { IfSome result HasFewSteps }
+    ensures units { IfSome result HasFewUnits }
+{
+    let steps = read_number(steps.as_bytes(), STEP_LIMIT)?;
+    let budget = read_number(budget.as_bytes(), u64::MAX)?;
+    Some(Command::Verdicts {
         steps: steps as u32,
         budget,
     })

@@ -24,6 +24,7 @@ mod show_command;
 mod stop;
 mod trace_command;
 mod twin_command;
+mod verdicts_command;
 
 use des_base::{Memory, WordList};
 use devices::{DiskShelf, OutSink};

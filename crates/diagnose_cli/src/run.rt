@@ -1,13 +1,14 @@
 // All that the program does, but for where its words, files and output come from.
 ghost use Rattle.std.specs.Prelude.{◌≡◌, ◌≢◌, ◌<◌, ℕ, List, [], false, length, IfErr};
 ghost use Rattle.des_base.specs.Outside.{Rose};
-ghost use Rattle.diagnose_cli.specs.Commands.{IsWithinBounds, files_of, is_session, read_words};
+ghost use Rattle.diagnose_cli.specs.Commands.{IsWithinBounds, files_of, has_several, read_words};
 ghost use Rattle.diagnose_cli.specs.Due.{Answers};
 ghost use Rattle.diagnose_cli.specs.Files.{loads};
 ghost use Rattle.diagnose_cli.specs.Outcomes.{outcome};
 ghost use Rattle.diagnose_cli.specs.Rows.{TraceRow, ShowRow, ReplayRow, CheckRows, DiagnoseRows, PrintedRows, GenerateRows, BenchRow, SessionRow, AreTold, Leaves, LeftRow};
 ghost use Rattle.diagnose_cli.specs.CheapRows.{CheapRows};
 ghost use Rattle.diagnose_cli.specs.TwinRows.{TwinRows};
+ghost use Rattle.diagnose_cli.specs.VerdictRows.{VerdictRows};
 ghost use Rattle.diagnose_cli.specs.Run.{Does, LeavesAlone, Ran, is_question};
 ghost use Rattle.diagnose_cli.specs.Transcripts.{UnlessMemory, once};
 ghost use Rattle.telling.specs.Telling.{RisesExactlyIf};
@@ -25,6 +26,7 @@ use crate::show_command::show_command;
 use crate::stop::Stop;
 use crate::trace_command::trace_command;
 use crate::twin_command::{TwinLimits, twin_command};
+use crate::verdicts_command::verdicts_command;
 use des_base::{Shelf, Sink, WordList};
 use inquiries::{FormulaWithin, LeastFaults, Refutation};
 use proof_ledger::Ledger;
@@ -55,6 +57,7 @@ pub fn run<F: Shelf, S: Sink>(
     ensures carried_out { SessionRow (outcome (loads F.held F.faults shelf.old shelf.new) words.now (S.taken out.old) (S.taken out.new) book.new.entries result) }
     ensures twinned { TwinRows (outcome (loads F.held F.faults shelf.old shelf.new) words.now (S.taken out.old) (S.taken out.new) book.new.entries result) }
     ensures priced { CheapRows (outcome (loads F.held F.faults shelf.old shelf.new) words.now (S.taken out.old) (S.taken out.new) book.new.entries result) }
+    ensures judged { VerdictRows (outcome (loads F.held F.faults shelf.old shelf.new) words.now (S.taken out.old) (S.taken out.new) book.new.entries result) }
     ensures ran { Ran (outcome (loads F.held F.faults shelf.old shelf.new) words.now (S.taken out.old) (S.taken out.new) book.new.entries result) (Rose (S.faults out.old) (S.faults out.new)) }
     ensures left_alone { LeavesAlone words.now result shelf.old shelf.new book.old book.new }
     ensures left { LeftRow (outcome (loads F.held F.faults shelf.old shelf.new) words.now (S.taken out.old) (S.taken out.new) book.new.entries result) }
@@ -82,6 +85,9 @@ fn respond<F: Shelf, S: Sink>(
         Some(Command::Session { steps, budget }) => {
             session_command(alloc, words, shelf, Limits { steps, budget }, out, book)
         }
+        Some(Command::Verdicts { steps, budget }) => {
+            verdicts_command(alloc, words, shelf, Limits { steps, budget }, out, book)
+        }
         Some(command) => {
             let ending = answer(alloc, words, shelf, command, book);
             put_once(alloc, ending, out)
@@ -89,7 +95,7 @@ fn respond<F: Shelf, S: Sink>(
     }
 }
 
-// The one reply to a command that is no session.
+// The one reply to a command that has no more.
 fn answer<F: Shelf>(
     alloc: Global,
     words: &WordList,
@@ -98,7 +104,7 @@ fn answer<F: Shelf>(
     book: &mut Ledger,
 ) -> Result<Reply, Stop>
     requires empty { book.old.entries ≡ [] }
-    requires once { is_session command ≡ false }
+    requires once { has_several command ≡ false }
     requires words { read_words command < length words.now }
     requires bounds { IsWithinBounds command }
     ensures due { UnlessMemory result (Answers (loads F.held F.faults shelf.old shelf.new) words.now command book.new.entries (once result)) }
@@ -147,6 +153,6 @@ fn answer<F: Shelf>(
         Command::Cheapest { steps, budget } => {
             cheapest_command(alloc, words, shelf, Limits { steps, budget }, book)
         }
-        Command::Session { .. } => unreachable!(),
+        Command::Session { .. } | Command::Verdicts { .. } => unreachable!(),
     }
 }

@@ -11,7 +11,7 @@ ghost use Rattle.event_costs.specs.CostText.{fault_event_of};
 ghost use Rattle.indep.specs.StoredTest.{IsTest};
 ghost use Rattle.model_text.specs.ModelFaults.{network_of};
 ghost use Rattle.report.specs.Replies.{TwinEventsKnown};
-ghost use Rattle.twin_test.specs.Tested.{IsTested, LeavesTwinQuestion};
+ghost use Rattle.twin_test.specs.Tested.{IsTested, LeavesTwins};
 
 use crate::command::Command;
 use crate::ending::{Kind, Reply};
@@ -53,7 +53,7 @@ pub fn twin_command<F: Shelf>(
     requires empty { book.old.entries ≡ [] }
     ensures due { UnlessMemory result (Answers (loads F.held F.faults shelf.old shelf.new) words.now (Command.Twin limits.steps limits.after limits.budget) book.new.entries (once result)) }
     ensures stopped { IfErr result (λ stop. stop ≢ Stop.Memory → book.new ≡ book.old) }
-    ensures left { (text : List ℕ) → AreTold (F.held shelf.old) words.now 1 (text ∷ []) → LeavesOfWord (network_of text) (word_at words.now 2) limits.steps limits.after book.new.entries }
+    ensures left { (text : List ℕ) → AreTold (F.held shelf.old) words.now 1 (text ∷ []) → LeavesOfWord (network_of text) (word_at words.now 2) limits.steps limits.after limits.budget book.new.entries }
 {
     let net = fetch_model(alloc, words, shelf, 1)?;
     ask_of_word(alloc, &net, words.word(2), limits, book)
@@ -72,7 +72,7 @@ fn ask_of_word(
     requires empty { book.old.entries ≡ [] }
     ensures due { (words : List (List ℕ)) (text : List ℕ) → word.now ≡ word_at words 2 → net.now ≡ network_of text → UnlessMemory result (Closes (Command.Twin limits.steps limits.after limits.budget) words book.new.entries (text ∷ []) (once result)) }
     ensures stopped { IfErr result (λ stop. stop ≢ Stop.Memory → book.new ≡ book.old) }
-    ensures left { LeavesOfWord net.now word.now limits.steps limits.after book.new.entries }
+    ensures left { LeavesOfWord net.now word.now limits.steps limits.after limits.budget book.new.entries }
 {
     match find_fault(net, word.as_bytes()) {
         Some(fault) => ask_about(alloc, net, fault, limits, book),
@@ -94,7 +94,7 @@ fn ask_about(
     requires empty { book.old.entries ≡ [] }
     ensures due { (words : List (List ℕ)) (text word : List ℕ) → word ≡ word_at words 2 → net.now ≡ network_of text → fault_event_of net.now word ≡ Some fault → UnlessMemory result (Closes (Command.Twin limits.steps limits.after limits.budget) words book.new.entries (text ∷ []) (once result)) }
     ensures stopped { IfErr result (λ stop. stop ≢ Stop.Memory → book.new ≡ book.old) }
-    ensures left { LeavesTwinQuestion net.now fault limits.steps limits.after book.new.entries }
+    ensures left { LeavesTwins net.now fault limits.steps limits.after limits.budget book.new.entries }
 {
     let size = twin_size(net, limits.steps, limits.after);
     if size > MOST_SIZE {
@@ -116,7 +116,7 @@ fn reply_about(
     requires after { limits.after ≤ MOST_STEPS }
     requires empty { book.old.entries ≡ [] }
     ensures says { IfOk result (SaysTwin net.now fault limits.steps limits.after limits.budget book.new.entries) }
-    ensures left { LeavesTwinQuestion net.now fault limits.steps limits.after book.new.entries }
+    ensures left { LeavesTwins net.now fault limits.steps limits.after limits.budget book.new.entries }
 {
     let answer = test(alloc, net, fault, limits, book)?;
     tell(alloc, net, fault, limits, &answer, book)
@@ -154,7 +154,7 @@ fn test(
     requires after { limits.after ≤ MOST_STEPS }
     requires empty { book.old.entries ≡ [] }
     ensures tested { IfOk result (IsTested net.now fault limits.steps limits.after limits.budget book.new.entries) }
-    ensures left { LeavesTwinQuestion net.now fault limits.steps limits.after book.new.entries }
+    ensures left { LeavesTwins net.now fault limits.steps limits.after limits.budget book.new.entries }
 {
     let table = Table::new(alloc, net)?;
     let apart = Indep::new(net, |a: u32, b: u32| table.get(EventId(a), EventId(b)));
@@ -177,7 +177,7 @@ fn test_by<T: Fn(u32, u32) -> bool>(
     requires after { limits.after ≤ MOST_STEPS }
     requires empty { book.old.entries ≡ [] }
     ensures tested { IfOk result (IsTested net.now fault limits.steps limits.after limits.budget book.new.entries) }
-    ensures left { LeavesTwinQuestion net.now fault limits.steps limits.after book.new.entries }
+    ensures left { LeavesTwins net.now fault limits.steps limits.after limits.budget book.new.entries }
 {
     let first = step_variables(alloc, net, limits.steps, apart)?;
     let order = Order::new(alloc, |var: u32| u64::from(var >= first));

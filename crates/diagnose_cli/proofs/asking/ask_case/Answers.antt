@@ -1,5 +1,8 @@
 -- By its two files, and then as it goes on.
 use Rattle.std.proofs.Common.{[], inl}
+use Rattle.des_net.specs.Network.{Net}
+use Rattle.inquiries.specs.Begun.{LeavesQuestion}
+use Rattle.log_order.specs.Log.{Log}
 use Rattle.diagnose_cli.specs.Due.{Answers, Closes}
 use Rattle.diagnose_cli.specs.Files.{loads}
 use Rattle.diagnose_cli.specs.Texts.{log}
@@ -35,4 +38,5 @@ returns-in_err-case-clause-left g c text alarms told = inl c.requires.empty
 
 pub returns-clause-left : goal.returns-clause-left
 returns-clause-left g c text alarms told =
-    case_left (g.F.Shelf.held c.args.shelf.now) c.args.words.now c.in_ok-case.case.net c.in_ok-case.case.log c.in_ok-case.ensures.read text alarms told c.args.steps (g.Q.Inquiry.leaves c.args.inquiry.now) c.ask.new.book.entries c.ask.ensures.left
+    case_left (g.F.Shelf.held c.args.shelf.now) c.args.words.now c.in_ok-case.case.net c.in_ok-case.case.log c.in_ok-case.ensures.read text alarms told
+    (λ (net : Net) (alarms : Log). LeavesQuestion net alarms c.args.steps (g.Q.Inquiry.leaves c.args.inquiry.now) c.ask.new.book.entries) c.ask.ensures.left

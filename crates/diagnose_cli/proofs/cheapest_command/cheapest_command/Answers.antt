@@ -36,4 +36,4 @@ returns-clause-left g c text alarms prices told =
     let held = g.F.Shelf.held c.args.shelf.now in
     let words = c.args.words.now in
     let third = subst (λ (f : List ℕ → Option (List ℕ)). AreTold f words 3 (prices ∷ [])) (sym c.in_ok-case.ensures.kept) told.1.1 in
-    case_prices_left held words c.in_ok-case.case.net c.in_ok-case.case.log c.in_ok-case.ensures.read text alarms prices told c.args.limits.steps c.price_case.new.book.entries (c.price_case.ensures.left prices third)
+    case_prices_left held words c.in_ok-case.case.net c.in_ok-case.case.log c.in_ok-case.ensures.read text alarms prices told c.args.limits.steps c.args.limits.budget c.price_case.new.book.entries (c.price_case.ensures.left prices third)

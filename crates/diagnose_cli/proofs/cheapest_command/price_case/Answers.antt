@@ -29,7 +29,7 @@ returns-in_err-table-clause-left g c prices told = inl c.requires.empty
 
 pub returns-clause-left : goal.returns-clause-left
 returns-clause-left g c prices told =
-    prices_left (g.F.Shelf.held c.args.shelf.now) _ _ _ c.args.case.now.net c.in_ok-table.table c.in_ok-table.ensures.table prices told.0 c.args.case.now.log c.args.limits.steps c.ask_costs.new.book.entries c.ask_costs.ensures.left
+    prices_left (g.F.Shelf.held c.args.shelf.now) _ _ _ c.args.case.now.net c.in_ok-table.table c.in_ok-table.ensures.table prices told.0 c.args.case.now.log c.args.limits.steps c.args.limits.budget c.ask_costs.new.book.entries c.ask_costs.ensures.left
 
 pub ask_costs-requires-clause-long : goal.ask_costs-requires-clause-long
 ask_costs-requires-clause-long g c = c.in_ok-table.ensures.table.2.long

@@ -1,12 +1,12 @@
 -- By a session, or by the one reply that was due.
 use Rattle.std.proofs.Common.{rules, ◌≡◌, Some, Err, false, sym, ◌∙◌, ap}
-use Rattle.diagnose_cli.specs.Commands.{command_of, is_session}
+use Rattle.diagnose_cli.specs.Commands.{command_of, has_several, is_session}
 use Rattle.diagnose_cli.specs.Due.{Due, HasNotBegun}
 use Rattle.diagnose_cli.specs.Files.{loads}
-use Rattle.diagnose_cli.specs.declared.command.Command.TheVariants.{Session}
+use Rattle.diagnose_cli.specs.declared.command.Command.TheVariants.{Session, Verdicts}
 use Rattle.diagnose_cli.specs.declared.stop.Stop.TheVariants.{Usage}
 use Rattle.diagnose_cli.proofs.GenerateAnswers.{asks_nothing, has_files}
-use Rattle.diagnose_cli.proofs.Left.{command_left, none_left, session_left}
+use Rattle.diagnose_cli.proofs.Left.{command_left, left_verdicts, none_left, session_left}
 use Rattle.diagnose_cli.proofs.Once.{done, no_session, speaks_once, stop_left}
 use Rattle.diagnose_cli.proofs.Ones.{cuts_due}
 use Rattle.diagnose_cli.proofs.Orders.{due_of, usage_due}
@@ -37,6 +37,21 @@ returns-in-Some-Session-clause-left_alone g c =
       stopped = c.session_command.ensures.stopped;
     }
 
+pub returns-in-Some-Verdicts-clause-does : goal.returns-in-Some-Verdicts-clause-does
+returns-in-Some-Verdicts-clause-does g c =
+    done (loads g.F.Shelf.held g.F.Shelf.faults c.args.shelf.now c.verdicts_command.new.shelf) c.args.words.now (g.S.Sink.taken c.args.out.now) (g.S.Sink.taken c.verdicts_command.new.out) c.verdicts_command.new.book.entries c.verdicts_command.result
+    _ c.verdicts_command.ensures.speaks
+
+pub returns-in-Some-Verdicts-clause-left_alone : goal.returns-in-Some-Verdicts-clause-left_alone
+returns-in-Some-Verdicts-clause-left_alone g c =
+    let command = Verdicts c.in-Some-Verdicts.steps c.in-Some-Verdicts.budget in
+    let called : command_of c.args.words.now ≡ Some command = sym c.command_of.ensures.command ∙ c.in-Some-Verdicts.is ∙ ap Some c.in-Some-Verdicts.field-0-is in
+    record {
+      no_load = λ none. let no_files = has_files c.args.words.now command called none in cc;
+      no_question = λ none. let asks_none = asks_nothing c.args.words.now command called none in cc;
+      stopped = c.verdicts_command.ensures.stopped;
+    }
+
 pub returns-in-Some-clause-does : goal.returns-in-Some-clause-does
 returns-in-Some-clause-does g c =
     let l = loads g.F.Shelf.held g.F.Shelf.faults c.args.shelf.now c.answer-ending.new.shelf in
@@ -45,8 +60,9 @@ returns-in-Some-clause-does g c =
     let book = c.answer-ending.new.book.entries in
     let called = sym c.command_of.ensures.command ∙ c.in-Some.is in
     let other : is_session command ≡ false = search rules in
+    let one : has_several command ≡ false = search rules in
     done l words (g.S.Sink.taken c.args.out.now) (g.S.Sink.taken c.put_once-in-Some.new.out) book c.put_once-in-Some.result _
-    (speaks_once (Due l words book) (HasNotBegun words book) (no_session words command book called other) c.answer-ending.result _ _ _ _ (due_of l words command book c.answer-ending.result called c.answer-ending.ensures.due) c.put_once-in-Some.ensures.puts (cuts_due l words command book called other c.answer-ending.result c.answer-ending.ensures.due))
+    (speaks_once (Due l words book) (HasNotBegun words book) (no_session words command book called other) c.answer-ending.result _ _ _ _ (due_of l words command book c.answer-ending.result called c.answer-ending.ensures.due) c.put_once-in-Some.ensures.puts (cuts_due l words command book called one c.answer-ending.result c.answer-ending.ensures.due))
 
 pub returns-in-Some-clause-left_alone : goal.returns-in-Some-clause-left_alone
 returns-in-Some-clause-left_alone g c =
@@ -65,6 +81,13 @@ returns-in-None-clause-left g c = none_left _ (sym c.command_of.ensures.command 
 pub returns-in-Some-Session-clause-left : goal.returns-in-Some-Session-clause-left
 returns-in-Some-Session-clause-left g c =
     session_left _ c.in-Some-Session.steps c.in-Some-Session.budget (sym c.command_of.ensures.command ∙ c.in-Some-Session.is ∙ ap Some c.in-Some-Session.field-0-is)
+
+pub returns-in-Some-Verdicts-clause-left : goal.returns-in-Some-Verdicts-clause-left
+returns-in-Some-Verdicts-clause-left g c =
+    let steps = c.in-Some-Verdicts.steps in
+    let budget = c.in-Some-Verdicts.budget in
+    command_left _ (Verdicts steps budget) (sym c.command_of.ensures.command ∙ c.in-Some-Verdicts.is ∙ ap Some c.in-Some-Verdicts.field-0-is)
+    (left_verdicts (g.F.Shelf.held c.args.shelf.now) c.args.words.now c.verdicts_command.new.book.entries steps budget c.verdicts_command.ensures.left)
 
 pub returns-in-Some-clause-left : goal.returns-in-Some-clause-left
 returns-in-Some-clause-left g c = command_left _ c.in-Some.command (sym c.command_of.ensures.command ∙ c.in-Some.is) c.answer-ending.ensures.left

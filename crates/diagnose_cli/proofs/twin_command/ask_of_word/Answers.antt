@@ -16,7 +16,7 @@ returns-in-None-clause-due c words text second of_net never =
 pub returns-in-Some-clause-left : goal.returns-in-Some-clause-left
 returns-in-Some-clause-left c =
     let limits = c.args.limits in
-    fault_left c.args.net.now c.args.word.now c.in-Some.fault limits.steps limits.after c.ask_about.new.book.entries (ap (fault_event_of c.args.net.now) (sym c.as_bytes.ensures.value) ∙ sym c.find_fault.ensures.event ∙ c.in-Some.is) c.ask_about.ensures.left
+    fault_left c.args.net.now c.args.word.now c.in-Some.fault limits.steps limits.after limits.budget c.ask_about.new.book.entries (ap (fault_event_of c.args.net.now) (sym c.as_bytes.ensures.value) ∙ sym c.find_fault.ensures.event ∙ c.in-Some.is) c.ask_about.ensures.left
 
 pub returns-in-None-clause-left : goal.returns-in-None-clause-left
-returns-in-None-clause-left c = none_left c.args.net.now c.args.word.now c.args.limits.steps c.args.limits.after c.args.book.now.entries c.requires.empty
+returns-in-None-clause-left c = none_left c.args.net.now c.args.word.now c.args.limits.steps c.args.limits.after c.args.limits.budget c.args.book.now.entries c.requires.empty
