@@ -1,5 +1,5 @@
 // Sizes of questions that were worked by hand.
-use crate::models::{alarm_log, network};
+use crate::models::{VALVE, alarm_log, network};
 use des_net::Network;
 use gen_plant::generate;
 use sizing::question_size;
@@ -12,10 +12,6 @@ const EMPTY: &str = "des 1\n";
 
 // An alarm that no event can be, in each of the steps.
 const SIZES_OF_NOTHING: [Row; 2] = [("", 3, 0), ("alarm,x0,T\n", 3, 3)];
-
-// A valve that beats until it jams; then it trips, and is fixed.
-const VALVE: &str =
-    "des 1\ncomponent p\nstate ok init\nstate bad\nstate off\ntrans ok jam bad\ntrans bad trip off\ntrans off fix ok\ntrans ok beat ok\nevent jam fault : p.jam\nevent trip alarm T : p.trip\nevent fix alarm F : p.fix\nevent beat alarm B : p.beat\n";
 
 // One component, of 3 states, which 4 events touch; one of these is a fault.
 const SIZES_OF_VALVE: [Row; 5] = [

@@ -1,0 +1,194 @@
+// The least total cost by two stored closures: one looks up what was read from a text, the other has the costs itself.
+ghost use Rattle.std.specs.Prelude.{◌≡◌, ◌≤◌, []};
+ghost use Rattle.cost_least.specs.Costs.{cost_size};
+ghost use Rattle.des_base.specs.declared.TheConstants.{MOST_STEPS};
+ghost use Rattle.event_costs.specs.Prices.{IsPrice};
+ghost use Rattle.event_costs.specs.StoredCosts.{IsCost};
+ghost use Rattle.least_faults.specs.Parts.{AreReady, BelongTo};
+ghost use Rattle.least_faults.specs.declared.TheConstants.{MOST_SIZE};
+
+use crate::models::{VALVE, alarm_log, network};
+use cost_least::{Cheap, cheapest, cost_size};
+use des_base::EventId;
+use des_net::Network;
+use event_costs::{Costs, read_costs};
+use indep::{Indep, plain_touch};
+use least_faults::{MOST_SIZE, Parts, build};
+use log_order::AlarmLog;
+use proof_ledger::Ledger;
+use sat_order::Order;
+use sat_solve::Solver;
+use std::alloc::Global;
+
+// A question, and the least total, or none where it is above 1,000. By the text the first event has the first price, and each other
+// fault event has the second.
+struct Row {
+    model: &'static str,
+    log: &'static str,
+    costs: &'static str,
+    prices: (u32, u32),
+    steps: u32,
+    least: Option<u32>,
+}
+
+// Of three faults one leads to the alarm, and so do the two others together.
+const TWO_WAYS: &str =
+    "des 1\ncomponent c\nstate s init\nstate m\nstate t\ntrans s f t\ntrans s g m\ntrans m h t\ntrans t a t\nevent ef fault : c.f\nevent eg fault : c.g\nevent eh fault : c.h\nevent ea alarm A : c.a\n";
+
+const TWO_FAULTS_ARE_CHEAPER: Row = Row {
+    model: TWO_WAYS,
+    log: "alarm,x,A\n",
+    costs: "costs 1\ncost ef 10\ncost eg 2\ncost eh 2\n",
+    prices: (10, 2),
+    steps: 3,
+    least: Some(4),
+};
+
+// There are not steps enough for two faults.
+const ONE_FAULT_IS_LEFT: Row = Row {
+    model: TWO_WAYS,
+    log: "alarm,x,A\n",
+    costs: "costs 1\ncost ef 10\ncost eg 2\ncost eh 2\n",
+    prices: (10, 2),
+    steps: 2,
+    least: Some(10),
+};
+
+// The valve trips twice.
+const TWO_JAMS_ARE_DEAR: Row = Row {
+    model: VALVE,
+    log: "alarm,a1,T\nalarm,a2,F\nalarm,a3,T\nbefore,a1,a2\nbefore,a2,a3\n",
+    costs: "costs 1\ncost jam 600\n",
+    prices: (600, 1),
+    steps: 5,
+    least: None,
+};
+
+fn is_least(cheap: &Cheap, want: Option<u32>) -> bool {
+    match cheap {
+        Cheap::Found(priced) => want == Some(priced.cost),
+        Cheap::Dear(_) => want.is_none(),
+        _ => false,
+    }
+}
+
+// Whether this is the least total, where the question is built.
+fn weighs<C: Fn(u32) -> u32, R: Fn(u32) -> u64>(
+    alloc: Global,
+    net: &Network,
+    log: &AlarmLog,
+    parts: &mut Parts<R>,
+    costs: &Costs<C>,
+    book: &mut Ledger,
+    want: Option<u32>,
+) -> bool
+    requires cost { IsCost C.pre C.post costs.now.cost costs.now.net }
+    requires net { costs.now.net ≡ net.now }
+    requires belong { BelongTo net.now log.now parts.old }
+    requires steps { parts.old.step.steps ≤ MOST_STEPS }
+    requires ready { AreReady R.pre R.post parts.old book.old.entries }
+    requires size { cost_size net.now log.now parts.old.step.steps ≤ MOST_SIZE }
+{
+    match cheapest(alloc, net, log, parts, costs, book, 1000) {
+        Ok(cheap) => is_least(&cheap, want),
+        Err(_) => false,
+    }
+}
+
+// The same where the book is empty.
+fn builds<C: Fn(u32) -> u32>(
+    alloc: Global,
+    net: &Network,
+    log: &AlarmLog,
+    steps: u32,
+    costs: &Costs<C>,
+    book: &mut Ledger,
+    want: Option<u32>,
+) -> bool
+    requires cost { IsCost C.pre C.post costs.now.cost costs.now.net }
+    requires net { costs.now.net ≡ net.now }
+    requires steps { steps ≤ MOST_STEPS }
+    requires size { cost_size net.now log.now steps ≤ MOST_SIZE }
+    requires empty { book.old.entries ≡ [] }
+{
+    let test = Indep::new(net, |a: u32, b: u32| {
+        plain_touch(net, EventId(a), EventId(b))
+    });
+    let solver = Solver::new(alloc, Order::new(alloc, |var: u32| var as u64));
+    match build(alloc, net, log, steps, &test, solver, book) {
+        Ok(parts) => {
+            let mut parts = parts;
+            weighs(alloc, net, log, &mut parts, costs, book, want)
+        }
+        Err(_) => false,
+    }
+}
+
+// The same of a question that is not too large.
+fn finds<C: Fn(u32) -> u32>(
+    alloc: Global,
+    net: &Network,
+    log: &AlarmLog,
+    steps: u32,
+    costs: &Costs<C>,
+    want: Option<u32>,
+) -> bool
+    requires cost { IsCost C.pre C.post costs.now.cost costs.now.net }
+    requires net { costs.now.net ≡ net.now }
+{
+    if steps > 1000 || cost_size(net, log, steps) > MOST_SIZE {
+        return false;
+    }
+    builds(alloc, net, log, steps, costs, &mut Ledger::new(alloc), want)
+}
+
+// By what the text says.
+fn finds_by_table(alloc: Global, net: &Network, log: &AlarmLog, row: &Row) -> bool {
+    if row.costs.len() > 1000 {
+        return false;
+    }
+    match read_costs(alloc, row.costs.as_bytes(), net) {
+        Ok(table) => {
+            let costs = Costs::new(net, |event: u32| table.cost(event));
+            finds(alloc, net, log, row.steps, &costs, row.least)
+        }
+        Err(_) => false,
+    }
+}
+
+// By a closure that has the costs itself: two, of which the first is that of the first event.
+fn finds_by_numbers(
+    alloc: Global,
+    net: &Network,
+    log: &AlarmLog,
+    steps: u32,
+    prices: (u32, u32),
+    want: Option<u32>,
+) -> bool
+    requires first { IsPrice prices.0 }
+    requires others { IsPrice prices.1 }
+{
+    let (first, others) = prices;
+    let costs = Costs::new(net, |event: u32| if event == 0 { first } else { others });
+    finds(alloc, net, log, steps, &costs, want)
+}
+
+fn finds_by_both(alloc: Global, row: &Row) -> bool
+    requires first { IsPrice row.now.prices.0 }
+    requires others { IsPrice row.now.prices.1 }
+{
+    match (network(alloc, row.model), alarm_log(alloc, row.log)) {
+        (Some(net), Some(log)) => {
+            finds_by_table(alloc, &net, &log, row)
+                && finds_by_numbers(alloc, &net, &log, row.steps, row.prices, row.least)
+        }
+        _ => false,
+    }
+}
+
+#[test]
+fn finds_least_totals(rt: HostRuntime) {
+    assert!(rt; finds_by_both(rt.alloc(), &TWO_FAULTS_ARE_CHEAPER));
+    assert!(rt; finds_by_both(rt.alloc(), &ONE_FAULT_IS_LEFT));
+    assert!(rt; finds_by_both(rt.alloc(), &TWO_JAMS_ARE_DEAR));
+}
