@@ -4,7 +4,6 @@ use des_base::{EventId, Name};
 use des_net::Network;
 use replay::{Run, RunStep, read_run};
 use std::alloc::Global;
-use std::process::Abort;
 
 const FORK: &str = "des 1
 component fork
@@ -59,15 +58,21 @@ fn is_step(step: &RunStep, row: &Row) -> bool {
 }
 
 fn are_steps(steps: &[RunStep], rows: &[Row]) -> bool {
-    let mut pairs = steps.iter().zip(rows);
-    steps.len() == rows.len() && pairs.all(|(step, row)| is_step(step, row))
+    for (step, row) in steps.iter().zip(rows) {
+        if !is_step(step, row) {
+            return false;
+        }
+    }
+    steps.len() == rows.len()
 }
 
-fn check_steps(rt: &impl Abort, alloc: Global, net: &Network, text: &str, rows: &[Row]) {
-    assert!(rt; text.len() < 1000);
+fn reads_as(alloc: Global, net: &Network, text: &str, rows: &[Row]) -> bool {
+    if text.len() > 1000 {
+        return false;
+    }
     match read_run(alloc, text.as_bytes(), net) {
-        Ok(run) => assert!(rt; are_steps(run.steps(), rows), "{text}"),
-        Err(_) => panic!(rt; "{text} should be a run text"),
+        Ok(run) => are_steps(run.steps(), rows),
+        Err(_) => false,
     }
 }
 
@@ -75,7 +80,7 @@ fn check_steps(rt: &impl Abort, alloc: Global, net: &Network, text: &str, rows: 
 fn reads_steps(rt: HostRuntime) {
     let net = network(&rt, rt.alloc(), FORK);
     for (text, rows) in TEXTS {
-        check_steps(&rt, rt.alloc(), &net, text, rows);
+        assert!(rt; reads_as(rt.alloc(), &net, text, rows), "{text}");
     }
 }
 

@@ -6,13 +6,26 @@ pub(super) fn is_true(bits: u32, lit: Lit) -> bool {
 }
 
 pub(super) fn all_true(bits: u32, lits: &[Lit]) -> bool {
-    lits.iter().all(|lit| is_true(bits, *lit))
+    for lit in lits {
+        if !is_true(bits, *lit) {
+            return false;
+        }
+    }
+    true
+}
+
+fn any_true(bits: u32, lits: &[Lit]) -> bool {
+    for lit in lits {
+        if is_true(bits, *lit) {
+            return true;
+        }
+    }
+    false
 }
 
 pub(super) fn clauses_true(bits: u32, clauses: &Clauses) -> bool {
     for before in 0..clauses.len() {
-        let clause = clauses.clause(ClauseId(before + 1));
-        if !clause.iter().any(|lit| is_true(bits, *lit)) {
+        if !any_true(bits, clauses.clause(ClauseId(before + 1))) {
             return false;
         }
     }
