@@ -14,7 +14,8 @@ On 29 November 2026, by the proved program on four shared processors of an Intel
 the small ones none took more than 0.03 seconds and 18 MiB, but for a formula of 31 bytes with a large variable (0.17 and 192: what `check` assigns is a list up to the greatest variable). Of the large ones those that
 are left out took at most 0.12 seconds and 18 MiB. Two had no answer, 2,000 alarms of one label within 1,000 steps: `diagnose` was cut off by the limit, and `session`, which asks the same, by hand
 after 38 seconds. The questions of 360 and 960 million literals, whose size is below the limit, want more than 8 GiB. The cost texts of `cheapest` came later and were run apart: 600 small ones and 4 of 16 MiB, none otherwise
-than it may, at most 0.08 seconds and 111 MiB.
+than it may, at most 0.08 seconds and 111 MiB. So were 1,220 texts read by `verdicts`, which takes what `diagnose` takes and the questions about the events: 1,200 small ones, at most 0.01 seconds, and 20 large ones, none
+otherwise than it may, and without an answer on the question that `diagnose` has none for.
 
 | Texts | Kind | Statuses (runs) | Dearest: command, bytes | Seconds | MiB | Well-formed: seconds | MiB |
 |---|---|---|---|---|---|---|---|

@@ -11,9 +11,9 @@ output must be whole replies: nothing, or of a session the replies to some of it
 
 A new command is a line in ROWS, once a case of files has it.
 
-On 29 November 2026, with the proved program: 13,618 runs of 25 commands, none wrong. 13,290 ended with status 9, and 328 answered as if
+On 29 November 2026, with the proved program: 14,870 runs of 27 commands, none wrong. 14,498 ended with status 9, and 372 answered as if
 nothing had been refused. `diagnose` asks for memory 291 times on a valve that tripped (2 steps) and 480 times on one that tripped again (5 steps), a `session`
-of three questions 372 times, `cheapest` (3 steps) 342, `proof` 308, `cnf` 285, `twin` (2 steps) 220, `replay` 124 and `check` of two steps 29 times.
+of three questions 372 times, `cheapest` (3 steps) 342, `verdicts` on three fault events 320, `proof` 308, `cnf` 285, `twin` (2 steps) 220, `replay` 124 and `check` of two steps 29 times.
 """
 import os
 import re
