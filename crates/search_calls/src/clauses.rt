@@ -2,15 +2,17 @@
 use crate::ample::got;
 use prop_core::{Assignment, ClauseId, Clauses, Grid, IdList, Lit, LitList, Vars};
 
-// Whether a literal and its negation say what they are, and the literal has this number.
-fn is_literal(lit: Lit, var: u32, positive: bool, number: u32) -> bool {
-    let turned = lit.negated();
-    lit.var() == var
-        && lit.is_positive() == positive
-        && turned.var() == var
-        && turned.is_positive() != positive
-        && lit.number() == number as u64
-        && Lit::numbered(number) == lit
+#[test]
+fn turns_literals(rt: HostRuntime) {
+    for (var, positive) in [(0, true), (7, false), (1_073_741_823, true)] {
+        let lit = Lit::new(var, positive);
+        let turned = lit.negated();
+        assert!(rt; lit.var() == var && lit.is_positive() == positive, "{var}");
+        assert!(rt;
+            turned.var() == var && turned.is_positive() != positive,
+            "{var}"
+        );
+    }
 }
 
 #[test]
@@ -19,23 +21,52 @@ fn numbers_literals(rt: HostRuntime) {
         (0, false, 0),
         (0, true, 1),
         (3, true, 7),
-        (7, false, 14),
         (1_073_741_823, true, 2_147_483_647),
     ];
     for (var, positive, number) in rows {
-        assert!(rt; is_literal(Lit::new(var, positive), var, positive, number));
+        let lit = Lit::new(var, positive);
+        assert!(rt;
+            lit.number() == number && Lit::numbered(number as u32) == lit,
+            "{var}"
+        );
     }
 }
 
 #[test]
-fn lists_literals_and_numbers(rt: HostRuntime) {
+fn lists_literals(rt: HostRuntime) {
+    let both = [Lit::new(3, true), Lit::new(3, false)];
     let mut lits = LitList::new(rt.alloc());
-    got(&rt, lits.push(Lit::new(3, true)));
-    got(&rt, lits.push(Lit::new(3, false)));
-    assert!(rt; lits.as_slice() == [Lit::new(3, true), Lit::new(3, false)].as_slice());
-    let mut ids = got(&rt, IdList::from_slice(rt.alloc(), &[ClauseId(9)]));
-    got(&rt, ids.push(ClauseId(2)));
-    assert!(rt; ids.as_slice() == [ClauseId(9), ClauseId(2)].as_slice());
+    got(&rt, lits.push(both[0]));
+    got(&rt, lits.push(both[1]));
+    assert!(rt; lits.as_slice() == both.as_slice());
+}
+
+#[test]
+fn lists_numbers(rt: HostRuntime) {
+    let both = [ClauseId(9), ClauseId(2)];
+    let mut ids = IdList::new(rt.alloc());
+    got(&rt, ids.push(both[0]));
+    got(&rt, ids.push(both[1]));
+    assert!(rt; ids.as_slice() == both.as_slice());
+}
+
+#[test]
+fn copies_numbers(rt: HostRuntime) {
+    let both = [ClauseId(9), ClauseId(2)];
+    let copy = got(&rt, IdList::from_slice(rt.alloc(), &both));
+    assert!(rt; copy.as_slice() == both.as_slice());
+}
+
+#[test]
+fn numbers_clauses(rt: HostRuntime) {
+    let both = [Lit::new(1, true), Lit::new(2, false)];
+    let mut clauses = Clauses::new(rt.alloc());
+    assert!(rt; got(&rt, clauses.push(&both)) == ClauseId(1));
+    assert!(rt; got(&rt, clauses.push(&[])) == ClauseId(2));
+    got(&rt, clauses.reserve(2, 3));
+    assert!(rt; clauses.push_reserved(&both[1..]) == ClauseId(3));
+    assert!(rt; clauses.spare_clauses() == 1 && clauses.spare_lits() == 2);
+    assert!(rt; are_these(&clauses, &[&both, &[], &both[1..]]));
 }
 
 // Whether these are the clauses, in their order.
@@ -52,20 +83,6 @@ pub fn are_these(clauses: &Clauses, wanted: &[&[Lit]]) -> bool {
 }
 
 #[test]
-fn numbers_clauses(rt: HostRuntime) {
-    let both = [Lit::new(1, true), Lit::new(2, false)];
-    let mut clauses = Clauses::new(rt.alloc());
-    assert!(rt; got(&rt, clauses.push(&both)) == ClauseId(1));
-    assert!(rt; got(&rt, clauses.push(&[])) == ClauseId(2));
-    got(&rt, clauses.reserve(2, 3));
-    assert!(rt; clauses.push_reserved(&both[1..]) == ClauseId(3));
-    assert!(rt; clauses.spare_clauses() == 1 && clauses.spare_lits() == 2);
-    let mut more = Clauses::new(rt.alloc());
-    got(&rt, more.append(&clauses));
-    assert!(rt; are_these(&more, &[&both, &[], &both[1..]]));
-}
-
-#[test]
 fn tells_true_clauses(rt: HostRuntime) {
     let mut clauses = Clauses::new(rt.alloc());
     let id = got(&rt, clauses.push(&[Lit::new(0, false), Lit::new(1, true)]));
@@ -74,6 +91,20 @@ fn tells_true_clauses(rt: HostRuntime) {
     assert!(rt; assignment.holds(&clauses, id));
     assignment.set(0, true);
     assert!(rt; assignment.value(0) && !assignment.holds(&clauses, id));
+    assignment.set(1, true);
+    assert!(rt; assignment.holds(&clauses, id));
+}
+
+#[test]
+fn appends_clauses(rt: HostRuntime) {
+    let both = [Lit::new(1, true), Lit::new(2, false)];
+    let mut more = Clauses::new(rt.alloc());
+    got(&rt, more.push(&[]));
+    got(&rt, more.push(&both[1..]));
+    let mut clauses = Clauses::new(rt.alloc());
+    got(&rt, clauses.push(&both));
+    got(&rt, clauses.append(&more));
+    assert!(rt; are_these(&clauses, &[&both, &[], &both[1..]]));
 }
 
 #[test]
@@ -86,6 +117,7 @@ fn makes_variables(rt: HostRuntime) {
         events: 2,
         steps: 3,
     };
-    assert!(rt; grid.var(0, 1) == 2 && grid.var(0, 3) == 4);
-    assert!(rt; grid.var(1, 1) == 5 && grid.var(1, 3) == 7);
+    for (event, step, var) in [(0, 1, 2), (0, 3, 4), (1, 1, 5), (1, 3, 7)] {
+        assert!(rt; grid.var(event, step) == var, "{event} {step}");
+    }
 }

@@ -1,4 +1,4 @@
-// Propagation by one decision, what is learnt from the conflict, and going back.
+// What is learnt from a conflict that depends on one decision.
 ghost use Rattle.std.specs.Prelude.{◌≡◌, ◌<◌, []};
 ghost use Rattle.sat_prop.specs.Levels.{level_of};
 ghost use Rattle.sat_prop.specs.Quiet.{IsConflict};
@@ -24,6 +24,13 @@ fn decide_one(propagator: &mut Propagator, db: &Clauses)
     }
 }
 
+// Whether the negated decision is learnt, by these hints.
+fn is_not_one(learnt: &Learnt, hints: &[ClauseId]) -> bool {
+    learnt.clause.as_slice() == [Lit::new(1, false)].as_slice()
+        && learnt.hints.as_slice() == hints
+        && learnt.level == 0
+}
+
 // Attaches three clauses of three variables, where nothing is there yet.
 fn attach_three(rt: &impl Abort, propagator: &mut Propagator, db: &mut Clauses)
     requires new { propagator.old ≡ record { clauses = []; attached = []; literals = []; reasons = []; vars = 0; spare = 0 } }
@@ -42,35 +49,39 @@ fn attach_three(rt: &impl Abort, propagator: &mut Propagator, db: &mut Clauses)
     propagator.attach(db, ClauseId(3));
 }
 
-// Whether the decision is there, and what two clauses forced by it.
-fn are_forced(trail: &Trail) -> bool {
-    trail.value(1) == Some(true)
-        && trail.reason(1).is_none()
-        && trail.value(0) == Some(true)
-        && trail.reason(0) == Some(ClauseId(2))
-        && trail.len() == 3
-        && trail.literal(1) == Lit::new(2, true)
+#[test]
+fn learns_and_closes(rt: HostRuntime) {
+    let mut db = Clauses::new(rt.alloc());
+    let mut propagator = Propagator::new(rt.alloc());
+    attach_three(&rt, &mut propagator, &mut db);
+    decide_one(&mut propagator, &db);
+    assert!(rt; learns_both(rt.alloc(), &mut propagator, &db));
 }
 
-// Whether each literal is of the level that the decision began.
-fn are_on_one_level(trail: &Trail) -> bool {
-    for lit in trail.literals() {
-        if trail.level_of(lit.var) != 1 || trail.place_of(lit.var) >= 3 {
-            return false;
+// Whether the third clause becomes false, and the negated decision is learnt and closes.
+fn learns_both(alloc: Global, propagator: &mut Propagator, db: &Clauses) -> bool
+    requires front { IsFront propagator.old.clauses db.now.clauses }
+{
+    let hints = [ClauseId(1), ClauseId(2), ClauseId(3)];
+    match propagator.propagate(db) {
+        Propagated::Quiet => false,
+        Propagated::Conflict(conflict) => {
+            conflict == ClauseId(3)
+                && propagator.trail().level() > 0
+                && learns(alloc, propagator.trail(), db, conflict, &hints)
+                && closes(alloc, propagator.trail(), db, conflict, &hints)
         }
     }
-    trail.level() == 1 && trail.last_decision() == 0 && trail.reasons().len() == 3
-}
-
-// Whether the negated decision is learnt, by all clauses.
-fn is_not_one(learnt: &Learnt) -> bool {
-    learnt.clause.as_slice() == [Lit::new(1, false)].as_slice()
-        && learnt.hints.as_slice() == [ClauseId(1), ClauseId(2), ClauseId(3)].as_slice()
-        && learnt.level == 0
 }
 
 // Whether a new learner learns it.
-fn learns(alloc: Global, trail: &Trail, db: &Clauses, conflict: ClauseId) -> bool
+fn learns(
+    alloc: Global,
+    trail: &Trail,
+    db: &Clauses,
+    conflict: ClauseId,
+    hints: &[ClauseId],
+) -> bool
     requires grown { IsFront trail.now.clauses db.now.clauses }
     requires conflict { IsConflict trail.now conflict }
     requires decided { 0 < level_of trail.now.reasons }
@@ -80,56 +91,25 @@ fn learns(alloc: Global, trail: &Trail, db: &Clauses, conflict: ClauseId) -> boo
         return false;
     }
     match learner.analyse(trail, db, conflict) {
-        Ok(learnt) => is_not_one(&learnt),
+        Ok(learnt) => is_not_one(&learnt, hints),
         Err(_) => false,
     }
 }
 
 // Whether a new learner closes with it.
-fn closes(alloc: Global, trail: &Trail, db: &Clauses, conflict: ClauseId) -> bool
+fn closes(
+    alloc: Global,
+    trail: &Trail,
+    db: &Clauses,
+    conflict: ClauseId,
+    hints: &[ClauseId],
+) -> bool
     requires grown { IsFront trail.now.clauses db.now.clauses }
     requires conflict { IsConflict trail.now conflict }
 {
-    match Learner::new(alloc).analyse_final(trail, db, conflict) {
-        Ok(closing) => is_not_one(&closing),
+    let mut learner = Learner::new(alloc);
+    match learner.analyse_final(trail, db, conflict) {
+        Ok(closing) => is_not_one(&closing, hints),
         Err(_) => false,
     }
-}
-
-// Whether the third clause becomes false, and the negated decision is learnt and closes.
-fn learns_both(alloc: Global, propagator: &mut Propagator, db: &Clauses) -> bool
-    requires front { IsFront propagator.old.clauses db.now.clauses }
-{
-    match propagator.propagate(db) {
-        Propagated::Quiet => false,
-        Propagated::Conflict(conflict) => {
-            conflict == ClauseId(3)
-                && propagator.trail().level() > 0
-                && learns(alloc, propagator.trail(), db, conflict)
-                && closes(alloc, propagator.trail(), db, conflict)
-        }
-    }
-}
-
-// The same, and whether the trail says so until it goes back.
-fn goes_back(alloc: Global, propagator: &mut Propagator, db: &Clauses) -> bool
-    requires front { IsFront propagator.old.clauses db.now.clauses }
-{
-    if !learns_both(alloc, propagator, db)
-        || !are_forced(propagator.trail())
-        || !are_on_one_level(propagator.trail())
-    {
-        return false;
-    }
-    propagator.back_to(0);
-    propagator.trail().len() == 0
-}
-
-#[test]
-fn learns_and_goes_back(rt: HostRuntime) {
-    let mut db = Clauses::new(rt.alloc());
-    let mut propagator = Propagator::new(rt.alloc());
-    attach_three(&rt, &mut propagator, &mut db);
-    decide_one(&mut propagator, &db);
-    assert!(rt; goes_back(rt.alloc(), &mut propagator, &db));
 }

@@ -1,6 +1,5 @@
 // A book that is kept.
-ghost use Rattle.std.specs.Prelude.{◌≡◌, []};
-
+use crate::ample::got;
 use proof_ledger::{DeriveFault, Entry, Ledger};
 use prop_core::{ClauseId, Lit};
 
@@ -31,42 +30,27 @@ fn told(answer: Result<ClauseId, DeriveFault>) -> (u64, u32, u8) {
     }
 }
 
-// Whether the book takes a mark and both axioms, the first in room that was made.
-fn takes_axioms(ledger: &mut Ledger) -> bool {
-    if ledger.put_mark(0).is_err() || ledger.reserve(1, 2).is_err() {
-        return false;
-    }
-    ledger.push_axiom(&[ONE, TWO]) == ClauseId(1)
-        && matches!(ledger.add_axiom(&[NOT_ONE, TWO]), Ok(ClauseId(2)))
-}
-
-// Whether it derives the clause by both, and not by the first alone.
-fn derives(ledger: &mut Ledger) -> bool {
-    told(ledger.try_derive(&[TWO], &HINTS)) == (3, 0, 0)
-        && told(ledger.try_derive(&[TWO], &HINTS[..1])) == (0, 1, 3)
-}
-
-// Whether an empty book takes an axiom, a learnt and a final clause.
-fn takes_derived(ledger: &mut Ledger) -> bool
-    requires { ledger.old.entries ≡ [] }
-{
-    match ledger.add_axiom(&[]) {
-        Ok(empty) => {
-            ledger.put_learnt(&[], &[empty]).is_ok() && ledger.put_final(&[], &[empty]).is_ok()
-        }
-        Err(_) => false,
-    }
-}
-
-fn has(ledger: &Ledger, entries: u64, clauses: u64) -> bool {
-    ledger.entries() == entries && ledger.clauses().len() == clauses
+#[test]
+fn keeps_a_book(rt: HostRuntime) {
+    let mut ledger = Ledger::new(rt.alloc());
+    got(&rt, ledger.put_mark(0));
+    got(&rt, ledger.reserve(1, 2));
+    assert!(rt; ledger.push_axiom(&[ONE, TWO]) == ClauseId(1));
+    assert!(rt; got(&rt, ledger.add_axiom(&[NOT_ONE, TWO])) == ClauseId(2));
+    assert!(rt; told(ledger.try_derive(&[TWO], &HINTS)) == (3, 0, 0));
+    got(&rt, ledger.put_mark(1));
+    assert!(rt; ledger.entries() == 5 && ledger.clauses().len() == 3);
+    assert!(rt; told(ledger.try_derive(&[TWO], &HINTS[..1])) == (0, 1, 3));
+    ledger.clear();
+    assert!(rt; ledger.entries() == 0);
 }
 
 // Whether the book has an axiom, a learnt and a final clause, with their hints.
 fn are_learnt_and_final(ledger: &Ledger) -> bool {
-    ledger.entries() == 3
-        && ledger.clauses().len() == 3
-        && matches!(ledger.entry(0), Entry::Axiom(ClauseId(1)))
+    if ledger.entries() != 3 || ledger.clauses().len() != 3 {
+        return false;
+    }
+    matches!(ledger.entry(0), Entry::Axiom(ClauseId(1)))
         && matches!(ledger.entry(1), Entry::Learnt(ClauseId(2)))
         && matches!(ledger.entry(2), Entry::Final(ClauseId(3)))
         && ledger.hints(ClauseId(1)).is_empty()
@@ -74,10 +58,10 @@ fn are_learnt_and_final(ledger: &Ledger) -> bool {
 }
 
 #[test]
-fn keeps_a_book(rt: HostRuntime) {
+fn puts_derived_clauses(rt: HostRuntime) {
     let mut ledger = Ledger::new(rt.alloc());
-    assert!(rt; takes_axioms(&mut ledger) && derives(&mut ledger) && has(&ledger, 4, 3));
-    ledger.clear();
-    assert!(rt; has(&ledger, 0, 0));
-    assert!(rt; takes_derived(&mut ledger) && are_learnt_and_final(&ledger));
+    let empty = got(&rt, ledger.add_axiom(&[]));
+    got(&rt, ledger.put_learnt(&[], &[empty]));
+    got(&rt, ledger.put_final(&[], &[empty]));
+    assert!(rt; are_learnt_and_final(&ledger));
 }

@@ -10,6 +10,10 @@ mod clauses;
 #[cfg(test)]
 mod counter;
 #[cfg(test)]
+mod evidence;
+#[cfg(test)]
+mod formulas;
+#[cfg(test)]
 mod learner;
 #[cfg(test)]
 mod ledger;
@@ -18,6 +22,10 @@ mod order;
 #[cfg(test)]
 mod pieces;
 #[cfg(test)]
+mod refutations;
+#[cfg(test)]
 mod solver;
 #[cfg(test)]
 mod texts;
+#[cfg(test)]
+mod trail;

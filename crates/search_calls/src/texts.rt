@@ -1,27 +1,25 @@
 // Formulas and proofs, as they are printed.
-ghost use Rattle.std.specs.Prelude.{◌≤◌, length};
+ghost use Rattle.std.specs.Prelude.{◌<◌, ◌^◌, length};
 
 use proof_text::{print_cnf, print_lrat, read_cnf, read_lrat};
 use std::alloc::Global;
 
-// Whether the text is of a formula that is printed so.
-fn formula_is_printed(alloc: Global, text: &str, printed: &str) -> bool
-    requires { length text.now ≤ 100 }
+// Appends the formula of the text as it is printed, and says whether there is one.
+fn print_formula(alloc: Global, text: &[u8], out: &mut Vec<u8>) -> bool
+    requires { length text.now < 2 ^ 32 }
 {
-    let mut out = Vec::new(alloc);
-    match read_cnf(alloc, text.as_bytes()) {
-        Ok(cnf) => print_cnf(&cnf, &mut out).is_ok() && out.as_slice() == printed.as_bytes(),
+    match read_cnf(alloc, text) {
+        Ok(cnf) => print_cnf(&cnf, out).is_ok(),
         Err(_) => false,
     }
 }
 
-// Whether it is of a proof that is printed so, of a formula with two variables and no clauses.
-fn proof_is_printed(alloc: Global, text: &str, printed: &str) -> bool
-    requires { length text.now ≤ 100 }
+// The same of a proof, of a formula with two variables and no clauses.
+fn print_proof(alloc: Global, text: &[u8], out: &mut Vec<u8>) -> bool
+    requires { length text.now < 2 ^ 32 }
 {
-    let mut out = Vec::new(alloc);
-    match read_lrat(alloc, text.as_bytes(), 2, 0) {
-        Ok(proof) => print_lrat(&proof, &mut out).is_ok() && out.as_slice() == printed.as_bytes(),
+    match read_lrat(alloc, text, 2, 0) {
+        Ok(proof) => print_lrat(&proof, out).is_ok(),
         Err(_) => false,
     }
 }
@@ -47,11 +45,29 @@ const PROOFS: [(&str, &str); 3] = [
 ];
 
 #[test]
-fn texts_are_printed(rt: HostRuntime) {
+fn formulas_are_printed(rt: HostRuntime) {
+    let mut out = Vec::new(rt.alloc());
     for (text, printed) in FORMULAS {
-        assert!(rt; text.len() <= 100 && formula_is_printed(rt.alloc(), text, printed));
+        out.clear();
+        assert!(rt; text.len() < 100);
+        assert!(rt;
+            print_formula(rt.alloc(), text.as_bytes(), &mut out),
+            "{text:?}"
+        );
+        assert!(rt; out.as_slice() == printed.as_bytes(), "{text:?}");
     }
+}
+
+#[test]
+fn proofs_are_printed(rt: HostRuntime) {
+    let mut out = Vec::new(rt.alloc());
     for (text, printed) in PROOFS {
-        assert!(rt; text.len() <= 100 && proof_is_printed(rt.alloc(), text, printed));
+        out.clear();
+        assert!(rt; text.len() < 100);
+        assert!(rt;
+            print_proof(rt.alloc(), text.as_bytes(), &mut out),
+            "{text:?}"
+        );
+        assert!(rt; out.as_slice() == printed.as_bytes(), "{text:?}");
     }
 }
