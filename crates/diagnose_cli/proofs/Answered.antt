@@ -6,6 +6,8 @@ use Rattle.des_base.specs.CommandWords.{word_at}
 use Rattle.des_base.specs.Outside.{Took}
 use Rattle.proof_ledger.specs.Book.{BookEntry}
 use Rattle.diagnose_cli.specs.declared.command.Command.{Command}
+use Rattle.diagnose_cli.specs.declared.command.Command.TheVariants.{One}
+use Rattle.diagnose_cli.specs.declared.command.Single.{Single}
 use Rattle.diagnose_cli.specs.declared.ending.Kind.{Kind}
 use Rattle.diagnose_cli.specs.declared.stop.Stop.{Stop}
 use Rattle.diagnose_cli.specs.declared.stop.Stop.TheVariants.{Usage, Load, Faulty, Long, NoFault, Large, Memory}
@@ -16,8 +18,8 @@ use Rattle.diagnose_cli.specs.Endings.{HasStatus, status_of_end, status_of_kind,
 use Rattle.diagnose_cli.specs.Files.{Loads, StopsAt, WithFile}
 use Rattle.diagnose_cli.specs.Texts.{FileKind, limit_of, fault_of_text}
 use Rattle.diagnose_cli.specs.Commands.{files_of, command_of}
-use Rattle.diagnose_cli.specs.Replies.{Says}
-use Rattle.diagnose_cli.specs.Due.{halts, SaysInAll, Closes, InOrder, Answers}
+use Rattle.diagnose_cli.specs.Replies.{MayReply}
+use Rattle.diagnose_cli.specs.Due.{halts, Says, Closes, InOrder, Answers}
 use Rattle.diagnose_cli.specs.Outcomes.{IsPut, Outcome, Tells}
 use Rattle.diagnose_cli.specs.Rows.{AreRead, Reads}
 use Rattle.diagnose_cli.specs.Run.{Ends}
@@ -97,7 +99,7 @@ closed l words i (kind ∷ kinds) files (text ∷ texts) closes e answer read h 
     (closed l words (i + 1) kinds (files ++ text ∷ []) texts closes e answer read.1 rest)
 
 -- it says what the command may
-pub said_in_all : (o : Outcome) (c : Command) (texts : List (List ℕ)) (ends : Ends o) → Reads o c texts → o.status ≢ 3 → o.status ≢ 9 → IsOkAnd ends.ending (SaysInAll c o.words o.book texts)
+pub said_in_all : (o : Outcome) (c : Command) (texts : List (List ℕ)) (ends : Ends o) → Reads o c texts → o.status ≢ 3 → o.status ≢ 9 → IsOkAnd ends.ending (Says c o.words o.book texts)
 said_in_all o c texts ends reads three nine =
     let e = ends.ending in
     let answer : HasAnswer e = record {
@@ -105,21 +107,11 @@ said_in_all o c texts ends reads three nine =
       load = λ j p. three (subst (λ (x : Ending). HasStatus x o.status) p ends.shown);
     } in
     let closes = closed o.loads o.words 1 (files_of c) [] texts (Closes c o.words o.book) e answer reads.files (called o.loads o.words o.book (command_of o.words) c e reads.command (ends.due.says answer.memory)) in
-    asked (halts c o.words texts) e (SaysInAll c o.words o.book texts) reads.small closes
+    asked (halts c o.words texts) e (Says c o.words o.book texts) reads.small closes
 
--- the command has one reply
-abbrev pub HasOneReply : Command → Type 0
-HasOneReply c = (words : List (List ℕ)) (book : List BookEntry) (texts : List (List ℕ)) (t : Transcript) → SaysInAll c words book texts t → IsOne (Says c words book texts) t
-
-ok_weaker : (e : Ending) (P Q : Transcript → Type 0) → ((t : Transcript) → P t → Q t) → IsOkAnd e P → IsOkAnd e Q
-ok_weaker (Ok t) P Q f h = f t h
-ok_weaker (Err stop) P Q f h = absurd h
-
--- so status and text tell a reply that such a command may give
-pub row : (o : Outcome) (c : Command) (texts : List (List ℕ)) → HasOneReply c → Ends o → Reads o c texts → o.status ≢ 3 → IsPut o.status → Tells o (Says c o.words o.book texts)
-row o c texts one ends reads three put =
-    let says = ok_weaker ends.ending (SaysInAll c o.words o.book texts) (IsOne (Says c o.words o.book texts)) (one o.words o.book texts) (said_in_all o c texts ends reads three put.memory) in
-    told o (Says c o.words o.book texts) ends.ending put.written says ends.shown ends.put
+-- so status and text tell a reply that a command with one may give
+pub row : (o : Outcome) (c : Single) (texts : List (List ℕ)) → Ends o → Reads o (One c) texts → o.status ≢ 3 → IsPut o.status → Tells o (MayReply c o.words o.book texts)
+row o c texts ends reads three put = told o (MayReply c o.words o.book texts) ends.ending put.written (said_in_all o (One c) texts ends reads three put.memory) ends.shown ends.put
 
 -- ---- by the status, whatever is told of the files
 
@@ -164,10 +156,10 @@ AreHeld held words i [] = ⊤
 AreHeld held words i (text ∷ texts) = IfSome (held (word_at words i)) (λ there. there ≡ text) × AreHeld held words (i + 1) texts
 
 -- a reply that the command gives over such bytes
-pub record SaidOver (o : Outcome) (c : Command) : Type 0 where
+pub record SaidOver (o : Outcome) (c : Single) : Type 0 where
   pub texts : List (List ℕ)
   pub held : AreHeld o.loads.held o.words 1 texts
-  pub tells : Tells o (Says c o.words o.book texts)
+  pub tells : Tells o (MayReply c o.words o.book texts)
 
 abbrev saying : Transcript → Ending
 saying t = Ok t
@@ -199,18 +191,18 @@ over_files l words i (kind ∷ kinds) files closes t h =
           }
     ]
 
-said_by : (o : Outcome) (c : Command) → HasOneReply c → (e : Ending) → (IsStopStatus o.status → ⊥) → Answers o.loads o.words c o.book e → HasStatus e o.status → Took o.before o.now (concat (texts_of e)) → SaidOver o c
-said_by o c one (Ok t) answers h shown put =
-    let over = over_files o.loads o.words 1 (files_of c) [] (Closes c o.words o.book) t h in
-    let says = one o.words o.book over.texts t (within (halts c o.words over.texts) t (SaysInAll c o.words o.book over.texts) over.closed) in
-    record { texts = over.texts; held = over.held; tells = told o (Says c o.words o.book over.texts) (Ok t) (λ four. answers (low_stop o.status (omega (arith, four)) (omega (arith, four)))) says shown put }
-said_by o c one (Err stop) answers h shown put = absurd (answers (subst IsStopStatus (sym shown) (of_stop stop)))
+said_by : (o : Outcome) (c : Single) (e : Ending) → (IsStopStatus o.status → ⊥) → Answers o.loads o.words (One c) o.book e → HasStatus e o.status → Took o.before o.now (concat (texts_of e)) → SaidOver o c
+said_by o c (Ok t) answers h shown put =
+    let over = over_files o.loads o.words 1 (files_of (One c)) [] (Closes (One c) o.words o.book) t h in
+    let says = within (halts (One c) o.words over.texts) t (Says (One c) o.words o.book over.texts) over.closed in
+    record { texts = over.texts; held = over.held; tells = told o (MayReply c o.words o.book over.texts) (Ok t) (λ four. answers (low_stop o.status (omega (arith, four)) (omega (arith, four)))) says shown put }
+said_by o c (Err stop) answers h shown put = absurd (answers (subst IsStopStatus (sym shown) (of_stop stop)))
 
-pub said_over : (o : Outcome) (c : Command) → HasOneReply c → Ends o → command_of o.words ≡ Some c → (IsStopStatus o.status → ⊥) → SaidOver o c
-said_over o c one ends command answers =
+pub said_over : (o : Outcome) (c : Single) → Ends o → command_of o.words ≡ Some (One c) → (IsStopStatus o.status → ⊥) → SaidOver o c
+said_over o c ends command answers =
     let e = ends.ending in
     let memory : e ≢ Err Memory = λ p. answers (subst IsStopStatus (sym (subst (λ (x : Ending). HasStatus x o.status) p ends.shown)) (of_stop Memory)) in
-    said_by o c one e answers (called o.loads o.words o.book (command_of o.words) c e command (ends.due.says memory)) ends.shown ends.put
+    said_by o c e answers (called o.loads o.words o.book (command_of o.words) (One c) e command (ends.due.says memory)) ends.shown ends.put
 
 -- ---- one reply or several over such bytes
 
@@ -219,14 +211,14 @@ pub record ToldOver (o : Outcome) (c : Command) : Type 0 where
   pub texts : List (List ℕ)
   pub held : AreHeld o.loads.held o.words 1 texts
   pub told : Transcript
-  pub says : SaysInAll c o.words o.book texts told
+  pub says : Says c o.words o.book texts told
   pub shown : o.status ≡ status_of_end told.end
   pub put : Took o.before o.now (concat told.texts)
 
 told_by : (o : Outcome) (c : Command) (e : Ending) → (IsStopStatus o.status → ⊥) → Answers o.loads o.words c o.book e → HasStatus e o.status → Took o.before o.now (concat (texts_of e)) → ToldOver o c
 told_by o c (Ok t) answers h shown put =
     let over = over_files o.loads o.words 1 (files_of c) [] (Closes c o.words o.book) t h in
-    record { texts = over.texts; held = over.held; told = t; says = within (halts c o.words over.texts) t (SaysInAll c o.words o.book over.texts) over.closed; shown = shown; put = put }
+    record { texts = over.texts; held = over.held; told = t; says = within (halts c o.words over.texts) t (Says c o.words o.book over.texts) over.closed; shown = shown; put = put }
 told_by o c (Err stop) answers h shown put = absurd (answers (subst IsStopStatus (sym shown) (of_stop stop)))
 
 pub told_over : (o : Outcome) (c : Command) → Ends o → command_of o.words ≡ Some c → (IsStopStatus o.status → ⊥) → ToldOver o c

@@ -8,10 +8,11 @@ use Rattle.log_order.specs.Log.{Log}
 use Rattle.proof_ledger.specs.Book.{BookEntry}
 use Rattle.replay.specs.QuestionSize.{question_size}
 use Rattle.report.specs.Replies.{numbered}
-use Rattle.diagnose_cli.specs.declared.command.Command.TheVariants.{Bench}
+use Rattle.diagnose_cli.specs.declared.command.Command.TheVariants.{One}
+use Rattle.diagnose_cli.specs.declared.command.Single.TheVariants.{Bench}
 use Rattle.diagnose_cli.specs.declared.ending.Kind.{Kind}
 use Rattle.diagnose_cli.specs.declared.stop.Stop.TheVariants.{Large}
-use Rattle.diagnose_cli.specs.Replies.{Says, SaysFound, SaysSummary, SaysBenched, first_line, summary_of}
+use Rattle.diagnose_cli.specs.Replies.{MayReply, SaysFound, SaysSummary, SaysBenched, first_line, summary_of}
 use Rattle.diagnose_cli.specs.Due.{Closes, above_limit}
 use Rattle.diagnose_cli.specs.Transcripts.{Ending, Transcript, IsOne, once, whole}
 use Rattle.diagnose_cli.proofs.Limits.{within_limit, past_limit}
@@ -22,13 +23,13 @@ module _ (units start steps budget : ℕ) (words : List (List ℕ)) (book : List
   size_of_plant = question_size (plant_net units) (plant_log units start) steps
 
   abbrev says : Transcript → Type 0
-  says = IsOne (Says (Bench units start steps budget) words book [])
+  says = IsOne (MayReply (Bench units start steps budget) words book [])
 
   module _ (net : Net) (network : net ≡ plant_net units) (alarms : Log) (log : alarms ≡ plant_log units start) where
     same_size : question_size net alarms steps ≡ size_of_plant
     same_size = ap (λ n. question_size n alarms steps) network ∙ ap (λ a. question_size (plant_net units) a steps) log
 
-    pub large_plant : (size : ℕ) → size ≡ question_size net alarms steps → MOST_SIZE < size → Closes (Bench units start steps budget) words book [] (Err (Large size))
+    pub large_plant : (size : ℕ) → size ≡ question_size net alarms steps → MOST_SIZE < size → Closes (One (Bench units start steps budget)) words book [] (Err (Large size))
     large_plant size is above =
         let e : Ending = Err (Large size) in
         let over_limit : above_limit size_of_plant ≡ Some size = ap above_limit (sym (is ∙ same_size)) ∙ past_limit size above in
@@ -36,7 +37,7 @@ module _ (units start steps budget : ℕ) (words : List (List ℕ)) (book : List
 
     pub summed_up : (size : ℕ) (reply summary : Kind × List ℕ) (count : ℕ) → size ≡ question_size net alarms steps → size ≤ MOST_SIZE → count ≡ length alarms.alarms → SaysFound net alarms steps budget book reply
         → summary ≡ (reply.0, numbered (codes "units ") units ++ numbered (codes "alarms ") count ++ numbered (codes "size ") size ++ first_line reply.1)
-        → Closes (Bench units start steps budget) words book [] (once (Ok summary))
+        → Closes (One (Bench units start steps budget)) words book [] (once (Ok summary))
     summed_up size reply summary count is small counted replied sums =
         let e : Ending = Ok (whole summary) in
         let by_count : summary ≡ (reply.0, numbered (codes "units ") units ++ numbered (codes "alarms ") (length alarms.alarms) ++ numbered (codes "size ") size ++ first_line reply.1) =

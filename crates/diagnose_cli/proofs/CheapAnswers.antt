@@ -1,18 +1,16 @@
 -- What `cheapest` answers where its files are read.
-use Rattle.std.proofs.Common.{◌≡◌, ◌∙◌, ◌≤◌, ◌<◌, ℕ, true, List, [], ◌∷◌, length, Option, Some, None, Result, Ok, Err, IfSome, IsOkAnd, MatchOption, inl, inr, refl, ap, sym, subst, arith}
-use Rattle.std.specs.Prelude.{All, option_map}
-use Rattle.cost_least.proofs.SameCosts.{same_answered, same_parts}
+use Rattle.std.proofs.Common.{◌≡◌, ◌∙◌, ◌≤◌, ◌<◌, ℕ, List, [], ◌∷◌, length, Option, Some, None, Result, Ok, Err, IsOkAnd, MatchOption, refl, ap, sym, subst, arith}
+use Rattle.std.specs.Prelude.{option_map}
 use Rattle.cost_least.specs.Answers.{CostAsked, IsCheapFound, IsRunAt}
 use Rattle.cost_least.specs.Costs.{cost_size}
 use Rattle.cost_least.specs.declared.answer.Cheap.{Cheap}
 use Rattle.cost_least.specs.declared.answer.Cheap.TheVariants.{Found, Absent, Dear, Undecided}
-use Rattle.cost_least.specs.declared.answer.Priced.{Priced}
 use Rattle.des_base.specs.CommandWords.{word_at}
 use Rattle.des_net.specs.Building.{IsDraft}
-use Rattle.des_net.specs.Network.{Net, IsNetwork, is_fault}
+use Rattle.des_net.specs.Network.{Net, IsNetwork}
 use Rattle.event_costs.specs.CostText.{IsTableOf, cost_of}
 use Rattle.event_costs.specs.Prices.{cost_at}
-use Rattle.inquiries.specs.LeastCost.{CostAlike, HasCostQuestion, IsPricedBy, LeavesCosts}
+use Rattle.inquiries.specs.LeastCost.{CostAlike, LeavesCosts}
 use Rattle.inquiries.proofs.PricedBooks.{leaves_alike, priced_alike}
 use Rattle.least_faults.proofs.KnownEvents.{run_known}
 use Rattle.least_faults.specs.declared.TheConstants.{MOST_SIZE}
@@ -26,8 +24,9 @@ use Rattle.replay.specs.Traced.{word_of}
 use Rattle.replay.specs.declared.run.RunStep.{RunStep}
 use Rattle.report.proofs.ReadsBack.{printed_runs_read_back}
 use Rattle.report.specs.ReadBack.{IsRunText}
-use Rattle.report.specs.Replies.{CheapEventsKnown, cheap_run, text_of_run}
-use Rattle.diagnose_cli.specs.declared.command.Command.TheVariants.{Cheapest}
+use Rattle.report.specs.Replies.{CheapEventsKnown, text_of_run}
+use Rattle.diagnose_cli.specs.declared.command.Command.TheVariants.{One}
+use Rattle.diagnose_cli.specs.declared.command.Single.TheVariants.{Cheapest}
 use Rattle.diagnose_cli.specs.declared.ending.Kind.{Kind}
 use Rattle.diagnose_cli.specs.declared.stop.FaultyText.{FaultyText}
 use Rattle.diagnose_cli.specs.declared.stop.Stop.{Stop}
@@ -35,10 +34,10 @@ use Rattle.diagnose_cli.specs.declared.stop.Stop.TheVariants.{Large}
 use Rattle.diagnose_cli.specs.CheapReplies.{CheapRunReadsBack, SaysCheap}
 use Rattle.diagnose_cli.specs.Due.{AnswersAfter, Closes, above_limit}
 use Rattle.diagnose_cli.specs.Files.{IsReadAs, IsText, Loads, StopsIn}
-use Rattle.diagnose_cli.specs.Replies.{Says}
+use Rattle.diagnose_cli.specs.Replies.{MayReply}
 use Rattle.diagnose_cli.specs.Rows.{AreTold}
 use Rattle.diagnose_cli.specs.Texts.{IsCase, costs, fault_of_costs, limit_of}
-use Rattle.diagnose_cli.specs.Transcripts.{Ending, Transcript, IsOne, once, whole}
+use Rattle.diagnose_cli.specs.Transcripts.{Ending, Transcript, IsOne, once}
 use Rattle.diagnose_cli.proofs.Left.{told_bytes}
 use Rattle.diagnose_cli.proofs.Ones.{is_one}
 use Rattle.diagnose_cli.proofs.Limits.{within_limit, past_limit}
@@ -91,18 +90,18 @@ says_of_text net prices table alarms n budget book reply of says = record {
 
 module _ (n budget : ℕ) (words : List (List ℕ)) (book : List BookEntry) (text rows prices : List ℕ) (net : Net) (network : net ≡ network_of text) (alarms : Log) (listed : alarms ≡ log_of rows) where
   abbrev says : Transcript → Type 0
-  says = IsOne (Says (Cheapest n budget) words book (text ∷ rows ∷ prices ∷ []))
+  says = IsOne (MayReply (Cheapest n budget) words book (text ∷ rows ∷ prices ∷ []))
 
   same_size : cost_size net alarms n ≡ cost_size (network_of text) (log_of rows) n
   same_size = ap (λ (m : Net). cost_size m alarms n) network ∙ ap (λ (a : Log). cost_size (network_of text) a n) listed
 
-  closes : (o : Option ℕ) (e : Ending) → above_limit (cost_size (network_of text) (log_of rows) n) ≡ o → MatchOption (option_map (λ k. Large k) o) (IsOkAnd e says) (λ stop. e ≡ Err stop) → Closes (Cheapest n budget) words book (text ∷ rows ∷ prices ∷ []) e
+  closes : (o : Option ℕ) (e : Ending) → above_limit (cost_size (network_of text) (log_of rows) n) ≡ o → MatchOption (option_map (λ k. Large k) o) (IsOkAnd e says) (λ stop. e ≡ Err stop) → Closes (One (Cheapest n budget)) words book (text ∷ rows ∷ prices ∷ []) e
   closes o e is h = subst (λ (p : Option ℕ). MatchOption (option_map (λ k. Large k) p) (IsOkAnd e says) (λ stop. e ≡ Err stop)) (sym is) h
 
-  pub dear_question : (size : ℕ) → size ≡ cost_size net alarms n → MOST_SIZE < size → Closes (Cheapest n budget) words book (text ∷ rows ∷ prices ∷ []) (Err (Large size))
+  pub dear_question : (size : ℕ) → size ≡ cost_size net alarms n → MOST_SIZE < size → Closes (One (Cheapest n budget)) words book (text ∷ rows ∷ prices ∷ []) (Err (Large size))
   dear_question size is above = closes (Some size) (Err (Large size)) (ap above_limit (sym (is ∙ same_size)) ∙ past_limit size above) refl
 
-  pub priced_answer : (size : ℕ) (reply : Kind × List ℕ) → size ≡ cost_size net alarms n → size ≤ MOST_SIZE → SaysCheap net (cost_of net prices) alarms n budget book reply → Closes (Cheapest n budget) words book (text ∷ rows ∷ prices ∷ []) (once (Ok reply))
+  pub priced_answer : (size : ℕ) (reply : Kind × List ℕ) → size ≡ cost_size net alarms n → size ≤ MOST_SIZE → SaysCheap net (cost_of net prices) alarms n budget book reply → Closes (One (Cheapest n budget)) words book (text ∷ rows ∷ prices ∷ []) (once (Ok reply))
   priced_answer size reply is small tells =
       let of_text : SaysCheap (network_of text) (cost_of (network_of text) prices) (log_of rows) n budget book reply =
       subst (λ (a : Log). SaysCheap (network_of text) (cost_of (network_of text) prices) a n budget book reply) listed (subst (λ (m : Net). SaysCheap m (cost_of m prices) alarms n budget book reply) network tells) in
@@ -129,12 +128,12 @@ case_prices_left held words net alarms case text rows prices told n budget book 
 
 module _ (l : Loads) (words : List (List ℕ)) (n budget : ℕ) (book : List BookEntry) (text rows : List ℕ) (net : Net) (network : net ≡ network_of text) where
   -- it stops there
-  pub costs_refused : (stop : Stop) → StopsIn l 3 (word_at words 3) (limit_of costs) (fault_of_costs net) stop → AnswersAfter l words (Cheapest n budget) book (text ∷ rows ∷ []) (Err stop)
+  pub costs_refused : (stop : Stop) → StopsIn l 3 (word_at words 3) (limit_of costs) (fault_of_costs net) stop → AnswersAfter l words (One (Cheapest n budget)) book (text ∷ rows ∷ []) (Err stop)
   costs_refused stop h =
-      stops_here l words 3 costs [] (text ∷ rows ∷ []) (Closes (Cheapest n budget) words book) stop (subst (λ (m : Net). StopsIn l 3 (word_at words 3) (limit_of costs) (fault_of_costs m) stop) network h)
+      stops_here l words 3 costs [] (text ∷ rows ∷ []) (Closes (One (Cheapest n budget)) words book) stop (subst (λ (m : Net). StopsIn l 3 (word_at words 3) (limit_of costs) (fault_of_costs m) stop) network h)
 
   -- or goes on with them
-  pub costs_priced : (table : List (Option ℕ)) (r : Result (Kind × List ℕ) Stop) (read : IsReadAs l.held (word_at words 3) (limit_of costs) (fault_of_costs net) (λ prices. IsTableOf net prices table)) → Closes (Cheapest n budget) words book (text ∷ rows ∷ read.0 ∷ []) (once r)
-      → AnswersAfter l words (Cheapest n budget) book (text ∷ rows ∷ []) (once r)
+  pub costs_priced : (table : List (Option ℕ)) (r : Result (Kind × List ℕ) Stop) (read : IsReadAs l.held (word_at words 3) (limit_of costs) (fault_of_costs net) (λ prices. IsTableOf net prices table)) → Closes (One (Cheapest n budget)) words book (text ∷ rows ∷ read.0 ∷ []) (once r)
+      → AnswersAfter l words (One (Cheapest n budget)) book (text ∷ rows ∷ []) (once r)
   costs_priced table r (prices, read, of) closes =
-      goes_on l words 3 costs [] (text ∷ rows ∷ []) (Closes (Cheapest n budget) words book) prices (once r) (subst (λ (m : Net). IsText l.held (word_at words 3) (limit_of costs) (fault_of_costs m) prices) network read) closes
+      goes_on l words 3 costs [] (text ∷ rows ∷ []) (Closes (One (Cheapest n budget)) words book) prices (once r) (subst (λ (m : Net). IsText l.held (word_at words 3) (limit_of costs) (fault_of_costs m) prices) network read) closes

@@ -1,31 +1,29 @@
 -- What the status of a question of costs tells.
-use Rattle.std.proofs.Common.{◌≡◌, ◌≤◌, ◌<◌, ◌^◌, ℕ, List, [], ◌∷◌, Option, Some, None, IfSome, refl, sym, ◌∙◌, subst, arith}
+use Rattle.std.proofs.Common.{◌≡◌, ◌≤◌, ◌<◌, ◌^◌, ℕ, List, [], ◌∷◌, Option, Some, None, IfSome, sym, ◌∙◌, subst, arith}
 use Rattle.cost_least.specs.Answers.{CostAsked, IsKnownAbove, IsPriced}
 use Rattle.cost_least.specs.declared.answer.Cheap.{Cheap}
 use Rattle.cost_least.specs.declared.answer.Cheap.TheVariants.{Found, Absent, Dear, Undecided}
 use Rattle.cost_least.specs.declared.answer.Priced.{Priced}
 use Rattle.des_base.specs.CommandWords.{word_at}
 use Rattle.des_base.specs.Outside.{Took}
-use Rattle.des_net.specs.Network.{Net}
-use Rattle.event_costs.specs.CostText.{cost_of}
 use Rattle.inquiries.specs.LeastCost.{IsPricedBy, cost_variables}
 use Rattle.inquiries.proofs.PricedBooks.{unpriced_is_small}
 use Rattle.least_faults.proofs.Freshness.{fresh_closed}
 use Rattle.log_csv.specs.LogText.{log_of}
-use Rattle.log_order.specs.Log.{Log}
 use Rattle.model_text.specs.ModelFaults.{network_of}
 use Rattle.proof_ledger.specs.Book.{BookEntry}
 use Rattle.prop_core.specs.Clauses.{Clause}
 use Rattle.replay.specs.Explanation.{IsAbsent}
 use Rattle.report.specs.Replies.{text_of_cheap}
 use Rattle.run_decode.specs.QuestionAxioms.{question_axioms}
-use Rattle.diagnose_cli.specs.declared.command.Command.TheVariants.{Cheapest}
+use Rattle.diagnose_cli.specs.declared.command.Command.TheVariants.{One}
+use Rattle.diagnose_cli.specs.declared.command.Single.TheVariants.{Cheapest}
 use Rattle.diagnose_cli.specs.declared.ending.Kind.{Kind}
 use Rattle.diagnose_cli.specs.CheapReplies.{SaysCheap, kind_of_cheap}
 use Rattle.diagnose_cli.specs.CheapRows.{TellsCheapest, TellsDear, TellsUnpriced, cost_asked}
 use Rattle.diagnose_cli.specs.Endings.{status_of_kind}
 use Rattle.diagnose_cli.specs.Outcomes.{Outcome, Tells}
-use Rattle.diagnose_cli.specs.Replies.{Says}
+use Rattle.diagnose_cli.specs.Replies.{MayReply}
 use Rattle.diagnose_cli.specs.Rows.{AreTold, Asks}
 use Rattle.diagnose_cli.specs.Run.{Ends}
 use Rattle.diagnose_cli.proofs.Answered.{AreHeld, IsStopStatus, between, said_over, same_text}
@@ -51,7 +49,7 @@ of_reply o q budget tells = record {
 
 -- over the three texts that are told
 over_texts : (o : Outcome) (n budget : ℕ) (text alarms prices : List ℕ) (texts : List (List ℕ)) → AreTold o.loads.held o.words 1 (text ∷ alarms ∷ prices ∷ []) → AreHeld o.loads.held o.words 1 texts
-    → Tells o (Says (Cheapest n budget) o.words o.book texts) → Tells o (Saying (cost_asked text alarms prices n) budget o.book)
+    → Tells o (MayReply (Cheapest n budget) o.words o.book texts) → Tells o (Saying (cost_asked text alarms prices n) budget o.book)
 over_texts o n budget text alarms prices [] there held tells = absurd tells.says
 over_texts o n budget text alarms prices (model ∷ []) there held tells = absurd tells.says
 over_texts o n budget text alarms prices (model ∷ rows ∷ []) there held tells = absurd tells.says
@@ -61,9 +59,9 @@ over_texts o n budget text alarms prices (model ∷ rows ∷ costs ∷ []) there
     subst (λ (p : List ℕ). Tells o (Saying (cost_asked text alarms p n) budget o.book)) (sym (same_text (o.loads.held (word_at o.words 3)) prices costs there.1.1.0 held.1.1.0)) of_log
 over_texts o n budget text alarms prices (model ∷ rows ∷ costs ∷ other ∷ texts) there held tells = absurd tells.says
 
-told : (o : Outcome) (n budget : ℕ) (text alarms prices : List ℕ) → Ends o → Asks o (Cheapest n budget) (text ∷ alarms ∷ prices ∷ []) → (IsStopStatus o.status → ⊥) → TellsPriced o (cost_asked text alarms prices n) budget
+told : (o : Outcome) (n budget : ℕ) (text alarms prices : List ℕ) → Ends o → Asks o (One (Cheapest n budget)) (text ∷ alarms ∷ prices ∷ []) → (IsStopStatus o.status → ⊥) → TellsPriced o (cost_asked text alarms prices n) budget
 told o n budget text alarms prices ends asks answers =
-    let over = said_over o (Cheapest n budget) (λ words book texts t h. h) ends asks.command answers in
+    let over = said_over o (Cheapest n budget) ends asks.command answers in
     of_reply o (cost_asked text alarms prices n) budget (over_texts o n budget text alarms prices over.texts asks.told over.held over.tells)
 
 -- ---- by the status
@@ -122,7 +120,7 @@ module _ (o : Outcome) (q : CostAsked) (budget : ℕ) where
       let small = unpriced_is_small q.net q.cost q.log q.steps budget o.book lo best shown in
       omega (arith, small, enough)
 
-module _ (o : Outcome) (ends : Ends o) (n budget : ℕ) (text alarms prices : List ℕ) (asks : Asks o (Cheapest n budget) (text ∷ alarms ∷ prices ∷ [])) where
+module _ (o : Outcome) (ends : Ends o) (n budget : ℕ) (text alarms prices : List ℕ) (asks : Asks o (One (Cheapest n budget)) (text ∷ alarms ∷ prices ∷ [])) where
   pub cheapest : o.status ≡ 0 → TellsCheapest o (cost_asked text alarms prices n)
   cheapest is =
       let tells = told o n budget text alarms prices ends asks (λ stop. omega (arith, is, stop.low)) in

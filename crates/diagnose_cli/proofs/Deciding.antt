@@ -1,6 +1,5 @@
 -- A budget that suffices decides.
-use Rattle.std.proofs.Common.{◌≡◌, ◌≤◌, ◌^◌, ℕ, zero, suc, List, [], ◌∷◌, sym, ◌∙◌, subst, arith}
-use Rattle.des_base.specs.CommandWords.{word_at}
+use Rattle.std.proofs.Common.{◌≡◌, ◌≤◌, ◌^◌, ℕ, zero, suc, List, [], ◌∷◌, IsSomeAnd, sym, ◌∙◌, subst, arith}
 use Rattle.des_net.specs.Network.{Net}
 use Rattle.gen_plant.specs.Plant.{plant_net, plant_log}
 use Rattle.least_faults.specs.declared.answer.Found.{Found}
@@ -11,17 +10,21 @@ use Rattle.model_text.specs.ModelFaults.{network_of}
 use Rattle.proof_ledger.specs.Book.{BookEntry}
 use Rattle.replay.specs.QuestionSize.{variable_bound}
 use Rattle.diagnose_cli.specs.declared.command.Command.{Command}
-use Rattle.diagnose_cli.specs.declared.command.Command.TheVariants.{Trace, Show, Replay, Check, Diagnose, PrintCnf, PrintProof, GenerateModel, GenerateLog, Bench, Session, Twin, Cheapest, Verdicts}
+use Rattle.diagnose_cli.specs.declared.command.Command.TheVariants.{One, Session, Verdicts}
+use Rattle.diagnose_cli.specs.declared.command.Question.{Question}
+use Rattle.diagnose_cli.specs.declared.command.Question.TheVariants.{Diagnose, PrintCnf, PrintProof}
+use Rattle.diagnose_cli.specs.declared.command.Single.TheVariants.{Trace, Show, Replay, Check, Ask, GenerateModel, GenerateLog, Bench, Twin, Cheapest}
+use Rattle.diagnose_cli.specs.Commands.{budget_of}
 use Rattle.diagnose_cli.specs.declared.ending.Kind.{Kind}
-use Rattle.diagnose_cli.specs.Deciding.{DecidedRow, Suffices}
+use Rattle.diagnose_cli.specs.Deciding.{Suffices}
 use Rattle.diagnose_cli.specs.Endings.{status_of_kind}
 use Rattle.diagnose_cli.specs.Outcomes.{Outcome, Tells}
-use Rattle.diagnose_cli.specs.Replies.{Says, SaysBenched, SaysProved, TellsBelow, TellsProof, kind_of_found}
-use Rattle.diagnose_cli.specs.Rows.{AreTold, Asks}
+use Rattle.diagnose_cli.specs.Replies.{MayReply, SaysBenched, TellsBelow, TellsProof, kind_of_found}
+use Rattle.diagnose_cli.specs.Rows.{Asks}
 use Rattle.diagnose_cli.specs.Run.{Ends}
-use Rattle.diagnose_cli.proofs.Answered.{AreHeld, between, said_over, same_text}
+use Rattle.diagnose_cli.proofs.Answered.{between, said_over}
 use Rattle.diagnose_cli.proofs.CheapStatus.{priced_by}
-use Rattle.diagnose_cli.proofs.StatusRows.{decided, undecided_small}
+use Rattle.diagnose_cli.proofs.StatusRows.{answer_told, decided, undecided_small}
 
 -- ---- a proof
 
@@ -36,64 +39,53 @@ proof_open net alarms n book Absent reply tells is = let status = subst (λ (r :
 proof_open net alarms n book (Many best) reply tells is = let status = subst (λ (r : Kind × List ℕ). 11 ≡ status_of_kind r.0) tells.is is in absurd (omega (arith, status))
 proof_open net alarms n book (Undecided lo best) reply tells is = subst (λ (r : Kind × List ℕ). 11 ≡ status_of_kind r.0) tells is
 
--- over the two texts that are told
-over_texts : (o : Outcome) (steps budget : ℕ) (text alarms : List ℕ) (texts : List (List ℕ)) → AreTold o.loads.held o.words 1 (text ∷ alarms ∷ []) → AreHeld o.loads.held o.words 1 texts
-    → Tells o (Says (PrintProof steps budget) o.words o.book texts) → Tells o (SaysProved (network_of text) (log_of alarms) steps budget o.book)
-over_texts o steps budget text alarms [] there held tells = absurd tells.says
-over_texts o steps budget text alarms (model ∷ []) there held tells = absurd tells.says
-over_texts o steps budget text alarms (model ∷ rows ∷ []) there held tells =
-    let of_model = subst (λ (m : List ℕ). Tells o (SaysProved (network_of m) (log_of rows) steps budget o.book)) (sym (same_text (o.loads.held (word_at o.words 1)) text model there.0 held.0)) tells in
-    subst (λ (a : List ℕ). Tells o (SaysProved (network_of text) (log_of a) steps budget o.book)) (sym (same_text (o.loads.held (word_at o.words 2)) alarms rows there.1.0 held.1.0)) of_model
-over_texts o steps budget text alarms (model ∷ rows ∷ other ∷ texts) there held tells = absurd tells.says
-
 -- ---- a summary
 
 -- without texts
-over_none : (o : Outcome) (units start steps budget : ℕ) (texts : List (List ℕ)) → Tells o (Says (Bench units start steps budget) o.words o.book texts) → Tells o (SaysBenched units start steps budget o.book)
+over_none : (o : Outcome) (units start steps budget : ℕ) (texts : List (List ℕ)) → Tells o (MayReply (Bench units start steps budget) o.words o.book texts) → Tells o (SaysBenched units start steps budget o.book)
 over_none o units start steps budget [] tells = tells
 over_none o units start steps budget (text ∷ texts) tells = absurd tells.says
 
 -- ---- whichever command asks
 
 module _ (o : Outcome) (ends : Ends o) where
-  proof_decided : (steps budget : ℕ) (text alarms : List ℕ) → Asks o (PrintProof steps budget) (text ∷ alarms ∷ []) → 3 ^ variable_bound (network_of text) (log_of alarms) steps ≤ budget → o.status ≡ 11 → ⊥
+  proof_decided : (steps budget : ℕ) (text alarms : List ℕ) → Asks o (One (Ask steps (PrintProof budget))) (text ∷ alarms ∷ []) → 3 ^ variable_bound (network_of text) (log_of alarms) steps ≤ budget → o.status ≡ 11 → ⊥
   proof_decided steps budget text alarms asks enough is =
-      let over = said_over o (PrintProof steps budget) (λ words book texts t h. h) ends asks.command (between o.status 11 is (omega arith) (omega arith)) in
-      let tells = over_texts o steps budget text alarms over.texts asks.told over.held over.tells in
+      let tells = answer_told o steps (PrintProof budget) text alarms ends asks (between o.status 11 is (omega arith) (omega arith)) in
       let said = tells.says in
       undecided_small (network_of text) (log_of alarms) steps budget o.book said.found (proof_open (network_of text) (log_of alarms) steps o.book said.found tells.reply said.tells (sym is ∙ tells.shown)) said.holds.diagnosed enough
 
-  bench_decided : (units start steps budget : ℕ) → Asks o (Bench units start steps budget) [] → 3 ^ variable_bound (plant_net units) (plant_log units start) steps ≤ budget → o.status ≡ 11 → ⊥
+  question_decided : (steps : ℕ) (question : Question) (text alarms : List ℕ) → Asks o (One (Ask steps question)) (text ∷ alarms ∷ []) → IsSomeAnd (budget_of question) (λ budget. 3 ^ variable_bound (network_of text) (log_of alarms) steps ≤ budget) → o.status ≡ 11 → ⊥
+  question_decided steps (Diagnose budget) text alarms asks enough is = decided o ends steps budget text alarms asks enough is
+  question_decided steps (PrintCnf bound) text alarms asks enough is = absurd enough
+  question_decided steps (PrintProof budget) text alarms asks enough is = proof_decided steps budget text alarms asks enough is
+
+  bench_decided : (units start steps budget : ℕ) → Asks o (One (Bench units start steps budget)) [] → 3 ^ variable_bound (plant_net units) (plant_log units start) steps ≤ budget → o.status ≡ 11 → ⊥
   bench_decided units start steps budget asks enough is =
-      let over = said_over o (Bench units start steps budget) (λ words book texts t h. h) ends asks.command (between o.status 11 is (omega arith) (omega arith)) in
+      let over = said_over o (Bench units start steps budget) ends asks.command (between o.status 11 is (omega arith) (omega arith)) in
       let tells = over_none o units start steps budget over.texts over.tells in
       let said = tells.says in
       let open_still : 11 ≡ status_of_kind (kind_of_found said.found) = subst (λ (r : Kind × List ℕ). 11 ≡ status_of_kind r.0) said.is (sym is ∙ tells.shown) in
       undecided_small (plant_net units) (plant_log units start) steps budget o.book said.found open_still said.holds.diagnosed enough
 
   pub decided_row : (c : Command) (texts : List (List ℕ)) → Asks o c texts → Suffices c texts → o.status ≡ 11 → ⊥
-  decided_row Trace texts asks enough is = absurd enough
-  decided_row Show texts asks enough is = absurd enough
-  decided_row (Replay steps) texts asks enough is = absurd enough
-  decided_row Check texts asks enough is = absurd enough
-  decided_row (Diagnose steps budget) [] asks enough is = absurd enough
-  decided_row (Diagnose steps budget) (text ∷ []) asks enough is = absurd enough
-  decided_row (Diagnose steps budget) (text ∷ alarms ∷ []) asks enough is = decided o ends steps budget text alarms asks enough is
-  decided_row (Diagnose steps budget) (text ∷ alarms ∷ more ∷ texts) asks enough is = absurd enough
-  decided_row (PrintCnf steps bound) texts asks enough is = absurd enough
-  decided_row (PrintProof steps budget) [] asks enough is = absurd enough
-  decided_row (PrintProof steps budget) (text ∷ []) asks enough is = absurd enough
-  decided_row (PrintProof steps budget) (text ∷ alarms ∷ []) asks enough is = proof_decided steps budget text alarms asks enough is
-  decided_row (PrintProof steps budget) (text ∷ alarms ∷ more ∷ texts) asks enough is = absurd enough
-  decided_row (GenerateModel units start) texts asks enough is = absurd enough
-  decided_row (GenerateLog units start) texts asks enough is = absurd enough
-  decided_row (Bench units start steps budget) [] asks enough is = bench_decided units start steps budget asks enough is
-  decided_row (Bench units start steps budget) (text ∷ texts) asks enough is = absurd enough
+  decided_row (One Trace) texts asks enough is = absurd enough
+  decided_row (One Show) texts asks enough is = absurd enough
+  decided_row (One (Replay steps)) texts asks enough is = absurd enough
+  decided_row (One Check) texts asks enough is = absurd enough
+  decided_row (One (Ask steps question)) [] asks enough is = absurd enough
+  decided_row (One (Ask steps question)) (text ∷ []) asks enough is = absurd enough
+  decided_row (One (Ask steps question)) (text ∷ alarms ∷ []) asks enough is = question_decided steps question text alarms asks enough is
+  decided_row (One (Ask steps question)) (text ∷ alarms ∷ more ∷ texts) asks enough is = absurd enough
+  decided_row (One (GenerateModel units start)) texts asks enough is = absurd enough
+  decided_row (One (GenerateLog units start)) texts asks enough is = absurd enough
+  decided_row (One (Bench units start steps budget)) [] asks enough is = bench_decided units start steps budget asks enough is
+  decided_row (One (Bench units start steps budget)) (text ∷ texts) asks enough is = absurd enough
+  decided_row (One (Twin steps after budget)) texts asks enough is = absurd enough
+  decided_row (One (Cheapest steps budget)) [] asks enough is = absurd enough
+  decided_row (One (Cheapest steps budget)) (text ∷ []) asks enough is = absurd enough
+  decided_row (One (Cheapest steps budget)) (text ∷ alarms ∷ []) asks enough is = absurd enough
+  decided_row (One (Cheapest steps budget)) (text ∷ alarms ∷ prices ∷ []) asks enough is = priced_by o ends steps budget text alarms prices asks enough is
+  decided_row (One (Cheapest steps budget)) (text ∷ alarms ∷ prices ∷ more ∷ texts) asks enough is = absurd enough
   decided_row (Session steps budget) texts asks enough is = absurd enough
   decided_row (Verdicts steps budget) texts asks enough is = absurd enough
-  decided_row (Twin steps after budget) texts asks enough is = absurd enough
-  decided_row (Cheapest steps budget) [] asks enough is = absurd enough
-  decided_row (Cheapest steps budget) (text ∷ []) asks enough is = absurd enough
-  decided_row (Cheapest steps budget) (text ∷ alarms ∷ []) asks enough is = absurd enough
-  decided_row (Cheapest steps budget) (text ∷ alarms ∷ prices ∷ []) asks enough is = priced_by o ends steps budget text alarms prices asks enough is
-  decided_row (Cheapest steps budget) (text ∷ alarms ∷ prices ∷ more ∷ texts) asks enough is = absurd enough

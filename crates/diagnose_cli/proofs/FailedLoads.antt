@@ -12,7 +12,7 @@ use Rattle.diagnose_cli.specs.Transcripts.{End, said, cut, broken, Ending, Trans
 use Rattle.diagnose_cli.specs.Endings.{HasStatus, status_of_end, status_of_kind, status_of_faulty, texts_of}
 use Rattle.diagnose_cli.specs.Texts.{FileKind, fault_of_text}
 use Rattle.diagnose_cli.specs.Commands.{files_of, file_count, command_of}
-use Rattle.diagnose_cli.specs.Due.{SaysInAll, lacks_fault, stop_by, too_large, Closes, InOrder, Answers, Due}
+use Rattle.diagnose_cli.specs.Due.{Says, lacks_fault, stop_by, too_large, Closes, InOrder, Answers, Due}
 use Rattle.diagnose_cli.specs.Outcomes.{Outcome}
 use Rattle.diagnose_cli.specs.Run.{Ends, RoseFor, LoadRow}
 
@@ -52,7 +52,7 @@ never_closes j false (Some size) says h = cc
 rose_at : (o : Outcome) (j : ℕ) (called : Option Command) → MatchOption called (failed j ≡ Err Usage) (λ c. Answers o.loads o.words c o.book (failed j)) → IsSomeAnd called (λ c. (1 ≤ j) × (j ≤ file_count c)) × RoseFor o j
 rose_at o j None m = absurd (no_usage j m)
 rose_at o j (Some c) m =
-    let rose = rose_in_order o (file_count c) 1 (files_of c) [] (Closes c o.words o.book) j (λ texts. never_closes j (lacks_fault c o.words texts) (too_large c texts) (SaysInAll c o.words o.book texts)) (omega arith) (omega arith) m in
+    let rose = rose_in_order o (file_count c) 1 (files_of c) [] (Closes c o.words o.book) j (λ texts. never_closes j (lacks_fault c o.words texts) (too_large c texts) (Says c o.words o.book texts)) (omega arith) (omega arith) m in
     ((rose.first, rose.within), rose.rose)
 
 no_load_kind : (k : Kind) → 3 ≡ status_of_kind k → ⊥

@@ -3,7 +3,7 @@ use Rattle.std.proofs.Common.{◌≡◌, ℕ, List, [], ◌∷◌, Option, Some,
 use Rattle.des_base.specs.CommandWords.{word_at}
 use Rattle.des_net.specs.Network.{Net}
 use Rattle.event_costs.specs.CostText.{cost_of}
-use Rattle.inquiries.specs.Begun.{HasAxiomsAlone, HasLearntWithin, LeavesQuestion}
+use Rattle.inquiries.specs.Begun.{HasLearntWithin, LeavesQuestion}
 use Rattle.inquiries.specs.LeastCost.{LeavesCosts}
 use Rattle.gen_plant.specs.Plant.{plant_net, plant_log}
 use Rattle.log_csv.specs.LogText.{log_of}
@@ -12,10 +12,13 @@ use Rattle.model_text.specs.ModelFaults.{network_of}
 use Rattle.proof_ledger.specs.Book.{BookEntry}
 use Rattle.verdict_telling.specs.Left.{LeavesVerdicts}
 use Rattle.diagnose_cli.specs.declared.command.Command.{Command}
-use Rattle.diagnose_cli.specs.declared.command.Command.TheVariants.{Diagnose, PrintCnf, PrintProof, Bench, Session, Twin, Cheapest, Verdicts}
-use Rattle.diagnose_cli.specs.Commands.{command_of}
+use Rattle.diagnose_cli.specs.declared.command.Command.TheVariants.{One, Session, Verdicts}
+use Rattle.diagnose_cli.specs.declared.command.Question.{Question}
+use Rattle.diagnose_cli.specs.declared.command.Single.{Single}
+use Rattle.diagnose_cli.specs.declared.command.Single.TheVariants.{Ask, Bench, Twin, Cheapest}
+use Rattle.diagnose_cli.specs.Commands.{budget_of, command_of}
 use Rattle.diagnose_cli.specs.Outcomes.{Outcome}
-use Rattle.diagnose_cli.specs.Rows.{AreTold, Leaves, LeftRow}
+use Rattle.diagnose_cli.specs.Rows.{AreTold, Leaves, LeftRow, MayLearn}
 use Rattle.diagnose_cli.specs.Texts.{IsCase}
 use Rattle.diagnose_cli.specs.TwinReplies.{LeavesOfWord}
 
@@ -37,38 +40,29 @@ module _ (held : List ℕ → Option (List ℕ)) (words : List (List ℕ)) (book
   abbrev pub LeftBy : Command → Type 0
   LeftBy c = (texts : List (List ℕ)) → AreTold held words 1 texts → Leaves c words texts book
 
-  -- a question over a model and a log leaves the axioms, and beside them what P says
-  abbrev LeavesCase : ℕ → (List BookEntry → Type 0) → Type 0
-  LeavesCase steps P = (text alarms : List ℕ) → AreTold held words 1 (text ∷ alarms ∷ []) → LeavesQuestion (network_of text) (log_of alarms) steps P book
+  -- a question over a model and a log leaves its axioms, and what it may have learnt
+  abbrev pub LeavesAsked : ℕ → Question → Type 0
+  LeavesAsked steps question = (text alarms : List ℕ) → AreTold held words 1 (text ∷ alarms ∷ []) → LeavesQuestion (network_of text) (log_of alarms) steps (MayLearn (budget_of question)) book
 
-  pub left_diagnose : (steps budget : ℕ) → LeavesCase steps (HasLearntWithin budget) → LeftBy (Diagnose steps budget)
-  left_diagnose steps budget left [] told = tt
-  left_diagnose steps budget left (text ∷ []) told = tt
-  left_diagnose steps budget left (text ∷ alarms ∷ []) told = left text alarms told
-  left_diagnose steps budget left (text ∷ alarms ∷ more ∷ texts) told = tt
+  pub left_asked : (steps : ℕ) (asked question : Question) → question ≡ asked → LeavesAsked steps asked → LeavesAsked steps question
+  left_asked steps asked question is left = subst (LeavesAsked steps) (sym is) left
 
-  pub left_cnf : (steps : ℕ) (bound : Option ℕ) → LeavesCase steps HasAxiomsAlone → LeftBy (PrintCnf steps bound)
-  left_cnf steps bound left [] told = tt
-  left_cnf steps bound left (text ∷ []) told = tt
-  left_cnf steps bound left (text ∷ alarms ∷ []) told = left text alarms told
-  left_cnf steps bound left (text ∷ alarms ∷ more ∷ texts) told = tt
+  pub left_question : (steps : ℕ) (question : Question) → LeavesAsked steps question → LeftBy (One (Ask steps question))
+  left_question steps question left [] told = tt
+  left_question steps question left (text ∷ []) told = tt
+  left_question steps question left (text ∷ alarms ∷ []) told = left text alarms told
+  left_question steps question left (text ∷ alarms ∷ more ∷ texts) told = tt
 
-  pub left_proof : (steps budget : ℕ) → LeavesCase steps (HasLearntWithin budget) → LeftBy (PrintProof steps budget)
-  left_proof steps budget left [] told = tt
-  left_proof steps budget left (text ∷ []) told = tt
-  left_proof steps budget left (text ∷ alarms ∷ []) told = left text alarms told
-  left_proof steps budget left (text ∷ alarms ∷ more ∷ texts) told = tt
-
-  pub left_bench : (units start steps budget : ℕ) → LeavesQuestion (plant_net units) (plant_log units start) steps (HasLearntWithin budget) book → LeftBy (Bench units start steps budget)
+  pub left_bench : (units start steps budget : ℕ) → LeavesQuestion (plant_net units) (plant_log units start) steps (HasLearntWithin budget) book → LeftBy (One (Bench units start steps budget))
   left_bench units start steps budget left [] told = left
   left_bench units start steps budget left (text ∷ texts) told = tt
 
-  pub left_twin : (steps after budget : ℕ) → ((text : List ℕ) → AreTold held words 1 (text ∷ []) → LeavesOfWord (network_of text) (word_at words 2) steps after budget book) → LeftBy (Twin steps after budget)
+  pub left_twin : (steps after budget : ℕ) → ((text : List ℕ) → AreTold held words 1 (text ∷ []) → LeavesOfWord (network_of text) (word_at words 2) steps after budget book) → LeftBy (One (Twin steps after budget))
   left_twin steps after budget left [] told = tt
   left_twin steps after budget left (text ∷ []) told = left text told
   left_twin steps after budget left (text ∷ more ∷ texts) told = tt
 
-  pub left_cheapest : (steps budget : ℕ) → ((text alarms prices : List ℕ) → AreTold held words 1 (text ∷ alarms ∷ prices ∷ []) → LeavesCosts (network_of text) (cost_of (network_of text) prices) (log_of alarms) steps budget book) → LeftBy (Cheapest steps budget)
+  pub left_cheapest : (steps budget : ℕ) → ((text alarms prices : List ℕ) → AreTold held words 1 (text ∷ alarms ∷ prices ∷ []) → LeavesCosts (network_of text) (cost_of (network_of text) prices) (log_of alarms) steps budget book) → LeftBy (One (Cheapest steps budget))
   left_cheapest steps budget left [] told = tt
   left_cheapest steps budget left (text ∷ []) told = tt
   left_cheapest steps budget left (text ∷ alarms ∷ []) told = tt
@@ -81,8 +75,8 @@ module _ (held : List ℕ → Option (List ℕ)) (words : List (List ℕ)) (book
   left_verdicts steps budget left (text ∷ alarms ∷ []) told = left text alarms told
   left_verdicts steps budget left (text ∷ alarms ∷ more ∷ texts) told = tt
 
-  pub left_so : (c command : Command) → command ≡ c → LeftBy c → LeftBy command
-  left_so c command is left = subst LeftBy (sym is) left
+  pub left_so : (c command : Single) → command ≡ c → LeftBy (One c) → LeftBy (One command)
+  left_so c command is left = subst (λ (d : Single). LeftBy (One d)) (sym is) left
 
 -- ---- whichever command is called
 

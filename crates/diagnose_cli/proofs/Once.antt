@@ -1,11 +1,13 @@
 -- The run of a command, which has one reply or several.
-use Rattle.std.proofs.Common.{◌≡◌, ◌≢◌, ◌⊎◌, ◌<◌, ◌∙◌, arith, inl, inr, ℕ, true, false, IfErr, IfOk, IfSome, List, [], ◌∷◌, Option, Some, None, Result, Ok, Err, refl, sym, ap, subst, append-nil}
+use Rattle.std.proofs.Common.{◌≡◌, ◌≢◌, ◌⊎◌, ◌<◌, ◌∙◌, arith, inl, inr, ℕ, IfErr, IfOk, List, [], ◌∷◌, Option, Some, Result, Ok, Err, refl, sym, ap, subst, append-nil}
 use Rattle.std.specs.List.{concat}
 use Rattle.std.proofs.lemmas.Bool.{cases_order}
 use Rattle.des_base.specs.Outside.{Took, TookFront}
 use Rattle.proof_ledger.specs.Book.{BookEntry}
 use Rattle.diagnose_cli.specs.declared.command.Command.{Command}
-use Rattle.diagnose_cli.specs.declared.command.Command.TheVariants.{Trace, Show, Replay, Check, Diagnose, PrintCnf, PrintProof, GenerateModel, GenerateLog, Bench, Twin, Cheapest}
+use Rattle.diagnose_cli.specs.declared.command.Command.TheVariants.{One, Session}
+use Rattle.diagnose_cli.specs.declared.command.Single.{Single}
+use Rattle.diagnose_cli.specs.declared.command.Single.TheVariants.{Trace, Show, Replay, Check, Ask, GenerateModel, GenerateLog, Bench, Twin, Cheapest}
 use Rattle.diagnose_cli.specs.declared.ending.Kind.{Kind}
 use Rattle.diagnose_cli.specs.declared.ending.Kind.TheVariants.{Done, Rejected, Absent, Undecided, Many, Nothing, Ambiguous}
 use Rattle.diagnose_cli.specs.declared.stop.Stop.{Stop}
@@ -13,14 +15,14 @@ use Rattle.diagnose_cli.specs.declared.stop.Stop.TheVariants.{Memory}
 use Rattle.diagnose_cli.specs.Transcripts.{Ending, OrMemory, UnlessMemory, cut_short, once}
 use Rattle.diagnose_cli.specs.Endings.{HasStatus, status_of_kind, status_of_stop, texts_of, text_of_stop}
 use Rattle.diagnose_cli.specs.Files.{Loads}
-use Rattle.diagnose_cli.specs.Commands.{command_of, files_of, is_session}
+use Rattle.diagnose_cli.specs.Commands.{command_of, files_of}
 use Rattle.diagnose_cli.specs.Due.{Due, HasNotBegun}
 use Rattle.diagnose_cli.specs.Puts.{Finishes, IsCutOff, Puts, Speaks}
 use Rattle.telling.proofs.Taking.{cut_first}
 use Rattle.diagnose_cli.specs.Outcomes.{Outcome, outcome}
 use Rattle.diagnose_cli.specs.Rows.{Row, RowAlone, CheckRows, DiagnoseRows}
 use Rattle.diagnose_cli.specs.Run.{Ends, Ran, Does, SaysStop}
-use Rattle.diagnose_cli.proofs.Answered.{HasOneReply, row}
+use Rattle.diagnose_cli.proofs.Answered.{row}
 use Rattle.diagnose_cli.proofs.Deciding.{decided_row}
 use Rattle.diagnose_cli.proofs.Exact.{stop_row}
 use Rattle.diagnose_cli.proofs.FailedLoads.{load_row, no_load_failed}
@@ -81,8 +83,8 @@ module _ (may : Ending → Type 0) (Q : Type 0) (q : Q) (r : Result (Kind × Lis
           same s e = cc
 
 -- which is no session
-pub no_session : (words : List (List ℕ)) (c : Command) (book : List BookEntry) → command_of words ≡ Some c → is_session c ≡ false → HasNotBegun words book
-no_session words c book called other = subst (λ (o : Option Command). IfSome o (λ d. is_session d ≡ true → book ≡ [])) (sym called) (λ is. cc)
+pub no_session : (words : List (List ℕ)) (c : Command) (book : List BookEntry) → command_of words ≡ Some c → ((steps budget : ℕ) → Some c ≡ Some (Session steps budget) → ⊥) → HasNotBegun words book
+no_session words c book called other steps budget is = absurd (other steps budget (sym called ∙ is))
 
 -- ---- what the run of a command does that says what is due
 
@@ -99,14 +101,14 @@ module _ (o : Outcome) (rose : Type 0) (speaks : Speaks (Due o.loads o.words o.b
   }
 
   -- by its files
-  row_of : (c : Command) (texts : List (List ℕ)) → HasOneReply c → Row o c texts
-  row_of c texts one reads whole = row o c texts one (speaks.ends whole.put.written) reads whole.loaded whole.put
+  row_of : (c : Single) (texts : List (List ℕ)) → Row o c texts
+  row_of c texts reads whole = row o c texts (speaks.ends whole.put.written) reads whole.loaded whole.put
 
   -- or without files
-  row_alone : (c : Command) → HasOneReply c → files_of c ≡ [] → RowAlone o c
-  row_alone c one none reads put =
+  row_alone : (c : Single) → files_of (One c) ≡ [] → RowAlone o c
+  row_alone c none reads put =
       let e = speaks.ends put.written in
-      row o c [] one e reads (no_load_failed o c e reads.command none) put
+      row o c [] e reads (no_load_failed o (One c) e reads.command none) put
 
   -- an answer hasn't this status
   answered : (k : ℕ) → o.status ≡ k → k ≢ 4 → Ends o
@@ -114,13 +116,12 @@ module _ (o : Outcome) (rose : Type 0) (speaks : Speaks (Due o.loads o.words o.b
 
   checked : CheckRows o
   checked = record {
-    checked = λ formula proof. row_of Check (formula ∷ proof ∷ []) (λ words book texts t h. h);
+    checked = λ formula proof. row_of Check (formula ∷ proof ∷ []);
     refuted = λ formula asks zero. refuted o (answered 0 zero (λ p. cc)) formula asks zero;
   }
 
   diagnosed : DiagnoseRows o
   diagnosed = record {
-    diagnosed = λ steps budget text alarms. row_of (Diagnose steps budget) (text ∷ alarms ∷ []) (λ words book texts t h. h);
     explained = λ steps budget text alarms asks is. explained o (answered 0 is (λ p. cc)) steps budget text alarms asks is;
     absent = λ steps budget text alarms asks is. absent o (answered 10 is (λ p. cc)) steps budget text alarms asks is;
     undecided = λ steps budget text alarms asks is. undecided o (answered 11 is (λ p. cc)) steps budget text alarms asks is;
@@ -130,7 +131,7 @@ module _ (o : Outcome) (rose : Type 0) (speaks : Speaks (Due o.loads o.words o.b
 
   twinned : TwinRows o
   twinned = record {
-    answered = λ n d budget text. row_of (Twin n d budget) (text ∷ []) (λ words book texts t h. h);
+    answered = λ n d budget text. row_of (Twin n d budget) (text ∷ []);
     ambiguous = λ n d budget text asks is. alike o (answered 17 is (λ p. cc)) n d budget text asks is;
     clear = λ n d budget text asks is. clear o (answered 0 is (λ p. cc)) n d budget text asks is;
     undecided = λ n d budget text asks is. untested o (answered 11 is (λ p. cc)) n d budget text asks is;
@@ -139,7 +140,7 @@ module _ (o : Outcome) (rose : Type 0) (speaks : Speaks (Due o.loads o.words o.b
 
   priced : CheapRows o
   priced = record {
-    answered = λ n budget text alarms prices. row_of (Cheapest n budget) (text ∷ alarms ∷ prices ∷ []) (λ words book texts t h. h);
+    answered = λ n budget text alarms prices. row_of (Cheapest n budget) (text ∷ alarms ∷ prices ∷ []);
     cheapest = λ n budget text alarms prices asks is. cheapest o (answered 0 is (λ p. cc)) n budget text alarms prices asks is;
     absent = λ n budget text alarms prices asks is. unexplained o (answered 10 is (λ p. cc)) n budget text alarms prices asks is;
     dear = λ n budget text alarms prices asks is. dear o (answered 12 is (λ p. cc)) n budget text alarms prices asks is;
@@ -157,17 +158,14 @@ module _ (o : Outcome) (rose : Type 0) (speaks : Speaks (Due o.loads o.words o.b
 
   does : Does o rose
   does = record {
+    asked = λ steps question text alarms. row_of (Ask steps question) (text ∷ alarms ∷ []);
     diagnosed = diagnosed;
-    replayed = λ steps text alarms events. row_of (Replay steps) (text ∷ alarms ∷ events ∷ []) (λ words book texts t h. h);
+    replayed = λ steps text alarms events. row_of (Replay steps) (text ∷ alarms ∷ events ∷ []);
     checked = checked;
-    traced = λ text steps. row_of Trace (text ∷ steps ∷ []) (λ words book texts t h. h);
-    shown = λ text. row_of Show (text ∷ []) (λ words book texts t h. h);
-    printed = record {
-      formula = λ steps bound text alarms. row_of (PrintCnf steps bound) (text ∷ alarms ∷ []) (λ words book texts t h. h);
-      proof = λ steps budget text alarms. row_of (PrintProof steps budget) (text ∷ alarms ∷ []) (λ words book texts t h. h);
-    };
-    generated = record { model = λ units start. row_alone (GenerateModel units start) (λ words book texts t h. h) refl; log = λ units start. row_alone (GenerateLog units start) (λ words book texts t h. h) refl };
-    benched = λ units start steps budget. row_alone (Bench units start steps budget) (λ words book texts t h. h) refl;
+    traced = λ text steps. row_of Trace (text ∷ steps ∷ []);
+    shown = λ text. row_of Show (text ∷ []);
+    generated = record { model = λ units start. row_alone (GenerateModel units start) refl; log = λ units start. row_alone (GenerateLog units start) refl };
+    benched = λ units start steps budget. row_alone (Bench units start steps budget) refl;
     carried_out = λ steps budget text lines reads whole. session_row o steps budget text lines (speaks.ends whole.put.written) reads whole;
     twinned = twinned;
     judged = judged;

@@ -1,16 +1,17 @@
 -- A command that has one reply, which is put whole or cut short.
-use Rattle.std.proofs.Common.{◌≡◌, inl, inr, ℕ, ◌+◌, List, [], ◌∷◌, ◌++◌, true, false, IfOk, Option, Some, None, Result, Ok, Err, IsOkAnd, MatchOption, refl, subst, sym}
+use Rattle.std.proofs.Common.{◌≡◌, inl, inr, ℕ, ◌+◌, List, [], ◌∷◌, ◌++◌, IfOk, Option, Some, None, Result, Ok, Err, MatchOption, refl, subst, sym}
 use Rattle.proof_ledger.specs.Book.{BookEntry}
 use Rattle.diagnose_cli.specs.declared.command.Command.{Command}
-use Rattle.diagnose_cli.specs.declared.command.Command.TheVariants.{Trace, Show, Replay, Check, Diagnose, PrintCnf, PrintProof, GenerateModel, GenerateLog, Bench, Session, Twin, Cheapest, Verdicts}
+use Rattle.diagnose_cli.specs.declared.command.Command.TheVariants.{One}
+use Rattle.diagnose_cli.specs.declared.command.Single.{Single}
 use Rattle.diagnose_cli.specs.declared.ending.Kind.{Kind}
 use Rattle.diagnose_cli.specs.declared.stop.Stop.{Stop}
 use Rattle.diagnose_cli.specs.declared.stop.Stop.TheVariants.{Faulty, Usage}
 use Rattle.diagnose_cli.specs.declared.stop.FaultyText.{FaultyText}
-use Rattle.diagnose_cli.specs.Commands.{command_of, files_of, has_several}
-use Rattle.diagnose_cli.specs.Due.{Answers, Closes, Due, InOrder, SaysInAll, halts}
+use Rattle.diagnose_cli.specs.Commands.{command_of, files_of}
+use Rattle.diagnose_cli.specs.Due.{Answers, Closes, Due, InOrder, Says, halts}
 use Rattle.diagnose_cli.specs.Files.{Loads}
-use Rattle.diagnose_cli.specs.Replies.{Says}
+use Rattle.diagnose_cli.specs.Replies.{MayReply}
 use Rattle.diagnose_cli.specs.Texts.{FileKind, fault_of_text}
 use Rattle.diagnose_cli.specs.Transcripts.{Ending, IsOne, Transcript, UnlessMemory, cut_short, once, whole}
 
@@ -21,21 +22,8 @@ is_cut : (P : (Kind × List ℕ) → Type 0) (reply : Kind × List ℕ) → IsOn
 is_cut P reply one = record { reply = one.reply; says = one.says; alone = one.alone; ends = tt }
 
 -- what it may say it may also say cut short
-cut_says : (c : Command) → has_several c ≡ false → (words : List (List ℕ)) (book : List BookEntry) (files : List (List ℕ)) (reply : Kind × List ℕ) → SaysInAll c words book files (whole reply) → SaysInAll c words book files (cut_short reply)
-cut_says Trace one words book files reply h = is_cut (Says Trace words book files) reply h
-cut_says Show one words book files reply h = is_cut (Says Show words book files) reply h
-cut_says (Replay steps) one words book files reply h = is_cut (Says (Replay steps) words book files) reply h
-cut_says Check one words book files reply h = is_cut (Says Check words book files) reply h
-cut_says (Diagnose steps budget) one words book files reply h = is_cut (Says (Diagnose steps budget) words book files) reply h
-cut_says (PrintCnf steps bound) one words book files reply h = is_cut (Says (PrintCnf steps bound) words book files) reply h
-cut_says (PrintProof steps budget) one words book files reply h = is_cut (Says (PrintProof steps budget) words book files) reply h
-cut_says (GenerateModel units start) one words book files reply h = is_cut (Says (GenerateModel units start) words book files) reply h
-cut_says (GenerateLog units start) one words book files reply h = is_cut (Says (GenerateLog units start) words book files) reply h
-cut_says (Bench units start steps budget) one words book files reply h = is_cut (Says (Bench units start steps budget) words book files) reply h
-cut_says (Twin steps after budget) one words book files reply h = is_cut (Says (Twin steps after budget) words book files) reply h
-cut_says (Cheapest steps budget) one words book files reply h = is_cut (Says (Cheapest steps budget) words book files) reply h
-cut_says (Session steps budget) one words book files reply h = cc
-cut_says (Verdicts steps budget) one words book files reply h = cc
+cut_says : (c : Single) (words : List (List ℕ)) (book : List BookEntry) (files : List (List ℕ)) (reply : Kind × List ℕ) → Says (One c) words book files (whole reply) → Says (One c) words book files (cut_short reply)
+cut_says c words book files reply h = is_cut (MayReply c words book files) reply h
 
 -- ---- over its files, where one transcript takes the place of another
 
@@ -63,16 +51,14 @@ in_place l words i (kind ∷ kinds) files closes t u f h =
     ]
 
 -- so a command with one reply, where it may answer that
-cuts : (l : Loads) (words : List (List ℕ)) (c : Command) (book : List BookEntry) → has_several c ≡ false → (r : Result (Kind × List ℕ) Stop) → UnlessMemory r (Answers l words c book (once r))
-    → IfOk r (λ reply. Answers l words c book (Ok (cut_short reply)))
-cuts l words c book one (Err stop) h = tt
-cuts l words c book one (Ok reply) h =
-    in_place l words 1 (files_of c) [] (Closes c words book) (whole reply) (cut_short reply)
-    (λ texts. past_stop (halts c words texts) (whole reply) (cut_short reply) (SaysInAll c words book texts (whole reply)) (SaysInAll c words book texts (cut_short reply)) (cut_says c one words book texts reply)) (h (λ never. cc))
+cuts : (l : Loads) (words : List (List ℕ)) (c : Single) (book : List BookEntry) → (r : Result (Kind × List ℕ) Stop) → UnlessMemory r (Answers l words (One c) book (once r)) → IfOk r (λ reply. Answers l words (One c) book (Ok (cut_short reply)))
+cuts l words c book (Err stop) h = tt
+cuts l words c book (Ok reply) h =
+    in_place l words 1 (files_of (One c)) [] (Closes (One c) words book) (whole reply) (cut_short reply)
+    (λ texts. past_stop (halts (One c) words texts) (whole reply) (cut_short reply) (Says (One c) words book texts (whole reply)) (Says (One c) words book texts (cut_short reply)) (cut_says c words book texts reply)) (h (λ never. cc))
 
-pub cuts_due : (l : Loads) (words : List (List ℕ)) (c : Command) (book : List BookEntry) → command_of words ≡ Some c → has_several c ≡ false → (r : Result (Kind × List ℕ) Stop) → UnlessMemory r (Answers l words c book (once r))
-    → IfOk r (λ reply. Due l words book (Ok (cut_short reply)))
-cuts_due l words c book called one (Err stop) h = tt
-cuts_due l words c book called one (Ok reply) h =
+pub cuts_due : (l : Loads) (words : List (List ℕ)) (c : Single) (book : List BookEntry) → command_of words ≡ Some (One c) → (r : Result (Kind × List ℕ) Stop) → UnlessMemory r (Answers l words (One c) book (once r)) → IfOk r (λ reply. Due l words book (Ok (cut_short reply)))
+cuts_due l words c book called (Err stop) h = tt
+cuts_due l words c book called (Ok reply) h =
     let e : Ending = Ok (cut_short reply) in
-    subst (λ (o : Option Command). MatchOption o (e ≡ Err Usage) (λ d. Answers l words d book e)) (sym called) (cuts l words c book one (Ok reply) h)
+    subst (λ (o : Option Command). MatchOption o (e ≡ Err Usage) (λ d. Answers l words d book e)) (sym called) (cuts l words c book (Ok reply) h)

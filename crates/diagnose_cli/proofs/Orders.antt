@@ -7,6 +7,8 @@ use Rattle.log_order.specs.Log.{Log as AlarmLog}
 use Rattle.model_text.specs.ModelFaults.{network_of}
 use Rattle.proof_ledger.specs.Book.{BookEntry}
 use Rattle.diagnose_cli.specs.declared.command.Command.{Command}
+use Rattle.diagnose_cli.specs.declared.command.Command.TheVariants.{One}
+use Rattle.diagnose_cli.specs.declared.command.Single.{Single}
 use Rattle.diagnose_cli.specs.declared.ending.Kind.{Kind}
 use Rattle.diagnose_cli.specs.declared.stop.Stop.{Stop}
 use Rattle.diagnose_cli.specs.declared.stop.Stop.TheVariants.{Usage, Faulty, Memory}
@@ -148,8 +150,8 @@ pub usage_due : (l : Loads) (words : List (List ℕ)) (book : List BookEntry) �
 usage_due l words book is = subst (λ (o : Option Command). MatchOption o (◌≡◌ {A = Ending} (Err Usage) (Err Usage)) (λ c. Answers l words c book (Err Usage))) (sym is) refl
 
 -- what one command answers an equal one does
-pub due_alike : (l : Loads) (words : List (List ℕ)) (c d : Command) (book : List BookEntry) (r : Result (Kind × List ℕ) Stop) → c ≡ d → UnlessMemory r (Answers l words c book (once r)) → UnlessMemory r (Answers l words d book (once r))
-due_alike l words c d book r same h = subst (λ (e : Command). UnlessMemory r (Answers l words e book (once r))) same h
+pub due_alike : (l : Loads) (words : List (List ℕ)) (c d : Single) (book : List BookEntry) (r : Result (Kind × List ℕ) Stop) → c ≡ d → UnlessMemory r (Answers l words (One c) book (once r)) → UnlessMemory r (Answers l words (One d) book (once r))
+due_alike l words c d book r same h = subst (λ (e : Single). UnlessMemory r (Answers l words (One e) book (once r))) same h
 
 -- what a command answers is due for the words that call it
 pub due_of : (l : Loads) (words : List (List ℕ)) (c : Command) (book : List BookEntry) (r : Result (Kind × List ℕ) Stop) → command_of words ≡ Some c → UnlessMemory r (Answers l words c book (once r)) → UnlessMemory r (Due l words book (once r))

@@ -1,5 +1,5 @@
 -- How a session ends, by how its rows went.
-use Rattle.std.proofs.Common.{◌≡◌, ◌≢◌, ◌≤◌, ◌<◌, ◌∙◌, ℕ, List, [], ◌∷◌, Option, Some, None, Result, Ok, Err, IfSome, IsErrAnd, IsErrOf, IsOkAnd, MatchOption, true, refl, sym, ap, subst, arith}
+use Rattle.std.proofs.Common.{◌≡◌, ◌≢◌, ◌≤◌, ◌<◌, ◌∙◌, ℕ, List, [], ◌∷◌, Option, Some, None, Result, Ok, Err, IsErrAnd, IsErrOf, IsOkAnd, MatchOption, refl, sym, ap, subst, arith}
 use Rattle.std.specs.Prelude.{option_map}
 use Rattle.des_net.specs.Network.{Net}
 use Rattle.least_faults.specs.declared.TheConstants.{MOST_SIZE}
@@ -17,11 +17,11 @@ use Rattle.diagnose_cli.specs.declared.ending.Kind.{Kind}
 use Rattle.diagnose_cli.specs.declared.stop.Stop.{Stop}
 use Rattle.diagnose_cli.specs.declared.stop.Stop.TheVariants.{Large, Usage, Memory as NoMemory}
 use Rattle.diagnose_cli.specs.Texts.{IsPlan, StopsAtFirstTwo, script}
-use Rattle.diagnose_cli.specs.Commands.{command_of, is_session}
+use Rattle.diagnose_cli.specs.Commands.{command_of}
 use Rattle.diagnose_cli.specs.SessionReplies.{IsSession}
 use Rattle.diagnose_cli.specs.Due.{Answers, Closes, Due, HasNotBegun, above_limit}
 use Rattle.diagnose_cli.specs.Files.{Loads}
-use Rattle.diagnose_cli.specs.Puts.{Finishes, IsCutOff, Speaks}
+use Rattle.diagnose_cli.specs.Puts.{Finishes, Speaks}
 use Rattle.diagnose_cli.specs.Run.{SaysStop}
 use Rattle.diagnose_cli.specs.Sessions.{MaySay, status_of_session}
 use Rattle.diagnose_cli.specs.Transcripts.{Ending, OrMemory, UnlessMemory, once}
@@ -113,11 +113,7 @@ pub due_for : (l : Loads) (words : List (List ℕ)) (c : Command) (book : List B
 due_for l words c book e called h = subst (λ (o : Option Command). MatchOption o (e ≡ Err Usage) (λ d. Answers l words d book e)) (sym called) h
 
 pub not_begun : (words : List (List ℕ)) (book : List BookEntry) → book ≡ [] → HasNotBegun words book
-not_begun words book none = by (command_of words)
-  where
-    by : (o : Option Command) → IfSome o (λ c. is_session c ≡ true → book ≡ [])
-    by None = tt
-    by (Some c) = λ is. none
+not_begun words book none steps budget is = none
 
 module _ (l : Loads) (words : List (List ℕ)) (steps budget : ℕ) (book : List BookEntry) (called : command_of words ≡ Some (Session steps budget)) where
   pub plan_speaks : (net : Net) (rows : List Row) (before now : Option (List ℕ)) (rose : Type 0) (status : ℕ) (plan : IsPlan l.held words net rows)

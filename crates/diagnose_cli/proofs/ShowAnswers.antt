@@ -1,11 +1,12 @@
 -- What the command `show` answers.
-use Rattle.std.proofs.Common.{◌≡◌, ℕ, List, [], Ok, refl, subst}
+use Rattle.std.proofs.Common.{◌≡◌, ℕ, List, [], Ok, subst}
 use Rattle.des_base.specs.CommandWords.{word_at}
 use Rattle.des_net.specs.Network.{Net}
 use Rattle.model_text.specs.ModelFaults.{network_of, first_fault}
 use Rattle.model_text.proofs.ReadBackLemmas.{read_and_printed}
 use Rattle.proof_ledger.specs.Book.{BookEntry}
-use Rattle.diagnose_cli.specs.declared.command.Command.TheVariants.{Show}
+use Rattle.diagnose_cli.specs.declared.command.Command.TheVariants.{One}
+use Rattle.diagnose_cli.specs.declared.command.Single.TheVariants.{Show}
 use Rattle.diagnose_cli.specs.declared.ending.Kind.{Kind}
 use Rattle.diagnose_cli.specs.Transcripts.{once, whole}
 use Rattle.diagnose_cli.specs.Files.{Loads, IsReadAs}
@@ -18,7 +19,7 @@ use Rattle.diagnose_cli.proofs.Reading.{none_before}
 
 -- it says the network of the model
 pub shown : (l : Loads) (words : List (List ℕ)) (book : List BookEntry) (net : Net) (reply : Kind × List ℕ) → IsReadAs l.held (word_at words 1) (limit_of model) fault_of_model (λ text. net ≡ network_of text)
-    → reply ≡ reply_of_model net → Answers l words Show book (once (Ok reply))
+    → reply ≡ reply_of_model net → Answers l words (One Show) book (once (Ok reply))
 shown l words book net reply (text, read, is) says =
-    goes_on l words 1 model [] [] (Closes Show words book) text (Ok (whole reply)) read
+    goes_on l words 1 model [] [] (Closes (One Show) words book) text (Ok (whole reply)) read
     (is_one _ reply (record { is = subst (λ (n : Net). reply ≡ reply_of_model n) is says; again = read_and_printed text (none_before _ (first_fault text) read.well) }))

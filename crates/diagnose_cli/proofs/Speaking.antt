@@ -1,5 +1,5 @@
 -- A command that says several texts, by the way that it ends.
-use Rattle.std.proofs.Common.{◌≡◌, ◌≢◌, ℕ, List, Option, Ok, refl, arith}
+use Rattle.std.proofs.Common.{◌≢◌, ℕ, List, Option, Ok, refl, arith}
 use Rattle.std.specs.List.{concat}
 use Rattle.des_base.specs.Outside.{Took}
 use Rattle.telling.specs.Telling.{TookCut}

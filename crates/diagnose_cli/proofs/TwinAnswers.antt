@@ -1,5 +1,5 @@
 -- What `twin` answers where its model is read.
-use Rattle.std.proofs.Common.{◌≡◌, ◌∙◌, ◌⊎◌, ◌≤◌, ◌<◌, ℕ, List, [], ◌∷◌, length, Option, Some, None, Ok, Err, IfSome, IsOkAnd, IsSomeAnd, MatchOption, refl, ap, sym, subst, arith, inl}
+use Rattle.std.proofs.Common.{◌≡◌, ◌∙◌, ◌≤◌, ◌<◌, ℕ, List, [], ◌∷◌, length, Option, Some, None, Ok, Err, IfSome, IsOkAnd, IsSomeAnd, MatchOption, refl, ap, sym, subst, arith, inl}
 use Rattle.std.specs.Prelude.{All, is_none, map}
 use Rattle.std.proofs.lemmas.List.{length-map}
 use Rattle.std.proofs.lemmas.List.Elements.{All-nil, All-cons}
@@ -8,13 +8,12 @@ use Rattle.des_base.specs.CommandWords.{word_at}
 use Rattle.des_base.specs.Names.{IsName}
 use Rattle.des_net.specs.Building.{IsDraft}
 use Rattle.des_net.specs.Network.{Net, IsNetwork}
-use Rattle.des_net.specs.Run.{IsRun}
 use Rattle.des_net.specs.Width.{joined}
 use Rattle.event_costs.specs.CostText.{fault_event_of}
 use Rattle.least_faults.proofs.KnownEvents.{run_known}
 use Rattle.least_faults.specs.declared.TheConstants.{MOST_SIZE}
 use Rattle.model_text.specs.ModelFaults.{network_of}
-use Rattle.proof_ledger.specs.Book.{BookEntry, axioms_of}
+use Rattle.proof_ledger.specs.Book.{BookEntry}
 use Rattle.replay.specs.Matching.{name_on}
 use Rattle.replay.specs.Traced.{word_of}
 use Rattle.replay.specs.declared.run.RunStep.{RunStep}
@@ -23,19 +22,19 @@ use Rattle.report.specs.ReadBack.{HasNames, IsRunText}
 use Rattle.report.specs.Replies.{TwinEventsKnown, text_of_run}
 use Rattle.twin_test.proofs.Decoding.{word_is}
 use Rattle.twin_test.specs.Tested.{IsTested, LeavesTwins, run_of, unnamed}
-use Rattle.twin_test.specs.TwinCodes.{twin_clauses}
 use Rattle.twin_test.specs.Twins.{AreAligned, twin_size}
 use Rattle.twin_test.specs.declared.answer.Twin.{Twin as TwinAnswer}
 use Rattle.twin_test.specs.declared.answer.Twin.TheVariants.{Ambiguous, Clear, Undecided}
-use Rattle.diagnose_cli.specs.declared.command.Command.TheVariants.{Twin}
+use Rattle.diagnose_cli.specs.declared.command.Command.TheVariants.{One}
+use Rattle.diagnose_cli.specs.declared.command.Single.TheVariants.{Twin}
 use Rattle.diagnose_cli.specs.declared.ending.Kind.{Kind}
 use Rattle.diagnose_cli.specs.declared.stop.FaultyText.{FaultyText}
 use Rattle.diagnose_cli.specs.declared.stop.Stop.TheVariants.{NoFault, Large}
 use Rattle.diagnose_cli.specs.Due.{Closes, above_limit, stop_by}
 use Rattle.diagnose_cli.specs.Files.{IsReadAs}
-use Rattle.diagnose_cli.specs.Replies.{Says}
+use Rattle.diagnose_cli.specs.Replies.{MayReply}
 use Rattle.diagnose_cli.specs.Rows.{AreTold}
-use Rattle.diagnose_cli.specs.Transcripts.{Ending, Transcript, IsOne, once, whole}
+use Rattle.diagnose_cli.specs.Transcripts.{Ending, Transcript, IsOne, once}
 use Rattle.diagnose_cli.specs.TwinReplies.{LeavesOfWord, SaysOfWord, SaysTwin, TwinRunsReadBack}
 use Rattle.diagnose_cli.proofs.Left.{told_bytes}
 use Rattle.diagnose_cli.proofs.Limits.{within_limit, past_limit}
@@ -75,7 +74,7 @@ twin_reads_back net fault n d budget book Undecided network drafted few tested =
 
 module _ (n d budget : ℕ) (words : List (List ℕ)) (book : List BookEntry) (text : List ℕ) (net : Net) (network : net ≡ network_of text) (word : List ℕ) (second : word ≡ word_at words 2) where
   abbrev says : Transcript → Type 0
-  says = IsOne (Says (Twin n d budget) words book (text ∷ []))
+  says = IsOne (MayReply (Twin n d budget) words book (text ∷ []))
 
   same_fault : fault_event_of (network_of text) (word_at words 2) ≡ fault_event_of net word
   same_fault = ap (λ (m : Net). fault_event_of m (word_at words 2)) (sym network) ∙ ap (fault_event_of net) (sym second)
@@ -84,19 +83,19 @@ module _ (n d budget : ℕ) (words : List (List ℕ)) (book : List BookEntry) (t
   same_size = ap (λ (m : Net). twin_size m n d) (sym network)
 
   -- by the fault event and by the size
-  closes : (o p : Option ℕ) (e : Ending) → fault_event_of net word ≡ o → above_limit (twin_size net n d) ≡ p → MatchOption (stop_by (is_none o) p) (IsOkAnd e says) (λ stop. e ≡ Err stop) → Closes (Twin n d budget) words book (text ∷ []) e
+  closes : (o p : Option ℕ) (e : Ending) → fault_event_of net word ≡ o → above_limit (twin_size net n d) ≡ p → MatchOption (stop_by (is_none o) p) (IsOkAnd e says) (λ stop. e ≡ Err stop) → Closes (One (Twin n d budget)) words book (text ∷ []) e
   closes o p e is_o is_p h =
       let by_size = subst (λ (q : Option ℕ). MatchOption (stop_by (is_none o) q) (IsOkAnd e says) (λ stop. e ≡ Err stop)) (sym (ap above_limit same_size ∙ is_p)) h in
       subst (λ (q : Option ℕ). MatchOption (stop_by (is_none q) (above_limit (twin_size (network_of text) n d))) (IsOkAnd e says) (λ stop. e ≡ Err stop)) (sym (same_fault ∙ is_o)) by_size
 
-  pub lacks : fault_event_of net word ≡ None → Closes (Twin n d budget) words book (text ∷ []) (Err NoFault)
+  pub lacks : fault_event_of net word ≡ None → Closes (One (Twin n d budget)) words book (text ∷ []) (Err NoFault)
   lacks is = closes None (above_limit (twin_size net n d)) (Err NoFault) is refl refl
 
   module _ (fault : ℕ) (named : fault_event_of net word ≡ Some fault) (size : ℕ) (sized : size ≡ twin_size net n d) where
-    pub large : MOST_SIZE < size → Closes (Twin n d budget) words book (text ∷ []) (Err (Large size))
+    pub large : MOST_SIZE < size → Closes (One (Twin n d budget)) words book (text ∷ []) (Err (Large size))
     large above = closes (Some fault) (Some size) (Err (Large size)) named (ap above_limit (sym sized) ∙ past_limit size above) refl
 
-    pub tested : (reply : Kind × List ℕ) → size ≤ MOST_SIZE → SaysTwin net fault n d budget book reply → Closes (Twin n d budget) words book (text ∷ []) (once (Ok reply))
+    pub tested : (reply : Kind × List ℕ) → size ≤ MOST_SIZE → SaysTwin net fault n d budget book reply → Closes (One (Twin n d budget)) words book (text ∷ []) (once (Ok reply))
     tested reply small tells =
         let of_word : SaysOfWord net word n d budget book reply = subst (λ (o : Option ℕ). IsSomeAnd o (λ f. SaysTwin net f n d budget book reply)) (sym named) tells in
         let of_text : SaysOfWord (network_of text) (word_at words 2) n d budget book reply =

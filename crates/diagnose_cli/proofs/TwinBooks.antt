@@ -1,6 +1,5 @@
 -- The book that a twin test leaves, as a whole.
-use Rattle.std.proofs.Common.{◌≡◌, ◌∙◌, ◌<◌, ◌^◌, ℕ, Bool, true, false, List, [], ◌∷◌, ◌++◌, map, length, refl, sym, ap, subst, arith, append-nil, append_assoc, Contains, ◌==◌}
-use Rattle.std.specs.Prelude.{All}
+use Rattle.std.proofs.Common.{◌≡◌, ◌∙◌, ◌<◌, ◌^◌, ℕ, Bool, true, false, List, [], ◌∷◌, ◌++◌, map, refl, sym, ap, subst, arith, append-nil, append_assoc, Contains, ◌==◌}
 use Rattle.std.specs.List.{AllByRecursion, list_any}
 use Rattle.std.proofs.lemmas.Bool.{eqb-true}
 use Rattle.std.proofs.lemmas.List.Elements.{All-head, All-tail, Contains-append_left, Contains-append_right, filter_map-append}
@@ -15,7 +14,7 @@ use Rattle.proof_ledger.specs.Fresh.{AreFresh, occurs}
 use Rattle.prop_core.specs.Clauses.{Clause, HasValues}
 use Rattle.prop_core.specs.Trail.{has_var}
 use Rattle.twin_test.proofs.Lists.{any_from}
-use Rattle.twin_test.proofs.Testing.{book_axioms, book_clauses, marked}
+use Rattle.twin_test.proofs.Testing.{book_axioms, marked}
 use Rattle.twin_test.specs.Tested.{IsClosedBook, IsTested}
 use Rattle.twin_test.specs.TwinCodes.{AskTwins, twin_clauses, twin_variables}
 use Rattle.twin_test.specs.declared.answer.Twin.{Twin}

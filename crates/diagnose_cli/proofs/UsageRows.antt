@@ -12,7 +12,7 @@ use Rattle.diagnose_cli.specs.Files.{Loads}
 use Rattle.diagnose_cli.specs.Endings.{HasStatus, status_of_end, status_of_kind, status_of_faulty}
 use Rattle.diagnose_cli.specs.Texts.{FileKind, fault_of_text}
 use Rattle.diagnose_cli.specs.Commands.{files_of, command_of}
-use Rattle.diagnose_cli.specs.Due.{SaysInAll, lacks_fault, stop_by, too_large, Closes, InOrder, Answers, Due}
+use Rattle.diagnose_cli.specs.Due.{Says, lacks_fault, stop_by, too_large, Closes, InOrder, Answers, Due}
 use Rattle.diagnose_cli.specs.Outcomes.{Outcome}
 use Rattle.diagnose_cli.specs.Run.{Ends}
 
@@ -39,7 +39,7 @@ never_closes false (Some size) says h = cc
 
 no_command : (l : Loads) (words : List (List ℕ)) (book : List BookEntry) (o : Option Command) → MatchOption o (usage ≡ Err Usage) (λ c. Answers l words c book usage) → o ≡ None
 no_command l words book None h = refl
-no_command l words book (Some c) h = absurd (not_in_order l words 1 (files_of c) [] (Closes c words book) (λ texts. never_closes (lacks_fault c words texts) (too_large c texts) (SaysInAll c words book texts)) h)
+no_command l words book (Some c) h = absurd (not_in_order l words 1 (files_of c) [] (Closes c words book) (λ texts. never_closes (lacks_fault c words texts) (too_large c texts) (Says c words book texts)) h)
 
 not_kind : (k : Kind) → 2 ≡ status_of_kind k → ⊥
 not_kind Done p = cc

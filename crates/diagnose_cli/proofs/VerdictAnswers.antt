@@ -1,5 +1,5 @@
 -- How `verdicts` ends, by how telling ends.
-use Rattle.std.proofs.Common.{◌≡◌, ◌≢◌, ◌≤◌, ◌<◌, ◌∙◌, inl, inr, ℕ, List, [], ◌∷◌, Option, Some, None, Result, Ok, Err, IfSome, IsErrOf, IsOkAnd, MatchOption, true, false, refl, sym, ap, subst, arith}
+use Rattle.std.proofs.Common.{◌≡◌, ◌≢◌, ◌≤◌, ◌<◌, ◌∙◌, inl, inr, ℕ, List, [], ◌∷◌, Option, Some, None, Result, Ok, Err, IsErrOf, MatchOption, true, false, refl, sym, ap, subst, arith}
 use Rattle.std.specs.Prelude.{⊤, option_map}
 use Rattle.des_net.specs.Network.{Net}
 use Rattle.least_faults.specs.declared.TheConstants.{MOST_SIZE}
@@ -15,13 +15,12 @@ use Rattle.telling.specs.declared.each.Broken.TheVariants.{Memory, Put}
 use Rattle.verdict_telling.specs.Whole.{TellsWhole}
 use Rattle.verdict_telling.specs.declared.whole.Told.{Told}
 use Rattle.verdict_telling.specs.declared.whole.Told.TheVariants.{Judged, NotExplained, TooMany, NotDecided}
-use Rattle.diagnose_cli.specs.declared.command.Command.{Command}
 use Rattle.diagnose_cli.specs.declared.command.Command.TheVariants.{Verdicts}
 use Rattle.diagnose_cli.specs.declared.ending.Kind.{Kind}
 use Rattle.diagnose_cli.specs.declared.stop.Stop.{Stop}
-use Rattle.diagnose_cli.specs.declared.stop.Stop.TheVariants.{Large, Usage, Memory as NoMemory}
-use Rattle.diagnose_cli.specs.Commands.{command_of, is_session}
-use Rattle.diagnose_cli.specs.Due.{Answers, Closes, Due, HasNotBegun, above_limit}
+use Rattle.diagnose_cli.specs.declared.stop.Stop.TheVariants.{Large, Memory as NoMemory}
+use Rattle.diagnose_cli.specs.Commands.{command_of}
+use Rattle.diagnose_cli.specs.Due.{Closes, Due, HasNotBegun, above_limit}
 use Rattle.diagnose_cli.specs.Files.{Loads}
 use Rattle.diagnose_cli.specs.Puts.{Speaks}
 use Rattle.diagnose_cli.specs.Run.{SaysStop}
@@ -104,7 +103,7 @@ module _ (l : Loads) (words : List (List ℕ)) (steps budget : ℕ) (book : List
       → Speaks (Closes (Verdicts steps budget) words book (case.text ∷ case.second ∷ [])) ⊤ before now rose status → Speaks (Due l words book) (HasNotBegun words book) before now rose status
   case_speaks net alarms before now rose status case speaks =
       speaks_weaker (Closes (Verdicts steps budget) words book (case.text ∷ case.second ∷ [])) (Due l words book)
-      (λ e h. due_for l words (Verdicts steps budget) book e called (with_two l words log [] (Closes (Verdicts steps budget) words book) net (λ rows. alarms ≡ log_of rows) e case h)) ⊤ (HasNotBegun words book) (λ any. no_session words (Verdicts steps budget) book called refl)
+      (λ e h. due_for l words (Verdicts steps budget) book e called (with_two l words log [] (Closes (Verdicts steps budget) words book) net (λ rows. alarms ≡ log_of rows) e case h)) ⊤ (HasNotBegun words book) (λ any. no_session words (Verdicts steps budget) book called (λ n b is. cc))
       before now rose status speaks
 
   pub case_stops : (stop : Stop) → (stop ≢ NoMemory → StopsAtFirstTwo log l words stop) → UnlessMemory {T = Kind × List ℕ} (Err stop) (Due l words book (once (Err stop)))

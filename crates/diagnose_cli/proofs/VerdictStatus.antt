@@ -1,5 +1,5 @@
 -- What the whole run of `verdicts` tells, and what its status does.
-use Rattle.std.proofs.Common.{◌≡◌, ◌≤◌, ◌∙◌, ◌⊎◌, inl, inr, ℕ, Bool, true, false, List, [], ◌∷◌, Ok, Err, refl, sym, ap, subst, arith}
+use Rattle.std.proofs.Common.{◌≡◌, ◌∙◌, inl, inr, ℕ, Bool, true, false, List, [], ◌∷◌, Ok, Err, refl, sym, ap, subst, arith}
 use Rattle.std.specs.List.{concat, list_any}
 use Rattle.des_base.specs.CommandWords.{word_at}
 use Rattle.des_base.specs.Outside.{Took}
@@ -19,7 +19,7 @@ use Rattle.verdict_telling.specs.Replied.{is_undecided}
 use Rattle.verdict_telling.specs.Whole.{told_of}
 use Rattle.verdict_telling.specs.declared.whole.Told.TheVariants.{Judged}
 use Rattle.diagnose_cli.specs.declared.command.Command.TheVariants.{Verdicts}
-use Rattle.diagnose_cli.specs.Due.{SaysInAll}
+use Rattle.diagnose_cli.specs.Due.{Says}
 use Rattle.diagnose_cli.specs.Endings.{HasStatus, status_of_end, status_of_kind, texts_of}
 use Rattle.diagnose_cli.specs.Outcomes.{Outcome, IsPut, IsUnbroken}
 use Rattle.diagnose_cli.specs.Rows.{AreTold, Asks, Reads}
@@ -56,7 +56,7 @@ is_put status (inl none) = record { written = λ four. omega (arith, none, four)
 is_put status (inr some) = record { written = λ four. omega (arith, four, some.0); memory = λ nine. omega (arith, nine, some.0) }
 
 -- over the two texts that are told
-over_texts : (o : Outcome) (steps budget : ℕ) (text alarms : List ℕ) (texts : List (List ℕ)) (t : Transcript) → AreTold o.loads.held o.words 1 (text ∷ alarms ∷ []) → AreHeld o.loads.held o.words 1 texts → SaysInAll (Verdicts steps budget) o.words o.book texts t
+over_texts : (o : Outcome) (steps budget : ℕ) (text alarms : List ℕ) (texts : List (List ℕ)) (t : Transcript) → AreTold o.loads.held o.words 1 (text ∷ alarms ∷ []) → AreHeld o.loads.held o.words 1 texts → Says (Verdicts steps budget) o.words o.book texts t
     → IsVerdicts (network_of text) (log_of alarms) steps budget o.book t
 over_texts o steps budget text alarms [] t there held says = absurd says
 over_texts o steps budget text alarms (model ∷ []) t there held says = absurd says

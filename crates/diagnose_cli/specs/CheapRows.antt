@@ -5,17 +5,16 @@ use Rattle.cost_least.specs.Costs.{IsCheapest, IsDear, NeedsCost}
 use Rattle.cost_least.specs.declared.answer.Cheap.TheVariants.{Found, Dear, Undecided}
 use Rattle.cost_least.specs.declared.answer.Priced.{Priced}
 use Rattle.des_base.specs.Outside.{Took}
-use Rattle.des_net.specs.Network.{Net}
 use Rattle.event_costs.specs.CostText.{cost_of}
 use Rattle.inquiries.specs.LeastCost.{HasCostQuestion}
 use Rattle.log_csv.specs.LogText.{log_of}
-use Rattle.log_order.specs.Log.{Log}
 use Rattle.model_text.specs.ModelFaults.{network_of}
 use Rattle.proof_ledger.specs.Fresh.{AreFresh}
 use Rattle.replay.specs.Explanation.{IsAbsent}
 use Rattle.replay.specs.declared.run.RunStep.{RunStep}
 use Rattle.report.specs.Replies.{text_of_cheap}
-use Rattle.diagnose_cli.specs.declared.command.Command.TheVariants.{Cheapest}
+use Rattle.diagnose_cli.specs.declared.command.Command.TheVariants.{One}
+use Rattle.diagnose_cli.specs.declared.command.Single.TheVariants.{Cheapest}
 use Rattle.diagnose_cli.specs.Outcomes.{Outcome}
 use Rattle.diagnose_cli.specs.Rows.{Asks, Row}
 
@@ -52,7 +51,7 @@ pub record TellsUnpriced (o : Outcome) (q : CostAsked) (budget : ℕ) : Type 0 w
 -- By the status, over whatever three texts the shelf tells.
 pub record CheapRows (o : Outcome) : Type 0 where
   pub answered : (n budget : ℕ) (text alarms prices : List ℕ) → Row o (Cheapest n budget) (text ∷ alarms ∷ prices ∷ [])
-  pub cheapest : (n budget : ℕ) (text alarms prices : List ℕ) → Asks o (Cheapest n budget) (text ∷ alarms ∷ prices ∷ []) → o.status ≡ 0 → TellsCheapest o (cost_asked text alarms prices n)
-  pub absent : (n budget : ℕ) (text alarms prices : List ℕ) → Asks o (Cheapest n budget) (text ∷ alarms ∷ prices ∷ []) → o.status ≡ 10 → IsAbsent (network_of text) (log_of alarms) n
-  pub dear : (n budget : ℕ) (text alarms prices : List ℕ) → Asks o (Cheapest n budget) (text ∷ alarms ∷ prices ∷ []) → o.status ≡ 12 → TellsDear o (cost_asked text alarms prices n)
-  pub undecided : (n budget : ℕ) (text alarms prices : List ℕ) → Asks o (Cheapest n budget) (text ∷ alarms ∷ prices ∷ []) → o.status ≡ 11 → TellsUnpriced o (cost_asked text alarms prices n) budget
+  pub cheapest : (n budget : ℕ) (text alarms prices : List ℕ) → Asks o (One (Cheapest n budget)) (text ∷ alarms ∷ prices ∷ []) → o.status ≡ 0 → TellsCheapest o (cost_asked text alarms prices n)
+  pub absent : (n budget : ℕ) (text alarms prices : List ℕ) → Asks o (One (Cheapest n budget)) (text ∷ alarms ∷ prices ∷ []) → o.status ≡ 10 → IsAbsent (network_of text) (log_of alarms) n
+  pub dear : (n budget : ℕ) (text alarms prices : List ℕ) → Asks o (One (Cheapest n budget)) (text ∷ alarms ∷ prices ∷ []) → o.status ≡ 12 → TellsDear o (cost_asked text alarms prices n)
+  pub undecided : (n budget : ℕ) (text alarms prices : List ℕ) → Asks o (One (Cheapest n budget)) (text ∷ alarms ∷ prices ∷ []) → o.status ≡ 11 → TellsUnpriced o (cost_asked text alarms prices n) budget

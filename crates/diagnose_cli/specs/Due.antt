@@ -1,5 +1,5 @@
 -- What may come for the words of a command line: a stop by the first cause in order, what the command says, or want of memory.
-use Rattle.std.specs.Prelude.{◌≡◌, ℕ, ◌+◌, List, [], ◌∷◌, ◌++◌, length, drop, Bool, true, false, nat_lt, is_none, option_map, Option, Some, None, if◌then◌else◌, Err, IfSome, IsOkAnd, MatchOption}
+use Rattle.std.specs.Prelude.{◌≡◌, ℕ, ◌+◌, List, [], ◌∷◌, ◌++◌, length, drop, Bool, false, nat_lt, is_none, option_map, Option, Some, None, if◌then◌else◌, Err, IsOkAnd, MatchOption}
 use Rattle.des_base.specs.CommandWords.{word_at}
 use Rattle.cost_least.specs.Costs.{cost_size}
 use Rattle.event_costs.specs.CostText.{fault_event_of}
@@ -12,25 +12,26 @@ use Rattle.log_csv.specs.ScriptText.{script_of}
 use Rattle.proof_ledger.specs.Book.{BookEntry}
 use Rattle.replay.specs.QuestionSize.{question_size}
 use Rattle.diagnose_cli.specs.declared.command.Command.{Command}
-use Rattle.diagnose_cli.specs.declared.command.Command.TheVariants.{Diagnose, PrintCnf, PrintProof, Bench, Session, Twin, Cheapest, Verdicts}
+use Rattle.diagnose_cli.specs.declared.command.Command.TheVariants.{One, Session, Verdicts}
+use Rattle.diagnose_cli.specs.declared.command.Single.TheVariants.{Ask, Bench, Twin, Cheapest}
 use Rattle.diagnose_cli.specs.declared.stop.Stop.{Stop}
 use Rattle.diagnose_cli.specs.declared.stop.Stop.TheVariants.{Usage, Faulty, NoFault, Large}
 use Rattle.diagnose_cli.specs.Transcripts.{Ending, IsOne, OrMemory, Transcript}
 use Rattle.diagnose_cli.specs.Files.{Loads, WithFile}
 use Rattle.diagnose_cli.specs.Texts.{FileKind, limit_of, fault_of_text}
-use Rattle.diagnose_cli.specs.Commands.{command_of, files_of, is_session}
-use Rattle.diagnose_cli.specs.Replies.{Says}
+use Rattle.diagnose_cli.specs.Commands.{command_of, files_of}
+use Rattle.diagnose_cli.specs.Replies.{MayReply}
 use Rattle.diagnose_cli.specs.SessionReplies.{IsSession}
 use Rattle.diagnose_cli.specs.VerdictReplies.{IsVerdicts}
 use Rattle.twin_test.specs.Twins.{twin_size}
 
--- What a command may say by its words and over the bytes of its files: one reply, those to the rows of a script, or those about a log and on each fault event. One reply is the one line of a command in `Says`.
-abbrev pub SaysInAll : Command → List (List ℕ) → List BookEntry → List (List ℕ) → Transcript → Type 0
-SaysInAll (Session steps budget) words book (text ∷ lines ∷ []) told = IsSession (network_of text) steps budget (script_of lines) book told
-SaysInAll (Session steps budget) words book _ told = ⊥
-SaysInAll (Verdicts steps budget) words book (text ∷ alarms ∷ []) told = IsVerdicts (network_of text) (log_of alarms) steps budget book told
-SaysInAll (Verdicts steps budget) words book _ told = ⊥
-SaysInAll c words book files told = IsOne (Says c words book files) told
+-- What a command may say by its words and over the bytes of its files: its one reply, those to the rows of a script, or those about a log and on each fault event.
+abbrev pub Says : Command → List (List ℕ) → List BookEntry → List (List ℕ) → Transcript → Type 0
+Says (One c) words book files told = IsOne (MayReply c words book files) told
+Says (Session steps budget) words book (text ∷ lines ∷ []) told = IsSession (network_of text) steps budget (script_of lines) book told
+Says (Session steps budget) words book _ told = ⊥
+Says (Verdicts steps budget) words book (text ∷ alarms ∷ []) told = IsVerdicts (network_of text) (log_of alarms) steps budget book told
+Says (Verdicts steps budget) words book _ told = ⊥
 
 -- the size, where it is above the limit
 abbrev pub above_limit : ℕ → Option ℕ
@@ -38,19 +39,17 @@ above_limit size = if nat_lt MOST_SIZE size then Some size else None
 
 -- the size of the question that a command asks over the bytes of its files, where it is above the limit: of a session that of the empty log
 abbrev pub too_large : Command → List (List ℕ) → Option ℕ
-too_large (Diagnose steps budget) (text ∷ alarms ∷ []) = above_limit (question_size (network_of text) (log_of alarms) steps)
-too_large (PrintCnf steps bound) (text ∷ alarms ∷ []) = above_limit (question_size (network_of text) (log_of alarms) steps)
-too_large (PrintProof steps budget) (text ∷ alarms ∷ []) = above_limit (question_size (network_of text) (log_of alarms) steps)
-too_large (Bench units start steps budget) [] = above_limit (question_size (plant_net units) (plant_log units start) steps)
-too_large (Verdicts steps budget) (text ∷ alarms ∷ []) = above_limit (question_size (network_of text) (log_of alarms) steps)
+too_large (One (Ask steps question)) (text ∷ alarms ∷ []) = above_limit (question_size (network_of text) (log_of alarms) steps)
+too_large (One (Bench units start steps budget)) [] = above_limit (question_size (plant_net units) (plant_log units start) steps)
+too_large (One (Cheapest steps budget)) (text ∷ alarms ∷ prices ∷ []) = above_limit (cost_size (network_of text) (log_of alarms) steps)
+too_large (One (Twin steps after budget)) (text ∷ []) = above_limit (twin_size (network_of text) steps after)
 too_large (Session steps budget) (text ∷ lines ∷ []) = above_limit (question_size (network_of text) no_log steps)
-too_large (Cheapest steps budget) (text ∷ alarms ∷ prices ∷ []) = above_limit (cost_size (network_of text) (log_of alarms) steps)
-too_large (Twin steps after budget) (text ∷ []) = above_limit (twin_size (network_of text) steps after)
+too_large (Verdicts steps budget) (text ∷ alarms ∷ []) = above_limit (question_size (network_of text) (log_of alarms) steps)
 too_large _ _ = None
 
 -- a twin question is about a fault event, and its word names none
 abbrev pub lacks_fault : Command → List (List ℕ) → List (List ℕ) → Bool
-lacks_fault (Twin steps after budget) words (text ∷ []) = is_none (fault_event_of (network_of text) (word_at words 2))
+lacks_fault (One (Twin steps after budget)) words (text ∷ []) = is_none (fault_event_of (network_of text) (word_at words 2))
 lacks_fault _ words _ = false
 
 -- the stop by these two causes, of which the first goes before the second
@@ -63,7 +62,7 @@ halts c words files = stop_by (lacks_fault c words files) (too_large c files)
 
 -- after its files a command stops so, or says what it may
 abbrev pub Closes : Command → List (List ℕ) → List BookEntry → List (List ℕ) → Ending → Type 0
-Closes c words book files e = MatchOption (halts c words files) (IsOkAnd e (SaysInAll c words book files)) (λ stop. e ≡ Err stop)
+Closes c words book files e = MatchOption (halts c words files) (IsOkAnd e (Says c words book files)) (λ stop. e ≡ Err stop)
 
 -- The files from number i on, in order: for each its load, its length and its text. Then the end.
 abbrev pub InOrder : Loads → List (List ℕ) → ℕ → List FileKind → List (List ℕ) → (List (List ℕ) → Ending → Type 0) → Ending → Type 0
@@ -86,7 +85,7 @@ Due l words book e = MatchOption (command_of words) (e ≡ Err Usage) (λ c. Ans
 
 -- where the words call a session the book is empty, as it is before a session begins
 abbrev pub HasNotBegun : List (List ℕ) → List BookEntry → Type 0
-HasNotBegun words book = IfSome (command_of words) (λ c. is_session c ≡ true → book ≡ [])
+HasNotBegun words book = (steps budget : ℕ) → command_of words ≡ Some (Session steps budget) → book ≡ []
 
 -- What may come for these words with this book left: what is due, or want of memory before any text is put, of which a session leaves an empty book. That a session ran out of memory at one of its rows is due too, with the book that it came to.
 abbrev pub MayCome : Loads → List (List ℕ) → List BookEntry → Ending → Type 0

@@ -12,7 +12,6 @@ pub mod SessionReplies
 pub mod VerdictReplies
 pub mod Due
 pub mod Deciding
-pub mod Asking
 pub mod Outcomes
 pub mod Exact
 pub mod Puts

@@ -31,8 +31,10 @@ use Rattle.replay.specs.Traced.{IsTraced}
 use Rattle.replay.specs.declared.tracing.Traced.{Traced}
 use Rattle.replay.specs.declared.tracing.Traced.TheVariants.{Ran, Stuck}
 use Rattle.report.specs.Replies.{text_of_traced, text_of_replayed, text_of_checked, text_of_found, told_run, numbered}
-use Rattle.diagnose_cli.specs.declared.command.Command.{Command}
-use Rattle.diagnose_cli.specs.declared.command.Command.TheVariants.{Trace, Show, Replay, Check, Diagnose, PrintCnf, PrintProof, GenerateModel, GenerateLog, Bench, Twin, Cheapest}
+use Rattle.diagnose_cli.specs.declared.command.Question.{Question}
+use Rattle.diagnose_cli.specs.declared.command.Question.TheVariants.{Diagnose, PrintCnf, PrintProof}
+use Rattle.diagnose_cli.specs.declared.command.Single.{Single}
+use Rattle.diagnose_cli.specs.declared.command.Single.TheVariants.{Trace, Show, Replay, Check, Ask, GenerateModel, GenerateLog, Bench, Twin, Cheapest}
 use Rattle.diagnose_cli.specs.declared.ending.Kind.{Kind}
 use Rattle.diagnose_cli.specs.declared.ending.Kind.TheVariants.{Done, Rejected, Absent, Undecided, Many, Nothing}
 use Rattle.inquiries.specs.Diagnosed.{IsDiagnosed}
@@ -133,10 +135,6 @@ pub record SaysFound (net : Net) (alarms : AlarmLog) (n budget : ℕ) (book : Li
   pub holds : AnswersQuestion net alarms n budget book found
   pub is : reply ≡ reply_of_found net n found
 
--- of the log of the log text within so many parallel steps
-abbrev pub SaysDiagnosed : ℕ → ℕ → List ℕ → List ℕ → List BookEntry → (Kind × List ℕ) → Type 0
-SaysDiagnosed steps budget text alarms book reply = SaysFound (network_of text) (log_of alarms) steps budget book reply
-
 -- the text of a formula
 abbrev pub reply_of_formula : Formula → Kind × List ℕ
 reply_of_formula f = (Done, formula_text f)
@@ -177,6 +175,12 @@ pub record SaysProved (net : Net) (alarms : AlarmLog) (n budget : ℕ) (book : L
   pub holds : AnswersQuestion net alarms n budget book found
   pub tells : TellsProof net alarms n book found reply
 
+-- the replies to a question about a network and a log within n steps, where this book is left
+abbrev pub AnswersTo : Question → Net → AlarmLog → ℕ → List BookEntry → (Kind × List ℕ) → Type 0
+AnswersTo (Diagnose budget) net alarms n book = SaysFound net alarms n budget book
+AnswersTo (PrintCnf bound) net alarms n book = SaysFormula net alarms n bound book
+AnswersTo (PrintProof budget) net alarms n book = SaysProved net alarms n budget book
+
 -- the text of a log
 abbrev pub reply_of_log : AlarmLog → Kind × List ℕ
 reply_of_log alarms = (Done, log_text alarms)
@@ -202,18 +206,16 @@ pub record SaysSummary (units : ℕ) (net : Net) (alarms : AlarmLog) (n budget :
 abbrev pub SaysBenched : ℕ → ℕ → ℕ → ℕ → List BookEntry → (Kind × List ℕ) → Type 0
 SaysBenched units start steps budget book reply = SaysSummary units (plant_net units) (plant_log units start) steps budget book reply
 
--- the replies that a command may give by its words and over the bytes of its files, where it leaves this book
-abbrev pub Says : Command → List (List ℕ) → List BookEntry → List (List ℕ) → (Kind × List ℕ) → Type 0
-Says Trace words book (text ∷ steps ∷ []) reply = SaysTraced text steps reply
-Says Show words book (text ∷ []) reply = SaysModel (network_of text) reply
-Says (Replay steps) words book (text ∷ alarms ∷ events ∷ []) reply = SaysReplayed steps text alarms events reply
-Says Check words book (formula ∷ proof ∷ []) reply = SaysChecked formula proof reply
-Says (Diagnose steps budget) words book (text ∷ alarms ∷ []) reply = SaysDiagnosed steps budget text alarms book reply
-Says (PrintCnf steps bound) words book (text ∷ alarms ∷ []) reply = SaysFormula (network_of text) (log_of alarms) steps bound book reply
-Says (PrintProof steps budget) words book (text ∷ alarms ∷ []) reply = SaysProved (network_of text) (log_of alarms) steps budget book reply
-Says (GenerateModel units start) words book [] reply = SaysModel (plant_net units) reply
-Says (GenerateLog units start) words book [] reply = reply ≡ reply_of_log (plant_log units start)
-Says (Bench units start steps budget) words book [] reply = SaysBenched units start steps budget book reply
-Says (Twin steps after budget) words book (text ∷ []) reply = SaysOfWord (network_of text) (word_at words 2) steps after budget book reply
-Says (Cheapest steps budget) words book (text ∷ alarms ∷ prices ∷ []) reply = SaysCheap (network_of text) (cost_of (network_of text) prices) (log_of alarms) steps budget book reply
-Says _ _ _ _ reply = ⊥
+-- the reply that a command may give by its words and over the bytes of its files, where it leaves this book
+abbrev pub MayReply : Single → List (List ℕ) → List BookEntry → List (List ℕ) → (Kind × List ℕ) → Type 0
+MayReply Trace words book (text ∷ steps ∷ []) reply = SaysTraced text steps reply
+MayReply Show words book (text ∷ []) reply = SaysModel (network_of text) reply
+MayReply (Replay steps) words book (text ∷ alarms ∷ events ∷ []) reply = SaysReplayed steps text alarms events reply
+MayReply Check words book (formula ∷ proof ∷ []) reply = SaysChecked formula proof reply
+MayReply (Ask steps question) words book (text ∷ alarms ∷ []) reply = AnswersTo question (network_of text) (log_of alarms) steps book reply
+MayReply (GenerateModel units start) words book [] reply = SaysModel (plant_net units) reply
+MayReply (GenerateLog units start) words book [] reply = reply ≡ reply_of_log (plant_log units start)
+MayReply (Bench units start steps budget) words book [] reply = SaysBenched units start steps budget book reply
+MayReply (Twin steps after budget) words book (text ∷ []) reply = SaysOfWord (network_of text) (word_at words 2) steps after budget book reply
+MayReply (Cheapest steps budget) words book (text ∷ alarms ∷ prices ∷ []) reply = SaysCheap (network_of text) (cost_of (network_of text) prices) (log_of alarms) steps budget book reply
+MayReply _ _ _ _ reply = ⊥

@@ -27,10 +27,14 @@ use Rattle.replay.specs.QuestionSize.{variable_bound}
 use Rattle.report.specs.Replies.{text_of_found}
 use Rattle.verdict_telling.specs.Left.{LeavesVerdicts}
 use Rattle.diagnose_cli.specs.declared.command.Command.{Command}
-use Rattle.diagnose_cli.specs.declared.command.Command.TheVariants.{Trace, Show, Replay, Check, Diagnose, PrintCnf, PrintProof, GenerateModel, GenerateLog, Bench, Session, Twin, Cheapest, Verdicts}
+use Rattle.diagnose_cli.specs.declared.command.Command.TheVariants.{One, Session, Verdicts}
+use Rattle.diagnose_cli.specs.declared.command.Question.{Question}
+use Rattle.diagnose_cli.specs.declared.command.Question.TheVariants.{Diagnose}
+use Rattle.diagnose_cli.specs.declared.command.Single.{Single}
+use Rattle.diagnose_cli.specs.declared.command.Single.TheVariants.{Trace, Show, Replay, Check, Ask, GenerateModel, GenerateLog, Bench, Twin, Cheapest}
 use Rattle.diagnose_cli.specs.Texts.{FileKind, limit_of, fault_of_text}
-use Rattle.diagnose_cli.specs.Commands.{files_of, command_of}
-use Rattle.diagnose_cli.specs.Replies.{Says}
+use Rattle.diagnose_cli.specs.Commands.{budget_of, command_of, files_of}
+use Rattle.diagnose_cli.specs.Replies.{MayReply}
 use Rattle.diagnose_cli.specs.SessionReplies.{HasReplies}
 use Rattle.diagnose_cli.specs.TwinReplies.{LeavesOfWord}
 use Rattle.diagnose_cli.specs.Due.{halts}
@@ -67,15 +71,15 @@ pub record Asks (o : Outcome) (c : Command) (texts : List (List ℕ)) : Type 0 w
   pub command : command_of o.words ≡ Some c
   pub told : AreTold o.loads.held o.words 1 texts
 
--- ---- one row for all commands
+-- ---- one row for all commands with one reply
 
 -- where its files can be read, status and text are those of a reply that the command may give
-abbrev pub Row : Outcome → Command → List (List ℕ) → Type 0
-Row o c texts = Reads o c texts → IsUnbroken o.status → Tells o (Says c o.words o.book texts)
+abbrev pub Row : Outcome → Single → List (List ℕ) → Type 0
+Row o c texts = Reads o (One c) texts → IsUnbroken o.status → Tells o (MayReply c o.words o.book texts)
 
 -- so it is with a command that has no files, of which none can fail
-abbrev pub RowAlone : Outcome → Command → Type 0
-RowAlone o c = Reads o c [] → IsPut o.status → Tells o (Says c o.words o.book [])
+abbrev pub RowAlone : Outcome → Single → Type 0
+RowAlone o c = Reads o (One c) [] → IsPut o.status → Tells o (MayReply c o.words o.book [])
 
 -- so `trace` answers, over a model text and a run text
 abbrev pub TraceRow : Outcome → Type 0
@@ -92,12 +96,11 @@ ReplayRow o = (steps : ℕ) (text alarms events : List ℕ) → Row o (Replay st
 -- so `check` answers, over a formula text and a proof text; and where the status is 0, no assignment makes all clauses of the formula true
 pub record CheckRows (o : Outcome) : Type 0 where
   pub checked : (formula proof : List ℕ) → Row o Check (formula ∷ proof ∷ [])
-  pub refuted : (formula : List ℕ) → Asks o Check (formula ∷ []) → o.status ≡ 0 → IsUnsatisfiable (formula_of formula).clauses
+  pub refuted : (formula : List ℕ) → Asks o (One Check) (formula ∷ []) → o.status ≡ 0 → IsUnsatisfiable (formula_of formula).clauses
 
--- so `cnf` answers, with a question as a formula, and `proof`, with the refutation of one, over a model text and a log text
-pub record PrintedRows (o : Outcome) : Type 0 where
-  pub formula : (steps : ℕ) (bound : Option ℕ) (text alarms : List ℕ) → Row o (PrintCnf steps bound) (text ∷ alarms ∷ [])
-  pub proof : (steps budget : ℕ) (text alarms : List ℕ) → Row o (PrintProof steps budget) (text ∷ alarms ∷ [])
+-- so each question about a model text and a log text is answered: `diagnose`, `cnf` with the question as a formula, and `proof` with the refutation of one
+abbrev pub AskedRow : Outcome → Type 0
+AskedRow o = (steps : ℕ) (question : Question) (text alarms : List ℕ) → Row o (Ask steps question) (text ∷ alarms ∷ [])
 
 -- so `generate` answers, with a model or with a log; it has no files
 pub record GenerateRows (o : Outcome) : Type 0 where
@@ -153,25 +156,27 @@ pub record TellsUndecided (o : Outcome) (net : Net) (alarms : Log) (n budget : �
   pub known : IfSome best (λ run. IsExplanation net alarms n run × (lo < run.faults))
   pub put : Took o.before o.now (text_of_found net n (Undecided lo best))
 
--- By the status, over whatever two texts the shelf tells. A budget of 3 to the number of variables that network, log and steps allow decides.
+-- By the status of `diagnose`, over whatever two texts the shelf tells. A budget of 3 to the number of variables that network, log and steps allow decides.
 pub record DiagnoseRows (o : Outcome) : Type 0 where
-  pub diagnosed : (steps budget : ℕ) (text alarms : List ℕ) → Row o (Diagnose steps budget) (text ∷ alarms ∷ [])
-  pub explained : (steps budget : ℕ) (text alarms : List ℕ) → Asks o (Diagnose steps budget) (text ∷ alarms ∷ []) → o.status ≡ 0 → TellsLeast o (network_of text) (log_of alarms) steps
-  pub absent : (steps budget : ℕ) (text alarms : List ℕ) → Asks o (Diagnose steps budget) (text ∷ alarms ∷ []) → o.status ≡ 10 → IsAbsent (network_of text) (log_of alarms) steps
-  pub undecided : (steps budget : ℕ) (text alarms : List ℕ) → Asks o (Diagnose steps budget) (text ∷ alarms ∷ []) → o.status ≡ 11 → TellsUndecided o (network_of text) (log_of alarms) steps budget
-  pub many : (steps budget : ℕ) (text alarms : List ℕ) → Asks o (Diagnose steps budget) (text ∷ alarms ∷ []) → o.status ≡ 12 → TellsMany o (network_of text) (log_of alarms) steps
-  pub decided : (steps budget : ℕ) (text alarms : List ℕ) → Asks o (Diagnose steps budget) (text ∷ alarms ∷ []) → 3 ^ variable_bound (network_of text) (log_of alarms) steps ≤ budget → o.status ≢ 11
+  pub explained : (steps budget : ℕ) (text alarms : List ℕ) → Asks o (One (Ask steps (Diagnose budget))) (text ∷ alarms ∷ []) → o.status ≡ 0 → TellsLeast o (network_of text) (log_of alarms) steps
+  pub absent : (steps budget : ℕ) (text alarms : List ℕ) → Asks o (One (Ask steps (Diagnose budget))) (text ∷ alarms ∷ []) → o.status ≡ 10 → IsAbsent (network_of text) (log_of alarms) steps
+  pub undecided : (steps budget : ℕ) (text alarms : List ℕ) → Asks o (One (Ask steps (Diagnose budget))) (text ∷ alarms ∷ []) → o.status ≡ 11 → TellsUndecided o (network_of text) (log_of alarms) steps budget
+  pub many : (steps budget : ℕ) (text alarms : List ℕ) → Asks o (One (Ask steps (Diagnose budget))) (text ∷ alarms ∷ []) → o.status ≡ 12 → TellsMany o (network_of text) (log_of alarms) steps
+  pub decided : (steps budget : ℕ) (text alarms : List ℕ) → Asks o (One (Ask steps (Diagnose budget))) (text ∷ alarms ∷ []) → 3 ^ variable_bound (network_of text) (log_of alarms) steps ≤ budget → o.status ≢ 11
 
 -- ---- what is left in the book
 
+-- no more was learnt than the budget says, and without one nothing
+abbrev pub MayLearn : Option ℕ → List BookEntry → Type 0
+MayLearn None = HasAxiomsAlone
+MayLearn (Some budget) = HasLearntWithin budget
+
 -- Of a command that asks one question: nothing, or a book whose axioms are those of the question by its words and over the bytes of its files. No more was learnt than its budget says, and by `cnf` nothing. Of `twin` and `cheapest`: nothing, or the book of an answer. Of `verdicts`: nothing, or a book that begins with the question of the log.
 abbrev pub Leaves : Command → List (List ℕ) → List (List ℕ) → List BookEntry → Type 0
-Leaves (Diagnose steps budget) words (text ∷ alarms ∷ []) book = LeavesQuestion (network_of text) (log_of alarms) steps (HasLearntWithin budget) book
-Leaves (PrintCnf steps bound) words (text ∷ alarms ∷ []) book = LeavesQuestion (network_of text) (log_of alarms) steps HasAxiomsAlone book
-Leaves (PrintProof steps budget) words (text ∷ alarms ∷ []) book = LeavesQuestion (network_of text) (log_of alarms) steps (HasLearntWithin budget) book
-Leaves (Bench units start steps budget) words [] book = LeavesQuestion (plant_net units) (plant_log units start) steps (HasLearntWithin budget) book
-Leaves (Twin steps after budget) words (text ∷ []) book = LeavesOfWord (network_of text) (word_at words 2) steps after budget book
-Leaves (Cheapest steps budget) words (text ∷ alarms ∷ prices ∷ []) book = LeavesCosts (network_of text) (cost_of (network_of text) prices) (log_of alarms) steps budget book
+Leaves (One (Ask steps question)) words (text ∷ alarms ∷ []) book = LeavesQuestion (network_of text) (log_of alarms) steps (MayLearn (budget_of question)) book
+Leaves (One (Bench units start steps budget)) words [] book = LeavesQuestion (plant_net units) (plant_log units start) steps (HasLearntWithin budget) book
+Leaves (One (Twin steps after budget)) words (text ∷ []) book = LeavesOfWord (network_of text) (word_at words 2) steps after budget book
+Leaves (One (Cheapest steps budget)) words (text ∷ alarms ∷ prices ∷ []) book = LeavesCosts (network_of text) (cost_of (network_of text) prices) (log_of alarms) steps budget book
 Leaves (Verdicts steps budget) words (text ∷ alarms ∷ []) book = LeavesVerdicts (network_of text) (log_of alarms) steps budget book
 Leaves _ _ _ book = ⊤
 

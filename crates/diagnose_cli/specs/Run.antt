@@ -4,14 +4,15 @@ use Rattle.des_base.specs.Outside.{Rose, Took}
 use Rattle.des_base.specs.CommandWords.{word_at}
 use Rattle.report.specs.Replies.{numbered}
 use Rattle.diagnose_cli.specs.declared.command.Command.{Command}
-use Rattle.diagnose_cli.specs.declared.command.Command.TheVariants.{Diagnose, PrintCnf, PrintProof, Bench, Session, Twin, Cheapest, Verdicts}
+use Rattle.diagnose_cli.specs.declared.command.Command.TheVariants.{One, Session, Verdicts}
+use Rattle.diagnose_cli.specs.declared.command.Single.TheVariants.{Ask, Bench, Twin, Cheapest}
 use Rattle.diagnose_cli.specs.Commands.{command_of, file_count, files_of}
 use Rattle.diagnose_cli.specs.Due.{Due, MayCome}
 use Rattle.diagnose_cli.specs.Outcomes.{Outcome, IsUnbroken}
 use Rattle.diagnose_cli.specs.Deciding.{DecidedRow}
 use Rattle.diagnose_cli.specs.Exact.{StopRow}
 use Rattle.diagnose_cli.specs.Puts.{Finishes, IsCutOff}
-use Rattle.diagnose_cli.specs.Rows.{TraceRow, ShowRow, ReplayRow, CheckRows, PrintedRows, GenerateRows, BenchRow, DiagnoseRows, SessionRow}
+use Rattle.diagnose_cli.specs.Rows.{TraceRow, ShowRow, ReplayRow, CheckRows, AskedRow, GenerateRows, BenchRow, DiagnoseRows, SessionRow}
 use Rattle.diagnose_cli.specs.TwinRows.{TwinRows}
 use Rattle.diagnose_cli.specs.VerdictRows.{VerdictRows}
 use Rattle.diagnose_cli.specs.CheapRows.{CheapRows}
@@ -55,14 +56,12 @@ pub record Ran (o : Outcome) (rose : Type 0) : Type 0 where
 
 -- the command asks a question
 abbrev pub is_question : Command → Bool
-is_question (Diagnose steps budget) = true
-is_question (PrintCnf steps bound) = true
-is_question (PrintProof steps budget) = true
-is_question (Bench units start steps budget) = true
+is_question (One (Ask steps question)) = true
+is_question (One (Bench units start steps budget)) = true
+is_question (One (Twin steps after budget)) = true
+is_question (One (Cheapest steps budget)) = true
 is_question (Session steps budget) = true
-is_question (Twin steps after budget) = true
 is_question (Verdicts steps budget) = true
-is_question (Cheapest steps budget) = true
 is_question _ = false
 
 -- the words call no command that asks a question
@@ -89,12 +88,12 @@ pub record LeavesAlone {F B : Type 0} (words : List (List ℕ)) (status : ℕ) (
 
 -- what every command answers, and how the run ends; rose says that the sink's count of faults rose
 pub record Does (o : Outcome) (rose : Type 0) : Type 0 where
+  pub asked : AskedRow o
   pub diagnosed : DiagnoseRows o
   pub replayed : ReplayRow o
   pub checked : CheckRows o
   pub traced : TraceRow o
   pub shown : ShowRow o
-  pub printed : PrintedRows o
   pub generated : GenerateRows o
   pub benched : BenchRow o
   pub carried_out : SessionRow o

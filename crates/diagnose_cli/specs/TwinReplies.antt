@@ -2,7 +2,7 @@
 use Rattle.std.specs.Prelude.{◌≡◌, ⊤, ℕ, List, [], IsSomeAnd, MatchOption}
 use Rattle.des_net.specs.Network.{Net}
 use Rattle.event_costs.specs.CostText.{fault_event_of}
-use Rattle.proof_ledger.specs.Book.{BookEntry, IsValidBook}
+use Rattle.proof_ledger.specs.Book.{BookEntry}
 use Rattle.report.specs.Replies.{text_of_twin, text_of_run}
 use Rattle.report.specs.ReadBack.{IsRunText}
 use Rattle.twin_test.specs.Tested.{IsTested, LeavesTwins}
@@ -27,11 +27,10 @@ TwinRunsReadBack net (AlikeRuns faulty healthy) = IsRunText net faulty (text_of_
 TwinRunsReadBack net Clear = ⊤
 TwinRunsReadBack net NotTested = ⊤
 
--- The reply tells what the twin test came to, and the book that is left, which is valid, shows it.
+-- The reply tells what the twin test came to, and the book that is left shows it.
 pub record SaysTwin (net : Net) (fault n d budget : ℕ) (book : List BookEntry) (reply : Kind × List ℕ) : Type 0 where
   pub answer : TwinAnswer
   pub tested : IsTested net fault n d budget book answer
-  pub valid : IsValidBook book
   pub again : TwinRunsReadBack net answer
   pub is : reply ≡ reply_of_twin net n answer
 

@@ -1,24 +1,23 @@
-// One question for a command: its files, the size of the question, what is asked of it, and the reply.
+// A question about a model and a log: its files, its size, what is asked of it, and the reply.
 ghost use Rattle.std.specs.Prelude.{◌≡◌, ◌≢◌, ◌<◌, ◌≤◌, ℕ, List, [], ◌∷◌, length, IfErr, IfOk};
 ghost use Rattle.des_base.specs.declared.TheConstants.{MOST_STEPS};
-ghost use Rattle.des_net.specs.Network.{Net};
-ghost use Rattle.diagnose_cli.specs.Asking.{IsOfCase};
+ghost use Rattle.diagnose_cli.specs.Commands.{budget_of};
 ghost use Rattle.diagnose_cli.specs.Due.{Answers, Closes};
 ghost use Rattle.diagnose_cli.specs.Files.{loads};
-ghost use Rattle.diagnose_cli.specs.Rows.{AreTold};
+ghost use Rattle.diagnose_cli.specs.Replies.{AnswersTo};
+ghost use Rattle.diagnose_cli.specs.Rows.{AreTold, MayLearn};
 ghost use Rattle.diagnose_cli.specs.Transcripts.{UnlessMemory, once};
 ghost use Rattle.inquiries.specs.Begun.{LeavesQuestion};
 ghost use Rattle.least_faults.specs.Parts.{IsWithinLimits};
 ghost use Rattle.log_csv.specs.LogText.{log_of};
-ghost use Rattle.log_order.specs.Log.{Log};
 ghost use Rattle.model_text.specs.ModelFaults.{network_of};
-ghost use Rattle.proof_ledger.specs.Book.{BookEntry};
 
+use crate::command::{Command, Question, Single};
 use crate::ending::Reply;
 use crate::files::fetch_case;
 use crate::stop::Stop;
 use des_base::{Memory, Shelf, WordList};
-use inquiries::{Case, Inquiry, pose};
+use inquiries::{Case, FormulaWithin, Inquiry, LeastFaults, Refutation, pose};
 use least_faults::MOST_SIZE;
 use proof_ledger::Ledger;
 use sizing::question_size;
@@ -31,14 +30,11 @@ pub struct Limits {
     pub budget: u64,
 }
 
-/// An inquiry that a command makes of a model and a log, and to which it has one reply.
+/// An inquiry that answers a question about a model and a log.
 pub trait Replying: Inquiry {
-    ghost use Rattle.diagnose_cli.specs.declared.command.Command.{Command};
-    ghost use Rattle.diagnose_cli.specs.declared.ending.Kind.{Kind};
+    ghost use Rattle.diagnose_cli.specs.declared.command.Question.{Question};
 
-    ghost command: { Self → ℕ → Command };
-
-    ghost replies: { Self → ℕ → Net → Log → List BookEntry → (Kind × List ℕ) → Type 0 };
+    ghost question: { Self → Question };
 
     /// The reply that tells the answer.
     fn reply(
@@ -51,13 +47,40 @@ pub trait Replying: Inquiry {
     ) -> Result<Reply, Memory>
         requires steps { steps ≤ MOST_STEPS }
         requires says { Self.says self.now case.now.net case.now.log steps book.now.entries answer }
-        ensures { IfOk result (replies self.now steps case.now.net case.now.log book.now.entries) };
-
-    ghost is_of_case: { (s : Self) (steps : ℕ) → IsOfCase (command s steps) steps (replies s steps) };
+        ensures { IfOk result (AnswersTo (question self.now) case.now.net case.now.log steps book.now.entries) };
 }
 
-/// What a command says that asks a question over the model and the log which are its files.
-pub fn ask_case<F: Shelf, Q: Replying>(
+/// The reply to a question about a model and a log, which are the files of the command.
+pub fn ask_question<F: Shelf>(
+    alloc: Global,
+    words: &WordList,
+    shelf: &mut F,
+    steps: u32,
+    question: Question,
+    book: &mut Ledger,
+) -> Result<Reply, Stop>
+    requires words { 2 < length words.now }
+    requires steps { steps ≤ MOST_STEPS }
+    requires empty { book.old.entries ≡ [] }
+    ensures due { UnlessMemory result (Answers (loads F.held F.faults shelf.old shelf.new) words.now (Command.One (Single.Ask steps question)) book.new.entries (once result)) }
+    ensures stopped { IfErr result (λ stop. stop ≢ Stop.Memory → book.new ≡ book.old) }
+    ensures left { (text alarms : List ℕ) → AreTold (F.held shelf.old) words.now 1 (text ∷ alarms ∷ []) → LeavesQuestion (network_of text) (log_of alarms) steps (MayLearn (budget_of question)) book.new.entries }
+{
+    match question {
+        Question::Diagnose { budget } => {
+            ask_case(alloc, words, shelf, steps, &LeastFaults { budget }, book)
+        }
+        Question::PrintCnf { bound } => {
+            ask_case(alloc, words, shelf, steps, &FormulaWithin { bound }, book)
+        }
+        Question::PrintProof { budget } => {
+            ask_case(alloc, words, shelf, steps, &Refutation { budget }, book)
+        }
+    }
+}
+
+// The same by the inquiry that answers it.
+fn ask_case<F: Shelf, Q: Replying>(
     alloc: Global,
     words: &WordList,
     shelf: &mut F,
@@ -68,7 +91,7 @@ pub fn ask_case<F: Shelf, Q: Replying>(
     requires words { 2 < length words.now }
     requires steps { steps ≤ MOST_STEPS }
     requires empty { book.old.entries ≡ [] }
-    ensures due { UnlessMemory result (Answers (loads F.held F.faults shelf.old shelf.new) words.now (Q.command inquiry.now steps) book.new.entries (once result)) }
+    ensures due { UnlessMemory result (Answers (loads F.held F.faults shelf.old shelf.new) words.now (Command.One (Single.Ask steps (Q.question inquiry.now))) book.new.entries (once result)) }
     ensures stopped { IfErr result (λ stop. stop ≢ Stop.Memory → book.new ≡ book.old) }
     ensures left { (text alarms : List ℕ) → AreTold (F.held shelf.old) words.now 1 (text ∷ alarms ∷ []) → LeavesQuestion (network_of text) (log_of alarms) steps (Q.leaves inquiry.now) book.new.entries }
 {
@@ -86,7 +109,7 @@ fn ask<Q: Replying>(
 ) -> Result<Reply, Stop>
     requires steps { steps ≤ MOST_STEPS }
     requires empty { book.old.entries ≡ [] }
-    ensures due { (words : List (List ℕ)) (text alarms : List ℕ) → case.now.net ≡ network_of text → case.now.log ≡ log_of alarms → UnlessMemory result (Closes (Q.command inquiry.now steps) words book.new.entries (text ∷ alarms ∷ []) (once result)) }
+    ensures due { (words : List (List ℕ)) (text alarms : List ℕ) → case.now.net ≡ network_of text → case.now.log ≡ log_of alarms → UnlessMemory result (Closes (Command.One (Single.Ask steps (Q.question inquiry.now))) words book.new.entries (text ∷ alarms ∷ []) (once result)) }
     ensures stopped { IfErr result (λ stop. stop ≢ Stop.Memory → book.new ≡ book.old) }
     ensures left { LeavesQuestion case.now.net case.now.log steps (Q.leaves inquiry.now) book.new.entries }
 {
@@ -107,7 +130,7 @@ pub fn reply_to<Q: Replying>(
 ) -> Result<Reply, Memory>
     requires limits { IsWithinLimits case.now.net case.now.log steps }
     requires empty { book.old.entries ≡ [] }
-    ensures replies { IfOk result (Q.replies inquiry.now steps case.now.net case.now.log book.new.entries) }
+    ensures replies { IfOk result (AnswersTo (Q.question inquiry.now) case.now.net case.now.log steps book.new.entries) }
     ensures left { LeavesQuestion case.now.net case.now.log steps (Q.leaves inquiry.now) book.new.entries }
 {
     let answer = pose(alloc, case, steps, inquiry, book)?;

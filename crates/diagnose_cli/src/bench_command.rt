@@ -11,7 +11,7 @@ ghost use Rattle.diagnose_cli.specs.Due.{Answers, Closes};
 ghost use Rattle.inquiries.specs.Begun.{HasLearntWithin, LeavesQuestion};
 
 use crate::asking::{Limits, reply_to};
-use crate::command::Command;
+use crate::command::{Command, Single};
 use crate::ending::Reply;
 use crate::stop::Stop;
 use des_base::Memory;
@@ -33,7 +33,7 @@ pub fn bench_command(
     requires units { units ≤ most_units }
     requires steps { limits.steps ≤ MOST_STEPS }
     requires empty { book.old.entries ≡ [] }
-    ensures due { (l : Loads) (words : List (List ℕ)) → UnlessMemory result (Answers l words (Command.Bench units start limits.steps limits.budget) book.new.entries (once result)) }
+    ensures due { (l : Loads) (words : List (List ℕ)) → UnlessMemory result (Answers l words (Command.One (Single.Bench units start limits.steps limits.budget)) book.new.entries (once result)) }
     ensures stopped { IfErr result (λ stop. stop ≢ Stop.Memory → book.new ≡ book.old) }
     ensures left { LeavesQuestion (plant_net units) (plant_log units start) limits.steps (HasLearntWithin limits.budget) book.new.entries }
 {
@@ -55,7 +55,7 @@ fn bench(
 ) -> Result<Reply, Stop>
     requires steps { limits.steps ≤ MOST_STEPS }
     requires empty { book.old.entries ≡ [] }
-    ensures due { (words : List (List ℕ)) (start : ℕ) → case.now.net ≡ plant_net units → case.now.log ≡ plant_log units start → UnlessMemory result (Closes (Command.Bench units start limits.steps limits.budget) words book.new.entries [] (once result)) }
+    ensures due { (words : List (List ℕ)) (start : ℕ) → case.now.net ≡ plant_net units → case.now.log ≡ plant_log units start → UnlessMemory result (Closes (Command.One (Single.Bench units start limits.steps limits.budget)) words book.new.entries [] (once result)) }
     ensures stopped { IfErr result (λ stop. stop ≢ Stop.Memory → book.new ≡ book.old) }
     ensures left { LeavesQuestion case.now.net case.now.log limits.steps (HasLearntWithin limits.budget) book.new.entries }
 {

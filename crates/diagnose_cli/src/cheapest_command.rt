@@ -14,7 +14,7 @@ ghost use Rattle.model_text.specs.ModelFaults.{network_of};
 ghost use Rattle.report.specs.Replies.{CheapEventsKnown};
 
 use crate::asking::Limits;
-use crate::command::Command;
+use crate::command::{Command, Single};
 use crate::ending::{Kind, Reply};
 use crate::files::{fetch_case, fetch_costs};
 use crate::stop::Stop;
@@ -39,7 +39,7 @@ pub fn cheapest_command<F: Shelf>(
     requires words { 3 < length words.now }
     requires steps { limits.steps ≤ MOST_STEPS }
     requires empty { book.old.entries ≡ [] }
-    ensures due { UnlessMemory result (Answers (loads F.held F.faults shelf.old shelf.new) words.now (Command.Cheapest limits.steps limits.budget) book.new.entries (once result)) }
+    ensures due { UnlessMemory result (Answers (loads F.held F.faults shelf.old shelf.new) words.now (Command.One (Single.Cheapest limits.steps limits.budget)) book.new.entries (once result)) }
     ensures stopped { IfErr result (λ stop. stop ≢ Stop.Memory → book.new ≡ book.old) }
     ensures left { (text alarms prices : List ℕ) → AreTold (F.held shelf.old) words.now 1 (text ∷ alarms ∷ prices ∷ []) → LeavesCosts (network_of text) (cost_of (network_of text) prices) (log_of alarms) limits.steps limits.budget book.new.entries }
 {
@@ -59,7 +59,7 @@ fn price_case<F: Shelf>(
     requires words { 3 < length words.now }
     requires steps { limits.steps ≤ MOST_STEPS }
     requires empty { book.old.entries ≡ [] }
-    ensures due { (text alarms : List ℕ) → case.now.net ≡ network_of text → case.now.log ≡ log_of alarms → UnlessMemory result (AnswersAfter (loads F.held F.faults shelf.old shelf.new) words.now (Command.Cheapest limits.steps limits.budget) book.new.entries (text ∷ alarms ∷ []) (once result)) }
+    ensures due { (text alarms : List ℕ) → case.now.net ≡ network_of text → case.now.log ≡ log_of alarms → UnlessMemory result (AnswersAfter (loads F.held F.faults shelf.old shelf.new) words.now (Command.One (Single.Cheapest limits.steps limits.budget)) book.new.entries (text ∷ alarms ∷ []) (once result)) }
     ensures stopped { IfErr result (λ stop. stop ≢ Stop.Memory → book.new ≡ book.old) }
     ensures left { (prices : List ℕ) → AreTold (F.held shelf.old) words.now 3 (prices ∷ []) → LeavesCosts case.now.net (cost_of case.now.net prices) case.now.log limits.steps limits.budget book.new.entries }
 {
@@ -78,7 +78,7 @@ fn ask_costs(
     requires long { length table.now ≡ length case.now.net.events }
     requires steps { limits.steps ≤ MOST_STEPS }
     requires empty { book.old.entries ≡ [] }
-    ensures due { (words : List (List ℕ)) (text alarms prices : List ℕ) → case.now.net ≡ network_of text → case.now.log ≡ log_of alarms → IsTableOf case.now.net prices table.now → UnlessMemory result (Closes (Command.Cheapest limits.steps limits.budget) words book.new.entries (text ∷ alarms ∷ prices ∷ []) (once result)) }
+    ensures due { (words : List (List ℕ)) (text alarms prices : List ℕ) → case.now.net ≡ network_of text → case.now.log ≡ log_of alarms → IsTableOf case.now.net prices table.now → UnlessMemory result (Closes (Command.One (Single.Cheapest limits.steps limits.budget)) words book.new.entries (text ∷ alarms ∷ prices ∷ []) (once result)) }
     ensures stopped { IfErr result (λ stop. stop ≢ Stop.Memory → book.new ≡ book.old) }
     ensures left { LeavesCosts case.now.net (cost_at table.now) case.now.log limits.steps limits.budget book.new.entries }
 {

@@ -8,7 +8,7 @@ ghost use Rattle.diagnose_cli.specs.Transcripts.{UnlessMemory, once};
 ghost use Rattle.diagnose_cli.specs.Replies.{kind_of_checked, reply_of_checked};
 ghost use Rattle.diagnose_cli.specs.Due.{Answers, AnswersAfter};
 
-use crate::command::Command;
+use crate::command::{Command, Single};
 use crate::ending::{Kind, Reply};
 use crate::files::{fetch_cnf, fetch_lrat};
 use crate::stop::Stop;
@@ -25,7 +25,7 @@ pub fn check_command<F: Shelf>(
     shelf: &mut F,
 ) -> Result<Reply, Stop>
     requires { 2 < length words.now }
-    ensures { (book : List BookEntry) → UnlessMemory result (Answers (loads F.held F.faults shelf.old shelf.new) words.now Command.Check book (once result)) }
+    ensures { (book : List BookEntry) → UnlessMemory result (Answers (loads F.held F.faults shelf.old shelf.new) words.now (Command.One Single.Check) book (once result)) }
 {
     let cnf = fetch_cnf(alloc, words, shelf, 1)?;
     check_over(alloc, words, shelf, &cnf)
@@ -40,7 +40,7 @@ fn check_over<F: Shelf>(
 ) -> Result<Reply, Stop>
     requires words { 2 < length words.now }
     requires few { cnf.now.vars ≤ 100000000 }
-    ensures { (book : List BookEntry) → (text : List ℕ) → formula cnf.now.vars cnf.now.clauses.clauses ≡ formula_of text → UnlessMemory result (AnswersAfter (loads F.held F.faults shelf.old shelf.new) words.now Command.Check book (text ∷ []) (once result)) }
+    ensures { (book : List BookEntry) → (text : List ℕ) → formula cnf.now.vars cnf.now.clauses.clauses ≡ formula_of text → UnlessMemory result (AnswersAfter (loads F.held F.faults shelf.old shelf.new) words.now (Command.One Single.Check) book (text ∷ []) (once result)) }
 {
     let proof = fetch_lrat(alloc, words, shelf, 2, cnf)?;
     Ok(check_proof(alloc, cnf, &proof)?)

@@ -1,6 +1,6 @@
 // The command `cnf`: a question as a formula.
-ghost use Rattle.std.specs.Prelude.{◌≡◌, All, IfOk, refl};
-ghost use Rattle.diagnose_cli.specs.Replies.{SaysFormula, reply_of_formula};
+ghost use Rattle.std.specs.Prelude.{◌≡◌, All, IfOk};
+ghost use Rattle.diagnose_cli.specs.Replies.{reply_of_formula};
 ghost use Rattle.proof_text.specs.CnfText.{formula};
 ghost use Rattle.prop_core.specs.Clauses.{HasValues};
 
@@ -13,13 +13,9 @@ use proof_text::{Cnf, print_cnf};
 use std::alloc::Global;
 
 impl Replying for FormulaWithin {
-    ghost use Rattle.diagnose_cli.specs.declared.command.Command.TheVariants.{PrintCnf};
+    ghost use Rattle.diagnose_cli.specs.declared.command.Question.TheVariants.{PrintCnf};
 
-    ghost command = { λ s steps. PrintCnf steps s.bound };
-
-    ghost replies = { λ s n net log book reply. SaysFormula net log n s.bound book reply };
-
-    ghost is_of_case = { λ s n. record { files = refl; size = λ words text alarms. refl; says = λ words book text alarms reply says. record { reply = reply; says = says; alone = refl; ends = refl } } };
+    ghost question = { λ s. PrintCnf s.bound };
 
     fn reply(
         &self,

@@ -1,13 +1,28 @@
 // The commands, and which one the words of a command line call.
 ghost use Rattle.std.specs.Prelude.{◌≡◌, ◌≤◌, length, IfSome, ◌<◌};
 ghost use Rattle.gen_plant.specs.Plant.{most_units};
-ghost use Rattle.diagnose_cli.specs.Commands.{calls, command_of, bound_of, cnf_of, proof_words_of, units_of, generate_of, bench_of, session_of, twin_of, verdicts_of, cheapest_of, read_words, HasFewSteps, HasFewUnits};
+ghost use Rattle.diagnose_cli.specs.Commands.{ask_of, bench_of, bound_of, calls, command_of, generate_of, limits_of, most_steps, read_words, twin_of, units_of, HasFewSteps, HasFewUnits};
 
+use crate::asking::Limits;
 use des_base::{WordList, read_number};
 
-/// What the words of a command line ask for.
+/// A question about a model and a log, with one reply.
 #[derive(Clone, Copy)]
-pub enum Command {
+pub enum Question {
+    /// `diagnose MODEL LOG N BUDGET`: the least number of faults that explains the log within N parallel steps, found by a search
+    /// that may learn as many clauses as the budget says.
+    Diagnose { budget: u64 },
+    /// `cnf MODEL LOG N K`: what explains the log within N parallel steps as a formula, with at most K faults, or with any number
+    /// where K is `any`.
+    PrintCnf { bound: Option<u8> },
+    /// `proof MODEL LOG N BUDGET`: the refutation that `diagnose` finds of one fault fewer, or of any number where nothing explains
+    /// the log.
+    PrintProof { budget: u64 },
+}
+
+/// A command with one reply.
+#[derive(Clone, Copy)]
+pub enum Single {
     /// `trace MODEL RUN`: can the network perform the run.
     Trace,
     /// `show MODEL`: the model in its plain form.
@@ -16,23 +31,10 @@ pub enum Command {
     Replay(u32),
     /// `check CNF LRAT`: does the proof refute the formula.
     Check,
-    /// `diagnose MODEL LOG N BUDGET`: the least number of faults that explains the log within this many parallel steps, found
-    /// by a search that may learn as many clauses as the budget says.
-    Diagnose {
+    /// A question about a model and a log, within this many parallel steps.
+    Ask {
         steps: u32,
-        budget: u64,
-    },
-    /// `cnf MODEL LOG N K`: what explains the log within this many parallel steps as a formula, with at most K faults, or with
-    /// any number where K is `any`.
-    PrintCnf {
-        steps: u32,
-        bound: Option<u8>,
-    },
-    /// `proof MODEL LOG N BUDGET`: the refutation that `diagnose` finds of one fault fewer, or of any number where nothing explains
-    /// the log.
-    PrintProof {
-        steps: u32,
-        budget: u64,
+        question: Question,
     },
     /// `generate model Z START`: the model of the plant of so many units.
     GenerateModel {
@@ -43,18 +45,6 @@ pub enum Command {
     GenerateLog {
         units: u32,
         start: u64,
-    },
-    /// `session MODEL SCRIPT N BUDGET`: the rows of the script one after another, additions to a log and questions about it, each
-    /// with the whole budget.
-    Session {
-        steps: u32,
-        budget: u64,
-    },
-    /// `verdicts MODEL LOG N BUDGET`: what `diagnose` says, and then of each fault event whether all explanations with that number of
-    /// faults have it, some or none. Each question has the whole budget.
-    Verdicts {
-        steps: u32,
-        budget: u64,
     },
     /// `bench Z START N BUDGET`: what `diagnose` finds of that plant, summed up.
     Bench {
@@ -76,6 +66,19 @@ pub enum Command {
         after: u32,
         budget: u64,
     },
+}
+
+/// What the words of a command line ask for.
+#[derive(Clone, Copy)]
+pub enum Command {
+    /// A command with one reply.
+    One(Single),
+    /// `session MODEL SCRIPT N BUDGET`: the rows of the script one after another, additions to a log and questions about it, each
+    /// with the whole budget.
+    Session { steps: u32, budget: u64 },
+    /// `verdicts MODEL LOG N BUDGET`: what `diagnose` says, and then of each fault event whether all explanations with that number of
+    /// faults have it, some or none. Each question has the whole budget.
+    Verdicts { steps: u32, budget: u64 },
 }
 
 const STEP_LIMIT: u64 = 1000;
@@ -100,40 +103,68 @@ pub fn command_of(words: &WordList) -> Option<Command>
     ensures units { IfSome result HasFewUnits }
 {
     if is_call(words, "trace", 3) {
-        Some(Command::Trace)
+        Some(Command::One(Single::Trace))
     } else if is_call(words, "show", 2) {
-        Some(Command::Show)
+        Some(Command::One(Single::Show))
     } else if is_call(words, "replay", 5) {
         let steps = read_number(words.word(4).as_bytes(), STEP_LIMIT)?;
-        Some(Command::Replay(steps as u32))
+        Some(Command::One(Single::Replay(steps as u32)))
     } else if is_call(words, "check", 3) {
-        Some(Command::Check)
+        Some(Command::One(Single::Check))
     } else if is_call(words, "diagnose", 5) {
-        let steps = read_number(words.word(3).as_bytes(), STEP_LIMIT)?;
         let budget = read_number(words.word(4).as_bytes(), u64::MAX)?;
-        Some(Command::Diagnose {
-            steps: steps as u32,
-            budget,
-        })
+        ask_of(words.word(3), Question::Diagnose { budget })
     } else if is_call(words, "cnf", 5) {
-        cnf_of(words.word(3), words.word(4))
+        let bound = bound_of(words.word(4))?;
+        ask_of(words.word(3), Question::PrintCnf { bound })
     } else if is_call(words, "proof", 5) {
-        proof_words_of(words.word(3), words.word(4))
+        let budget = read_number(words.word(4).as_bytes(), u64::MAX)?;
+        ask_of(words.word(3), Question::PrintProof { budget })
     } else if is_call(words, "generate", 4) {
         generate_of(words.word(1), words.word(2), words.word(3))
     } else if is_call(words, "bench", 5) {
         bench_of(words.word(1), words.word(2), words.word(3), words.word(4))
     } else if is_call(words, "session", 5) {
-        session_of(words.word(3), words.word(4))
+        let Limits { steps, budget } = limits_of(words.word(3), words.word(4))?;
+        Some(Command::Session { steps, budget })
     } else if is_call(words, "twin", 6) {
         twin_of(words.word(3), words.word(4), words.word(5))
     } else if is_call(words, "cheapest", 6) {
-        cheapest_of(words.word(4), words.word(5))
+        let Limits { steps, budget } = limits_of(words.word(4), words.word(5))?;
+        Some(Command::One(Single::Cheapest { steps, budget }))
     } else if is_call(words, "verdicts", 5) {
-        verdicts_of(words.word(3), words.word(4))
+        let Limits { steps, budget } = limits_of(words.word(3), words.word(4))?;
+        Some(Command::Verdicts { steps, budget })
     } else {
         None
     }
+}
+
+// That question, within as many steps as a word says.
+fn ask_of(steps: &str, question: Question) -> Option<Command>
+    ensures command { result ≡ ask_of steps.now question }
+    ensures files { IfSome result (λ c. read_words c ≡ 2) }
+    ensures steps { IfSome result HasFewSteps }
+    ensures units { IfSome result HasFewUnits }
+{
+    let steps = read_number(steps.as_bytes(), STEP_LIMIT)?;
+    Some(Command::One(Single::Ask {
+        steps: steps as u32,
+        question,
+    }))
+}
+
+// How many steps and which budget two words ask for.
+fn limits_of(steps: &str, budget: &str) -> Option<Limits>
+    ensures limits { result ≡ limits_of steps.now budget.now }
+    ensures few { IfSome result (λ l. l.steps ≤ most_steps) }
+{
+    let steps = read_number(steps.as_bytes(), STEP_LIMIT)?;
+    let budget = read_number(budget.as_bytes(), u64::MAX)?;
+    Some(Limits {
+        steps: steps as u32,
+        budget,
+    })
 }
 
 // The bound on the faults that is asked for: `any` sets none.
@@ -145,34 +176,6 @@ fn bound_of(text: &str) -> Option<Option<u8>>
     }
     let bound = read_number(text.as_bytes(), BOUND_LIMIT)?;
     Some(Some(bound as u8))
-}
-
-fn cnf_of(steps: &str, bound: &str) -> Option<Command>
-    ensures command { result ≡ cnf_of steps.now bound.now }
-    ensures files { IfSome result (λ c. read_words c ≡ 2) }
-    ensures steps { IfSome result HasFewSteps }
-    ensures units { IfSome result HasFewUnits }
-{
-    let steps = read_number(steps.as_bytes(), STEP_LIMIT)?;
-    let bound = bound_of(bound)?;
-    Some(Command::PrintCnf {
-        steps: steps as u32,
-        bound,
-    })
-}
-
-fn proof_words_of(steps: &str, budget: &str) -> Option<Command>
-    ensures command { result ≡ proof_words_of steps.now budget.now }
-    ensures files { IfSome result (λ c. read_words c ≡ 2) }
-    ensures steps { IfSome result HasFewSteps }
-    ensures units { IfSome result HasFewUnits }
-{
-    let steps = read_number(steps.as_bytes(), STEP_LIMIT)?;
-    let budget = read_number(budget.as_bytes(), u64::MAX)?;
-    Some(Command::PrintProof {
-        steps: steps as u32,
-        budget,
-    })
 }
 
 // How many units are asked for.
@@ -193,11 +196,11 @@ fn generate_of(what: &str, units: &str, start: &str) -> Option<Command>
     if what == "model" {
         let units = units_of(units)?;
         let start = read_number(start.as_bytes(), u64::MAX)?;
-        Some(Command::GenerateModel { units, start })
+        Some(Command::One(Single::GenerateModel { units, start }))
     } else if what == "log" {
         let units = units_of(units)?;
         let start = read_number(start.as_bytes(), u64::MAX)?;
-        Some(Command::GenerateLog { units, start })
+        Some(Command::One(Single::GenerateLog { units, start }))
     } else {
         None
     }
@@ -213,26 +216,12 @@ fn bench_of(units: &str, start: &str, steps: &str, budget: &str) -> Option<Comma
     let start = read_number(start.as_bytes(), u64::MAX)?;
     let steps = read_number(steps.as_bytes(), STEP_LIMIT)?;
     let budget = read_number(budget.as_bytes(), u64::MAX)?;
-    Some(Command::Bench {
+    Some(Command::One(Single::Bench {
         units,
         start,
         steps: steps as u32,
         budget,
-    })
-}
-
-fn session_of(steps: &str, budget: &str) -> Option<Command>
-    ensures command { result ≡ session_of steps.now budget.now }
-    ensures files { IfSome result (λ c. read_words c ≡ 2) }
-    ensures steps { IfSome result HasFewSteps }
-    ensures units { IfSome result HasFewUnits }
-{
-    let steps = read_number(steps.as_bytes(), STEP_LIMIT)?;
-    let budget = read_number(budget.as_bytes(), u64::MAX)?;
-    Some(Command::Session {
-        steps: steps as u32,
-        budget,
-    })
+    }))
 }
 
 fn twin_of(steps: &str, after: &str, budget: &str) -> Option<Command>
@@ -244,37 +233,9 @@ fn twin_of(steps: &str, after: &str, budget: &str) -> Option<Command>
     let steps = read_number(steps.as_bytes(), STEP_LIMIT)?;
     let after = read_number(after.as_bytes(), STEP_LIMIT)?;
     let budget = read_number(budget.as_bytes(), u64::MAX)?;
-    Some(Command::Twin {
+    Some(Command::One(Single::Twin {
         steps: steps as u32,
         after: after as u32,
         budget,
-    })
-}
-
-fn cheapest_of(steps: &str, budget: &str) -> Option<Command>
-    ensures command { result ≡ cheapest_of steps.now budget.now }
-    ensures files { IfSome result (λ c. read_words c ≡ 3) }
-    ensures steps { IfSome result HasFewSteps }
-    ensures units { IfSome result HasFewUnits }
-{
-    let steps = read_number(steps.as_bytes(), STEP_LIMIT)?;
-    let budget = read_number(budget.as_bytes(), u64::MAX)?;
-    Some(Command::Cheapest {
-        steps: steps as u32,
-        budget,
-    })
-}
-
-fn verdicts_of(steps: &str, budget: &str) -> Option<Command>
-    ensures command { result ≡ verdicts_of steps.now budget.now }
-    ensures files { IfSome result (λ c. read_words c ≡ 2) }
-    ensures steps { IfSome result HasFewSteps }
-    ensures units { IfSome result HasFewUnits }
-{
-    let steps = read_number(steps.as_bytes(), STEP_LIMIT)?;
-    let budget = read_number(budget.as_bytes(), u64::MAX)?;
-    Some(Command::Verdicts {
-        steps: steps as u32,
-        budget,
-    })
+    }))
 }

@@ -1,7 +1,7 @@
 // The command `proof`: the refutation that `diagnose` finds.
-ghost use Rattle.std.specs.Prelude.{◌≡◌, ◌++◌, All, codes, IfOk, OnOk, refl};
+ghost use Rattle.std.specs.Prelude.{◌≡◌, ◌++◌, All, codes, IfOk, OnOk};
 ghost use Rattle.diagnose_cli.specs.ProofText.{proof_head};
-ghost use Rattle.diagnose_cli.specs.Replies.{SaysProved, reply_of_proof};
+ghost use Rattle.diagnose_cli.specs.Replies.{reply_of_proof};
 ghost use Rattle.proof_text.specs.PrintedText.{ReadsBack, steps_text};
 ghost use Rattle.proof_text.specs.ProofNumbers.{NumbersAscend, HasNoZero};
 
@@ -15,13 +15,9 @@ use proof_text::{Proof, print_lrat};
 use std::alloc::Global;
 
 impl Replying for Refutation {
-    ghost use Rattle.diagnose_cli.specs.declared.command.Command.TheVariants.{PrintProof};
+    ghost use Rattle.diagnose_cli.specs.declared.command.Question.TheVariants.{PrintProof};
 
-    ghost command = { λ s steps. PrintProof steps s.budget };
-
-    ghost replies = { λ s n net log book reply. SaysProved net log n s.budget book reply };
-
-    ghost is_of_case = { λ s n. record { files = refl; size = λ words text alarms. refl; says = λ words book text alarms reply says. record { reply = reply; says = says; alone = refl; ends = refl } } };
+    ghost question = { λ s. PrintProof s.budget };
 
     fn reply(
         &self,

@@ -12,7 +12,7 @@ ghost use Rattle.diagnose_cli.specs.Transcripts.{UnlessMemory, once};
 ghost use Rattle.diagnose_cli.specs.Replies.{kind_of_replayed, reply_of_replayed};
 ghost use Rattle.diagnose_cli.specs.Due.{Answers, AnswersAfter};
 
-use crate::command::Command;
+use crate::command::{Command, Single};
 use crate::ending::{Kind, Reply};
 use crate::files::{fetch_case, fetch_run};
 use crate::stop::Stop;
@@ -31,7 +31,7 @@ pub fn replay_command<F: Shelf>(
     steps: u32,
 ) -> Result<Reply, Stop>
     requires { 3 < length words.now }
-    ensures { (book : List BookEntry) → UnlessMemory result (Answers (loads F.held F.faults shelf.old shelf.new) words.now (Command.Replay steps) book (once result)) }
+    ensures { (book : List BookEntry) → UnlessMemory result (Answers (loads F.held F.faults shelf.old shelf.new) words.now (Command.One (Single.Replay steps)) book (once result)) }
 {
     let case = fetch_case(alloc, words, shelf)?;
     replay_over(alloc, words, shelf, &case, steps)
@@ -46,7 +46,7 @@ fn replay_over<F: Shelf>(
     steps: u32,
 ) -> Result<Reply, Stop>
     requires { 3 < length words.now }
-    ensures { (book : List BookEntry) → (text alarms : List ℕ) → case.now.net ≡ network_of text → case.now.log ≡ log_of alarms → UnlessMemory result (AnswersAfter (loads F.held F.faults shelf.old shelf.new) words.now (Command.Replay steps) book (text ∷ alarms ∷ []) (once result)) }
+    ensures { (book : List BookEntry) → (text alarms : List ℕ) → case.now.net ≡ network_of text → case.now.log ≡ log_of alarms → UnlessMemory result (AnswersAfter (loads F.held F.faults shelf.old shelf.new) words.now (Command.One (Single.Replay steps)) book (text ∷ alarms ∷ []) (once result)) }
 {
     let run = fetch_run(alloc, words, shelf, 3, &case.net)?;
     Ok(replay_run(alloc, case, &run, steps)?)

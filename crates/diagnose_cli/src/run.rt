@@ -1,11 +1,11 @@
 // All that the program does, but for where its words, files and output come from.
 ghost use Rattle.std.specs.Prelude.{◌≡◌, ◌≢◌, ◌<◌, ℕ, List, [], false, length, IfErr};
 ghost use Rattle.des_base.specs.Outside.{Rose};
-ghost use Rattle.diagnose_cli.specs.Commands.{IsWithinBounds, files_of, has_several, read_words};
+ghost use Rattle.diagnose_cli.specs.Commands.{IsWithinBounds, files_of, read_words};
 ghost use Rattle.diagnose_cli.specs.Due.{Answers};
 ghost use Rattle.diagnose_cli.specs.Files.{loads};
 ghost use Rattle.diagnose_cli.specs.Outcomes.{outcome};
-ghost use Rattle.diagnose_cli.specs.Rows.{TraceRow, ShowRow, ReplayRow, CheckRows, DiagnoseRows, PrintedRows, GenerateRows, BenchRow, SessionRow, AreTold, Leaves, LeftRow};
+ghost use Rattle.diagnose_cli.specs.Rows.{TraceRow, ShowRow, ReplayRow, CheckRows, AskedRow, DiagnoseRows, GenerateRows, BenchRow, SessionRow, AreTold, Leaves, LeftRow};
 ghost use Rattle.diagnose_cli.specs.CheapRows.{CheapRows};
 ghost use Rattle.diagnose_cli.specs.TwinRows.{TwinRows};
 ghost use Rattle.diagnose_cli.specs.VerdictRows.{VerdictRows};
@@ -13,11 +13,11 @@ ghost use Rattle.diagnose_cli.specs.Run.{Does, LeavesAlone, Ran, is_question};
 ghost use Rattle.diagnose_cli.specs.Transcripts.{UnlessMemory, once};
 ghost use Rattle.telling.specs.Telling.{RisesExactlyIf};
 
-use crate::asking::{Limits, ask_case};
+use crate::asking::{Limits, ask_question};
 use crate::bench_command::bench_command;
 use crate::cheapest_command::cheapest_command;
 use crate::check_command::check_command;
-use crate::command::{Command, command_of};
+use crate::command::{Command, Single, command_of};
 use crate::ending::{Reply, put_once};
 use crate::generate_command::{generate_log_command, generate_model_command};
 use crate::replay_command::replay_command;
@@ -28,7 +28,6 @@ use crate::trace_command::trace_command;
 use crate::twin_command::{TwinLimits, twin_command};
 use crate::verdicts_command::verdicts_command;
 use des_base::{Shelf, Sink, WordList};
-use inquiries::{FormulaWithin, LeastFaults, Refutation};
 use proof_ledger::Ledger;
 use std::alloc::Global;
 
@@ -46,12 +45,12 @@ pub fn run<F: Shelf, S: Sink>(
     book: &mut Ledger,
 ) -> u8
     requires { book.old.entries ≡ [] }
+    ensures asked { AskedRow (outcome (loads F.held F.faults shelf.old shelf.new) words.now (S.taken out.old) (S.taken out.new) book.new.entries result) }
     ensures diagnosed { DiagnoseRows (outcome (loads F.held F.faults shelf.old shelf.new) words.now (S.taken out.old) (S.taken out.new) book.new.entries result) }
     ensures replayed { ReplayRow (outcome (loads F.held F.faults shelf.old shelf.new) words.now (S.taken out.old) (S.taken out.new) book.new.entries result) }
     ensures checked { CheckRows (outcome (loads F.held F.faults shelf.old shelf.new) words.now (S.taken out.old) (S.taken out.new) book.new.entries result) }
     ensures traced { TraceRow (outcome (loads F.held F.faults shelf.old shelf.new) words.now (S.taken out.old) (S.taken out.new) book.new.entries result) }
     ensures shown { ShowRow (outcome (loads F.held F.faults shelf.old shelf.new) words.now (S.taken out.old) (S.taken out.new) book.new.entries result) }
-    ensures printed { PrintedRows (outcome (loads F.held F.faults shelf.old shelf.new) words.now (S.taken out.old) (S.taken out.new) book.new.entries result) }
     ensures generated { GenerateRows (outcome (loads F.held F.faults shelf.old shelf.new) words.now (S.taken out.old) (S.taken out.new) book.new.entries result) }
     ensures benched { BenchRow (outcome (loads F.held F.faults shelf.old shelf.new) words.now (S.taken out.old) (S.taken out.new) book.new.entries result) }
     ensures carried_out { SessionRow (outcome (loads F.held F.faults shelf.old shelf.new) words.now (S.taken out.old) (S.taken out.new) book.new.entries result) }
@@ -88,54 +87,47 @@ fn respond<F: Shelf, S: Sink>(
         Some(Command::Verdicts { steps, budget }) => {
             verdicts_command(alloc, words, shelf, Limits { steps, budget }, out, book)
         }
-        Some(command) => {
+        Some(Command::One(command)) => {
             let ending = answer(alloc, words, shelf, command, book);
             put_once(alloc, ending, out)
         }
     }
 }
 
-// The one reply to a command that has no more.
+// The reply to a command that has one.
 fn answer<F: Shelf>(
     alloc: Global,
     words: &WordList,
     shelf: &mut F,
-    command: Command,
+    command: Single,
     book: &mut Ledger,
 ) -> Result<Reply, Stop>
     requires empty { book.old.entries ≡ [] }
-    requires once { has_several command ≡ false }
-    requires words { read_words command < length words.now }
-    requires bounds { IsWithinBounds command }
-    ensures due { UnlessMemory result (Answers (loads F.held F.faults shelf.old shelf.new) words.now command book.new.entries (once result)) }
-    ensures no_load { files_of command ≡ [] → shelf.new ≡ shelf.old }
-    ensures no_question { is_question command ≡ false → book.new ≡ book.old }
+    requires words { read_words (Command.One command) < length words.now }
+    requires bounds { IsWithinBounds (Command.One command) }
+    ensures due { UnlessMemory result (Answers (loads F.held F.faults shelf.old shelf.new) words.now (Command.One command) book.new.entries (once result)) }
+    ensures no_load { files_of (Command.One command) ≡ [] → shelf.new ≡ shelf.old }
+    ensures no_question { is_question (Command.One command) ≡ false → book.new ≡ book.old }
     ensures stopped { IfErr result (λ stop. stop ≢ Stop.Memory → book.new ≡ book.old) }
-    ensures left { (texts : List (List ℕ)) → AreTold (F.held shelf.old) words.now 1 texts → Leaves command words.now texts book.new.entries }
+    ensures left { (texts : List (List ℕ)) → AreTold (F.held shelf.old) words.now 1 texts → Leaves (Command.One command) words.now texts book.new.entries }
 {
     match command {
-        Command::Trace => trace_command(alloc, words, shelf),
-        Command::Show => show_command(alloc, words, shelf),
-        Command::Replay(steps) => replay_command(alloc, words, shelf, steps),
-        Command::Check => check_command(alloc, words, shelf),
-        Command::Diagnose { steps, budget } => {
-            ask_case(alloc, words, shelf, steps, &LeastFaults { budget }, book)
+        Single::Trace => trace_command(alloc, words, shelf),
+        Single::Show => show_command(alloc, words, shelf),
+        Single::Replay(steps) => replay_command(alloc, words, shelf, steps),
+        Single::Check => check_command(alloc, words, shelf),
+        Single::Ask { steps, question } => {
+            ask_question(alloc, words, shelf, steps, question, book)
         }
-        Command::PrintCnf { steps, bound } => {
-            ask_case(alloc, words, shelf, steps, &FormulaWithin { bound }, book)
-        }
-        Command::PrintProof { steps, budget } => {
-            ask_case(alloc, words, shelf, steps, &Refutation { budget }, book)
-        }
-        Command::GenerateModel { units, start } => generate_model_command(alloc, units, start),
-        Command::GenerateLog { units, start } => generate_log_command(alloc, units, start),
-        Command::Bench {
+        Single::GenerateModel { units, start } => generate_model_command(alloc, units, start),
+        Single::GenerateLog { units, start } => generate_log_command(alloc, units, start),
+        Single::Bench {
             units,
             start,
             steps,
             budget,
         } => bench_command(alloc, units, start, Limits { steps, budget }, book),
-        Command::Twin {
+        Single::Twin {
             steps,
             after,
             budget,
@@ -150,9 +142,8 @@ fn answer<F: Shelf>(
             },
             book,
         ),
-        Command::Cheapest { steps, budget } => {
+        Single::Cheapest { steps, budget } => {
             cheapest_command(alloc, words, shelf, Limits { steps, budget }, book)
         }
-        Command::Session { .. } | Command::Verdicts { .. } => unreachable!(),
     }
 }

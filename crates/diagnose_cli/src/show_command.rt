@@ -7,7 +7,7 @@ ghost use Rattle.diagnose_cli.specs.Transcripts.{UnlessMemory, once};
 ghost use Rattle.diagnose_cli.specs.Replies.{reply_of_model};
 ghost use Rattle.diagnose_cli.specs.Due.{Answers};
 
-use crate::command::Command;
+use crate::command::{Command, Single};
 use crate::ending::{Kind, Reply};
 use crate::files::fetch_model;
 use crate::stop::Stop;
@@ -19,7 +19,7 @@ use std::alloc::Global;
 /// Prints the network of a model in its plain form.
 pub fn show_command<F: Shelf>(alloc: Global, words: &WordList, shelf: &mut F) -> Result<Reply, Stop>
     requires { 1 < length words.now }
-    ensures { (book : List BookEntry) → UnlessMemory result (Answers (loads F.held F.faults shelf.old shelf.new) words.now Command.Show book (once result)) }
+    ensures { (book : List BookEntry) → UnlessMemory result (Answers (loads F.held F.faults shelf.old shelf.new) words.now (Command.One Single.Show) book (once result)) }
 {
     let net = fetch_model(alloc, words, shelf, 1)?;
     Ok(reply_of_model(alloc, &net)?)

@@ -9,7 +9,7 @@ ghost use Rattle.diagnose_cli.specs.Transcripts.{UnlessMemory, once};
 ghost use Rattle.diagnose_cli.specs.Replies.{kind_of_traced, reply_of_traced};
 ghost use Rattle.diagnose_cli.specs.Due.{Answers, AnswersAfter};
 
-use crate::command::Command;
+use crate::command::{Command, Single};
 use crate::ending::{Kind, Reply};
 use crate::files::{fetch_model, fetch_run};
 use crate::stop::Stop;
@@ -26,7 +26,7 @@ pub fn trace_command<F: Shelf>(
     shelf: &mut F,
 ) -> Result<Reply, Stop>
     requires { 2 < length words.now }
-    ensures { (book : List BookEntry) → UnlessMemory result (Answers (loads F.held F.faults shelf.old shelf.new) words.now Command.Trace book (once result)) }
+    ensures { (book : List BookEntry) → UnlessMemory result (Answers (loads F.held F.faults shelf.old shelf.new) words.now (Command.One Single.Trace) book (once result)) }
 {
     let net = fetch_model(alloc, words, shelf, 1)?;
     trace_over(alloc, words, shelf, &net)
@@ -40,7 +40,7 @@ fn trace_over<F: Shelf>(
     net: &Network,
 ) -> Result<Reply, Stop>
     requires { 2 < length words.now }
-    ensures { (book : List BookEntry) → (text : List ℕ) → net.now ≡ network_of text → UnlessMemory result (AnswersAfter (loads F.held F.faults shelf.old shelf.new) words.now Command.Trace book (text ∷ []) (once result)) }
+    ensures { (book : List BookEntry) → (text : List ℕ) → net.now ≡ network_of text → UnlessMemory result (AnswersAfter (loads F.held F.faults shelf.old shelf.new) words.now (Command.One Single.Trace) book (text ∷ []) (once result)) }
 {
     let run = fetch_run(alloc, words, shelf, 2, net)?;
     Ok(trace_run(alloc, net, &run)?)

@@ -13,7 +13,7 @@ ghost use Rattle.model_text.specs.ModelFaults.{network_of};
 ghost use Rattle.report.specs.Replies.{TwinEventsKnown};
 ghost use Rattle.twin_test.specs.Tested.{IsTested, LeavesTwins};
 
-use crate::command::Command;
+use crate::command::{Command, Single};
 use crate::ending::{Kind, Reply};
 use crate::files::fetch_model;
 use crate::stop::Stop;
@@ -51,7 +51,7 @@ pub fn twin_command<F: Shelf>(
     requires steps { limits.steps ≤ MOST_STEPS }
     requires after { limits.after ≤ MOST_STEPS }
     requires empty { book.old.entries ≡ [] }
-    ensures due { UnlessMemory result (Answers (loads F.held F.faults shelf.old shelf.new) words.now (Command.Twin limits.steps limits.after limits.budget) book.new.entries (once result)) }
+    ensures due { UnlessMemory result (Answers (loads F.held F.faults shelf.old shelf.new) words.now (Command.One (Single.Twin limits.steps limits.after limits.budget)) book.new.entries (once result)) }
     ensures stopped { IfErr result (λ stop. stop ≢ Stop.Memory → book.new ≡ book.old) }
     ensures left { (text : List ℕ) → AreTold (F.held shelf.old) words.now 1 (text ∷ []) → LeavesOfWord (network_of text) (word_at words.now 2) limits.steps limits.after limits.budget book.new.entries }
 {
@@ -70,7 +70,7 @@ fn ask_of_word(
     requires steps { limits.steps ≤ MOST_STEPS }
     requires after { limits.after ≤ MOST_STEPS }
     requires empty { book.old.entries ≡ [] }
-    ensures due { (words : List (List ℕ)) (text : List ℕ) → word.now ≡ word_at words 2 → net.now ≡ network_of text → UnlessMemory result (Closes (Command.Twin limits.steps limits.after limits.budget) words book.new.entries (text ∷ []) (once result)) }
+    ensures due { (words : List (List ℕ)) (text : List ℕ) → word.now ≡ word_at words 2 → net.now ≡ network_of text → UnlessMemory result (Closes (Command.One (Single.Twin limits.steps limits.after limits.budget)) words book.new.entries (text ∷ []) (once result)) }
     ensures stopped { IfErr result (λ stop. stop ≢ Stop.Memory → book.new ≡ book.old) }
     ensures left { LeavesOfWord net.now word.now limits.steps limits.after limits.budget book.new.entries }
 {
@@ -92,7 +92,7 @@ fn ask_about(
     requires steps { limits.steps ≤ MOST_STEPS }
     requires after { limits.after ≤ MOST_STEPS }
     requires empty { book.old.entries ≡ [] }
-    ensures due { (words : List (List ℕ)) (text word : List ℕ) → word ≡ word_at words 2 → net.now ≡ network_of text → fault_event_of net.now word ≡ Some fault → UnlessMemory result (Closes (Command.Twin limits.steps limits.after limits.budget) words book.new.entries (text ∷ []) (once result)) }
+    ensures due { (words : List (List ℕ)) (text word : List ℕ) → word ≡ word_at words 2 → net.now ≡ network_of text → fault_event_of net.now word ≡ Some fault → UnlessMemory result (Closes (Command.One (Single.Twin limits.steps limits.after limits.budget)) words book.new.entries (text ∷ []) (once result)) }
     ensures stopped { IfErr result (λ stop. stop ≢ Stop.Memory → book.new ≡ book.old) }
     ensures left { LeavesTwins net.now fault limits.steps limits.after limits.budget book.new.entries }
 {
@@ -136,8 +136,8 @@ fn tell(
     ensures { IfOk result (SaysTwin net.now fault limits.steps limits.after limits.budget book.now.entries) }
 {
     let _ = fault;
+    let _ = book;
     net.is_built();
-    book.entries();
     reply_of_twin(alloc, net, limits.steps, answer)
 }
 

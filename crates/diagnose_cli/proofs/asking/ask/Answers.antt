@@ -8,7 +8,7 @@ use Rattle.diagnose_cli.proofs.asking.ask.Goals as goal
 pub returns-then-size-gt-MOST_SIZE-clause-due : goal.returns-then-size-gt-MOST_SIZE-clause-due
 returns-then-size-gt-MOST_SIZE-clause-due g c words text alarms of_net of_log _ =
     let asked = c.args.inquiry.now in
-    case_large (g.Q.Replying.command asked c.args.steps) c.args.steps (g.Q.Replying.replies asked c.args.steps) (g.met.Q.Replying.is_of_case asked c.args.steps) text alarms c.args.case.now.net of_net c.args.case.now.log of_log words c.args.book.now.entries
+    case_large c.args.steps (g.Q.Replying.question asked) text alarms c.args.case.now.net of_net c.args.case.now.log of_log words c.args.book.now.entries
     c.question_size-size.result c.question_size-size.ensures.size (omega (arith, c.if-size-gt-MOST_SIZE.true))
 
 pub returns-in_err-reply_to-clause-due : goal.returns-in_err-reply_to-clause-due
@@ -17,7 +17,7 @@ returns-in_err-reply_to-clause-due g c words text alarms of_net of_log = memory_
 pub returns-clause-due : goal.returns-clause-due
 returns-clause-due g c words text alarms of_net of_log _ =
     let asked = c.args.inquiry.now in
-    case_answered (g.Q.Replying.command asked c.args.steps) c.args.steps (g.Q.Replying.replies asked c.args.steps) (g.met.Q.Replying.is_of_case asked c.args.steps) text alarms c.args.case.now.net of_net c.args.case.now.log of_log
+    case_answered c.args.steps (g.Q.Replying.question asked) text alarms c.args.case.now.net of_net c.args.case.now.log of_log
     words c.reply_to.new.book.entries c.in_ok-reply_to.field-0 (subst (λ k. k ≤ MOST_SIZE) c.question_size-size.ensures.size (omega (arith, c.if-size-gt-MOST_SIZE.false))) c.in_ok-reply_to.ensures.replies
 
 pub reply_to-requires-clause-limits : goal.reply_to-requires-clause-limits

@@ -1,7 +1,7 @@
 -- By its first two files, and then as it goes on.
-use Rattle.std.proofs.Common.{ℕ, List, Option, [], ◌∷◌, ap, inl, subst, sym}
-use Rattle.des_base.specs.CommandWords.{word_at}
-use Rattle.diagnose_cli.specs.declared.command.Command.TheVariants.{Cheapest}
+use Rattle.std.proofs.Common.{ℕ, List, Option, [], ◌∷◌, inl, subst, sym}
+use Rattle.diagnose_cli.specs.declared.command.Command.TheVariants.{One}
+use Rattle.diagnose_cli.specs.declared.command.Single.TheVariants.{Cheapest}
 use Rattle.diagnose_cli.specs.Due.{Answers, Closes}
 use Rattle.diagnose_cli.specs.Files.{loads}
 use Rattle.diagnose_cli.specs.Rows.{AreTold}
@@ -14,7 +14,7 @@ pub returns-in_err-case-clause-due : goal.returns-in_err-case-clause-due
 returns-in_err-case-clause-due g c =
     let l = loads g.F.Shelf.held g.F.Shelf.faults c.args.shelf.now c.fetch_case.new.shelf in
     let words = c.args.words.now in
-    let command = Cheapest c.args.limits.steps c.args.limits.budget in
+    let command = One (Cheapest c.args.limits.steps c.args.limits.budget) in
     let book = c.args.book.now.entries in
     handed_after _ _ (Answers l words command book) c.from_residual.ensures.1 (λ never. stops_in_two l words log (costs ∷ []) (Closes command words book) _ (c.in_err-case.ensures.stop never))
 
@@ -23,7 +23,7 @@ returns-clause-due g c =
     let shelf = g.F.Shelf in
     let case = c.in_ok-case.ensures.read in
     let words = c.args.words.now in
-    let command = Cheapest c.args.limits.steps c.args.limits.budget in
+    let command = One (Cheapest c.args.limits.steps c.args.limits.budget) in
     goes_on_with (shelf.held c.args.shelf.now) (shelf.held c.fetch_case.new.shelf) (shelf.faults c.args.shelf.now) (shelf.faults c.fetch_case.new.shelf) (shelf.faults c.price_case.new.shelf)
     c.in_ok-case.ensures.kept c.in_ok-case.ensures.never_falls words (Closes command words c.price_case.new.book.entries) (costs ∷ []) c.in_ok-case.case.net c.in_ok-case.case.log case c.price_case.result
     (c.price_case.ensures.due case.text case.second case.net_is case.second_is)

@@ -1,7 +1,7 @@
 -- By the costs.
-use Rattle.std.proofs.Common.{[], ◌∷◌, ap, inl, subst, sym}
-use Rattle.des_net.specs.Network.{Net}
-use Rattle.diagnose_cli.specs.declared.command.Command.TheVariants.{Cheapest}
+use Rattle.std.proofs.Common.{[], ◌∷◌, inl}
+use Rattle.diagnose_cli.specs.declared.command.Command.TheVariants.{One}
+use Rattle.diagnose_cli.specs.declared.command.Single.TheVariants.{Cheapest}
 use Rattle.diagnose_cli.specs.Due.{AnswersAfter}
 use Rattle.diagnose_cli.specs.Files.{loads}
 use Rattle.diagnose_cli.proofs.CheapAnswers.{costs_refused, costs_priced, prices_left}
@@ -13,7 +13,7 @@ returns-in_err-table-clause-due g c text alarms of_net of_log =
     let l = loads g.F.Shelf.held g.F.Shelf.faults c.args.shelf.now c.fetch_costs.new.shelf in
     let limits = c.args.limits in
     let book = c.args.book.now.entries in
-    handed_after _ _ (AnswersAfter l c.args.words.now (Cheapest limits.steps limits.budget) book (text ∷ alarms ∷ [])) c.from_residual.ensures.1 (λ never.
+    handed_after _ _ (AnswersAfter l c.args.words.now (One (Cheapest limits.steps limits.budget)) book (text ∷ alarms ∷ [])) c.from_residual.ensures.1 (λ never.
     costs_refused l c.args.words.now limits.steps limits.budget book text alarms c.args.case.now.net of_net _ (c.in_err-table.ensures.stop never))
 
 pub returns-clause-due : goal.returns-clause-due

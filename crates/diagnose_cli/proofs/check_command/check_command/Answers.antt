@@ -1,6 +1,7 @@
 -- By its first file, and then as it goes on.
 use Rattle.std.proofs.Common.{[], ◌∷◌}
-use Rattle.diagnose_cli.specs.declared.command.Command.TheVariants.{Check}
+use Rattle.diagnose_cli.specs.declared.command.Command.TheVariants.{One}
+use Rattle.diagnose_cli.specs.declared.command.Single.TheVariants.{Check}
 use Rattle.diagnose_cli.specs.Texts.{cnf, lrat}
 use Rattle.diagnose_cli.specs.Due.{Closes}
 use Rattle.diagnose_cli.proofs.Orders.{goes_on_later}
@@ -11,4 +12,4 @@ returns g c book =
     let shelf = g.F.Shelf in
     let f = c.in_ok-cnf.ensures.formula in
     goes_on_later (shelf.held c.args.shelf.now) (shelf.held c.fetch_cnf.new.shelf) (shelf.faults c.args.shelf.now) (shelf.faults c.fetch_cnf.new.shelf) (shelf.faults c.check_over.new.shelf)
-    c.in_ok-cnf.ensures.kept c.in_ok-cnf.ensures.never_falls c.args.words.now (Closes Check c.args.words.now book) 1 cnf (lrat ∷ []) [] f.0 c.check_over.result f.1 (c.check_over.ensures book f.0 f.2)
+    c.in_ok-cnf.ensures.kept c.in_ok-cnf.ensures.never_falls c.args.words.now (Closes (One Check) c.args.words.now book) 1 cnf (lrat ∷ []) [] f.0 c.check_over.result f.1 (c.check_over.ensures book f.0 f.2)

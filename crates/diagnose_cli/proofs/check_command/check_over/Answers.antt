@@ -1,6 +1,7 @@
 -- By the proof.
 use Rattle.std.proofs.Common.{[], ◌∷◌}
-use Rattle.diagnose_cli.specs.declared.command.Command.TheVariants.{Check}
+use Rattle.diagnose_cli.specs.declared.command.Command.TheVariants.{One}
+use Rattle.diagnose_cli.specs.declared.command.Single.TheVariants.{Check}
 use Rattle.diagnose_cli.specs.Due.{AnswersAfter}
 use Rattle.diagnose_cli.specs.Files.{loads}
 use Rattle.diagnose_cli.proofs.Orders.{handed_after, memory_free}
@@ -11,7 +12,7 @@ use Rattle.diagnose_cli.proofs.check_command.check_over.Goals as goal
 pub returns-in_err-proof : goal.returns-in_err-proof
 returns-in_err-proof g c book text is =
     let l = loads g.F.Shelf.held g.F.Shelf.faults c.args.shelf.now c.fetch_lrat.new.shelf in
-    handed_after _ _ (AnswersAfter l c.args.words.now Check book (text ∷ [])) c.from_residual.ensures.1 (λ never.
+    handed_after _ _ (AnswersAfter l c.args.words.now (One Check) book (text ∷ [])) c.from_residual.ensures.1 (λ never.
     proof_refused l c.args.words.now book text (formula c.args.cnf.now.vars c.args.cnf.now.clauses.clauses) is _ (c.in_err-proof.ensures.stop never))
 
 pub returns-in_err-check_proof : goal.returns-in_err-check_proof

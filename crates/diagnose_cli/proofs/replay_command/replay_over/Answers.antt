@@ -1,6 +1,7 @@
 -- By the run.
 use Rattle.std.proofs.Common.{[], ◌∷◌}
-use Rattle.diagnose_cli.specs.declared.command.Command.TheVariants.{Replay}
+use Rattle.diagnose_cli.specs.declared.command.Command.TheVariants.{One}
+use Rattle.diagnose_cli.specs.declared.command.Single.TheVariants.{Replay}
 use Rattle.diagnose_cli.specs.Due.{AnswersAfter}
 use Rattle.diagnose_cli.specs.Files.{loads}
 use Rattle.diagnose_cli.proofs.Orders.{handed_after, memory_free}
@@ -10,7 +11,7 @@ use Rattle.diagnose_cli.proofs.replay_command.replay_over.Goals as goal
 pub returns-in_err-run : goal.returns-in_err-run
 returns-in_err-run g c book text alarms of_net of_log =
     let l = loads g.F.Shelf.held g.F.Shelf.faults c.args.shelf.now c.fetch_run.new.shelf in
-    handed_after _ _ (AnswersAfter l c.args.words.now (Replay c.args.steps) book (text ∷ alarms ∷ [])) c.from_residual.ensures.1 (λ never.
+    handed_after _ _ (AnswersAfter l c.args.words.now (One (Replay c.args.steps)) book (text ∷ alarms ∷ [])) c.from_residual.ensures.1 (λ never.
     run_refused l c.args.words.now c.args.steps book text alarms c.args.case.now.net of_net c.args.case.now.log of_log _ (c.in_err-run.ensures.stop never))
 
 pub returns-in_err-replay_run : goal.returns-in_err-replay_run

@@ -1,8 +1,8 @@
 -- Each command answers what is due for it.
 use Rattle.std.proofs.Common.{sym}
-use Rattle.diagnose_cli.specs.declared.command.Command.TheVariants.{Trace, Show, Replay, Check, Diagnose, PrintCnf, PrintProof, GenerateModel, GenerateLog, Bench, Twin, Cheapest}
+use Rattle.diagnose_cli.specs.declared.command.Single.TheVariants.{Trace, Show, Replay, Check, Ask, GenerateModel, GenerateLog, Bench, Twin, Cheapest}
 use Rattle.diagnose_cli.specs.Files.{loads}
-use Rattle.diagnose_cli.proofs.Left.{left_bench, left_cheapest, left_cnf, left_diagnose, left_proof, left_so, left_twin}
+use Rattle.diagnose_cli.proofs.Left.{left_bench, left_cheapest, left_question, left_so, left_twin}
 use Rattle.diagnose_cli.proofs.Orders.{due_alike}
 use Rattle.diagnose_cli.proofs.run.answer.Goals as goal
 
@@ -22,17 +22,9 @@ pub returns-in-Check-clause-due : goal.returns-in-Check-clause-due
 returns-in-Check-clause-due g c =
     due_alike (loads g.F.Shelf.held g.F.Shelf.faults c.args.shelf.now c.check_command.new.shelf) c.args.words.now Check c.args.command c.args.book.now.entries c.check_command.result (sym c.in-Check.is) (c.check_command.ensures c.args.book.now.entries)
 
-pub returns-in-Diagnose-clause-due : goal.returns-in-Diagnose-clause-due
-returns-in-Diagnose-clause-due g c =
-    due_alike (loads g.F.Shelf.held g.F.Shelf.faults c.args.shelf.now c.ask_case.new.shelf) c.args.words.now (Diagnose c.in-Diagnose.steps c.in-Diagnose.budget) c.args.command c.ask_case.new.book.entries c.ask_case.result (sym c.in-Diagnose.is) c.ask_case.ensures.due
-
-pub returns-in-PrintCnf-clause-due : goal.returns-in-PrintCnf-clause-due
-returns-in-PrintCnf-clause-due g c =
-    due_alike (loads g.F.Shelf.held g.F.Shelf.faults c.args.shelf.now c.ask_case-in-PrintCnf.new.shelf) c.args.words.now (PrintCnf c.in-PrintCnf.steps c.in-PrintCnf.bound) c.args.command c.ask_case-in-PrintCnf.new.book.entries c.ask_case-in-PrintCnf.result (sym c.in-PrintCnf.is) c.ask_case-in-PrintCnf.ensures.due
-
-pub returns-in-PrintProof-clause-due : goal.returns-in-PrintProof-clause-due
-returns-in-PrintProof-clause-due g c =
-    due_alike (loads g.F.Shelf.held g.F.Shelf.faults c.args.shelf.now c.ask_case-in-PrintProof.new.shelf) c.args.words.now (PrintProof c.in-PrintProof.steps c.in-PrintProof.budget) c.args.command c.ask_case-in-PrintProof.new.book.entries c.ask_case-in-PrintProof.result (sym c.in-PrintProof.is) c.ask_case-in-PrintProof.ensures.due
+pub returns-in-Ask-clause-due : goal.returns-in-Ask-clause-due
+returns-in-Ask-clause-due g c =
+    due_alike (loads g.F.Shelf.held g.F.Shelf.faults c.args.shelf.now c.ask_question.new.shelf) c.args.words.now (Ask c.in-Ask.steps c.in-Ask.question) c.args.command c.ask_question.new.book.entries c.ask_question.result (sym c.in-Ask.is) c.ask_question.ensures.due
 
 pub returns-in-GenerateModel-clause-due : goal.returns-in-GenerateModel-clause-due
 returns-in-GenerateModel-clause-due g c =
@@ -73,23 +65,11 @@ pub returns-in-GenerateLog-clause-left : goal.returns-in-GenerateLog-clause-left
 returns-in-GenerateLog-clause-left g c =
     left_so (g.F.Shelf.held c.args.shelf.now) c.args.words.now c.args.book.now.entries (GenerateLog c.in-GenerateLog.units c.in-GenerateLog.start) c.args.command c.in-GenerateLog.is (λ texts told. tt)
 
-pub returns-in-Diagnose-clause-left : goal.returns-in-Diagnose-clause-left
-returns-in-Diagnose-clause-left g c =
+pub returns-in-Ask-clause-left : goal.returns-in-Ask-clause-left
+returns-in-Ask-clause-left g c =
     let held = g.F.Shelf.held c.args.shelf.now in
-    let book = c.ask_case.new.book.entries in
-    left_so held c.args.words.now book (Diagnose c.in-Diagnose.steps c.in-Diagnose.budget) c.args.command c.in-Diagnose.is (left_diagnose held c.args.words.now book c.in-Diagnose.steps c.in-Diagnose.budget c.ask_case.ensures.left)
-
-pub returns-in-PrintCnf-clause-left : goal.returns-in-PrintCnf-clause-left
-returns-in-PrintCnf-clause-left g c =
-    let held = g.F.Shelf.held c.args.shelf.now in
-    let book = c.ask_case-in-PrintCnf.new.book.entries in
-    left_so held c.args.words.now book (PrintCnf c.in-PrintCnf.steps c.in-PrintCnf.bound) c.args.command c.in-PrintCnf.is (left_cnf held c.args.words.now book c.in-PrintCnf.steps c.in-PrintCnf.bound c.ask_case-in-PrintCnf.ensures.left)
-
-pub returns-in-PrintProof-clause-left : goal.returns-in-PrintProof-clause-left
-returns-in-PrintProof-clause-left g c =
-    let held = g.F.Shelf.held c.args.shelf.now in
-    let book = c.ask_case-in-PrintProof.new.book.entries in
-    left_so held c.args.words.now book (PrintProof c.in-PrintProof.steps c.in-PrintProof.budget) c.args.command c.in-PrintProof.is (left_proof held c.args.words.now book c.in-PrintProof.steps c.in-PrintProof.budget c.ask_case-in-PrintProof.ensures.left)
+    let book = c.ask_question.new.book.entries in
+    left_so held c.args.words.now book (Ask c.in-Ask.steps c.in-Ask.question) c.args.command c.in-Ask.is (left_question held c.args.words.now book c.in-Ask.steps c.in-Ask.question c.ask_question.ensures.left)
 
 pub returns-in-Bench-clause-left : goal.returns-in-Bench-clause-left
 returns-in-Bench-clause-left g c =

@@ -1,9 +1,9 @@
 -- By a session, or by the one reply that was due.
-use Rattle.std.proofs.Common.{rules, ◌≡◌, Some, Err, false, sym, ◌∙◌, ap}
-use Rattle.diagnose_cli.specs.Commands.{command_of, has_several, is_session}
+use Rattle.std.proofs.Common.{◌≡◌, Some, Err, sym, ◌∙◌, ap}
+use Rattle.diagnose_cli.specs.Commands.{command_of}
 use Rattle.diagnose_cli.specs.Due.{Due, HasNotBegun}
 use Rattle.diagnose_cli.specs.Files.{loads}
-use Rattle.diagnose_cli.specs.declared.command.Command.TheVariants.{Session, Verdicts}
+use Rattle.diagnose_cli.specs.declared.command.Command.TheVariants.{One, Session, Verdicts}
 use Rattle.diagnose_cli.specs.declared.stop.Stop.TheVariants.{Usage}
 use Rattle.diagnose_cli.proofs.GenerateAnswers.{asks_nothing, has_files}
 use Rattle.diagnose_cli.proofs.Left.{command_left, left_verdicts, none_left, session_left}
@@ -52,27 +52,26 @@ returns-in-Some-Verdicts-clause-left_alone g c =
       stopped = c.verdicts_command.ensures.stopped;
     }
 
-pub returns-in-Some-clause-does : goal.returns-in-Some-clause-does
-returns-in-Some-clause-does g c =
+pub returns-in-Some-One-clause-does : goal.returns-in-Some-One-clause-does
+returns-in-Some-One-clause-does g c =
     let l = loads g.F.Shelf.held g.F.Shelf.faults c.args.shelf.now c.answer-ending.new.shelf in
     let words = c.args.words.now in
-    let command = c.in-Some.command in
+    let command = c.in-Some-One.command in
     let book = c.answer-ending.new.book.entries in
-    let called = sym c.command_of.ensures.command ∙ c.in-Some.is in
-    let other : is_session command ≡ false = search rules in
-    let one : has_several command ≡ false = search rules in
-    done l words (g.S.Sink.taken c.args.out.now) (g.S.Sink.taken c.put_once-in-Some.new.out) book c.put_once-in-Some.result _
-    (speaks_once (Due l words book) (HasNotBegun words book) (no_session words command book called other) c.answer-ending.result _ _ _ _ (due_of l words command book c.answer-ending.result called c.answer-ending.ensures.due) c.put_once-in-Some.ensures.puts (cuts_due l words command book called one c.answer-ending.result c.answer-ending.ensures.due))
+    let called : command_of words ≡ Some (One command) = sym c.command_of.ensures.command ∙ c.in-Some-One.is ∙ ap Some c.in-Some-One.field-0-is in
+    done l words (g.S.Sink.taken c.args.out.now) (g.S.Sink.taken c.put_once-in-Some-One.new.out) book c.put_once-in-Some-One.result _
+    (speaks_once (Due l words book) (HasNotBegun words book) (no_session words (One command) book called (λ steps budget is. cc)) c.answer-ending.result _ _ _ _ (due_of l words (One command) book c.answer-ending.result called c.answer-ending.ensures.due) c.put_once-in-Some-One.ensures.puts
+    (cuts_due l words command book called c.answer-ending.result c.answer-ending.ensures.due))
 
-pub returns-in-Some-clause-left_alone : goal.returns-in-Some-clause-left_alone
-returns-in-Some-clause-left_alone g c =
+pub returns-in-Some-One-clause-left_alone : goal.returns-in-Some-One-clause-left_alone
+returns-in-Some-One-clause-left_alone g c =
     let words = c.args.words.now in
-    let command = c.in-Some.command in
-    let called = sym c.command_of.ensures.command ∙ c.in-Some.is in
+    let command = One c.in-Some-One.command in
+    let called : command_of words ≡ Some command = sym c.command_of.ensures.command ∙ c.in-Some-One.is ∙ ap Some c.in-Some-One.field-0-is in
     record {
       no_load = λ none. c.answer-ending.ensures.no_load (has_files words command called none);
       no_question = λ none. c.answer-ending.ensures.no_question (asks_nothing words command called none);
-      stopped = stop_left c.answer-ending.result _ _ _ _ _ c.put_once-in-Some.ensures.puts c.answer-ending.ensures.stopped;
+      stopped = stop_left c.answer-ending.result _ _ _ _ _ c.put_once-in-Some-One.ensures.puts c.answer-ending.ensures.stopped;
     }
 
 pub returns-in-None-clause-left : goal.returns-in-None-clause-left
@@ -89,5 +88,6 @@ returns-in-Some-Verdicts-clause-left g c =
     command_left _ (Verdicts steps budget) (sym c.command_of.ensures.command ∙ c.in-Some-Verdicts.is ∙ ap Some c.in-Some-Verdicts.field-0-is)
     (left_verdicts (g.F.Shelf.held c.args.shelf.now) c.args.words.now c.verdicts_command.new.book.entries steps budget c.verdicts_command.ensures.left)
 
-pub returns-in-Some-clause-left : goal.returns-in-Some-clause-left
-returns-in-Some-clause-left g c = command_left _ c.in-Some.command (sym c.command_of.ensures.command ∙ c.in-Some.is) c.answer-ending.ensures.left
+pub returns-in-Some-One-clause-left : goal.returns-in-Some-One-clause-left
+returns-in-Some-One-clause-left g c =
+    command_left _ (One c.in-Some-One.command) (sym c.command_of.ensures.command ∙ c.in-Some-One.is ∙ ap Some c.in-Some-One.field-0-is) c.answer-ending.ensures.left

@@ -22,7 +22,6 @@ returns c =
     (λ reply is. record {
       answer = answer;
       tested = c.requires.tested;
-      valid = c.entries.ensures.valid;
       again = twin_reads_back net c.args.fault n d budget book answer c.is_built.ensures.network c.is_built.ensures.whole c.requires.steps c.requires.tested;
       is = is;
     }) c.reply_of_twin.ensures

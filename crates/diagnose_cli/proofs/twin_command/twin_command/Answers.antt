@@ -1,8 +1,9 @@
 -- By its model, and then by the word of its event.
-use Rattle.std.proofs.Common.{[], sym}
+use Rattle.std.proofs.Common.{[]}
 use Rattle.des_base.specs.CommandWords.{word_at}
 use Rattle.model_text.specs.ModelFaults.{network_of}
-use Rattle.diagnose_cli.specs.declared.command.Command.TheVariants.{Twin}
+use Rattle.diagnose_cli.specs.declared.command.Command.TheVariants.{One}
+use Rattle.diagnose_cli.specs.declared.command.Single.TheVariants.{Twin}
 use Rattle.diagnose_cli.specs.Due.{Answers, Closes}
 use Rattle.diagnose_cli.specs.Files.{loads}
 use Rattle.diagnose_cli.specs.Texts.{model}
@@ -16,7 +17,7 @@ returns-in_err-net-clause-due g c =
     let l = loads g.F.Shelf.held g.F.Shelf.faults c.args.shelf.now c.fetch_model.new.shelf in
     let words = c.args.words.now in
     let limits = c.args.limits in
-    let command = Twin limits.steps limits.after limits.budget in
+    let command = One (Twin limits.steps limits.after limits.budget) in
     let book = c.args.book.now.entries in
     handed_after _ _ (Answers l words command book) c.from_residual.ensures.1 (λ never. stops_here l words 1 model [] [] (Closes command words book) _ (c.in_err-net.ensures.stop never))
 
@@ -25,7 +26,7 @@ returns-clause-due g c never =
     let l = loads g.F.Shelf.held g.F.Shelf.faults c.args.shelf.now c.fetch_model.new.shelf in
     let words = c.args.words.now in
     let limits = c.args.limits in
-    let command = Twin limits.steps limits.after limits.budget in
+    let command = One (Twin limits.steps limits.after limits.budget) in
     let book = c.ask_of_word.new.book.entries in
     let m = c.in_ok-net.ensures.net in
     goes_on l words 1 model [] [] (Closes command words book) m.0 (once c.ask_of_word.result) m.1 (c.ask_of_word.ensures.due words m.0 c.word.ensures m.2 never)

@@ -1,5 +1,5 @@
 -- By its two files, and then by what is told.
-use Rattle.std.proofs.Common.{Err, inl, refl}
+use Rattle.std.proofs.Common.{Err, inl}
 use Rattle.des_net.specs.Network.{Net}
 use Rattle.log_order.specs.Log.{Log}
 use Rattle.verdict_telling.specs.Left.{LeavesVerdicts}
@@ -25,7 +25,7 @@ returns-in-Err-clause-speaks g c =
     let book = c.args.book.now.entries in
     let steps = c.args.limits.steps in
     let budget = c.args.limits.budget in
-    speaks_once (Due l words book) (HasNotBegun words book) (no_session words (Verdicts steps budget) book c.requires.called refl) (Err c.in-Err.stop) _ _ _ _ (case_stops l words steps budget book c.requires.called c.in-Err.stop c.in-Err.ensures.stop) c.put_once.ensures.puts tt
+    speaks_once (Due l words book) (HasNotBegun words book) (no_session words (Verdicts steps budget) book c.requires.called (λ n b is. cc)) (Err c.in-Err.stop) _ _ _ _ (case_stops l words steps budget book c.requires.called c.in-Err.stop c.in-Err.ensures.stop) c.put_once.ensures.puts tt
 
 pub returns-in-Ok-clause-left : goal.returns-in-Ok-clause-left
 returns-in-Ok-clause-left g c text alarms told =
