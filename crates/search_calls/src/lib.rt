@@ -4,8 +4,6 @@
 #![tactic(auto)]
 
 #[cfg(test)]
-mod ample;
-#[cfg(test)]
 mod clauses;
 #[cfg(test)]
 mod counter;
@@ -17,6 +15,8 @@ mod formulas;
 mod learner;
 #[cfg(test)]
 mod ledger;
+#[cfg(test)]
+mod literals;
 #[cfg(test)]
 mod order;
 #[cfg(test)]

@@ -1,24 +1,95 @@
-// Variables by their ranks, at two closures.
-use crate::ample::got;
-use sat_order::Order;
+// Variables by their ranks, as a closure gives them.
+ghost use Rattle.sat_order.specs.Rank.{IsRank};
 
-#[test]
-fn takes_by_rank_then_by_number(rt: HostRuntime) {
-    let mut order = Order::new(rt.alloc(), |var: u32| (var % 3) as u64);
-    got(&rt, order.grow(7));
-    order.put_back(6);
-    let before = [order.take(), order.take()];
-    order.put_back(5);
-    got(&rt, order.grow(9));
-    let after = [order.take(), order.take(), order.take()];
-    assert!(rt; before == [Some(2), Some(5)] && after == [Some(5), Some(8), Some(1)]);
+use des_base::VAR_LIMIT;
+use sat_order::Order;
+use std::alloc::Global;
+
+// Grows where there are few variables, and says whether it could.
+fn grows<R: Fn(u32) -> u64>(order: &mut Order<R>, vars: u32) -> bool
+    requires { IsRank R.pre R.post order.old.rank }
+    ensures { IsRank R.pre R.post order.new.rank }
+{
+    vars < VAR_LIMIT && order.grow(vars).is_ok()
+}
+
+// Puts a variable back, and says whether it is known.
+fn puts_back<R: Fn(u32) -> u64>(order: &mut Order<R>, var: u32) -> bool
+    requires { IsRank R.pre R.post order.old.rank }
+    ensures { IsRank R.pre R.post order.new.rank }
+{
+    if var >= order.vars() {
+        return false;
+    }
+    order.put_back(var);
+    true
+}
+
+fn takes<R: Fn(u32) -> u64>(order: &mut Order<R>, var: u32) -> bool
+    requires { IsRank R.pre R.post order.old.rank }
+    ensures { IsRank R.pre R.post order.new.rank }
+{
+    order.take() == Some(var)
+}
+
+// A step: it grows to so many variables (+), or this variable is put back (<) or taken (>).
+type Step = (char, u32);
+
+fn does<R: Fn(u32) -> u64>(order: &mut Order<R>, step: &Step) -> bool
+    requires { IsRank R.pre R.post order.old.rank }
+    ensures { IsRank R.pre R.post order.new.rank }
+{
+    match step.0 {
+        '+' => grows(order, step.1),
+        '<' => puts_back(order, step.1),
+        _ => takes(order, step.1),
+    }
+}
+
+fn does_all<R: Fn(u32) -> u64>(order: &mut Order<R>, steps: &[Step]) -> bool
+    requires { IsRank R.pre R.post order.old.rank }
+{
+    for step in steps {
+        if !does(order, step) {
+            return false;
+        }
+    }
+    true
+}
+
+// By rank and then by number. A variable that waits is put back, too, and one that was taken.
+const BY_RANK: [Step; 9] = [
+    ('+', 7),
+    ('<', 6),
+    ('>', 2),
+    ('>', 5),
+    ('<', 5),
+    ('+', 9),
+    ('>', 5),
+    ('>', 8),
+    ('>', 1),
+];
+
+const LAST_FIRST: [Step; 3] = [('+', 2), ('>', 1), ('>', 0)];
+
+// The ranks of these variables, and of more.
+const RANKS: [u64; 9] = [0, 1, 2, 0, 1, 2, 0, 1, 2];
+
+// Whether these are the ranks, and this variable is taken then.
+fn goes_on<R: Fn(u32) -> u64>(order: &mut Order<R>, ranks: &[u64], next: Option<u32>) -> bool {
+    order.ranks() == ranks && order.take() == next
+}
+
+// Whether all steps can be done by a new order, where the last variable comes first, or else by the number modulo 3.
+fn takes_all(alloc: Global, last: bool, steps: &[Step], ranks: &[u64], next: Option<u32>) -> bool {
+    let mut order = Order::new(alloc, |var: u32| {
+        if last { var as u64 } else { (var % 3) as u64 }
+    });
+    does_all(&mut order, steps) && goes_on(&mut order, ranks, next)
 }
 
 #[test]
-fn takes_the_last_first(rt: HostRuntime) {
-    let mut order = Order::new(rt.alloc(), |var: u32| var as u64);
-    got(&rt, order.grow(2));
-    assert!(rt; order.ranks() == [0, 1].as_slice());
-    let taken = [order.take(), order.take(), order.take()];
-    assert!(rt; taken == [Some(1), Some(0), None]);
+fn takes_by_rank_then_by_number(rt: HostRuntime) {
+    assert!(rt; takes_all(rt.alloc(), false, &BY_RANK, &RANKS, Some(4)));
+    assert!(rt; takes_all(rt.alloc(), true, &LAST_FIRST, &RANKS[..2], None));
 }

@@ -1,38 +1,86 @@
 // Lists that stand one behind another.
-use crate::ample::got;
 use prop_core::Pieces;
+use std::alloc::Global;
 
-#[test]
-fn keeps_lists_apart(rt: HostRuntime) {
-    let mut pieces: Pieces<u32> = Pieces::new(rt.alloc());
-    assert!(rt; pieces.len() == 0);
-    got(&rt, pieces.reserve(4, 5));
-    pieces.push_reserved(&[7, 8]);
-    pieces.push_reserved(&[]);
-    pieces.push_reserved(&[9]);
-    assert!(rt; pieces.len() == 3);
-    assert!(rt; pieces.spare_pieces() == 1 && pieces.spare_items() == 2);
-    assert!(rt; pieces.piece(0) == [7_u32, 8].as_slice());
-    assert!(rt; pieces.piece(1).is_empty());
-    assert!(rt; pieces.piece(2) == [9_u32].as_slice());
+// Appends a list, and says whether there was room.
+fn pushes(pieces: &mut Pieces<u32>, piece: &[u32]) -> bool {
+    if pieces.spare_pieces() == 0 || pieces.spare_items() < piece.len() {
+        return false;
+    }
+    pieces.push_reserved(piece);
+    true
+}
+
+fn pushes_all(pieces: &mut Pieces<u32>, lists: &[&[u32]]) -> bool {
+    for piece in lists {
+        if !pushes(pieces, piece) {
+            return false;
+        }
+    }
+    true
+}
+
+// Whether this list stands at a place.
+fn has(pieces: &Pieces<u32>, place: usize, piece: &[u32]) -> bool {
+    place < pieces.len() as usize && pieces.piece(place) == piece
+}
+
+// Whether these are the lists.
+fn are_these(pieces: &Pieces<u32>, lists: &[&[u32]]) -> bool {
+    for place in 0..lists.len() {
+        if !has(pieces, place, lists[place]) {
+            return false;
+        }
+    }
+    pieces.len() as usize == lists.len()
+}
+
+// Whether there is room for one more list, of two items.
+fn has_room(pieces: &Pieces<u32>) -> bool {
+    pieces.spare_pieces() == 1 && pieces.spare_items() == 2
+}
+
+static THREE: [&[u32]; 3] = [&[7, 8], &[], &[9]];
+
+fn keeps_three(pieces: &mut Pieces<u32>) -> bool {
+    are_these(pieces, &[])
+        && pieces.reserve(4, 5).is_ok()
+        && pushes_all(pieces, &THREE)
+        && has_room(pieces)
+        && are_these(pieces, &THREE)
+}
+
+static ALL: [&[u32]; 4] = [&[7, 8], &[1], &[2, 3], &[4, 5]];
+
+// Whether the two lists in the middle come behind the first, and the last into the room that is left.
+fn appends(pieces: &mut Pieces<u32>, more: &Pieces<u32>) -> bool {
+    pieces.append(more).is_ok()
+        && has_room(pieces)
+        && pushes_all(pieces, &ALL[3..])
+        && are_these(pieces, &ALL)
+        && are_these(more, &ALL[1..3])
+}
+
+fn puts(pieces: &mut Pieces<u32>, more: &mut Pieces<u32>) -> bool {
+    pieces.reserve(2, 4).is_ok()
+        && pushes_all(pieces, &ALL[..1])
+        && more.reserve(2, 3).is_ok()
+        && pushes_all(more, &ALL[1..3])
+}
+
+fn appends_two(pieces: &mut Pieces<u32>, more: &mut Pieces<u32>) -> bool {
+    puts(pieces, more) && appends(pieces, more)
+}
+
+fn keeps_lists(alloc: Global) -> bool {
+    keeps_three(&mut Pieces::new(alloc))
+}
+
+fn appends_lists(alloc: Global) -> bool {
+    appends_two(&mut Pieces::new(alloc), &mut Pieces::new(alloc))
 }
 
 #[test]
-fn appends_lists(rt: HostRuntime) {
-    let mut pieces: Pieces<u32> = Pieces::new(rt.alloc());
-    let mut more: Pieces<u32> = Pieces::new(rt.alloc());
-    got(&rt, pieces.reserve(2, 4));
-    pieces.push_reserved(&[7, 8]);
-    got(&rt, more.reserve(2, 3));
-    more.push_reserved(&[1]);
-    more.push_reserved(&[2, 3]);
-    got(&rt, pieces.append(&more));
-    assert!(rt; pieces.len() == 3 && more.len() == 2);
-    assert!(rt; pieces.spare_pieces() == 1 && pieces.spare_items() == 2);
-    pieces.push_reserved(&[4, 5]);
-    assert!(rt; pieces.len() == 4);
-    assert!(rt; pieces.piece(1) == [1_u32].as_slice());
-    assert!(rt; pieces.piece(2) == [2_u32, 3].as_slice());
-    assert!(rt; pieces.piece(3) == [4_u32, 5].as_slice());
-    assert!(rt; more.piece(1) == [2_u32, 3].as_slice());
+fn keeps_lists_apart(rt: HostRuntime) {
+    assert!(rt; keeps_lists(rt.alloc()) && appends_lists(rt.alloc()));
 }

@@ -1,14 +1,13 @@
 // A search on a book is asked questions whose answers are known from elsewhere, and has to show its answers.
 ghost use Rattle.std.specs.Prelude.{◌≡◌, ◌≤◌, [], length};
 ghost use Rattle.prop_core.specs.Clauses.{HasValues, AreConsistent};
-ghost use Rattle.proof_ledger.specs.Book.{clauses_of};
 ghost use Rattle.sat_order.specs.Rank.{IsRank};
+ghost use Rattle.search_calls.specs.Ready.{IsReady};
 
-use crate::ample::got;
 use crate::evidence::{
     are_below, are_compatible, derives_again, is_model, is_refutation, learnt_since,
 };
-use crate::formulas::{drawn, pairs, pigeonholes, sums};
+use crate::formulas::{Formula, drawn, put};
 use des_base::Memory;
 use proof_ledger::Ledger;
 use prop_core::{Assignment, ClauseId, Clauses, Lit};
@@ -16,36 +15,12 @@ use sat_order::Order;
 use sat_solve::{Answer, Solver};
 use std::alloc::Global;
 
-// The answer that a question should have.
-#[derive(Clone, Copy)]
-enum Wanted {
-    Satisfiable,
-    Unsatisfiable,
-    Spent,
-}
+// A question: the budget, how many assumptions there are, eight at most, on the first variables, their signs as bits, and whether
+// it is satisfiable, or nothing where the budget is to be spent.
+type Question = (u64, usize, u64, Option<bool>);
 
-// A question with some assumptions, eight at most: the first so many variables, by their signs.
-#[derive(Clone, Copy)]
-struct Question {
-    budget: u64,
-    count: usize,
-    signs: u64,
-    wanted: Wanted,
-}
-
-// A question with a budget of more conflicts than any of these takes.
-fn ample(count: usize, signs: u64, satisfiable: bool) -> Question {
-    Question {
-        budget: 100_000,
-        count,
-        signs,
-        wanted: if satisfiable {
-            Wanted::Satisfiable
-        } else {
-            Wanted::Unsatisfiable
-        },
-    }
-}
+// A budget of more conflicts than any of these takes.
+const AMPLE: u64 = 100_000;
 
 // The first eight variables, with the signs that the bits of a number give.
 fn signed(signs: u64) -> [Lit; 8] {
@@ -66,14 +41,12 @@ fn signed(signs: u64) -> [Lit; 8] {
 fn add<R: Fn(u32) -> u64>(
     solver: &mut Solver<R>,
     book: &mut Ledger,
+    vars: u32,
     clause: &[Lit],
 ) -> Result<(), Memory>
-    requires ranked { IsRank R.pre R.post solver.old.order.rank }
-    requires adopted { solver.old.adopted ≡ clauses_of book.old.entries }
-    requires known { HasValues solver.old.vars clause.now }
-    ensures ranked { IsRank R.pre R.post solver.new.order.rank }
-    ensures adopted { solver.new.adopted ≡ clauses_of book.new.entries }
-    ensures vars { solver.new.vars ≡ solver.old.vars }
+    requires ready { IsReady R.pre R.post solver.old book.old.entries vars }
+    requires known { HasValues vars clause.now }
+    ensures { IsReady R.pre R.post solver.new book.new.entries vars }
 {
     solver.reserve(0, 1)?;
     book.add_axiom(clause)?;
@@ -90,61 +63,17 @@ fn add_all<R: Fn(u32) -> u64>(
     first: u64,
     end: u64,
 ) -> bool
-    requires ranked { IsRank R.pre R.post solver.old.order.rank }
-    requires adopted { solver.old.adopted ≡ clauses_of book.old.entries }
-    requires vars { solver.old.vars ≡ vars }
+    requires ready { IsReady R.pre R.post solver.old book.old.entries vars }
     requires end { end ≤ length clauses.now.clauses }
-    ensures ranked { IsRank R.pre R.post solver.new.order.rank }
-    ensures adopted { solver.new.adopted ≡ clauses_of book.new.entries }
-    ensures vars { solver.new.vars ≡ vars }
+    ensures { IsReady R.pre R.post solver.new book.new.entries vars }
 {
     for before in first..end {
         let clause = clauses.clause(ClauseId(before + 1));
-        if !are_below(clause, vars) || add(solver, book, clause).is_err() {
+        if !are_below(clause, vars) || add(solver, book, vars, clause).is_err() {
             return false;
         }
     }
     true
-}
-
-// Whether the solver answers the question rightly, shows the answer, and was paid for it.
-fn ask<R: Fn(u32) -> u64>(
-    alloc: Global,
-    solver: &mut Solver<R>,
-    book: &mut Ledger,
-    vars: u32,
-    question: &Question,
-) -> bool
-    requires ranked { IsRank R.pre R.post solver.old.order.rank }
-    requires adopted { solver.old.adopted ≡ clauses_of book.old.entries }
-    requires vars { solver.old.vars ≡ vars }
-    ensures ranked { IsRank R.pre R.post solver.new.order.rank }
-    ensures adopted { solver.new.adopted ≡ clauses_of book.new.entries }
-    ensures vars { solver.new.vars ≡ vars }
-{
-    let literals = signed(question.signs);
-    let assumed = &literals[..question.count.min(8)];
-    if !are_below(assumed, vars) || !are_compatible(assumed) {
-        return false;
-    }
-    let before = book.entries();
-    let mut left = question.budget;
-    match solver.solve(book, assumed, &mut left) {
-        Ok(answer) => {
-            left.saturating_add(learnt_since(book, before)) == question.budget
-                && is_shown(
-                    alloc,
-                    book,
-                    solver.assignment(),
-                    vars,
-                    assumed,
-                    question.wanted,
-                    answer,
-                    left,
-                )
-        }
-        Err(_) => false,
-    }
 }
 
 // Whether the answer is the one that is wanted, and is shown.
@@ -154,24 +83,75 @@ fn is_shown(
     values: &Assignment,
     vars: u32,
     assumed: &[Lit],
-    wanted: Wanted,
+    wanted: Option<bool>,
     answer: Answer,
-    left: u64,
 ) -> bool
-    requires enough { vars ≤ length values.now }
-    requires known { HasValues vars assumed.now }
+    requires { vars ≤ length values.now }
 {
     match answer {
-        Answer::Sat => {
-            matches!(wanted, Wanted::Satisfiable) && is_model(book.clauses(), values, vars, assumed)
-        }
+        Answer::Sat => wanted == Some(true) && is_model(book.clauses(), values, vars, assumed),
         Answer::Unsat(id) => {
-            matches!(wanted, Wanted::Unsatisfiable)
-                && is_refutation(book, id, assumed)
-                && derives_again(alloc, book)
+            wanted == Some(false) && is_refutation(book, id, assumed) && derives_again(alloc, book)
         }
-        Answer::Spent => matches!(wanted, Wanted::Spent) && left == 0,
+        Answer::Spent => wanted.is_none(),
     }
+}
+
+// Whether a search that left so much of its budget was paid for what it has learnt, and left nothing where it is to be spent.
+fn is_paid(book: &Ledger, before: u64, question: &Question, left: u64) -> bool {
+    let paid = left.saturating_add(learnt_since(book, before)) == question.0;
+    paid && (left == 0 || question.3.is_some())
+}
+
+// Whether the solver answers the question rightly under these assumptions, shows the answer, and was paid for it.
+fn answers_under<R: Fn(u32) -> u64>(
+    alloc: Global,
+    solver: &mut Solver<R>,
+    book: &mut Ledger,
+    vars: u32,
+    assumed: &[Lit],
+    question: &Question,
+) -> bool
+    requires ready { IsReady R.pre R.post solver.old book.old.entries vars }
+    requires known { HasValues vars assumed.now }
+    requires compatible { AreConsistent assumed.now }
+    ensures { IsReady R.pre R.post solver.new book.new.entries vars }
+{
+    let before = book.entries();
+    let mut left = question.0;
+    match solver.solve(book, assumed, &mut left) {
+        Ok(answer) => {
+            is_paid(book, before, question, left)
+                && is_shown(
+                    alloc,
+                    book,
+                    solver.assignment(),
+                    vars,
+                    assumed,
+                    question.3,
+                    answer,
+                )
+        }
+        Err(_) => false,
+    }
+}
+
+// Whether it does under the assumptions that the question has.
+fn ask<R: Fn(u32) -> u64>(
+    alloc: Global,
+    solver: &mut Solver<R>,
+    book: &mut Ledger,
+    vars: u32,
+    question: &Question,
+) -> bool
+    requires { IsReady R.pre R.post solver.old book.old.entries vars }
+    ensures { IsReady R.pre R.post solver.new book.new.entries vars }
+{
+    let literals = signed(question.2);
+    let assumed = &literals[..question.1.min(8)];
+    are_below(assumed, vars)
+        && are_compatible(assumed)
+        && answers_under(alloc, solver, book, vars, assumed, question)
 }
 
 // Whether all questions are answered rightly.
@@ -182,12 +162,8 @@ fn ask_all<R: Fn(u32) -> u64>(
     vars: u32,
     questions: &[Question],
 ) -> bool
-    requires ranked { IsRank R.pre R.post solver.old.order.rank }
-    requires adopted { solver.old.adopted ≡ clauses_of book.old.entries }
-    requires vars { solver.old.vars ≡ vars }
-    ensures ranked { IsRank R.pre R.post solver.new.order.rank }
-    ensures adopted { solver.new.adopted ≡ clauses_of book.new.entries }
-    ensures vars { solver.new.vars ≡ vars }
+    requires { IsReady R.pre R.post solver.old book.old.entries vars }
+    ensures { IsReady R.pre R.post solver.new book.new.entries vars }
 {
     for question in questions {
         if !ask(alloc, solver, book, vars, question) {
@@ -207,9 +183,7 @@ fn answers_in_two<R: Fn(u32) -> u64>(
     early: &[Question],
     late: &[Question],
 ) -> bool
-    requires ranked { IsRank R.pre R.post solver.old.order.rank }
-    requires adopted { solver.old.adopted ≡ clauses_of book.old.entries }
-    requires vars { solver.old.vars ≡ vars }
+    requires { IsReady R.pre R.post solver.old book.old.entries vars }
 {
     let end = clauses.len();
     let first = end - end / 4;
@@ -219,94 +193,90 @@ fn answers_in_two<R: Fn(u32) -> u64>(
         && ask_all(alloc, solver, book, vars, late)
 }
 
-// The same of a new solver with this order.
+// The same of a new solver and an empty book, with at most 1,000 variables.
+fn answers_anew<R: Fn(u32) -> u64>(
+    alloc: Global,
+    solver: &mut Solver<R>,
+    book: &mut Ledger,
+    vars: u32,
+    clauses: &Clauses,
+    early: &[Question],
+    late: &[Question],
+) -> bool
+    requires ranked { IsRank R.pre R.post solver.old.order.rank }
+    requires adopted { solver.old.adopted ≡ [] }
+    requires vars { solver.old.vars ≡ 0 }
+    requires empty { book.old.entries ≡ [] }
+{
+    vars <= 1000
+        && solver.reserve(vars, 0).is_ok()
+        && answers_in_two(alloc, solver, book, vars, clauses, early, late)
+}
+
+// The same with this order.
 fn answers<R: Fn(u32) -> u64>(
     alloc: Global,
     order: Order<R>,
+    book: &mut Ledger,
     vars: u32,
     clauses: &Clauses,
     early: &[Question],
     late: &[Question],
 ) -> bool
     requires ranked { IsRank R.pre R.post order.rank }
-    requires empty { order.waiting ≡ [] }
-    requires few { vars ≤ 1000 }
+    requires unused { order.waiting ≡ [] }
+    requires empty { book.old.entries ≡ [] }
 {
-    let mut book = Ledger::new(alloc);
     let mut solver = Solver::new(alloc, order);
-    solver.reserve(vars, 0).is_ok()
-        && answers_in_two(alloc, &mut solver, &mut book, vars, clauses, early, late)
+    answers_anew(alloc, &mut solver, book, vars, clauses, early, late)
 }
 
-// The same, where the last variable is decided first.
-fn by_last(
+// The same, where the last variable is decided first, or else odd variables are.
+fn are_answered(
     alloc: Global,
+    last: bool,
     vars: u32,
     clauses: &Clauses,
     early: &[Question],
     late: &[Question],
-) -> bool
-    requires few { vars ≤ 1000 }
-{
-    let last = Order::new(alloc, |var: u32| var as u64);
-    answers(alloc, last, vars, clauses, early, late)
+) -> bool {
+    let order = Order::new(alloc, |var: u32| {
+        if last { var as u64 } else { (var % 2) as u64 }
+    });
+    answers(
+        alloc,
+        order,
+        &mut Ledger::new(alloc),
+        vars,
+        clauses,
+        early,
+        late,
+    )
 }
 
-// The same, where odd variables are decided first.
-fn by_odd(
+// The same by each of these ranks.
+fn by_each(
     alloc: Global,
+    ranks: &[bool],
     vars: u32,
     clauses: &Clauses,
     early: &[Question],
     late: &[Question],
-) -> bool
-    requires few { vars ≤ 1000 }
-{
-    let odd = Order::new(alloc, |var: u32| (var % 2) as u64);
-    answers(alloc, odd, vars, clauses, early, late)
-}
-
-// The same by both ranks.
-fn by_both(
-    alloc: Global,
-    vars: u32,
-    clauses: &Clauses,
-    early: &[Question],
-    late: &[Question],
-) -> bool
-    requires few { vars ≤ 1000 }
-{
-    by_last(alloc, vars, clauses, early, late) && by_odd(alloc, vars, clauses, early, late)
-}
-
-// Clauses of two variables by their signs, a budget, the assumptions, and whether they are satisfiable.
-const WORKED: [(&[(bool, bool)], u64, usize, bool); 3] = [
-    (&[], 0, 0, true),
-    (
-        &[(true, true), (false, true), (true, false), (false, false)],
-        1000,
-        0,
-        false,
-    ),
-    (&[(false, true), (false, false)], 0, 1, false),
-];
-
-#[test]
-fn worked_rows(rt: HostRuntime) {
-    for (signs, budget, count, satisfiable) in WORKED {
-        let clauses = got(&rt, pairs(rt.alloc(), signs));
-        let question = Question {
-            budget,
-            ..ample(count, 1, satisfiable)
-        };
-        assert!(rt; by_both(rt.alloc(), 2, &clauses, &[], &[question]));
+) -> bool {
+    for last in ranks {
+        if !are_answered(alloc, *last, vars, clauses, early, late) {
+            return false;
+        }
     }
+    true
 }
 
 // Formulas of three literals a clause near the threshold, by seed, variables and clauses; and whether they are satisfiable: all
 // clauses but the last quarter, those under four assumptions, all clauses, and all under the assumptions. MiniSat and CaDiCaL
 // found these answers.
-const DRAWN: [(u64, u32, u32, [bool; 4]); 40] = [
+type Drawn = (u64, u32, u32, [bool; 4]);
+
+static DRAWN: [Drawn; 40] = [
     (1, 9, 38, [true, false, true, false]),
     (2, 10, 43, [true, true, true, true]),
     (3, 11, 47, [true, false, true, false]),
@@ -349,71 +319,127 @@ const DRAWN: [(u64, u32, u32, [bool; 4]); 40] = [
     (40, 9, 38, [true, false, true, false]),
 ];
 
+fn answers_drawn(alloc: Global, row: &Drawn, clauses: &mut Clauses) -> bool {
+    let (seed, vars, count, is) = *row;
+    let early = [(AMPLE, 0, seed, Some(is[0])), (AMPLE, 4, seed, Some(is[1]))];
+    let late = [(AMPLE, 0, seed, Some(is[2])), (AMPLE, 4, seed, Some(is[3]))];
+    drawn(seed, vars, count, clauses)
+        && by_each(alloc, &[true, false], vars, clauses, &early, &late)
+}
+
+fn all_drawn(alloc: Global, rows: &[Drawn]) -> bool {
+    for row in rows {
+        if !answers_drawn(alloc, row, &mut Clauses::new(alloc)) {
+            return false;
+        }
+    }
+    true
+}
+
 #[test]
 fn formulas_of_three_literals_a_clause(rt: HostRuntime) {
-    for (seed, vars, count, is) in DRAWN {
-        let clauses = got(&rt, drawn(rt.alloc(), seed, vars, count));
-        let early = [ample(0, seed, is[0]), ample(4, seed, is[1])];
-        let late = [ample(0, seed, is[2]), ample(4, seed, is[3])];
-        assert!(rt; vars <= 1000);
-        assert!(rt;
-            by_both(rt.alloc(), vars, &clauses, &early, &late),
-            "seed {seed}"
-        );
-    }
+    assert!(rt; all_drawn(rt.alloc(), &DRAWN));
 }
 
-// One pigeon more than there are holes has no place; without it each has.
-#[test]
-fn pigeons_in_holes(rt: HostRuntime) {
-    for holes in 1..5 {
-        let pigeons = holes + 1;
-        let clauses = got(&rt, pigeonholes(rt.alloc(), pigeons, holes));
-        let fits = ample(holes as usize, 31, true);
-        let questions = [fits, ample(pigeons as usize, 31, false), fits];
-        assert!(rt;
-            by_last(rt.alloc(), pigeons * pigeons, &clauses, &[], &questions),
-            "{holes}"
-        );
-    }
-}
+// A formula, how many variables it has, by which ranks it is asked, and the questions.
+type Row = (Formula, u32, &'static [bool], &'static [Question]);
 
-// Two sums of the same inputs are the same.
-#[test]
-fn sums_of_the_same_inputs(rt: HostRuntime) {
-    let questions = [
-        ample(2, 0, true),
-        ample(2, 1, false),
-        ample(2, 2, false),
-        ample(2, 3, true),
-    ];
-    for inputs in 1..7 {
-        let clauses = got(&rt, sums(rt.alloc(), inputs));
-        assert!(rt;
-            by_odd(rt.alloc(), 3 * inputs + 4, &clauses, &[], &questions),
-            "{inputs}"
-        );
-    }
-}
+static WORKED: [Row; 3] = [
+    (
+        Formula::Pairs(&[]),
+        2,
+        &[true, false],
+        &[(0, 0, 0, Some(true))],
+    ),
+    (
+        Formula::Pairs(&[(true, true), (false, true), (true, false), (false, false)]),
+        2,
+        &[true, false],
+        &[(1000, 0, 0, Some(false))],
+    ),
+    (
+        Formula::Pairs(&[(false, true), (false, false)]),
+        2,
+        &[true, false],
+        &[(0, 1, 1, Some(false))],
+    ),
+];
+
+// All pigeons but one have holes, all together don't, and then all but one do again.
+const ONE_HOLE: [Question; 3] = [
+    (AMPLE, 1, 31, Some(true)),
+    (AMPLE, 2, 31, Some(false)),
+    (AMPLE, 1, 31, Some(true)),
+];
+
+const TWO_HOLES: [Question; 3] = [
+    (AMPLE, 2, 31, Some(true)),
+    (AMPLE, 3, 31, Some(false)),
+    (AMPLE, 2, 31, Some(true)),
+];
+
+const THREE_HOLES: [Question; 3] = [
+    (AMPLE, 3, 31, Some(true)),
+    (AMPLE, 4, 31, Some(false)),
+    (AMPLE, 3, 31, Some(true)),
+];
+
+const FOUR_HOLES: [Question; 3] = [
+    (AMPLE, 4, 31, Some(true)),
+    (AMPLE, 5, 31, Some(false)),
+    (AMPLE, 4, 31, Some(true)),
+];
 
 // A search that was cut off goes on when it is asked again.
+const SPENT: [Question; 3] = [
+    (0, 4, 15, None),
+    (1, 4, 15, None),
+    (AMPLE, 4, 15, Some(false)),
+];
+
+// One pigeon more than there are holes has no place; without it each has.
+static PIGEONS: [Row; 5] = [
+    (Formula::Pigeons(2, 1), 4, &[true], &ONE_HOLE),
+    (Formula::Pigeons(3, 2), 9, &[true], &TWO_HOLES),
+    (Formula::Pigeons(4, 3), 16, &[true], &THREE_HOLES),
+    (Formula::Pigeons(5, 4), 25, &[true], &FOUR_HOLES),
+    (Formula::Pigeons(4, 3), 16, &[true], &SPENT),
+];
+
+// What two sums are.
+const PARITIES: [Question; 4] = [
+    (AMPLE, 2, 0, Some(true)),
+    (AMPLE, 2, 1, Some(false)),
+    (AMPLE, 2, 2, Some(false)),
+    (AMPLE, 2, 3, Some(true)),
+];
+
+// Two sums of the same inputs are the same.
+static SUMS: [Row; 6] = [
+    (Formula::Sums(1), 7, &[false], &PARITIES),
+    (Formula::Sums(2), 10, &[false], &PARITIES),
+    (Formula::Sums(3), 13, &[false], &PARITIES),
+    (Formula::Sums(4), 16, &[false], &PARITIES),
+    (Formula::Sums(5), 19, &[false], &PARITIES),
+    (Formula::Sums(6), 22, &[false], &PARITIES),
+];
+
+fn answers_row(alloc: Global, row: &Row, clauses: &mut Clauses) -> bool {
+    put(alloc, &row.0, clauses) && by_each(alloc, row.2, row.1, clauses, &[], row.3)
+}
+
+fn answers_all(alloc: Global, rows: &[Row]) -> bool {
+    for row in rows {
+        if !answers_row(alloc, row, &mut Clauses::new(alloc)) {
+            return false;
+        }
+    }
+    true
+}
+
 #[test]
-fn goes_on_after_spent(rt: HostRuntime) {
-    let spent = Question {
-        budget: 0,
-        count: 4,
-        signs: 15,
-        wanted: Wanted::Spent,
-    };
-    let more = Question { budget: 1, ..spent };
-    let clauses = got(&rt, pigeonholes(rt.alloc(), 4, 3));
-    assert!(rt;
-        by_last(
-            rt.alloc(),
-            16,
-            &clauses,
-            &[],
-            &[spent, more, ample(4, 15, false)]
-        )
-    );
+fn pairs_pigeons_and_sums(rt: HostRuntime) {
+    assert!(rt; answers_all(rt.alloc(), &WORKED));
+    assert!(rt; answers_all(rt.alloc(), &PIGEONS));
+    assert!(rt; answers_all(rt.alloc(), &SUMS));
 }

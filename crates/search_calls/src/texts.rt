@@ -25,7 +25,7 @@ fn print_proof(alloc: Global, text: &[u8], out: &mut Vec<u8>) -> bool
 }
 
 // A text of a formula, and how it is printed.
-const FORMULAS: [(&str, &str); 3] = [
+static FORMULAS: [(&str, &str); 3] = [
     ("p cnf 0 0", "p cnf 0 0\n"),
     ("c x\np cnf 2 1\n1\n\t2 0\n", "p cnf 2 1\n1 2 0\n"),
     (
@@ -35,7 +35,7 @@ const FORMULAS: [(&str, &str); 3] = [
 ];
 
 // A text of a proof, and how it is printed.
-const PROOFS: [(&str, &str); 3] = [
+static PROOFS: [(&str, &str); 3] = [
     ("", ""),
     ("c x\n\n9 d 0\n0 d 5 7 0", "1 d 0\n1 d 5 7 0\n"),
     (
@@ -44,30 +44,44 @@ const PROOFS: [(&str, &str); 3] = [
     ),
 ];
 
-#[test]
-fn formulas_are_printed(rt: HostRuntime) {
-    let mut out = Vec::new(rt.alloc());
-    for (text, printed) in FORMULAS {
-        out.clear();
-        assert!(rt; text.len() < 100);
-        assert!(rt;
-            print_formula(rt.alloc(), text.as_bytes(), &mut out),
-            "{text:?}"
-        );
-        assert!(rt; out.as_slice() == printed.as_bytes(), "{text:?}");
+fn formula_is_printed(alloc: Global, text: &str, printed: &str, out: &mut Vec<u8>) -> bool {
+    out.clear();
+    text.len() < 100
+        && print_formula(alloc, text.as_bytes(), out)
+        && out.as_slice() == printed.as_bytes()
+}
+
+fn proof_is_printed(alloc: Global, text: &str, printed: &str, out: &mut Vec<u8>) -> bool {
+    out.clear();
+    text.len() < 100
+        && print_proof(alloc, text.as_bytes(), out)
+        && out.as_slice() == printed.as_bytes()
+}
+
+fn print_formulas(alloc: Global, out: &mut Vec<u8>) -> bool {
+    for row in &FORMULAS {
+        if !formula_is_printed(alloc, row.0, row.1, out) {
+            return false;
+        }
     }
+    true
+}
+
+fn print_proofs(alloc: Global, out: &mut Vec<u8>) -> bool {
+    for row in &PROOFS {
+        if !proof_is_printed(alloc, row.0, row.1, out) {
+            return false;
+        }
+    }
+    true
+}
+
+fn print_all(alloc: Global) -> bool {
+    let mut out = Vec::new(alloc);
+    print_formulas(alloc, &mut out) && print_proofs(alloc, &mut out)
 }
 
 #[test]
-fn proofs_are_printed(rt: HostRuntime) {
-    let mut out = Vec::new(rt.alloc());
-    for (text, printed) in PROOFS {
-        out.clear();
-        assert!(rt; text.len() < 100);
-        assert!(rt;
-            print_proof(rt.alloc(), text.as_bytes(), &mut out),
-            "{text:?}"
-        );
-        assert!(rt; out.as_slice() == printed.as_bytes(), "{text:?}");
-    }
+fn formulas_and_proofs_are_printed(rt: HostRuntime) {
+    assert!(rt; print_all(rt.alloc()));
 }
