@@ -5,7 +5,7 @@ ghost use Rattle.log_clauses.specs.Additions.{alarm_added};
 ghost use Rattle.log_encode.specs.CodedLog.{nameless, code_after};
 ghost use Rattle.log_encode.specs.Drafted.{IsDraftOf};
 
-use crate::networks::network;
+use crate::networks::{Case, passes_on};
 use crate::truths::{all_true, clauses_true, is_true};
 use des_base::{EventId, Name, VAR_LIMIT};
 use des_net::Network;
@@ -176,12 +176,23 @@ fn name(rt: &impl Abort, alloc: Global, text: &[u8]) -> Name {
     Name::new(alloc, text).ok().expect(rt, "a name")
 }
 
+// Two alarms and a pair.
+fn add_both(rt: &impl Abort, alloc: Global, net: &Network, grown: &mut Grown)
+    requires { IsGrown net.now grown.old.steps grown.old.vars grown.old.alarms grown.old.code.code }
+    ensures { IsGrown net.now grown.new.steps grown.new.vars grown.new.alarms grown.new.code.code }
+{
+    add_alarm(rt, net, grown, name(rt, alloc, b"A"));
+    add_alarm(rt, net, grown, name(rt, alloc, b"B"));
+    add_pair(rt, net, grown, 1, 0);
+}
+
+pub(super) fn tells_both(rt: &impl Abort, alloc: Global, net: &Network) -> bool {
+    let mut grown = begun(rt, alloc, net);
+    add_both(rt, alloc, net, &mut grown);
+    holds(&grown) && is_told(rt, alloc, net, &grown)
+}
+
 #[test]
 fn two_alarms_of_one_step(rt: HostRuntime) {
-    let net = network(&rt, rt.alloc(), A_AND_B);
-    let mut grown = begun(&rt, rt.alloc(), &net);
-    add_alarm(&rt, &net, &mut grown, name(&rt, rt.alloc(), b"A"));
-    add_alarm(&rt, &net, &mut grown, name(&rt, rt.alloc(), b"B"));
-    add_pair(&rt, &net, &mut grown, 1, 0);
-    assert!(rt; holds(&grown) && is_told(&rt, rt.alloc(), &net, &grown));
+    assert!(rt; passes_on(&rt, rt.alloc(), A_AND_B, &Case::Told));
 }

@@ -1,13 +1,48 @@
-// Small networks, as model texts.
+// Small networks, as model texts, and what is tried on them.
+use crate::logs::tells_both;
+use crate::runs::{Text, reads_all};
+use crate::steps::{Allowed, allows_five, allows_row, stands_behind_five};
 use des_net::Network;
 use model_text::read_model;
+use prop_core::Clauses;
 use std::alloc::Global;
 use std::process::Abort;
 
-pub(super) fn network(rt: &impl Abort, alloc: Global, text: &str) -> Network {
-    assert!(rt; text.len() < 2000);
-    match read_model(alloc, text.as_bytes()) {
-        Ok(net) => net,
-        Err(_) => panic!(rt; "it should be a model text"),
+fn network(alloc: Global, text: &str) -> Option<Network> {
+    if text.len() > 1000 {
+        return None;
+    }
+    read_model(alloc, text.as_bytes()).ok()
+}
+
+// What is tried on a network.
+#[derive(Drop)]
+pub(super) enum Case<'a> {
+    // Runs have these steps.
+    Reads(&'a [Text]),
+    // Two alarms have the two events.
+    Told,
+    // Just these choices are allowed.
+    Allows(&'a Allowed),
+    // Five choices are, whatever test is stored.
+    AllowsFive,
+    // The code stands behind what was there.
+    Behind,
+}
+
+fn passes(rt: &impl Abort, alloc: Global, net: &Network, case: &Case<'_>) -> bool {
+    match case {
+        Case::Reads(texts) => reads_all(alloc, net, texts),
+        Case::Told => tells_both(rt, alloc, net),
+        Case::Allows(row) => allows_row(rt, alloc, net, row),
+        Case::AllowsFive => allows_five(rt, alloc, net),
+        Case::Behind => stands_behind_five(rt, alloc, net, &mut Clauses::new(alloc)),
+    }
+}
+
+pub(super) fn passes_on(rt: &impl Abort, alloc: Global, text: &str, case: &Case<'_>) -> bool {
+    match network(alloc, text) {
+        Some(net) => passes(rt, alloc, &net, case),
+        None => false,
     }
 }

@@ -1,5 +1,5 @@
 // The steps of runs, which no printed answer shows.
-use crate::networks::network;
+use crate::networks::{Case, passes_on};
 use des_base::{EventId, Name};
 use des_net::Network;
 use replay::{Run, RunStep, read_run};
@@ -20,10 +20,12 @@ event eb : fork.b
 ";
 
 // A step: the number of its event, or none for a false alarm, and the name of its alarm where there is one.
-type Row = (Option<u32>, &'static str);
+pub(super) type Row = (Option<u32>, &'static str);
 
 // What texts say.
-const TEXTS: [(&str, &[Row]); 11] = [
+pub(super) type Text = (&'static str, &'static [Row]);
+
+const TEXTS: [Text; 11] = [
     ("run 0", &[]),
     ("run 1\ng\n", &[(Some(0), "")]),
     ("run 1\ng", &[(Some(0), "")]),
@@ -58,38 +60,55 @@ fn is_step(step: &RunStep, row: &Row) -> bool {
 }
 
 fn are_steps(steps: &[RunStep], rows: &[Row]) -> bool {
-    for (step, row) in steps.iter().zip(rows) {
-        if !is_step(step, row) {
+    if steps.len() != rows.len() {
+        return false;
+    }
+    for place in 0..rows.len() {
+        if !is_step(&steps[place], &rows[place]) {
             return false;
         }
     }
-    steps.len() == rows.len()
+    true
 }
 
-fn reads_as(alloc: Global, net: &Network, text: &str, rows: &[Row]) -> bool {
-    if text.len() > 1000 {
+fn reads_as(alloc: Global, net: &Network, row: &Text) -> bool {
+    if row.0.len() > 1000 {
         return false;
     }
-    match read_run(alloc, text.as_bytes(), net) {
-        Ok(run) => are_steps(run.steps(), rows),
+    match read_run(alloc, row.0.as_bytes(), net) {
+        Ok(run) => are_steps(run.steps(), row.1),
         Err(_) => false,
     }
 }
 
+pub(super) fn reads_all(alloc: Global, net: &Network, rows: &[Text]) -> bool {
+    for row in rows {
+        if !reads_as(alloc, net, row) {
+            return false;
+        }
+    }
+    true
+}
+
 #[test]
 fn reads_steps(rt: HostRuntime) {
-    let net = network(&rt, rt.alloc(), FORK);
-    for (text, rows) in TEXTS {
-        assert!(rt; reads_as(rt.alloc(), &net, text, rows), "{text}");
-    }
+    assert!(rt; passes_on(&rt, rt.alloc(), FORK, &Case::Reads(&TEXTS)));
+}
+
+const PUSHED: [Row; 1] = [(Some(7), "x1")];
+
+fn keeps(run: &mut Run, alarm: Option<Name>) -> bool {
+    let event = EventId(7);
+    run.steps().is_empty()
+        && run.push(RunStep::Happens { event, alarm }).is_ok()
+        && are_steps(run.steps(), &PUSHED)
+}
+
+fn keeps_one(alloc: Global) -> bool {
+    keeps(&mut Run::new(alloc), Name::new(alloc, b"x1").ok())
 }
 
 #[test]
 fn keeps_steps(rt: HostRuntime) {
-    let mut run = Run::new(rt.alloc());
-    assert!(rt; run.steps().is_empty());
-    let alarm = Name::new(rt.alloc(), b"x1").ok();
-    let event = EventId(7);
-    assert!(rt; run.push(RunStep::Happens { event, alarm }).is_ok());
-    assert!(rt; are_steps(run.steps(), &[(Some(7), "x1")]));
+    assert!(rt; keeps_one(rt.alloc()));
 }
