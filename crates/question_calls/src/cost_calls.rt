@@ -1,17 +1,19 @@
 // The least total cost by two stored closures: one looks up what was read from a text, the other has the costs itself.
-ghost use Rattle.std.specs.Prelude.{◌≡◌, ◌≤◌, []};
+ghost use Rattle.std.specs.Prelude.{◌≡◌, ◌≤◌, [], true};
 ghost use Rattle.cost_least.specs.Costs.{cost_size};
 ghost use Rattle.des_base.specs.declared.TheConstants.{MOST_STEPS};
 ghost use Rattle.event_costs.specs.Prices.{IsPrice};
 ghost use Rattle.event_costs.specs.StoredCosts.{IsCost};
+ghost use Rattle.indep.specs.StoredTest.{IsTest};
+ghost use Rattle.least_faults.specs.Building.{IsUnused};
 ghost use Rattle.least_faults.specs.Parts.{AreReady, BelongTo};
 ghost use Rattle.least_faults.specs.declared.TheConstants.{MOST_SIZE};
 
-use crate::models::{VALVE, alarm_log, network};
+use crate::models::{Case, VALVE, alarm_log, passes_on};
 use cost_least::{Cheap, cheapest, cost_size};
-use des_base::EventId;
+use des_base::{EventId, Memory};
 use des_net::Network;
-use event_costs::{Costs, read_costs};
+use event_costs::{Costs, MOST_COST, read_costs};
 use indep::{Indep, plain_touch};
 use least_faults::{MOST_SIZE, Parts, build};
 use log_order::AlarmLog;
@@ -22,8 +24,7 @@ use std::alloc::Global;
 
 // A question, and the least total, or none where it is above 1,000. By the text the first event has the first price, and each other
 // fault event has the second.
-struct Row {
-    model: &'static str,
+pub struct Row {
     log: &'static str,
     costs: &'static str,
     prices: (u32, u32),
@@ -36,7 +37,6 @@ const TWO_WAYS: &str =
     "des 1\ncomponent c\nstate s init\nstate m\nstate t\ntrans s f t\ntrans s g m\ntrans m h t\ntrans t a t\nevent ef fault : c.f\nevent eg fault : c.g\nevent eh fault : c.h\nevent ea alarm A : c.a\n";
 
 const TWO_FAULTS_ARE_CHEAPER: Row = Row {
-    model: TWO_WAYS,
     log: "alarm,x,A\n",
     costs: "costs 1\ncost ef 10\ncost eg 2\ncost eh 2\n",
     prices: (10, 2),
@@ -46,7 +46,6 @@ const TWO_FAULTS_ARE_CHEAPER: Row = Row {
 
 // There are not steps enough for two faults.
 const ONE_FAULT_IS_LEFT: Row = Row {
-    model: TWO_WAYS,
     log: "alarm,x,A\n",
     costs: "costs 1\ncost ef 10\ncost eg 2\ncost eh 2\n",
     prices: (10, 2),
@@ -56,7 +55,6 @@ const ONE_FAULT_IS_LEFT: Row = Row {
 
 // The valve trips twice.
 const TWO_JAMS_ARE_DEAR: Row = Row {
-    model: VALVE,
     log: "alarm,a1,T\nalarm,a2,F\nalarm,a3,T\nbefore,a1,a2\nbefore,a2,a3\n",
     costs: "costs 1\ncost jam 600\n",
     prices: (600, 1),
@@ -64,10 +62,10 @@ const TWO_JAMS_ARE_DEAR: Row = Row {
     least: None,
 };
 
-fn is_least(cheap: &Cheap, want: Option<u32>) -> bool {
-    match cheap {
-        Cheap::Found(priced) => want == Some(priced.cost),
-        Cheap::Dear(_) => want.is_none(),
+fn is_least(answer: Result<Cheap, Memory>, want: Option<u32>) -> bool {
+    match answer {
+        Ok(Cheap::Found(priced)) => want == Some(priced.cost),
+        Ok(Cheap::Dear(_)) => want.is_none(),
         _ => false,
     }
 }
@@ -77,26 +75,52 @@ fn weighs<C: Fn(u32) -> u32, R: Fn(u32) -> u64>(
     alloc: Global,
     net: &Network,
     log: &AlarmLog,
-    parts: &mut Parts<R>,
+    built: Parts<R>,
     costs: &Costs<C>,
     book: &mut Ledger,
     want: Option<u32>,
 ) -> bool
     requires cost { IsCost C.pre C.post costs.now.cost costs.now.net }
     requires net { costs.now.net ≡ net.now }
-    requires belong { BelongTo net.now log.now parts.old }
-    requires steps { parts.old.step.steps ≤ MOST_STEPS }
-    requires ready { AreReady R.pre R.post parts.old book.old.entries }
-    requires size { cost_size net.now log.now parts.old.step.steps ≤ MOST_SIZE }
+    requires belong { BelongTo net.now log.now built }
+    requires steps { built.step.steps ≤ MOST_STEPS }
+    requires ready { AreReady R.pre R.post built book.old.entries }
+    requires size { cost_size net.now log.now built.step.steps ≤ MOST_SIZE }
 {
-    match cheapest(alloc, net, log, parts, costs, book, 1000) {
-        Ok(cheap) => is_least(&cheap, want),
+    let mut parts = built;
+    let answer = cheapest(alloc, net, log, &mut parts, costs, book, 1000);
+    is_least(answer, want)
+}
+
+// The same where the book is empty, with a test and a solver that are given.
+fn builds<T: Fn(u32, u32) -> bool, C: Fn(u32) -> u32, R: Fn(u32) -> u64>(
+    alloc: Global,
+    net: &Network,
+    log: &AlarmLog,
+    steps: u32,
+    test: &Indep<T>,
+    solver: Solver<R>,
+    costs: &Costs<C>,
+    book: &mut Ledger,
+    want: Option<u32>,
+) -> bool
+    requires right { IsTest T.pre T.post test.now.test test.now.net }
+    requires same { test.now.net ≡ net.now }
+    requires unused { IsUnused R.pre R.post solver }
+    requires cost { IsCost C.pre C.post costs.now.cost costs.now.net }
+    requires net { costs.now.net ≡ net.now }
+    requires steps { steps ≤ MOST_STEPS }
+    requires size { cost_size net.now log.now steps ≤ MOST_SIZE }
+    requires empty { book.old.entries ≡ [] }
+{
+    match build(alloc, net, log, steps, test, solver, book) {
+        Ok(parts) => weighs(alloc, net, log, parts, costs, book, want),
         Err(_) => false,
     }
 }
 
-// The same where the book is empty.
-fn builds<C: Fn(u32) -> u32>(
+// The same by the test that looks at the parts, where the last variable is decided first.
+fn builds_plainly<C: Fn(u32) -> u32>(
     alloc: Global,
     net: &Network,
     log: &AlarmLog,
@@ -115,13 +139,7 @@ fn builds<C: Fn(u32) -> u32>(
         plain_touch(net, EventId(a), EventId(b))
     });
     let solver = Solver::new(alloc, Order::new(alloc, |var: u32| var as u64));
-    match build(alloc, net, log, steps, &test, solver, book) {
-        Ok(parts) => {
-            let mut parts = parts;
-            weighs(alloc, net, log, &mut parts, costs, book, want)
-        }
-        Err(_) => false,
-    }
+    builds(alloc, net, log, steps, &test, solver, costs, book, want)
 }
 
 // The same of a question that is not too large.
@@ -139,7 +157,7 @@ fn finds<C: Fn(u32) -> u32>(
     if steps > 1000 || cost_size(net, log, steps) > MOST_SIZE {
         return false;
     }
-    builds(alloc, net, log, steps, costs, &mut Ledger::new(alloc), want)
+    builds_plainly(alloc, net, log, steps, costs, &mut Ledger::new(alloc), want)
 }
 
 // By what the text says.
@@ -173,22 +191,30 @@ fn finds_by_numbers(
     finds(alloc, net, log, steps, &costs, want)
 }
 
-fn finds_by_both(alloc: Global, row: &Row) -> bool
-    requires first { IsPrice row.now.prices.0 }
-    requires others { IsPrice row.now.prices.1 }
+fn finds_by_both(alloc: Global, net: &Network, log: &AlarmLog, row: &Row) -> bool {
+    finds_by_table(alloc, net, log, row)
+        && is_price(row.prices.0)
+        && is_price(row.prices.1)
+        && finds_by_numbers(alloc, net, log, row.steps, row.prices, row.least)
+}
+
+fn is_price(price: u32) -> bool
+    ensures { result ≡ true → IsPrice price }
 {
-    match (network(alloc, row.model), alarm_log(alloc, row.log)) {
-        (Some(net), Some(log)) => {
-            finds_by_table(alloc, &net, &log, row)
-                && finds_by_numbers(alloc, &net, &log, row.steps, row.prices, row.least)
-        }
-        _ => false,
+    price >= 1 && price <= MOST_COST
+}
+
+// Whether it is found by both closures.
+pub fn finds_least(alloc: Global, net: &Network, row: &Row) -> bool {
+    match alarm_log(alloc, row.log) {
+        Some(log) => finds_by_both(alloc, net, &log, row),
+        None => false,
     }
 }
 
 #[test]
 fn finds_least_totals(rt: HostRuntime) {
-    assert!(rt; finds_by_both(rt.alloc(), &TWO_FAULTS_ARE_CHEAPER));
-    assert!(rt; finds_by_both(rt.alloc(), &ONE_FAULT_IS_LEFT));
-    assert!(rt; finds_by_both(rt.alloc(), &TWO_JAMS_ARE_DEAR));
+    assert!(rt; passes_on(rt.alloc(), TWO_WAYS, &Case::Least(&TWO_FAULTS_ARE_CHEAPER)));
+    assert!(rt; passes_on(rt.alloc(), TWO_WAYS, &Case::Least(&ONE_FAULT_IS_LEFT)));
+    assert!(rt; passes_on(rt.alloc(), VALVE, &Case::Least(&TWO_JAMS_ARE_DEAR)));
 }

@@ -2,7 +2,7 @@
 ghost use Rattle.std.specs.Prelude.{◌<◌, All, IfSome, length};
 ghost use Rattle.replay.specs.Traced.{word_of};
 
-use crate::models::network;
+use crate::models::{Case, passes_on};
 use des_net::Network;
 use least_faults::{Best, Found};
 use replay::{Run, Traced, read_run};
@@ -98,14 +98,11 @@ fn prints_all(alloc: Global, net: &Network, out: &mut Vec<u8>) -> bool {
     prints_range(alloc, net, out)
 }
 
-fn are_printed(alloc: Global, out: &mut Vec<u8>) -> bool {
-    match network(alloc, PUMP) {
-        Some(net) => prints_all(alloc, &net, out),
-        None => false,
-    }
+pub fn prints_new(alloc: Global, net: &Network) -> bool {
+    prints_all(alloc, net, &mut Vec::new(alloc))
 }
 
 #[test]
 fn appends_runs_and_what_is_undecided(rt: HostRuntime) {
-    assert!(rt; are_printed(rt.alloc(), &mut Vec::new(rt.alloc())));
+    assert!(rt; passes_on(rt.alloc(), PUMP, &Case::Prints));
 }

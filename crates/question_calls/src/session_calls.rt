@@ -2,7 +2,7 @@
 ghost use Rattle.std.specs.Prelude.{◌≡◌};
 ghost use Rattle.sat_order.specs.Rank.{IsRanked};
 
-use crate::models::network;
+use crate::models::{Case, passes_on};
 use alarm_session::{Session, SessionRefusal};
 use des_base::{EventId, Name};
 use des_net::Network;
@@ -39,6 +39,23 @@ fn alarm<R: Fn(u32) -> u64>(
 }
 
 // Whether an alarm is answered so.
+fn adds_named<R: Fn(u32) -> u64>(
+    alloc: Global,
+    session: &mut Session<'_, R>,
+    id: Name,
+    label: &str,
+    maybe: bool,
+    want: Result<u32, SessionRefusal>,
+) -> bool
+    requires ranked { IsRanked R.pre R.post session.old.order }
+    ensures ranked { IsRanked R.pre R.post session.new.order }
+{
+    match name(alloc, label) {
+        Some(label) => alarm(session, id, label, maybe) == want,
+        None => false,
+    }
+}
+
 fn adds<R: Fn(u32) -> u64>(
     alloc: Global,
     session: &mut Session<'_, R>,
@@ -50,13 +67,29 @@ fn adds<R: Fn(u32) -> u64>(
     requires ranked { IsRanked R.pre R.post session.old.order }
     ensures ranked { IsRanked R.pre R.post session.new.order }
 {
-    match (name(alloc, id), name(alloc, label)) {
-        (Some(id), Some(label)) => alarm(session, id, label, maybe) == want,
-        _ => false,
+    match name(alloc, id) {
+        Some(id) => adds_named(alloc, session, id, label, maybe, want),
+        None => false,
     }
 }
 
 // Whether a pair is answered so.
+fn orders_named<R: Fn(u32) -> u64>(
+    alloc: Global,
+    session: &mut Session<'_, R>,
+    first: &Name,
+    second: &str,
+    want: Result<bool, SessionRefusal>,
+) -> bool
+    requires ranked { IsRanked R.pre R.post session.old.order }
+    ensures ranked { IsRanked R.pre R.post session.new.order }
+{
+    match name(alloc, second) {
+        Some(second) => session.before(first, &second) == want,
+        None => false,
+    }
+}
+
 fn orders<R: Fn(u32) -> u64>(
     alloc: Global,
     session: &mut Session<'_, R>,
@@ -67,9 +100,9 @@ fn orders<R: Fn(u32) -> u64>(
     requires ranked { IsRanked R.pre R.post session.old.order }
     ensures ranked { IsRanked R.pre R.post session.new.order }
 {
-    match (name(alloc, first), name(alloc, second)) {
-        (Some(first), Some(second)) => session.before(&first, &second) == want,
-        _ => false,
+    match name(alloc, first) {
+        Some(first) => orders_named(alloc, session, &first, second, want),
+        None => false,
     }
 }
 
@@ -101,40 +134,39 @@ fn excuses<R: Fn(u32) -> u64>(alloc: Global, session: &mut Session<'_, R>) -> bo
 // A second alarm of its kind can only be false, which is a fault.
 fn doubts<R: Fn(u32) -> u64>(alloc: Global, session: &mut Session<'_, R>) -> bool
     requires ranked { IsRanked R.pre R.post session.old.order }
-    ensures ranked { IsRanked R.pre R.post session.new.order }
 {
     adds(alloc, session, "b", "B", true, Err(SessionRefusal::Double))
         && adds(alloc, session, "c", "B", true, Ok(2))
         && takes(session, 1)
-        && session.log().alarms() == 3
-        && session.log().pair_count() == 1
-        && session.book().entries() > 0
+        && has_three(session)
 }
 
-// Whether all is answered so by a session that decides the last variable first, and its book is handed back.
-fn is_answered(alloc: Global, net: &Network) -> bool {
+fn has_three<R: Fn(u32) -> u64>(session: &Session<'_, R>) -> bool {
+    session.log().alarms() == 3 && session.log().pair_count() == 1 && session.book().entries() > 0
+}
+
+// Whether all is answered so, and the book is handed back.
+fn answers_all<R: Fn(u32) -> u64>(alloc: Global, given: Session<'_, R>) -> bool
+    requires { IsRanked R.pre R.post given.order }
+{
+    let mut session = given;
+    let answered = excuses(alloc, &mut session) && doubts(alloc, &mut session);
+    session.into_book().entries() > 0 && answered
+}
+
+// Whether it is by a session that decides the last variable first.
+pub fn is_answered(alloc: Global, net: &Network) -> bool {
     let test = Indep::new(net, |a: u32, b: u32| {
         plain_touch(net, EventId(a), EventId(b))
     });
     let rank = Order::new(alloc, |var: u32| var as u64);
     match Session::new(alloc, net, 2, &test, rank, Ledger::new(alloc)) {
-        Ok(session) => {
-            let mut session = session;
-            let answered = excuses(alloc, &mut session) && doubts(alloc, &mut session);
-            session.into_book().entries() > 0 && answered
-        }
+        Ok(session) => answers_all(alloc, session),
         Err(_) => false,
-    }
-}
-
-fn answers(alloc: Global) -> bool {
-    match network(alloc, LATER_ALARM_EXCUSES) {
-        Some(net) => is_answered(alloc, &net),
-        None => false,
     }
 }
 
 #[test]
 fn answers_call_by_call(rt: HostRuntime) {
-    assert!(rt; answers(rt.alloc()));
+    assert!(rt; passes_on(rt.alloc(), LATER_ALARM_EXCUSES, &Case::Answers));
 }
