@@ -1,4 +1,5 @@
-// Small networks, as model texts, and what is tried on them.
+// Small networks, as model texts, and what is tried on them. They are read in one function, since each that owns a network is dear
+// to prove.
 use crate::logs::tells_both;
 use crate::runs::{Text, reads_all};
 use crate::steps::{Allowed, allows_five, allows_row, stands_behind_five};
