@@ -36,9 +36,13 @@ pub fn begin<T: Fn(u32, u32) -> bool, R: Fn(u32) -> u64>(
     ensures kept { IfOk result (IsRankedKept R.pre R.post setting.entry.net.now setting.entry.steps) }
     ensures begun { IfOk result (HasBegun setting.entry.net.now setting.entry.steps rank.rank) }
 {
+    // (What isn't kept is let go by calls: exits that do so by themselves are dear to prove.)
     let log = AlarmLog::new(setting.alloc);
     let size = question_size(setting.net, &log, setting.steps);
     if size > MOST_SIZE {
+        drop(log);
+        drop(rank);
+        drop(book);
         return Err(SessionRefusal::TooLarge { size });
     }
     let solver = Solver::new(setting.alloc, rank);
@@ -58,7 +62,11 @@ pub fn begin<T: Fn(u32, u32) -> bool, R: Fn(u32) -> u64>(
             parts,
             book,
         }),
-        Err(_) => Err(SessionRefusal::Memory),
+        Err(_) => {
+            drop(log);
+            drop(book);
+            Err(SessionRefusal::Memory)
+        }
     }
 }
 

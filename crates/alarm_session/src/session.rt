@@ -169,11 +169,13 @@ impl<'a, R: Fn(u32) -> u64> Session<'a, R> {
     {
         let Session { setting: _, kept } = self;
         let Kept {
-            log: _,
+            log,
             size: _,
-            parts: _,
+            parts,
             book,
         } = kept;
+        drop(log);
+        drop(parts);
         book
     }
 }

@@ -155,5 +155,6 @@ fn weigh_by_costs<C: Fn(u32) -> u32, R: Fn(u32) -> u64>(
     let mut parts = parts;
     let cheap = cheapest(alloc, &case.net, &case.log, &mut parts, costs, book, budget);
     is_valid(book);
+    drop(parts);
     cheap
 }

@@ -116,7 +116,9 @@ fn pose_by_solver<T: Fn(u32, u32) -> bool, R: Fn(u32) -> u64, Q: Inquiry>(
     match build(alloc, &case.net, &case.log, steps, test, solver, book).ok() {
         Some(parts) => {
             let mut parts = parts;
-            inquiry.ask(alloc, case, &mut parts, book)
+            let answer = inquiry.ask(alloc, case, &mut parts, book);
+            drop(parts);
+            answer
         }
         None => {
             *book = Ledger::new(alloc);

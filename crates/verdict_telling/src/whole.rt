@@ -50,16 +50,29 @@ pub fn tell_whole<R: Fn(u32) -> u64, S: Sink>(
     ensures left { BeginsWithQuestion case.now.net case.now.log steps budget book.new.entries }
     ensures failures { RisesExactlyIf (IsErrOf result Broken.Put) (S.failures out.old) (S.failures out.new) }
 {
+    // (The parts are let go by a call: exits that do so by themselves are dear to prove.)
     let mut parts = parts;
     match tell_found(alloc, case, steps, budget, &mut parts, book, out) {
         Ok(Found::Explained(best)) => {
             let told = tell_verdicts(alloc, &case.net, &case.log, &best, budget, parts, book, out);
             judged(told)
         }
-        Ok(Found::Absent) => Ok(Told::NotExplained),
-        Ok(Found::Many(_)) => Ok(Told::TooMany),
-        Ok(Found::Undecided { .. }) => Ok(Told::NotDecided),
-        Err(broken) => Err(broken),
+        Ok(Found::Absent) => {
+            drop(parts);
+            Ok(Told::NotExplained)
+        }
+        Ok(Found::Many(_)) => {
+            drop(parts);
+            Ok(Told::TooMany)
+        }
+        Ok(Found::Undecided { .. }) => {
+            drop(parts);
+            Ok(Told::NotDecided)
+        }
+        Err(broken) => {
+            drop(parts);
+            Err(broken)
+        }
     }
 }
 

@@ -7,8 +7,8 @@ use Rattle.inquiries.specs.Begun.{HasQuestion}
 use Rattle.inquiries.proofs.Diagnosing.{begins, ok_some}
 use Rattle.inquiries.proofs.question.pose_by_solver.Goals as goal
 
-pub ask-requires : goal.ask-requires
-ask-requires g c =
+pub ask-answer-requires : goal.ask-answer-requires
+ask-answer-requires g c =
     let net = c.args.case.now.net in
     let log = c.args.case.now.log in
     let parts = c.in-Some.parts in
@@ -24,7 +24,7 @@ returns-in-Some-clause-says g c =
     let log = c.args.case.now.log in
     let parts = c.in-Some.parts in
     let built = ok_some c.build.result (AreBuilt (goal.R-pre g) (goal.R-post g) net log c.args.steps c.args.solver c.build.new.book.entries) parts (sym c.in-Some.is ∙ c.ok.ensures.value) c.build.ensures.built in
-    subst (λ (n : ℕ). IfOk c.ask.result (g.Q.Inquiry.says c.args.inquiry.now net log n c.ask.new.book.entries)) built.steps c.ask.ensures.says
+    subst (λ (n : ℕ). IfOk c.ask-answer.result (g.Q.Inquiry.says c.args.inquiry.now net log n c.ask-answer.new.book.entries)) built.steps c.ask-answer.ensures.says
 
 pub returns-in-Some-clause-left : goal.returns-in-Some-clause-left
 returns-in-Some-clause-left g c =
@@ -32,7 +32,7 @@ returns-in-Some-clause-left g c =
     let log = c.args.case.now.log in
     let parts = c.in-Some.parts in
     let built = ok_some c.build.result (AreBuilt (goal.R-pre g) (goal.R-post g) net log c.args.steps c.args.solver c.build.new.book.entries) parts (sym c.in-Some.is ∙ c.ok.ensures.value) c.build.ensures.built in
-    inr (subst (λ (n : ℕ). HasQuestion net log n (g.Q.Inquiry.leaves c.args.inquiry.now) c.ask.new.book.entries) built.steps c.ask.ensures.left)
+    inr (subst (λ (n : ℕ). HasQuestion net log n (g.Q.Inquiry.leaves c.args.inquiry.now) c.ask-answer.new.book.entries) built.steps c.ask-answer.ensures.left)
 
 pub returns-in-None-clause-left : goal.returns-in-None-clause-left
 returns-in-None-clause-left g c = inl (ap (λ (b : _). b.entries) c.new.ensures)

@@ -36,8 +36,8 @@ returns-in-Ok-Undecided-clause-tells g c =
     let tells = rw c.in-Ok-Undecided.field-0-is at c.in-Ok-Undecided.ensures.tells in
     said_alone c.args.case.now.net c.args.case.now.log c.args.steps c.args.budget c.tell_found.new.book.entries _ _ (Rose (g.S.Sink.faults c.args.out.now) (g.S.Sink.faults c.tell_found.new.out)) (Undecided _ _) NotDecided refl refl tells
 
-pub returns-in-Err-clause-tells : goal.returns-in-Err-clause-tells
-returns-in-Err-clause-tells g c = broken_first c.args.case.now.net c.args.case.now.log c.args.steps c.args.budget c.tell_found.new.book.entries _ _ _ c.in-Err.broken c.in-Err.ensures.tells
+pub returns-clause-tells : goal.returns-clause-tells
+returns-clause-tells g c = broken_first c.args.case.now.net c.args.case.now.log c.args.steps c.args.budget c.tell_found.new.book.entries _ _ _ c.in-Err.broken c.in-Err.ensures.tells
 
 pub returns-in-Ok-Explained-clause-failures : goal.returns-in-Ok-Explained-clause-failures
 returns-in-Ok-Explained-clause-failures g c = judged_fails c.tell_verdicts-told.result c.judged.result _ _ _ c.judged.ensures (c.in-Ok-Explained.ensures.failures.stays (λ put. cc)) c.tell_verdicts-told.ensures.failures
@@ -51,8 +51,8 @@ returns-in-Ok-Many-clause-failures g c = all_said _ _ _ _ c.in-Ok-Many.ensures.f
 pub returns-in-Ok-Undecided-clause-failures : goal.returns-in-Ok-Undecided-clause-failures
 returns-in-Ok-Undecided-clause-failures g c = all_said _ _ _ _ c.in-Ok-Undecided.ensures.failures
 
-pub returns-in-Err-clause-failures : goal.returns-in-Err-clause-failures
-returns-in-Err-clause-failures g c = ends_alike _ _ _ c.in-Err.ensures.failures
+pub returns-clause-failures : goal.returns-clause-failures
+returns-clause-failures g c = ends_alike _ _ _ c.in-Err.ensures.failures
 
 pub returns-in-Ok-Explained-clause-left : goal.returns-in-Ok-Explained-clause-left
 returns-in-Ok-Explained-clause-left g c =
@@ -67,5 +67,5 @@ returns-in-Ok-Many-clause-left g c = left_alone c.args.case.now.net c.args.case.
 pub returns-in-Ok-Undecided-clause-left : goal.returns-in-Ok-Undecided-clause-left
 returns-in-Ok-Undecided-clause-left g c = left_alone c.args.case.now.net c.args.case.now.log c.args.steps c.args.budget c.tell_found.new.book.entries c.tell_found.ensures.left
 
-pub returns-in-Err-clause-left : goal.returns-in-Err-clause-left
-returns-in-Err-clause-left g c = left_alone c.args.case.now.net c.args.case.now.log c.args.steps c.args.budget c.tell_found.new.book.entries c.tell_found.ensures.left
+pub returns-clause-left : goal.returns-clause-left
+returns-clause-left g c = left_alone c.args.case.now.net c.args.case.now.log c.args.steps c.args.budget c.tell_found.new.book.entries c.tell_found.ensures.left
