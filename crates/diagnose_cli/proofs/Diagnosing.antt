@@ -1,13 +1,20 @@
--- The run of what is found replays.
-use Rattle.std.proofs.Common.{◌≤◌, ℕ, List, refl}
+-- The run of what is found replays, and a budget that is large enough decides.
+use Rattle.std.proofs.Common.{◌≢◌, ◌≤◌, ◌^◌, ℕ, List, map, ap, sym, ◌∙◌, refl, arith}
 use Rattle.des_net.specs.Building.{IsDraft}
 use Rattle.des_net.specs.Network.{Net, IsNetwork}
 use Rattle.inquiries.specs.Diagnosed.{IsDiagnosed}
 use Rattle.least_faults.specs.declared.answer.Found.{Found}
+use Rattle.least_faults.specs.declared.answer.Found.TheVariants.{Explained, Absent as NotExplained, Many as ManyFaults, Undecided as NotDecided}
+use Rattle.least_faults.proofs.Deciding.{undecided_is_small}
 use Rattle.log_order.specs.Adding.{IsLog}
 use Rattle.log_order.specs.Log.{Log}
-use Rattle.proof_ledger.specs.Book.{BookEntry}
-use Rattle.diagnose_cli.specs.Replies.{AnswersQuestion}
+use Rattle.proof_ledger.specs.Book.{BookEntry, axiomatic}
+use Rattle.replay.specs.QuestionSize.{variable_bound}
+use Rattle.run_decode.specs.QuestionAxioms.{question_axioms, question_built}
+use Rattle.diagnose_cli.specs.declared.command.Question.TheVariants.{Diagnose}
+use Rattle.diagnose_cli.specs.declared.ending.Kind.{Kind}
+use Rattle.diagnose_cli.specs.declared.ending.Kind.TheVariants.{Undecided}
+use Rattle.diagnose_cli.specs.Replies.{kind_of_found, AnswersQuestion, AnswersTo, SaysFound}
 use Rattle.diagnose_cli.proofs.RepliesReplay.{run_replays}
 
 pub answers_question : (net : Net) (log : Log) (n budget : ℕ) (book : List BookEntry) (found : Found) → IsNetwork net → IsDraft net → IsLog log → n ≤ 1000 → IsDiagnosed net log n budget book found → AnswersQuestion net log n budget book found
@@ -15,3 +22,22 @@ answers_question net log n budget book found network whole log_whole few diagnos
   diagnosed = diagnosed;
   replays = run_replays _ _ diagnosed.answered.since net log n budget found n network whole log_whole few refl diagnosed.answered.found;
 }
+
+-- ---- a budget that is large enough
+
+module _ (net : Net) (log : Log) (n budget : ℕ) (book : List BookEntry) where
+  -- nothing stays open
+  pub found_decided : (found : Found) → IsDiagnosed net log n budget book found → 3 ^ variable_bound net log n ≤ budget → kind_of_found found ≢ Undecided
+  found_decided (Explained best) holds enough is = cc
+  found_decided NotExplained holds enough is = cc
+  found_decided (ManyFaults best) holds enough is = cc
+  found_decided (NotDecided lo best) holds enough is =
+      let small = undecided_is_small holds.names (question_built net log n 0) net log n budget lo best (map axiomatic (question_axioms net log n 0)) book holds.answered in
+      omega (arith, small, enough)
+
+  -- the reply that tells what is found
+  pub answers_found : (reply : Kind × List ℕ) → SaysFound net log n budget book reply → AnswersTo (Diagnose budget) net log n book reply
+  answers_found reply says = record {
+    says = says;
+    decided = λ enough is. found_decided says.found says.holds.diagnosed enough (sym (ap (λ (r : Kind × List ℕ). r.0) says.is) ∙ is);
+  }

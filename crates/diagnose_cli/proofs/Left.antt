@@ -16,8 +16,9 @@ use Rattle.diagnose_cli.specs.declared.command.Command.TheVariants.{One, Session
 use Rattle.diagnose_cli.specs.declared.command.Question.{Question}
 use Rattle.diagnose_cli.specs.declared.command.Single.{Single}
 use Rattle.diagnose_cli.specs.declared.command.Single.TheVariants.{Ask, Bench, Twin, Cheapest}
-use Rattle.diagnose_cli.specs.Commands.{budget_of, command_of}
+use Rattle.diagnose_cli.specs.Commands.{command_of}
 use Rattle.diagnose_cli.specs.Outcomes.{Outcome}
+use Rattle.diagnose_cli.specs.Replies.{budget_of}
 use Rattle.diagnose_cli.specs.Rows.{AreTold, Leaves, LeftRow, MayLearn}
 use Rattle.diagnose_cli.specs.Texts.{IsCase}
 use Rattle.diagnose_cli.specs.TwinReplies.{LeavesOfWord}
@@ -43,9 +44,6 @@ module _ (held : List ℕ → Option (List ℕ)) (words : List (List ℕ)) (book
   -- a question over a model and a log leaves its axioms, and what it may have learnt
   abbrev pub LeavesAsked : ℕ → Question → Type 0
   LeavesAsked steps question = (text alarms : List ℕ) → AreTold held words 1 (text ∷ alarms ∷ []) → LeavesQuestion (network_of text) (log_of alarms) steps (MayLearn (budget_of question)) book
-
-  pub left_asked : (steps : ℕ) (asked question : Question) → question ≡ asked → LeavesAsked steps asked → LeavesAsked steps question
-  left_asked steps asked question is left = subst (LeavesAsked steps) (sym is) left
 
   pub left_question : (steps : ℕ) (question : Question) → LeavesAsked steps question → LeftBy (One (Ask steps question))
   left_question steps question left [] told = tt

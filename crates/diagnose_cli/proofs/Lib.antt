@@ -1,5 +1,6 @@
 pub mod Earlier
 pub mod Orders
+pub mod Called
 pub mod FailedLoads
 pub mod Exact
 pub mod Reading

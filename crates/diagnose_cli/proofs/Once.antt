@@ -6,6 +6,7 @@ use Rattle.des_base.specs.Outside.{Took, TookFront}
 use Rattle.proof_ledger.specs.Book.{BookEntry}
 use Rattle.diagnose_cli.specs.declared.command.Command.{Command}
 use Rattle.diagnose_cli.specs.declared.command.Command.TheVariants.{One, Session}
+use Rattle.diagnose_cli.specs.declared.command.Question.TheVariants.{Diagnose}
 use Rattle.diagnose_cli.specs.declared.command.Single.{Single}
 use Rattle.diagnose_cli.specs.declared.command.Single.TheVariants.{Trace, Show, Replay, Check, Ask, GenerateModel, GenerateLog, Bench, Twin, Cheapest}
 use Rattle.diagnose_cli.specs.declared.ending.Kind.{Kind}
@@ -126,7 +127,7 @@ module _ (o : Outcome) (rose : Type 0) (speaks : Speaks (Due o.loads o.words o.b
     absent = λ steps budget text alarms asks is. absent o (answered 10 is (λ p. cc)) steps budget text alarms asks is;
     undecided = λ steps budget text alarms asks is. undecided o (answered 11 is (λ p. cc)) steps budget text alarms asks is;
     many = λ steps budget text alarms asks is. many o (answered 12 is (λ p. cc)) steps budget text alarms asks is;
-    decided = λ steps budget text alarms asks enough is. decided o (answered 11 is (λ p. cc)) steps budget text alarms asks enough is;
+    decided = λ steps budget text alarms asks enough is. decided o (answered 11 is (λ p. cc)) steps (Diagnose budget) text alarms asks enough is;
   }
 
   twinned : TwinRows o

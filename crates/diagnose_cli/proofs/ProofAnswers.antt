@@ -1,5 +1,5 @@
 -- What a reply tells of a refutation, by what was refuted.
-use Rattle.std.proofs.Common.{◌≡◌, ◌∙◌, ℕ, zero, suc, List, Option, Some, None, ap, subst}
+use Rattle.std.proofs.Common.{◌≡◌, ◌≢◌, ◌∙◌, ℕ, zero, suc, List, Option, Some, None, ap, refl, subst}
 use Rattle.std.specs.Prelude.{All, codes}
 use Rattle.des_net.specs.Network.{Net}
 use Rattle.inquiries.specs.Refuted.{IsRefuted, IsRefutedBelow, IsRefutedFor, IsRefutedWithin}
@@ -11,9 +11,11 @@ use Rattle.proof_ledger.specs.Book.{BookEntry}
 use Rattle.proof_ledger.specs.declared.checker.ProofStep.{ProofStep}
 use Rattle.proof_text.specs.PrintedText.{ReadsBack, steps_text}
 use Rattle.proof_text.specs.ProofNumbers.{NumbersAscend, HasNoZero}
+use Rattle.diagnose_cli.specs.declared.command.Question.TheVariants.{PrintProof}
 use Rattle.diagnose_cli.specs.declared.ending.Kind.{Kind}
-use Rattle.diagnose_cli.specs.declared.ending.Kind.TheVariants.{Nothing as NothingToSay}
-use Rattle.diagnose_cli.specs.Replies.{TellsBelow, TellsProof, TellsRefutation, reply_of_found, reply_of_proof}
+use Rattle.diagnose_cli.specs.declared.ending.Kind.TheVariants.{Nothing as NothingToSay, Undecided as LeftOpen}
+use Rattle.diagnose_cli.specs.Replies.{AnswersTo, SaysProved, TellsBelow, TellsProof, TellsRefutation, kind_of_found, reply_of_found, reply_of_proof}
+use Rattle.diagnose_cli.proofs.Diagnosing.{found_decided}
 use Rattle.diagnose_cli.proofs.ProofsReadBack.{tells_refutation}
 
 same_steps : (b bound : Option ℕ) (s steps : List ProofStep) → Within bound steps ≡ Within b s → s ≡ steps
@@ -93,3 +95,24 @@ module _ (net : Net) (log : AlarmLog) (n : ℕ) (book : List BookEntry) where
   told_undecided Absent other reply is h = never_so _ other None h
   told_undecided (Many best) other reply is h = never_so _ other (Some 255) h
   told_undecided (Undecided lo best) other reply is h = is ∙ ap (λ (f : Found). reply_of_found net n f) (same_found (Undecided lo best) other h)
+
+-- ---- a budget that is large enough
+
+module _ (net : Net) (log : AlarmLog) (n budget : ℕ) (book : List BookEntry) where
+  -- what is printed below a number of faults is a refutation, or that there is nothing to refute
+  below_decided : (k : ℕ) (reply : Kind × List ℕ) → TellsBelow net log n k book reply → reply.0 ≢ LeftOpen
+  below_decided zero reply tells is = let kind = ap (λ (r : Kind × List ℕ). r.0) tells in cc
+  below_decided (suc k) reply tells is = let kind = ap (λ (r : Kind × List ℕ). r.0) tells.is in cc
+
+  proof_open : (found : Found) (reply : Kind × List ℕ) → TellsProof net log n book found reply → reply.0 ≡ LeftOpen → kind_of_found found ≡ LeftOpen
+  proof_open (Explained best) reply tells is = absurd (below_decided best.faults reply tells is)
+  proof_open Absent reply tells is = let kind = ap (λ (r : Kind × List ℕ). r.0) tells.is in cc
+  proof_open (Many best) reply tells is = let kind = ap (λ (r : Kind × List ℕ). r.0) tells.is in cc
+  proof_open (Undecided lo best) reply tells is = refl
+
+  -- so the reply is one to the question for a proof
+  pub answers_proof : (reply : Kind × List ℕ) → SaysProved net log n budget book reply → AnswersTo (PrintProof budget) net log n book reply
+  answers_proof reply says = record {
+    says = says;
+    decided = λ enough is. found_decided net log n budget book says.found says.holds.diagnosed enough (proof_open says.found reply says.tells is);
+  }

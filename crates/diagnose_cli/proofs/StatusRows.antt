@@ -1,16 +1,14 @@
 -- What the status of an answer tells.
-use Rattle.std.proofs.Common.{◌≡◌, ◌≤◌, ◌^◌, ℕ, List, [], ◌∷◌, map, Some, refl, sym, ◌∙◌, subst, arith}
+use Rattle.std.proofs.Common.{◌≡◌, ℕ, List, [], ◌∷◌, Some, refl, sym, ◌∙◌, subst, arith}
 use Rattle.des_base.specs.CommandWords.{word_at}
 use Rattle.des_base.specs.Outside.{Took}
 use Rattle.des_net.specs.Network.{Net}
 use Rattle.least_faults.specs.declared.answer.Found.{Found}
 use Rattle.least_faults.specs.declared.answer.Found.TheVariants.{Explained, Absent, Many, Undecided}
-use Rattle.least_faults.proofs.Deciding.{undecided_is_small}
 use Rattle.least_faults.proofs.Freshness.{fresh_closed}
 use Rattle.log_csv.specs.LogText.{log_of}
 use Rattle.log_order.specs.Log.{Log}
 use Rattle.model_text.specs.ModelFaults.{network_of}
-use Rattle.proof_ledger.specs.Book.{BookEntry, axiomatic}
 use Rattle.proof_ledger.specs.Checking.{check_proof, IsUnsatisfiable}
 use Rattle.proof_ledger.specs.declared.checker.Checked.{Checked}
 use Rattle.proof_ledger.specs.declared.checker.Checked.TheVariants.{Verified, Rejected}
@@ -20,17 +18,17 @@ use Rattle.proof_text.specs.CnfText.{formula_of}
 use Rattle.proof_text.specs.LratText.{proof_of}
 use Rattle.prop_core.specs.Clauses.{Clause}
 use Rattle.replay.specs.Explanation.{IsAbsent}
-use Rattle.replay.specs.QuestionSize.{variable_bound}
 use Rattle.report.specs.Replies.{text_of_found}
-use Rattle.run_decode.specs.QuestionAxioms.{question_axioms, question_built}
+use Rattle.run_decode.specs.QuestionAxioms.{question_axioms}
 use Rattle.diagnose_cli.specs.declared.command.Command.TheVariants.{One}
 use Rattle.diagnose_cli.specs.declared.command.Question.{Question}
 use Rattle.diagnose_cli.specs.declared.command.Question.TheVariants.{Diagnose}
 use Rattle.diagnose_cli.specs.declared.command.Single.TheVariants.{Check, Ask}
 use Rattle.diagnose_cli.specs.declared.ending.Kind.{Kind}
+use Rattle.diagnose_cli.specs.declared.ending.Kind.TheVariants.{Done, Rejected, Absent as NoneThere, Undecided as LeftOpen, Many as TooMany, Nothing, Ambiguous}
 use Rattle.diagnose_cli.specs.Endings.{status_of_kind}
 use Rattle.inquiries.specs.Diagnosed.{IsDiagnosed}
-use Rattle.diagnose_cli.specs.Replies.{kind_of_found, reply_of_checked, AnswersQuestion, AnswersTo, MayReply, SaysFound}
+use Rattle.diagnose_cli.specs.Replies.{kind_of_found, reply_of_checked, AnswersQuestion, AnswersTo, HasEnough, MayReply, SaysFound}
 use Rattle.diagnose_cli.specs.Outcomes.{Outcome, Tells}
 use Rattle.diagnose_cli.specs.Rows.{AreTold, Asks, TellsLeast, TellsMany, TellsUndecided}
 use Rattle.diagnose_cli.specs.Run.{Ends}
@@ -84,13 +82,15 @@ record TellsFound (o : Outcome) (net : Net) (alarms : Log) (n budget : ℕ) : Ty
   shown : o.status ≡ status_of_kind (kind_of_found found)
   put : Took o.before o.now (text_of_found net n found)
 
-of_reply : (o : Outcome) (net : Net) (alarms : Log) (steps budget : ℕ) → Tells o (SaysFound net alarms steps budget o.book) → TellsFound o net alarms steps budget
-of_reply o net alarms steps budget tells = record {
-  found = tells.says.found;
-  holds = tells.says.holds;
-  shown = subst (λ (r : Kind × List ℕ). o.status ≡ status_of_kind r.0) tells.says.is tells.shown;
-  put = subst (λ (r : Kind × List ℕ). Took o.before o.now r.1) tells.says.is tells.put;
-}
+of_reply : (o : Outcome) (net : Net) (alarms : Log) (steps budget : ℕ) → Tells o (AnswersTo (Diagnose budget) net alarms steps o.book) → TellsFound o net alarms steps budget
+of_reply o net alarms steps budget tells =
+    let said : SaysFound net alarms steps budget o.book tells.reply = tells.says.says in
+    record {
+      found = said.found;
+      holds = said.holds;
+      shown = subst (λ (r : Kind × List ℕ). o.status ≡ status_of_kind r.0) said.is tells.shown;
+      put = subst (λ (r : Kind × List ℕ). Took o.before o.now r.1) said.is tells.put;
+    }
 
 found_told : (o : Outcome) (steps budget : ℕ) (text alarms : List ℕ) → Ends o → Asks o (One (Ask steps (Diagnose budget))) (text ∷ alarms ∷ []) → (IsStopStatus o.status → ⊥) → TellsFound o (network_of text) (log_of alarms) steps budget
 found_told o steps budget text alarms ends asks answers = of_reply o (network_of text) (log_of alarms) steps budget (answer_told o steps (Diagnose budget) text alarms ends asks answers)
@@ -136,13 +136,19 @@ undecided_of o net alarms steps budget (Undecided lo best) is holds put =
       put = put;
     }
 
-pub undecided_small : (net : Net) (alarms : Log) (steps budget : ℕ) (book : List BookEntry) (found : Found) → 11 ≡ status_of_kind (kind_of_found found) → IsDiagnosed net alarms steps budget book found → 3 ^ variable_bound net alarms steps ≤ budget → ⊥
-undecided_small net alarms steps budget book (Explained best) is holds enough = absurd (omega arith)
-undecided_small net alarms steps budget book Absent is holds enough = absurd (omega arith)
-undecided_small net alarms steps budget book (Many best) is holds enough = absurd (omega arith)
-undecided_small net alarms steps budget book (Undecided lo best) is holds enough =
-    let small = undecided_is_small holds.names (question_built net alarms steps 0) net alarms steps budget lo best (map axiomatic (question_axioms net alarms steps 0)) book holds.answered in
-    omega (arith, small, enough)
+-- the kind that has this status
+open_kind : (kind : Kind) → 11 ≡ status_of_kind kind → kind ≡ LeftOpen
+open_kind Done is = absurd (omega arith)
+open_kind Rejected is = absurd (omega arith)
+open_kind NoneThere is = absurd (omega arith)
+open_kind LeftOpen is = refl
+open_kind TooMany is = absurd (omega arith)
+open_kind Nothing is = absurd (omega arith)
+open_kind Ambiguous is = absurd (omega arith)
+
+-- a reply is of this kind where the status is this
+pub left_open : {P : (Kind × List ℕ) → Type 0} (o : Outcome) (tells : Tells o P) → o.status ≡ 11 → tells.reply.0 ≡ LeftOpen
+left_open o tells is = open_kind tells.reply.0 (sym is ∙ tells.shown)
 
 module _ (o : Outcome) (ends : Ends o) where
   pub explained : (steps budget : ℕ) (text alarms : List ℕ) → Asks o (One (Ask steps (Diagnose budget))) (text ∷ alarms ∷ []) → o.status ≡ 0 → TellsLeast o (network_of text) (log_of alarms) steps
@@ -165,7 +171,8 @@ module _ (o : Outcome) (ends : Ends o) where
       let tells = found_told o steps budget text alarms ends asks (λ stop. between o.status _ is (omega arith) (omega arith) stop) in
       many_of o (network_of text) (log_of alarms) steps budget tells.found (sym is ∙ tells.shown) tells.holds.diagnosed tells.put
 
-  pub decided : (steps budget : ℕ) (text alarms : List ℕ) → Asks o (One (Ask steps (Diagnose budget))) (text ∷ alarms ∷ []) → 3 ^ variable_bound (network_of text) (log_of alarms) steps ≤ budget → o.status ≡ 11 → ⊥
-  decided steps budget text alarms asks enough is =
-      let tells = found_told o steps budget text alarms ends asks (λ stop. between o.status _ is (omega arith) (omega arith) stop) in
-      undecided_small (network_of text) (log_of alarms) steps budget o.book tells.found (sym is ∙ tells.shown) tells.holds.diagnosed enough
+  -- a budget that is large enough decides each question
+  pub decided : (steps : ℕ) (question : Question) (text alarms : List ℕ) → Asks o (One (Ask steps question)) (text ∷ alarms ∷ []) → HasEnough question (network_of text) (log_of alarms) steps → o.status ≡ 11 → ⊥
+  decided steps question text alarms asks enough is =
+      let tells = answer_told o steps question text alarms ends asks (λ stop. between o.status _ is (omega arith) (omega arith) stop) in
+      tells.says.decided enough (left_open o tells is)

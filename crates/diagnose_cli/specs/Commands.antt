@@ -1,9 +1,10 @@
 -- The commands, the words that call each one, and the files that it needs.
 use Rattle.std.specs.Prelude.{ℕ, ◌-◌, ◌^◌, ◌≤◌, ⊤, List, [], ◌∷◌, length, codes, Bool, ◌&&◌, nat_eq, nat_le, Option, Some, None, if◌then◌else◌, bytes_eq, option_map, option_and_then}
+use Rattle.std.specs.Option.{option_map_or}
 use Rattle.des_base.specs.CommandWords.{word_at}
 use Rattle.des_base.specs.Numbers.{number_up_to}
 use Rattle.gen_plant.specs.Plant.{most_units}
-use Rattle.diagnose_cli.specs.declared.asking.Limits.{Limits}
+use Rattle.diagnose_cli.specs.declared.command.Limits.{Limits}
 use Rattle.diagnose_cli.specs.declared.command.Command.{Command}
 use Rattle.diagnose_cli.specs.declared.command.Command.TheVariants.{One, Session, Verdicts}
 use Rattle.diagnose_cli.specs.declared.command.Question.{Question}
@@ -67,16 +68,25 @@ twin_of steps after budget =
     option_and_then (λ n.
     option_and_then (λ d. option_map (λ b. One (Twin n d b)) (number_up_to most_budget budget)) (number_up_to most_steps after)) (number_up_to most_steps steps)
 
--- the command that the words call, if they call one
-abbrev pub command_of : List (List ℕ) → Option Command
-command_of words =
+-- the question of this name about a model and a log, by the last word
+abbrev pub question_named : List ℕ → List ℕ → Option Question
+question_named name last =
+    if bytes_eq name (codes "diagnose") then option_map (λ b. Diagnose b) (number_up_to most_budget last)
+    else if bytes_eq name (codes "cnf") then option_map (λ k. PrintCnf k) (bound_of last)
+    else if bytes_eq name (codes "proof") then option_map (λ b. PrintProof b) (number_up_to most_budget last)
+    else None
+
+-- the question that the words ask: the name, the words of model, log and steps, and a last one
+abbrev pub question_of : List (List ℕ) → Option Question
+question_of words = if nat_eq (length words) 5 then question_named (word_at words 0) (word_at words 4) else None
+
+-- the command that the words call, if it is no such question
+abbrev pub other_of : List (List ℕ) → Option Command
+other_of words =
     if calls words (codes "trace") 3 then Some (One Trace)
     else if calls words (codes "show") 2 then Some (One Show)
     else if calls words (codes "replay") 5 then option_map (λ steps. One (Replay steps)) (number_up_to most_steps (word_at words 4))
     else if calls words (codes "check") 3 then Some (One Check)
-    else if calls words (codes "diagnose") 5 then option_and_then (λ b. ask_of (word_at words 3) (Diagnose b)) (number_up_to most_budget (word_at words 4))
-    else if calls words (codes "cnf") 5 then option_and_then (λ k. ask_of (word_at words 3) (PrintCnf k)) (bound_of (word_at words 4))
-    else if calls words (codes "proof") 5 then option_and_then (λ b. ask_of (word_at words 3) (PrintProof b)) (number_up_to most_budget (word_at words 4))
     else if calls words (codes "generate") 4 then generate_of (word_at words 1) (word_at words 2) (word_at words 3)
     else if calls words (codes "bench") 5 then bench_of (word_at words 1) (word_at words 2) (word_at words 3) (word_at words 4)
     else if calls words (codes "session") 5 then option_map (λ l. Session l.steps l.budget) (limits_of (word_at words 3) (word_at words 4))
@@ -85,11 +95,9 @@ command_of words =
     else if calls words (codes "verdicts") 5 then option_map (λ l. Verdicts l.steps l.budget) (limits_of (word_at words 3) (word_at words 4))
     else None
 
--- the budget of a question, where it has one
-abbrev pub budget_of : Question → Option ℕ
-budget_of (Diagnose budget) = Some budget
-budget_of (PrintCnf bound) = None
-budget_of (PrintProof budget) = Some budget
+-- the command that the words call, if they call one
+abbrev pub command_of : List (List ℕ) → Option Command
+command_of words = option_map_or (λ question. ask_of (word_at words 3) question) (question_of words) (other_of words)
 
 -- a question is asked for no more steps than that, and a twin question for no more to be seen
 abbrev pub HasFewSteps : Command → Type 0

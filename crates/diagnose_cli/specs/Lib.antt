@@ -17,6 +17,7 @@ pub mod Exact
 pub mod Puts
 pub mod Sessions
 pub mod Rows
+pub mod Asking
 pub mod TwinRows
 pub mod VerdictRows
 pub mod CheapRows

@@ -1,5 +1,5 @@
 -- What each command with one reply may say over the bytes of its files.
-use Rattle.std.specs.Prelude.{◌≡◌, ◌↔◌, ℕ, zero, suc, ◌+◌, ◌≤◌, List, [], ◌∷◌, ◌++◌, length, take, codes, ◌==◌, Option, Some, None, IfSome}
+use Rattle.std.specs.Prelude.{◌≡◌, ◌≢◌, ◌↔◌, ℕ, zero, suc, ◌+◌, ◌^◌, ◌≤◌, List, [], ◌∷◌, ◌++◌, length, take, codes, ◌==◌, Option, Some, None, IfSome, IsSomeAnd}
 use Rattle.std.specs.List.{position_or_len}
 use Rattle.des_base.specs.CommandWords.{word_at}
 use Rattle.des_net.specs.Network.{Net}
@@ -23,7 +23,7 @@ use Rattle.proof_ledger.specs.declared.checker.Checked.TheVariants.{Verified, Re
 use Rattle.proof_text.specs.CnfText.{Formula, formula_of}
 use Rattle.proof_text.specs.LratText.{proof_of}
 use Rattle.proof_text.specs.PrintedText.{formula_text, steps_text, KeepsLimits, IsFormulaText}
-use Rattle.replay.specs.QuestionSize.{question_size}
+use Rattle.replay.specs.QuestionSize.{question_size, variable_bound}
 use Rattle.replay.specs.Replayed.{IsReplayed, IsAccepted}
 use Rattle.replay.specs.declared.replaying.Replayed.{Replayed}
 use Rattle.replay.specs.declared.replaying.Replayed.TheVariants.{Accepted, Stuck as AtEvent, BadAlarm, Missing, Order, TooWide}
@@ -175,11 +175,29 @@ pub record SaysProved (net : Net) (alarms : AlarmLog) (n budget : ℕ) (book : L
   pub holds : AnswersQuestion net alarms n budget book found
   pub tells : TellsProof net alarms n book found reply
 
--- the replies to a question about a network and a log within n steps, where this book is left
-abbrev pub AnswersTo : Question → Net → AlarmLog → ℕ → List BookEntry → (Kind × List ℕ) → Type 0
-AnswersTo (Diagnose budget) net alarms n book = SaysFound net alarms n budget book
-AnswersTo (PrintCnf bound) net alarms n book = SaysFormula net alarms n bound book
-AnswersTo (PrintProof budget) net alarms n book = SaysProved net alarms n budget book
+-- the budget of a question about a network and a log, where it has one, and what a reply to it says within n steps, where this book is left
+pub record Terms : Type 1 where
+  pub budget : Option ℕ
+  pub says : Net → AlarmLog → ℕ → List BookEntry → (Kind × List ℕ) → Type 0
+
+-- those of each question
+abbrev pub terms_of : Question → Terms
+terms_of (Diagnose budget) = record { budget = Some budget; says = λ net alarms n book. SaysFound net alarms n budget book }
+terms_of (PrintCnf bound) = record { budget = None; says = λ net alarms n book. SaysFormula net alarms n bound book }
+terms_of (PrintProof budget) = record { budget = Some budget; says = λ net alarms n book. SaysProved net alarms n budget book }
+
+-- the budget of a question, where it has one
+abbrev pub budget_of : Question → Option ℕ
+budget_of question = (terms_of question).budget
+
+-- the question has a budget, and this is at least 3 to the number of variables that network, log and steps allow
+abbrev pub HasEnough : Question → Net → AlarmLog → ℕ → Type 0
+HasEnough question net alarms n = IsSomeAnd (budget_of question) (λ budget. 3 ^ variable_bound net alarms n ≤ budget)
+
+-- The reply says what the question asks about the network and the log within n steps, where this book is left. A budget that is large enough decides.
+pub record AnswersTo (question : Question) (net : Net) (alarms : AlarmLog) (n : ℕ) (book : List BookEntry) (reply : Kind × List ℕ) : Type 0 where
+  pub says : (terms_of question).says net alarms n book reply
+  pub decided : HasEnough question net alarms n → reply.0 ≢ Undecided
 
 -- the text of a log
 abbrev pub reply_of_log : AlarmLog → Kind × List ℕ

@@ -33,8 +33,8 @@ use Rattle.diagnose_cli.specs.declared.command.Question.TheVariants.{Diagnose}
 use Rattle.diagnose_cli.specs.declared.command.Single.{Single}
 use Rattle.diagnose_cli.specs.declared.command.Single.TheVariants.{Trace, Show, Replay, Check, Ask, GenerateModel, GenerateLog, Bench, Twin, Cheapest}
 use Rattle.diagnose_cli.specs.Texts.{FileKind, limit_of, fault_of_text}
-use Rattle.diagnose_cli.specs.Commands.{budget_of, command_of, files_of}
-use Rattle.diagnose_cli.specs.Replies.{MayReply}
+use Rattle.diagnose_cli.specs.Commands.{command_of, files_of}
+use Rattle.diagnose_cli.specs.Replies.{MayReply, budget_of}
 use Rattle.diagnose_cli.specs.SessionReplies.{HasReplies}
 use Rattle.diagnose_cli.specs.TwinReplies.{LeavesOfWord}
 use Rattle.diagnose_cli.specs.Due.{halts}

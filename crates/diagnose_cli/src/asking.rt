@@ -1,11 +1,11 @@
 // A question about a model and a log: its files, its size, what is asked of it, and the reply.
 ghost use Rattle.std.specs.Prelude.{◌≡◌, ◌≢◌, ◌<◌, ◌≤◌, ℕ, List, [], ◌∷◌, length, IfErr, IfOk};
 ghost use Rattle.des_base.specs.declared.TheConstants.{MOST_STEPS};
-ghost use Rattle.diagnose_cli.specs.Commands.{budget_of};
-ghost use Rattle.diagnose_cli.specs.Due.{Answers, Closes};
+ghost use Rattle.diagnose_cli.specs.Asking.{IsAsked};
+ghost use Rattle.diagnose_cli.specs.Due.{Closes};
 ghost use Rattle.diagnose_cli.specs.Files.{loads};
-ghost use Rattle.diagnose_cli.specs.Replies.{AnswersTo};
-ghost use Rattle.diagnose_cli.specs.Rows.{AreTold, MayLearn};
+ghost use Rattle.diagnose_cli.specs.Replies.{AnswersTo, budget_of};
+ghost use Rattle.diagnose_cli.specs.Rows.{MayLearn};
 ghost use Rattle.diagnose_cli.specs.Transcripts.{UnlessMemory, once};
 ghost use Rattle.inquiries.specs.Begun.{LeavesQuestion};
 ghost use Rattle.least_faults.specs.Parts.{IsWithinLimits};
@@ -22,13 +22,6 @@ use least_faults::MOST_SIZE;
 use proof_ledger::Ledger;
 use sizing::question_size;
 use std::alloc::Global;
-
-/// What is asked for: a run of so many parallel steps at most, found by a search that may learn as many clauses as the budget says.
-#[derive(Clone, Copy)]
-pub struct Limits {
-    pub steps: u32,
-    pub budget: u64,
-}
 
 /// An inquiry that answers a question about a model and a log.
 pub trait Replying: Inquiry {
@@ -62,9 +55,8 @@ pub fn ask_question<F: Shelf>(
     requires words { 2 < length words.now }
     requires steps { steps ≤ MOST_STEPS }
     requires empty { book.old.entries ≡ [] }
-    ensures due { UnlessMemory result (Answers (loads F.held F.faults shelf.old shelf.new) words.now (Command.One (Single.Ask steps question)) book.new.entries (once result)) }
+    ensures asked { IsAsked (loads F.held F.faults shelf.old shelf.new) words.now steps question (MayLearn (budget_of question)) book.new.entries result }
     ensures stopped { IfErr result (λ stop. stop ≢ Stop.Memory → book.new ≡ book.old) }
-    ensures left { (text alarms : List ℕ) → AreTold (F.held shelf.old) words.now 1 (text ∷ alarms ∷ []) → LeavesQuestion (network_of text) (log_of alarms) steps (MayLearn (budget_of question)) book.new.entries }
 {
     match question {
         Question::Diagnose { budget } => {
@@ -91,12 +83,13 @@ fn ask_case<F: Shelf, Q: Replying>(
     requires words { 2 < length words.now }
     requires steps { steps ≤ MOST_STEPS }
     requires empty { book.old.entries ≡ [] }
-    ensures due { UnlessMemory result (Answers (loads F.held F.faults shelf.old shelf.new) words.now (Command.One (Single.Ask steps (Q.question inquiry.now))) book.new.entries (once result)) }
+    ensures asked { IsAsked (loads F.held F.faults shelf.old shelf.new) words.now steps (Q.question inquiry.now) (Q.leaves inquiry.now) book.new.entries result }
     ensures stopped { IfErr result (λ stop. stop ≢ Stop.Memory → book.new ≡ book.old) }
-    ensures left { (text alarms : List ℕ) → AreTold (F.held shelf.old) words.now 1 (text ∷ alarms ∷ []) → LeavesQuestion (network_of text) (log_of alarms) steps (Q.leaves inquiry.now) book.new.entries }
 {
     let case = fetch_case(alloc, words, shelf)?;
-    ask(alloc, &case, steps, inquiry, book)
+    let answer = ask(alloc, &case, steps, inquiry, book);
+    drop(case);
+    answer
 }
 
 // The same where both files are read.

@@ -10,8 +10,8 @@ ghost use Rattle.diagnose_cli.specs.Replies.{first_line};
 ghost use Rattle.diagnose_cli.specs.Due.{Answers, Closes};
 ghost use Rattle.inquiries.specs.Begun.{HasLearntWithin, LeavesQuestion};
 
-use crate::asking::{Limits, reply_to};
-use crate::command::{Command, Single};
+use crate::asking::reply_to;
+use crate::command::{Command, Limits, Single};
 use crate::ending::Reply;
 use crate::stop::Stop;
 use des_base::Memory;
@@ -42,7 +42,9 @@ pub fn bench_command(
         net: plant.net,
         log: plant.log,
     };
-    bench(alloc, units, &case, limits, book)
+    let answer = bench(alloc, units, &case, limits, book);
+    drop(case);
+    answer
 }
 
 // The same where the plant is made.

@@ -13,8 +13,7 @@ ghost use Rattle.log_csv.specs.LogText.{log_of};
 ghost use Rattle.model_text.specs.ModelFaults.{network_of};
 ghost use Rattle.report.specs.Replies.{CheapEventsKnown};
 
-use crate::asking::Limits;
-use crate::command::{Command, Single};
+use crate::command::{Command, Limits, Single};
 use crate::ending::{Kind, Reply};
 use crate::files::{fetch_case, fetch_costs};
 use crate::stop::Stop;
@@ -44,7 +43,9 @@ pub fn cheapest_command<F: Shelf>(
     ensures left { (text alarms prices : List ℕ) → AreTold (F.held shelf.old) words.now 1 (text ∷ alarms ∷ prices ∷ []) → LeavesCosts (network_of text) (cost_of (network_of text) prices) (log_of alarms) limits.steps limits.budget book.new.entries }
 {
     let case = fetch_case(alloc, words, shelf)?;
-    price_case(alloc, words, shelf, &case, limits, book)
+    let answer = price_case(alloc, words, shelf, &case, limits, book);
+    drop(case);
+    answer
 }
 
 // The same where model and log are read.
@@ -64,7 +65,9 @@ fn price_case<F: Shelf>(
     ensures left { (prices : List ℕ) → AreTold (F.held shelf.old) words.now 3 (prices ∷ []) → LeavesCosts case.now.net (cost_of case.now.net prices) case.now.log limits.steps limits.budget book.new.entries }
 {
     let table = fetch_costs(alloc, words, shelf, 3, &case.net)?;
-    ask_costs(alloc, case, &table, limits, book)
+    let answer = ask_costs(alloc, case, &table, limits, book);
+    drop(table);
+    answer
 }
 
 // The same where the costs are read too.

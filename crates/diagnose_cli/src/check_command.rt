@@ -28,7 +28,9 @@ pub fn check_command<F: Shelf>(
     ensures { (book : List BookEntry) → UnlessMemory result (Answers (loads F.held F.faults shelf.old shelf.new) words.now (Command.One Single.Check) book (once result)) }
 {
     let cnf = fetch_cnf(alloc, words, shelf, 1)?;
-    check_over(alloc, words, shelf, &cnf)
+    let answer = check_over(alloc, words, shelf, &cnf);
+    drop(cnf);
+    answer
 }
 
 // The same where the formula is read.

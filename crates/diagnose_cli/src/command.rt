@@ -1,10 +1,15 @@
 // The commands, and which one the words of a command line call.
-ghost use Rattle.std.specs.Prelude.{◌≡◌, ◌≤◌, length, IfSome, ◌<◌};
-ghost use Rattle.gen_plant.specs.Plant.{most_units};
-ghost use Rattle.diagnose_cli.specs.Commands.{ask_of, bench_of, bound_of, calls, command_of, generate_of, limits_of, most_steps, read_words, twin_of, units_of, HasFewSteps, HasFewUnits};
+ghost use Rattle.std.specs.Prelude.{◌≡◌, ◌<◌, length, IfSome};
+ghost use Rattle.diagnose_cli.specs.Commands.{ask_of, bench_of, bound_of, calls, command_of, generate_of, limits_of, other_of, question_named, question_of, twin_of, units_of};
 
-use crate::asking::Limits;
 use des_base::{WordList, read_number};
+
+/// What is asked for: a run of so many parallel steps at most, found by a search that may learn as many clauses as the budget says.
+#[derive(Clone, Copy)]
+pub struct Limits {
+    pub steps: u32,
+    pub budget: u64,
+}
 
 /// A question about a model and a log, with one reply.
 #[derive(Clone, Copy)]
@@ -97,10 +102,47 @@ fn is_call(words: &WordList, name: &str, count: usize) -> bool
 
 /// The command that the words call, if they call one.
 pub fn command_of(words: &WordList) -> Option<Command>
-    ensures command { result ≡ command_of words.now }
-    ensures files { IfSome result (λ c. read_words c < length words.now) }
-    ensures steps { IfSome result HasFewSteps }
-    ensures units { IfSome result HasFewUnits }
+    ensures { result ≡ command_of words.now }
+{
+    match question_of(words) {
+        Some(question) => ask_of(words.word(3), question),
+        None => other_of(words),
+    }
+}
+
+// The question that the words ask about a model and a log.
+fn question_of(words: &WordList) -> Option<Question>
+    ensures question { result ≡ question_of words.now }
+    ensures five { IfSome result (λ _. length words.now ≡ 5) }
+{
+    if words.len() == 5 {
+        question_named(words.word(0), words.word(4))
+    } else {
+        None
+    }
+}
+
+// The question of this name, by the last word.
+fn question_named(name: &str, last: &str) -> Option<Question>
+    ensures { result ≡ question_named name.now last.now }
+{
+    if name == "diagnose" {
+        let budget = read_number(last.as_bytes(), u64::MAX)?;
+        Some(Question::Diagnose { budget })
+    } else if name == "cnf" {
+        let bound = bound_of(last)?;
+        Some(Question::PrintCnf { bound })
+    } else if name == "proof" {
+        let budget = read_number(last.as_bytes(), u64::MAX)?;
+        Some(Question::PrintProof { budget })
+    } else {
+        None
+    }
+}
+
+// The command that the words call, if it is another one.
+fn other_of(words: &WordList) -> Option<Command>
+    ensures { result ≡ other_of words.now }
 {
     if is_call(words, "trace", 3) {
         Some(Command::One(Single::Trace))
@@ -111,15 +153,6 @@ pub fn command_of(words: &WordList) -> Option<Command>
         Some(Command::One(Single::Replay(steps as u32)))
     } else if is_call(words, "check", 3) {
         Some(Command::One(Single::Check))
-    } else if is_call(words, "diagnose", 5) {
-        let budget = read_number(words.word(4).as_bytes(), u64::MAX)?;
-        ask_of(words.word(3), Question::Diagnose { budget })
-    } else if is_call(words, "cnf", 5) {
-        let bound = bound_of(words.word(4))?;
-        ask_of(words.word(3), Question::PrintCnf { bound })
-    } else if is_call(words, "proof", 5) {
-        let budget = read_number(words.word(4).as_bytes(), u64::MAX)?;
-        ask_of(words.word(3), Question::PrintProof { budget })
     } else if is_call(words, "generate", 4) {
         generate_of(words.word(1), words.word(2), words.word(3))
     } else if is_call(words, "bench", 5) {
@@ -142,10 +175,7 @@ pub fn command_of(words: &WordList) -> Option<Command>
 
 // That question, within as many steps as a word says.
 fn ask_of(steps: &str, question: Question) -> Option<Command>
-    ensures command { result ≡ ask_of steps.now question }
-    ensures files { IfSome result (λ c. read_words c ≡ 2) }
-    ensures steps { IfSome result HasFewSteps }
-    ensures units { IfSome result HasFewUnits }
+    ensures { result ≡ ask_of steps.now question }
 {
     let steps = read_number(steps.as_bytes(), STEP_LIMIT)?;
     Some(Command::One(Single::Ask {
@@ -156,8 +186,7 @@ fn ask_of(steps: &str, question: Question) -> Option<Command>
 
 // How many steps and which budget two words ask for.
 fn limits_of(steps: &str, budget: &str) -> Option<Limits>
-    ensures limits { result ≡ limits_of steps.now budget.now }
-    ensures few { IfSome result (λ l. l.steps ≤ most_steps) }
+    ensures { result ≡ limits_of steps.now budget.now }
 {
     let steps = read_number(steps.as_bytes(), STEP_LIMIT)?;
     let budget = read_number(budget.as_bytes(), u64::MAX)?;
@@ -180,18 +209,14 @@ fn bound_of(text: &str) -> Option<Option<u8>>
 
 // How many units are asked for.
 fn units_of(text: &str) -> Option<u32>
-    ensures units { result ≡ units_of text.now }
-    ensures few { IfSome result (λ units. units ≤ most_units) }
+    ensures { result ≡ units_of text.now }
 {
     let units = read_number(text.as_bytes(), UNIT_LIMIT)?;
     if 1 <= units { Some(units as u32) } else { None }
 }
 
 fn generate_of(what: &str, units: &str, start: &str) -> Option<Command>
-    ensures command { result ≡ generate_of what.now units.now start.now }
-    ensures files { IfSome result (λ c. read_words c ≡ 0) }
-    ensures steps { IfSome result HasFewSteps }
-    ensures units { IfSome result HasFewUnits }
+    ensures { result ≡ generate_of what.now units.now start.now }
 {
     if what == "model" {
         let units = units_of(units)?;
@@ -207,10 +232,7 @@ fn generate_of(what: &str, units: &str, start: &str) -> Option<Command>
 }
 
 fn bench_of(units: &str, start: &str, steps: &str, budget: &str) -> Option<Command>
-    ensures command { result ≡ bench_of units.now start.now steps.now budget.now }
-    ensures files { IfSome result (λ c. read_words c ≡ 0) }
-    ensures steps { IfSome result HasFewSteps }
-    ensures units { IfSome result HasFewUnits }
+    ensures { result ≡ bench_of units.now start.now steps.now budget.now }
 {
     let units = units_of(units)?;
     let start = read_number(start.as_bytes(), u64::MAX)?;
@@ -225,10 +247,7 @@ fn bench_of(units: &str, start: &str, steps: &str, budget: &str) -> Option<Comma
 }
 
 fn twin_of(steps: &str, after: &str, budget: &str) -> Option<Command>
-    ensures command { result ≡ twin_of steps.now after.now budget.now }
-    ensures files { IfSome result (λ c. read_words c ≡ 2) }
-    ensures steps { IfSome result HasFewSteps }
-    ensures units { IfSome result HasFewUnits }
+    ensures { result ≡ twin_of steps.now after.now budget.now }
 {
     let steps = read_number(steps.as_bytes(), STEP_LIMIT)?;
     let after = read_number(after.as_bytes(), STEP_LIMIT)?;

@@ -12,7 +12,7 @@ ghost use Rattle.replay.specs.Traced.{word_of};
 ghost use Rattle.diagnose_cli.specs.Texts.{log, script, IsCase, IsPlan, StopsAtFirstTwo, fault_of_model, fault_of_log, fault_of_script, fault_of_run, fault_of_cnf, fault_of_lrat, fault_of_costs};
 ghost use Rattle.diagnose_cli.specs.Files.{loads, Fetches, IsReadAs, StopsIn};
 
-use crate::asking::Limits;
+use crate::command::Limits;
 use crate::session_rows::Plan;
 use crate::stop::{Stop, stop_of_cnf, stop_of_lrat};
 use des_base::{LoadFault, Shelf, WordList};

@@ -23,7 +23,9 @@ pub fn generate_model_command(alloc: Global, units: u32, start: u64) -> Result<R
     ensures { (l : Loads) (words : List (List ℕ)) (book : List BookEntry) → UnlessMemory result (Answers l words (Command.One (Single.GenerateModel units start)) book (once result)) }
 {
     let plant = generate(alloc, units, start)?;
-    Ok(reply_of_model(alloc, &plant.net)?)
+    let reply = reply_of_model(alloc, &plant.net);
+    drop(plant);
+    Ok(reply?)
 }
 
 /// Prints the log of a generated plant.
@@ -32,7 +34,9 @@ pub fn generate_log_command(alloc: Global, units: u32, start: u64) -> Result<Rep
     ensures { (l : Loads) (words : List (List ℕ)) (book : List BookEntry) → UnlessMemory result (Answers l words (Command.One (Single.GenerateLog units start)) book (once result)) }
 {
     let plant = generate(alloc, units, start)?;
-    Ok(reply_of_log(alloc, &plant.log)?)
+    let reply = reply_of_log(alloc, &plant.log);
+    drop(plant);
+    Ok(reply?)
 }
 
 // The reply that has the text of the log.

@@ -34,7 +34,9 @@ pub fn replay_command<F: Shelf>(
     ensures { (book : List BookEntry) → UnlessMemory result (Answers (loads F.held F.faults shelf.old shelf.new) words.now (Command.One (Single.Replay steps)) book (once result)) }
 {
     let case = fetch_case(alloc, words, shelf)?;
-    replay_over(alloc, words, shelf, &case, steps)
+    let answer = replay_over(alloc, words, shelf, &case, steps);
+    drop(case);
+    answer
 }
 
 // The same where model and log are read.

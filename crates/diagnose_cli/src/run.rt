@@ -13,11 +13,11 @@ ghost use Rattle.diagnose_cli.specs.Run.{Does, LeavesAlone, Ran, is_question};
 ghost use Rattle.diagnose_cli.specs.Transcripts.{UnlessMemory, once};
 ghost use Rattle.telling.specs.Telling.{RisesExactlyIf};
 
-use crate::asking::{Limits, ask_question};
+use crate::asking::ask_question;
 use crate::bench_command::bench_command;
 use crate::cheapest_command::cheapest_command;
 use crate::check_command::check_command;
-use crate::command::{Command, Single, command_of};
+use crate::command::{Command, Limits, Single, command_of};
 use crate::ending::{Reply, put_once};
 use crate::generate_command::{generate_log_command, generate_model_command};
 use crate::replay_command::replay_command;

@@ -15,8 +15,7 @@ ghost use Rattle.model_text.specs.ModelFaults.{network_of};
 ghost use Rattle.sat_order.specs.Rank.{IsRanked};
 ghost use Rattle.telling.specs.Telling.{RisesExactlyIf};
 
-use crate::asking::Limits;
-use crate::command::Command;
+use crate::command::{Command, Limits};
 use crate::ending::put_once;
 use crate::files::fetch_plan;
 use crate::session_rows::{Plan, RowTeller};
@@ -52,7 +51,11 @@ pub fn session_command<F: Shelf, S: Sink>(
     ensures failures { RisesExactlyIf (result ≡ 4) (S.failures out.old) (S.failures out.new) }
 {
     match fetch_plan(alloc, words, shelf, limits) {
-        Ok(plan) => carry_out(alloc, &plan, out, book),
+        Ok(plan) => {
+            let status = carry_out(alloc, &plan, out, book);
+            drop(plan);
+            status
+        }
         Err(stop) => put_once(alloc, Err(stop), out),
     }
 }

@@ -6,7 +6,7 @@ ghost use Rattle.diagnose_cli.specs.SessionReplies.{replies_to};
 ghost use Rattle.diagnose_cli.specs.Sessions.{IsOfPlan, RowIsUntold, RowTells, TellsKnown};
 ghost use Rattle.report.specs.Replies.{EventsKnown, text_of_found, text_of_refused};
 
-use crate::asking::Limits;
+use crate::command::Limits;
 use alarm_session::{Session, Told};
 use des_base::Memory;
 use des_net::Network;

@@ -22,7 +22,9 @@ pub fn show_command<F: Shelf>(alloc: Global, words: &WordList, shelf: &mut F) ->
     ensures { (book : List BookEntry) → UnlessMemory result (Answers (loads F.held F.faults shelf.old shelf.new) words.now (Command.One Single.Show) book (once result)) }
 {
     let net = fetch_model(alloc, words, shelf, 1)?;
-    Ok(reply_of_model(alloc, &net)?)
+    let reply = reply_of_model(alloc, &net);
+    drop(net);
+    Ok(reply?)
 }
 
 /// The reply that has the text of the network.

@@ -29,7 +29,9 @@ pub fn trace_command<F: Shelf>(
     ensures { (book : List BookEntry) → UnlessMemory result (Answers (loads F.held F.faults shelf.old shelf.new) words.now (Command.One Single.Trace) book (once result)) }
 {
     let net = fetch_model(alloc, words, shelf, 1)?;
-    trace_over(alloc, words, shelf, &net)
+    let answer = trace_over(alloc, words, shelf, &net);
+    drop(net);
+    answer
 }
 
 // The same where the network is read.

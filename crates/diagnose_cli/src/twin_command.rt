@@ -56,7 +56,9 @@ pub fn twin_command<F: Shelf>(
     ensures left { (text : List ℕ) → AreTold (F.held shelf.old) words.now 1 (text ∷ []) → LeavesOfWord (network_of text) (word_at words.now 2) limits.steps limits.after limits.budget book.new.entries }
 {
     let net = fetch_model(alloc, words, shelf, 1)?;
-    ask_of_word(alloc, &net, words.word(2), limits, book)
+    let answer = ask_of_word(alloc, &net, words.word(2), limits, book);
+    drop(net);
+    answer
 }
 
 // The same where the network is read.

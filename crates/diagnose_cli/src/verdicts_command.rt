@@ -14,8 +14,7 @@ ghost use Rattle.model_text.specs.ModelFaults.{network_of};
 ghost use Rattle.telling.specs.Telling.{RisesExactlyIf};
 ghost use Rattle.verdict_telling.specs.Left.{LeavesVerdicts};
 
-use crate::asking::Limits;
-use crate::command::Command;
+use crate::command::{Command, Limits};
 use crate::ending::put_once;
 use crate::files::fetch_case;
 use crate::stop::Stop;
@@ -48,7 +47,11 @@ pub fn verdicts_command<F: Shelf, S: Sink>(
     ensures failures { RisesExactlyIf (result ≡ 4) (S.failures out.old) (S.failures out.new) }
 {
     match fetch_case(alloc, words, shelf) {
-        Ok(case) => judge_case(alloc, &case, limits, out, book),
+        Ok(case) => {
+            let status = judge_case(alloc, &case, limits, out, book);
+            drop(case);
+            status
+        }
         Err(stop) => put_once(alloc, Err(stop), out),
     }
 }

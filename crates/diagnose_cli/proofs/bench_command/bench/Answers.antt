@@ -18,7 +18,7 @@ reply_to-requires-clause-limits c = record {
 pub returns-clause-due : goal.returns-clause-due
 returns-clause-due c words start of_net of_log _ =
     summed_up c.args.units start c.args.limits.steps c.args.limits.budget words c.reply_to.new.book.entries c.args.case.now.net of_net c.args.case.now.log of_log c.question_size-size.result
-    c.in_ok-reply.reply c.in_ok-sum_up.field-0 c.alarms.result c.question_size-size.ensures.size (omega (arith, c.if-size-gt-MOST_SIZE.false)) c.alarms.ensures.count c.in_ok-reply.ensures.replies c.in_ok-sum_up.ensures
+    c.in_ok-reply.reply c.in_ok-sum_up.field-0 c.alarms.result c.question_size-size.ensures.size (omega (arith, c.if-size-gt-MOST_SIZE.false)) c.alarms.ensures.count c.in_ok-reply.ensures.replies.says c.in_ok-sum_up.ensures
 
 pub returns-then-size-gt-MOST_SIZE-clause-left : goal.returns-then-size-gt-MOST_SIZE-clause-left
 returns-then-size-gt-MOST_SIZE-clause-left c = inl c.requires.empty

@@ -7,7 +7,7 @@ use Rattle.log_order.specs.Log.{Log}
 use Rattle.diagnose_cli.proofs.bench_command.bench_command.Goals as goal
 
 pub returns-clause-due : goal.returns-clause-due
-returns-clause-due c l words = c.bench.ensures.due words c.args.start c.in_ok-plant.ensures.net c.in_ok-plant.ensures.log
+returns-clause-due c l words = c.bench-answer.ensures.due words c.args.start c.in_ok-plant.ensures.net c.in_ok-plant.ensures.log
 
 pub returns-in_err-plant-clause-left : goal.returns-in_err-plant-clause-left
 returns-in_err-plant-clause-left c = inl c.requires.empty
@@ -15,5 +15,5 @@ returns-in_err-plant-clause-left c = inl c.requires.empty
 pub returns-clause-left : goal.returns-clause-left
 returns-clause-left c =
     let plant = c.in_ok-plant.plant in
-    subst (λ (a : Log). LeavesQuestion (plant_net c.args.units) a c.args.limits.steps (HasLearntWithin c.args.limits.budget) c.bench.new.book.entries) c.in_ok-plant.ensures.log
-    (subst (λ (n : Net). LeavesQuestion n plant.log c.args.limits.steps (HasLearntWithin c.args.limits.budget) c.bench.new.book.entries) c.in_ok-plant.ensures.net c.bench.ensures.left)
+    subst (λ (a : Log). LeavesQuestion (plant_net c.args.units) a c.args.limits.steps (HasLearntWithin c.args.limits.budget) c.bench-answer.new.book.entries) c.in_ok-plant.ensures.log
+    (subst (λ (n : Net). LeavesQuestion n plant.log c.args.limits.steps (HasLearntWithin c.args.limits.budget) c.bench-answer.new.book.entries) c.in_ok-plant.ensures.net c.bench-answer.ensures.left)

@@ -24,9 +24,9 @@ returns-clause-due g c =
     let case = c.in_ok-case.ensures.read in
     let words = c.args.words.now in
     let command = One (Cheapest c.args.limits.steps c.args.limits.budget) in
-    goes_on_with (shelf.held c.args.shelf.now) (shelf.held c.fetch_case.new.shelf) (shelf.faults c.args.shelf.now) (shelf.faults c.fetch_case.new.shelf) (shelf.faults c.price_case.new.shelf)
-    c.in_ok-case.ensures.kept c.in_ok-case.ensures.never_falls words (Closes command words c.price_case.new.book.entries) (costs ∷ []) c.in_ok-case.case.net c.in_ok-case.case.log case c.price_case.result
-    (c.price_case.ensures.due case.text case.second case.net_is case.second_is)
+    goes_on_with (shelf.held c.args.shelf.now) (shelf.held c.fetch_case.new.shelf) (shelf.faults c.args.shelf.now) (shelf.faults c.fetch_case.new.shelf) (shelf.faults c.price_case-answer.new.shelf)
+    c.in_ok-case.ensures.kept c.in_ok-case.ensures.never_falls words (Closes command words c.price_case-answer.new.book.entries) (costs ∷ []) c.in_ok-case.case.net c.in_ok-case.case.log case c.price_case-answer.result
+    (c.price_case-answer.ensures.due case.text case.second case.net_is case.second_is)
 
 pub returns-in_err-case-clause-left : goal.returns-in_err-case-clause-left
 returns-in_err-case-clause-left g c text alarms prices told = inl c.requires.empty
@@ -36,4 +36,4 @@ returns-clause-left g c text alarms prices told =
     let held = g.F.Shelf.held c.args.shelf.now in
     let words = c.args.words.now in
     let third = subst (λ (f : List ℕ → Option (List ℕ)). AreTold f words 3 (prices ∷ [])) (sym c.in_ok-case.ensures.kept) told.1.1 in
-    case_prices_left held words c.in_ok-case.case.net c.in_ok-case.case.log c.in_ok-case.ensures.read text alarms prices told c.args.limits.steps c.args.limits.budget c.price_case.new.book.entries (c.price_case.ensures.left prices third)
+    case_prices_left held words c.in_ok-case.case.net c.in_ok-case.case.log c.in_ok-case.ensures.read text alarms prices told c.args.limits.steps c.args.limits.budget c.price_case-answer.new.book.entries (c.price_case-answer.ensures.left prices third)

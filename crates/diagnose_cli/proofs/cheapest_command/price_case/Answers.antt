@@ -22,14 +22,14 @@ returns-clause-due g c text alarms of_net of_log never =
     let limits = c.args.limits in
     let words = c.args.words.now in
     let read = c.in_ok-table.ensures.table in
-    costs_priced l words limits.steps limits.budget c.ask_costs.new.book.entries text alarms c.args.case.now.net of_net c.in_ok-table.table c.ask_costs.result read (c.ask_costs.ensures.due words text alarms read.0 of_net of_log read.2 never)
+    costs_priced l words limits.steps limits.budget c.ask_costs-answer.new.book.entries text alarms c.args.case.now.net of_net c.in_ok-table.table c.ask_costs-answer.result read (c.ask_costs-answer.ensures.due words text alarms read.0 of_net of_log read.2 never)
 
 pub returns-in_err-table-clause-left : goal.returns-in_err-table-clause-left
 returns-in_err-table-clause-left g c prices told = inl c.requires.empty
 
 pub returns-clause-left : goal.returns-clause-left
 returns-clause-left g c prices told =
-    prices_left (g.F.Shelf.held c.args.shelf.now) _ _ _ c.args.case.now.net c.in_ok-table.table c.in_ok-table.ensures.table prices told.0 c.args.case.now.log c.args.limits.steps c.args.limits.budget c.ask_costs.new.book.entries c.ask_costs.ensures.left
+    prices_left (g.F.Shelf.held c.args.shelf.now) _ _ _ c.args.case.now.net c.in_ok-table.table c.in_ok-table.ensures.table prices told.0 c.args.case.now.log c.args.limits.steps c.args.limits.budget c.ask_costs-answer.new.book.entries c.ask_costs-answer.ensures.left
 
-pub ask_costs-requires-clause-long : goal.ask_costs-requires-clause-long
-ask_costs-requires-clause-long g c = c.in_ok-table.ensures.table.2.long
+pub ask_costs-answer-requires-clause-long : goal.ask_costs-answer-requires-clause-long
+ask_costs-answer-requires-clause-long g c = c.in_ok-table.ensures.table.2.long

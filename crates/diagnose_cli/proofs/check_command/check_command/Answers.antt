@@ -11,5 +11,5 @@ pub returns : goal.returns
 returns g c book =
     let shelf = g.F.Shelf in
     let f = c.in_ok-cnf.ensures.formula in
-    goes_on_later (shelf.held c.args.shelf.now) (shelf.held c.fetch_cnf.new.shelf) (shelf.faults c.args.shelf.now) (shelf.faults c.fetch_cnf.new.shelf) (shelf.faults c.check_over.new.shelf)
-    c.in_ok-cnf.ensures.kept c.in_ok-cnf.ensures.never_falls c.args.words.now (Closes (One Check) c.args.words.now book) 1 cnf (lrat ∷ []) [] f.0 c.check_over.result f.1 (c.check_over.ensures book f.0 f.2)
+    goes_on_later (shelf.held c.args.shelf.now) (shelf.held c.fetch_cnf.new.shelf) (shelf.faults c.args.shelf.now) (shelf.faults c.fetch_cnf.new.shelf) (shelf.faults c.check_over-answer.new.shelf)
+    c.in_ok-cnf.ensures.kept c.in_ok-cnf.ensures.never_falls c.args.words.now (Closes (One Check) c.args.words.now book) 1 cnf (lrat ∷ []) [] f.0 c.check_over-answer.result f.1 (c.check_over-answer.ensures book f.0 f.2)

@@ -18,6 +18,6 @@ pub returns : goal.returns
 returns g c book =
     let shelf = g.F.Shelf in
     let case = c.in_ok-case.ensures.read in
-    goes_on_with (shelf.held c.args.shelf.now) (shelf.held c.fetch_case.new.shelf) (shelf.faults c.args.shelf.now) (shelf.faults c.fetch_case.new.shelf) (shelf.faults c.replay_over.new.shelf)
-    c.in_ok-case.ensures.kept c.in_ok-case.ensures.never_falls c.args.words.now (Closes (One (Replay c.args.steps)) c.args.words.now book) (run ∷ []) c.in_ok-case.case.net c.in_ok-case.case.log case c.replay_over.result
-    (c.replay_over.ensures book case.text case.second case.net_is case.second_is)
+    goes_on_with (shelf.held c.args.shelf.now) (shelf.held c.fetch_case.new.shelf) (shelf.faults c.args.shelf.now) (shelf.faults c.fetch_case.new.shelf) (shelf.faults c.replay_over-answer.new.shelf)
+    c.in_ok-case.ensures.kept c.in_ok-case.ensures.never_falls c.args.words.now (Closes (One (Replay c.args.steps)) c.args.words.now book) (run ∷ []) c.in_ok-case.case.net c.in_ok-case.case.log case c.replay_over-answer.result
+    (c.replay_over-answer.ensures book case.text case.second case.net_is case.second_is)

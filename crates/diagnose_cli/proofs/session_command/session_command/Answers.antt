@@ -4,7 +4,7 @@ use Rattle.diagnose_cli.specs.Commands.{command_of}
 use Rattle.diagnose_cli.specs.Due.{Due, HasNotBegun}
 use Rattle.diagnose_cli.specs.Files.{loads}
 use Rattle.diagnose_cli.specs.declared.command.Command.TheVariants.{Session}
-use Rattle.diagnose_cli.specs.declared.asking.Limits.{Limits}
+use Rattle.diagnose_cli.specs.declared.command.Limits.{Limits}
 use Rattle.diagnose_cli.proofs.Once.{speaks_once}
 use Rattle.diagnose_cli.proofs.SessionAnswers.{not_begun, plan_speaks, plan_stops}
 use Rattle.diagnose_cli.proofs.session_command.session_command.Goals as goal
@@ -15,8 +15,8 @@ returns-in-Ok-clause-speaks g c =
     let plan = c.in-Ok.ensures.read in
     let limits = c.in-Ok.plan.limits in
     let called = subst (λ (asked : Limits). command_of c.args.words.now ≡ Some (Session asked.steps asked.budget)) (sym c.in-Ok.ensures.limits) c.requires.called in
-    plan_speaks l c.args.words.now limits.steps limits.budget c.carry_out.new.book.entries called c.in-Ok.plan.net c.in-Ok.plan.script _ _ _ c.carry_out.result plan
-    (c.carry_out.ensures.speaks c.args.words.now plan.text plan.second plan.net_is plan.second_is)
+    plan_speaks l c.args.words.now limits.steps limits.budget c.carry_out-status.new.book.entries called c.in-Ok.plan.net c.in-Ok.plan.script _ _ _ c.carry_out-status.result plan
+    (c.carry_out-status.ensures.speaks c.args.words.now plan.text plan.second plan.net_is plan.second_is)
 
 pub returns-in-Err-clause-speaks : goal.returns-in-Err-clause-speaks
 returns-in-Err-clause-speaks g c =

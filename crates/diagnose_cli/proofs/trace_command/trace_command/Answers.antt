@@ -11,5 +11,5 @@ pub returns : goal.returns
 returns g c book =
     let shelf = g.F.Shelf in
     let m = c.in_ok-net.ensures.net in
-    goes_on_later (shelf.held c.args.shelf.now) (shelf.held c.fetch_model.new.shelf) (shelf.faults c.args.shelf.now) (shelf.faults c.fetch_model.new.shelf) (shelf.faults c.trace_over.new.shelf)
-    c.in_ok-net.ensures.kept c.in_ok-net.ensures.never_falls c.args.words.now (Closes (One Trace) c.args.words.now book) 1 model (run ∷ []) [] m.0 c.trace_over.result m.1 (c.trace_over.ensures book m.0 m.2)
+    goes_on_later (shelf.held c.args.shelf.now) (shelf.held c.fetch_model.new.shelf) (shelf.faults c.args.shelf.now) (shelf.faults c.fetch_model.new.shelf) (shelf.faults c.trace_over-answer.new.shelf)
+    c.in_ok-net.ensures.kept c.in_ok-net.ensures.never_falls c.args.words.now (Closes (One Trace) c.args.words.now book) 1 model (run ∷ []) [] m.0 c.trace_over-answer.result m.1 (c.trace_over-answer.ensures book m.0 m.2)

@@ -27,13 +27,13 @@ returns-clause-due g c never =
     let words = c.args.words.now in
     let limits = c.args.limits in
     let command = One (Twin limits.steps limits.after limits.budget) in
-    let book = c.ask_of_word.new.book.entries in
+    let book = c.ask_of_word-answer.new.book.entries in
     let m = c.in_ok-net.ensures.net in
-    goes_on l words 1 model [] [] (Closes command words book) m.0 (once c.ask_of_word.result) m.1 (c.ask_of_word.ensures.due words m.0 c.word.ensures m.2 never)
+    goes_on l words 1 model [] [] (Closes command words book) m.0 (once c.ask_of_word-answer.result) m.1 (c.ask_of_word-answer.ensures.due words m.0 c.word.ensures m.2 never)
 
 pub returns-in_err-net-clause-left : goal.returns-in_err-net-clause-left
 returns-in_err-net-clause-left g c text told = none_left (network_of text) (word_at c.args.words.now 2) c.args.limits.steps c.args.limits.after c.args.limits.budget c.args.book.now.entries c.requires.empty
 
 pub returns-clause-left : goal.returns-clause-left
 returns-clause-left g c text told =
-    word_left (g.F.Shelf.held c.args.shelf.now) c.args.words.now _ _ c.in_ok-net.net c.in_ok-net.ensures.net text told c.word.result.now c.word.ensures c.args.limits.steps c.args.limits.after c.args.limits.budget c.ask_of_word.new.book.entries c.ask_of_word.ensures.left
+    word_left (g.F.Shelf.held c.args.shelf.now) c.args.words.now _ _ c.in_ok-net.net c.in_ok-net.ensures.net text told c.word.result.now c.word.ensures c.args.limits.steps c.args.limits.after c.args.limits.budget c.ask_of_word-answer.new.book.entries c.ask_of_word-answer.ensures.left

@@ -15,8 +15,8 @@ pub returns-in-Ok-clause-speaks : goal.returns-in-Ok-clause-speaks
 returns-in-Ok-clause-speaks g c =
     let l = loads g.F.Shelf.held g.F.Shelf.faults c.args.shelf.now c.fetch_case.new.shelf in
     let case = c.in-Ok.ensures.read in
-    case_speaks l c.args.words.now c.args.limits.steps c.args.limits.budget c.judge_case.new.book.entries c.requires.called c.in-Ok.case.net c.in-Ok.case.log _ _ _ c.judge_case.result case
-    (c.judge_case.ensures.speaks c.args.words.now case.text case.second case.net_is case.second_is)
+    case_speaks l c.args.words.now c.args.limits.steps c.args.limits.budget c.judge_case-status.new.book.entries c.requires.called c.in-Ok.case.net c.in-Ok.case.log _ _ _ c.judge_case-status.result case
+    (c.judge_case-status.ensures.speaks c.args.words.now case.text case.second case.net_is case.second_is)
 
 pub returns-in-Err-clause-speaks : goal.returns-in-Err-clause-speaks
 returns-in-Err-clause-speaks g c =
@@ -30,7 +30,7 @@ returns-in-Err-clause-speaks g c =
 pub returns-in-Ok-clause-left : goal.returns-in-Ok-clause-left
 returns-in-Ok-clause-left g c text alarms told =
     case_left (g.F.Shelf.held c.args.shelf.now) c.args.words.now c.in-Ok.case.net c.in-Ok.case.log c.in-Ok.ensures.read text alarms told
-    (λ (net : Net) (log : Log). LeavesVerdicts net log c.args.limits.steps c.args.limits.budget c.judge_case.new.book.entries) c.judge_case.ensures.left
+    (λ (net : Net) (log : Log). LeavesVerdicts net log c.args.limits.steps c.args.limits.budget c.judge_case-status.new.book.entries) c.judge_case-status.ensures.left
 
 pub returns-in-Err-clause-left : goal.returns-in-Err-clause-left
 returns-in-Err-clause-left g c text alarms told = inl c.requires.empty

@@ -1,9 +1,10 @@
 -- The events of what is found are known, and its run replays.
 use Rattle.std.proofs.Common.{◌≡◌, ℕ, List}
 use Rattle.least_faults.proofs.Closing.{ok_weaker}
+use Rattle.diagnose_cli.specs.declared.command.Question.TheVariants.{Diagnose}
 use Rattle.diagnose_cli.specs.declared.ending.Kind.{Kind}
-use Rattle.diagnose_cli.specs.Replies.{SaysFound, reply_of_found}
-use Rattle.diagnose_cli.proofs.Diagnosing.{answers_question}
+use Rattle.diagnose_cli.specs.Replies.{AnswersTo, reply_of_found}
+use Rattle.diagnose_cli.proofs.Diagnosing.{answers_found, answers_question}
 use Rattle.diagnose_cli.proofs.KnownRuns.{found_known}
 use Rattle.diagnose_cli.proofs.diagnose_command.LeastFaultsReplying.reply.Goals as goal
 
@@ -18,9 +19,9 @@ returns c =
     let budget = c.args.self.now.budget in
     let book = c.args._book.now.entries in
     let found = c.args.answer in
-    ok_weaker c.reply_of_found.result (λ (reply : Kind × List ℕ). reply ≡ reply_of_found net n found) (SaysFound net log n budget book)
-    (λ reply is. record {
+    ok_weaker c.reply_of_found.result (λ (reply : Kind × List ℕ). reply ≡ reply_of_found net n found) (AnswersTo (Diagnose budget) net log n book)
+    (λ reply is. answers_found net log n budget book reply (record {
       found = found;
       holds = answers_question net log n budget book found c.is_built.ensures.network c.is_built.ensures.whole c.is_whole.ensures.whole c.requires.steps c.requires.says;
       is = is;
-    }) c.reply_of_found.ensures
+    })) c.reply_of_found.ensures

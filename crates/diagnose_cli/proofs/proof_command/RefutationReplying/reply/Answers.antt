@@ -8,12 +8,13 @@ use Rattle.least_faults.proofs.Closing.{ok_weaker}
 use Rattle.least_faults.specs.declared.answer.Found.{Found}
 use Rattle.proof_text.specs.PrintedText.{ReadsBack, steps_text}
 use Rattle.report.specs.Replies.{EventsKnown}
+use Rattle.diagnose_cli.specs.declared.command.Question.TheVariants.{PrintProof}
 use Rattle.diagnose_cli.specs.declared.ending.Kind.{Kind}
 use Rattle.diagnose_cli.specs.declared.ending.Kind.TheVariants.{Nothing}
-use Rattle.diagnose_cli.specs.Replies.{SaysProved, reply_of_found, reply_of_proof}
+use Rattle.diagnose_cli.specs.Replies.{AnswersTo, reply_of_found, reply_of_proof}
 use Rattle.diagnose_cli.proofs.Diagnosing.{answers_question}
 use Rattle.diagnose_cli.proofs.KnownRuns.{found_known}
-use Rattle.diagnose_cli.proofs.ProofAnswers.{fine_steps, same_found, told_nothing, told_proof, told_undecided}
+use Rattle.diagnose_cli.proofs.ProofAnswers.{answers_proof, fine_steps, same_found, told_nothing, told_proof, told_undecided}
 use Rattle.diagnose_cli.proofs.proof_command.RefutationReplying.reply.Goals as goal
 
 pub reply_of_proof-requires-clause-ascend : goal.reply_of_proof-requires-clause-ascend
@@ -53,12 +54,12 @@ returns-in-Within c =
     let bound = c.in-Within.bound in
     let steps = c.in-Within.proof in
     let refuted = subst (λ (answer : Refuted). IsRefutedFor net log n book says.found answer) c.in-Within.is says.refuted in
-    ok_both c.reply_of_proof.result (λ (reply : Kind × List ℕ). reply ≡ reply_of_proof bound steps) (λ (reply : Kind × List ℕ). ReadsBack steps (steps_text steps)) (SaysProved net log n budget book)
-    (λ reply is reads. record {
+    ok_both c.reply_of_proof.result (λ (reply : Kind × List ℕ). reply ≡ reply_of_proof bound steps) (λ (reply : Kind × List ℕ). ReadsBack steps (steps_text steps)) (AnswersTo (PrintProof budget) net log n book)
+    (λ reply is reads. answers_proof net log n budget book reply (record {
       found = says.found;
       holds = answers_question net log n budget book says.found c.is_built.ensures.network c.is_built.ensures.whole c.is_whole.ensures.whole c.requires.steps says.diagnosed;
       tells = told_proof net log n book bound steps reads reply is says.found refuted;
-    }) c.reply_of_proof.ensures.reply c.reply_of_proof.ensures.reads_back
+    })) c.reply_of_proof.ensures.reply c.reply_of_proof.ensures.reads_back
 
 pub returns-in-Nothing : goal.returns-in-Nothing
 returns-in-Nothing c =
@@ -69,12 +70,12 @@ returns-in-Nothing c =
     let book = c.args._book.now.entries in
     let says = c.requires.says in
     let refuted = subst (λ (answer : Refuted). IsRefutedFor net log n book says.found answer) c.in-Nothing.is says.refuted in
-    ok_weaker c.nothing.result (λ (reply : Kind × List ℕ). reply ≡ (Nothing, codes "NOTHING\n")) (SaysProved net log n budget book)
-    (λ reply is. record {
+    ok_weaker c.nothing.result (λ (reply : Kind × List ℕ). reply ≡ (Nothing, codes "NOTHING\n")) (AnswersTo (PrintProof budget) net log n book)
+    (λ reply is. answers_proof net log n budget book reply (record {
       found = says.found;
       holds = answers_question net log n budget book says.found c.is_built.ensures.network c.is_built.ensures.whole c.is_whole.ensures.whole c.requires.steps says.diagnosed;
       tells = told_nothing net log n book says.found reply is refuted;
-    }) c.nothing.ensures
+    })) c.nothing.ensures
 
 pub returns-in-Undecided : goal.returns-in-Undecided
 returns-in-Undecided c =
@@ -86,9 +87,9 @@ returns-in-Undecided c =
     let says = c.requires.says in
     let found = c.in-Undecided.found in
     let refuted = subst (λ (answer : Refuted). IsRefutedFor net log n book says.found answer) c.in-Undecided.is says.refuted in
-    ok_weaker c.reply_of_found.result (λ (reply : Kind × List ℕ). reply ≡ reply_of_found net n found) (SaysProved net log n budget book)
-    (λ reply is. record {
+    ok_weaker c.reply_of_found.result (λ (reply : Kind × List ℕ). reply ≡ reply_of_found net n found) (AnswersTo (PrintProof budget) net log n book)
+    (λ reply is. answers_proof net log n budget book reply (record {
       found = says.found;
       holds = answers_question net log n budget book says.found c.is_built.ensures.network c.is_built.ensures.whole c.is_whole.ensures.whole c.requires.steps says.diagnosed;
       tells = told_undecided net log n book says.found found reply is refuted;
-    }) c.reply_of_found.ensures
+    })) c.reply_of_found.ensures

@@ -1,0 +1,124 @@
+-- What words call keeps its bounds, and the words that it reads are there.
+use Rattle.std.proofs.Common.{◌≡◌, ◌≤◌, ◌<◌, ℕ, List, Bool, true, false, Option, Some, None, IfSome, if◌then◌else◌, nat_eq, nat_le, bytes_eq, codes, length, option_map, option_and_then, refl, subst, arith}
+use Rattle.std.proofs.lemmas.Bool.{and_parts, eqb-true, leb-true}
+use Rattle.std.specs.Option.{option_map_or}
+use Rattle.des_base.specs.CommandWords.{word_at}
+use Rattle.des_base.specs.Numbers.{number_of, number_up_to, up_to}
+use Rattle.gen_plant.specs.Plant.{most_units}
+use Rattle.diagnose_cli.specs.declared.command.Command.{Command}
+use Rattle.diagnose_cli.specs.declared.command.Command.TheVariants.{One, Session, Verdicts}
+use Rattle.diagnose_cli.specs.declared.command.Limits.{Limits}
+use Rattle.diagnose_cli.specs.declared.command.Question.{Question}
+use Rattle.diagnose_cli.specs.declared.command.Single.TheVariants.{Ask, GenerateModel, GenerateLog, Bench, Twin, Cheapest}
+use Rattle.diagnose_cli.specs.Commands.{ask_of, bench_of, calls, command_of, generate_of, limits_of, most_budget, most_start, most_steps, other_of, question_named, question_of, read_words, twin_of, units_of, IsWithinBounds}
+
+-- ---- what an option has, where it has something
+
+if_some : {X : Type 0} (P : X → Type 0) (b : Bool) (x y : Option X) → (b ≡ true → IfSome x P) → IfSome y P → IfSome (if b then x else y) P
+if_some P true x y first second = first refl
+if_some P false x y first second = second
+
+map_some : {X Y : Type 0} (P : Y → Type 0) (f : X → Y) (o : Option X) → ((x : X) → o ≡ Some x → P (f x)) → IfSome (option_map f o) P
+map_some P f None holds = tt
+map_some P f (Some x) holds = holds x refl
+
+then_some : {X Y : Type 0} (P : Y → Type 0) (f : X → Option Y) (o : Option X) → ((x : X) → o ≡ Some x → IfSome (f x) P) → IfSome (option_and_then f o) P
+then_some P f None holds = tt
+then_some P f (Some x) holds = holds x refl
+
+map_or_some : {X Y : Type 0} (P : Y → Type 0) (f : X → Option Y) (o : Option X) (other : Option Y) → ((x : X) → o ≡ Some x → IfSome (f x) P) → IfSome other P → IfSome (option_map_or f o other) P
+map_or_some P f None other holds others = others
+map_or_some P f (Some x) other holds others = holds x refl
+
+some_so : {X : Type 0} (P : Type 0) (o : Option X) → P → IfSome o (λ x. P)
+some_so P None p = tt
+some_so P (Some x) p = p
+
+of_some : {X : Type 0} (P : X → Type 0) (o : Option X) (x : X) → o ≡ Some x → IfSome o P → P x
+of_some {X = X} P o x is holds = subst (λ (p : Option X). IfSome p P) is holds
+
+-- ---- numbers
+
+up_to_within : (most : ℕ) (o : Option ℕ) → IfSome (up_to most o) (λ n. n ≤ most)
+up_to_within most None = tt
+up_to_within most (Some m) = if_some (λ n. n ≤ most) (nat_le m most) (Some m) None (λ below. leb-true m most below) tt
+
+within : (most : ℕ) (text : List ℕ) (n : ℕ) → number_up_to most text ≡ Some n → n ≤ most
+within most text n is = of_some (λ n. n ≤ most) (number_up_to most text) n is (up_to_within most (number_of text))
+
+units_within : (text : List ℕ) → IfSome (units_of text) (λ z. z ≤ most_units)
+units_within text =
+    then_some (λ z. z ≤ most_units) (λ z. if nat_le 1 z then Some z else None) (number_up_to most_units text) (λ z is. if_some (λ z. z ≤ most_units) (nat_le 1 z) (Some z) None (λ above. within most_units text z is) tt)
+
+few_units : (text : List ℕ) (z : ℕ) → units_of text ≡ Some z → z ≤ most_units
+few_units text z is = of_some (λ z. z ≤ most_units) (units_of text) z is (units_within text)
+
+limits_within : (steps budget : List ℕ) → IfSome (limits_of steps budget) (λ l. l.steps ≤ most_steps)
+limits_within steps budget =
+    then_some (λ (l : Limits). l.steps ≤ most_steps) (λ n. option_map (λ b. record { steps = n; budget = b }) (number_up_to most_budget budget)) (number_up_to most_steps steps) (λ n is.
+    map_some (λ (l : Limits). l.steps ≤ most_steps) (λ b. record { steps = n; budget = b }) (number_up_to most_budget budget) (λ b is_budget. within most_steps steps n is))
+
+few_steps : (steps budget : List ℕ) (l : Limits) → limits_of steps budget ≡ Some l → l.steps ≤ most_steps
+few_steps steps budget l is = of_some (λ (l : Limits). l.steps ≤ most_steps) (limits_of steps budget) l is (limits_within steps budget)
+
+-- ---- commands
+
+module _ (words : List (List ℕ)) where
+  -- the command keeps its bounds, and reads no more words than there are behind the first
+  abbrev Fits : Command → Type 0
+  Fits c = (read_words c < length words) × IsWithinBounds c
+
+  room : (name : List ℕ) (n k : ℕ) → calls words name n ≡ true → k < n → k < length words
+  room name n k called below = let count = eqb-true (length words) n (and_parts (nat_eq (length words) n) (bytes_eq (word_at words 0) name) called).0 in omega (arith, count, below)
+
+  asked : (text : List ℕ) (question : Question) → 2 < length words → IfSome (ask_of text question) Fits
+  asked text question there = map_some Fits (λ n. One (Ask n question)) (number_up_to most_steps text) (λ n is. (there, (within most_steps text n is, tt)))
+
+  five_words : IfSome (question_of words) (λ q. length words ≡ 5)
+  five_words =
+      if_some (λ (q : Question). length words ≡ 5) (nat_eq (length words) 5) (question_named (word_at words 0) (word_at words 4)) None (λ is. some_so (length words ≡ 5) (question_named (word_at words 0) (word_at words 4)) (eqb-true (length words) 5 is)) tt
+
+  question_asked : (question : Question) → question_of words ≡ Some question → IfSome (ask_of (word_at words 3) question) Fits
+  question_asked question is = let count = of_some (λ (q : Question). length words ≡ 5) (question_of words) question is five_words in asked (word_at words 3) question (omega (arith, count))
+
+  generated : (what units start : List ℕ) → 0 < length words → IfSome (generate_of what units start) Fits
+  generated what units start there =
+      if_some Fits (bytes_eq what (codes "model")) _ _
+      (λ model. then_some Fits (λ z. option_map (λ s. One (GenerateModel z s)) (number_up_to most_start start)) (units_of units) (λ z is. map_some Fits (λ s. One (GenerateModel z s)) (number_up_to most_start start) (λ s is_start. (there, (tt, few_units units z is)))))
+      (if_some Fits (bytes_eq what (codes "log")) _ _
+      (λ log. then_some Fits (λ z. option_map (λ s. One (GenerateLog z s)) (number_up_to most_start start)) (units_of units) (λ z is. map_some Fits (λ s. One (GenerateLog z s)) (number_up_to most_start start) (λ s is_start. (there, (tt, few_units units z is)))))
+      tt)
+
+  benched : (units start steps budget : List ℕ) → 0 < length words → IfSome (bench_of units start steps budget) Fits
+  benched units start steps budget there =
+      then_some Fits _ (units_of units) (λ z is_units.
+      then_some Fits _ (number_up_to most_start start) (λ s is_start.
+      then_some Fits _ (number_up_to most_steps steps) (λ n is_steps.
+      map_some Fits (λ b. One (Bench z s n b)) (number_up_to most_budget budget) (λ b is_budget. (there, (within most_steps steps n is_steps, few_units units z is_units))))))
+
+  twinned : (steps after budget : List ℕ) → 2 < length words → IfSome (twin_of steps after budget) Fits
+  twinned steps after budget there =
+      then_some Fits _ (number_up_to most_steps steps) (λ n is_steps.
+      then_some Fits _ (number_up_to most_steps after) (λ d is_after.
+      map_some Fits (λ b. One (Twin n d b)) (number_up_to most_budget budget) (λ b is_budget. (there, ((within most_steps steps n is_steps, within most_steps after d is_after), tt)))))
+
+  others_fit : IfSome (other_of words) Fits
+  others_fit =
+      if_some Fits (calls words (codes "trace") 3) _ _ (λ is. (room (codes "trace") 3 2 is (omega arith), (tt, tt)))
+      (if_some Fits (calls words (codes "show") 2) _ _ (λ is. (room (codes "show") 2 1 is (omega arith), (tt, tt)))
+      (if_some Fits (calls words (codes "replay") 5) _ _ (λ is. map_some Fits _ (number_up_to most_steps (word_at words 4)) (λ n is_steps. (room (codes "replay") 5 3 is (omega arith), (tt, tt))))
+      (if_some Fits (calls words (codes "check") 3) _ _ (λ is. (room (codes "check") 3 2 is (omega arith), (tt, tt)))
+      (if_some Fits (calls words (codes "generate") 4) _ _ (λ is. generated (word_at words 1) (word_at words 2) (word_at words 3) (room (codes "generate") 4 0 is (omega arith)))
+      (if_some Fits (calls words (codes "bench") 5) _ _ (λ is. benched (word_at words 1) (word_at words 2) (word_at words 3) (word_at words 4) (room (codes "bench") 5 0 is (omega arith)))
+      (if_some Fits (calls words (codes "session") 5) _ _ (λ is. map_some Fits (λ (l : Limits). Session l.steps l.budget) (limits_of (word_at words 3) (word_at words 4)) (λ l is_limits. (room (codes "session") 5 2 is (omega arith), (few_steps (word_at words 3) (word_at words 4) l is_limits, tt))))
+      (if_some Fits (calls words (codes "twin") 6) _ _ (λ is. twinned (word_at words 3) (word_at words 4) (word_at words 5) (room (codes "twin") 6 2 is (omega arith)))
+      (if_some Fits (calls words (codes "cheapest") 6) _ _ (λ is. map_some Fits (λ (l : Limits). One (Cheapest l.steps l.budget)) (limits_of (word_at words 4) (word_at words 5)) (λ l is_limits. (room (codes "cheapest") 6 3 is (omega arith), (few_steps (word_at words 4) (word_at words 5) l is_limits, tt))))
+      (if_some Fits (calls words (codes "verdicts") 5) _ _ (λ is. map_some Fits (λ (l : Limits). Verdicts l.steps l.budget) (limits_of (word_at words 3) (word_at words 4)) (λ l is_limits. (room (codes "verdicts") 5 2 is (omega arith), (few_steps (word_at words 3) (word_at words 4) l is_limits, tt))))
+      tt)))))))))
+
+  fits : IfSome (command_of words) Fits
+  fits = map_or_some Fits (λ question. ask_of (word_at words 3) question) (question_of words) (other_of words) question_asked others_fit
+
+-- so it is with the command that is called
+pub called_fits : (words : List (List ℕ)) (c : Command) → command_of words ≡ Some c → (read_words c < length words) × IsWithinBounds c
+called_fits words c is = of_some (Fits words) (command_of words) c is (fits words)
