@@ -2,7 +2,7 @@
 // to prove.
 use crate::logs::tells_both;
 use crate::runs::{Text, reads_all};
-use crate::steps::{Allowed, allows_five, allows_row, stands_behind_five};
+use crate::steps::{allows_five, stands_behind_five};
 use des_net::Network;
 use model_text::read_model;
 use prop_core::Clauses;
@@ -23,8 +23,6 @@ pub(super) enum Case<'a> {
     Reads(&'a [Text]),
     // Two alarms have the two events.
     Told,
-    // Just these choices are allowed.
-    Allows(&'a Allowed),
     // Five choices are, whatever test is stored.
     AllowsFive,
     // The code stands behind what was there.
@@ -35,7 +33,6 @@ fn passes(rt: &impl Abort, alloc: Global, net: &Network, case: &Case<'_>) -> boo
     match case {
         Case::Reads(texts) => reads_all(alloc, net, texts),
         Case::Told => tells_both(rt, alloc, net),
-        Case::Allows(row) => allows_row(rt, alloc, net, row),
         Case::AllowsFive => allows_five(rt, alloc, net),
         Case::Behind => stands_behind_five(rt, alloc, net, &mut Clauses::new(alloc)),
     }
@@ -43,7 +40,11 @@ fn passes(rt: &impl Abort, alloc: Global, net: &Network, case: &Case<'_>) -> boo
 
 pub(super) fn passes_on(rt: &impl Abort, alloc: Global, text: &str, case: &Case<'_>) -> bool {
     match network(alloc, text) {
-        Some(net) => passes(rt, alloc, &net, case),
+        Some(net) => {
+            let passed = passes(rt, alloc, &net, case);
+            drop(net);
+            passed
+        }
         None => false,
     }
 }

@@ -25,7 +25,7 @@ pub(super) type Row = (Option<u32>, &'static str);
 // What texts say.
 pub(super) type Text = (&'static str, &'static [Row]);
 
-const TEXTS: [Text; 11] = [
+static TEXTS: [Text; 11] = [
     ("run 0", &[]),
     ("run 1\ng\n", &[(Some(0), "")]),
     ("run 1\ng", &[(Some(0), "")]),

@@ -163,9 +163,13 @@ fn is_told(alloc: Global, net: &Network) -> bool {
 }
 
 fn is_finished(builder: Builder, alloc: Global) -> bool {
-    match builder.finish() {
-        Ok(net) => is_told(alloc, &net),
-        Err(_) => false,
+    match builder.finish().ok() {
+        Some(net) => {
+            let told = is_told(alloc, &net);
+            drop(net);
+            told
+        }
+        None => false,
     }
 }
 
@@ -196,13 +200,22 @@ fn fill_lacking(builder: &mut Builder, alloc: Global) -> bool {
 fn is_mended(given: Builder, alloc: Global) -> bool {
     let mut builder = given;
     let mended = state(&mut builder, alloc, 1, b"t", true, Ok(StateId(1)));
-    builder.finish().is_ok() && mended
+    let finished = builder.finish();
+    let right = finished.is_ok() && mended;
+    drop(finished);
+    right
 }
 
 fn is_given_back(builder: Builder, alloc: Global) -> bool {
     match builder.finish() {
-        Ok(_) => false,
-        Err(lacking) => lacking.comp == CompId(1) && is_mended(lacking.builder, alloc),
+        Ok(net) => {
+            drop(net);
+            false
+        }
+        Err(lacking) => {
+            let right = lacking.comp == CompId(1);
+            is_mended(lacking.builder, alloc) && right
+        }
     }
 }
 

@@ -101,7 +101,7 @@ fn pairs(log: &mut AlarmLog, first: u32, second: u32, want: Result<bool, LogRefu
     log.add_before(first, second) == want && tested.is_ok() == want.is_ok()
 }
 
-const PAIRS: [(u32, u32, Result<bool, LogRefusal>); 10] = [
+static PAIRS: [(u32, u32, Result<bool, LogRefusal>); 10] = [
     (0, 4, Err(LogRefusal::Unknown)),
     (4, 4, Err(LogRefusal::Unknown)),
     (1, 1, Err(LogRefusal::Cycle)),
@@ -121,8 +121,8 @@ fn has_pairs(log: &AlarmLog) -> bool {
 }
 
 fn adds_pairs(log: &mut AlarmLog) -> bool {
-    for (first, second, want) in PAIRS {
-        if !pairs(log, first, second, want) {
+    for row in &PAIRS {
+        if !pairs(log, row.0, row.1, row.2) {
             return false;
         }
     }

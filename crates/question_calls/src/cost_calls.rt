@@ -89,6 +89,7 @@ fn weighs<C: Fn(u32) -> u32, R: Fn(u32) -> u64>(
 {
     let mut parts = built;
     let answer = cheapest(alloc, net, log, &mut parts, costs, book, 1000);
+    drop(parts);
     is_least(answer, want)
 }
 
@@ -115,7 +116,10 @@ fn builds<T: Fn(u32, u32) -> bool, C: Fn(u32) -> u32, R: Fn(u32) -> u64>(
 {
     match build(alloc, net, log, steps, test, solver, book) {
         Ok(parts) => weighs(alloc, net, log, parts, costs, book, want),
-        Err(_) => false,
+        Err(unbuilt) => {
+            drop(unbuilt);
+            false
+        }
     }
 }
 
@@ -168,7 +172,10 @@ fn finds_by_table(alloc: Global, net: &Network, log: &AlarmLog, row: &Row) -> bo
     match read_costs(alloc, row.costs.as_bytes(), net) {
         Ok(table) => {
             let costs = Costs::new(net, |event: u32| table.cost(event));
-            finds(alloc, net, log, row.steps, &costs, row.least)
+            let found = finds(alloc, net, log, row.steps, &costs, row.least);
+            drop(costs);
+            drop(table);
+            found
         }
         Err(_) => false,
     }
@@ -207,7 +214,11 @@ fn is_price(price: u32) -> bool
 // Whether it is found by both closures.
 pub fn finds_least(alloc: Global, net: &Network, row: &Row) -> bool {
     match alarm_log(alloc, row.log) {
-        Some(log) => finds_by_both(alloc, net, &log, row),
+        Some(log) => {
+            let found = finds_by_both(alloc, net, &log, row);
+            drop(log);
+            found
+        }
         None => false,
     }
 }

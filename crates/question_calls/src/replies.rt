@@ -40,7 +40,7 @@ fn run_of(alloc: Global, net: &Network, text: &str) -> Option<Run>
 }
 
 // A text of a run, and how the run is printed behind the sign `> `.
-const RUNS: [(&str, &str); 5] = [
+static RUNS: [(&str, &str); 5] = [
     ("run 0", "> run 0\n"),
     ("run 1\njam\n", "> run 1\njam\n"),
     ("run 2\n! a1\njam\n", "> run 2\n! a1\njam\n"),

@@ -151,7 +151,10 @@ fn answers_all<R: Fn(u32) -> u64>(alloc: Global, given: Session<'_, R>) -> bool
 {
     let mut session = given;
     let answered = excuses(alloc, &mut session) && doubts(alloc, &mut session);
-    session.into_book().entries() > 0 && answered
+    let book = session.into_book();
+    let entries = book.entries();
+    drop(book);
+    entries > 0 && answered
 }
 
 // Whether it is by a session that decides the last variable first.

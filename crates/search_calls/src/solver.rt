@@ -228,7 +228,9 @@ fn answers<R: Fn(u32) -> u64>(
     requires empty { book.old.entries ≡ [] }
 {
     let mut solver = Solver::new(alloc, order);
-    answers_anew(alloc, &mut solver, book, vars, clauses, early, late)
+    let answered = answers_anew(alloc, &mut solver, book, vars, clauses, early, late);
+    drop(solver);
+    answered
 }
 
 // The same, where the last variable is decided first, or else odd variables are.

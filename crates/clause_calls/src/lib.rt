@@ -1,0 +1,21 @@
+//! What only calls can show of propositional logic, counters, the ledger, and the texts of formulas and proofs.
+//!
+//! It has nothing but tests, each through what a crate offers to all. What the program itself can show stands in `cases/`.
+#![tactic(auto)]
+
+#[cfg(test)]
+mod clauses;
+#[cfg(test)]
+mod counter;
+#[cfg(test)]
+mod ledger;
+#[cfg(test)]
+mod literals;
+#[cfg(test)]
+mod pieces;
+#[cfg(test)]
+mod refutations;
+#[cfg(test)]
+mod texts;
+#[cfg(test)]
+mod truths;

@@ -1,0 +1,13 @@
+//! What only calls can show of the parts of the search: the order of decisions, propagation, and what is learnt from a conflict.
+//!
+//! It has nothing but tests, each through what a crate offers to all.
+#![tactic(auto)]
+
+#[cfg(test)]
+mod learner;
+#[cfg(test)]
+mod literals;
+#[cfg(test)]
+mod order;
+#[cfg(test)]
+mod trail;
