@@ -2,7 +2,7 @@
 use Rattle.std.proofs.Common.{◌≡◌, ◌≢◌, ◌∙◌, ℕ, Bool, true, false, not, cond, List, [], ◌∷◌, ◌++◌, Option, None, Some, Result, Ok, Err, IfOk, OnOk, OnErr, is_some, refl, sym, ap, subst, append-nil, append_assoc, arith, length, length-append, map}
 use Rattle.alarm_session.proofs.Keeping.{adds_none}
 use Rattle.alarm_session.specs.Additions.{built_on}
-use Rattle.alarm_session.specs.Refusals.{Answers, alarm_answer, before_answer, is_new_pair, log_with, numbers_of}
+use Rattle.alarm_session.specs.Refusals.{Answers, refusal_of_alarm, refusal_of_before, is_new_pair, log_with, numbers_of}
 use Rattle.alarm_session.specs.Rows.{AreRowsTold, HasCarriedOut, IsLeftUndone, IsRowTold, after_row, built_after, built_with_row, log_after, row_addition, row_refusal, rows_built, told_by, with_row}
 use Rattle.alarm_session.specs.Session.{Becomes, GoesOn, IsSessionBook, IsToldBy, Stage, first_stage}
 use Rattle.alarm_session.specs.declared.refusal.SessionRefusal.{SessionRefusal}
@@ -24,15 +24,15 @@ use Rattle.run_decode.specs.QuestionAxioms.{BuiltQuestion}
 -- ---- what is wanted of a row, by what it says
 
 module _ (net : Net) (n : ℕ) (log : Log) (row : Row) where
-  pub alarm_wanted : (id name : List ℕ) (labels given : List (List ℕ)) → row ≡ Alarm id labels → name ≡ id → given ≡ labels → row_refusal net n log row ≡ alarm_answer net n log name given false
+  pub alarm_wanted : (id name : List ℕ) (labels given : List (List ℕ)) → row ≡ Alarm id labels → name ≡ id → given ≡ labels → row_refusal net n log row ≡ refusal_of_alarm net n log name given false
   alarm_wanted id name labels given is same_name same_labels =
-      ap (row_refusal net n log) is ∙ ap (λ i. alarm_answer net n log i labels false) (sym same_name) ∙ ap (λ ls. alarm_answer net n log name ls false) (sym same_labels)
+      ap (row_refusal net n log) is ∙ ap (λ i. refusal_of_alarm net n log i labels false) (sym same_name) ∙ ap (λ ls. refusal_of_alarm net n log name ls false) (sym same_labels)
 
-  pub maybe_wanted : (id name : List ℕ) (labels given : List (List ℕ)) → row ≡ Maybe id labels → name ≡ id → given ≡ labels → row_refusal net n log row ≡ alarm_answer net n log name given true
+  pub maybe_wanted : (id name : List ℕ) (labels given : List (List ℕ)) → row ≡ Maybe id labels → name ≡ id → given ≡ labels → row_refusal net n log row ≡ refusal_of_alarm net n log name given true
   maybe_wanted id name labels given is same_name same_labels =
-      ap (row_refusal net n log) is ∙ ap (λ i. alarm_answer net n log i labels true) (sym same_name) ∙ ap (λ ls. alarm_answer net n log name ls true) (sym same_labels)
+      ap (row_refusal net n log) is ∙ ap (λ i. refusal_of_alarm net n log i labels true) (sym same_name) ∙ ap (λ ls. refusal_of_alarm net n log name ls true) (sym same_labels)
 
-  pub before_wanted : (first second : List ℕ) → row ≡ Before first second → row_refusal net n log row ≡ before_answer net n log first second
+  pub before_wanted : (first second : List ℕ) → row ≡ Before first second → row_refusal net n log row ≡ refusal_of_before net n log first second
   before_wanted first second is = ap (row_refusal net n log) is
 
 -- ---- what is in the log already

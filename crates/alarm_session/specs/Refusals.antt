@@ -53,8 +53,8 @@ refusal_number Memory = 0
 -- ---- of an alarm
 
 -- why an alarm is refused, certain or doubtful: by the log, or since the question with it would be too large
-abbrev pub alarm_answer : Net → ℕ → Log → List ℕ → List (List ℕ) → Bool → Option SessionRefusal
-alarm_answer net n log name labels doubtful = refusal_with (alarm_refusal log name labels) (question_size net (with_alarm log name labels doubtful) n)
+abbrev pub refusal_of_alarm : Net → ℕ → Log → List ℕ → List (List ℕ) → Bool → Option SessionRefusal
+refusal_of_alarm net n log name labels doubtful = refusal_with (alarm_refusal log name labels) (question_size net (with_alarm log name labels doubtful) n)
 
 -- ---- of a pair, by the names of its alarms
 
@@ -78,5 +78,5 @@ refusal_of_pair log None = Some of_log.Unknown
 refusal_of_pair log (Some pair) = before_refusal (length log.alarms) log.pairs pair.0 pair.1
 
 -- why a pair is refused: by the log, or since the question with it would be too large
-abbrev pub before_answer : Net → ℕ → Log → List ℕ → List ℕ → Option SessionRefusal
-before_answer net n log first second = refusal_with (refusal_of_pair log (numbers_of log first second)) (question_size net (log_with log (numbers_of log first second)) n)
+abbrev pub refusal_of_before : Net → ℕ → Log → List ℕ → List ℕ → Option SessionRefusal
+refusal_of_before net n log first second = refusal_with (refusal_of_pair log (numbers_of log first second)) (question_size net (log_with log (numbers_of log first second)) n)

@@ -1,7 +1,7 @@
 -- The rows of a script, carried out one after another by a session over one book.
 use Rattle.std.specs.Prelude.{◌≡◌, ◌≢◌, ℕ, List, [], ◌∷◌, drop, slice_index_or, Option, Some, None, Result, Ok, Err, is_some, true, false, if◌then◌else◌}
 use Rattle.alarm_session.specs.Additions.{alarm_addition, built_on, pair_addition}
-use Rattle.alarm_session.specs.Refusals.{alarm_answer, before_answer, log_with, numbers_of}
+use Rattle.alarm_session.specs.Refusals.{refusal_of_alarm, refusal_of_before, log_with, numbers_of}
 use Rattle.alarm_session.specs.Session.{GoesOn, IsSessionBook, IsToldBy, Stage, first_stage}
 use Rattle.alarm_session.specs.declared.refusal.SessionRefusal.{SessionRefusal}
 use Rattle.alarm_session.specs.declared.refusal.SessionRefusal.TheVariants.{Double, Unknown, Cycle, NoLabels, Limit, TooLarge, Memory}
@@ -24,9 +24,9 @@ use Rattle.run_decode.specs.QuestionAxioms.{BuiltQuestion, question_built}
 
 -- why a row is refused on a log, if it is; a question never is
 abbrev pub row_refusal : Net → ℕ → Log → Row → Option SessionRefusal
-row_refusal net n log (Alarm id labels) = alarm_answer net n log id labels false
-row_refusal net n log (Maybe id labels) = alarm_answer net n log id labels true
-row_refusal net n log (Before first second) = before_answer net n log first second
+row_refusal net n log (Alarm id labels) = refusal_of_alarm net n log id labels false
+row_refusal net n log (Maybe id labels) = refusal_of_alarm net n log id labels true
+row_refusal net n log (Before first second) = refusal_of_before net n log first second
 row_refusal net n log Ask = None
 
 -- the log with a row that is accepted

@@ -1,7 +1,7 @@
 // Additions to the log of a session: what can be refused first, and then all of it.
 ghost use Rattle.std.specs.Prelude.{◌≡◌, false, length, IfOk, OnOk, OnErr, None, Some, true};
 ghost use Rattle.alarm_session.specs.Additions.{alarm_addition, pair_addition};
-ghost use Rattle.alarm_session.specs.Refusals.{Answers, alarm_answer, before_answer, is_new_pair, log_with, numbers_of, refusal_of_pair, refusal_with};
+ghost use Rattle.alarm_session.specs.Refusals.{Answers, refusal_of_alarm, refusal_of_before, is_new_pair, log_with, numbers_of, refusal_of_pair, refusal_with};
 ghost use Rattle.alarm_session.specs.Session.{Becomes, IsDraftedFor, IsFor, IsRankedKept, stage_of};
 ghost use Rattle.least_faults.specs.Parts.{AreParts};
 ghost use Rattle.least_faults.specs.declared.TheConstants.{MOST_SIZE};
@@ -29,7 +29,7 @@ pub fn put_alarm<R: Fn(u32) -> u64>(
     requires kept { IsRankedKept R.pre R.post setting.net.now setting.steps kept.old }
     ensures kept { IsRankedKept R.pre R.post setting.entry.net.now setting.entry.steps kept.new }
     ensures rank { kept.new.parts.solver.order.rank ≡ kept.old.parts.solver.order.rank }
-    ensures refused { Answers result (alarm_answer setting.entry.net.now setting.entry.steps kept.old.log id labels.now doubtful) }
+    ensures refused { Answers result (refusal_of_alarm setting.entry.net.now setting.entry.steps kept.old.log id labels.now doubtful) }
     ensures number { IfOk result (λ alarm. alarm ≡ length kept.old.log.alarms) }
     ensures added { OnOk result (Becomes setting.entry.net.now setting.entry.steps (with_alarm kept.old.log id labels.now doubtful) (Some (alarm_addition labels.now doubtful)) (stage_of kept.old) (stage_of kept.new)) }
     ensures same { OnErr result (stage_of kept.new ≡ stage_of kept.old) }
@@ -62,7 +62,7 @@ fn draft_alarm<R: Fn(u32) -> u64>(
 ) -> Result<Drafted, SessionRefusal>
     requires of_log { IsFor setting.net.now setting.steps kept.now }
     requires coded { AreParts kept.now.parts.step kept.now.parts.code.code kept.now.parts.counter kept.now.parts.vars (axioms_of kept.now.book.entries) }
-    ensures refused { Answers result (alarm_answer setting.entry.net.now setting.entry.steps kept.now.log id.now labels.now doubtful) }
+    ensures refused { Answers result (refusal_of_alarm setting.entry.net.now setting.entry.steps kept.now.log id.now labels.now doubtful) }
     ensures drafted { IfOk result (IsDraftedFor setting.entry.net.now setting.entry.steps kept.now (alarm_addition labels.now doubtful) (with_alarm kept.now.log id.now labels.now doubtful)) }
 {
     setting.net.is_built();
@@ -112,7 +112,7 @@ pub fn put_before<R: Fn(u32) -> u64>(
     requires kept { IsRankedKept R.pre R.post setting.net.now setting.steps kept.old }
     ensures kept { IsRankedKept R.pre R.post setting.entry.net.now setting.entry.steps kept.new }
     ensures rank { kept.new.parts.solver.order.rank ≡ kept.old.parts.solver.order.rank }
-    ensures refused { Answers result (before_answer setting.entry.net.now setting.entry.steps kept.old.log first.now second.now) }
+    ensures refused { Answers result (refusal_of_before setting.entry.net.now setting.entry.steps kept.old.log first.now second.now) }
     ensures new { IfOk result (λ new. new ≡ is_new_pair kept.old.log (numbers_of kept.old.log first.now second.now)) }
     ensures added { OnOk result (Becomes setting.entry.net.now setting.entry.steps (log_with kept.old.log (numbers_of kept.old.log first.now second.now)) (pair_addition kept.old.log (numbers_of kept.old.log first.now second.now)) (stage_of kept.old) (stage_of kept.new)) }
     ensures again { IfOk result (λ new. new ≡ false → stage_of kept.new ≡ stage_of kept.old) }

@@ -62,7 +62,8 @@ pub fn begin<T: Fn(u32, u32) -> bool, R: Fn(u32) -> u64>(
             parts,
             book,
         }),
-        Err(_) => {
+        Err(unbuilt) => {
+            drop(unbuilt);
             drop(log);
             drop(book);
             Err(SessionRefusal::Memory)

@@ -1,7 +1,7 @@
 // A session: a log that grows, and questions about it, over one book.
 ghost use Rattle.std.specs.Prelude.{◌≡◌, ◌≤◌, Some, [], false, length, true, IfOk, OnErr, OnOk};
 ghost use Rattle.alarm_session.specs.Additions.{alarm_addition, pair_addition};
-ghost use Rattle.alarm_session.specs.Refusals.{Answers, alarm_answer, before_answer, is_new_pair, large_refusal, log_with, numbers_of};
+ghost use Rattle.alarm_session.specs.Refusals.{Answers, refusal_of_alarm, refusal_of_before, is_new_pair, large_refusal, log_with, numbers_of};
 ghost use Rattle.alarm_session.specs.Rows.{IsLeftUndone, IsRowTold};
 ghost use Rattle.alarm_session.specs.Session.{Becomes, BeginsAs, GoesOn, IsSessionBook, IsToldBy, KeepsSetting};
 ghost use Rattle.des_base.specs.declared.TheConstants.{MOST_STEPS};
@@ -84,7 +84,7 @@ impl<'a, R: Fn(u32) -> u64> Session<'a, R> {
         requires ranked { IsRanked R.pre R.post self.old.order }
         ensures ranked { IsRanked R.pre R.post self.new.order }
         ensures kept { KeepsSetting self.old self.new }
-        ensures refused { Answers result (alarm_answer self.old.net self.old.steps self.old.stage.log id labels.now false) }
+        ensures refused { Answers result (refusal_of_alarm self.old.net self.old.steps self.old.stage.log id labels.now false) }
         ensures number { IfOk result (λ alarm. alarm ≡ length self.old.stage.log.alarms) }
         ensures added { OnOk result (Becomes self.old.net self.old.steps (with_alarm self.old.stage.log id labels.now false) (Some (alarm_addition labels.now false)) self.old.stage self.new.stage) }
         ensures same { OnErr result (self.new.stage ≡ self.old.stage) }
@@ -97,7 +97,7 @@ impl<'a, R: Fn(u32) -> u64> Session<'a, R> {
         requires ranked { IsRanked R.pre R.post self.old.order }
         ensures ranked { IsRanked R.pre R.post self.new.order }
         ensures kept { KeepsSetting self.old self.new }
-        ensures refused { Answers result (alarm_answer self.old.net self.old.steps self.old.stage.log id labels.now true) }
+        ensures refused { Answers result (refusal_of_alarm self.old.net self.old.steps self.old.stage.log id labels.now true) }
         ensures number { IfOk result (λ alarm. alarm ≡ length self.old.stage.log.alarms) }
         ensures added { OnOk result (Becomes self.old.net self.old.steps (with_alarm self.old.stage.log id labels.now true) (Some (alarm_addition labels.now true)) self.old.stage self.new.stage) }
         ensures same { OnErr result (self.new.stage ≡ self.old.stage) }
@@ -111,7 +111,7 @@ impl<'a, R: Fn(u32) -> u64> Session<'a, R> {
         requires ranked { IsRanked R.pre R.post self.old.order }
         ensures ranked { IsRanked R.pre R.post self.new.order }
         ensures kept { KeepsSetting self.old self.new }
-        ensures refused { Answers result (before_answer self.old.net self.old.steps self.old.stage.log first.now second.now) }
+        ensures refused { Answers result (refusal_of_before self.old.net self.old.steps self.old.stage.log first.now second.now) }
         ensures new { IfOk result (λ new. new ≡ is_new_pair self.old.stage.log (numbers_of self.old.stage.log first.now second.now)) }
         ensures added { OnOk result (Becomes self.old.net self.old.steps (log_with self.old.stage.log (numbers_of self.old.stage.log first.now second.now)) (pair_addition self.old.stage.log (numbers_of self.old.stage.log first.now second.now)) self.old.stage self.new.stage) }
         ensures again { IfOk result (λ new. new ≡ false → self.new.stage ≡ self.old.stage) }

@@ -63,13 +63,13 @@ abbrev pub AgreeBut : ℕ → ℕ → (ℕ → Bool) → (ℕ → Bool) → Type
 AgreeBut first count given assignment = (var : ℕ) → (var < first) ⊎ (first + count ≤ var) → assignment var ≡ given var
 
 -- Of inputs that were made before the chain, an assignment extends to the clauses, by a change of the chain's variables alone, exactly where at most one input is true.
-abbrev pub ExcludesAllButOne : List Lit → ℕ → List Clause → Type 0
-ExcludesAllButOne inputs first clauses = HasValues first inputs → (given : ℕ → Bool) →
+abbrev pub AllowsAtMostOne : List Lit → ℕ → List Clause → Type 0
+AllowsAtMostOne inputs first clauses = HasValues first inputs → (given : ℕ → Bool) →
     ((assignment : ℕ → Bool) × AgreeBut first (chain_count (length inputs)) given assignment × AllClausesTrue assignment clauses) ↔ AtMostOneTrue given inputs
 
 -- What is written says exactly this, of whatever inputs, and with whatever first variable.
 abbrev pub ExclusionIsExact : Type 0
-ExclusionIsExact = (inputs : List Lit) (first : ℕ) → ExcludesAllButOne inputs first (exclusion_clauses inputs first)
+ExclusionIsExact = (inputs : List Lit) (first : ℕ) → AllowsAtMostOne inputs first (exclusion_clauses inputs first)
 
 -- ---- by name
 

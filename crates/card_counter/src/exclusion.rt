@@ -1,7 +1,7 @@
 ghost use Rattle.std.specs.Prelude.{◌≡◌, ◌+◌, ◌*◌, ◌-◌, ◌<◌, ◌≤◌, ◌++◌, length, map, OnOk, OnErr};
 ghost use Rattle.des_base.specs.ChainCount.{chain_count};
 ghost use Rattle.des_base.specs.declared.TheConstants.{VAR_LIMIT};
-ghost use Rattle.card_counter.specs.AtMostOne.{not_both, excluded_pairs, chain_clauses, link_clauses, exclusion_clauses, ExcludesAllButOne};
+ghost use Rattle.card_counter.specs.AtMostOne.{not_both, excluded_pairs, chain_clauses, link_clauses, exclusion_clauses, AllowsAtMostOne};
 
 use des_base::Memory;
 use prop_core::{Clauses, Lit, Vars};
@@ -17,7 +17,7 @@ const MOST_PAIRED: usize = 4;
 pub fn at_most_one(inputs: &[Lit], vars: &mut Vars, out: &mut Clauses) -> Result<(), Memory>
     requires room { vars.old + chain_count (length inputs.now) ≤ VAR_LIMIT }
     ensures clauses { OnOk result (out.new.clauses ≡ out.old.clauses ++ exclusion_clauses inputs.now vars.old) }
-    ensures exact { ExcludesAllButOne inputs.now vars.old (exclusion_clauses inputs.now vars.old) }
+    ensures exact { AllowsAtMostOne inputs.now vars.old (exclusion_clauses inputs.now vars.old) }
     ensures vars { OnOk result (vars.new ≡ vars.old + chain_count (length inputs.now)) }
     ensures err_clauses { OnErr result (out.new ≡ out.old) }
     ensures err_vars { OnErr result (vars.new ≡ vars.old) }

@@ -100,10 +100,12 @@ impl<'a, R: Fn(u32) -> u64> Judge<'a, R> {
     {
         let Judge { about: _, kept } = self;
         let Kept {
-            parts: _,
+            parts,
             book,
-            others: _,
+            others,
         } = kept;
+        drop(parts);
+        drop(others);
         book
     }
 }

@@ -8,7 +8,6 @@ ghost use Rattle.fault_verdicts.specs.Ready.{AreReadyForVerdicts};
 ghost use Rattle.least_faults.specs.Asking.{IsSearching};
 ghost use Rattle.least_faults.specs.Growing.{AddsAxioms, HasGrownWithin};
 ghost use Rattle.least_faults.specs.Parts.{BelongTo};
-ghost use Rattle.proof_ledger.specs.Book.{IsValidBook};
 ghost use Rattle.replay.specs.Traced.{event_of, word_of};
 
 use crate::answer::Verdict;
@@ -98,7 +97,7 @@ fn ask<R: Fn(u32) -> u64>(
     let there = has_event(first, event);
     let assumed = assume(about.alloc, parts, book, k, there, event)?;
     let answer = parts.solver.solve(book, assumed.as_slice(), left)?;
-    is_valid(book);
+    book.entries();
     match answer {
         Answer::Unsat(_) => Ok(refuted(there)),
         Answer::Spent => Ok(Verdict::Open),
@@ -170,11 +169,4 @@ fn refuted(there: bool) -> Verdict
     } else {
         Verdict::Excluded
     }
-}
-
-// The book is valid, as its reader tells.
-fn is_valid(book: &Ledger)
-    ensures { IsValidBook book.now.entries }
-{
-    let _entries = book.entries();
 }

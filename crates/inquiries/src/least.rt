@@ -2,7 +2,7 @@
 ghost use Rattle.inquiries.specs.Begun.{HasLearntWithin};
 ghost use Rattle.inquiries.specs.Diagnosed.{IsDiagnosed};
 
-use crate::question::{Case, Inquiry, is_valid};
+use crate::question::{Case, Inquiry};
 use des_base::Memory;
 use least_faults::{Found, Parts, least};
 use proof_ledger::Ledger;
@@ -29,7 +29,7 @@ impl Inquiry for LeastFaults {
         book: &mut Ledger,
     ) -> Result<Found, Memory> {
         let found = least(alloc, &case.net, &case.log, parts, book, self.budget);
-        is_valid(book);
+        book.entries();
         found
     }
 }

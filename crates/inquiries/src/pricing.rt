@@ -7,7 +7,7 @@ ghost use Rattle.inquiries.specs.Begun.{HasBegun};
 ghost use Rattle.inquiries.specs.LeastCost.{AnswersTable, IsPricedBy, IsWithinCosts, LeavesCosts};
 ghost use Rattle.least_faults.specs.Building.{IsUnused};
 
-use crate::question::{Case, is_valid};
+use crate::question::Case;
 use cost_least::{Cheap, cheapest};
 use des_base::{EventId, Memory};
 use event_costs::{CostTable, Costs};
@@ -154,7 +154,7 @@ fn weigh_by_costs<C: Fn(u32) -> u32, R: Fn(u32) -> u64>(
 {
     let mut parts = parts;
     let cheap = cheapest(alloc, &case.net, &case.log, &mut parts, costs, book, budget);
-    is_valid(book);
+    book.entries();
     drop(parts);
     cheap
 }

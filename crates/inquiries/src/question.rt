@@ -6,7 +6,7 @@ ghost use Rattle.inquiries.specs.Begun.{HasBegun, HasQuestion, LeavesQuestion};
 ghost use Rattle.least_faults.specs.Building.{IsUnused};
 ghost use Rattle.least_faults.specs.Parts.{IsWithinLimits};
 ghost use Rattle.log_order.specs.Log.{Log};
-ghost use Rattle.proof_ledger.specs.Book.{BookEntry, IsValidBook};
+ghost use Rattle.proof_ledger.specs.Book.{BookEntry};
 
 use des_base::{EventId, Memory};
 use des_net::Network;
@@ -125,11 +125,4 @@ fn pose_by_solver<T: Fn(u32, u32) -> bool, R: Fn(u32) -> u64, Q: Inquiry>(
             Err(Memory)
         }
     }
-}
-
-/// Does nothing: the book is valid, as its reader tells.
-pub fn is_valid(book: &Ledger)
-    ensures { IsValidBook book.now.entries }
-{
-    let _entries = book.entries();
 }

@@ -4,7 +4,7 @@ ghost use Rattle.inquiries.specs.Begun.{HasLearntWithin};
 ghost use Rattle.inquiries.specs.Refuted.{HasEvidence, HasEvidenceFor, IsRefutedBelow, IsRefutedFor, IsRefutedWithin, IsRefuting};
 ghost use Rattle.least_faults.specs.Parts.{AreReady, BelongTo, IsBuilt};
 
-use crate::question::{Case, Inquiry, is_valid};
+use crate::question::{Case, Inquiry};
 use crate::refuting::refuting_proof;
 use des_base::Memory;
 use least_faults::{Found, Parts, least};
@@ -44,7 +44,7 @@ impl Inquiry for Refutation {
         book: &mut Ledger,
     ) -> Result<Refuted, Memory> {
         let found = least(alloc, &case.net, &case.log, parts, book, self.budget);
-        is_valid(book);
+        book.entries();
         refuted_for(alloc, case, parts, book, found?)
     }
 }

@@ -7,7 +7,6 @@ ghost use Rattle.fault_verdicts.specs.Ready.{AreReadyForVerdicts};
 ghost use Rattle.inquiries.specs.Begun.{HasLearntWithin, HasQuestion};
 ghost use Rattle.least_faults.specs.Growing.{HasGrownWithin};
 ghost use Rattle.least_faults.specs.Parts.{BelongTo};
-ghost use Rattle.proof_ledger.specs.Book.{IsValidBook};
 ghost use Rattle.step_encode.specs.FaultInputs.{fault_events};
 ghost use Rattle.verdict_telling.specs.Left.{BeginsWithQuestion};
 ghost use Rattle.verdict_telling.specs.Replied.{TellsVerdicts};
@@ -55,15 +54,8 @@ pub fn tell_verdicts<R: Fn(u32) -> u64, S: Sink>(
     let told = tell_all(alloc, net, &mut teller, out);
     let VerdictTeller { judge, open_left } = teller;
     *book = judge.into_book();
-    is_valid(book);
+    book.entries();
     left_open(told, open_left)
-}
-
-// The book is valid, as its reader tells.
-pub(crate) fn is_valid(book: &Ledger)
-    ensures { IsValidBook book.now.entries }
-{
-    let _entries = book.entries();
 }
 
 // Whether some event was left open, where all were told.

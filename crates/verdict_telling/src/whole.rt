@@ -9,7 +9,7 @@ ghost use Rattle.verdict_telling.specs.Left.{BeginsWithQuestion, StaysReady};
 ghost use Rattle.verdict_telling.specs.Whole.{HasJudged, PutsFound, TellsFound, TellsWhole};
 ghost use Rattle.telling.specs.Telling.{RisesExactlyIf};
 
-use crate::verdicts::{is_valid, tell_verdicts};
+use crate::verdicts::tell_verdicts;
 use des_base::{Memory, Sink};
 use des_net::Network;
 use inquiries::Case;
@@ -106,7 +106,7 @@ fn tell_found<R: Fn(u32) -> u64, S: Sink>(
     ensures failures { RisesExactlyIf (IsErrOf result Broken.Put) (S.failures out.old) (S.failures out.new) }
 {
     let searched = least(alloc, &case.net, &case.log, parts, book, budget);
-    is_valid(book);
+    book.entries();
     match searched {
         Ok(found) => put_found(alloc, case, steps, found, out),
         Err(_) => Err(Broken::Memory),

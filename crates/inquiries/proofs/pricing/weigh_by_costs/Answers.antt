@@ -18,4 +18,4 @@ returns g c =
     let book = c.cheapest-cheap.new.book.entries in
     ok_weaker c.cheapest-cheap.result (HasAnsweredCosts (goal.C-post g) stored net log later c.args.budget old book) (IsPricedBy net (cost_at table) log parts.step.steps c.args.budget book)
     (λ cheap found.
-    priced_by (goal.R-pre g) (goal.R-post g) (goal.C-post g) stored net log parts later c.args.budget old book cheap table c.requires.begun c.cheapest-cheap.ensures.kept c.requires.same found c.is_valid.ensures) c.cheapest-cheap.ensures.answered
+    priced_by (goal.R-pre g) (goal.R-post g) (goal.C-post g) stored net log parts later c.args.budget old book cheap table c.requires.begun c.cheapest-cheap.ensures.kept c.requires.same found c.entries.ensures.valid) c.cheapest-cheap.ensures.answered

@@ -18,4 +18,4 @@ returns-clause-left g c question =
     let matter = ap (λ j. j.matter) c.new-2.ensures in
     let begins = ap (λ j. j.book) c.new-2.ensures ∙ ap (λ (b : _). b.entries) c.replace-own.ensures.value in
     left_behind net c.args.log.now c.args.parts.step.steps c.args.budget c.args.book.now.entries c.into_book.result.entries question
-    (grown_from net c.new-2.result.matter c.args.budget c.new-2.result.book c.args.book.now.entries c.tell_all-told.new.teller.judge.book c.into_book.result.entries (ap (λ (m : _). m.budget) matter) begins c.into_book.ensures c.tell_all-told.ensures.grown) c.is_valid.ensures
+    (grown_from net c.new-2.result.matter c.args.budget c.new-2.result.book c.args.book.now.entries c.tell_all-told.new.teller.judge.book c.into_book.result.entries (ap (λ (m : _). m.budget) matter) begins c.into_book.ensures c.tell_all-told.ensures.grown) c.entries.ensures.valid

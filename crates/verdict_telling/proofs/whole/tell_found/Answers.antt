@@ -17,7 +17,7 @@ put_found-requires g c =
     let old = c.args.book.now.entries in
     let book = c.least-searched.new.book.entries in
     found_known net log parts.step.steps c.args.budget book c.in-Ok.found
-    (diagnosed_begun (goal.R-pre g) (goal.R-post g) net log parts later old book c.requires.begun c.least-searched.ensures.kept c.args.budget c.in-Ok.found c.is_valid.ensures c.in-Ok.ensures.answered)
+    (diagnosed_begun (goal.R-pre g) (goal.R-post g) net log parts later old book c.requires.begun c.least-searched.ensures.kept c.args.budget c.in-Ok.found c.entries.ensures.valid c.in-Ok.ensures.answered)
 
 pub returns-in-Ok-clause-tells : goal.returns-in-Ok-clause-tells
 returns-in-Ok-clause-tells g c =
@@ -28,7 +28,7 @@ returns-in-Ok-clause-tells g c =
     let old = c.args.book.now.entries in
     let book = c.least-searched.new.book.entries in
     let found = c.in-Ok.found in
-    let diagnosed = diagnosed_begun (goal.R-pre g) (goal.R-post g) net log parts later old book c.requires.begun c.least-searched.ensures.kept c.args.budget found c.is_valid.ensures c.in-Ok.ensures.answered in
+    let diagnosed = diagnosed_begun (goal.R-pre g) (goal.R-post g) net log parts later old book c.requires.begun c.least-searched.ensures.kept c.args.budget found c.entries.ensures.valid c.in-Ok.ensures.answered in
     puts_found net log c.args.steps c.args.budget book _ _ _ found c.put_found.result (subst (λ (n : ℕ). IsDiagnosed net log n c.args.budget book found) c.requires.time diagnosed) c.put_found.ensures.puts
 
 pub returns-in-Err-clause-tells : goal.returns-in-Err-clause-tells
@@ -50,7 +50,7 @@ returns-in-Ok-clause-left g c =
     let log = c.args.case.now.log in
     let book = c.least-searched.new.book.entries in
     subst (λ (n : ℕ). HasQuestion net log n (HasLearntWithin c.args.budget) book) c.requires.time
-    (search_left (goal.R-pre g) (goal.R-post g) net log c.args.parts.now c.least-searched.new.parts c.args.book.now.entries book c.requires.begun c.least-searched.ensures.kept c.args.budget c.least-searched.ensures.grown c.is_valid.ensures)
+    (search_left (goal.R-pre g) (goal.R-post g) net log c.args.parts.now c.least-searched.new.parts c.args.book.now.entries book c.requires.begun c.least-searched.ensures.kept c.args.budget c.least-searched.ensures.grown c.entries.ensures.valid)
 
 pub returns-in-Err-clause-left : goal.returns-in-Err-clause-left
 returns-in-Err-clause-left g c =
@@ -58,4 +58,4 @@ returns-in-Err-clause-left g c =
     let log = c.args.case.now.log in
     let book = c.least-searched.new.book.entries in
     subst (λ (n : ℕ). HasQuestion net log n (HasLearntWithin c.args.budget) book) c.requires.time
-    (search_left (goal.R-pre g) (goal.R-post g) net log c.args.parts.now c.least-searched.new.parts c.args.book.now.entries book c.requires.begun c.least-searched.ensures.kept c.args.budget c.least-searched.ensures.grown c.is_valid.ensures)
+    (search_left (goal.R-pre g) (goal.R-post g) net log c.args.parts.now c.least-searched.new.parts c.args.book.now.entries book c.requires.begun c.least-searched.ensures.kept c.args.budget c.least-searched.ensures.grown c.entries.ensures.valid)

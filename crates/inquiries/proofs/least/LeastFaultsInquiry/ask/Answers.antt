@@ -16,8 +16,8 @@ returns-clause-says g c =
     let old = c.args.book.now.entries in
     let book = c.least-found.new.book.entries in
     ok_weaker c.least-found.result (IsAnswered (names_of later) (built_of parts old) net log later.step.steps budget old book) (IsDiagnosed net log parts.step.steps budget book)
-    (λ found answered. diagnosed_begun (goal.R-pre g) (goal.R-post g) net log parts later old book c.requires.begun c.least-found.ensures.kept budget found c.is_valid.ensures answered) c.least-found.ensures.answered
+    (λ found answered. diagnosed_begun (goal.R-pre g) (goal.R-post g) net log parts later old book c.requires.begun c.least-found.ensures.kept budget found c.entries.ensures.valid answered) c.least-found.ensures.answered
 
 pub returns-clause-left : goal.returns-clause-left
 returns-clause-left g c =
-    search_left (goal.R-pre g) (goal.R-post g) c.args.case.now.net c.args.case.now.log c.args.parts.now c.least-found.new.parts c.args.book.now.entries c.least-found.new.book.entries c.requires.begun c.least-found.ensures.kept c.args.self.now.budget c.least-found.ensures.grown c.is_valid.ensures
+    search_left (goal.R-pre g) (goal.R-post g) c.args.case.now.net c.args.case.now.log c.args.parts.now c.least-found.new.parts c.args.book.now.entries c.least-found.new.book.entries c.requires.begun c.least-found.ensures.kept c.args.self.now.budget c.least-found.ensures.grown c.entries.ensures.valid

@@ -11,7 +11,7 @@ use Rattle.inquiries.proofs.refutation.RefutationInquiry.ask.Goals as goal
 
 pub returns-in_err-found-clause-left : goal.returns-in_err-found-clause-left
 returns-in_err-found-clause-left g c =
-    search_left (goal.R-pre g) (goal.R-post g) c.args.case.now.net c.args.case.now.log c.args.parts.now c.least-found.new.parts c.args.book.now.entries c.least-found.new.book.entries c.requires.begun c.least-found.ensures.kept c.args.self.now.budget c.least-found.ensures.grown c.is_valid.ensures
+    search_left (goal.R-pre g) (goal.R-post g) c.args.case.now.net c.args.case.now.log c.args.parts.now c.least-found.new.parts c.args.book.now.entries c.least-found.new.book.entries c.requires.begun c.least-found.ensures.kept c.args.self.now.budget c.least-found.ensures.grown c.entries.ensures.valid
 
 pub refuted_for-requires-clause-belong : goal.refuted_for-requires-clause-belong
 refuted_for-requires-clause-belong g c = belong_still c.args.case.now.net c.args.case.now.log c.args.parts.now c.least-found.new.parts c.least-found.ensures.kept c.requires.begun.belong
@@ -49,7 +49,7 @@ returns-clause-says g c =
     let begun = c.requires.begun in
     let kept = c.least-found.ensures.kept in
     let found = c.in_ok-found.field-0 in
-    let diagnosed = diagnosed_begun (goal.R-pre g) (goal.R-post g) net log c.args.parts.now parts old book begun kept budget found c.is_valid.ensures c.in_ok-found.ensures.answered in
+    let diagnosed = diagnosed_begun (goal.R-pre g) (goal.R-post g) net log c.args.parts.now parts old book begun kept budget found c.entries.ensures.valid c.in_ok-found.ensures.answered in
     ok_weaker c.refuted_for.result (λ (answer : Refuted). IsRefutedFor net log parts.step.steps book found answer) (λ (answer : Refuted). IsRefuting net log n budget book answer)
     (λ answer refuted. record {
       found = found;
@@ -59,4 +59,4 @@ returns-clause-says g c =
 
 pub returns-clause-left : goal.returns-clause-left
 returns-clause-left g c =
-    search_left (goal.R-pre g) (goal.R-post g) c.args.case.now.net c.args.case.now.log c.args.parts.now c.least-found.new.parts c.args.book.now.entries c.least-found.new.book.entries c.requires.begun c.least-found.ensures.kept c.args.self.now.budget c.least-found.ensures.grown c.is_valid.ensures
+    search_left (goal.R-pre g) (goal.R-post g) c.args.case.now.net c.args.case.now.log c.args.parts.now c.least-found.new.parts c.args.book.now.entries c.least-found.new.book.entries c.requires.begun c.least-found.ensures.kept c.args.self.now.budget c.least-found.ensures.grown c.entries.ensures.valid
