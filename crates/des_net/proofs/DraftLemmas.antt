@@ -1,19 +1,20 @@
 -- A network stays one under each addition.
-use Rattle.std.proofs.Common.{◌≡◌, ◌<◌, ◌≤◌, ◌+◌, ℕ, zero, suc, Bool, true, false, cond, List, [], ◌∷◌, ◌++◌, length, Option, None, Some, refl, arith, ap, sym, ◌∙◌, subst, length-append, add-zero}
-use Rattle.std.specs.Prelude.{nat_le, nat_lt, slice_get, slice_set, sum_by, ◌&&◌}
+use Rattle.std.proofs.Common.{◌≡◌, ◌<◌, ◌≤◌, ◌+◌, ℕ, zero, suc, Bool, true, false, cond, List, [], ◌∷◌, ◌++◌, length, Option, None, Some, refl, arith, ap, sym, ◌∙◌, subst, length-append, add-zero, get_or, Result, Ok, Err}
+use Rattle.std.specs.Prelude.{IsErr, OnErr, OnOk, is_some, nat_le, nat_lt, slice_get, slice_set, sum_by, ◌&&◌, ◌||◌}
 use Rattle.std.specs.List.{list_all}
 use Rattle.std.specs.Option.{option_map_or}
 use Rattle.std.proofs.lemmas.List.Elements.{All-push, All-weaker, All-nil, All-set}
 use Rattle.std.proofs.lemmas.List.Sums.{sum_by-cons, sum_by_push}
 use Rattle.std.proofs.lemmas.Bool.Decides.{nat_tests}
+use Rattle.std.proofs.lemmas.Option.{slice_get_past, slice_get_read}
 use Rattle.std.proofs.lemmas.Grind.{common_steps}
-use Rattle.des_base.proofs.BoolLemmas.{is_less}
 use Rattle.des_base.specs.Names.{place_of, IsName}
 use Rattle.des_base.proofs.TableLemmas.{AreNames-push}
 use Rattle.des_net.specs.declared.parts.Part.{Part}
-use Rattle.des_net.specs.Limits.{most_components, most_transitions, most_events}
+use Rattle.des_net.specs.Limits.{most_components, most_states, most_transitions, most_events, most_parts}
 use Rattle.des_net.specs.Network.{Component, Event, Net, no_net, no_component}
-use Rattle.des_net.specs.Building.{IsDraft, IsDraftComponent, AreDraftComponents, IsDraftEvent, AreDraftEvents, is_known, change_at, change_component, trans_count, with_component, with_event, with_state, with_trans, action_place, has_trans, trans_refusal}
+use Rattle.des_net.specs.Building.{IsDraft, IsDraftComponent, AreDraftComponents, IsDraftEvent, AreDraftEvents, is_known, change_at, change_component, trans_count, with_component, with_event, with_state, with_trans, action_place, has_trans, trans_refusal, state_refusal, state_count, event_refusal, repeats}
+use Rattle.des_net.specs.declared.refusal.BuildRefusal.{BuildRefusal}
 use Rattle.des_net.specs.declared.refusal.BuildRefusal.TheVariants.{Double, Unknown, Limit}
 use Rattle.des_net.specs.View.{builder_view, IsBuilder}
 use Rattle.des_net.specs.declared.builder.Builder.TheInside.{Inside}
@@ -201,14 +202,159 @@ pub change_at-at : (i : ℕ) (change : Component → Component) (components : Li
 unfolding change_at
 change_at-at i change components c at = ap (λ o. option_map_or (λ d. slice_set components i (change d)) o components) at
 
-not_above : (m : ℕ) → m < most_transitions → nat_le most_transitions m ≡ false
-not_above m h = grind (arith, nat_tests)
+-- the tests of a refusal
+below_of : (m n : ℕ) → nat_lt m n ≡ true → m < n
+below_of m n e = grind (arith, nat_tests)
 
-none_of : (d s t l : Bool) → d ≡ false → s ≡ true → t ≡ true → l ≡ false → cond d (Some Double) (cond (s && t) (cond l (Some Limit) None) (Some Unknown)) ≡ None
-none_of d s t l a b e f = rw (a, b, e, f) refl
+less_of : (m n : ℕ) → nat_le m n ≡ false → n < m
+less_of m n e = grind (arith, nat_tests)
 
-pub trans_refusal-none : (components : List Component) (i from : ℕ) (action : List ℕ) (to : ℕ) (c : Component) → slice_get components i ≡ Some c → has_trans c from action to ≡ false → from < length c.state_names → to < length c.state_names → trans_count components < most_transitions → trans_refusal components i from action to ≡ None
+pub at_least : (m n k : ℕ) → k ≡ n → m ≤ k → nat_le m n ≡ true
+at_least m n k e h = grind (arith, nat_tests)
+
+pub not_at_least : (m n k : ℕ) → k ≡ n → k < m → nat_le m n ≡ false
+not_at_least m n k e h = grind (arith, nat_tests)
+
+pub below : (m n k l : ℕ) → l ≡ m → k ≡ n → l < k → nat_lt m n ≡ true
+below m n k l d e h = grind (arith, nat_tests)
+
+pub not_below : (m n k l : ℕ) → l ≡ m → k ≡ n → k ≤ l → nat_lt m n ≡ false
+not_below m n k l d e h = grind (arith, nat_tests)
+
+pub is_found : (name text : List ℕ) (names : List (List ℕ)) (o : Option ℕ) (b c : Bool) → text ≡ name → o ≡ place_of text names → b ≡ is_some o → b ≡ c → is_some (place_of name names) ≡ c
+is_found name text names o b c t p e f = sym (ap (λ x. is_some (place_of x names)) t) ∙ sym (ap is_some p) ∙ sym e ∙ f
+
+within_none : {X : Type 0} {R : Type 0} (f : X → Option R) (unknown : R) (xs : List X) (i : ℕ) → option_map_or f (slice_get xs i) (Some unknown) ≡ None → i < length xs
+within_none f unknown [] i h = cc
+within_none f unknown (x ∷ xs) zero h = omega arith
+within_none f unknown (x ∷ xs) (suc i) h = let r : i < length xs = within_none f unknown xs i h in omega arith
+
+-- the component that is read at a place
+pub component-read : (components : List Component) (place i : ℕ) (c : Component) → place ≡ i → place < length components → c ≡ get_or components place c → slice_get components i ≡ Some c
+component-read components place i c p h r = subst (λ k. slice_get components k ≡ Some c) p (slice_get_read components _ place c refl h r)
+
+-- what is put in the place of an equal one
+pub set_same : (components : List Component) (i : ℕ) (c y : Component) → y ≡ c → c ≡ get_or components i c → slice_set components i y ≡ components
+set_same [] i c y e h = refl
+set_same (x ∷ xs) zero c y e h = ap (λ z. z ∷ xs) (e ∙ h)
+set_same (x ∷ xs) (suc i) c y e h = ap (λ zs. x ∷ zs) (set_same xs i c y e h)
+
+pub on_err : {X E : Type 0} (r : Result X E) (P : Type 0) → P → OnErr r P
+on_err (Ok x) P p = tt
+on_err (Err e) P p = p
+
+pub on_ok : {X E : Type 0} (r : Result X E) (P : Type 0) → IsErr r → OnOk r P
+on_ok (Ok x) P e = cc
+on_ok (Err e) P f = tt
+
+-- why a state is refused
+abbrev state_tests : Bool → Bool → Option BuildRefusal
+state_tests double limit = cond double (Some Double) (cond limit (Some Limit) None)
+
+pub state_refusal-past : (components : List Component) (place i : ℕ) (name : List ℕ) → place ≡ i → length components ≤ place → state_refusal components i name ≡ Some Unknown
+unfolding state_refusal
+state_refusal-past components place i name p h = ap (λ o. option_map_or (λ c. state_tests (is_some (place_of name c.state_names)) (nat_le most_states (length c.state_names))) o (Some Unknown)) (slice_get_past components i (subst (λ k. length components ≤ k) p h))
+
+pub state_refusal-at : (components : List Component) (i : ℕ) (name : List ℕ) (c : Component) (double limit : Bool) → slice_get components i ≡ Some c → is_some (place_of name c.state_names) ≡ double → nat_le most_states (length c.state_names) ≡ limit
+    → state_refusal components i name ≡ state_tests double limit
+unfolding state_refusal
+state_refusal-at components i name c double limit at d l =
+    ap (λ o. option_map_or (λ c. state_tests (is_some (place_of name c.state_names)) (nat_le most_states (length c.state_names))) o (Some Unknown)) at ∙ rw (d, l) refl
+
+-- what is true where a state isn't refused
+pub record MayAddState (c : Component) (name : List ℕ) : Type 0 where
+  pub new : place_of name c.state_names ≡ None
+  pub room : length c.state_names < most_states
+
+may_add_state : (c : Component) (name : List ℕ) (o : Option ℕ) (limit : Bool) → place_of name c.state_names ≡ o → nat_le most_states (length c.state_names) ≡ limit → state_tests (is_some o) limit ≡ None → MayAddState c name
+may_add_state c name None false e f h = record { new = e; room = less_of _ _ f }
+may_add_state c name None true e f h = cc
+may_add_state c name (Some i) limit e f h = cc
+
+pub state-within : (components : List Component) (i : ℕ) (name : List ℕ) → state_refusal components i name ≡ None → i < length components
+unfolding state_refusal
+state-within components i name h = within_none _ _ components i h
+
+pub may-add-state : (components : List Component) (i : ℕ) (name : List ℕ) (c : Component) → slice_get components i ≡ Some c → state_refusal components i name ≡ None → MayAddState c name
+may-add-state components i name c at h = may_add_state c name _ _ refl refl (sym (state_refusal-at components i name c _ _ at refl refl) ∙ h)
+
+pub state_count-at : (components : List Component) (i : ℕ) (c : Component) → slice_get components i ≡ Some c → state_count components i ≡ length c.state_names
+unfolding state_count
+state_count-at components i c at = ap (λ o. option_map_or (λ d. length d.state_names) o 0) at
+
+-- why a transition is refused
+abbrev trans_tests : Bool → Bool → Bool → Bool → Option BuildRefusal
+trans_tests double leaves enters limit = cond double (Some Double) (cond (leaves && enters) (cond limit (Some Limit) None) (Some Unknown))
+
+pub trans_refusal-past : (components : List Component) (place i from : ℕ) (action : List ℕ) (to : ℕ) → place ≡ i → length components ≤ place → trans_refusal components i from action to ≡ Some Unknown
 unfolding trans_refusal
-trans_refusal-none components i from action to c at absent f t few =
-    ap (λ o. option_map_or (λ d. cond (has_trans d from action to) (Some Double) (cond (nat_lt from (length d.state_names) && nat_lt to (length d.state_names)) (cond (nat_le most_transitions (trans_count components)) (Some Limit) None) (Some Unknown))) o (Some Unknown)) at
-    ∙ none_of (has_trans c from action to) (nat_lt from (length c.state_names)) (nat_lt to (length c.state_names)) (nat_le most_transitions (trans_count components)) absent (is_less _ _ f) (is_less _ _ t) (not_above _ few)
+trans_refusal-past components place i from action to p h =
+    ap (λ o. option_map_or (λ c. trans_tests (has_trans c from action to) (nat_lt from (length c.state_names)) (nat_lt to (length c.state_names)) (nat_le most_transitions (trans_count components))) o (Some Unknown)) (slice_get_past components i (subst (λ k. length components ≤ k) p h))
+
+pub trans_refusal-at : (components : List Component) (i from : ℕ) (action : List ℕ) (to : ℕ) (c : Component) (double leaves enters limit : Bool) → slice_get components i ≡ Some c
+    → has_trans c from action to ≡ double → nat_lt from (length c.state_names) ≡ leaves → nat_lt to (length c.state_names) ≡ enters → nat_le most_transitions (trans_count components) ≡ limit
+    → trans_refusal components i from action to ≡ trans_tests double leaves enters limit
+unfolding trans_refusal
+trans_refusal-at components i from action to c double leaves enters limit at d f t l =
+    ap (λ o. option_map_or (λ c. trans_tests (has_trans c from action to) (nat_lt from (length c.state_names)) (nat_lt to (length c.state_names)) (nat_le most_transitions (trans_count components))) o (Some Unknown)) at ∙ rw (d, f, t, l) refl
+
+-- what is true where a transition isn't refused
+pub record MayAddTrans (components : List Component) (c : Component) (from : ℕ) (action : List ℕ) (to : ℕ) : Type 0 where
+  pub new : has_trans c from action to ≡ false
+  pub leaves : from < length c.state_names
+  pub enters : to < length c.state_names
+  pub room : trans_count components < most_transitions
+
+may_add_trans : (components : List Component) (c : Component) (from : ℕ) (action : List ℕ) (to : ℕ) (double leaves enters limit : Bool)
+    → has_trans c from action to ≡ double → nat_lt from (length c.state_names) ≡ leaves → nat_lt to (length c.state_names) ≡ enters → nat_le most_transitions (trans_count components) ≡ limit
+    → trans_tests double leaves enters limit ≡ None → MayAddTrans components c from action to
+may_add_trans components c from action to false true true false d f t l h = record { new = d; leaves = below_of _ _ f; enters = below_of _ _ t; room = less_of _ _ l }
+may_add_trans components c from action to false true true true d f t l h = cc
+may_add_trans components c from action to false true false limit d f t l h = cc
+may_add_trans components c from action to false false enters limit d f t l h = cc
+may_add_trans components c from action to true leaves enters limit d f t l h = cc
+
+pub trans-within : (components : List Component) (i from : ℕ) (action : List ℕ) (to : ℕ) → trans_refusal components i from action to ≡ None → i < length components
+unfolding trans_refusal
+trans-within components i from action to h = within_none _ _ components i h
+
+pub may-add-trans : (components : List Component) (i from : ℕ) (action : List ℕ) (to : ℕ) (c : Component) → slice_get components i ≡ Some c → trans_refusal components i from action to ≡ None → MayAddTrans components c from action to
+may-add-trans components i from action to c at h = may_add_trans components c from action to _ _ _ _ refl refl refl refl (sym (trans_refusal-at components i from action to c _ _ _ _ at refl refl refl refl) ∙ h)
+
+-- why an event is refused
+abbrev event_tests : Bool → Bool → Bool → Bool → Bool → Option BuildRefusal
+event_tests named repeated known full wide = cond (named || repeated) (Some Double) (cond known (cond (full || wide) (Some Limit) None) (Some Unknown))
+
+pub event_refusal-by : (net : Net) (name : List ℕ) (parts : List Part) (named repeated known full wide : Bool)
+    → is_some (place_of name net.event_names) ≡ named → repeats parts ≡ repeated → list_all (is_known net.components) parts ≡ known → nat_le most_events (length net.events) ≡ full → nat_lt most_parts (length parts) ≡ wide
+    → event_refusal net name parts ≡ event_tests named repeated known full wide
+unfolding event_refusal
+event_refusal-by net name parts named repeated known full wide n r k f w = rw (n, r, k, f, w) refl
+
+-- what is true where an event isn't refused
+pub record MayAddEvent (net : Net) (name : List ℕ) (parts : List Part) : Type 0 where
+  pub new : place_of name net.event_names ≡ None
+  pub once : repeats parts ≡ false
+  pub known : list_all (is_known net.components) parts ≡ true
+  pub room : length net.events < most_events
+  pub few : length parts ≤ most_parts
+
+no_more : (m n : ℕ) → nat_lt m n ≡ false → n ≤ m
+no_more m n e = grind (arith, nat_tests)
+
+may_add_event : (net : Net) (name : List ℕ) (parts : List Part) (o : Option ℕ) (repeated known full wide : Bool)
+    → place_of name net.event_names ≡ o → repeats parts ≡ repeated → list_all (is_known net.components) parts ≡ known → nat_le most_events (length net.events) ≡ full → nat_lt most_parts (length parts) ≡ wide
+    → event_tests (is_some o) repeated known full wide ≡ None → MayAddEvent net name parts
+may_add_event net name parts None false true false false n r k f w h = record { new = n; once = r; known = k; room = less_of _ _ f; few = no_more _ _ w }
+may_add_event net name parts None false true false true n r k f w h = cc
+may_add_event net name parts None false true true wide n r k f w h = cc
+may_add_event net name parts None false false full wide n r k f w h = cc
+may_add_event net name parts None true known full wide n r k f w h = cc
+may_add_event net name parts (Some i) repeated known full wide n r k f w h = cc
+
+pub may-add-event : (net : Net) (name : List ℕ) (parts : List Part) → event_refusal net name parts ≡ None → MayAddEvent net name parts
+may-add-event net name parts h = may_add_event net name parts _ _ _ _ _ refl refl refl refl refl (sym (event_refusal-by net name parts _ _ _ _ _ refl refl refl refl refl) ∙ h)
+
+pub IsDraft-added : (net : Net) (name : List ℕ) (parts : List Part) (label : Option (List ℕ)) (fault : Bool) → IsDraft net → IsName name → 0 < length parts → MayAddEvent net name parts → IsDraft (with_event net name parts label fault)
+IsDraft-added net name parts label fault h n some may =
+    IsDraft-with_event net name (record { parts = parts; label = label; fault = fault }) h n may.new (record { some = omega arith; few = may.few; once = may.once; known = may.known }) may.room

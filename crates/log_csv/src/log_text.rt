@@ -1,6 +1,7 @@
 // A log is read record by record.
 ghost use Rattle.std.specs.Prelude.{◌≡◌, ◌^◌, ◌<◌, List, None, Some, length, IfErr, IfOk, OnErr, OnOk};
 ghost use Rattle.csv.specs.Records.{fields_of};
+ghost use Rattle.log_order.specs.Log.{no_log};
 ghost use Rattle.log_order.specs.Adding.{Answers, alarm_refusal, with_alarm};
 ghost use Rattle.log_csv.specs.Records.{Record, alarm, before, record_of};
 ghost use Rattle.log_csv.specs.Faults.{IsDue};
@@ -22,22 +23,41 @@ use std::alloc::Global;
 /// A record is `alarm,ID,LABEL`, with bars between several labels, `maybe,ID,LABEL` for a doubtful alarm, or `before,ID,ID`,
 /// "the first before the second". Fields behind the third are empty, and a record all of whose fields are empty is skipped. A
 /// label that is repeated counts once, and a pair that is there already changes nothing.
-#[tactic(auto, using(crate::proofs::LogLemmas::log_steps))]
 pub fn read_log(alloc: Global, bytes: &[u8]) -> Result<AlarmLog, LogReadRefusal>
     requires { length bytes.now < 2 ^ 32 }
     ensures log { IfOk result (λ log. log ≡ log_of bytes.now) }
     ensures well { OnOk result (first_fault bytes.now ≡ None) }
     ensures refused { IfErr result (IsDue (first_fault bytes.now)) }
 {
-    let mut records = records_of(alloc, bytes);
     let mut fields = ByteRecord::new(alloc);
     let mut log = AlarmLog::new(alloc);
-    let mut row: u32 = 0;
-    'records: while next_record(&mut records, &mut fields)? {
-        row += 1;
-        add_record(alloc, &mut log, row, &fields)?;
-    }
+    let read = add_records(alloc, bytes, &mut fields, &mut log);
+    drop(fields);
+    read?;
     Ok(log)
+}
+
+// Adds what the records of the text say to a log with nothing in it. The fields are those of one record after another.
+#[tactic(auto, using(crate::proofs::LogLemmas::log_steps))]
+fn add_records(
+    alloc: Global,
+    bytes: &[u8],
+    fields: &mut ByteRecord,
+    log: &mut AlarmLog,
+) -> Result<(), LogReadRefusal>
+    requires few { length bytes.now < 2 ^ 32 }
+    requires empty { log.old ≡ no_log }
+    ensures log { OnOk result (log.new ≡ log_of bytes.now) }
+    ensures well { OnOk result (first_fault bytes.now ≡ None) }
+    ensures refused { IfErr result (IsDue (first_fault bytes.now)) }
+{
+    let mut records = records_of(alloc, bytes);
+    let mut row: u32 = 0;
+    'records: while next_record(&mut records, fields)? {
+        row += 1;
+        add_record(alloc, log, row, fields)?;
+    }
+    Ok(())
 }
 
 // Adds what a record says.

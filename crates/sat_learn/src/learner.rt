@@ -1,12 +1,12 @@
 // Conflict analysis (Marques-Silva and Sakallah, "GRASP: a new search algorithm for satisfiability", 1996): the clause of the first implication
 // point, and the clauses that close a search under assumptions (Eén and Sörensson, "Temporal induction by incremental SAT solving", 2003).
 ghost use Rattle.std.specs.Prelude.{◌≡◌, ℕ, ◌<◌, ◌≤◌, ◌∷◌, [], length, max, replicate, true, false, is_none, vec_capacity, IfOk, OnOk, OnErr};
-ghost use Rattle.prop_core.specs.Clauses.{is_false};
-ghost use Rattle.sat_prop.specs.TrailState.{StandsAt, reason_at};
+ghost use Rattle.prop_core.specs.Clauses.{is_false, negation};
+ghost use Rattle.sat_prop.specs.TrailState.{StandsAt, literal_at, reason_at};
 ghost use Rattle.sat_prop.specs.Levels.{level_of, IsLastDecision};
 ghost use Rattle.sat_prop.specs.Quiet.{IsConflict};
 ghost use Rattle.sat_prop.specs.Changes.{IsFront};
-ghost use Rattle.sat_learn.specs.Seen.{is_seen, IsAnalysed};
+ghost use Rattle.sat_learn.specs.Seen.{is_seen, negated_seen, IsAnalysed};
 ghost use Rattle.sat_learn.specs.Learnt.{IsLearnt, IsClosing};
 
 use crate::analysed::Analysed;
@@ -153,6 +153,7 @@ fn unsee(seen: &mut Vec<bool>, count: usize) -> Result<(), Memory>
     Ok(())
 }
 
+// The clause of the first implication point.
 fn learn(
     seen: &mut [bool],
     removable: &mut Removable,
@@ -166,25 +167,62 @@ fn learn(
     requires last { IsLastDecision on.now.trail.now.reasons on.now.start }
     ensures learnt { IfOk result (λ l. IsLearnt on.now.trail.now on.now.clauses.now.clauses l.clause l.hints l.level) }
 {
-    on.trail.is_sound();
-    let literals = on.trail.literals();
     let mut hints = Vec::new(alloc);
-    let first = begin(seen, on, conflict, &mut hints)?;
-    let place = resolve_to_one(seen, on, first, &mut hints)?;
+    let learnt = learn_with(seen, removable, alloc, on, conflict, &mut hints);
+    drop(hints);
+    learnt
+}
+
+// The same, where the hints are collected in a vector with nothing in it.
+fn learn_with(
+    seen: &mut [bool],
+    removable: &mut Removable,
+    alloc: Global,
+    on: &Analysed<'_>,
+    conflict: ClauseId,
+    hints: &mut Vec<ClauseId>,
+) -> Result<Learnt, Memory>
+    requires analysed { IsAnalysed on.now.trail.now on.now.clauses.now.clauses seen.old }
+    requires cleared { (place : ℕ) → is_seen seen.old place ≡ false }
+    requires conflict { IsConflict on.now.trail.now conflict }
+    requires last { IsLastDecision on.now.trail.now.reasons on.now.start }
+    requires empty { hints.old.items ≡ [] }
+    ensures learnt { IfOk result (λ l. IsLearnt on.now.trail.now on.now.clauses.now.clauses l.clause l.hints l.level) }
+{
+    on.trail.is_sound();
+    let first = begin(seen, on, conflict, hints)?;
+    let place = resolve_to_one(seen, on, first, hints)?;
     let from_conflict = hints.len();
     removable.find(seen, on.trail, on.clauses, on.start)?;
-    shorten(seen, removable, on, &mut hints)?;
-    let mut clause = LitList::new(alloc);
-    clause.push(literals[place].negated())?;
-    add_negated(seen, literals, on.start, &mut clause)?;
+    shorten(seen, removable, on, hints)?;
+    let clause = asserting(seen, alloc, on, place)?;
     let level = last_level(seen, on.trail, on.start);
     hints.reverse();
     Ok(Learnt {
         clause,
-        hints: IdList::from_slice(alloc, &hints)?,
+        hints: IdList::from_slice(alloc, hints)?,
         level,
         from_conflict,
     })
+}
+
+// The negations of the literal at a place, and of those that are seen before the start.
+fn asserting(
+    seen: &[bool],
+    alloc: Global,
+    on: &Analysed<'_>,
+    place: usize,
+) -> Result<LitList, Memory>
+    requires place { place < length on.now.trail.now.literals }
+    requires seen { on.now.start ≤ length seen.now }
+    requires literals { on.now.start ≤ length on.now.trail.now.literals }
+    ensures { IfOk result (λ clause. clause ≡ negation (literal_at on.now.trail.now.literals place) ∷ negated_seen on.now.trail.now.literals seen.now on.now.start) }
+{
+    let literals = on.trail.literals();
+    let mut clause = LitList::new(alloc);
+    clause.push(literals[place].negated())?;
+    add_negated(seen, literals, on.start, &mut clause)?;
+    Ok(clause)
 }
 
 fn close(

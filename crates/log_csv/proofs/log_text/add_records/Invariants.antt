@@ -2,7 +2,7 @@
 use Rattle.std.proofs.Common.{◌+◌, ◌≤◌, length}
 use Rattle.log_csv.specs.Reading.{IsReadTo}
 use Rattle.log_csv.specs.RecordsLeft.{IsPlain, records_left}
-use Rattle.log_csv.proofs.log_text.read_log.Given as goal
+use Rattle.log_csv.proofs.log_text.add_records.Given as goal
 
 abbrev pub invariant-records : goal.invariant-records
 invariant-records l = record {

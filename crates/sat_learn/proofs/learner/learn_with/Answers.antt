@@ -1,10 +1,7 @@
-use Rattle.std.proofs.Common.{◌≡◌, ◌∙◌, [], List, get_or, arith, ap}
-use Rattle.prop_core.specs.declared.lit.Lit.{Lit}
-use Rattle.prop_core.specs.Clauses.{negation}
-use Rattle.prop_core.specs.Trail.{no_literal}
+use Rattle.std.proofs.Common.{◌∙◌, [], arith}
 use Rattle.sat_learn.proofs.Beginning.{conflict_present}
-use Rattle.sat_learn.proofs.Finishing.{learnt_from, put_together, learnt_same, found_kept}
-use Rattle.sat_learn.proofs.learner.learn.Goals as goal
+use Rattle.sat_learn.proofs.Finishing.{learnt_from, learnt_same, found_kept}
+use Rattle.sat_learn.proofs.learner.learn_with.Goals as goal
 
 pub resolve_to_one-requires-clause-some : goal.resolve_to_one-requires-clause-some
 resolve_to_one-requires-clause-some c =
@@ -21,8 +18,6 @@ returns c = record {
       let size = c.in_ok-place.ensures.size ∙ c.in_ok-first.ensures.size ∙ c.requires.analysed.size in
       let found = found_kept c.args.on.now.trail.now.literals c.resolve_to_one.new.seen c.shorten.new.seen c.args.on.now.start c.in_ok-place.place size c.in_ok-shorten.ensures.size c.in_ok-shorten.ensures.above c.in_ok-place.ensures.found in
       let r = learnt_from c.args.on.now.trail.now c.args.on.now.clauses.now.clauses c.shorten.new.seen c.shorten.new.hints.items c.args.on.now.start c.in_ok-place.place justified c.requires.last h found in
-      let at : get_or c.literals-literals.result.now c.in_ok-place.place no_literal ≡ get_or c.args.on.now.trail.now.literals c.in_ok-place.place no_literal = ap (λ (ls : List Lit). get_or ls c.in_ok-place.place no_literal) c.literals-literals.ensures in
-      let x = c.negated.ensures ∙ ap negation at in
-      learnt_same c.args.on.now.trail.now c.args.on.now.clauses.now.clauses _ _ _ _ _ _ (c.clause-2.view_is ∙ put_together c.new-clause.result c.push.new.self _ c.args.on.now.trail.now.literals c.literals-literals.result.now c.shorten.new.seen c.negated.result _ c.args.on.now.start c.new-clause.ensures c.in_ok-push.ensures.ok c.in_ok-add_negated.ensures c.literals-literals.ensures x)
+      learnt_same c.args.on.now.trail.now c.args.on.now.clauses.now.clauses _ _ _ _ _ _ c.in_ok-clause.ensures
       (c.in_ok-from_slice.ensures ∙ c.deref.ensures.value ∙ c.reverse.ensures.items) c.last_level-level.ensures r;
 }

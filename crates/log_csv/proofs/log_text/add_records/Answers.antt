@@ -2,7 +2,7 @@ use Rattle.csv.specs.Records.{fields_of}
 use Rattle.log_csv.specs.RecordsLeft.{records_left}
 use Rattle.log_csv.proofs.LogLemmas.{read-on}
 use Rattle.log_csv.proofs.ScriptLemmas.{count-on}
-use Rattle.log_csv.proofs.log_text.read_log.Goals as goal
+use Rattle.log_csv.proofs.log_text.add_records.Goals as goal
 
 pub records-preserved : goal.records-preserved
 records-preserved c =
