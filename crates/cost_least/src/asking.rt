@@ -14,7 +14,7 @@ ghost use Rattle.cost_least.specs.Searching.{MayBound, StayWeighed, asked_of, Ar
 ghost use Rattle.cost_least.specs.Weighed.{AreWeighed, KeepsCode, assumed_at};
 
 use crate::answer::Priced;
-use crate::question::{CostQuestion, has_guards, is_valid};
+use crate::question::{CostQuestion, has_guards};
 use crate::run_costs::run_cost;
 use des_base::Memory;
 use event_costs::Costs;
@@ -60,7 +60,7 @@ pub fn ask<C: Fn(u32) -> u32, R: Fn(u32) -> u64>(
     has_guards(&parts.code);
     let assumed = assumptions(question, within, &parts.code)?;
     let answer = parts.solver.solve(book, assumed.as_slice(), budget)?;
-    is_valid(book);
+    book.entries();
     match answer {
         Answer::Unsat(_) => Ok(Asked::Refuted),
         Answer::Spent => Ok(Asked::Spent),

@@ -2,13 +2,11 @@
 ghost use Rattle.log_clauses.specs.LogClauses.{guard_literals};
 ghost use Rattle.log_encode.specs.CodedLog.{read_names};
 ghost use Rattle.prop_core.specs.VariableNames.{ReadsAs};
-ghost use Rattle.proof_ledger.specs.Book.{IsValidBook};
 ghost use Rattle.cost_least.specs.Weighed.{guards_of};
 
 use des_net::Network;
 use log_encode::LogCode;
 use log_order::AlarmLog;
-use proof_ledger::Ledger;
 use std::alloc::Global;
 use weight_counter::Scale;
 
@@ -19,13 +17,6 @@ pub struct CostQuestion<'a> {
     pub log: &'a AlarmLog,
     pub scale: Scale,
     pub alloc: Global,
-}
-
-// The book is valid, as its reader tells.
-pub fn is_valid(book: &Ledger)
-    ensures { IsValidBook book.now.entries }
-{
-    let _entries = book.entries();
 }
 
 // The guards of the log, in their order, are literals of its names, as the reader of its code tells.

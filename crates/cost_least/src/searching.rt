@@ -14,7 +14,7 @@ ghost use Rattle.cost_least.specs.Weighed.{AreWeighed, KeepsCode};
 
 use crate::answer::{Cheap, Priced};
 use crate::asking::{Asked, ask};
-use crate::question::{CostQuestion, has_guards, is_valid};
+use crate::question::{CostQuestion, has_guards};
 use crate::weighing::weigh;
 use des_base::Memory;
 use des_net::Network;
@@ -119,7 +119,7 @@ fn halve<C: Fn(u32) -> u32, R: Fn(u32) -> u64>(
     while lo < ceiling(best.cost) {
         let b = middle(lo, best.cost);
         let asked = ask(question, costs, Some(b), parts, book, budget)?;
-        is_valid(book);
+        book.entries();
         match asked {
             Asked::Explained(better) => best = better,
             Asked::Refuted => lo = b + 1,

@@ -18,7 +18,7 @@ use Rattle.least_faults.specs.declared.answer.Found.TheVariants.{Explained, Abse
 use Rattle.least_faults.specs.declared.asking.Asked.{Asked}
 use Rattle.least_faults.specs.declared.asking.Asked.TheVariants as asked
 use Rattle.least_faults.specs.Answers.{HasConflict, IsExplanation, IsLeastFound, IsAbsentFound, IsManyFound, IsUndecidedFound}
-use Rattle.least_faults.specs.Ascending.{FinalsAreBelow, IsRefutedBelow, HasComeToBy, HasFound}
+use Rattle.least_faults.specs.Ascending.{FinalsAreBelow, IsRefutedAt, HasComeToBy, HasFound}
 use Rattle.least_faults.specs.Asking.{AreAssumptions, ArePut, IsSearching, HasAskedBy, IsRefusal, IsStopped}
 use Rattle.least_faults.specs.Columns.{built_within}
 use Rattle.least_faults.specs.Evidence.{FinalsNegate, is_final, IsEvidence, IsPosed, IsRefutation, NegatesAssumed}
@@ -92,7 +92,7 @@ come_further code old new begun now net log n k first mid last budget before aft
   paid = (let count = count_append is_learnt come.since asked'.since in omega (arith, count, come.paid, asked'.paid));
   fresh = fresh_both first mid come.since asked'.since come.whole come.fresh asked'.fresh;
   finals = finals_further code old new k come.since asked'.since keeps come.finals asked'.put.finals;
-  below = λ j is. (let same : k ≡ j = omega (arith, is) in subst (λ i. IsRefutedBelow code new net log n i begun (come.since ++ asked'.since)) same (record {
+  below = λ j is. (let same : k ≡ j = omega (arith, is) in subst (λ i. IsRefutedAt code new net log n i begun (come.since ++ asked'.since)) same (record {
     assumed = asked'.means.assumed;
     assumptions = asked'.means.assumptions;
     refuted = last_earlier begun now first mid come.since asked'.since net log n (Some k) asked'.means.assumed at_first at_mid same_within front_known come.whole asked'.means.refuted;
@@ -175,7 +175,7 @@ module _ (steps : CodedSteps) (code : CodedLog) (counter : CounterState) (vars :
       posed = poses steps code counter vars (axioms_of book) bound assumed parts assumptions log network valid same
 
   -- with evidence below k, an explanation within k is least
-  pub least_found : (k : ℕ) (best : Best) → k ≤ 255 → ((j : ℕ) → k ≡ suc j → IsRefutedBelow code counter steps.net log steps.steps j begun since) → NeedsFaults steps.net log steps.steps k → IsExplanation steps.net log steps.steps best → best.faults ≤ k →
+  pub least_found : (k : ℕ) (best : Best) → k ≤ 255 → ((j : ℕ) → k ≡ suc j → IsRefutedAt code counter steps.net log steps.steps j begun since) → NeedsFaults steps.net log steps.steps k → IsExplanation steps.net log steps.steps best → best.faults ≤ k →
       IsLeastFound (whole_names steps code counter) begun since steps.net log steps.steps best
   least_found k best small below needs given within =
       let more = at_least steps.net log steps.steps k best needs given in
@@ -186,7 +186,7 @@ module _ (steps : CodedSteps) (code : CodedLog) (counter : CounterState) (vars :
         evidence = λ b faults. (let found = below b (is ∙ faults) in evidence (Some b) found.assumed found.assumptions found.refuted);
       }
 
-  pub many_found : (best : Best) → ((j : ℕ) → 256 ≡ suc j → IsRefutedBelow code counter steps.net log steps.steps j begun since) → NeedsFaults steps.net log steps.steps 256 → IsExplanation steps.net log steps.steps best →
+  pub many_found : (best : Best) → ((j : ℕ) → 256 ≡ suc j → IsRefutedAt code counter steps.net log steps.steps j begun since) → NeedsFaults steps.net log steps.steps 256 → IsExplanation steps.net log steps.steps best →
       IsManyFound (whole_names steps code counter) begun since steps.net log steps.steps best
   many_found best below needs given = record {
     given = given;
@@ -196,7 +196,7 @@ module _ (steps : CodedSteps) (code : CodedLog) (counter : CounterState) (vars :
   }
 
   pub undecided_found : (k budget : ℕ) (best : Best) → IsValidBook book → count_by is_learnt since ≡ budget → FinalsAreBelow code counter k since →
-      ((j : ℕ) → k ≡ suc j → IsRefutedBelow code counter steps.net log steps.steps j begun since) → NeedsFaults steps.net log steps.steps k → IsExplanation steps.net log steps.steps best → k < best.faults →
+      ((j : ℕ) → k ≡ suc j → IsRefutedAt code counter steps.net log steps.steps j begun since) → NeedsFaults steps.net log steps.steps k → IsExplanation steps.net log steps.steps best → k < best.faults →
       IsUndecidedFound (whole_names steps code counter) begun since steps.net log steps.steps budget k (Some best)
   undecided_found k budget best whole spent finals below needs given more = record {
     spent = spent;

@@ -23,7 +23,7 @@ FinalsAreBelow code counter k since = (clause : Clause) (hints : List ℕ) → C
     (j : ℕ) × (j < k) × (assumed : List Lit) × AreAssumptions code counter (Some j) assumed × NegatesOnly assumed clause
 
 -- the bound k is refuted, by the last final entry; the search has come to the next one
-pub record IsRefutedBelow (code : CodedLog) (counter : CounterState) (net : Net) (log : Log) (n k : ℕ) (first : BuiltQuestion) (since : List BookEntry) : Type 0 where
+pub record IsRefutedAt (code : CodedLog) (counter : CounterState) (net : Net) (log : Log) (n k : ℕ) (first : BuiltQuestion) (since : List BookEntry) : Type 0 where
   pub assumed : List Lit
   pub assumptions : AreAssumptions code counter (Some k) assumed
   pub refuted : IsRefutation first since net log n (Some k) assumed
@@ -36,7 +36,7 @@ pub record HasComeToBy (code : CodedLog) (counter : CounterState) (first : Built
   pub paid : count_by is_learnt since + budget_new ≡ budget_old
   pub fresh : HaveLearntFresh old since
   pub finals : FinalsAreBelow code counter k since
-  pub below : (j : ℕ) → k ≡ suc j → IsRefutedBelow code counter net log n j first since
+  pub below : (j : ℕ) → k ≡ suc j → IsRefutedAt code counter net log n j first since
   pub needs : NeedsFaults net log n k
 
 -- the same of the parts of a question

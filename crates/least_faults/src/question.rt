@@ -2,7 +2,6 @@
 ghost use Rattle.std.specs.Prelude.{◌≤◌, List, length};
 ghost use Rattle.log_clauses.specs.LogClauses.{guard_literals};
 ghost use Rattle.log_encode.specs.CodedLog.{read_names};
-ghost use Rattle.proof_ledger.specs.Book.{IsValidBook};
 ghost use Rattle.prop_core.specs.VariableNames.{ReadsAs};
 ghost use Rattle.prop_core.specs.declared.lit.Lit.{Lit};
 
@@ -10,7 +9,6 @@ use card_counter::Counter;
 use des_net::Network;
 use log_encode::LogCode;
 use log_order::AlarmLog;
-use proof_ledger::Ledger;
 use std::alloc::Global;
 
 // A network and a log, and where the memory for answers comes from.
@@ -19,13 +17,6 @@ pub struct Question<'a> {
     pub net: &'a Network,
     pub log: &'a AlarmLog,
     pub alloc: Global,
-}
-
-// The book is valid, as its reader tells.
-pub fn is_valid(book: &Ledger)
-    ensures { IsValidBook book.now.entries }
-{
-    let _entries = book.entries();
 }
 
 // The counter has no more columns than it may have, as their reader tells.

@@ -47,7 +47,7 @@ returns-in-Unsat-clause-asked g c = λ cost answered weighed.
     (subst (λ (xs : List Lit). IsAnswer c.solve.new.self.assignment new xs c.solve.new.budget (Answer.Unsat c.in-Unsat.field-0)) c.in_ok-assumed.ensures
     (subst (λ (xs : List Lit). IsAnswer c.solve.new.self.assignment new xs c.solve.new.budget (Answer.Unsat c.in-Unsat.field-0)) c.as_slice.ensures.value
     (subst (IsAnswer c.solve.new.self.assignment new c.as_slice.result.now c.solve.new.budget) c.in-Unsat.is c.in_ok-answer.ensures.answer)))
-    c.is_valid.ensures
+    c.entries.ensures.valid
 
 pub returns-in-Spent-clause-asked : goal.returns-in-Spent-clause-asked
 returns-in-Spent-clause-asked g c = λ cost answered weighed.

@@ -76,7 +76,7 @@ returns-in-Spent-clause-found g c = λ cost answered weighed.
     found_still net cost log old now c.args.budget.now first new _ keeps
     (halved_undecided q old.code.code scale first new c.args.budget.now c.ask.new.budget lo best come
     (λ k few some. told cost old.step old.code.code now.counter now.vars (axioms_of new) scale coded net log c.requires.belong.of_steps c.is_built.ensures.network c.is_whole.ensures.whole.valid c.requires.belong.same_log c.has_guards.ensures (Some k) (record { some = some; few = omega (arith, amounts, few) }))
-    c.is_valid.ensures
+    c.entries.ensures.valid
     (guards_before cost old.step old.code.code now.counter now.vars (axioms_of new) scale coded net log c.requires.belong.of_steps c.is_built.ensures.network c.is_whole.ensures.whole.valid c.requires.belong.same_log c.has_guards.ensures)
     (told cost old.step old.code.code now.counter now.vars (axioms_of new) scale coded net log c.requires.belong.of_steps c.is_built.ensures.network c.is_whole.ensures.whole.valid c.requires.belong.same_log c.has_guards.ensures None tt)
     (omega (arith, test, most)) here.means.nothing b c.middle-b.ensures here.means.clashes)

@@ -54,7 +54,7 @@ returns-in-Unsat-clause-asked g c =
     (subst (HasPut c.assumptions.new.book.entries c.solve.new.book.entries) c.in-Unsat.is c.in_ok-answer.ensures.put)
     (subst (λ xs. IsAnswer c.solve.new.self.assignment c.solve.new.book.entries xs c.solve.new.budget (Answer.Unsat c.in-Unsat.field-0)) c.as_slice.ensures.value
     (subst (IsAnswer c.solve.new.self.assignment c.solve.new.book.entries c.as_slice.result.now c.solve.new.budget) c.in-Unsat.is c.in_ok-answer.ensures.answer))
-    c.is_valid.ensures
+    c.entries.ensures.valid
 
 pub returns-in-Spent-clause-asked : goal.returns-in-Spent-clause-asked
 returns-in-Spent-clause-asked g c =
