@@ -91,10 +91,10 @@ def run(command, folder, crates):
             break
         seen = processes()
         for process in descendants(seen, child.pid):
-            account = account_of(process, crates)
+            # (the last look at it counts, under the account of the first, since its words are gone when it ends; its number may be another's later)
+            _, start, seconds = seen[process]
+            account = spent[process, start][0] if (process, start) in spent else account_of(process, crates)
             if account:
-                # (the last look at it counts; its number may be another's later)
-                _, start, seconds = seen[process]
                 spent[process, start] = account, seconds
         time.sleep(BETWEEN)
     accounts = {}
