@@ -67,6 +67,8 @@ def descendants(all_of_them, root):
 def account_of(process, crates):
     """The crate and the kind that a process works for, or None."""
     words = text(f"/proc/{process}/cmdline").split("\0")
+    if words == [""]:
+        return None
     try:
         folder = os.readlink(f"/proc/{process}/cwd")
     except OSError:
@@ -91,9 +93,9 @@ def run(command, folder, crates):
             break
         seen = processes()
         for process in descendants(seen, child.pid):
-            # (the last look at it counts, under the account of the first, since its words are gone when it ends; its number may be another's later)
+            # (the last look at it counts; one that ends has no words left, and counts as before; its number may be another's later)
             _, start, seconds = seen[process]
-            account = spent[process, start][0] if (process, start) in spent else account_of(process, crates)
+            account = account_of(process, crates) or spent.get((process, start), (None,))[0]
             if account:
                 spent[process, start] = account, seconds
         time.sleep(BETWEEN)
