@@ -1,17 +1,20 @@
 -- A component stays one under each addition.
-use Rattle.std.proofs.Common.{◌≡◌, ◌<◌, ◌≤◌, ◌+◌, ℕ, Bool, true, false, cond, List, [], ◌∷◌, ◌++◌, length, Option, None, Some, refl, arith, length-append}
+use Rattle.std.proofs.Common.{◌≡◌, ◌∙◌, ◌<◌, ◌≤◌, ◌+◌, ◌||◌, ℕ, Bool, true, false, cond, List, [], ◌∷◌, ◌++◌, length, Option, None, Some, refl, ap, sym, arith, length-append}
 use Rattle.std.specs.Prelude.{unwrap_or, is_some, All}
 use Rattle.std.specs.List.{list_any}
 use Rattle.std.specs.Option.{option_map_or}
 use Rattle.std.proofs.lemmas.List.Elements.{All-push, All-weaker, All-nil, All-head, All-tail}
 use Rattle.std.proofs.lemmas.Bool.Decides.{nat_tests}
+use Rattle.std.proofs.lemmas.List.Folds.{list_any-append}
 use Rattle.des_base.proofs.PlaceLemmas.{place-within}
 use Rattle.des_base.specs.Names.{place_of, AreNames, IsName}
 use Rattle.des_base.proofs.TableLemmas.{AreNames-push}
+use Rattle.des_net.specs.contracts.parts.TransPartialEq.TheImpl as trans
 use Rattle.des_net.specs.declared.parts.Trans.{Trans}
 use Rattle.des_net.specs.Limits.{most_states, most_transitions}
 use Rattle.des_net.specs.Network.{Component, IsTransOf, no_component}
 use Rattle.des_net.specs.Building.{IsDraftComponent, is_trans, has_trans, with_state, with_trans, with_action, action_place}
+use Rattle.des_net.specs.View.{AreKnown, HasOneMore}
 
 -- no names are names
 pub AreNames-none : AreNames []
@@ -94,3 +97,33 @@ absent_step from to n s ts (Some a) h e = e
 -- a transition that a component lacks by its action's name it lacks by its number
 pub has_trans-absent : (c : Component) (from : ℕ) (action : List ℕ) (to : ℕ) → IsDraftComponent c → has_trans c from action to ≡ false → list_any (is_trans from (action_place c.action_names action) to) c.transitions ≡ false
 has_trans-absent c from action to h e = absent_step from to (length c.action_names) (length c.state_names) c.transitions (place_of action c.action_names) h.trans e
+
+-- ---- what a component knows of its transitions
+
+-- a set's own test finds what `is_trans` finds
+found_one : (q t : Trans) → trans.ghosts.eq q t ≡ is_trans q.from q.action q.to t
+found_one q t = grind (arith, nat_tests)
+
+pub found_any : (q : Trans) (keys : List Trans) → list_any (trans.ghosts.eq q) keys ≡ list_any (is_trans q.from q.action q.to) keys
+found_any q [] = refl
+found_any q (t ∷ ts) = λ i. found_one q t i || found_any q ts i
+
+-- none where none are
+pub AreKnown-none : AreKnown [] []
+AreKnown-none = record { found = λ from action to. refl }
+
+-- the same after room was made
+pub AreKnown-again : (old new items more : List Trans) → AreKnown new old → AreKnown old items → more ≡ items → AreKnown new more
+AreKnown-again old new items more same known is = record { found = λ from action to. same.found from action to ∙ known.found from action to ∙ ap (list_any (is_trans from action to)) (sym is) }
+
+or_none : (b : Bool) → (b || false) ≡ b
+or_none true = refl
+or_none false = refl
+
+-- and one more, which stands last
+pub AreKnown-push : (old new items more : List Trans) (trans : Trans) → AreKnown old items → HasOneMore trans old new → more ≡ items ++ trans ∷ [] → AreKnown new more
+AreKnown-push old new items more trans known one is = record {
+  found = λ from action to.
+      one.found from action to ∙ ap (λ b. b || is_trans from action to trans) (known.found from action to)
+      ∙ sym (ap (list_any (is_trans from action to)) is ∙ list_any-append (is_trans from action to) items (trans ∷ []) ∙ ap (λ b. list_any (is_trans from action to) items || b) (or_none (is_trans from action to trans)));
+}
