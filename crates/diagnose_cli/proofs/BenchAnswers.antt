@@ -7,14 +7,14 @@ use Rattle.least_faults.specs.declared.TheConstants.{MOST_SIZE}
 use Rattle.log_order.specs.Log.{Log}
 use Rattle.proof_ledger.specs.Book.{BookEntry}
 use Rattle.replay.specs.QuestionSize.{question_size}
-use Rattle.report.specs.Replies.{numbered}
+use Rattle.telling.specs.Lines.{numbered}
 use Rattle.diagnose_cli.specs.declared.command.Command.TheVariants.{One}
 use Rattle.diagnose_cli.specs.declared.command.Single.TheVariants.{Bench}
-use Rattle.diagnose_cli.specs.declared.ending.Kind.{Kind}
-use Rattle.diagnose_cli.specs.declared.stop.Stop.TheVariants.{Large}
+use Rattle.endings.specs.declared.ending.Kind.{Kind}
+use Rattle.endings.specs.declared.stop.Stop.TheVariants.{Large}
 use Rattle.diagnose_cli.specs.Replies.{MayReply, SaysFound, SaysSummary, SaysBenched, first_line, summary_of}
 use Rattle.diagnose_cli.specs.Due.{Closes, above_limit}
-use Rattle.diagnose_cli.specs.Transcripts.{Ending, Transcript, IsOne, once, whole}
+use Rattle.endings.specs.Transcripts.{Ending, Transcript, IsOne, once, whole}
 use Rattle.diagnose_cli.proofs.Limits.{within_limit, past_limit}
 
 module _ (units start steps budget : ℕ) (words : List (List ℕ)) (book : List BookEntry) where

@@ -10,7 +10,7 @@ use Rattle.diagnose_cli.specs.declared.command.Command.TheVariants.{One, Session
 use Rattle.diagnose_cli.specs.declared.command.Limits.{Limits}
 use Rattle.diagnose_cli.specs.declared.command.Question.{Question}
 use Rattle.diagnose_cli.specs.declared.command.Single.TheVariants.{Ask, GenerateModel, GenerateLog, Bench, Twin, Cheapest}
-use Rattle.diagnose_cli.specs.Commands.{ask_of, bench_of, calls, command_of, generate_of, limits_of, most_budget, most_start, most_steps, other_of, question_named, question_of, read_words, twin_of, units_of, IsWithinBounds}
+use Rattle.diagnose_cli.specs.Commands.{ask_of, asked_by, bench_of, calls, command_of, generate_of, limits_of, most_budget, most_start, most_steps, other_of, question_named, read_words, twin_of, units_of, IsWithinBounds}
 
 -- ---- what an option has, where it has something
 
@@ -29,10 +29,6 @@ then_some P f (Some x) holds = holds x refl
 map_or_some : {X Y : Type 0} (P : Y → Type 0) (f : X → Option Y) (o : Option X) (other : Option Y) → ((x : X) → o ≡ Some x → IfSome (f x) P) → IfSome other P → IfSome (option_map_or f o other) P
 map_or_some P f None other holds others = others
 map_or_some P f (Some x) other holds others = holds x refl
-
-some_so : {X : Type 0} (P : Type 0) (o : Option X) → P → IfSome o (λ x. P)
-some_so P None p = tt
-some_so P (Some x) p = p
 
 of_some : {X : Type 0} (P : X → Type 0) (o : Option X) (x : X) → o ≡ Some x → IfSome o P → P x
 of_some {X = X} P o x is holds = subst (λ (p : Option X). IfSome p P) is holds
@@ -74,12 +70,11 @@ module _ (words : List (List ℕ)) where
   asked : (text : List ℕ) (question : Question) → 2 < length words → IfSome (ask_of text question) Fits
   asked text question there = map_some Fits (λ n. One (Ask n question)) (number_up_to most_steps text) (λ n is. (there, (within most_steps text n is, tt)))
 
-  five_words : IfSome (question_of words) (λ q. length words ≡ 5)
-  five_words =
-      if_some (λ (q : Question). length words ≡ 5) (nat_eq (length words) 5) (question_named (word_at words 0) (word_at words 4)) None (λ is. some_so (length words ≡ 5) (question_named (word_at words 0) (word_at words 4)) (eqb-true (length words) 5 is)) tt
-
-  question_asked : (question : Question) → question_of words ≡ Some question → IfSome (ask_of (word_at words 3) question) Fits
-  question_asked question is = let count = of_some (λ (q : Question). length words ≡ 5) (question_of words) question is five_words in asked (word_at words 3) question (omega (arith, count))
+  asked_fits : IfSome (asked_by words) Fits
+  asked_fits =
+      if_some Fits (nat_eq (length words) 5) _ _
+      (λ five. then_some Fits (λ question. ask_of (word_at words 3) question) (question_named (word_at words 0) (word_at words 4)) (λ question is. asked (word_at words 3) question (let count = eqb-true (length words) 5 five in omega (arith, count))))
+      tt
 
   generated : (what units start : List ℕ) → 0 < length words → IfSome (generate_of what units start) Fits
   generated what units start there =
@@ -117,7 +112,7 @@ module _ (words : List (List ℕ)) where
       tt)))))))))
 
   fits : IfSome (command_of words) Fits
-  fits = map_or_some Fits (λ question. ask_of (word_at words 3) question) (question_of words) (other_of words) question_asked others_fit
+  fits = map_or_some Fits (λ command. Some command) (asked_by words) (other_of words) (λ command is. of_some Fits (asked_by words) command is asked_fits) others_fit
 
 -- so it is with the command that is called
 pub called_fits : (words : List (List ℕ)) (c : Command) → command_of words ≡ Some c → (read_words c < length words) × IsWithinBounds c

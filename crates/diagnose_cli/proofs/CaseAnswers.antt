@@ -11,11 +11,11 @@ use Rattle.least_faults.specs.declared.TheConstants.{MOST_SIZE}
 use Rattle.diagnose_cli.specs.declared.command.Command.TheVariants.{One}
 use Rattle.diagnose_cli.specs.declared.command.Question.{Question}
 use Rattle.diagnose_cli.specs.declared.command.Single.TheVariants.{Ask}
-use Rattle.diagnose_cli.specs.declared.ending.Kind.{Kind}
-use Rattle.diagnose_cli.specs.declared.stop.Stop.TheVariants.{Large}
+use Rattle.endings.specs.declared.ending.Kind.{Kind}
+use Rattle.endings.specs.declared.stop.Stop.TheVariants.{Large}
 use Rattle.diagnose_cli.specs.Due.{Closes, Says, above_limit}
 use Rattle.diagnose_cli.specs.Replies.{AnswersTo}
-use Rattle.diagnose_cli.specs.Transcripts.{Ending, once}
+use Rattle.endings.specs.Transcripts.{Ending, once}
 use Rattle.diagnose_cli.proofs.Limits.{within_limit, past_limit}
 use Rattle.diagnose_cli.proofs.Ones.{is_one}
 

@@ -27,17 +27,18 @@ use Rattle.report.specs.ReadBack.{IsRunText}
 use Rattle.report.specs.Replies.{CheapEventsKnown, text_of_run}
 use Rattle.diagnose_cli.specs.declared.command.Command.TheVariants.{One}
 use Rattle.diagnose_cli.specs.declared.command.Single.TheVariants.{Cheapest}
-use Rattle.diagnose_cli.specs.declared.ending.Kind.{Kind}
-use Rattle.diagnose_cli.specs.declared.stop.FaultyText.{FaultyText}
-use Rattle.diagnose_cli.specs.declared.stop.Stop.{Stop}
-use Rattle.diagnose_cli.specs.declared.stop.Stop.TheVariants.{Large}
+use Rattle.endings.specs.declared.ending.Kind.{Kind}
+use Rattle.endings.specs.declared.stop.FaultyText.{FaultyText}
+use Rattle.endings.specs.declared.stop.Stop.{Stop}
+use Rattle.endings.specs.declared.stop.Stop.TheVariants.{Large}
 use Rattle.diagnose_cli.specs.CheapReplies.{CheapRunReadsBack, SaysCheap}
 use Rattle.diagnose_cli.specs.Due.{AnswersAfter, Closes, above_limit}
-use Rattle.diagnose_cli.specs.Files.{IsReadAs, IsText, Loads, StopsIn}
+use Rattle.endings.specs.Files.{IsReadAs, IsText, Loads, StopsIn}
 use Rattle.diagnose_cli.specs.Replies.{MayReply}
 use Rattle.diagnose_cli.specs.Rows.{AreTold}
-use Rattle.diagnose_cli.specs.Texts.{IsCase, costs, fault_of_costs, limit_of}
-use Rattle.diagnose_cli.specs.Transcripts.{Ending, Transcript, IsOne, once}
+use Rattle.endings.specs.Texts.{costs, fault_of_costs, limit_of}
+use Rattle.diagnose_cli.specs.FirstTwo.{IsCase}
+use Rattle.endings.specs.Transcripts.{Ending, Transcript, IsOne, once}
 use Rattle.diagnose_cli.proofs.Left.{told_bytes}
 use Rattle.diagnose_cli.proofs.Ones.{is_one}
 use Rattle.diagnose_cli.proofs.Limits.{within_limit, past_limit}

@@ -18,10 +18,10 @@ use Rattle.report.specs.Replies.{text_of_cheap}
 use Rattle.run_decode.specs.QuestionAxioms.{question_axioms}
 use Rattle.diagnose_cli.specs.declared.command.Command.TheVariants.{One}
 use Rattle.diagnose_cli.specs.declared.command.Single.TheVariants.{Cheapest}
-use Rattle.diagnose_cli.specs.declared.ending.Kind.{Kind}
+use Rattle.endings.specs.declared.ending.Kind.{Kind}
 use Rattle.diagnose_cli.specs.CheapReplies.{SaysCheap, kind_of_cheap}
 use Rattle.diagnose_cli.specs.CheapRows.{TellsCheapest, TellsDear, TellsUnpriced, cost_asked}
-use Rattle.diagnose_cli.specs.Endings.{status_of_kind}
+use Rattle.endings.specs.Endings.{status_of_kind}
 use Rattle.diagnose_cli.specs.Outcomes.{Outcome, Tells}
 use Rattle.diagnose_cli.specs.Replies.{MayReply}
 use Rattle.diagnose_cli.specs.Rows.{AreTold, Asks}

@@ -8,11 +8,11 @@ use Rattle.proof_text.specs.LratText.{proof_of}
 use Rattle.proof_ledger.specs.Book.{BookEntry}
 use Rattle.diagnose_cli.specs.declared.command.Command.TheVariants.{One}
 use Rattle.diagnose_cli.specs.declared.command.Single.TheVariants.{Check}
-use Rattle.diagnose_cli.specs.declared.ending.Kind.{Kind}
-use Rattle.diagnose_cli.specs.declared.stop.Stop.{Stop}
-use Rattle.diagnose_cli.specs.Transcripts.{once, whole}
-use Rattle.diagnose_cli.specs.Files.{Loads, IsText, IsReadAs, StopsIn}
-use Rattle.diagnose_cli.specs.Texts.{lrat, limit_of, fault_of_lrat}
+use Rattle.endings.specs.declared.ending.Kind.{Kind}
+use Rattle.endings.specs.declared.stop.Stop.{Stop}
+use Rattle.endings.specs.Transcripts.{once, whole}
+use Rattle.endings.specs.Files.{Loads, IsText, IsReadAs, StopsIn}
+use Rattle.endings.specs.Texts.{lrat, limit_of, fault_of_lrat}
 use Rattle.diagnose_cli.specs.Replies.{reply_of_checked}
 use Rattle.diagnose_cli.specs.Due.{Closes, AnswersAfter}
 use Rattle.diagnose_cli.proofs.Ones.{is_one}

@@ -5,7 +5,7 @@ use Rattle.replay.specs.QuestionSize.{variable_bound}
 use Rattle.diagnose_cli.specs.declared.command.Command.{Command}
 use Rattle.diagnose_cli.specs.declared.command.Command.TheVariants.{One, Session, Verdicts}
 use Rattle.diagnose_cli.specs.declared.command.Single.TheVariants.{Trace, Show, Replay, Check, Ask, GenerateModel, GenerateLog, Bench, Twin, Cheapest}
-use Rattle.diagnose_cli.specs.declared.ending.Kind.{Kind}
+use Rattle.endings.specs.declared.ending.Kind.{Kind}
 use Rattle.diagnose_cli.specs.Deciding.{Suffices}
 use Rattle.diagnose_cli.specs.Outcomes.{Outcome, Tells}
 use Rattle.diagnose_cli.specs.Replies.{MayReply, SaysBenched}

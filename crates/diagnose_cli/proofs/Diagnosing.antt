@@ -12,8 +12,8 @@ use Rattle.proof_ledger.specs.Book.{BookEntry, axiomatic}
 use Rattle.replay.specs.QuestionSize.{variable_bound}
 use Rattle.run_decode.specs.QuestionAxioms.{question_axioms, question_built}
 use Rattle.diagnose_cli.specs.declared.command.Question.TheVariants.{Diagnose}
-use Rattle.diagnose_cli.specs.declared.ending.Kind.{Kind}
-use Rattle.diagnose_cli.specs.declared.ending.Kind.TheVariants.{Undecided}
+use Rattle.endings.specs.declared.ending.Kind.{Kind}
+use Rattle.endings.specs.declared.ending.Kind.TheVariants.{Undecided}
 use Rattle.diagnose_cli.specs.Replies.{kind_of_found, AnswersQuestion, AnswersTo, SaysFound}
 use Rattle.diagnose_cli.proofs.RepliesReplay.{run_replays}
 

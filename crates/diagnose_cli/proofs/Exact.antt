@@ -7,13 +7,13 @@ use Rattle.des_base.specs.Outside.{Took}
 use Rattle.des_base.specs.CommandWords.{word_at}
 use Rattle.proof_ledger.specs.Book.{BookEntry}
 use Rattle.diagnose_cli.specs.declared.command.Command.{Command}
-use Rattle.diagnose_cli.specs.declared.stop.Stop.{Stop}
-use Rattle.diagnose_cli.specs.declared.stop.Stop.TheVariants.{Usage, Load, Faulty, Long, NoFault, Large, Memory}
-use Rattle.diagnose_cli.specs.declared.stop.FaultyText.{FaultyText}
-use Rattle.diagnose_cli.specs.Transcripts.{Ending, Transcript}
-use Rattle.diagnose_cli.specs.Files.{Loads, StopsAt}
-use Rattle.diagnose_cli.specs.Endings.{HasStatus, status_of_stop, text_of_stop, texts_of}
-use Rattle.diagnose_cli.specs.Texts.{FileKind, limit_of, fault_of_text}
+use Rattle.endings.specs.declared.stop.Stop.{Stop}
+use Rattle.endings.specs.declared.stop.Stop.TheVariants.{Usage, Load, Faulty, Long, NoFault, Large, Memory}
+use Rattle.endings.specs.declared.stop.FaultyText.{FaultyText}
+use Rattle.endings.specs.Transcripts.{Ending, Transcript}
+use Rattle.endings.specs.Files.{Loads, StopsAt}
+use Rattle.endings.specs.Endings.{HasStatus, status_of_stop, text_of_stop, texts_of}
+use Rattle.endings.specs.Texts.{FileKind, limit_of, fault_of_text}
 use Rattle.diagnose_cli.specs.Commands.{files_of, command_of}
 use Rattle.diagnose_cli.specs.Due.{halts, Closes, InOrder, Answers}
 use Rattle.diagnose_cli.specs.Exact.{past, first_stop, stop_of_command, StopRow}

@@ -8,9 +8,9 @@ use Rattle.proof_ledger.specs.Book.{BookEntry}
 use Rattle.diagnose_cli.specs.declared.command.Command.{Command}
 use Rattle.diagnose_cli.specs.declared.command.Command.TheVariants.{One}
 use Rattle.diagnose_cli.specs.declared.command.Single.TheVariants.{GenerateModel, GenerateLog}
-use Rattle.diagnose_cli.specs.declared.ending.Kind.{Kind}
-use Rattle.diagnose_cli.specs.Transcripts.{once}
-use Rattle.diagnose_cli.specs.Files.{Loads}
+use Rattle.endings.specs.declared.ending.Kind.{Kind}
+use Rattle.endings.specs.Transcripts.{once}
+use Rattle.endings.specs.Files.{Loads}
 use Rattle.diagnose_cli.specs.Commands.{files_of, command_of}
 use Rattle.diagnose_cli.specs.Replies.{reply_of_model, reply_of_log}
 use Rattle.diagnose_cli.specs.Due.{Answers}

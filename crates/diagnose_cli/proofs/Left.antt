@@ -20,7 +20,7 @@ use Rattle.diagnose_cli.specs.Commands.{command_of}
 use Rattle.diagnose_cli.specs.Outcomes.{Outcome}
 use Rattle.diagnose_cli.specs.Replies.{budget_of}
 use Rattle.diagnose_cli.specs.Rows.{AreTold, Leaves, LeftRow, MayLearn}
-use Rattle.diagnose_cli.specs.Texts.{IsCase}
+use Rattle.diagnose_cli.specs.FirstTwo.{IsCase}
 use Rattle.diagnose_cli.specs.TwinReplies.{LeavesOfWord}
 
 pub told_bytes : (there : Option (List ℕ)) (bytes text : List ℕ) → there ≡ Some text → IfSome there (λ t. t ≡ bytes) → text ≡ bytes

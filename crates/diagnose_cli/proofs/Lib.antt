@@ -1,41 +1,38 @@
-pub mod Earlier
-pub mod Orders
-pub mod Called
-pub mod FailedLoads
-pub mod Exact
-pub mod Reading
-pub mod Answered
-pub mod UsageRows
-pub mod StatusRows
-pub mod StopStatus
-pub mod TwinBooks
-pub mod TwinStatus
-pub mod VerdictStatus
-pub mod CheapStatus
-pub mod Deciding
-pub mod SessionRows
-pub mod Ones
-pub mod Once
-pub mod TraceAnswers
-pub mod ShowAnswers
-pub mod ReplayAnswers
-pub mod CheckAnswers
-pub mod Limits
-pub mod KnownRuns
-pub mod RunLengths
-pub mod MatchedNames
-pub mod RepliesReplay
-pub mod Diagnosing
-pub mod ProofsReadBack
-pub mod ProofAnswers
-pub mod CaseAnswers
-pub mod TwinAnswers
-pub mod CheapAnswers
-pub mod Left
-pub mod GenerateAnswers
-pub mod BenchAnswers
-pub mod Speaking
-pub mod SessionAnswers
-pub mod VerdictAnswers
-pub mod SessionFronts
-pub mod SessionEnds
+mod Orders
+mod Called
+mod FailedLoads
+mod Exact
+mod Answered
+mod UsageRows
+mod StatusRows
+mod StopStatus
+mod TwinBooks
+mod TwinStatus
+mod VerdictStatus
+mod CheapStatus
+mod Deciding
+mod SessionRows
+mod Ones
+mod Once
+mod TraceAnswers
+mod ShowAnswers
+mod ReplayAnswers
+mod CheckAnswers
+mod Limits
+mod KnownRuns
+mod RunLengths
+mod MatchedNames
+mod RepliesReplay
+mod Diagnosing
+mod ProofsReadBack
+mod ProofAnswers
+mod CaseAnswers
+mod TwinAnswers
+mod CheapAnswers
+mod Left
+mod GenerateAnswers
+mod BenchAnswers
+mod SessionAnswers
+mod VerdictAnswers
+mod SessionFronts
+mod SessionEnds

@@ -4,16 +4,16 @@ use Rattle.proof_ledger.specs.Book.{BookEntry}
 use Rattle.diagnose_cli.specs.declared.command.Command.{Command}
 use Rattle.diagnose_cli.specs.declared.command.Command.TheVariants.{One}
 use Rattle.diagnose_cli.specs.declared.command.Single.{Single}
-use Rattle.diagnose_cli.specs.declared.ending.Kind.{Kind}
-use Rattle.diagnose_cli.specs.declared.stop.Stop.{Stop}
-use Rattle.diagnose_cli.specs.declared.stop.Stop.TheVariants.{Faulty, Usage}
-use Rattle.diagnose_cli.specs.declared.stop.FaultyText.{FaultyText}
+use Rattle.endings.specs.declared.ending.Kind.{Kind}
+use Rattle.endings.specs.declared.stop.Stop.{Stop}
+use Rattle.endings.specs.declared.stop.Stop.TheVariants.{Faulty, Usage}
+use Rattle.endings.specs.declared.stop.FaultyText.{FaultyText}
 use Rattle.diagnose_cli.specs.Commands.{command_of, files_of}
 use Rattle.diagnose_cli.specs.Due.{Answers, Closes, Due, InOrder, Says, halts}
-use Rattle.diagnose_cli.specs.Files.{Loads}
+use Rattle.endings.specs.Files.{Loads}
 use Rattle.diagnose_cli.specs.Replies.{MayReply}
-use Rattle.diagnose_cli.specs.Texts.{FileKind, fault_of_text}
-use Rattle.diagnose_cli.specs.Transcripts.{Ending, IsOne, Transcript, UnlessMemory, cut_short, once, whole}
+use Rattle.endings.specs.Texts.{FileKind, fault_of_text}
+use Rattle.endings.specs.Transcripts.{Ending, IsOne, Transcript, UnlessMemory, cut_short, once, whole}
 
 pub is_one : (P : (Kind × List ℕ) → Type 0) (reply : Kind × List ℕ) → P reply → IsOne P (whole reply)
 is_one P reply says = record { reply = reply; says = says; alone = refl; ends = refl }

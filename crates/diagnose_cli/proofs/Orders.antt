@@ -9,16 +9,17 @@ use Rattle.proof_ledger.specs.Book.{BookEntry}
 use Rattle.diagnose_cli.specs.declared.command.Command.{Command}
 use Rattle.diagnose_cli.specs.declared.command.Command.TheVariants.{One}
 use Rattle.diagnose_cli.specs.declared.command.Single.{Single}
-use Rattle.diagnose_cli.specs.declared.ending.Kind.{Kind}
-use Rattle.diagnose_cli.specs.declared.stop.Stop.{Stop}
-use Rattle.diagnose_cli.specs.declared.stop.Stop.TheVariants.{Usage, Faulty, Memory}
-use Rattle.diagnose_cli.specs.declared.stop.FaultyText.{FaultyText}
-use Rattle.diagnose_cli.specs.Transcripts.{Ending, once, UnlessMemory}
-use Rattle.diagnose_cli.specs.Files.{Loads, Holds, IsText, IsReadAs, IsFaultOf, StopsAt, StopsIn}
-use Rattle.diagnose_cli.specs.Texts.{FileKind, model, log, limit_of, fault_of_text, fault_of_model, AreFirstTwo, IsCase, StopsAtFirstTwo}
+use Rattle.endings.specs.declared.ending.Kind.{Kind}
+use Rattle.endings.specs.declared.stop.Stop.{Stop}
+use Rattle.endings.specs.declared.stop.Stop.TheVariants.{Usage, Faulty, Memory}
+use Rattle.endings.specs.declared.stop.FaultyText.{FaultyText}
+use Rattle.endings.specs.Transcripts.{Ending, once, UnlessMemory}
+use Rattle.endings.specs.Files.{Loads, Holds, IsText, IsReadAs, IsFaultOf, StopsAt, StopsIn}
+use Rattle.endings.specs.Texts.{FileKind, model, log, limit_of, fault_of_text, fault_of_model}
+use Rattle.diagnose_cli.specs.FirstTwo.{AreFirstTwo, IsCase, StopsAtFirstTwo}
 use Rattle.diagnose_cli.specs.Commands.{command_of}
 use Rattle.diagnose_cli.specs.Due.{InOrder, Answers, Due}
-use Rattle.diagnose_cli.proofs.Earlier.{stops_earlier}
+use Rattle.endings.proofs.Earlier.{stops_earlier}
 
 module _ (l : Loads) (words : List (List ℕ)) (i : ℕ) (kind : FileKind) (kinds : List FileKind) (files : List (List ℕ)) (closes : List (List ℕ) → Ending → Type 0) where
   -- it may stop at the first of the files

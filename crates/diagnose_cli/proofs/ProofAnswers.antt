@@ -12,8 +12,8 @@ use Rattle.proof_ledger.specs.declared.checker.ProofStep.{ProofStep}
 use Rattle.proof_text.specs.PrintedText.{ReadsBack, steps_text}
 use Rattle.proof_text.specs.ProofNumbers.{NumbersAscend, HasNoZero}
 use Rattle.diagnose_cli.specs.declared.command.Question.TheVariants.{PrintProof}
-use Rattle.diagnose_cli.specs.declared.ending.Kind.{Kind}
-use Rattle.diagnose_cli.specs.declared.ending.Kind.TheVariants.{Nothing as NothingToSay, Undecided as LeftOpen}
+use Rattle.endings.specs.declared.ending.Kind.{Kind}
+use Rattle.endings.specs.declared.ending.Kind.TheVariants.{Nothing as NothingToSay, Undecided as LeftOpen}
 use Rattle.diagnose_cli.specs.Replies.{AnswersTo, SaysProved, TellsBelow, TellsProof, TellsRefutation, kind_of_found, reply_of_found, reply_of_proof}
 use Rattle.diagnose_cli.proofs.Diagnosing.{found_decided}
 use Rattle.diagnose_cli.proofs.ProofsReadBack.{tells_refutation}

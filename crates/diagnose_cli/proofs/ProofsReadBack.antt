@@ -16,7 +16,7 @@ use Rattle.report.proofs.DecimalWords.{decimal_bytes}
 use Rattle.des_net.specs.Network.{Net}
 use Rattle.log_order.specs.Log.{Log as AlarmLog}
 use Rattle.proof_ledger.specs.Book.{BookEntry}
-use Rattle.diagnose_cli.specs.declared.ending.Kind.{Kind}
+use Rattle.endings.specs.declared.ending.Kind.{Kind}
 use Rattle.diagnose_cli.specs.Replies.{TellsRefutation, reply_of_proof}
 use Rattle.inquiries.specs.Formula.{question_formula}
 use Rattle.inquiries.specs.Refuted.{IsRefuted}

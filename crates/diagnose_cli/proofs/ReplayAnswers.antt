@@ -14,11 +14,11 @@ use Rattle.replay.proofs.AcceptLemmas.{accepted_where}
 use Rattle.proof_ledger.specs.Book.{BookEntry}
 use Rattle.diagnose_cli.specs.declared.command.Command.TheVariants.{One}
 use Rattle.diagnose_cli.specs.declared.command.Single.TheVariants.{Replay}
-use Rattle.diagnose_cli.specs.declared.ending.Kind.{Kind}
-use Rattle.diagnose_cli.specs.declared.stop.Stop.{Stop}
-use Rattle.diagnose_cli.specs.Transcripts.{once, whole}
-use Rattle.diagnose_cli.specs.Files.{Loads, IsText, IsReadAs, StopsIn}
-use Rattle.diagnose_cli.specs.Texts.{run, limit_of, fault_of_run}
+use Rattle.endings.specs.declared.ending.Kind.{Kind}
+use Rattle.endings.specs.declared.stop.Stop.{Stop}
+use Rattle.endings.specs.Transcripts.{once, whole}
+use Rattle.endings.specs.Files.{Loads, IsText, IsReadAs, StopsIn}
+use Rattle.endings.specs.Texts.{run, limit_of, fault_of_run}
 use Rattle.diagnose_cli.specs.Replies.{reply_of_replayed}
 use Rattle.diagnose_cli.specs.Due.{Closes, AnswersAfter}
 use Rattle.diagnose_cli.proofs.Ones.{is_one}

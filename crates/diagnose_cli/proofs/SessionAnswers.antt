@@ -13,24 +13,25 @@ use Rattle.diagnose_cli.specs.declared.command.Command.{Command}
 use Rattle.diagnose_cli.specs.declared.command.Command.TheVariants.{Session}
 use Rattle.telling.specs.declared.each.Broken.{Broken}
 use Rattle.telling.specs.declared.each.Broken.TheVariants.{Memory, Put}
-use Rattle.diagnose_cli.specs.declared.ending.Kind.{Kind}
-use Rattle.diagnose_cli.specs.declared.stop.Stop.{Stop}
-use Rattle.diagnose_cli.specs.declared.stop.Stop.TheVariants.{Large, Usage, Memory as NoMemory}
-use Rattle.diagnose_cli.specs.Texts.{IsPlan, StopsAtFirstTwo, script}
+use Rattle.endings.specs.declared.ending.Kind.{Kind}
+use Rattle.endings.specs.declared.stop.Stop.{Stop}
+use Rattle.endings.specs.declared.stop.Stop.TheVariants.{Large, Usage, Memory as NoMemory}
+use Rattle.endings.specs.Texts.{script}
+use Rattle.diagnose_cli.specs.FirstTwo.{IsPlan, StopsAtFirstTwo}
 use Rattle.diagnose_cli.specs.Commands.{command_of}
 use Rattle.diagnose_cli.specs.SessionReplies.{IsSession}
 use Rattle.diagnose_cli.specs.Due.{Answers, Closes, Due, HasNotBegun, above_limit}
-use Rattle.diagnose_cli.specs.Files.{Loads}
-use Rattle.diagnose_cli.specs.Puts.{Finishes, Speaks}
+use Rattle.endings.specs.Files.{Loads}
+use Rattle.endings.specs.Puts.{Finishes, Speaks}
 use Rattle.diagnose_cli.specs.Run.{SaysStop}
 use Rattle.diagnose_cli.specs.Sessions.{MaySay, status_of_session}
-use Rattle.diagnose_cli.specs.Transcripts.{Ending, OrMemory, UnlessMemory, once}
+use Rattle.endings.specs.Transcripts.{Ending, OrMemory, UnlessMemory, once}
 use Rattle.diagnose_cli.proofs.Limits.{within_limit, past_limit}
 use Rattle.telling.specs.Telling.{RisesExactlyIf}
 use Rattle.telling.proofs.Failing.{fails_alike, none_failed}
 use Rattle.telling.proofs.Taking.{nothing_taken}
-use Rattle.diagnose_cli.proofs.Once.{wants_memory}
-use Rattle.diagnose_cli.proofs.Speaking.{put_speaks}
+use Rattle.endings.proofs.Once.{wants_memory}
+use Rattle.endings.proofs.Speaking.{put_speaks}
 use Rattle.diagnose_cli.proofs.Orders.{stops_in_two, with_two}
 use Rattle.diagnose_cli.proofs.StopStatus.{between}
 

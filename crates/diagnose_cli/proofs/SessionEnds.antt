@@ -7,14 +7,14 @@ use Rattle.proof_ledger.specs.Book.{BookEntry}
 use Rattle.telling.specs.Telling.{BreaksOff, ComesTo as TellsTo, EachGoes, IsCutShort, Tells}
 use Rattle.telling.specs.declared.each.Broken.{Broken}
 use Rattle.telling.specs.declared.each.Broken.TheVariants.{Memory, Put}
-use Rattle.diagnose_cli.specs.declared.ending.Kind.TheVariants.{Done}
+use Rattle.endings.specs.declared.ending.Kind.TheVariants.{Done}
 use Rattle.diagnose_cli.specs.declared.session_rows.Plan.{Plan}
-use Rattle.diagnose_cli.specs.Puts.{Speaks}
+use Rattle.endings.specs.Puts.{Speaks}
 use Rattle.diagnose_cli.specs.SessionReplies.{ComesTo, EndsSession, HasReplies, IsBroken, IsCut, IsRowReplied, IsUntold}
 use Rattle.diagnose_cli.specs.Sessions.{IsCarriedOut, MaySay, RowIsUntold, RowTells, status_of_session}
-use Rattle.diagnose_cli.specs.Transcripts.{End, said, cut, broken}
+use Rattle.endings.specs.Transcripts.{End, said, cut, broken}
 use Rattle.diagnose_cli.proofs.SessionFronts.{nothing_replied, replied_more, row_replied, rows_told}
-use Rattle.diagnose_cli.proofs.Speaking.{speaks_broken, speaks_cut, speaks_said}
+use Rattle.endings.proofs.Speaking.{speaks_broken, speaks_cut, speaks_said}
 
 module _ {S : Type 0} (plan : S → Plan) (stage : S → Stage) (s : S) (rows : List Row) (t : S) (begins : stage s ≡ first_stage (plan s).net (plan s).limits.steps) (asks : IsSessionBook (plan s).net (plan s).limits.steps (stage s)) where
   -- the rows so far, from the beginning on

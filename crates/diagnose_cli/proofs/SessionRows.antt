@@ -7,13 +7,13 @@ use Rattle.log_csv.specs.ScriptText.{script_of}
 use Rattle.log_csv.specs.declared.row.Row.{Row}
 use Rattle.model_text.specs.ModelFaults.{network_of}
 use Rattle.diagnose_cli.specs.declared.command.Command.TheVariants.{Session}
-use Rattle.diagnose_cli.specs.declared.ending.Kind.{Kind}
+use Rattle.endings.specs.declared.ending.Kind.{Kind}
 use Rattle.diagnose_cli.specs.SessionReplies.{EndsSession, IsSession}
-use Rattle.diagnose_cli.specs.Endings.{HasStatus, status_of_end, status_of_kind, texts_of}
+use Rattle.endings.specs.Endings.{HasStatus, status_of_end, status_of_kind, texts_of}
 use Rattle.diagnose_cli.specs.Outcomes.{Outcome, IsPut, IsUnbroken}
 use Rattle.diagnose_cli.specs.Rows.{Reads, TellsSession}
 use Rattle.diagnose_cli.specs.Run.{Ends}
-use Rattle.diagnose_cli.specs.Transcripts.{End, said, cut, broken, Ending}
+use Rattle.endings.specs.Transcripts.{End, said, cut, broken, Ending}
 use Rattle.diagnose_cli.proofs.Answered.{said_in_all}
 
 -- by its status it is finished

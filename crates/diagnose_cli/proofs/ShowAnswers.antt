@@ -7,15 +7,15 @@ use Rattle.model_text.proofs.ReadBackLemmas.{read_and_printed}
 use Rattle.proof_ledger.specs.Book.{BookEntry}
 use Rattle.diagnose_cli.specs.declared.command.Command.TheVariants.{One}
 use Rattle.diagnose_cli.specs.declared.command.Single.TheVariants.{Show}
-use Rattle.diagnose_cli.specs.declared.ending.Kind.{Kind}
-use Rattle.diagnose_cli.specs.Transcripts.{once, whole}
-use Rattle.diagnose_cli.specs.Files.{Loads, IsReadAs}
-use Rattle.diagnose_cli.specs.Texts.{fault_of_model, limit_of, model}
+use Rattle.endings.specs.declared.ending.Kind.{Kind}
+use Rattle.endings.specs.Transcripts.{once, whole}
+use Rattle.endings.specs.Files.{Loads, IsReadAs}
+use Rattle.endings.specs.Texts.{fault_of_model, limit_of, model}
 use Rattle.diagnose_cli.specs.Replies.{reply_of_model}
 use Rattle.diagnose_cli.specs.Due.{Answers, Closes}
 use Rattle.diagnose_cli.proofs.Ones.{is_one}
 use Rattle.diagnose_cli.proofs.Orders.{goes_on}
-use Rattle.diagnose_cli.proofs.Reading.{none_before}
+use Rattle.endings.proofs.Reading.{none_before}
 
 -- it says the network of the model
 pub shown : (l : Loads) (words : List (List ℕ)) (book : List BookEntry) (net : Net) (reply : Kind × List ℕ) → IsReadAs l.held (word_at words 1) (limit_of model) fault_of_model (λ text. net ≡ network_of text)

@@ -24,9 +24,9 @@ use Rattle.diagnose_cli.specs.declared.command.Command.TheVariants.{One}
 use Rattle.diagnose_cli.specs.declared.command.Question.{Question}
 use Rattle.diagnose_cli.specs.declared.command.Question.TheVariants.{Diagnose}
 use Rattle.diagnose_cli.specs.declared.command.Single.TheVariants.{Check, Ask}
-use Rattle.diagnose_cli.specs.declared.ending.Kind.{Kind}
-use Rattle.diagnose_cli.specs.declared.ending.Kind.TheVariants.{Done, Rejected, Absent as NoneThere, Undecided as LeftOpen, Many as TooMany, Nothing, Ambiguous}
-use Rattle.diagnose_cli.specs.Endings.{status_of_kind}
+use Rattle.endings.specs.declared.ending.Kind.{Kind}
+use Rattle.endings.specs.declared.ending.Kind.TheVariants.{Done, Rejected, Absent as NoneThere, Undecided as LeftOpen, Many as TooMany, Nothing, Ambiguous}
+use Rattle.endings.specs.Endings.{status_of_kind}
 use Rattle.inquiries.specs.Diagnosed.{IsDiagnosed}
 use Rattle.diagnose_cli.specs.Replies.{kind_of_found, reply_of_checked, AnswersQuestion, AnswersTo, HasEnough, MayReply, SaysFound}
 use Rattle.diagnose_cli.specs.Outcomes.{Outcome, Tells}

@@ -27,14 +27,14 @@ use Rattle.twin_test.specs.declared.answer.Twin.{Twin as TwinAnswer}
 use Rattle.twin_test.specs.declared.answer.Twin.TheVariants.{Ambiguous, Clear, Undecided}
 use Rattle.diagnose_cli.specs.declared.command.Command.TheVariants.{One}
 use Rattle.diagnose_cli.specs.declared.command.Single.TheVariants.{Twin}
-use Rattle.diagnose_cli.specs.declared.ending.Kind.{Kind}
-use Rattle.diagnose_cli.specs.declared.stop.FaultyText.{FaultyText}
-use Rattle.diagnose_cli.specs.declared.stop.Stop.TheVariants.{NoFault, Large}
+use Rattle.endings.specs.declared.ending.Kind.{Kind}
+use Rattle.endings.specs.declared.stop.FaultyText.{FaultyText}
+use Rattle.endings.specs.declared.stop.Stop.TheVariants.{NoFault, Large}
 use Rattle.diagnose_cli.specs.Due.{Closes, above_limit, stop_by}
-use Rattle.diagnose_cli.specs.Files.{IsReadAs}
+use Rattle.endings.specs.Files.{IsReadAs}
 use Rattle.diagnose_cli.specs.Replies.{MayReply}
 use Rattle.diagnose_cli.specs.Rows.{AreTold}
-use Rattle.diagnose_cli.specs.Transcripts.{Ending, Transcript, IsOne, once}
+use Rattle.endings.specs.Transcripts.{Ending, Transcript, IsOne, once}
 use Rattle.diagnose_cli.specs.TwinReplies.{LeavesOfWord, SaysOfWord, SaysTwin, TwinRunsReadBack}
 use Rattle.diagnose_cli.proofs.Left.{told_bytes}
 use Rattle.diagnose_cli.proofs.Limits.{within_limit, past_limit}

@@ -15,8 +15,8 @@ use Rattle.twin_test.specs.declared.answer.Twin.{Twin as TwinAnswer}
 use Rattle.twin_test.specs.declared.answer.Twin.TheVariants.{Ambiguous, Clear, Undecided}
 use Rattle.diagnose_cli.specs.declared.command.Command.TheVariants.{One}
 use Rattle.diagnose_cli.specs.declared.command.Single.TheVariants.{Twin}
-use Rattle.diagnose_cli.specs.declared.ending.Kind.{Kind}
-use Rattle.diagnose_cli.specs.Endings.{status_of_kind}
+use Rattle.endings.specs.declared.ending.Kind.{Kind}
+use Rattle.endings.specs.Endings.{status_of_kind}
 use Rattle.diagnose_cli.specs.Outcomes.{Outcome, Tells}
 use Rattle.diagnose_cli.specs.Replies.{MayReply}
 use Rattle.diagnose_cli.specs.Rows.{AreTold, Asks}

@@ -16,22 +16,24 @@ use Rattle.verdict_telling.specs.Whole.{TellsWhole}
 use Rattle.verdict_telling.specs.declared.whole.Told.{Told}
 use Rattle.verdict_telling.specs.declared.whole.Told.TheVariants.{Judged, NotExplained, TooMany, NotDecided}
 use Rattle.diagnose_cli.specs.declared.command.Command.TheVariants.{Verdicts}
-use Rattle.diagnose_cli.specs.declared.ending.Kind.{Kind}
-use Rattle.diagnose_cli.specs.declared.stop.Stop.{Stop}
-use Rattle.diagnose_cli.specs.declared.stop.Stop.TheVariants.{Large, Memory as NoMemory}
+use Rattle.endings.specs.declared.ending.Kind.{Kind}
+use Rattle.endings.specs.declared.stop.Stop.{Stop}
+use Rattle.endings.specs.declared.stop.Stop.TheVariants.{Large, Memory as NoMemory}
 use Rattle.diagnose_cli.specs.Commands.{command_of}
 use Rattle.diagnose_cli.specs.Due.{Closes, Due, HasNotBegun, above_limit}
-use Rattle.diagnose_cli.specs.Files.{Loads}
-use Rattle.diagnose_cli.specs.Puts.{Speaks}
+use Rattle.endings.specs.Files.{Loads}
+use Rattle.endings.specs.Puts.{Speaks}
 use Rattle.diagnose_cli.specs.Run.{SaysStop}
-use Rattle.diagnose_cli.specs.Texts.{IsCase, StopsAtFirstTwo, log}
-use Rattle.diagnose_cli.specs.Transcripts.{Ending, UnlessMemory, once}
+use Rattle.endings.specs.Texts.{log}
+use Rattle.diagnose_cli.specs.FirstTwo.{IsCase, StopsAtFirstTwo}
+use Rattle.endings.specs.Transcripts.{Ending, UnlessMemory, once}
 use Rattle.diagnose_cli.specs.VerdictReplies.{MayTell, kind_of_told, status_of_told}
 use Rattle.diagnose_cli.proofs.Limits.{within_limit, past_limit}
-use Rattle.diagnose_cli.proofs.Once.{no_session, wants_memory}
+use Rattle.diagnose_cli.proofs.Once.{no_session}
+use Rattle.endings.proofs.Once.{wants_memory}
 use Rattle.diagnose_cli.proofs.Orders.{stops_in_two, with_two}
 use Rattle.diagnose_cli.proofs.SessionAnswers.{due_for, speaks_weaker}
-use Rattle.diagnose_cli.proofs.Speaking.{put_speaks, speaks_broken, speaks_cut, speaks_said}
+use Rattle.endings.proofs.Speaking.{put_speaks, speaks_broken, speaks_cut, speaks_said}
 use Rattle.diagnose_cli.proofs.StopStatus.{between}
 
 -- ---- by how telling ends

@@ -20,11 +20,11 @@ use Rattle.verdict_telling.specs.Whole.{told_of}
 use Rattle.verdict_telling.specs.declared.whole.Told.TheVariants.{Judged}
 use Rattle.diagnose_cli.specs.declared.command.Command.TheVariants.{Verdicts}
 use Rattle.diagnose_cli.specs.Due.{Says}
-use Rattle.diagnose_cli.specs.Endings.{HasStatus, status_of_end, status_of_kind, texts_of}
+use Rattle.endings.specs.Endings.{HasStatus, status_of_end, status_of_kind, texts_of}
 use Rattle.diagnose_cli.specs.Outcomes.{Outcome, IsPut, IsUnbroken}
 use Rattle.diagnose_cli.specs.Rows.{AreTold, Asks, Reads}
 use Rattle.diagnose_cli.specs.Run.{Ends}
-use Rattle.diagnose_cli.specs.Transcripts.{End, Ending, Transcript, said, cut, broken}
+use Rattle.endings.specs.Transcripts.{End, Ending, Transcript, said, cut, broken}
 use Rattle.diagnose_cli.specs.VerdictReplies.{EndsVerdicts, IsVerdicts, MayTell, kind_of_told}
 use Rattle.diagnose_cli.specs.VerdictRows.{IsAnswerStatus, TellsInAll}
 use Rattle.diagnose_cli.proofs.Answered.{AreHeld, IsStopStatus, said_in_all, same_text, told_over}

@@ -8,8 +8,8 @@ use Rattle.log_order.specs.Log.{Log as AlarmLog}
 use Rattle.proof_ledger.specs.Book.{BookEntry}
 use Rattle.report.specs.ReadBack.{IsRunText}
 use Rattle.report.specs.Replies.{cheap_run, text_of_cheap, text_of_run}
-use Rattle.diagnose_cli.specs.declared.ending.Kind.{Kind}
-use Rattle.diagnose_cli.specs.declared.ending.Kind.TheVariants.{Done, Absent, Undecided, Many}
+use Rattle.endings.specs.declared.ending.Kind.{Kind}
+use Rattle.endings.specs.declared.ending.Kind.TheVariants.{Done, Absent, Undecided, Many}
 
 -- a least total is the yes of `cheapest`; where all totals are above 1,000 there are too many costs
 abbrev pub kind_of_cheap : Cheap → Kind

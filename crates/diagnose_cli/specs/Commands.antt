@@ -10,7 +10,7 @@ use Rattle.diagnose_cli.specs.declared.command.Command.TheVariants.{One, Session
 use Rattle.diagnose_cli.specs.declared.command.Question.{Question}
 use Rattle.diagnose_cli.specs.declared.command.Question.TheVariants.{Diagnose, PrintCnf, PrintProof}
 use Rattle.diagnose_cli.specs.declared.command.Single.TheVariants.{Trace, Show, Replay, Check, Ask, GenerateModel, GenerateLog, Bench, Twin, Cheapest}
-use Rattle.diagnose_cli.specs.Texts.{FileKind, model, log, script, run, cnf, lrat, costs}
+use Rattle.endings.specs.Texts.{FileKind, model, log, script, run, cnf, lrat, costs}
 
 -- this many words, of which the first is the name
 abbrev pub calls : List (List ℕ) → List ℕ → ℕ → Bool
@@ -77,8 +77,8 @@ question_named name last =
     else None
 
 -- the question that the words ask: the name, the words of model, log and steps, and a last one
-abbrev pub question_of : List (List ℕ) → Option Question
-question_of words = if nat_eq (length words) 5 then question_named (word_at words 0) (word_at words 4) else None
+abbrev pub asked_by : List (List ℕ) → Option Command
+asked_by words = if nat_eq (length words) 5 then option_and_then (λ question. ask_of (word_at words 3) question) (question_named (word_at words 0) (word_at words 4)) else None
 
 -- the command that the words call, if it is no such question
 abbrev pub other_of : List (List ℕ) → Option Command
@@ -97,7 +97,7 @@ other_of words =
 
 -- the command that the words call, if they call one
 abbrev pub command_of : List (List ℕ) → Option Command
-command_of words = option_map_or (λ question. ask_of (word_at words 3) question) (question_of words) (other_of words)
+command_of words = option_map_or (λ command. Some command) (asked_by words) (other_of words)
 
 -- a question is asked for no more steps than that, and a twin question for no more to be seen
 abbrev pub HasFewSteps : Command → Type 0

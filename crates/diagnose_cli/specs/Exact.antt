@@ -3,11 +3,11 @@ use Rattle.std.specs.Prelude.{◌≡◌, ℕ, ◌+◌, List, [], ◌∷◌, ◌+
 use Rattle.des_base.specs.Outside.{Took}
 use Rattle.des_base.specs.CommandWords.{word_at}
 use Rattle.diagnose_cli.specs.declared.command.Command.{Command}
-use Rattle.diagnose_cli.specs.declared.stop.Stop.{Stop}
-use Rattle.diagnose_cli.specs.declared.stop.Stop.TheVariants.{Usage, Faulty, Long}
-use Rattle.diagnose_cli.specs.declared.stop.FaultyText.{FaultyText}
-use Rattle.diagnose_cli.specs.Endings.{status_of_stop, text_of_stop}
-use Rattle.diagnose_cli.specs.Texts.{FileKind, limit_of, fault_of_text}
+use Rattle.endings.specs.declared.stop.Stop.{Stop}
+use Rattle.endings.specs.declared.stop.Stop.TheVariants.{Usage, Faulty, Long}
+use Rattle.endings.specs.declared.stop.FaultyText.{FaultyText}
+use Rattle.endings.specs.Endings.{status_of_stop, text_of_stop}
+use Rattle.endings.specs.Texts.{FileKind, limit_of, fault_of_text}
 use Rattle.diagnose_cli.specs.Commands.{files_of, command_of}
 use Rattle.diagnose_cli.specs.Due.{halts}
 use Rattle.diagnose_cli.specs.Outcomes.{Outcome}

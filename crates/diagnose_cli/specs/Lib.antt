@@ -1,9 +1,5 @@
-pub mod Transcripts
-pub mod Endings
-pub mod Refusals
-pub mod Files
+pub mod FirstTwo
 pub mod ProofText
-pub mod Texts
 pub mod Commands
 pub mod TwinReplies
 pub mod CheapReplies
@@ -14,7 +10,6 @@ pub mod Due
 pub mod Deciding
 pub mod Outcomes
 pub mod Exact
-pub mod Puts
 pub mod Sessions
 pub mod Rows
 pub mod Asking

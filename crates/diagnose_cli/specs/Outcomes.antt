@@ -2,9 +2,9 @@
 use Rattle.std.specs.Prelude.{◌≡◌, ◌≢◌, ℕ, List, Option}
 use Rattle.des_base.specs.Outside.{Took}
 use Rattle.proof_ledger.specs.Book.{BookEntry}
-use Rattle.diagnose_cli.specs.declared.ending.Kind.{Kind}
-use Rattle.diagnose_cli.specs.Endings.{status_of_kind}
-use Rattle.diagnose_cli.specs.Files.{Loads}
+use Rattle.endings.specs.declared.ending.Kind.{Kind}
+use Rattle.endings.specs.Endings.{status_of_kind}
+use Rattle.endings.specs.Files.{Loads}
 
 -- the words, what the shelf holds and its counts of faults, what the sink had taken before and has taken now, the book that is left, and the status
 pub record Outcome : Type 0 where

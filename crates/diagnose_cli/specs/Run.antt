@@ -2,7 +2,7 @@
 use Rattle.std.specs.Prelude.{◌≡◌, ◌≢◌, ◌⊎◌, ℕ, List, [], ◌≤◌, codes, None, IfSome, IsSomeAnd, Bool, true, false}
 use Rattle.des_base.specs.Outside.{Rose, Took}
 use Rattle.des_base.specs.CommandWords.{word_at}
-use Rattle.report.specs.Replies.{numbered}
+use Rattle.telling.specs.Lines.{numbered}
 use Rattle.diagnose_cli.specs.declared.command.Command.{Command}
 use Rattle.diagnose_cli.specs.declared.command.Command.TheVariants.{One, Session, Verdicts}
 use Rattle.diagnose_cli.specs.declared.command.Single.TheVariants.{Ask, Bench, Twin, Cheapest}
@@ -11,7 +11,7 @@ use Rattle.diagnose_cli.specs.Due.{Due, MayCome}
 use Rattle.diagnose_cli.specs.Outcomes.{Outcome, IsUnbroken}
 use Rattle.diagnose_cli.specs.Deciding.{DecidedRow}
 use Rattle.diagnose_cli.specs.Exact.{StopRow}
-use Rattle.diagnose_cli.specs.Puts.{Finishes, IsCutOff}
+use Rattle.endings.specs.Puts.{Finishes, IsCutOff}
 use Rattle.diagnose_cli.specs.Rows.{TraceRow, ShowRow, ReplayRow, CheckRows, AskedRow, GenerateRows, BenchRow, DiagnoseRows, SessionRow}
 use Rattle.diagnose_cli.specs.TwinRows.{TwinRows}
 use Rattle.diagnose_cli.specs.VerdictRows.{VerdictRows}

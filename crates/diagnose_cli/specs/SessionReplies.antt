@@ -13,8 +13,8 @@ use Rattle.log_csv.specs.declared.row.Row.{Row}
 use Rattle.proof_ledger.specs.Book.{BookEntry}
 use Rattle.replay.specs.QuestionSize.{variable_bound}
 use Rattle.report.specs.Replies.{text_of_found, text_of_refused}
-use Rattle.diagnose_cli.specs.declared.ending.Kind.TheVariants.{Done}
-use Rattle.diagnose_cli.specs.Transcripts.{End, said, cut, broken, Transcript}
+use Rattle.endings.specs.declared.ending.Kind.TheVariants.{Done}
+use Rattle.endings.specs.Transcripts.{End, said, cut, broken, Transcript}
 use Rattle.diagnose_cli.specs.Replies.{RunReplays}
 
 -- the replies to a row that told this: none where an addition was made

@@ -15,7 +15,7 @@ use Rattle.telling.specs.declared.each.Broken.{Broken}
 use Rattle.telling.specs.declared.each.Broken.TheVariants.{Memory, Put}
 use Rattle.diagnose_cli.specs.declared.session_rows.Plan.{Plan}
 use Rattle.diagnose_cli.specs.SessionReplies.{IsSession, IsUntold, TellsReplaying, replies_to}
-use Rattle.diagnose_cli.specs.Transcripts.{Ending}
+use Rattle.endings.specs.Transcripts.{Ending}
 
 -- ---- one row
 

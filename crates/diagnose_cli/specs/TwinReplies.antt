@@ -8,8 +8,8 @@ use Rattle.report.specs.ReadBack.{IsRunText}
 use Rattle.twin_test.specs.Tested.{IsTested, LeavesTwins}
 use Rattle.twin_test.specs.declared.answer.Twin.{Twin as TwinAnswer}
 use Rattle.twin_test.specs.declared.answer.Twin.TheVariants.{Ambiguous as AlikeRuns, Clear, Undecided as NotTested}
-use Rattle.diagnose_cli.specs.declared.ending.Kind.{Kind}
-use Rattle.diagnose_cli.specs.declared.ending.Kind.TheVariants.{Done, Undecided, Ambiguous}
+use Rattle.endings.specs.declared.ending.Kind.{Kind}
+use Rattle.endings.specs.declared.ending.Kind.TheVariants.{Done, Undecided, Ambiguous}
 
 -- two runs that look alike have a kind of their own; that there are none is the yes of `twin`
 abbrev pub kind_of_twin : TwinAnswer → Kind

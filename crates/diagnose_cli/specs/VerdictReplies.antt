@@ -11,10 +11,10 @@ use Rattle.telling.specs.declared.each.Broken.TheVariants.{Memory, Put}
 use Rattle.verdict_telling.specs.Whole.{HaveReplies, events_behind, told_of}
 use Rattle.verdict_telling.specs.declared.whole.Told.{Told}
 use Rattle.verdict_telling.specs.declared.whole.Told.TheVariants.{Judged, NotExplained, TooMany, NotDecided}
-use Rattle.diagnose_cli.specs.declared.ending.Kind.{Kind}
-use Rattle.diagnose_cli.specs.declared.ending.Kind.TheVariants.{Done, Absent, Undecided, Many}
-use Rattle.diagnose_cli.specs.Endings.{status_of_kind}
-use Rattle.diagnose_cli.specs.Transcripts.{End, Ending, Transcript, said, cut, broken}
+use Rattle.endings.specs.declared.ending.Kind.{Kind}
+use Rattle.endings.specs.declared.ending.Kind.TheVariants.{Done, Absent, Undecided, Many}
+use Rattle.endings.specs.Endings.{status_of_kind}
+use Rattle.endings.specs.Transcripts.{End, Ending, Transcript, said, cut, broken}
 
 -- what is told in all has the kind of the reply about the log, but where some event is left open
 abbrev pub kind_of_told : Told → Kind

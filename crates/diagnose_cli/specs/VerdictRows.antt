@@ -12,7 +12,7 @@ use Rattle.replay.specs.Explanation.{IsAbsent, IsMany}
 use Rattle.verdict_telling.specs.Deciding.{IsSmallFor}
 use Rattle.verdict_telling.specs.Whole.{HaveReplies, events_behind, told_of}
 use Rattle.diagnose_cli.specs.declared.command.Command.TheVariants.{Verdicts}
-use Rattle.diagnose_cli.specs.Endings.{status_of_kind}
+use Rattle.endings.specs.Endings.{status_of_kind}
 use Rattle.diagnose_cli.specs.Outcomes.{Outcome, IsUnbroken}
 use Rattle.diagnose_cli.specs.Rows.{Asks, Reads}
 use Rattle.diagnose_cli.specs.VerdictReplies.{kind_of_told}

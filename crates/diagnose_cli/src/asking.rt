@@ -3,20 +3,19 @@ ghost use Rattle.std.specs.Prelude.{◌≡◌, ◌≢◌, ◌<◌, ◌≤◌, �
 ghost use Rattle.des_base.specs.declared.TheConstants.{MOST_STEPS};
 ghost use Rattle.diagnose_cli.specs.Asking.{IsAsked};
 ghost use Rattle.diagnose_cli.specs.Due.{Closes};
-ghost use Rattle.diagnose_cli.specs.Files.{loads};
+ghost use Rattle.endings.specs.Files.{loads};
 ghost use Rattle.diagnose_cli.specs.Replies.{AnswersTo, budget_of};
 ghost use Rattle.diagnose_cli.specs.Rows.{MayLearn};
-ghost use Rattle.diagnose_cli.specs.Transcripts.{UnlessMemory, once};
+ghost use Rattle.endings.specs.Transcripts.{UnlessMemory, once};
 ghost use Rattle.inquiries.specs.Begun.{LeavesQuestion};
 ghost use Rattle.least_faults.specs.Parts.{IsWithinLimits};
 ghost use Rattle.log_csv.specs.LogText.{log_of};
 ghost use Rattle.model_text.specs.ModelFaults.{network_of};
 
 use crate::command::{Command, Question, Single};
-use crate::ending::Reply;
 use crate::files::fetch_case;
-use crate::stop::Stop;
 use des_base::{Memory, Shelf, WordList};
+use endings::{Reply, Stop};
 use inquiries::{Case, FormulaWithin, Inquiry, LeastFaults, Refutation, pose};
 use least_faults::MOST_SIZE;
 use proof_ledger::Ledger;

@@ -2,19 +2,18 @@
 ghost use Rattle.std.specs.Prelude.{◌≡◌, ◌≢◌, ◌≤◌, ◌==◌, ◌++◌, ℕ, List, [], IfErr, IfOk, codes, length, string_bytes};
 ghost use Rattle.std.specs.List.{position_or_len};
 ghost use Rattle.gen_plant.specs.Plant.{most_units, plant_net, plant_log};
-ghost use Rattle.report.specs.Replies.{numbered};
+ghost use Rattle.telling.specs.Lines.{numbered};
 ghost use Rattle.des_base.specs.declared.TheConstants.{MOST_STEPS};
-ghost use Rattle.diagnose_cli.specs.Files.{Loads};
-ghost use Rattle.diagnose_cli.specs.Transcripts.{UnlessMemory, once};
+ghost use Rattle.endings.specs.Files.{Loads};
+ghost use Rattle.endings.specs.Transcripts.{UnlessMemory, once};
 ghost use Rattle.diagnose_cli.specs.Replies.{first_line};
 ghost use Rattle.diagnose_cli.specs.Due.{Answers, Closes};
 ghost use Rattle.inquiries.specs.Begun.{HasLearntWithin, LeavesQuestion};
 
 use crate::asking::reply_to;
 use crate::command::{Command, Limits, Single};
-use crate::ending::Reply;
-use crate::stop::Stop;
 use des_base::Memory;
+use endings::{Reply, Stop};
 use gen_plant::generate;
 use inquiries::{Case, LeastFaults};
 use least_faults::MOST_SIZE;

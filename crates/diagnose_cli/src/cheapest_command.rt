@@ -3,9 +3,9 @@ ghost use Rattle.std.specs.Prelude.{◌≡◌, ◌≢◌, ◌<◌, ◌≤◌, �
 ghost use Rattle.des_base.specs.declared.TheConstants.{MOST_STEPS};
 ghost use Rattle.diagnose_cli.specs.CheapReplies.{SaysCheap, kind_of_cheap, reply_of_cheap};
 ghost use Rattle.diagnose_cli.specs.Due.{Answers, AnswersAfter, Closes};
-ghost use Rattle.diagnose_cli.specs.Files.{loads};
+ghost use Rattle.endings.specs.Files.{loads};
 ghost use Rattle.diagnose_cli.specs.Rows.{AreTold};
-ghost use Rattle.diagnose_cli.specs.Transcripts.{UnlessMemory, once};
+ghost use Rattle.endings.specs.Transcripts.{UnlessMemory, once};
 ghost use Rattle.event_costs.specs.CostText.{IsTableOf, cost_of};
 ghost use Rattle.event_costs.specs.Prices.{cost_at};
 ghost use Rattle.inquiries.specs.LeastCost.{IsPricedBy, IsWithinCosts, LeavesCosts};
@@ -14,12 +14,11 @@ ghost use Rattle.model_text.specs.ModelFaults.{network_of};
 ghost use Rattle.report.specs.Replies.{CheapEventsKnown};
 
 use crate::command::{Command, Limits, Single};
-use crate::ending::{Kind, Reply};
-use crate::files::{fetch_case, fetch_costs};
-use crate::stop::Stop;
+use crate::files::fetch_case;
 use cost_least::{Cheap, cost_size};
 use des_base::{Memory, Shelf, WordList};
 use des_net::Network;
+use endings::{Kind, Reply, Stop, fetch_costs};
 use event_costs::CostTable;
 use inquiries::{Case, least_cost};
 use least_faults::MOST_SIZE;

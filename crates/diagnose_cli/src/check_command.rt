@@ -3,16 +3,14 @@ ghost use Rattle.std.specs.Prelude.{◌≡◌, ◌<◌, ◌≤◌, ℕ, List, []
 ghost use Rattle.proof_ledger.specs.Book.{BookEntry};
 ghost use Rattle.proof_ledger.specs.Checking.{check_proof};
 ghost use Rattle.proof_text.specs.CnfText.{formula, formula_of};
-ghost use Rattle.diagnose_cli.specs.Files.{loads};
-ghost use Rattle.diagnose_cli.specs.Transcripts.{UnlessMemory, once};
+ghost use Rattle.endings.specs.Files.{loads};
+ghost use Rattle.endings.specs.Transcripts.{UnlessMemory, once};
 ghost use Rattle.diagnose_cli.specs.Replies.{kind_of_checked, reply_of_checked};
 ghost use Rattle.diagnose_cli.specs.Due.{Answers, AnswersAfter};
 
 use crate::command::{Command, Single};
-use crate::ending::{Kind, Reply};
-use crate::files::{fetch_cnf, fetch_lrat};
-use crate::stop::Stop;
 use des_base::{Memory, Shelf, WordList};
+use endings::{Kind, Reply, Stop, fetch_cnf, fetch_lrat};
 use proof_ledger::{Checked, check};
 use proof_text::{Cnf, Proof};
 use report::print_checked;

@@ -5,8 +5,8 @@ ghost use Rattle.proof_text.specs.CnfText.{formula};
 ghost use Rattle.prop_core.specs.Clauses.{HasValues};
 
 use crate::asking::Replying;
-use crate::ending::{Kind, Reply};
 use des_base::Memory;
+use endings::{Kind, Reply};
 use inquiries::{Case, FormulaWithin};
 use proof_ledger::Ledger;
 use proof_text::{Cnf, print_cnf};

@@ -1,6 +1,6 @@
 // The commands, and which one the words of a command line call.
-ghost use Rattle.std.specs.Prelude.{◌≡◌, ◌<◌, length, IfSome};
-ghost use Rattle.diagnose_cli.specs.Commands.{ask_of, bench_of, bound_of, calls, command_of, generate_of, limits_of, other_of, question_named, question_of, twin_of, units_of};
+ghost use Rattle.std.specs.Prelude.{◌≡◌, ◌<◌};
+ghost use Rattle.diagnose_cli.specs.Commands.{ask_of, asked_by, bench_of, bound_of, calls, command_of, generate_of, limits_of, other_of, question_named, twin_of, units_of};
 
 use des_base::{WordList, read_number};
 
@@ -104,22 +104,21 @@ fn is_call(words: &WordList, name: &str, count: usize) -> bool
 pub fn command_of(words: &WordList) -> Option<Command>
     ensures { result ≡ command_of words.now }
 {
-    match question_of(words) {
-        Some(question) => ask_of(words.word(3), question),
+    match asked_by(words) {
+        Some(command) => Some(command),
         None => other_of(words),
     }
 }
 
-// The question that the words ask about a model and a log.
-fn question_of(words: &WordList) -> Option<Question>
-    ensures question { result ≡ question_of words.now }
-    ensures five { IfSome result (λ _. length words.now ≡ 5) }
+// The question about a model and a log that the words ask.
+fn asked_by(words: &WordList) -> Option<Command>
+    ensures { result ≡ asked_by words.now }
 {
-    if words.len() == 5 {
-        question_named(words.word(0), words.word(4))
-    } else {
-        None
+    if words.len() != 5 {
+        return None;
     }
+    let question = question_named(words.word(0), words.word(4))?;
+    ask_of(words.word(3), question)
 }
 
 // The question of this name, by the last word.

@@ -2,16 +2,15 @@
 ghost use Rattle.std.specs.Prelude.{◌≡◌, ◌≤◌, ℕ, List, IfOk};
 ghost use Rattle.gen_plant.specs.Plant.{most_units, plant_net, plant_log};
 ghost use Rattle.proof_ledger.specs.Book.{BookEntry};
-ghost use Rattle.diagnose_cli.specs.Files.{Loads};
-ghost use Rattle.diagnose_cli.specs.Transcripts.{UnlessMemory, once};
+ghost use Rattle.endings.specs.Files.{Loads};
+ghost use Rattle.endings.specs.Transcripts.{UnlessMemory, once};
 ghost use Rattle.diagnose_cli.specs.Replies.{reply_of_log};
 ghost use Rattle.diagnose_cli.specs.Due.{Answers};
 
 use crate::command::{Command, Single};
-use crate::ending::{Kind, Reply};
 use crate::show_command::reply_of_model;
-use crate::stop::Stop;
 use des_base::Memory;
+use endings::{Kind, Reply, Stop};
 use gen_plant::generate;
 use log_csv::print_log;
 use log_order::AlarmLog;

@@ -7,8 +7,8 @@ ghost use Rattle.proof_text.specs.ProofNumbers.{NumbersAscend, HasNoZero};
 
 use crate::asking::Replying;
 use crate::diagnose_command::reply_of_found;
-use crate::ending::{Kind, Reply};
 use des_base::{Memory, push_decimal};
+use endings::{Kind, Reply};
 use inquiries::{Case, Refutation, Refuted};
 use proof_ledger::Ledger;
 use proof_text::{Proof, print_lrat};

@@ -3,14 +3,14 @@ ghost use Rattle.std.specs.Prelude.{◌≡◌, ◌≢◌, ◌<◌, ℕ, List, []
 ghost use Rattle.des_base.specs.Outside.{Rose};
 ghost use Rattle.diagnose_cli.specs.Commands.{IsWithinBounds, files_of, read_words};
 ghost use Rattle.diagnose_cli.specs.Due.{Answers};
-ghost use Rattle.diagnose_cli.specs.Files.{loads};
+ghost use Rattle.endings.specs.Files.{loads};
 ghost use Rattle.diagnose_cli.specs.Outcomes.{outcome};
 ghost use Rattle.diagnose_cli.specs.Rows.{TraceRow, ShowRow, ReplayRow, CheckRows, AskedRow, DiagnoseRows, GenerateRows, BenchRow, SessionRow, AreTold, Leaves, LeftRow};
 ghost use Rattle.diagnose_cli.specs.CheapRows.{CheapRows};
 ghost use Rattle.diagnose_cli.specs.TwinRows.{TwinRows};
 ghost use Rattle.diagnose_cli.specs.VerdictRows.{VerdictRows};
 ghost use Rattle.diagnose_cli.specs.Run.{Does, LeavesAlone, Ran, is_question};
-ghost use Rattle.diagnose_cli.specs.Transcripts.{UnlessMemory, once};
+ghost use Rattle.endings.specs.Transcripts.{UnlessMemory, once};
 ghost use Rattle.telling.specs.Telling.{RisesExactlyIf};
 
 use crate::asking::ask_question;
@@ -18,16 +18,15 @@ use crate::bench_command::bench_command;
 use crate::cheapest_command::cheapest_command;
 use crate::check_command::check_command;
 use crate::command::{Command, Limits, Single, command_of};
-use crate::ending::{Reply, put_once};
 use crate::generate_command::{generate_log_command, generate_model_command};
 use crate::replay_command::replay_command;
 use crate::session_command::session_command;
 use crate::show_command::show_command;
-use crate::stop::Stop;
 use crate::trace_command::trace_command;
 use crate::twin_command::{TwinLimits, twin_command};
 use crate::verdicts_command::verdicts_command;
 use des_base::{Shelf, Sink, WordList};
+use endings::{Reply, Stop, put_once};
 use proof_ledger::Ledger;
 use std::alloc::Global;
 

@@ -2,17 +2,15 @@
 ghost use Rattle.std.specs.Prelude.{◌≡◌, ◌<◌, List, length, IfOk, OnOk};
 ghost use Rattle.proof_ledger.specs.Book.{BookEntry};
 ghost use Rattle.model_text.specs.ReadBack.{IsAsRead, ReadsBack};
-ghost use Rattle.diagnose_cli.specs.Files.{loads};
-ghost use Rattle.diagnose_cli.specs.Transcripts.{UnlessMemory, once};
+ghost use Rattle.endings.specs.Files.{loads};
+ghost use Rattle.endings.specs.Transcripts.{UnlessMemory, once};
 ghost use Rattle.diagnose_cli.specs.Replies.{reply_of_model};
 ghost use Rattle.diagnose_cli.specs.Due.{Answers};
 
 use crate::command::{Command, Single};
-use crate::ending::{Kind, Reply};
-use crate::files::fetch_model;
-use crate::stop::Stop;
 use des_base::{Memory, Shelf, WordList};
 use des_net::Network;
+use endings::{Kind, Reply, Stop, fetch_model};
 use model_text::print_model;
 use std::alloc::Global;
 

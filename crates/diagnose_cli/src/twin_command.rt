@@ -3,9 +3,9 @@ ghost use Rattle.std.specs.Prelude.{◌≡◌, ◌≢◌, ◌<◌, ◌≤◌, �
 ghost use Rattle.des_base.specs.declared.TheConstants.{MOST_STEPS};
 ghost use Rattle.des_base.specs.CommandWords.{word_at};
 ghost use Rattle.diagnose_cli.specs.Due.{Answers, Closes};
-ghost use Rattle.diagnose_cli.specs.Files.{loads};
+ghost use Rattle.endings.specs.Files.{loads};
 ghost use Rattle.diagnose_cli.specs.Rows.{AreTold};
-ghost use Rattle.diagnose_cli.specs.Transcripts.{UnlessMemory, once};
+ghost use Rattle.endings.specs.Transcripts.{UnlessMemory, once};
 ghost use Rattle.diagnose_cli.specs.TwinReplies.{LeavesOfWord, SaysTwin, kind_of_twin, reply_of_twin};
 ghost use Rattle.event_costs.specs.CostText.{fault_event_of};
 ghost use Rattle.indep.specs.StoredTest.{IsTest};
@@ -14,11 +14,9 @@ ghost use Rattle.report.specs.Replies.{TwinEventsKnown};
 ghost use Rattle.twin_test.specs.Tested.{IsTested, LeavesTwins};
 
 use crate::command::{Command, Single};
-use crate::ending::{Kind, Reply};
-use crate::files::fetch_model;
-use crate::stop::Stop;
 use des_base::{EventId, Memory, Shelf, WordList};
 use des_net::Network;
+use endings::{Kind, Reply, Stop, fetch_model};
 use event_costs::find_fault;
 use indep::{Indep, Table};
 use least_faults::MOST_SIZE;

@@ -10,7 +10,8 @@ use Rattle.replay.specs.Matching.{name_on}
 use Rattle.replay.specs.declared.run.RunStep.{RunStep}
 use Rattle.replay.specs.declared.run.RunStep.TheVariants.{Happens, Dropped}
 use Rattle.least_faults.specs.declared.answer.Found.TheVariants.{Explained, Absent, Many, Undecided}
-use Rattle.report.specs.Replies.{numbered, placed, text_of_alarm, text_of_step, text_of_run}
+use Rattle.report.specs.Replies.{text_of_alarm, text_of_step, text_of_run}
+use Rattle.telling.specs.Lines.{numbered, placed}
 use Rattle.report.specs.ReadBack.{HasNames, RepliesAreShort, RepliesFit}
 use Rattle.report.specs.VerdictTexts.{RunsFit}
 use Rattle.des_base.proofs.PrintedLines.{name_text}

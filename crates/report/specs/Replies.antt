@@ -16,18 +16,11 @@ use Rattle.replay.specs.declared.run.RunStep.TheVariants.{Happens, Dropped}
 use Rattle.replay.specs.Traced.{word_of}
 use Rattle.replay.specs.declared.tracing.Traced.{Traced}
 use Rattle.replay.specs.declared.tracing.Traced.TheVariants.{Ran, Stuck}
+use Rattle.telling.specs.Lines.{numbered, placed}
 use Rattle.twin_test.specs.declared.answer.Twin.{Twin}
 use Rattle.twin_test.specs.declared.answer.Twin.TheVariants.{Ambiguous, Clear, Undecided as NotTested}
 
 -- ---- lines
-
--- words, a number and the end of the line
-abbrev pub numbered : List ℕ → ℕ → List ℕ
-numbered words n = words ++ decimal n ++ 10 ∷ []
-
--- words, two numbers and the end of the line
-abbrev pub placed : List ℕ → ℕ → ℕ → List ℕ
-placed words first second = words ++ decimal first ++ 32 ∷ decimal second ++ 10 ∷ []
 
 -- words, a name and the end of the line
 abbrev pub named : List ℕ → List ℕ → List ℕ

@@ -1,7 +1,8 @@
 // The pieces of lines. Where memory is wanting, some of what is to be appended may be there.
 ghost use Rattle.std.specs.Prelude.{◌≡◌, ◌++◌, take, OnErr, OnOk};
 ghost use Rattle.des_base.specs.Lists.{Extends};
-ghost use Rattle.report.specs.Replies.{numbered, placed, named, paired};
+ghost use Rattle.report.specs.Replies.{named, paired};
+ghost use Rattle.telling.specs.Lines.{numbered, placed};
 
 use des_base::{Memory, push_decimal};
 

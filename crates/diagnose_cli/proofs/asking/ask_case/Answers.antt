@@ -6,9 +6,9 @@ use Rattle.log_order.specs.Log.{Log}
 use Rattle.diagnose_cli.specs.declared.command.Command.TheVariants.{One}
 use Rattle.diagnose_cli.specs.declared.command.Single.TheVariants.{Ask}
 use Rattle.diagnose_cli.specs.Due.{Answers, Closes}
-use Rattle.diagnose_cli.specs.Files.{loads}
-use Rattle.diagnose_cli.specs.Texts.{log}
-use Rattle.diagnose_cli.specs.Transcripts.{once}
+use Rattle.endings.specs.Files.{loads}
+use Rattle.endings.specs.Texts.{log}
+use Rattle.endings.specs.Transcripts.{once}
 use Rattle.diagnose_cli.proofs.Left.{case_left}
 use Rattle.diagnose_cli.proofs.Orders.{handed_after, stops_in_two, with_two}
 use Rattle.diagnose_cli.proofs.asking.ask_case.Goals as goal

@@ -3,9 +3,9 @@ use Rattle.std.proofs.Common.{ℕ, List, Option, [], ◌∷◌, inl, subst, sym}
 use Rattle.diagnose_cli.specs.declared.command.Command.TheVariants.{One}
 use Rattle.diagnose_cli.specs.declared.command.Single.TheVariants.{Cheapest}
 use Rattle.diagnose_cli.specs.Due.{Answers, Closes}
-use Rattle.diagnose_cli.specs.Files.{loads}
+use Rattle.endings.specs.Files.{loads}
 use Rattle.diagnose_cli.specs.Rows.{AreTold}
-use Rattle.diagnose_cli.specs.Texts.{costs, log}
+use Rattle.endings.specs.Texts.{costs, log}
 use Rattle.diagnose_cli.proofs.CheapAnswers.{case_prices_left}
 use Rattle.diagnose_cli.proofs.Orders.{goes_on_with, handed_after, stops_in_two}
 use Rattle.diagnose_cli.proofs.cheapest_command.cheapest_command.Goals as goal

@@ -3,7 +3,7 @@ use Rattle.std.proofs.Common.{[], ◌∷◌, inl}
 use Rattle.diagnose_cli.specs.declared.command.Command.TheVariants.{One}
 use Rattle.diagnose_cli.specs.declared.command.Single.TheVariants.{Cheapest}
 use Rattle.diagnose_cli.specs.Due.{AnswersAfter}
-use Rattle.diagnose_cli.specs.Files.{loads}
+use Rattle.endings.specs.Files.{loads}
 use Rattle.diagnose_cli.proofs.CheapAnswers.{costs_refused, costs_priced, prices_left}
 use Rattle.diagnose_cli.proofs.Orders.{handed_after}
 use Rattle.diagnose_cli.proofs.cheapest_command.price_case.Goals as goal

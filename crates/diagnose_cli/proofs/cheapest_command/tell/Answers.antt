@@ -3,7 +3,7 @@ use Rattle.std.proofs.Common.{◌≡◌, ℕ, List}
 use Rattle.cost_least.specs.Answers.{CostAsked}
 use Rattle.event_costs.specs.Prices.{cost_at}
 use Rattle.least_faults.proofs.Closing.{ok_weaker}
-use Rattle.diagnose_cli.specs.declared.ending.Kind.{Kind}
+use Rattle.endings.specs.declared.ending.Kind.{Kind}
 use Rattle.diagnose_cli.specs.CheapReplies.{SaysCheap, reply_of_cheap}
 use Rattle.diagnose_cli.proofs.CheapAnswers.{cheap_known, cheap_reads_back}
 use Rattle.diagnose_cli.proofs.cheapest_command.tell.Goals as goal

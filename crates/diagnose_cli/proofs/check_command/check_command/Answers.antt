@@ -2,7 +2,7 @@
 use Rattle.std.proofs.Common.{[], ◌∷◌}
 use Rattle.diagnose_cli.specs.declared.command.Command.TheVariants.{One}
 use Rattle.diagnose_cli.specs.declared.command.Single.TheVariants.{Check}
-use Rattle.diagnose_cli.specs.Texts.{cnf, lrat}
+use Rattle.endings.specs.Texts.{cnf, lrat}
 use Rattle.diagnose_cli.specs.Due.{Closes}
 use Rattle.diagnose_cli.proofs.Orders.{goes_on_later}
 use Rattle.diagnose_cli.proofs.check_command.check_command.Goals as goal

@@ -3,7 +3,7 @@ use Rattle.std.proofs.Common.{[], ◌∷◌}
 use Rattle.diagnose_cli.specs.declared.command.Command.TheVariants.{One}
 use Rattle.diagnose_cli.specs.declared.command.Single.TheVariants.{Check}
 use Rattle.diagnose_cli.specs.Due.{AnswersAfter}
-use Rattle.diagnose_cli.specs.Files.{loads}
+use Rattle.endings.specs.Files.{loads}
 use Rattle.diagnose_cli.proofs.Orders.{handed_after, memory_free}
 use Rattle.diagnose_cli.proofs.CheckAnswers.{proof_refused, checked}
 use Rattle.proof_text.specs.CnfText.{formula}

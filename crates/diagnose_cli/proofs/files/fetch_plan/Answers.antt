@@ -1,7 +1,8 @@
 -- The model, and then the script.
 use Rattle.std.proofs.Common.{inl}
-use Rattle.diagnose_cli.specs.Texts.{script, StopsAtFirstTwo}
-use Rattle.diagnose_cli.specs.Files.{loads}
+use Rattle.endings.specs.Texts.{script}
+use Rattle.diagnose_cli.specs.FirstTwo.{StopsAtFirstTwo}
+use Rattle.endings.specs.Files.{loads}
 use Rattle.diagnose_cli.proofs.Orders.{stop_handed, both_read, stops_at_second}
 use Rattle.diagnose_cli.proofs.files.fetch_plan.Goals as goal
 

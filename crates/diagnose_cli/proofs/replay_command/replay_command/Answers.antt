@@ -2,9 +2,9 @@
 use Rattle.std.proofs.Common.{[], ◌∷◌}
 use Rattle.diagnose_cli.specs.declared.command.Command.TheVariants.{One}
 use Rattle.diagnose_cli.specs.declared.command.Single.TheVariants.{Replay}
-use Rattle.diagnose_cli.specs.Texts.{log, run}
+use Rattle.endings.specs.Texts.{log, run}
 use Rattle.diagnose_cli.specs.Due.{Answers, Closes}
-use Rattle.diagnose_cli.specs.Files.{loads}
+use Rattle.endings.specs.Files.{loads}
 use Rattle.diagnose_cli.proofs.Orders.{goes_on_with, handed_after, stops_in_two}
 use Rattle.diagnose_cli.proofs.replay_command.replay_command.Goals as goal
 

@@ -1,7 +1,7 @@
 -- Each command answers what is due for it.
 use Rattle.std.proofs.Common.{sym}
 use Rattle.diagnose_cli.specs.declared.command.Single.TheVariants.{Trace, Show, Replay, Check, Ask, GenerateModel, GenerateLog, Bench, Twin, Cheapest}
-use Rattle.diagnose_cli.specs.Files.{loads}
+use Rattle.endings.specs.Files.{loads}
 use Rattle.diagnose_cli.proofs.Left.{left_bench, left_cheapest, left_question, left_so, left_twin}
 use Rattle.diagnose_cli.proofs.Orders.{due_alike}
 use Rattle.diagnose_cli.proofs.run.answer.Goals as goal

@@ -2,13 +2,14 @@
 use Rattle.std.proofs.Common.{◌≡◌, Some, Err, sym, ◌∙◌, ap}
 use Rattle.diagnose_cli.specs.Commands.{command_of}
 use Rattle.diagnose_cli.specs.Due.{Due, HasNotBegun}
-use Rattle.diagnose_cli.specs.Files.{loads}
+use Rattle.endings.specs.Files.{loads}
 use Rattle.diagnose_cli.specs.declared.command.Command.TheVariants.{One, Session, Verdicts}
-use Rattle.diagnose_cli.specs.declared.stop.Stop.TheVariants.{Usage}
+use Rattle.endings.specs.declared.stop.Stop.TheVariants.{Usage}
 use Rattle.diagnose_cli.proofs.Called.{called_fits}
 use Rattle.diagnose_cli.proofs.GenerateAnswers.{asks_nothing, has_files}
 use Rattle.diagnose_cli.proofs.Left.{command_left, left_verdicts, none_left, session_left}
-use Rattle.diagnose_cli.proofs.Once.{done, no_session, speaks_once, stop_left}
+use Rattle.diagnose_cli.proofs.Once.{done, no_session, stop_left}
+use Rattle.endings.proofs.Once.{speaks_once}
 use Rattle.diagnose_cli.proofs.Ones.{cuts_due}
 use Rattle.diagnose_cli.proofs.Orders.{due_of, usage_due}
 use Rattle.diagnose_cli.proofs.SessionAnswers.{not_begun}

@@ -3,9 +3,9 @@ use Rattle.std.proofs.Common.{◌≡◌, ◌∙◌, ◌∷◌, [], Err, arith, a
 use Rattle.log_order.specs.Log.{Log}
 use Rattle.replay.specs.QuestionSize.{question_size}
 use Rattle.diagnose_cli.specs.declared.command.Command.TheVariants.{Session}
-use Rattle.diagnose_cli.specs.declared.stop.Stop.TheVariants.{Large}
+use Rattle.endings.specs.declared.stop.Stop.TheVariants.{Large}
 use Rattle.diagnose_cli.specs.Due.{Closes}
-use Rattle.diagnose_cli.proofs.Once.{speaks_once}
+use Rattle.endings.proofs.Once.{speaks_once}
 use Rattle.diagnose_cli.proofs.SessionAnswers.{empty_too_large, no_stop, session_fails, session_speaks}
 use Rattle.diagnose_cli.proofs.session_command.carry_out.Goals as goal
 

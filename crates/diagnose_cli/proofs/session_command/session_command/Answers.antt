@@ -2,10 +2,10 @@
 use Rattle.std.proofs.Common.{◌≡◌, Some, Err, subst, sym}
 use Rattle.diagnose_cli.specs.Commands.{command_of}
 use Rattle.diagnose_cli.specs.Due.{Due, HasNotBegun}
-use Rattle.diagnose_cli.specs.Files.{loads}
+use Rattle.endings.specs.Files.{loads}
 use Rattle.diagnose_cli.specs.declared.command.Command.TheVariants.{Session}
 use Rattle.diagnose_cli.specs.declared.command.Limits.{Limits}
-use Rattle.diagnose_cli.proofs.Once.{speaks_once}
+use Rattle.endings.proofs.Once.{speaks_once}
 use Rattle.diagnose_cli.proofs.SessionAnswers.{not_begun, plan_speaks, plan_stops}
 use Rattle.diagnose_cli.proofs.session_command.session_command.Goals as goal
 

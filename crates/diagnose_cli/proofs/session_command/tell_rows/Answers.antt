@@ -4,7 +4,7 @@ use Rattle.alarm_session.specs.Session.{IsSessionBook}
 use Rattle.des_base.specs.Outside.{Rose}
 use Rattle.log_csv.specs.declared.row.Row.{Row}
 use Rattle.proof_ledger.specs.Book.{BookEntry}
-use Rattle.diagnose_cli.specs.Puts.{Speaks}
+use Rattle.endings.specs.Puts.{Speaks}
 use Rattle.diagnose_cli.specs.Sessions.{MaySay, status_of_session}
 use Rattle.diagnose_cli.proofs.SessionEnds.{rows_speak}
 use Rattle.diagnose_cli.proofs.SessionFronts.{same_setting}

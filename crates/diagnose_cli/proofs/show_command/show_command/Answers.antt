@@ -1,5 +1,5 @@
 -- By its file.
-use Rattle.diagnose_cli.specs.Files.{loads}
+use Rattle.endings.specs.Files.{loads}
 use Rattle.diagnose_cli.proofs.ShowAnswers.{shown}
 use Rattle.diagnose_cli.proofs.show_command.show_command.Goals as goal
 

@@ -2,7 +2,7 @@
 use Rattle.std.proofs.Common.{[], ◌∷◌}
 use Rattle.diagnose_cli.specs.declared.command.Command.TheVariants.{One}
 use Rattle.diagnose_cli.specs.declared.command.Single.TheVariants.{Trace}
-use Rattle.diagnose_cli.specs.Texts.{model, run}
+use Rattle.endings.specs.Texts.{model, run}
 use Rattle.diagnose_cli.specs.Due.{Closes}
 use Rattle.diagnose_cli.proofs.Orders.{goes_on_later}
 use Rattle.diagnose_cli.proofs.trace_command.trace_command.Goals as goal

@@ -1,7 +1,7 @@
 -- The events of the runs are known, and their texts read back.
 use Rattle.std.proofs.Common.{◌≡◌, ℕ, List}
 use Rattle.least_faults.proofs.Closing.{ok_weaker}
-use Rattle.diagnose_cli.specs.declared.ending.Kind.{Kind}
+use Rattle.endings.specs.declared.ending.Kind.{Kind}
 use Rattle.diagnose_cli.specs.TwinReplies.{SaysTwin, reply_of_twin}
 use Rattle.diagnose_cli.proofs.TwinAnswers.{twin_known, twin_reads_back}
 use Rattle.diagnose_cli.proofs.twin_command.tell.Goals as goal

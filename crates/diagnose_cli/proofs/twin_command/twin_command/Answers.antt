@@ -5,9 +5,9 @@ use Rattle.model_text.specs.ModelFaults.{network_of}
 use Rattle.diagnose_cli.specs.declared.command.Command.TheVariants.{One}
 use Rattle.diagnose_cli.specs.declared.command.Single.TheVariants.{Twin}
 use Rattle.diagnose_cli.specs.Due.{Answers, Closes}
-use Rattle.diagnose_cli.specs.Files.{loads}
-use Rattle.diagnose_cli.specs.Texts.{model}
-use Rattle.diagnose_cli.specs.Transcripts.{once}
+use Rattle.endings.specs.Files.{loads}
+use Rattle.endings.specs.Texts.{model}
+use Rattle.endings.specs.Transcripts.{once}
 use Rattle.diagnose_cli.proofs.Orders.{goes_on, handed_after, stops_here}
 use Rattle.diagnose_cli.proofs.TwinAnswers.{none_left, word_left}
 use Rattle.diagnose_cli.proofs.twin_command.twin_command.Goals as goal

@@ -3,9 +3,9 @@ use Rattle.std.proofs.Common.{◌≤◌, ◌∷◌, [], Err, arith, inl, subst}
 use Rattle.std.specs.Prelude.{⊤}
 use Rattle.least_faults.specs.declared.TheConstants.{MOST_SIZE}
 use Rattle.diagnose_cli.specs.declared.command.Command.TheVariants.{Verdicts}
-use Rattle.diagnose_cli.specs.declared.stop.Stop.TheVariants.{Large}
+use Rattle.endings.specs.declared.stop.Stop.TheVariants.{Large}
 use Rattle.diagnose_cli.specs.Due.{Closes}
-use Rattle.diagnose_cli.proofs.Once.{speaks_once}
+use Rattle.endings.proofs.Once.{speaks_once}
 use Rattle.diagnose_cli.proofs.VerdictAnswers.{judged_speaks, judged_too_large, none_stops, verdicts_fail}
 use Rattle.diagnose_cli.proofs.verdicts_command.judge_case.Goals as goal
 

@@ -4,10 +4,11 @@ use Rattle.des_net.specs.Network.{Net}
 use Rattle.log_order.specs.Log.{Log}
 use Rattle.verdict_telling.specs.Left.{LeavesVerdicts}
 use Rattle.diagnose_cli.specs.Due.{Due, HasNotBegun}
-use Rattle.diagnose_cli.specs.Files.{loads}
+use Rattle.endings.specs.Files.{loads}
 use Rattle.diagnose_cli.specs.declared.command.Command.TheVariants.{Verdicts}
 use Rattle.diagnose_cli.proofs.Left.{case_left}
-use Rattle.diagnose_cli.proofs.Once.{no_session, speaks_once}
+use Rattle.diagnose_cli.proofs.Once.{no_session}
+use Rattle.endings.proofs.Once.{speaks_once}
 use Rattle.diagnose_cli.proofs.VerdictAnswers.{case_speaks, case_stops}
 use Rattle.diagnose_cli.proofs.verdicts_command.verdicts_command.Goals as goal
 

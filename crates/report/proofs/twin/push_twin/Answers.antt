@@ -1,6 +1,7 @@
 -- Both runs stand behind the first line.
 use Rattle.std.proofs.Common.{rules, ◌≡◌, ◌∙◌, ◌++◌, codes, ap}
-use Rattle.report.specs.Replies.{numbered, text_of_both, text_of_twin}
+use Rattle.report.specs.Replies.{text_of_both, text_of_twin}
+use Rattle.telling.specs.Lines.{numbered}
 use Rattle.report.proofs.Appending.{second_part}
 use Rattle.report.proofs.twin.push_twin.Goals as goal
 

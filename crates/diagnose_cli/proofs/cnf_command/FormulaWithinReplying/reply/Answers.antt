@@ -4,7 +4,7 @@ use Rattle.least_faults.proofs.Closing.{ok_weaker}
 use Rattle.proof_text.proofs.CnfPrinted.{printed_formula}
 use Rattle.proof_text.specs.CnfText.{formula}
 use Rattle.diagnose_cli.specs.declared.command.Question.TheVariants.{PrintCnf}
-use Rattle.diagnose_cli.specs.declared.ending.Kind.{Kind}
+use Rattle.endings.specs.declared.ending.Kind.{Kind}
 use Rattle.diagnose_cli.specs.Replies.{AnswersTo, reply_of_formula}
 use Rattle.diagnose_cli.proofs.cnf_command.FormulaWithinReplying.reply.Goals as goal
 

@@ -2,7 +2,7 @@
 use Rattle.std.proofs.Common.{◌≡◌, ℕ, List}
 use Rattle.least_faults.proofs.Closing.{ok_weaker}
 use Rattle.diagnose_cli.specs.declared.command.Question.TheVariants.{Diagnose}
-use Rattle.diagnose_cli.specs.declared.ending.Kind.{Kind}
+use Rattle.endings.specs.declared.ending.Kind.{Kind}
 use Rattle.diagnose_cli.specs.Replies.{AnswersTo, reply_of_found}
 use Rattle.diagnose_cli.proofs.Diagnosing.{answers_found, answers_question}
 use Rattle.diagnose_cli.proofs.KnownRuns.{found_known}

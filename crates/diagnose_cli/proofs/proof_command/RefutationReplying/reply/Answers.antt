@@ -9,8 +9,8 @@ use Rattle.least_faults.specs.declared.answer.Found.{Found}
 use Rattle.proof_text.specs.PrintedText.{ReadsBack, steps_text}
 use Rattle.report.specs.Replies.{EventsKnown}
 use Rattle.diagnose_cli.specs.declared.command.Question.TheVariants.{PrintProof}
-use Rattle.diagnose_cli.specs.declared.ending.Kind.{Kind}
-use Rattle.diagnose_cli.specs.declared.ending.Kind.TheVariants.{Nothing}
+use Rattle.endings.specs.declared.ending.Kind.{Kind}
+use Rattle.endings.specs.declared.ending.Kind.TheVariants.{Nothing}
 use Rattle.diagnose_cli.specs.Replies.{AnswersTo, reply_of_found, reply_of_proof}
 use Rattle.diagnose_cli.proofs.Diagnosing.{answers_question}
 use Rattle.diagnose_cli.proofs.KnownRuns.{found_known}

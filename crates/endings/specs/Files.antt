@@ -2,10 +2,10 @@
 use Rattle.std.specs.Prelude.{◌≡◌, ◌⊎◌, ℕ, ◌<◌, ◌≤◌, ⊤, List, length, Option, Some, None, IfSome, Result, Ok, Err, IsErrAnd, Vec}
 use Rattle.std.specs.declared.alloc.Global.{Global}
 use Rattle.des_base.specs.Outside.{Rose}
-use Rattle.diagnose_cli.specs.declared.stop.Stop.{Stop}
-use Rattle.diagnose_cli.specs.declared.stop.Stop.TheVariants.{Usage, Load, Faulty, Long, NoFault, Large, Memory}
-use Rattle.diagnose_cli.specs.declared.stop.FaultyText.{FaultyText}
-use Rattle.diagnose_cli.specs.Transcripts.{Ending}
+use Rattle.endings.specs.declared.stop.Stop.{Stop}
+use Rattle.endings.specs.declared.stop.Stop.TheVariants.{Usage, Load, Faulty, Long, NoFault, Large, Memory}
+use Rattle.endings.specs.declared.stop.FaultyText.{FaultyText}
+use Rattle.endings.specs.Transcripts.{Ending}
 
 -- what a shelf holds by name, and its counts of faults by name at two moments
 pub record Loads : Type 0 where

@@ -2,10 +2,10 @@
 ghost use Rattle.std.specs.Prelude.{◌≡◌, ◌≢◌, [], ◌∷◌, IfOk, OnOk, Ok, Err};
 ghost use Rattle.des_base.specs.Outside.{Rose};
 ghost use Rattle.telling.specs.Telling.{RisesExactlyIf};
-ghost use Rattle.diagnose_cli.specs.Transcripts.{once};
-ghost use Rattle.diagnose_cli.specs.Puts.{Puts};
-ghost use Rattle.diagnose_cli.specs.declared.stop.Stop.TheVariants.{Memory as NoMemory};
-ghost use Rattle.diagnose_cli.specs.Endings.{HasStatus, texts_of, status_of_kind};
+ghost use Rattle.endings.specs.Transcripts.{once};
+ghost use Rattle.endings.specs.Puts.{Puts};
+ghost use Rattle.endings.specs.declared.stop.Stop.TheVariants.{Memory as NoMemory};
+ghost use Rattle.endings.specs.Endings.{HasStatus, texts_of, status_of_kind};
 
 use crate::stop::{Stop, status_of_stop, text_of_stop};
 use des_base::{Memory, Sink};
@@ -40,7 +40,7 @@ pub struct Reply {
 
 impl Model for Reply {
     ghost use Rattle.std.specs.Prelude.{List, ℕ};
-    ghost use Rattle.diagnose_cli.specs.declared.ending.Kind.{Kind};
+    ghost use Rattle.endings.specs.declared.ending.Kind.{Kind};
 
     ghost Value = { Kind × List ℕ };
 
@@ -69,7 +69,7 @@ impl Reply {
 }
 
 /// Puts the text of an ending, and answers its status. Out of memory it puts nothing.
-#[tactic(auto, using(telling::proofs::Taking::nothing_taken, crate::proofs::Once::one_text))]
+#[tactic(auto, using(telling::proofs::Taking::nothing_taken, crate::proofs::Putting::one_text))]
 pub fn put_once<S: Sink>(alloc: Global, ending: Result<Reply, Stop>, out: &mut S) -> u8
     ensures puts { Puts (once ending) (S.taken out.old) (S.taken out.new) (Rose (S.faults out.old) (S.faults out.new)) result }
     ensures failures { RisesExactlyIf (result ≡ 4) (S.failures out.old) (S.failures out.new) }

@@ -3,9 +3,9 @@ use Rattle.std.specs.Prelude.{◌≡◌, ◌≢◌, ℕ, List, [], Option, Ok, E
 use Rattle.std.specs.List.{concat}
 use Rattle.des_base.specs.Outside.{Took, TookFront}
 use Rattle.telling.specs.Telling.{TookCut}
-use Rattle.diagnose_cli.specs.declared.stop.Stop.TheVariants.{Memory}
-use Rattle.diagnose_cli.specs.Transcripts.{Ending, OrMemory, cut}
-use Rattle.diagnose_cli.specs.Endings.{HasStatus, texts_of}
+use Rattle.endings.specs.declared.stop.Stop.TheVariants.{Memory}
+use Rattle.endings.specs.Transcripts.{Ending, OrMemory, cut}
+use Rattle.endings.specs.Endings.{HasStatus, texts_of}
 
 -- The texts of one ending, by the status that is answered. Out of memory nothing is put, so that no put can fail. Here rose says that the sink's count of faults rose.
 pub record Puts (e : Ending) (before now : Option (List ℕ)) (rose : Type 0) (status : ℕ) : Type 0 where

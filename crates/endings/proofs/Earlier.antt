@@ -1,8 +1,8 @@
 -- A cause that came after an earlier moment came after that moment too.
 use Rattle.std.proofs.Common.{◌≡◌, ℕ, ◌≤◌, List, Option, IfSome, ◌<◌, length, arith, subst, ap}
-use Rattle.diagnose_cli.specs.declared.stop.Stop.{Stop}
-use Rattle.diagnose_cli.specs.declared.stop.Stop.TheVariants.{Usage, Load, Faulty, Long, NoFault, Large, Memory}
-use Rattle.diagnose_cli.specs.Files.{StopsAt}
+use Rattle.endings.specs.declared.stop.Stop.{Stop}
+use Rattle.endings.specs.declared.stop.Stop.TheVariants.{Usage, Load, Faulty, Long, NoFault, Large, Memory}
+use Rattle.endings.specs.Files.{StopsAt}
 
 pub stops_earlier : (held now : List ℕ → Option (List ℕ)) (start before after : List ℕ → ℕ) (i : ℕ) (name : List ℕ) (limit : ℕ) (s : Stop) → now ≡ held → ((n : List ℕ) → start n ≤ before n)
     → StopsAt (record { held = now; before = before; after = after }) i name limit s → StopsAt (record { held = held; before = start; after = after }) i name limit s

@@ -1,9 +1,9 @@
 // Why a command has no reply, with its status and its text.
 ghost use Rattle.std.specs.Prelude.{◌≡◌, ◌∷◌, ◌++◌, [], IfOk, string_bytes};
-ghost use Rattle.diagnose_cli.specs.declared.stop.Stop.TheVariants.{Memory as NoMemory};
-ghost use Rattle.diagnose_cli.specs.Endings.{status_of_faulty, status_of_stop, text_of_faulty, text_of_stop};
-ghost use Rattle.report.specs.Replies.{placed};
-ghost use Rattle.diagnose_cli.specs.Refusals.{stop_of_model, stop_of_log, stop_of_run, stop_of_cnf, stop_of_lrat, stop_of_cost};
+ghost use Rattle.endings.specs.declared.stop.Stop.TheVariants.{Memory as NoMemory};
+ghost use Rattle.endings.specs.Endings.{status_of_faulty, status_of_stop, text_of_faulty, text_of_stop};
+ghost use Rattle.telling.specs.Lines.{placed};
+ghost use Rattle.endings.specs.Refusals.{stop_of_model, stop_of_log, stop_of_run, stop_of_cnf, stop_of_lrat, stop_of_cost};
 
 use des_base::Memory;
 use event_costs::{CostFault, CostRefusal};

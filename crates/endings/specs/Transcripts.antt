@@ -1,8 +1,8 @@
 -- What a command says, in one form for all: texts that are put one after the other, and how it ends.
 use Rattle.std.specs.Prelude.{◌≡◌, ◌≢◌, ⊤, ℕ, List, [], ◌∷◌, Result, Ok, Err}
-use Rattle.diagnose_cli.specs.declared.ending.Kind.{Kind}
-use Rattle.diagnose_cli.specs.declared.stop.Stop.{Stop}
-use Rattle.diagnose_cli.specs.declared.stop.Stop.TheVariants.{Memory}
+use Rattle.endings.specs.declared.ending.Kind.{Kind}
+use Rattle.endings.specs.declared.stop.Stop.{Stop}
+use Rattle.endings.specs.declared.stop.Stop.TheVariants.{Memory}
 
 -- how a command ends that says something: with a last text of this kind, with a last text that can't be put whole, or out of memory behind its texts
 pub data End : Type 0 where

@@ -26,13 +26,13 @@ use Rattle.replay.specs.declared.run.RunStep.{RunStep}
 use Rattle.replay.specs.declared.run_text.RunRefusal.{RunRefusal}
 use Rattle.replay.specs.declared.run_text.RunRefusal.TheVariants.{Fault as RunFaulty, Memory as RunMemory}
 use Rattle.replay.specs.RunText.{run_of, first_fault as first_run_fault, Tells as TellsRun}
-use Rattle.diagnose_cli.specs.declared.stop.Stop.{Stop}
-use Rattle.diagnose_cli.specs.declared.stop.Stop.TheVariants.{Faulty, Memory}
-use Rattle.diagnose_cli.specs.declared.stop.FaultyText.{FaultyText}
-use Rattle.diagnose_cli.specs.declared.stop.FaultyText.TheVariants.{Model, Log, Run, Cnf, Lrat, Cost}
-use Rattle.diagnose_cli.specs.Refusals.{stop_of_model, stop_of_log, stop_of_run, stop_of_cnf, stop_of_lrat, stop_of_cost}
-use Rattle.diagnose_cli.specs.Texts.{fault_of_model, fault_of_log, fault_of_script, fault_of_run, fault_of_cnf, fault_of_lrat, fault_of_costs}
-use Rattle.diagnose_cli.specs.Files.{Loads, Holds, IsText, IsReadAs, StopsIn}
+use Rattle.endings.specs.declared.stop.Stop.{Stop}
+use Rattle.endings.specs.declared.stop.Stop.TheVariants.{Faulty, Memory}
+use Rattle.endings.specs.declared.stop.FaultyText.{FaultyText}
+use Rattle.endings.specs.declared.stop.FaultyText.TheVariants.{Model, Log, Run, Cnf, Lrat, Cost}
+use Rattle.endings.specs.Refusals.{stop_of_model, stop_of_log, stop_of_run, stop_of_cnf, stop_of_lrat, stop_of_cost}
+use Rattle.endings.specs.Texts.{fault_of_model, fault_of_log, fault_of_script, fault_of_run, fault_of_cnf, fault_of_lrat, fault_of_costs}
+use Rattle.endings.specs.Files.{Loads, Holds, IsText, IsReadAs, StopsIn}
 
 pub none_told : {X : Type 0} (f : X → FaultyText) (o : Option X) → o ≡ None → option_map f o ≡ None
 none_told f None h = refl

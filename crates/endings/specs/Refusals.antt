@@ -9,9 +9,9 @@ use Rattle.proof_text.specs.declared.fault.TextRefusal.{TextRefusal}
 use Rattle.proof_text.specs.declared.fault.TextRefusal.TheVariants.{Fault as TextFaulty, Memory as TextMemory}
 use Rattle.replay.specs.declared.run_text.RunRefusal.{RunRefusal}
 use Rattle.replay.specs.declared.run_text.RunRefusal.TheVariants.{Fault as RunFaulty, Memory as RunMemory}
-use Rattle.diagnose_cli.specs.declared.stop.FaultyText.TheVariants.{Model, Log, Run, Cnf, Lrat, Cost}
-use Rattle.diagnose_cli.specs.declared.stop.Stop.{Stop}
-use Rattle.diagnose_cli.specs.declared.stop.Stop.TheVariants.{Faulty, Memory}
+use Rattle.endings.specs.declared.stop.FaultyText.TheVariants.{Model, Log, Run, Cnf, Lrat, Cost}
+use Rattle.endings.specs.declared.stop.Stop.{Stop}
+use Rattle.endings.specs.declared.stop.Stop.TheVariants.{Faulty, Memory}
 
 -- where a model text is refused: by its fault, or since memory is wanting
 abbrev pub stop_of_model : ModelRefusal → Stop

@@ -3,11 +3,11 @@ use Rattle.std.proofs.Common.{◌≢◌, ℕ, List, Option, Ok, refl, arith}
 use Rattle.std.specs.List.{concat}
 use Rattle.des_base.specs.Outside.{Took}
 use Rattle.telling.specs.Telling.{TookCut}
-use Rattle.diagnose_cli.specs.declared.ending.Kind.{Kind}
-use Rattle.diagnose_cli.specs.declared.ending.Kind.TheVariants.{Done, Rejected, Absent, Undecided, Many, Nothing, Ambiguous}
-use Rattle.diagnose_cli.specs.Endings.{status_of_kind}
-use Rattle.diagnose_cli.specs.Puts.{Finishes, IsCutOff, Speaks}
-use Rattle.diagnose_cli.specs.Transcripts.{End, Ending, OrMemory, said, cut, broken}
+use Rattle.endings.specs.declared.ending.Kind.{Kind}
+use Rattle.endings.specs.declared.ending.Kind.TheVariants.{Done, Rejected, Absent, Undecided, Many, Nothing, Ambiguous}
+use Rattle.endings.specs.Endings.{status_of_kind}
+use Rattle.endings.specs.Puts.{Finishes, IsCutOff, Speaks}
+use Rattle.endings.specs.Transcripts.{End, Ending, OrMemory, said, cut, broken}
 
 -- no kind has the status of a put that fails
 not_four : (kind : Kind) → status_of_kind kind ≢ 4

@@ -1,0 +1,5 @@
+pub mod Reading
+pub mod Earlier
+mod Putting
+pub mod Speaking
+pub mod Once
