@@ -1,4 +1,4 @@
-//! What only calls can show of propositional logic, counters, the ledger, and the texts of formulas and proofs.
+//! What only calls can show of propositional logic, counters, the ledger, and the refutations that it holds.
 //!
 //! It has nothing but tests, each through what a crate offers to all. What the program itself can show stands in `cases/`.
 #![tactic(auto)]
@@ -15,7 +15,5 @@ mod literals;
 mod pieces;
 #[cfg(test)]
 mod refutations;
-#[cfg(test)]
-mod texts;
 #[cfg(test)]
 mod truths;
