@@ -1,9 +1,9 @@
-pub mod Sizes
-pub mod Refusing
-pub mod Keeping
-pub mod Stages
-pub mod Drafting
-pub mod Joining
-pub mod Telling
+mod Sizes
+mod Refusing
+mod Keeping
+mod Stages
+mod Drafting
+mod Joining
+mod Telling
 pub mod Rowing
-pub mod Vectors
+mod Vectors

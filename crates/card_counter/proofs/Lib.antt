@@ -1,5 +1,5 @@
 pub mod ListLemmas
-pub mod PairLemmas
+mod PairLemmas
 pub mod Counts
 pub mod States
 pub mod NameLemmas
@@ -7,9 +7,9 @@ pub mod CodeLemmas
 pub mod Exact
 pub mod Inputs
 pub mod PlaceLemmas
-pub mod RowLemmas
+mod RowLemmas
 pub mod Adding
-pub mod Vectors
-pub mod Chains
+mod Vectors
+mod Chains
 pub mod Listed
 pub mod Exclusions

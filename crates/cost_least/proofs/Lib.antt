@@ -1,17 +1,17 @@
-pub mod Sums
-pub mod Drawing
-pub mod Pricing
-pub mod Inputs
-pub mod Pushed
-pub mod EntrySums
-pub mod FoundCosts
-pub mod Asked
-pub mod Guards
-pub mod Writing
-pub mod Asks
-pub mod Weighed
+mod Sums
+mod Drawing
+mod Pricing
+mod Inputs
+mod Pushed
+mod EntrySums
+mod FoundCosts
+mod Asked
+mod Guards
+mod Writing
+mod Asks
+mod Weighed
 pub mod Fitting
-pub mod Answering
-pub mod Halving
-pub mod Finding
+mod Answering
+mod Halving
+mod Finding
 pub mod SameCosts

@@ -1,8 +1,8 @@
 pub mod NameLemmas
 pub mod TableLemmas
-pub mod NumberLemmas
-pub mod TokenLemmas
-pub mod LineLemmas
+mod NumberLemmas
+mod TokenLemmas
+mod LineLemmas
 pub mod LawLemmas
 pub mod PieceLemmas
 pub mod BoolLemmas

@@ -5,5 +5,5 @@ pub mod Local
 pub mod NetworkLemmas
 pub mod Steps
 pub mod WidthLemmas
-pub mod Vectors
+mod Vectors
 pub mod Sharing

@@ -1,2 +1,2 @@
-pub mod TableLemmas
-pub mod ReadLemmas
+mod TableLemmas
+mod ReadLemmas

@@ -1,16 +1,16 @@
-pub mod Truths
-pub mod Telling
-pub mod Drawing
-pub mod Apart
+mod Truths
+mod Telling
+mod Drawing
+mod Apart
 pub mod Ready
-pub mod Asking
-pub mod Events
-pub mod Judged
-pub mod Going
-pub mod Answered
-pub mod Making
-pub mod Steps
-pub mod Guarding
+mod Asking
+mod Events
+mod Judged
+mod Going
+mod Answered
+mod Making
+mod Steps
+mod Guarding
 pub mod Calling
-pub mod Witnesses
-pub mod FaultLists
+mod Witnesses
+mod FaultLists

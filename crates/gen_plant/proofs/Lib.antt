@@ -1,7 +1,7 @@
-pub mod AlarmLemmas
-pub mod AsRead
-pub mod ComponentLemmas
-pub mod EventLemmas
-pub mod Lists
-pub mod NameLemmas
-pub mod Vectors
+mod AlarmLemmas
+mod AsRead
+mod ComponentLemmas
+mod EventLemmas
+mod Lists
+mod NameLemmas
+mod Vectors

@@ -1,6 +1,6 @@
 pub mod Diagnosing
-pub mod Formulas
-pub mod LastFinals
+mod Formulas
+mod LastFinals
 pub mod Refutations
-pub mod Weighing
+mod Weighing
 pub mod PricedBooks

@@ -1,27 +1,27 @@
 pub mod Posing
 pub mod AxiomLists
 pub mod QuestionRoom
-pub mod CodedAlarms
-pub mod Beginning
+mod CodedAlarms
+mod Beginning
 pub mod Below
-pub mod FewClauses
-pub mod Observed
-pub mod AddedClauses
+mod FewClauses
+mod Observed
+mod AddedClauses
 pub mod Bounded
 pub mod ColumnsBuilt
 pub mod Columns
 pub mod Beside
-pub mod Drafts
-pub mod Reserving
-pub mod Determined
+mod Drafts
+mod Reserving
+mod Determined
 pub mod Freshness
 pub mod Entailing
 pub mod KnownEvents
-pub mod KnownVariables
-pub mod FaultSteps
+mod KnownVariables
+mod FaultSteps
 pub mod Assuming
 pub mod Staying
-pub mod Telling
+mod Telling
 pub mod Putting
 pub mod Asked
 pub mod Climbing

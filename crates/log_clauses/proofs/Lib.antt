@@ -6,7 +6,7 @@ pub mod Rules
 pub mod Fronts
 pub mod Entries
 pub mod Sound
-pub mod Blocks
+mod Blocks
 pub mod Complete
 pub mod Matches
 pub mod Stay
@@ -18,5 +18,5 @@ pub mod Numbered
 pub mod Guards
 pub mod Explained
 pub mod BesideEvents
-pub mod Vectors
-pub mod CodeVectors
+mod Vectors
+mod CodeVectors

@@ -1,11 +1,11 @@
-pub mod NextLemmas
-pub mod FieldLemmas
-pub mod LabelLemmas
-pub mod RowLemmas
-pub mod ScriptLemmas
-pub mod GrowthLemmas
-pub mod LogLemmas
-pub mod PrintLemmas
-pub mod TextLemmas
-pub mod ReadBackLemmas
-pub mod Vectors
+mod NextLemmas
+mod FieldLemmas
+mod LabelLemmas
+mod RowLemmas
+mod ScriptLemmas
+mod GrowthLemmas
+mod LogLemmas
+mod PrintLemmas
+mod TextLemmas
+mod ReadBackLemmas
+mod Vectors

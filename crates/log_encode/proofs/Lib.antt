@@ -1,13 +1,13 @@
-pub mod VariableLemmas
-pub mod LoopLemmas
-pub mod Naming
+mod VariableLemmas
+mod LoopLemmas
+mod Naming
 pub mod CodeLemmas
 pub mod EndLemmas
 pub mod TakenLemmas
 pub mod StayLemmas
-pub mod GrowLemmas
-pub mod Reading
-pub mod DraftLemmas
-pub mod CallLemmas
-pub mod CommitLemmas
+mod GrowLemmas
+mod Reading
+mod DraftLemmas
+mod CallLemmas
+mod CommitLemmas
 pub mod WrittenLemmas

@@ -1,10 +1,10 @@
 pub mod Places
-pub mod Reaching
+mod Reaching
 pub mod OrderLemmas
 pub mod MarkLemmas
-pub mod PassLemmas
+mod PassLemmas
 pub mod KeptLemmas
 pub mod AlarmLemmas
-pub mod Meaning
+mod Meaning
 pub mod LeastOrder
-pub mod Vectors
+mod Vectors

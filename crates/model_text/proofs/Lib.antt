@@ -1,25 +1,25 @@
-pub mod SectionLemmas
-pub mod NumberLemmas
-pub mod ComponentLemmas
-pub mod EventLemmas
-pub mod GrowthLemmas
-pub mod CodeLemmas
-pub mod PartLemmas
-pub mod StepLemmas
-pub mod SameCodeLemmas
-pub mod LawLemmas
-pub mod RefusalLemmas
-pub mod StartLemmas
-pub mod RepeatLemmas
-pub mod PrintLemmas
-pub mod Vectors
-pub mod HasNamesLemmas
-pub mod PieceLemmas
-pub mod AdditionLemmas
-pub mod ReadLemmas
-pub mod AdditionFacts
-pub mod DraftSteps
-pub mod ReadOrder
-pub mod PrintedGrowth
-pub mod PrintedWords
+mod SectionLemmas
+mod NumberLemmas
+mod ComponentLemmas
+mod EventLemmas
+mod GrowthLemmas
+mod CodeLemmas
+mod PartLemmas
+mod StepLemmas
+mod SameCodeLemmas
+mod LawLemmas
+mod RefusalLemmas
+mod StartLemmas
+mod RepeatLemmas
+mod PrintLemmas
+mod Vectors
+mod HasNamesLemmas
+mod PieceLemmas
+mod AdditionLemmas
+mod ReadLemmas
+mod AdditionFacts
+mod DraftSteps
+mod ReadOrder
+mod PrintedGrowth
+mod PrintedWords
 pub mod ReadBackLemmas

@@ -1,8 +1,8 @@
-pub mod Hints
-pub mod Books
+mod Hints
+mod Books
 pub mod Checks
 pub mod AxiomLists
 pub mod BookTruth
-pub mod Helds
-pub mod Marking
-pub mod Vectors
+mod Helds
+mod Marking
+mod Vectors

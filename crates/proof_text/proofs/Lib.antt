@@ -1,18 +1,18 @@
-pub mod Vectors
-pub mod NumberLemmas
-pub mod ClauseLemmas
-pub mod CnfLemmas
-pub mod LineLemmas
-pub mod SurveyLemmas
-pub mod CodeLemmas
-pub mod WellLines
-pub mod PrintLemmas
-pub mod WordLemmas
-pub mod NumeralLemmas
+mod Vectors
+mod NumberLemmas
+mod ClauseLemmas
+mod CnfLemmas
+mod LineLemmas
+mod SurveyLemmas
+mod CodeLemmas
+mod WellLines
+mod PrintLemmas
+mod WordLemmas
+mod NumeralLemmas
 pub mod CnfPrinted
-pub mod LratPrinted
-pub mod PieceLemmas
-pub mod Rechecking
+mod LratPrinted
+mod PieceLemmas
+mod Rechecking
 pub mod Fronts
 pub mod Readable
 pub mod Commented

@@ -1,13 +1,13 @@
-pub mod PieceLists
+mod PieceLists
 pub mod Entailed
 pub mod Literals
 pub mod Standings
 pub mod Forcing
 pub mod Following
-pub mod Vectors
+mod Vectors
 pub mod NameLemmas
 pub mod FurtherNames
 pub mod FamilyLemmas
-pub mod GridLemmas
+mod GridLemmas
 pub mod Premises
 pub mod Listed

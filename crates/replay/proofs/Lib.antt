@@ -1,14 +1,14 @@
-pub mod SetLemmas
-pub mod FollowLemmas
+mod SetLemmas
+mod FollowLemmas
 pub mod RunLemmas
-pub mod TraceLemmas
-pub mod TextLemmas
-pub mod PlacingLemmas
-pub mod PieceLemmas
+mod TraceLemmas
+mod TextLemmas
+mod PlacingLemmas
+mod PieceLemmas
 pub mod ListTests
 pub mod AcceptLemmas
-pub mod DecideLemmas
+mod DecideLemmas
 pub mod AnswerLemmas
-pub mod Vectors
-pub mod ReplayVectors
-pub mod SizeVectors
+mod Vectors
+mod ReplayVectors
+mod SizeVectors

@@ -1,7 +1,7 @@
-pub mod NameWords
+mod NameWords
 pub mod DecimalWords
-pub mod PrintedRuns
+mod PrintedRuns
 pub mod ReadsBack
 pub mod PrintedLengths
-pub mod Vectors
-pub mod Appending
+mod Vectors
+mod Appending

@@ -1,30 +1,30 @@
 pub mod Faults
-pub mod Truths
+mod Truths
 pub mod RunsGiven
 pub mod Assumptions
 pub mod Questions
 pub mod Decided
 pub mod Tells
 pub mod FurtherNames
-pub mod Parts
-pub mod Growth
-pub mod Reading
+mod Parts
+mod Growth
+mod Reading
 pub mod Nameless
-pub mod Vectors
+mod Vectors
 pub mod RunNames
 pub mod WholeNames
 pub mod DecodeNames
-pub mod DecodeTable
+mod DecodeTable
 pub mod SmallPieces
-pub mod ShownSteps
-pub mod DecodeLoops
+mod ShownSteps
+mod DecodeLoops
 pub mod DecodeRuns
 pub mod DecodeOrder
 pub mod DecodeBounds
-pub mod DecodeFalls
+mod DecodeFalls
 pub mod WholeClauses
 pub mod WholeRoom
 pub mod FewNames
-pub mod NamingVectors
+mod NamingVectors
 pub mod Built
-pub mod BuiltVectors
+mod BuiltVectors

@@ -1,7 +1,7 @@
-pub mod Seeing
-pub mod Refuting
-pub mod Reasoning
-pub mod Descending
+mod Seeing
+mod Refuting
+mod Reasoning
+mod Descending
 pub mod Beginning
-pub mod Finishing
+mod Finishing
 pub mod Closing

@@ -1,2 +1,2 @@
-pub mod Queues
-pub mod Ranks
+mod Queues
+mod Ranks

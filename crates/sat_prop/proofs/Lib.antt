@@ -1,14 +1,14 @@
 pub mod Fronts
 pub mod Justifying
 pub mod Placing
-pub mod Values
+mod Values
 pub mod Leveling
 pub mod Seeing
-pub mod Passing
-pub mod Links
-pub mod WatchLists
-pub mod Nodes
-pub mod Settling
-pub mod Visiting
-pub mod Draining
-pub mod Falling
+mod Passing
+mod Links
+mod WatchLists
+mod Nodes
+mod Settling
+mod Visiting
+mod Draining
+mod Falling

@@ -1,18 +1,18 @@
-pub mod Booking
-pub mod Putting
+mod Booking
+mod Putting
 pub mod Standing
-pub mod Stepping
-pub mod Learning
-pub mod Modeling
-pub mod Clashing
+mod Stepping
+mod Learning
+mod Modeling
+mod Clashing
 pub mod WaitingVariables
 pub mod Adopting
-pub mod Joining
-pub mod Keeping
+mod Joining
+mod Keeping
 mod Vectors
-pub mod Places
-pub mod Rounds
-pub mod LevelMarks
-pub mod Moving
-pub mod AssumedLevels
-pub mod Ordering
+mod Places
+mod Rounds
+mod LevelMarks
+mod Moving
+mod AssumedLevels
+mod Ordering

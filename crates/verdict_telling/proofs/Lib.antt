@@ -1,7 +1,7 @@
-pub mod Ends
-pub mod Both
-pub mod Runs
-pub mod Failures
-pub mod Growing
-pub mod Leaving
+mod Ends
+mod Both
+mod Runs
+mod Failures
+mod Growing
+mod Leaving
 pub mod Deciding

@@ -2,4 +2,4 @@ pub mod Weights
 pub mod Places
 pub mod Written
 pub mod Small
-pub mod Vectors
+mod Vectors
