@@ -12,7 +12,7 @@ use crate::kept::{Kept, Setting};
 use crate::refusal::SessionRefusal;
 use des_base::Memory;
 use indep::Indep;
-use least_faults::{Found, MOST_SIZE, build, least};
+use least_faults::{Found, MOST_SIZE, advise, build, least};
 use log_order::AlarmLog;
 use proof_ledger::Ledger;
 use sat_order::Order;
@@ -83,6 +83,7 @@ pub fn ask_kept<R: Fn(u32) -> u64>(
     ensures goes_on { GoesOn budget (stage_of kept.old) (stage_of kept.new) }
     ensures told { IfOk result (IsToldBy setting.entry.net.now setting.entry.steps budget (stage_of kept.old) (stage_of kept.new)) }
 {
+    advise(setting.alloc, setting.net, &kept.log, &mut kept.parts)?;
     let found = least(
         setting.alloc,
         setting.net,

@@ -164,6 +164,18 @@ fn is_told(rt: &impl Abort, alloc: Global, net: &Network, grown: &Grown) -> bool
     are_matched(net, grown, &assign)
 }
 
+// Whether the last variable is the one by which the second alarm is done within the step.
+fn has_undone(net: &Network, grown: &Grown) -> bool
+    requires { IsGrown net.now grown.now.steps grown.now.vars grown.now.alarms grown.now.code.code }
+{
+    let _ = net;
+    if grown.alarms != 2 || grown.steps != 1 {
+        return false;
+    }
+    let undone = grown.code.undone(1, 1);
+    grown.code.steps() == 1 && undone.var == 14 && !undone.positive
+}
+
 // Whether 15 variables and 26 clauses were taken, which all are true.
 fn holds(grown: &Grown) -> bool {
     grown.code.vars() == 15
@@ -189,7 +201,7 @@ fn add_both(rt: &impl Abort, alloc: Global, net: &Network, grown: &mut Grown)
 pub(super) fn tells_both(rt: &impl Abort, alloc: Global, net: &Network) -> bool {
     let mut grown = begun(rt, alloc, net);
     add_both(rt, alloc, net, &mut grown);
-    holds(&grown) && is_told(rt, alloc, net, &grown)
+    holds(&grown) && is_told(rt, alloc, net, &grown) && has_undone(net, &grown)
 }
 
 #[test]

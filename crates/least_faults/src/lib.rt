@@ -1,6 +1,7 @@
 //! The least number of faults that explains an alarm log, by a search upwards from 0 with evidence in a book.
 //!
-//! - [`build`] writes the clauses of a question into a book: the steps of a network, its log, and a counter of its faults.
+//! - [`build`] writes the clauses of a question into a book: the steps of a network, its log, and a counter of its faults. It advises the solver by the
+//!   deadlines of the log's alarms, and so does [`advise`] where the log has grown.
 //! - [`reserve_draft`] and [`add_draft`] add an alarm or a pair of alarms to a question that is built: all memory is taken first.
 //! - [`bound`] gives the literal for at most so many faults, and adds what columns the counter lacks for it.
 //! - [`assumptions`] are what is assumed within a bound.
@@ -14,6 +15,7 @@ mod asking;
 mod axioms;
 mod bounding;
 mod building;
+mod deadlines;
 mod encode;
 mod laws;
 mod parts;
@@ -26,6 +28,7 @@ pub use asking::assumptions;
 pub use axioms::push_axioms;
 pub use bounding::bound;
 pub use building::build;
+pub use deadlines::advise;
 pub use laws::undecided_is_small;
 pub use parts::{Parts, Unbuilt};
 pub use searching::least;

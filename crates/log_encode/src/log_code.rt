@@ -291,6 +291,23 @@ impl LogCode {
         first_done(self.vars_of(&self.alarms[alarm as usize]), assign)
     }
 
+    /// How many steps there are.
+    pub fn steps(&self) -> u32
+        ensures { result ≡ self.now.code.grid.steps }
+    {
+        self.grid.steps
+    }
+
+    /// That the alarm isn't done within so many steps.
+    pub fn undone(&self, alarm: u32, steps: u32) -> Lit
+        requires alarm { alarm < length self.now.code.log.alarms }
+        requires steps { steps ≤ self.now.code.grid.steps }
+        ensures name { name_of (code_names self.now.code) result.var ≡ Some (done alarm steps) }
+        ensures sign { result.positive ≡ false }
+    {
+        Lit::new(self.done(alarm) + steps, false)
+    }
+
     // Whether the alarm is false.
     fn is_dropped(&self, alarm: &AlarmCode, assign: &Assignment) -> bool
         requires within { IsWithin (variables_of self.now.code.grid.steps alarm.now) }
@@ -330,6 +347,7 @@ impl LogCode {
     fn done(&self, alarm: u32) -> u32
         requires { alarm < length self.now.code.log.alarms }
         ensures within { result + self.now.code.grid.steps < self.now.code.vars }
+        ensures few { self.now.code.vars ≤ VAR_LIMIT }
         ensures names { (t : ℕ) → t ≤ self.now.code.grid.steps → name_of (code_names self.now.code) (result + t) ≡ Some (done alarm t) }
     {
         self.vars_of(&self.alarms[alarm as usize]).done(0)

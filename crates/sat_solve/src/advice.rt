@@ -4,9 +4,11 @@
 //   suggested, mostly the most active.
 // - A variable is decided as it last stood (Pipatsrisawat and Darwiche, "A lightweight component caching scheme for satisfiability
 //   solvers", 2007), and the first time as false.
+// - Literals that were given to be tried come before all suggestions, once so many clauses were learnt that the search is no short one.
 //
 // No contract says that the advice is good: whoever takes it tests it.
-ghost use Rattle.std.specs.Prelude.{◌≡◌, OnOk, OnErr};
+ghost use Rattle.std.specs.Prelude.{◌≡◌, ◌<◌, true, false, IfSome, OnOk, OnErr};
+ghost use Rattle.prop_core.specs.Clauses.{is_open};
 ghost use Rattle.prop_core.specs.Derivation.{clause_numbered};
 ghost use Rattle.sat_solve.specs.Activity.{after_conflict, with_clause_part, with_option_part};
 ghost use Rattle.sat_solve.specs.Advice.{no_advice, with_advice, KeepsAdvice, phase_of, with_released, with_hints_part, last_hints};
@@ -15,6 +17,7 @@ ghost use Rattle.sat_solve.specs.LevelCount.{AreLevelsOf, marked_of};
 ghost use Rattle.sat_solve.specs.Restarts.{with_clause, is_due, after_asking};
 
 use crate::activity::Activity;
+use crate::first_tries::FirstTries;
 use crate::levels::Levels;
 use crate::restarts::Restarts;
 use des_base::Memory;
@@ -24,12 +27,16 @@ use sat_prop::Trail;
 use std::alloc::Global;
 use std::marker::Model;
 
+// A search that learnt fewer clauses is a short one.
+const LONG: u64 = 50;
+
 #[derive(Drop)]
 pub struct Advice {
     activity: Activity,
     phases: Vec<bool>,
     levels: Levels,
     restarts: Restarts,
+    tries: FirstTries,
 }
 
 impl Model for Advice {
@@ -50,7 +57,27 @@ impl Advice {
             phases: Vec::new(alloc),
             levels: Levels::new(alloc),
             restarts: Restarts::new(),
+            tries: FirstTries::new(alloc),
         }
+    }
+
+    // These literals are tried first from now on.
+    pub fn try_first(&mut self, lits: Vec<Lit>)
+        ensures { self.new ≡ self.old }
+    {
+        self.tries.replace(lits);
+    }
+
+    // The first literal to be tried that is known and open, where the search is no short one.
+    pub fn first_try(&mut self, trail: &Trail, vars: u32) -> Option<Lit>
+        ensures known { IfSome result (λ lit. lit.var < vars) }
+        ensures undecided { IfSome result (λ lit. is_open trail.now.literals (record { var = lit.var; positive = false }) ≡ true) }
+        ensures same { self.new ≡ self.old }
+    {
+        if self.restarts.learnt() < LONG {
+            return None;
+        }
+        self.tries.next_open(trail, vars)
     }
 
     // Sees to it that there is advice on this many variables.
@@ -97,6 +124,7 @@ impl Advice {
             *phase = lit.positive;
         }
         self.activity.put_back(lit.var, ranks);
+        self.tries.begin_anew();
     }
 
     // Takes note of a clause that was learnt, where the trail still stands as at the conflict.

@@ -1,15 +1,37 @@
-// Which variable to decide next: one that is suggested, or else the first that waits.
+// What to decide next: a literal that is to be tried first, or else a variable that is suggested, or else the first that waits.
 ghost use Rattle.std.specs.Prelude.{◌≡◌, ◌<◌, true, false, length, IfSome, IfNone};
 ghost use Rattle.prop_core.specs.Clauses.{is_open};
 ghost use Rattle.sat_order.specs.Rank.{KeepsRanks};
 ghost use Rattle.sat_solve.specs.Solving.{AreWaiting, AreClosed, IsPicked};
 
 use crate::advice::Advice;
+use prop_core::Lit;
 use sat_order::Order;
 use sat_prop::Trail;
 
-// Takes a variable that is open. Those that come before it and are not open wait no longer.
+// Takes a literal whose variable is open. A variable that isn't to be tried is taken as it last stood.
 pub fn pick<R: Fn(u32) -> u64>(
+    trail: &Trail,
+    order: &mut Order<R>,
+    advice: &mut Advice,
+) -> Option<Lit>
+    requires { AreWaiting order.old.waiting trail.now.literals (length order.old.waiting) }
+    ensures kept { KeepsRanks order.old order.new }
+    ensures some { IfSome result (λ lit. IsPicked trail.now.literals order.old.waiting order.new.waiting lit.var) }
+    ensures none { IfNone result (AreClosed trail.now.literals (length order.old.waiting)) }
+{
+    if let Some(lit) = advice.first_try(trail, order.vars()) {
+        return Some(lit);
+    }
+    let var = pick_var(trail, order, advice)?;
+    Some(Lit {
+        var,
+        positive: advice.phase(var),
+    })
+}
+
+// Takes a variable that is open. Those that come before it and are not open wait no longer.
+fn pick_var<R: Fn(u32) -> u64>(
     trail: &Trail,
     order: &mut Order<R>,
     advice: &mut Advice,

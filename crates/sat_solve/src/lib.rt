@@ -2,7 +2,7 @@
 //!
 //! - The clauses are those of a book. Each clause that is learnt goes into the book as a derived entry, and so does the
 //!   final clause of a refusal: it holds negations of assumptions alone.
-//! - Assumptions are decided first, then variables: of those that took part in conflicts the most active, then the others by their order. A conflict with a decision above the assumptions is a
+//! - Assumptions are decided first, then in a long search the literals that were given to be tried, then variables: of those that took part in conflicts the most active, then the others by their order. A conflict with a decision above the assumptions is a
 //!   *further* conflict; each that is learnt from lowers the budget by one, and none is learnt from where nothing is left.
 //! - Between two searches the trail stands at level 0.
 #![tactic(auto)]
@@ -13,6 +13,7 @@ mod answer;
 mod backtracking;
 mod deciding;
 mod ending;
+mod first_tries;
 mod heap;
 mod laws;
 mod levels;

@@ -66,6 +66,13 @@ impl Restarts {
         }
     }
 
+    // How many clauses were learnt, up to the number from which on the mean moves by the same part.
+    pub fn learnt(&self) -> u64
+        ensures { result ≡ self.now.clauses }
+    {
+        self.clauses
+    }
+
     // Takes note of a clause that was learnt, whose literals are of so many levels.
     pub fn note(&mut self, levels: u64)
         ensures { self.new ≡ with_clause self.old levels }

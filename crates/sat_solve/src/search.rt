@@ -172,9 +172,8 @@ impl<R: Fn(u32) -> u64> Search<R> {
             }
             None => match pick(trail, &mut self.order, &mut self.advice) {
                 None => Ok(Some(Answer::Sat)),
-                Some(var) => {
-                    self.propagator
-                        .decide(Lit::new(var, self.advice.phase(var)));
+                Some(choice) => {
+                    self.propagator.decide(choice);
                     Ok(None)
                 }
             },

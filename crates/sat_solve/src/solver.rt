@@ -109,6 +109,16 @@ impl<R: Fn(u32) -> u64> Solver<R> {
         self.clauses = clauses.len();
     }
 
+    /// Takes advice: a search that is no short one decides these literals, in this order, before any other that isn't assumed.
+    ///
+    /// Literals that are each refuted at once where those before them were make good advice, since what is learnt from them is short. Whatever
+    /// they are, the answers hold.
+    pub fn try_first(&mut self, lits: Vec<Lit>)
+        ensures { self.new ≡ self.old }
+    {
+        self.search.advice.try_first(lits);
+    }
+
     /// Searches for an assignment that makes all clauses of the book and all assumptions true. At most as many clauses are learnt as the
     /// budget has; it is lowered by one for each.
     pub fn solve(

@@ -213,6 +213,24 @@ fn answers_anew<R: Fn(u32) -> u64>(
         && answers_in_two(alloc, solver, book, vars, clauses, early, late)
 }
 
+// Lets the variables be tried as true first, the last one first.
+fn tries_all<R: Fn(u32) -> u64>(alloc: Global, solver: &mut Solver<R>, vars: u32) -> bool
+    ensures { solver.new ≡ solver.old }
+{
+    let mut lits = Vec::new(alloc);
+    for before in 0..vars {
+        let lit = Lit {
+            var: vars - 1 - before,
+            positive: true,
+        };
+        if lits.push(lit).is_err() {
+            return false;
+        }
+    }
+    solver.try_first(lits);
+    true
+}
+
 // The same with this order.
 fn answers<R: Fn(u32) -> u64>(
     alloc: Global,
@@ -228,7 +246,8 @@ fn answers<R: Fn(u32) -> u64>(
     requires empty { book.old.entries ≡ [] }
 {
     let mut solver = Solver::new(alloc, order);
-    let answered = answers_anew(alloc, &mut solver, book, vars, clauses, early, late);
+    let answered = tries_all(alloc, &mut solver, vars)
+        && answers_anew(alloc, &mut solver, book, vars, clauses, early, late);
     drop(solver);
     answered
 }

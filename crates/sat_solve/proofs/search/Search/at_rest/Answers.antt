@@ -1,9 +1,6 @@
 use Rattle.std.proofs.Common.{◌∙◌, refl, sym, ap, false, inl, inr, arith}
-use Rattle.std.specs.Prelude.{None}
-use Rattle.prop_core.specs.declared.lit.Lit.{Lit}
 use Rattle.prop_core.specs.Clauses.{is_true}
 use Rattle.prop_core.proofs.Literals.{open_from, open_var, literal_of}
-use Rattle.sat_prop.specs.Changes.{with_literal}
 use Rattle.sat_solve.proofs.Putting.{learnt_none}
 use Rattle.sat_solve.proofs.Standing.{assumed_small}
 use Rattle.sat_solve.proofs.Stepping.{under_way_decided, longer_decided}
@@ -46,7 +43,7 @@ returns-in-Some-pick-clause-goes_on g c =
     let e = rw c.trail-trail.ensures at c.in-Some-pick.ensures.some in
     let n = w.over.sound.variables in
     record {
-      under_way = under_way_decided c.args.assumptions.now s.taken c.next_assumption.new.taken s.order.waiting c.pick.new.order.waiting s.vars s.spare s.propagator c.decide-in-Some-pick.new.self c.args.book.now.entries (literal_of c.in-Some-pick.var c.phase.result) w c.trail_state.ensures.state (rw c.trail-trail.ensures at c.next_assumption.ensures.taken) c.pick.ensures.kept.variables (c.decide-in-Some-pick.ensures ∙ ap (λ (l : Lit). with_literal s.propagator l None) c.new.ensures)
+      under_way = under_way_decided c.args.assumptions.now s.taken c.next_assumption.new.taken s.order.waiting c.pick.new.order.waiting s.vars s.spare s.propagator c.decide-in-Some-pick.new.self c.args.book.now.entries c.in-Some-pick.choice w c.trail_state.ensures.state (rw c.trail-trail.ensures at c.next_assumption.ensures.taken) c.pick.ensures.kept.variables c.decide-in-Some-pick.ensures
           (let k = e.known in omega arith) (inr (rw c.trail-trail.ensures at c.in-None.ensures.none)) (λ other b. e.others other (omega arith));
       learnt = learnt_none c.args.book.now.entries;
     }
@@ -56,4 +53,4 @@ returns-in-Some-pick-clause-decided g c =
     let s = c.args.self.now in
     let e = rw c.trail-trail.ensures at c.in-Some-pick.ensures.some in
     let n = c.requires.under_way.over.sound.variables in
-    longer_decided s.propagator c.decide-in-Some-pick.new.self (literal_of c.in-Some-pick.var c.phase.result) s.vars c.trail_state.ensures.state (open_var s.propagator.literals (literal_of c.in-Some-pick.var false) (literal_of c.in-Some-pick.var c.phase.result) refl e.undecided) (let k = e.known in omega arith) c.requires.under_way.over.sound.serving.enough (c.decide-in-Some-pick.ensures ∙ ap (λ (l : Lit). with_literal s.propagator l None) c.new.ensures)
+    longer_decided s.propagator c.decide-in-Some-pick.new.self c.in-Some-pick.choice s.vars c.trail_state.ensures.state (open_var s.propagator.literals (literal_of c.in-Some-pick.choice.var false) c.in-Some-pick.choice refl e.undecided) (let k = e.known in omega arith) c.requires.under_way.over.sound.serving.enough c.decide-in-Some-pick.ensures
