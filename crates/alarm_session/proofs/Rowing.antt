@@ -3,8 +3,8 @@ use Rattle.std.proofs.Common.{◌≡◌, ◌≢◌, ◌∙◌, ℕ, Bool, true, 
 use Rattle.alarm_session.proofs.Keeping.{adds_none}
 use Rattle.alarm_session.specs.Additions.{built_on}
 use Rattle.alarm_session.specs.Refusals.{Answers, refusal_of_alarm, refusal_of_before, is_new_pair, log_with, numbers_of}
-use Rattle.alarm_session.specs.Rows.{AreRowsTold, HasCarriedOut, IsLeftUndone, IsRowTold, after_row, built_after, built_with_row, log_after, row_addition, row_refusal, rows_built, told_by, with_row}
-use Rattle.alarm_session.specs.Session.{Becomes, GoesOn, IsSessionBook, IsToldBy, Stage, first_stage}
+use Rattle.alarm_session.specs.Rows.{AreRowsTold, HasCarriedOut, IsLeftUndone, IsRowTold, after_row, built_after, built_with_row, log_after_rows, row_addition, row_refusal, rows_built, told_by, with_row}
+use Rattle.alarm_session.specs.Session.{Becomes, KeepsLog, IsSessionBook, IsToldBy, Stage, first_stage}
 use Rattle.alarm_session.specs.declared.refusal.SessionRefusal.{SessionRefusal}
 use Rattle.alarm_session.specs.declared.refusal.SessionRefusal.TheVariants.{Double, Unknown, Cycle, NoLabels, Limit, TooLarge, Memory}
 use Rattle.alarm_session.specs.declared.rows.Told.{Told}
@@ -150,7 +150,7 @@ module _ (net : Net) (n budget : ℕ) (old : Stage) (row : Row) (new : Stage) wh
       by_cases (Err Memory) same = left same book
 
   -- a question
-  pub question_told : (found : Found) → row ≡ Ask → GoesOn budget old new → IsToldBy net n budget old new found → IsSessionBook net n new → IsRowTold net n budget old row new (Answered found)
+  pub question_told : (found : Found) → row ≡ Ask → KeepsLog budget old new → IsToldBy net n budget old new found → IsSessionBook net n new → IsRowTold net n budget old row new (Answered found)
   question_told found ask goes told book = record {
     tells = record { question = ask; told = told };
     log = goes.log ∙ sym (ap (after_row net n old.log) ask);
@@ -159,7 +159,7 @@ module _ (net : Net) (n budget : ℕ) (old : Stage) (row : Row) (new : Stage) wh
     book = book;
   }
 
-  pub question_undone : row ≡ Ask → GoesOn budget old new → IsSessionBook net n new → IsLeftUndone net n budget old row new
+  pub question_undone : row ≡ Ask → KeepsLog budget old new → IsSessionBook net n new → IsLeftUndone net n budget old row new
   question_undone ask goes book = record { goes_on = goes; addition = λ other. absurd (other ask); book = book }
 
   -- the book goes on
@@ -178,7 +178,7 @@ nothing_added net n stage row ask = subst (λ r. Becomes net n (with_row stage.l
 
 module _ (net : Net) (n budget : ℕ) where
   -- the log after one more row
-  pub log_after_more : (before : Log) (rows : List Row) (row : Row) → log_after net n before (rows ++ row ∷ []) ≡ after_row net n (log_after net n before rows) row
+  pub log_after_more : (before : Log) (rows : List Row) (row : Row) → log_after_rows net n before (rows ++ row ∷ []) ≡ after_row net n (log_after_rows net n before rows) row
   log_after_more before [] row = refl
   log_after_more before (first ∷ rows) row = log_after_more (after_row net n before first) rows row
 
@@ -190,9 +190,9 @@ module _ (net : Net) (n budget : ℕ) where
       (are.0, are.1, are.2 ++ here ∷ [], are.3, rows_told_more are.0 rows row mid new are.2 here are.4 is, ap (λ t. t ++ here ∷ []) are.5)
 
   -- the log is that of the rows, and the question is built of them
-  pub rows_log : (old : Stage) (rows : List Row) (new : Stage) (told : List Told) → AreRowsTold net n budget old rows new told → new.log ≡ log_after net n old.log rows
+  pub rows_log : (old : Stage) (rows : List Row) (new : Stage) (told : List Told) → AreRowsTold net n budget old rows new told → new.log ≡ log_after_rows net n old.log rows
   rows_log old [] new told are = ap (λ (s : Stage). s.log) are.0
-  rows_log old (row ∷ rows) new told are = rows_log are.0 rows new are.2 are.4 ∙ ap (λ l. log_after net n l rows) are.3.log
+  rows_log old (row ∷ rows) new told are = rows_log are.0 rows new are.2 are.4 ∙ ap (λ l. log_after_rows net n l rows) are.3.log
 
   pub rows_are_built : (old : Stage) (rows : List Row) (new : Stage) (told : List Told) → AreRowsTold net n budget old rows new told → (columns : List ℕ) × (new.built ≡ rows_built net n old.log old.built rows columns)
   rows_are_built old [] new told are = ([], ap (λ (s : Stage). s.built) are.0)

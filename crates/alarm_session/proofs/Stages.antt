@@ -1,13 +1,13 @@
 -- How far a session has come: at its beginning, and after a question.
 use Rattle.std.proofs.Common.{◌≡◌, ◌∙◌, ℕ, List, [], ◌++◌, length, map, sym, ap, subst}
-use Rattle.alarm_session.specs.Session.{GoesOn, IsToldBy, first_stage, stage_of}
+use Rattle.alarm_session.specs.Session.{KeepsLog, IsToldBy, first_stage, stage_of}
 use Rattle.alarm_session.specs.declared.kept.Kept.{Kept}
 use Rattle.des_net.specs.Network.{Net}
 use Rattle.least_faults.proofs.AxiomLists.{axioms_added}
 use Rattle.least_faults.proofs.Roomless.{answered_roomless, columns_roomless}
 use Rattle.least_faults.specs.Answers.{IsAnswered}
 use Rattle.least_faults.specs.Growing.{AddsAxioms, HasGrownWithin, KeepsQuestion}
-use Rattle.least_faults.specs.Parts.{IsBuilt, built_of, names_of}
+use Rattle.least_faults.specs.Parts.{IsBuilt, built_of, names_of_parts}
 use Rattle.least_faults.specs.declared.answer.Found.{Found}
 use Rattle.log_order.specs.Log.{no_log}
 use Rattle.proof_ledger.specs.Book.{BookEntry, axiomatic, axioms_of, IsValidBook}
@@ -29,7 +29,7 @@ stage_begun net n kept old log empty adds none built = λ i. record { log = log 
     book = whole ∙ ap (map axiomatic) (sym (axioms_added [] adds.axioms) ∙ sym (ap axioms_of whole) ∙ ap (λ (q : BuiltQuestion). q.axioms) first)
 
 module _ {R : Type 0} (budget : ℕ) (old new : Kept R) (keeps : KeepsQuestion old.parts new.parts old.book.entries new.book.entries) where
-  pub question_goes_on : new.log ≡ old.log → HasGrownWithin budget old.book.entries new.book.entries → GoesOn budget (stage_of old) (stage_of new)
+  pub question_goes_on : new.log ≡ old.log → HasGrownWithin budget old.book.entries new.book.entries → KeepsLog budget (stage_of old) (stage_of new)
   question_goes_on same grown = record {
     log = same;
     columns = length keeps.counter.columns;
@@ -38,13 +38,13 @@ module _ {R : Type 0} (budget : ℕ) (old new : Kept R) (keeps : KeepsQuestion o
   }
 
   pub question_told_by : (net : Net) (n : ℕ) (found : Found) → old.parts.step.steps ≡ n →
-      IsAnswered (names_of new.parts) (built_of old.parts old.book.entries) net old.log new.parts.step.steps budget old.book.entries new.book.entries found → IsValidBook new.book.entries → IsToldBy net n budget (stage_of old) (stage_of new) found
+      IsAnswered (names_of_parts new.parts) (built_of old.parts old.book.entries) net old.log new.parts.step.steps budget old.book.entries new.book.entries found → IsValidBook new.book.entries → IsToldBy net n budget (stage_of old) (stage_of new) found
   question_told_by net n found time answered valid =
       let first = built_of old.parts old.book.entries in
       let steps = ap (λ (s : CodedSteps). s.steps) keeps.step ∙ time in
       record {
-        names = names_of new.parts;
-        answered = answered_roomless (names_of new.parts) first net old.log n budget old.book.entries new.book.entries found
-            (subst (λ k. IsAnswered (names_of new.parts) first net old.log k budget old.book.entries new.book.entries found) steps answered);
+        names = names_of_parts new.parts;
+        answered = answered_roomless (names_of_parts new.parts) first net old.log n budget old.book.entries new.book.entries found
+            (subst (λ k. IsAnswered (names_of_parts new.parts) first net old.log k budget old.book.entries new.book.entries found) steps answered);
         valid = valid;
       }

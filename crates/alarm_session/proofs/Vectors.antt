@@ -3,12 +3,12 @@ use Rattle.std.proofs.Common.{◌≡◌, ℕ, true, false, List, [], ◌∷◌, 
 use Rattle.std.specs.Prelude.{codes}
 use Rattle.alarm_session.specs.Additions.{alarm_addition}
 use Rattle.alarm_session.specs.Refusals.{refusal_number, refusal_of}
-use Rattle.alarm_session.specs.Rows.{log_after, row_refusal, script_built}
+use Rattle.alarm_session.specs.Rows.{log_after_rows, row_refusal, script_built}
 use Rattle.alarm_session.specs.declared.refusal.SessionRefusal.TheVariants.{Double, Unknown, Cycle, NoLabels, TooLarge}
 use Rattle.des_net.specs.Models.{masked, pump}
 use Rattle.least_faults.specs.Columns.{columns_built}
 use Rattle.log_clauses.specs.Additions.{pair_added}
-use Rattle.log_csv.specs.Reading.{code_of}
+use Rattle.log_csv.specs.Reading.{refusal_code}
 use Rattle.log_csv.specs.declared.row.Row.{Row}
 use Rattle.log_csv.specs.declared.row.Row.TheVariants.{Alarm, Maybe, Before, Ask}
 use Rattle.log_order.specs.Adding.{alarm_refusal, before_refusal}
@@ -18,7 +18,7 @@ use Rattle.log_order.specs.declared.refusal.LogRefusal.TheVariants as of_log
 use Rattle.run_decode.specs.QuestionAxioms.{added_built, question_built}
 
 -- the refusals of a log have the numbers that they have in its text
-pub same_codes : (refusal : LogRefusal) → refusal_number (refusal_of refusal) ≡ code_of refusal
+pub same_codes : (refusal : LogRefusal) → refusal_number (refusal_of refusal) ≡ refusal_code refusal
 same_codes of_log.Double = refl
 same_codes of_log.Unknown = refl
 same_codes of_log.Cycle = refl
@@ -37,7 +37,7 @@ y = codes "y"
 abbrev pub both : Log
 both = a_log (an_alarm x (codes "A" ∷ []) false ∷ an_alarm y (codes "B" ∷ []) true ∷ []) ((1, 0) ∷ [])
 
-pub script-log : log_after masked 2 no_log (Alarm x (codes "A" ∷ []) ∷ Ask ∷ Maybe y (codes "B" ∷ codes "B" ∷ []) ∷ Before y x ∷ Ask ∷ Before x y ∷ Ask ∷ []) ≡ both
+pub script-log : log_after_rows masked 2 no_log (Alarm x (codes "A" ∷ []) ∷ Ask ∷ Maybe y (codes "B" ∷ codes "B" ∷ []) ∷ Before y x ∷ Ask ∷ Before x y ∷ Ask ∷ []) ≡ both
 unfolding alarm_refusal before_refusal
 script-log = refl
 

@@ -2,7 +2,7 @@
 use Rattle.std.specs.Prelude.{◌≡◌, ◌≢◌, ℕ, List, [], ◌∷◌, drop, slice_index_or, Option, Some, None, Result, Ok, Err, is_some, true, false, if◌then◌else◌}
 use Rattle.alarm_session.specs.Additions.{alarm_addition, built_on, pair_addition}
 use Rattle.alarm_session.specs.Refusals.{refusal_of_alarm, refusal_of_before, log_with, numbers_of}
-use Rattle.alarm_session.specs.Session.{GoesOn, IsSessionBook, IsToldBy, Stage, first_stage}
+use Rattle.alarm_session.specs.Session.{KeepsLog, IsSessionBook, IsToldBy, Stage, first_stage}
 use Rattle.alarm_session.specs.declared.refusal.SessionRefusal.{SessionRefusal}
 use Rattle.alarm_session.specs.declared.refusal.SessionRefusal.TheVariants.{Double, Unknown, Cycle, NoLabels, Limit, TooLarge, Memory}
 use Rattle.alarm_session.specs.declared.rows.Told.{Told}
@@ -41,9 +41,9 @@ abbrev pub after_row : Net → ℕ → Log → Row → Log
 after_row net n log row = if is_some (row_refusal net n log row) then log else with_row log row
 
 -- and after these rows, one after another
-abbrev pub log_after : Net → ℕ → Log → List Row → Log
-log_after net n log [] = log
-log_after net n log (row ∷ rows) = log_after net n (after_row net n log row) rows
+abbrev pub log_after_rows : Net → ℕ → Log → List Row → Log
+log_after_rows net n log [] = log
+log_after_rows net n log (row ∷ rows) = log_after_rows net n (after_row net n log row) rows
 
 -- ---- the question of some rows, as it is built
 
@@ -77,7 +77,7 @@ script_built net n rows columns = rows_built net n no_log (question_built net no
 -- ---- what a row tells
 
 -- The row is an addition that nothing is against. It is made: a few axioms were put, or nothing where it is in the log already.
-pub record IsMade (net : Net) (n : ℕ) (old : Stage) (row : Row) (new : Stage) : Type 0 where
+pub record IsAdditionMade (net : Net) (n : ℕ) (old : Stage) (row : Row) (new : Stage) : Type 0 where
   pub addition : row ≢ Ask
   pub accepted : row_refusal net n old.log row ≡ None
   pub few : AddsFew net n old.log (with_row old.log row) old.book new.book
@@ -95,14 +95,14 @@ pub record IsAsked (net : Net) (n budget : ℕ) (old : Stage) (row : Row) (new :
   pub told : IsToldBy net n budget old new found
 
 -- what it means that a row told this: an addition was made or refused, or a question was answered
-abbrev pub Tells : Net → ℕ → ℕ → Stage → Row → Stage → Told → Type 0
-Tells net n budget old row new Made = IsMade net n old row new
-Tells net n budget old row new (Refused refusal) = IsRefused net n old row new refusal
-Tells net n budget old row new (Answered found) = IsAsked net n budget old row new found
+abbrev pub TellsOfRow : Net → ℕ → ℕ → Stage → Row → Stage → Told → Type 0
+TellsOfRow net n budget old row new Made = IsAdditionMade net n old row new
+TellsOfRow net n budget old row new (Refused refusal) = IsRefused net n old row new refusal
+TellsOfRow net n budget old row new (Answered found) = IsAsked net n budget old row new found
 
 -- What a row told, and how far the session has come with it: log and question are those after the row, the question with so many columns more where the row asks. The book has its axioms, is valid and lean, and asks what explains the log.
 pub record IsRowTold (net : Net) (n budget : ℕ) (old : Stage) (row : Row) (new : Stage) (told : Told) : Type 0 where
-  pub tells : Tells net n budget old row new told
+  pub tells : TellsOfRow net n budget old row new told
   pub log : new.log ≡ after_row net n old.log row
   pub columns : ℕ
   pub built : new.built ≡ built_after net n old.log old.built row columns
@@ -111,7 +111,7 @@ pub record IsRowTold (net : Net) (n budget : ℕ) (old : Stage) (row : Row) (new
 -- Out of memory. The log is as it was, and question and book got no more than by a search that learns as many clauses as the budget says; by an addition they got nothing.
 -- The book has the axioms of the question as it is built so far, is valid and lean, and asks what explains the log.
 pub record IsLeftUndone (net : Net) (n budget : ℕ) (old : Stage) (row : Row) (new : Stage) : Type 0 where
-  pub goes_on : GoesOn budget old new
+  pub goes_on : KeepsLog budget old new
   pub addition : row ≢ Ask → new ≡ old
   pub book : IsSessionBook net n new
 
@@ -138,7 +138,7 @@ AreRowsTold net n budget old (row ∷ rows) new told =
 -- The book goes on from the axioms of the empty log's question. It has the axioms of the question that it came to, as a list, is valid and lean, and asks what explains the log.
 pub record HasCarriedOut (net : Net) (n budget : ℕ) (rows : List Row) (left : Stage) (told : List Told) : Type 0 where
   pub each : AreRowsTold net n budget (first_stage net n) rows left told
-  pub log : left.log ≡ log_after net n no_log rows
+  pub log : left.log ≡ log_after_rows net n no_log rows
   pub columns : List ℕ
   pub built : left.built ≡ script_built net n rows columns
   pub front : Extends (first_stage net n).book left.book

@@ -76,7 +76,7 @@ pub record IsDraftedFor {R : Type 0} (net : Net) (n : ℕ) (kept : Kept R) (addi
   pub limits : IsWithinLimits net new n
 
 -- It has come to nothing yet, and ranks by this.
-pub record HasBegun {R : Type 0} (net : Net) (n : ℕ) (rank : R) (kept : Kept R) : Type 0 where
+pub record IsAtFirstStage {R : Type 0} (net : Net) (n : ℕ) (rank : R) (kept : Kept R) : Type 0 where
   pub stage : stage_of kept ≡ first_stage net n
   pub rank_is : kept.parts.solver.order.rank ≡ rank
 
@@ -102,7 +102,7 @@ pub record Becomes (net : Net) (n : ℕ) (wanted : Log) (added : Option Addition
   pub few : AddsFew net n old.log wanted old.book new.book
 
 -- The log stays, its question perhaps gets further columns, and the book got entries, of which no more are learnt clauses than the budget says, each of them fresh.
-pub record GoesOn (budget : ℕ) (old new : Stage) : Type 0 where
+pub record KeepsLog (budget : ℕ) (old new : Stage) : Type 0 where
   pub log : new.log ≡ old.log
   pub columns : ℕ
   pub built : new.built ≡ columns_built old.built columns

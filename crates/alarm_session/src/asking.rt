@@ -1,7 +1,7 @@
 // A session begins, and questions are asked of what it keeps.
 ghost use Rattle.std.specs.Prelude.{◌≡◌, ◌≤◌, [], IfOk};
 ghost use Rattle.alarm_session.specs.Refusals.{Answers, large_refusal};
-ghost use Rattle.alarm_session.specs.Session.{GoesOn, HasBegun, IsRankedKept, IsToldBy, stage_of};
+ghost use Rattle.alarm_session.specs.Session.{KeepsLog, IsAtFirstStage, IsRankedKept, IsToldBy, stage_of};
 ghost use Rattle.des_base.specs.declared.TheConstants.{MOST_STEPS};
 ghost use Rattle.indep.specs.StoredTest.{IsTest};
 ghost use Rattle.log_order.specs.Log.{no_log};
@@ -34,7 +34,7 @@ pub fn begin<T: Fn(u32, u32) -> bool, R: Fn(u32) -> u64>(
     requires empty { book.entries ≡ [] }
     ensures refused { Answers result (large_refusal (question_size setting.entry.net.now no_log setting.entry.steps)) }
     ensures kept { IfOk result (IsRankedKept R.pre R.post setting.entry.net.now setting.entry.steps) }
-    ensures begun { IfOk result (HasBegun setting.entry.net.now setting.entry.steps rank.rank) }
+    ensures begun { IfOk result (IsAtFirstStage setting.entry.net.now setting.entry.steps rank.rank) }
 {
     // (What isn't kept is let go by calls: exits that do so by themselves are dear to prove.)
     let log = AlarmLog::new(setting.alloc);
@@ -80,7 +80,7 @@ pub fn ask_kept<R: Fn(u32) -> u64>(
     requires kept { IsRankedKept R.pre R.post setting.net.now setting.steps kept.old }
     ensures kept { IsRankedKept R.pre R.post setting.entry.net.now setting.entry.steps kept.new }
     ensures rank { kept.new.parts.solver.order.rank ≡ kept.old.parts.solver.order.rank }
-    ensures goes_on { GoesOn budget (stage_of kept.old) (stage_of kept.new) }
+    ensures goes_on { KeepsLog budget (stage_of kept.old) (stage_of kept.new) }
     ensures told { IfOk result (IsToldBy setting.entry.net.now setting.entry.steps budget (stage_of kept.old) (stage_of kept.new)) }
 {
     advise(setting.alloc, setting.net, &kept.log, &mut kept.parts)?;

@@ -3,7 +3,7 @@ ghost use Rattle.std.specs.Prelude.{◌≡◌, ◌≤◌, Some, [], false, lengt
 ghost use Rattle.alarm_session.specs.Additions.{alarm_addition, pair_addition};
 ghost use Rattle.alarm_session.specs.Refusals.{Answers, refusal_of_alarm, refusal_of_before, is_new_pair, large_refusal, log_with, numbers_of};
 ghost use Rattle.alarm_session.specs.Rows.{IsLeftUndone, IsRowTold};
-ghost use Rattle.alarm_session.specs.Session.{Becomes, BeginsAs, GoesOn, IsSessionBook, IsToldBy, KeepsSetting};
+ghost use Rattle.alarm_session.specs.Session.{Becomes, BeginsAs, KeepsLog, IsSessionBook, IsToldBy, KeepsSetting};
 ghost use Rattle.des_base.specs.declared.TheConstants.{MOST_STEPS};
 ghost use Rattle.indep.specs.StoredTest.{IsTest};
 ghost use Rattle.log_order.specs.Adding.{with_alarm};
@@ -127,7 +127,7 @@ impl<'a, R: Fn(u32) -> u64> Session<'a, R> {
         requires ranked { IsRanked R.pre R.post self.old.order }
         ensures ranked { IsRanked R.pre R.post self.new.order }
         ensures kept { KeepsSetting self.old self.new }
-        ensures goes_on { GoesOn budget self.old.stage self.new.stage }
+        ensures goes_on { KeepsLog budget self.old.stage self.new.stage }
         ensures told { IfOk result (IsToldBy self.old.net self.old.steps budget self.old.stage self.new.stage) }
     {
         ask_kept(self.setting, &mut self.kept, budget)

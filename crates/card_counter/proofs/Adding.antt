@@ -8,7 +8,7 @@ use Rattle.prop_core.specs.ClauseStore.{ClauseStore}
 use Rattle.prop_core.specs.Clauses.{Clause}
 use Rattle.card_counter.proofs.Inputs.{inputs_add_clauses, place_cases, variable_before, variable_new, longer_size, full_stays}
 use Rattle.card_counter.specs.Growing.{HasRoom, MayCount, AddsInput, AddsInputs}
-use Rattle.card_counter.specs.CounterState.{CounterState, IsPlace, IsCounter, IsMade, IsOutside, HasInputs, ManyInputsAdd, IsFull, variable, counter_clauses, with_input, with_inputs, input_clauses, inputs_clauses}
+use Rattle.card_counter.specs.CounterState.{CounterState, IsPlace, IsCounter, IsMade, IsOutside, HasMoreInputs, ManyInputsAdd, IsFull, variable, counter_clauses, with_input, with_inputs, input_clauses, inputs_clauses}
 
 -- ---- one input more keeps the others outside
 
@@ -125,7 +125,7 @@ no_clauses_more : (state : CounterState) (clause : Clause) → Contains (counter
 no_clauses_more state clause (inl in') = in'
 no_clauses_more state clause (inr none) = absurd (let inside = none.1 in omega (arith, inside))
 
-one_then_others : (state : CounterState) (input : Lit) (more : List Lit) (first : ℕ) → IsFull state → HasInputs (with_input state input first) more (first + length state.columns) → HasInputs state (input ∷ more) first
+one_then_others : (state : CounterState) (input : Lit) (more : List Lit) (first : ℕ) → IsFull state → HasMoreInputs (with_input state input first) more (first + length state.columns) → HasMoreInputs state (input ∷ more) first
 one_then_others state input more first full rest = record {
   inputs = rest.inputs ∙ append_assoc state.inputs (input ∷ []) more;
   columns = rest.columns ∙ longer_size first state.columns;

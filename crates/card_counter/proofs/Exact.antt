@@ -14,7 +14,7 @@ use Rattle.card_counter.proofs.Counts.{count_cons, Reaches, reached, counting}
 use Rattle.card_counter.proofs.NameLemmas.{no_name, counter_names_stand}
 use Rattle.card_counter.specs.CounterClauses.{CountClause, counts_on, counts_up, opposite, count_clause, IsCountClause, IsOfColumns, IsNamedCount}
 use Rattle.card_counter.specs.CounterState.{CounterState, IsPlace, IsCounter, variable, column_at, column_before, positive, Reached, always, never, told_by, reached_in, reached_before, under, place_clauses, input_at, column_clauses, counter_clauses, bound_literal, counter_names}
-use Rattle.card_counter.specs.Counting.{true_count, AgreeOutside, Extends, CounterIsExact, is_count, counted, NamedCountIsExact}
+use Rattle.card_counter.specs.Counting.{true_count, AgreeOutside, ExtendsOverCounter, CounterIsExact, is_count, counted, NamedCountIsExact}
 use Rattle.prop_core.specs.Trail.{no_literal}
 
 -- ---- clauses with premises
@@ -213,7 +213,7 @@ module _ (state : CounterState) (counter : IsCounter state) where
   whole value some = ap (count_by (literal_true value)) (take_all (suc (length state.inputs - 1)) state.inputs (omega arith))
 
   bounded_to : (given : ℕ → Bool) (k : ℕ) → k < length state.columns →
-      Extends state given (λ assignment. AllClausesTrue assignment (counter_clauses state) × IsTrue (literal_true assignment (bound_literal state k))) → true_count given state.inputs ≤ k
+      ExtendsOverCounter state given (λ assignment. AllClausesTrue assignment (counter_clauses state) × IsTrue (literal_true assignment (bound_literal state k))) → true_count given state.inputs ≤ k
   bounded_to given k h (assignment, agree, (all, bound)) = by (cases_lt k (true_count given state.inputs))
     where
       some : 0 < length state.inputs
@@ -232,7 +232,7 @@ module _ (state : CounterState) (counter : IsCounter state) where
       by (inr few) = few
 
   bounded_back : (given : ℕ → Bool) (k : ℕ) → k < length state.columns → true_count given state.inputs ≤ k →
-      Extends state given (λ assignment. AllClausesTrue assignment (counter_clauses state) × IsTrue (literal_true assignment (bound_literal state k)))
+      ExtendsOverCounter state given (λ assignment. AllClausesTrue assignment (counter_clauses state) × IsTrue (literal_true assignment (bound_literal state k)))
   bounded_back given k h few = (counting_by state given, outside given, (holds given, bound))
     where
       some : 0 < length state.inputs

@@ -208,14 +208,14 @@ pub record AreAlike (state other : CounterState) : Type 0 where
   pub columns : other.columns ≡ state.columns
 
 -- Inputs more: first those that there were, then these; and the clauses are those that there were, which stay, and the new ones.
-pub record HasInputs (state : CounterState) (more : List Lit) (first : ℕ) : Type 0 where
+pub record HasMoreInputs (state : CounterState) (more : List Lit) (first : ℕ) : Type 0 where
   pub inputs : (with_inputs state more first).inputs ≡ state.inputs ++ more
   pub columns : length (with_inputs state more first).columns ≡ length state.columns
   pub clauses : (clause : Clause) → Contains (counter_clauses (with_inputs state more first)) clause ↔ Contains (counter_clauses state) clause ⊎ Contains (inputs_clauses state more first) clause
 
 -- So it is of each counter whose columns are full, with whatever further inputs.
 abbrev pub ManyInputsAdd : Type 0
-ManyInputsAdd = (state : CounterState) (more : List Lit) (first : ℕ) → IsFull state → HasInputs state more first
+ManyInputsAdd = (state : CounterState) (more : List Lit) (first : ℕ) → IsFull state → HasMoreInputs state more first
 
 -- ---- names
 

@@ -19,17 +19,17 @@ abbrev pub AgreeOutside : CounterState → (ℕ → Bool) → (ℕ → Bool) →
 AgreeOutside state given assignment = (var : ℕ) → ((i j : ℕ) → IsPlace state i j → var ≢ variable state i j) → assignment var ≡ given var
 
 -- a change of the counter's own variables alone makes it hold
-abbrev pub Extends : CounterState → (ℕ → Bool) → ((ℕ → Bool) → Type 0) → Type 0
-Extends state given holds = (assignment : ℕ → Bool) × AgreeOutside state given assignment × holds assignment
+abbrev pub ExtendsOverCounter : CounterState → (ℕ → Bool) → ((ℕ → Bool) → Type 0) → Type 0
+ExtendsOverCounter state given holds = (assignment : ℕ → Bool) × AgreeOutside state given assignment × holds assignment
 
 -- With this literal as an assumption the clauses can be made true exactly where at most k inputs are true.
 abbrev pub Bounds : CounterState → Lit → ℕ → Type 0
 Bounds state bound k = (given : ℕ → Bool) →
-    Extends state given (λ assignment. AllClausesTrue assignment (counter_clauses state) × IsTrue (literal_true assignment bound)) ↔ true_count given state.inputs ≤ k
+    ExtendsOverCounter state given (λ assignment. AllClausesTrue assignment (counter_clauses state) × IsTrue (literal_true assignment bound)) ↔ true_count given state.inputs ≤ k
 
 -- The clauses alone can be made true whatever the inputs are, and each column has its bound.
 pub record Counts (state : CounterState) : Type 0 where
-  pub free : (given : ℕ → Bool) → Extends state given (λ assignment. AllClausesTrue assignment (counter_clauses state))
+  pub free : (given : ℕ → Bool) → ExtendsOverCounter state given (λ assignment. AllClausesTrue assignment (counter_clauses state))
   pub bounded : (k : ℕ) → k < length state.columns → Bounds state (bound_literal state k) k
 
 -- So it is of each counter, whatever its inputs.

@@ -33,20 +33,20 @@ use Rattle.weight_counter.specs.declared.scale.Scale.{Scale}
 use Rattle.weight_counter.specs.declared.weighted.Weighted.{Weighted}
 use Rattle.cost_least.proofs.Asked.{told_at, costs_are_ruled_out, within_limit}
 use Rattle.cost_least.proofs.Asks.{asks_costs}
-use Rattle.cost_least.specs.Answers.{CostAsked, AreTold, IsPriced}
+use Rattle.cost_least.specs.Answers.{CostAsked, PoseCostQuestion, IsPriced}
 use Rattle.cost_least.specs.Asking.{AreLearnt, HasAskedCost}
 use Rattle.cost_least.specs.Pricing.{PosesCosts, cost_limit}
 use Rattle.cost_least.specs.Searching.{MayBound}
-use Rattle.cost_least.specs.Weighed.{AreWeighedParts, guards_of, assumed_at}
+use Rattle.cost_least.specs.Weighed.{AreWeighedParts, log_guards, assumed_at}
 use Rattle.cost_least.specs.declared.answer.Priced.{Priced}
 use Rattle.cost_least.specs.declared.asking.Asked.TheVariants.{Explained, Refuted, Spent}
 
 -- ---- what is assumed
 
 module _ (cost : ℕ → ℕ) (steps : CodedSteps) (code : CodedLog) (counter : CounterState) (vars : ℕ) (axioms : List Clause) (scale : Scale) (parts : AreWeighedParts cost steps code counter vars axioms scale) (net : Net) (log : Log) (of_net : steps.net ≡ net)
-    (network : IsNetwork net) (valid : IsValidLog log) (same : code.log ≡ without_names log) (read : ReadsAs (read_names code) (guards_of code) (guard_literals code.net code.log)) where
+    (network : IsNetwork net) (valid : IsValidLog log) (same : code.log ≡ without_names log) (read : ReadsAs (read_names code) (log_guards code) (guard_literals code.net code.log)) where
   -- within each bound that may be asked for
-  pub told : (bound : Option ℕ) → IfSome bound (MayBound scale) → AreTold (record { net = net; cost = cost; log = log; steps = steps.steps }) bound axioms (assumed_at code scale bound)
+  pub told : (bound : Option ℕ) → IfSome bound (MayBound scale) → PoseCostQuestion (record { net = net; cost = cost; log = log; steps = steps.steps }) bound axioms (assumed_at code scale bound)
   told bound may =
       subst (λ (m : Net). PosesCosts m cost log steps.steps bound axioms (assumed_at code scale bound)) of_net
       (told_at cost steps code counter vars axioms scale log parts (subst IsNetwork (sym of_net) network) valid same read bound may)
@@ -58,13 +58,13 @@ module _ (cost : ℕ → ℕ) (steps : CodedSteps) (code : CodedLog) (counter : 
   first_within = let all = parts.vars_are in omega (arith, all)
 
   -- the guards are variables before those of the scale
-  pub guards_before : HasValues scale.first (guards_of code)
+  pub guards_before : HasValues scale.first (log_guards code)
   guards_before =
       let assumes = (asks_costs cost steps code counter vars axioms scale parts log same read).asks.assumes in
-      read_below scale.first (whole_names steps code counter) (guards_of code) assumes.read (names_below steps code counter scale.first parts.own parts.coded) assumes.by_name
+      read_below scale.first (whole_names steps code counter) (log_guards code) assumes.read (names_below steps code counter scale.first parts.own parts.coded) assumes.by_name
 
-  guards_below : HasValues vars (guards_of code)
-  guards_below = below_more scale.first vars (guards_of code) first_within guards_before
+  guards_below : HasValues vars (log_guards code)
+  guards_below = below_more scale.first vars (log_guards code) first_within guards_before
 
   limit_below : (bound : Option ℕ) → IfSome bound (MayBound scale) → HasValues vars (cost_limit scale bound)
   limit_below None may = All-nil (λ (l : Lit). l.var < vars)
@@ -76,19 +76,19 @@ module _ (cost : ℕ → ℕ) (steps : CodedSteps) (code : CodedLog) (counter : 
 
   pub assumed_known : (values : ℕ) → vars ≤ values → (bound : Option ℕ) → IfSome bound (MayBound scale) → HasValues values (assumed_at code scale bound)
   assumed_known values enough bound may =
-      below_more vars values (assumed_at code scale bound) enough (All-append (λ (l : Lit). l.var < vars) (guards_of code) (cost_limit scale bound) guards_below (limit_below bound may))
+      below_more vars values (assumed_at code scale bound) enough (All-append (λ (l : Lit). l.var < vars) (log_guards code) (cost_limit scale bound) guards_below (limit_below bound may))
 
   -- ---- a model
 
   own_true : (value : ℕ → Bool) → AllClausesTrue value axioms → AllClausesTrue value parts.own × AllClausesTrue value (scale_clauses (place_variable scale) scale.amounts parts.inputs)
   own_true value all = all_split (λ (c : Clause). IsTrue (clause_true value c)) parts.own (scale_clauses (place_variable scale) scale.amounts parts.inputs) (subst (AllClausesTrue value) parts.whole all)
 
-  assumed_true : (value : ℕ → Bool) (bound : Option ℕ) → AllLiteralsTrue value (assumed_at code scale bound) → AllLiteralsTrue value (guards_of code) × AllLiteralsTrue value (cost_limit scale bound)
-  assumed_true value bound literals = all_split (λ (l : Lit). IsTrue (literal_true value l)) (guards_of code) (cost_limit scale bound) literals
+  assumed_true : (value : ℕ → Bool) (bound : Option ℕ) → AllLiteralsTrue value (assumed_at code scale bound) → AllLiteralsTrue value (log_guards code) × AllLiteralsTrue value (cost_limit scale bound)
+  assumed_true value bound literals = all_split (λ (l : Lit). IsTrue (literal_true value l)) (log_guards code) (cost_limit scale bound) literals
 
   pub model_run : (value : ℕ → Bool) (bound : Option ℕ) → AllClausesTrue value axioms → AllLiteralsTrue value (assumed_at code scale bound) → IsTrueRun steps code value
   model_run value bound all literals =
-      true_run steps code counter scale.first parts.own None (guards_of code) value parts.coded (without_bound code counter (guards_of code) (guards_of code) read refl) (own_true value all).0 (assumed_true value bound literals).0
+      true_run steps code counter scale.first parts.own None (log_guards code) value parts.coded (without_bound code counter (log_guards code) (log_guards code) read refl) (own_true value all).0 (assumed_true value bound literals).0
 
   -- a total that the true inputs weigh is within the bound
   pub model_within : (value : ℕ → Bool) (bound : Option ℕ) → IfSome bound (MayBound scale) → AllClausesTrue value axioms → AllLiteralsTrue value (assumed_at code scale bound) → (total : ℕ) → total ≡ weight_true value parts.inputs → IsWithin bound total
@@ -142,7 +142,7 @@ module _ (q : CostAsked) (code : CodedLog) (scale : Scale) (bound : Option ℕ) 
     means = record { given = given; within = within; counted = counted; learnt = subst AreLearnt (same_since put.since put.whole) put.put };
   }
 
-  pub asked_refuted : (number : ℕ) → AreTold q bound (axioms_of mid) (assumed_at code scale bound) → HasPut mid new (solver.Unsat number) → IsRefuted new (assumed_at code scale bound) number → IsValidBook new →
+  pub asked_refuted : (number : ℕ) → PoseCostQuestion q bound (axioms_of mid) (assumed_at code scale bound) → HasPut mid new (solver.Unsat number) → IsRefuted new (assumed_at code scale bound) number → IsValidBook new →
       HasAskedCost q code scale bound mid new before after Refuted
   asked_refuted number tells put refuted valid = record {
     since = searched.since;

@@ -27,12 +27,12 @@ use Rattle.cost_least.specs.Answers.{CostAsked, Needs, IsPriced, IsCostEvidence,
 use Rattle.cost_least.specs.Costs.{total}
 use Rattle.cost_least.specs.Pricing.{ExplainsAt, PosesCosts}
 use Rattle.cost_least.specs.Searching.{MayBound, CostsAreRuledOut}
-use Rattle.cost_least.specs.Weighed.{AreWeighedParts, guards_of, assumed_at}
+use Rattle.cost_least.specs.Weighed.{AreWeighedParts, log_guards, assumed_at}
 use Rattle.cost_least.specs.declared.answer.Priced.{Priced}
 
 -- without a bound, and within one that may be asked for
 pub told_at : (cost : ℕ → ℕ) (steps : CodedSteps) (code : CodedLog) (counter : CounterState) (vars : ℕ) (axioms : List Clause) (scale : Scale) (log : Log) → AreWeighedParts cost steps code counter vars axioms scale →
-    IsNetwork steps.net → IsValidLog log → code.log ≡ without_names log → ReadsAs (read_names code) (guards_of code) (guard_literals code.net code.log) → (bound : Option ℕ) → IfSome bound (MayBound scale) →
+    IsNetwork steps.net → IsValidLog log → code.log ≡ without_names log → ReadsAs (read_names code) (log_guards code) (guard_literals code.net code.log) → (bound : Option ℕ) → IfSome bound (MayBound scale) →
     PosesCosts steps.net cost log steps.steps bound axioms (assumed_at code scale bound)
 told_at cost steps code counter vars axioms scale log parts network valid same read None may = (tells_costs cost steps code counter vars axioms scale parts log network valid same read).unbounded
 told_at cost steps code counter vars axioms scale log parts network valid same read (Some b) may = (tells_costs cost steps code counter vars axioms scale parts log network valid same read).bounded b may.few may.some

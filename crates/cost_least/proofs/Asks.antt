@@ -7,7 +7,7 @@ use Rattle.card_counter.specs.CounterState.{CounterState, counter_names}
 use Rattle.des_net.specs.Network.{IsNetwork}
 use Rattle.least_faults.proofs.Below.{AreBelow, names_below}
 use Rattle.log_clauses.specs.LogClauses.{guard_literals, doubtful_alarms}
-use Rattle.log_encode.specs.CodedLog.{CodedLog, read_names, without_names, code_names as log_names}
+use Rattle.log_encode.specs.CodedLog.{CodedLog, read_names, without_names, log_names}
 use Rattle.log_clauses.specs.LogCodes.{AreAmong}
 use Rattle.log_order.specs.Log.{Log, IsValidLog}
 use Rattle.log_clauses.proofs.Codes.{named_entry}
@@ -29,7 +29,7 @@ use Rattle.weight_counter.specs.declared.weighted.Weighted.{Weighted}
 use Rattle.cost_least.proofs.Inputs.{zip_inputs, names_are, weights_are, literals_are, false_count_is}
 use Rattle.cost_least.proofs.Pricing.{costs_are_told}
 use Rattle.cost_least.specs.Pricing.{named_weights, IsInput, AsksCosts, TellsCosts}
-use Rattle.cost_least.specs.Weighed.{ScaledPartsTell, AreWeighedParts, fault_weights, weighs_one, guards_of}
+use Rattle.cost_least.specs.Weighed.{ScaledPartsTell, AreWeighedParts, fault_weights, weighs_one, log_guards}
 
 -- variables from a number on have no name, where names are below it
 pub nameless_above : (vars : ℕ) (names : List (ℕ × Name)) → AreBelow vars names → (var : ℕ) → vars ≤ var → name_of names var ≡ None
@@ -81,13 +81,13 @@ module _ (cost : ℕ → ℕ) (steps : CodedSteps) (code : CodedLog) (counter : 
       (weights_are steps.net cost log steps.steps (code_grid steps) weighted.false_lits refl (false_count_is code.log (log_names code) weighted.false_lits weighted.read ∙ doubtful_same log same)))
 
   -- they ask of a log whose alarms have names
-  pub asks_costs : (log : Log) → code.log ≡ without_names log → ReadsAs (read_names code) (guards_of code) (guard_literals code.net code.log) →
-      AsksCosts steps.net cost log steps.steps (whole_names steps code counter) scale axioms (guards_of code)
+  pub asks_costs : (log : Log) → code.log ≡ without_names log → ReadsAs (read_names code) (log_guards code) (guard_literals code.net code.log) →
+      AsksCosts steps.net cost log steps.steps (whole_names steps code counter) scale axioms (log_guards code)
   asks_costs log same read =
       let names = whole_names steps code counter in
-      let ask = together_ask steps code counter parts.own (guards_of code) parts.coded.together parts.coded.clauses read in record {
+      let ask = together_ask steps code counter parts.own (log_guards code) parts.coded.together parts.coded.clauses read in record {
         clauses = parts.own;
-        asks = ((alarm_names_dont_matter steps.net log steps.steps).asks None names parts.own (guards_of code)).1 (subst (λ l. Asks steps.net l steps.steps None names parts.own (guards_of code)) same ask.unbounded);
+        asks = ((alarm_names_dont_matter steps.net log steps.steps).asks None names parts.own (log_guards code)).1 (subst (λ l. Asks steps.net l steps.steps None names parts.own (log_guards code)) same ask.unbounded);
         inputs = parts.inputs;
         input_names = inputs_named log same;
         counted = parts.counted;
@@ -99,9 +99,9 @@ module _ (cost : ℕ → ℕ) (steps : CodedSteps) (code : CodedLog) (counter : 
       }
 
   -- so they tell what explains the log, within each total
-  pub tells_costs : (log : Log) → IsNetwork steps.net → IsValidLog log → code.log ≡ without_names log → ReadsAs (read_names code) (guards_of code) (guard_literals code.net code.log) →
-      TellsCosts steps.net cost log steps.steps scale axioms (guards_of code)
-  tells_costs log network valid same read = costs_are_told steps.net cost log steps.steps (whole_names steps code counter) scale axioms (guards_of code) network valid (asks_costs log same read)
+  pub tells_costs : (log : Log) → IsNetwork steps.net → IsValidLog log → code.log ≡ without_names log → ReadsAs (read_names code) (log_guards code) (guard_literals code.net code.log) →
+      TellsCosts steps.net cost log steps.steps scale axioms (log_guards code)
+  tells_costs log network valid same read = costs_are_told steps.net cost log steps.steps (whole_names steps code counter) scale axioms (log_guards code) network valid (asks_costs log same read)
 
 pub scaled_parts_tell : ScaledPartsTell
 scaled_parts_tell cost steps code counter vars axioms scale log parts network valid same read = tells_costs cost steps code counter vars axioms scale parts log network valid same read

@@ -22,7 +22,7 @@ use Rattle.prop_core.specs.declared.lit.Lit.{Lit}
 use Rattle.run_decode.proofs.Faults.{count_append}
 use Rattle.step_encode.specs.Coded.{CodedSteps}
 use Rattle.weight_counter.specs.declared.scale.Scale.{Scale}
-use Rattle.cost_least.specs.Answers.{CostAsked, AreTold, IsPriced, IsCostEvidence, IsCheapFound, HasConflictOf, HasConflictAt, HasCostConflict, IsCostAnswered, IsKnownAbove}
+use Rattle.cost_least.specs.Answers.{CostAsked, PoseCostQuestion, IsPriced, IsCostEvidence, IsCheapFound, HasConflictOf, HasConflictAt, HasCostConflict, IsCostAnswered, IsKnownAbove}
 use Rattle.cost_least.specs.Asking.{HasAskedCost}
 use Rattle.cost_least.specs.Searching.{HasFoundCost, asked_of}
 use Rattle.cost_least.specs.Weighed.{AreWeighedParts, KeepsCode, assumed_at}
@@ -55,7 +55,7 @@ coded_back cost old new axioms scale keeps coded =
 -- ---- without a bound
 
 module _ (q : CostAsked) (code : CodedLog) (scale : Scale) (old new : List BookEntry) (before after : ℕ) where
-  pub found_absent : AreTold q None (axioms_of new) (assumed_at code scale None) → HasAskedCost q code scale None old new before after Refuted → HasFoundCost q before old new Absent
+  pub found_absent : PoseCostQuestion q None (axioms_of new) (assumed_at code scale None) → HasAskedCost q code scale None old new before after Refuted → HasFoundCost q before old new Absent
   found_absent told asked = record {
     since = asked.since;
     whole = asked.whole;
@@ -73,7 +73,7 @@ module _ (q : CostAsked) (code : CodedLog) (scale : Scale) (old new : List BookE
     conflict = tt;
   }
 
-  pub found_nothing : AreTold q None (axioms_of new) (assumed_at code scale None) → HasAskedCost q code scale None old new before after Spent → HasFoundCost q before old new (Undecided 0 None)
+  pub found_nothing : PoseCostQuestion q None (axioms_of new) (assumed_at code scale None) → HasAskedCost q code scale None old new before after Spent → HasFoundCost q before old new (Undecided 0 None)
   found_nothing told asked = record {
     since = asked.since;
     whole = asked.whole;
@@ -168,7 +168,7 @@ marked_clauses book number = filter_map-append clause_of book (mark number ∷ [
 conflict_by : (q : CostAsked) (book new : List BookEntry) (bound : Option ℕ) → axioms_of new ≡ axioms_of book → clauses_of new ≡ clauses_of book → HasCostConflict q bound book → HasCostConflict q bound new
 conflict_by q book new bound axioms clauses has = record {
   assumed = has.assumed;
-  told = subst (λ (cs : List Clause). AreTold q bound cs has.assumed) (sym axioms) has.told;
+  told = subst (λ (cs : List Clause). PoseCostQuestion q bound cs has.assumed) (sym axioms) has.told;
   clashes = subst (λ (cs : List Clause). Clashes cs has.assumed) (sym clauses) has.clashes;
 }
 

@@ -15,7 +15,7 @@ use Rattle.least_faults.specs.Bounds.{question_variables}
 use Rattle.least_faults.specs.Parts.{AreParts}
 use Rattle.least_faults.specs.declared.TheConstants.{MOST_SIZE}
 use Rattle.log_clauses.specs.LogCodes.{AreAmong}
-use Rattle.log_encode.specs.CodedLog.{CodedLog, code_names as log_names}
+use Rattle.log_encode.specs.CodedLog.{CodedLog, log_names}
 use Rattle.log_order.specs.Log.{Log}
 use Rattle.prop_core.specs.Clauses.{Clause, HasValues}
 use Rattle.prop_core.specs.declared.lit.Lit.{Lit}

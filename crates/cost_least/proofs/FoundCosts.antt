@@ -10,7 +10,7 @@ use Rattle.des_net.specs.Network.{Net, IsNetwork}
 use Rattle.des_net.specs.Width.{joined}
 use Rattle.log_clauses.specs.Decoded.{decoded, decoded_order}
 use Rattle.log_clauses.specs.LogCodes.{AreAmong}
-use Rattle.log_encode.specs.CodedLog.{CodedLog, without_names, code_names as log_names}
+use Rattle.log_encode.specs.CodedLog.{CodedLog, without_names, log_names}
 use Rattle.log_order.proofs.LeastOrder.{least_order-is}
 use Rattle.log_order.specs.Log.{Log, IsValidLog, ListsOnce}
 use Rattle.log_order.specs.Adding.{names_of}

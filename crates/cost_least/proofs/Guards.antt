@@ -6,7 +6,7 @@ use Rattle.log_encode.specs.CodedLog.{CodedLog, IsCodedLog, read_names}
 use Rattle.prop_core.proofs.Listed.{clause_written}
 use Rattle.prop_core.specs.VariableNames.{named_clause}
 use Rattle.prop_core.specs.declared.lit.Lit.{Lit}
-use Rattle.cost_least.specs.Weighed.{guards_of}
+use Rattle.cost_least.specs.Weighed.{log_guards}
 
-pub guards_listed : (code : CodedLog) (guards : List Lit) → IsCodedLog code → named_clause (read_names code) guards ≡ Some (guard_literals code.net code.log) → guards ≡ guards_of code
+pub guards_listed : (code : CodedLog) (guards : List Lit) → IsCodedLog code → named_clause (read_names code) guards ≡ Some (guard_literals code.net code.log) → guards ≡ log_guards code
 guards_listed code guards whole listed = clause_written (read_names code) (beside code whole).once guards (guard_literals code.net code.log) listed

@@ -26,11 +26,11 @@ use Rattle.sat_solve.specs.Searching.{IsClosedByFinal}
 use Rattle.weight_counter.specs.Scales.{place_variable}
 use Rattle.weight_counter.specs.declared.scale.Scale.{Scale}
 use Rattle.cost_least.proofs.Asked.{ends_cheapest, ends_dear, needed}
-use Rattle.cost_least.specs.Answers.{CostAsked, AreTold, IsPriced, Needs, IsBetween, IsCostEvidence}
+use Rattle.cost_least.specs.Answers.{CostAsked, PoseCostQuestion, IsPriced, Needs, IsBetween, IsCostEvidence}
 use Rattle.cost_least.specs.Asking.{AreLearnt, HasAskedCost}
 use Rattle.cost_least.specs.Pricing.{ExplainsAt}
-use Rattle.cost_least.specs.Searching.{HasHalved, HasFoundCost, FinalsAreBelow}
-use Rattle.cost_least.specs.Weighed.{guards_of, assumed_at}
+use Rattle.cost_least.specs.Searching.{HasHalved, HasFoundCost, FinalsAreBelowTotal}
+use Rattle.cost_least.specs.Weighed.{log_guards, assumed_at}
 use Rattle.cost_least.specs.declared.answer.Cheap.TheVariants.{Found, Dear, Undecided}
 use Rattle.cost_least.specs.declared.answer.Priced.{Priced}
 use Rattle.cost_least.specs.declared.asking.Asked.TheVariants.{Explained, Refuted, Spent}
@@ -88,7 +88,7 @@ module _ (q : CostAsked) (code : CodedLog) (scale : Scale) where
     both_paid more paid = (let count = count_append is_learnt come.since more in omega (arith, count, paid, come.paid))
 
     -- learnt entries change nothing of what is refuted
-    learnt_finals : (more : List BookEntry) → AreLearnt more → FinalsAreBelow code scale lo (come.since ++ more)
+    learnt_finals : (more : List BookEntry) → AreLearnt more → FinalsAreBelowTotal code scale lo (come.since ++ more)
     learnt_finals more learnt clause hints in' = by (Contains-append_cases come.since more (final clause hints) in')
       where
         by : Contains come.since (final clause hints) ⊎ Contains more (final clause hints) → (j : ℕ) × (j < lo) × NegatesOnly (assumed_at code scale (Some j)) clause
@@ -140,7 +140,7 @@ module _ (q : CostAsked) (code : CodedLog) (scale : Scale) where
         closed : IsClosedByFinal asked.since
         closed = let ends = asked.means.ends in record { before = ends.before; clause = ends.clause; hints = ends.hints; whole = ends.whole; all_learnt = ends.learnt }
 
-        finals : FinalsAreBelow code scale (b + 1) (come.since ++ asked.since)
+        finals : FinalsAreBelowTotal code scale (b + 1) (come.since ++ asked.since)
         finals clause hints in' = by (Contains-append_cases come.since asked.since (final clause hints) in')
           where
             by : Contains come.since (final clause hints) ⊎ Contains asked.since (final clause hints) → (j : ℕ) × (j < b + 1) × NegatesOnly (assumed_at code scale (Some j)) clause
@@ -177,7 +177,7 @@ module _ (q : CostAsked) (code : CodedLog) (scale : Scale) where
   -- ---- where it ends
 
   module _ (old new : List BookEntry) (budget left lo : ℕ) (best : Priced) (come : HasHalved q code scale old new budget left lo best)
-      (told : (b : ℕ) → b ≤ MOST_COST → 0 < scale.inputs → AreTold q (Some b) (axioms_of new) (assumed_at code scale (Some b))) where
+      (told : (b : ℕ) → b ≤ MOST_COST → 0 < scale.inputs → PoseCostQuestion q (Some b) (axioms_of new) (assumed_at code scale (Some b))) where
     within : count_by is_learnt come.since ≤ budget
     within = let paid = come.paid in omega (arith, paid)
 
@@ -210,7 +210,7 @@ module _ (q : CostAsked) (code : CodedLog) (scale : Scale) where
     }
 
     -- a final entry tells by its literals which total it refutes
-    finals_tell : IsValidBook new → HasValues scale.first (guards_of code) → AreTold q None (axioms_of new) (assumed_at code scale None) → (b : ℕ) → HasFinal come.since (assumed_at code scale (Some b)) → b < lo
+    finals_tell : IsValidBook new → HasValues scale.first (log_guards code) → PoseCostQuestion q None (axioms_of new) (assumed_at code scale None) → (b : ℕ) → HasFinal come.since (assumed_at code scale (Some b)) → b < lo
     finals_tell valid guards unbounded b has = by (cases_lt b lo)
       where
         here : (j : ℕ) × (j < lo) × NegatesOnly (assumed_at code scale (Some j)) has.clause
@@ -219,34 +219,34 @@ module _ (q : CostAsked) (code : CodedLog) (scale : Scale) where
         there : Contains new (final has.clause has.hints)
         there = subst (λ xs. Contains xs (final has.clause has.hints)) (sym come.whole) (Contains-append_right old come.since (final has.clause has.hints) has.there)
 
-        known : AllByRecursion (λ (l : Lit). l.var < scale.first) (guards_of code)
-        known = recursion_from_All (λ (l : Lit). l.var < scale.first) (guards_of code) guards
+        known : AllByRecursion (λ (l : Lit). l.var < scale.first) (log_guards code)
+        known = recursion_from_All (λ (l : Lit). l.var < scale.first) (log_guards code) guards
 
-        refutes : NegatesOnly (guards_of code) has.clause → ⊥
+        refutes : NegatesOnly (log_guards code) has.clause → ⊥
         refutes negates =
             told_is_refuted (ExplainsAt q.net q.cost q.log q.steps None) (axioms_of new) (assumed_at code scale None) has.clause unbounded.tells (final_entailed new has.clause has.hints valid there)
-            (subst (λ xs. NegatesOnly xs has.clause) (sym (append-nil (guards_of code))) negates) (word_of best.run) (order_of q.log best.run) come.given.explains
+            (subst (λ xs. NegatesOnly xs has.clause) (sym (append-nil (log_guards code))) negates) (word_of best.run) (order_of q.log best.run) come.given.explains
 
         same : NegatesLast (negative (place_variable scale (scale.inputs - 1) here.0)) has.clause → here.0 ≡ b
-        same found = one (Contains-append_cases (guards_of code) (negative (place_variable scale (scale.inputs - 1) b) ∷ []) (negative (place_variable scale (scale.inputs - 1) here.0)) (subst (Contains (assumed_at code scale (Some b))) found.is (all_at (λ l. Contains (assumed_at code scale (Some b)) (negation l)) has.clause has.negates found.l found.there)))
+        same found = one (Contains-append_cases (log_guards code) (negative (place_variable scale (scale.inputs - 1) b) ∷ []) (negative (place_variable scale (scale.inputs - 1) here.0)) (subst (Contains (assumed_at code scale (Some b))) found.is (all_at (λ l. Contains (assumed_at code scale (Some b)) (negation l)) has.clause has.negates found.l found.there)))
           where
             last : (negative (place_variable scale (scale.inputs - 1) b) ≡ negative (place_variable scale (scale.inputs - 1) here.0)) ⊎ Contains [] (negative (place_variable scale (scale.inputs - 1) here.0)) → here.0 ≡ b
             last (inl is) = sym (same_amount scale (scale.inputs - 1) b here.0 is)
             last (inr none) = absurd (none_in_nil (negative (place_variable scale (scale.inputs - 1) here.0)) none)
 
-            one : Contains (guards_of code) (negative (place_variable scale (scale.inputs - 1) here.0)) ⊎ Contains (negative (place_variable scale (scale.inputs - 1) b) ∷ []) (negative (place_variable scale (scale.inputs - 1) here.0)) → here.0 ≡ b
-            one (inl guard) = let low = all_at (λ (l : Lit). l.var < scale.first) (guards_of code) known (negative (place_variable scale (scale.inputs - 1) here.0)) guard in absurd (omega (arith, low))
+            one : Contains (log_guards code) (negative (place_variable scale (scale.inputs - 1) here.0)) ⊎ Contains (negative (place_variable scale (scale.inputs - 1) b) ∷ []) (negative (place_variable scale (scale.inputs - 1) here.0)) → here.0 ≡ b
+            one (inl guard) = let low = all_at (λ (l : Lit). l.var < scale.first) (log_guards code) known (negative (place_variable scale (scale.inputs - 1) here.0)) guard in absurd (omega (arith, low))
             one (inr bound) = last (cons_cases (negative (place_variable scale (scale.inputs - 1) b)) [] (negative (place_variable scale (scale.inputs - 1) here.0)) bound)
 
-        is_b : NegatesOnly (guards_of code) has.clause ⊎ NegatesLast (negative (place_variable scale (scale.inputs - 1) here.0)) has.clause → here.0 ≡ b
+        is_b : NegatesOnly (log_guards code) has.clause ⊎ NegatesLast (negative (place_variable scale (scale.inputs - 1) here.0)) has.clause → here.0 ≡ b
         is_b (inl guard) = absurd (refutes guard)
         is_b (inr found) = same found
 
         by : (b < lo) ⊎ (lo ≤ b) → b < lo
         by (inl less) = less
-        by (inr more) = let equal = is_b (split_negates (guards_of code) (negative (place_variable scale (scale.inputs - 1) here.0)) has.clause here.2) in let low = here.1 in omega (arith, equal, low)
+        by (inr more) = let equal = is_b (split_negates (log_guards code) (negative (place_variable scale (scale.inputs - 1) here.0)) has.clause here.2) in let low = here.1 in omega (arith, equal, low)
 
-    pub halved_undecided : IsValidBook new → HasValues scale.first (guards_of code) → AreTold q None (axioms_of new) (assumed_at code scale None) → lo < min best.cost (1 + MOST_COST) → left ≡ 0 → (b : ℕ) → IsBetween lo best.cost b →
+    pub halved_undecided : IsValidBook new → HasValues scale.first (log_guards code) → PoseCostQuestion q None (axioms_of new) (assumed_at code scale None) → lo < min best.cost (1 + MOST_COST) → left ≡ 0 → (b : ℕ) → IsBetween lo best.cost b →
         Clashes (clauses_of new) (assumed_at code scale (Some b)) → HasFoundCost q budget old new (Undecided lo (Some best))
     halved_undecided valid guards unbounded less nothing b between clashes =
         let some = come.counted (omega (arith, less)) in record {

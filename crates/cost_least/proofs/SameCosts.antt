@@ -23,7 +23,7 @@ use Rattle.run_decode.proofs.Tells.{same_property_told}
 use Rattle.step_encode.specs.Coded.{CodedSteps, code_grid}
 use Rattle.weight_counter.specs.declared.scale.Scale.{Scale}
 use Rattle.weight_counter.specs.declared.weighted.Weighted.{Weighted}
-use Rattle.cost_least.specs.Answers.{AreTold, CostAsked, HasConflictOf, HasCostConflict, IsAboveFinals, IsCheapFound, IsCostAnswered, IsCostEvidence, IsKnownAbove, IsPriced, IsRunAt, Needs}
+use Rattle.cost_least.specs.Answers.{PoseCostQuestion, CostAsked, HasConflictOf, HasCostConflict, IsAboveFinals, IsCheapFound, IsCostAnswered, IsCostEvidence, IsKnownAbove, IsPriced, IsRunAt, Needs}
 use Rattle.cost_least.specs.Drawn.{IsCostClause, cost_literals}
 use Rattle.cost_least.specs.Costs.{IsCheapest, IsDear, IsExplainedAt, event_cost, total, word_cost}
 use Rattle.cost_least.specs.Pricing.{ExplainsAt, named_weights}
@@ -113,7 +113,7 @@ module _ (net : Net) (a b : ℕ → ℕ) (agree : (e : ℕ) → is_fault net e �
     same_within None word order = (λ h. h, λ h. h)
     same_within (Some k) word order = (λ h. (h.0, subst (λ t. t ≤ k) (same_total word order) h.1), λ h. (h.0, subst (λ t. t ≤ k) (sym (same_total word order)) h.1))
 
-    same_told : (bound : Option ℕ) (clauses : List Clause) (assumed : List Lit) → AreTold first bound clauses assumed → AreTold second bound clauses assumed
+    same_told : (bound : Option ℕ) (clauses : List Clause) (assumed : List Lit) → PoseCostQuestion first bound clauses assumed → PoseCostQuestion second bound clauses assumed
     same_told bound clauses assumed h = record {
       tells = same_property_told (ExplainsAt net a log n bound) (ExplainsAt net b log n bound) clauses assumed (same_within bound) h.tells;
       names = h.names;

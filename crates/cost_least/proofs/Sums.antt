@@ -11,7 +11,7 @@ use Rattle.des_base.proofs.Elements.{cons_cases, here_first, here_later, none_in
 use Rattle.log_clauses.proofs.Lists.{filter_has, filter_from, pairs_filter}
 use Rattle.des_base.proofs.BoolLemmas.{otherwise}
 use Rattle.log_clauses.proofs.Pieces.{IsStepSet, AreFrom, pieces_are_steps}
-use Rattle.log_clauses.specs.Decoded.{is_false}
+use Rattle.log_clauses.specs.Decoded.{is_false_alarm}
 use Rattle.log_order.specs.Log.{Log, is_doubtful}
 use Rattle.card_counter.proofs.Counts.{count_cons}
 use Rattle.prop_core.specs.VariableNames.{Name, happens, dropped}
@@ -174,19 +174,19 @@ costs_from net cost value t (piece ∷ pieces) are =
 -- ---- false alarms
 
 -- a false alarm weighs 1, of doubtful alarms alone
-dropped_weigh : (log : Log) (value : Name → Bool) (xs : List ℕ) → sum_by (weight_by value) (map (λ i. (dropped i, 1)) (filter (is_doubtful log) xs)) ≡ count_by (is_false log value) xs
+dropped_weigh : (log : Log) (value : Name → Bool) (xs : List ℕ) → sum_by (weight_by value) (map (λ i. (dropped i, 1)) (filter (is_doubtful log) xs)) ≡ count_by (is_false_alarm log value) xs
 dropped_weigh log value [] = refl
 dropped_weigh log value (x ∷ xs) = by (is_doubtful log x) refl (dropped_weigh log value xs)
   where
-    by : (b : Bool) → is_doubtful log x ≡ b → sum_by (weight_by value) (map (λ i. (dropped i, 1)) (filter (is_doubtful log) xs)) ≡ count_by (is_false log value) xs →
-        sum_by (weight_by value) (map (λ i. (dropped i, 1)) (cond b (x ∷ filter (is_doubtful log) xs) (filter (is_doubtful log) xs))) ≡ count_by (is_false log value) (x ∷ xs)
+    by : (b : Bool) → is_doubtful log x ≡ b → sum_by (weight_by value) (map (λ i. (dropped i, 1)) (filter (is_doubtful log) xs)) ≡ count_by (is_false_alarm log value) xs →
+        sum_by (weight_by value) (map (λ i. (dropped i, 1)) (cond b (x ∷ filter (is_doubtful log) xs) (filter (is_doubtful log) xs))) ≡ count_by (is_false_alarm log value) (x ∷ xs)
     by true e rest =
         let left = sum_by-cons (weight_by value) (dropped x, 1) (map (λ i. (dropped i, 1)) (filter (is_doubtful log) xs)) in
-        let right = count_cons (is_false log value) x xs in
+        let right = count_cons (is_false_alarm log value) x xs in
         let same = ap {B = ℕ} (λ b. cond (b && value (dropped x)) 1 0) e in
         omega (arith, rest, left, right, same)
     by false e rest =
-        let right = count_cons (is_false log value) x xs in
+        let right = count_cons (is_false_alarm log value) x xs in
         let same = ap {B = ℕ} (λ b. cond (b && value (dropped x)) 1 0) e in
         omega (arith, rest, right, same)
 

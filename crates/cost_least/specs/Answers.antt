@@ -32,8 +32,8 @@ pub record CostAsked : Type 0 where
   pub steps : ℕ
 
 -- clauses and assumptions tell what explains the log with a total of at most the bound, and are drawn from the families of this question
-abbrev pub AreTold : CostAsked → Option ℕ → List Clause → List Lit → Type 0
-AreTold q bound clauses assumed = PosesCosts q.net q.cost q.log q.steps bound clauses assumed
+abbrev pub PoseCostQuestion : CostAsked → Option ℕ → List Clause → List Lit → Type 0
+PoseCostQuestion q bound clauses assumed = PosesCosts q.net q.cost q.log q.steps bound clauses assumed
 
 -- each explanation has total c at least
 abbrev pub Needs : CostAsked → ℕ → Type 0
@@ -53,7 +53,7 @@ IsPriced q priced = IsRunAt q priced.run priced.cost
 pub record IsCostEvidence (q : CostAsked) (bound : Option ℕ) (axioms : List Clause) (since : List BookEntry) : Type 0 where
   pub assumed : List Lit
   pub refuted : HasLastFinal since assumed
-  pub told : AreTold q bound axioms assumed
+  pub told : PoseCostQuestion q bound axioms assumed
 
 -- ---- the answers, with what the entries since the question was opened show, over these axioms
 
@@ -81,7 +81,7 @@ pub record IsDearFound (q : CostAsked) (axioms : List Clause) (since : List Book
 pub record IsAboveFinals (q : CostAsked) (axioms : List Clause) (since : List BookEntry) (lo : ℕ) : Type 0 where
   pub code : CodedLog
   pub scale : Scale
-  pub told : (b : ℕ) → b ≤ MOST_COST → AreTold q (Some b) axioms (assumed_at code scale (Some b))
+  pub told : (b : ℕ) → b ≤ MOST_COST → PoseCostQuestion q (Some b) axioms (assumed_at code scale (Some b))
   pub finals : (b : ℕ) → b ≤ MOST_COST → HasFinal since (assumed_at code scale (Some b)) → b < lo
   pub last : (b : ℕ) → lo ≡ suc b → HasLastFinal since (assumed_at code scale (Some b))
 
@@ -111,7 +111,7 @@ IsCheapFound q axioms since budget (Undecided lo best) = IsUndecidedCost q axiom
 -- The axioms of the book tell what explains within the bound, with some assumptions for which there is a further conflict.
 pub record HasCostConflict (q : CostAsked) (bound : Option ℕ) (book : List BookEntry) : Type 0 where
   pub assumed : List Lit
-  pub told : AreTold q bound (axioms_of book) assumed
+  pub told : PoseCostQuestion q bound (axioms_of book) assumed
   pub clashes : Clashes (clauses_of book) assumed
 
 -- a total between lo and the lesser of 1,000 and what is just below a known one

@@ -54,16 +54,16 @@ pub record IsRuledOut (q : CostAsked) (bound : Option ℕ) (assumed : List Lit) 
   pub ends : EndsByFinal assumed since
 
 -- nothing is left at a further conflict
-pub record IsStopped (assumed : List Lit) (since book : List BookEntry) (budget : ℕ) : Type 0 where
+pub record HasNothingLeft (assumed : List Lit) (since book : List BookEntry) (budget : ℕ) : Type 0 where
   pub nothing : budget ≡ 0
   pub clashes : Clashes (clauses_of book) assumed
   pub learnt : AreLearnt since
 
 -- what an answer means
-abbrev pub Means : CostAsked → Scale → Option ℕ → List Lit → List BookEntry → List BookEntry → ℕ → Asked → Type 0
-Means q scale bound assumed since book budget (Explained priced) = IsFoundWithin q scale bound since priced
-Means q scale bound assumed since book budget Refuted = IsRuledOut q bound assumed since
-Means q scale bound assumed since book budget Spent = IsStopped assumed since book budget
+abbrev pub IsTrueCostAnswer : CostAsked → Scale → Option ℕ → List Lit → List BookEntry → List BookEntry → ℕ → Asked → Type 0
+IsTrueCostAnswer q scale bound assumed since book budget (Explained priced) = IsFoundWithin q scale bound since priced
+IsTrueCostAnswer q scale bound assumed since book budget Refuted = IsRuledOut q bound assumed since
+IsTrueCostAnswer q scale bound assumed since book budget Spent = HasNothingLeft assumed since book budget
 
 -- Derived entries alone were put, each learnt clause was paid for and fresh, and the answer means this.
 pub record HasAskedCost (q : CostAsked) (code : CodedLog) (scale : Scale) (bound : Option ℕ) (old new : List BookEntry) (budget_old budget_new : ℕ) (asked : Asked) : Type 0 where
@@ -72,4 +72,4 @@ pub record HasAskedCost (q : CostAsked) (code : CodedLog) (scale : Scale) (bound
   pub unmarked : (number : ℕ) → count_by (is_mark number) since ≡ 0
   pub paid : count_by is_learnt since + budget_new ≡ budget_old
   pub fresh : HaveLearntFresh old since
-  pub means : Means q scale bound (assumed_at code scale bound) since new budget_new asked
+  pub means : IsTrueCostAnswer q scale bound (assumed_at code scale bound) since new budget_new asked

@@ -1,7 +1,7 @@
 -- A search by halving: what it has found when it asks, and what it needs.
 use Rattle.std.specs.Prelude.{◌≡◌, ℕ, suc, ◌+◌, ◌<◌, ◌≤◌, List, ◌++◌, Option, Some, Contains, count_by}
 use Rattle.des_net.specs.Network.{Net}
-use Rattle.event_costs.specs.StoredCosts.{IsAnswered}
+use Rattle.event_costs.specs.StoredCosts.{GivesCosts}
 use Rattle.event_costs.specs.declared.TheConstants.{MOST_COST}
 use Rattle.least_faults.specs.Answers.{HaveLearntFresh}
 use Rattle.least_faults.specs.Evidence.{HasLastFinal}
@@ -17,7 +17,7 @@ use Rattle.weight_counter.specs.declared.weighted.Weighted.{Weighted}
 use Rattle.prop_core.specs.declared.lit.Lit.{Lit}
 use Rattle.run_decode.specs.Decided.{Entails}
 use Rattle.cost_least.specs.Asking.{RulesOut}
-use Rattle.cost_least.specs.Answers.{CostAsked, AreTold, IsPriced, Needs, IsCheapFound, HasConflictOf, IsCostAnswered}
+use Rattle.cost_least.specs.Answers.{CostAsked, PoseCostQuestion, IsPriced, Needs, IsCheapFound, HasConflictOf, IsCostAnswered}
 use Rattle.cost_least.specs.Weighed.{AreWeighed, AreWeighedParts, AreWeightedInputs, assumed_at}
 use Rattle.cost_least.specs.declared.answer.Cheap.{Cheap}
 use Rattle.cost_least.specs.declared.answer.Priced.{Priced}
@@ -34,7 +34,7 @@ asked_of net cost log parts = record { net = net; cost = cost; log = log; steps 
 -- The parts have the scale of some costs that a stored closure answers.
 pub record AreAsked {R C : Type 0} (may : R → ℕ → Type 0) (gives : R → ℕ → ℕ → Type 0) (answers : C → ℕ → ℕ → Type 0) (stored : C) (net : Net) (parts : Parts R) (scale : Scale) (book : List BookEntry) : Type 0 where
   pub cost : ℕ → ℕ
-  pub answered : IsAnswered answers stored net cost
+  pub answered : GivesCosts answers stored net cost
   pub weighed : AreWeighed may gives cost parts scale book
 
 -- with whatever costs the parts have the scale, they have it still
@@ -46,8 +46,8 @@ abbrev pub IsTotalOf : {R : Type 0} → (ℕ → ℕ) → Parts R → ℕ → Ty
 IsTotalOf cost parts total = (inputs : List Weighted) → AreWeightedInputs parts.step parts.code.code cost inputs → total ≡ weight_true (value_in parts.solver.assignment) inputs
 
 -- each final entry refutes a total below lo
-abbrev pub FinalsAreBelow : CodedLog → Scale → ℕ → List BookEntry → Type 0
-FinalsAreBelow code scale lo since = (clause : Clause) (hints : List ℕ) → Contains since (final clause hints) → (j : ℕ) × (j < lo) × NegatesOnly (assumed_at code scale (Some j)) clause
+abbrev pub FinalsAreBelowTotal : CodedLog → Scale → ℕ → List BookEntry → Type 0
+FinalsAreBelowTotal code scale lo since = (clause : Clause) (hints : List ℕ) → Contains since (final clause hints) → (j : ℕ) × (j < lo) × NegatesOnly (assumed_at code scale (Some j)) clause
 
 -- What the search has come to: totals below lo are refuted, the last of them by the last final entry, and a run of this total is known.
 pub record HasHalved (q : CostAsked) (code : CodedLog) (scale : Scale) (old new : List BookEntry) (budget_old budget_new lo : ℕ) (best : Priced) : Type 0 where
@@ -56,7 +56,7 @@ pub record HasHalved (q : CostAsked) (code : CodedLog) (scale : Scale) (old new 
   pub unmarked : (number : ℕ) → count_by (is_mark number) since ≡ 0
   pub paid : count_by is_learnt since + budget_new ≡ budget_old
   pub fresh : HaveLearntFresh old since
-  pub finals : FinalsAreBelow code scale lo since
+  pub finals : FinalsAreBelowTotal code scale lo since
   pub last : (b : ℕ) → lo ≡ suc b → HasLastFinal since (assumed_at code scale (Some b))
   pub needs : Needs q lo
   pub reached : lo ≤ 1 + MOST_COST
@@ -76,7 +76,7 @@ pub record HasFoundCost (q : CostAsked) (budget : ℕ) (old new : List BookEntry
 -- By some costs that the stored closure answers, which are what it answers on each fault event, the answer means this. The axioms of the book are those of the question and of a scale that weighs its faults with these costs.
 pub record HasAnsweredCosts {R C : Type 0} (answers : C → ℕ → ℕ → Type 0) (stored : C) (net : Net) (log : Log) (parts : Parts R) (budget : ℕ) (old new : List BookEntry) (cheap : Cheap) : Type 0 where
   pub cost : ℕ → ℕ
-  pub answered : IsAnswered answers stored net cost
+  pub answered : GivesCosts answers stored net cost
   pub means : IsCostAnswered (asked_of net cost log parts) budget old new cheap
   pub scale : Scale
   pub weighed : AreWeighedParts cost parts.step parts.code.code parts.counter parts.vars (axioms_of new) scale
@@ -85,4 +85,4 @@ pub record HasAnsweredCosts {R C : Type 0} (answers : C → ℕ → ℕ → Type
 
 -- A clause of negated assumptions that axioms entail which tell what explains within a bound rules that out: nothing explains, or all that does has a greater total.
 abbrev pub CostsAreRuledOut : Type 0
-CostsAreRuledOut = (q : CostAsked) (bound : Option ℕ) (axioms : List Clause) (assumed : List Lit) (clause : Clause) → AreTold q bound axioms assumed → Entails axioms clause → NegatesOnly assumed clause → RulesOut q bound
+CostsAreRuledOut = (q : CostAsked) (bound : Option ℕ) (axioms : List Clause) (assumed : List Lit) (clause : Clause) → PoseCostQuestion q bound axioms assumed → Entails axioms clause → NegatesOnly assumed clause → RulesOut q bound

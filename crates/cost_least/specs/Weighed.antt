@@ -3,7 +3,7 @@ use Rattle.std.specs.Prelude.{◌≡◌, ℕ, ◌+◌, ◌*◌, ◌<◌, ◌≤�
 use Rattle.card_counter.specs.CounterState.{CounterState}
 use Rattle.des_base.specs.Lists.{numbers_below}
 use Rattle.des_net.specs.Network.{Net, IsNetwork, is_fault}
-use Rattle.event_costs.specs.StoredCosts.{IsAnswered}
+use Rattle.event_costs.specs.StoredCosts.{GivesCosts}
 use Rattle.event_costs.specs.declared.TheConstants.{MOST_COST}
 use Rattle.least_faults.specs.Parts.{AreParts}
 use Rattle.least_faults.specs.declared.parts.Parts.{Parts}
@@ -49,7 +49,7 @@ pub record AreWeightedInputs (steps : CodedSteps) (code : CodedLog) (cost : ℕ 
 -- The inputs are those with some costs that a stored closure answers.
 pub record HasInputs {C : Type 0} (answers : C → ℕ → ℕ → Type 0) (stored : C) (net : Net) (steps : CodedSteps) (code : CodedLog) (inputs : List Weighted) : Type 0 where
   pub cost : ℕ → ℕ
-  pub answered : IsAnswered answers stored net cost
+  pub answered : GivesCosts answers stored net cost
   pub weighted : AreWeightedInputs steps code cost inputs
 
 -- Fault events below a number were put, each in all steps, with costs that a stored closure answers.
@@ -90,16 +90,16 @@ pub record KeepsCode {R : Type 0} (old new : Parts R) : Type 0 where
 -- ---- what is assumed
 
 -- the guards of the log, as literals in their order
-abbrev pub guards_of : CodedLog → List Lit
-guards_of code = map (literal_by (read_names code)) (guard_literals code.net code.log)
+abbrev pub log_guards : CodedLog → List Lit
+log_guards code = map (literal_by (read_names code)) (guard_literals code.net code.log)
 
 -- the guards, and the literal that the total is at most the bound
 abbrev pub assumed_at : CodedLog → Scale → Option ℕ → List Lit
-assumed_at code scale bound = guards_of code ++ cost_limit scale bound
+assumed_at code scale bound = log_guards code ++ cost_limit scale bound
 
 -- ---- what they tell
 
 -- Parts with a scale pose, with the guards of the log, what explains the log within each total, whatever the names of its alarms.
 abbrev pub ScaledPartsTell : Type 0
 ScaledPartsTell = (cost : ℕ → ℕ) (steps : CodedSteps) (code : CodedLog) (counter : CounterState) (vars : ℕ) (axioms : List Clause) (scale : Scale) (log : Log) → AreWeighedParts cost steps code counter vars axioms scale →
-    IsNetwork steps.net → IsValidLog log → code.log ≡ without_names log → ReadsAs (read_names code) (guards_of code) (guard_literals code.net code.log) → TellsCosts steps.net cost log steps.steps scale axioms (guards_of code)
+    IsNetwork steps.net → IsValidLog log → code.log ≡ without_names log → ReadsAs (read_names code) (log_guards code) (guard_literals code.net code.log) → TellsCosts steps.net cost log steps.steps scale axioms (log_guards code)

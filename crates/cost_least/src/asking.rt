@@ -1,7 +1,7 @@
 // One question of the search, without a bound on the total or within one.
 ghost use Rattle.std.specs.Prelude.{◌≡◌, ℕ, ◌≤◌, ◌++◌, IfOk, OnOk, IfSome};
 ghost use Rattle.des_base.specs.declared.TheConstants.{MOST_STEPS};
-ghost use Rattle.event_costs.specs.StoredCosts.{IsCost, IsAnswered};
+ghost use Rattle.event_costs.specs.StoredCosts.{IsCost, GivesCosts};
 ghost use Rattle.least_faults.specs.Asking.{IsSearching};
 ghost use Rattle.least_faults.specs.Parts.{BelongTo};
 ghost use Rattle.prop_core.specs.Clauses.{value_in};
@@ -52,8 +52,8 @@ pub fn ask<C: Fn(u32) -> u32, R: Fn(u32) -> u64>(
     ensures still { StayWeighed R.pre R.post parts.old parts.new question.entry.scale book.old.entries book.new.entries }
     ensures kept { KeepsCode parts.old parts.new }
     ensures searching { IsSearching book.old.entries book.new.entries budget.old budget.new }
-    ensures given { IfOk result (λ asked. (cost : ℕ → ℕ) → IsAnswered C.post costs.now.cost question.entry.net.now cost → IsGiven (asked_of question.entry.net.now cost question.entry.log.now parts.new) asked) }
-    ensures asked { IfOk result (λ asked. (cost : ℕ → ℕ) → IsAnswered C.post costs.now.cost question.entry.net.now cost → AreWeighed R.pre R.post cost parts.old question.entry.scale book.old.entries → HasAskedCost (asked_of question.entry.net.now cost question.entry.log.now parts.new) parts.new.code.code question.entry.scale within book.old.entries book.new.entries budget.old budget.new asked) }
+    ensures given { IfOk result (λ asked. (cost : ℕ → ℕ) → GivesCosts C.post costs.now.cost question.entry.net.now cost → IsGiven (asked_of question.entry.net.now cost question.entry.log.now parts.new) asked) }
+    ensures asked { IfOk result (λ asked. (cost : ℕ → ℕ) → GivesCosts C.post costs.now.cost question.entry.net.now cost → AreWeighed R.pre R.post cost parts.old question.entry.scale book.old.entries → HasAskedCost (asked_of question.entry.net.now cost question.entry.log.now parts.new) parts.new.code.code question.entry.scale within book.old.entries book.new.entries budget.old budget.new asked) }
 {
     question.net.is_built();
     question.log.is_whole();
@@ -112,8 +112,8 @@ fn found_run<C: Fn(u32) -> u32, R: Fn(u32) -> u64>(
     requires steps { parts.now.step.steps ≤ MOST_STEPS }
     requires values { parts.now.code.code.vars ≤ parts.now.solver.vars }
     requires true_there { IsTrueRun parts.now.step parts.now.code.code (value_in parts.now.solver.assignment) }
-    ensures given { IfOk result (λ priced. (cost : ℕ → ℕ) → IsAnswered C.post costs.now.cost question.entry.net.now cost → IsPriced (asked_of question.entry.net.now cost question.entry.log.now parts.now) priced) }
-    ensures total { IfOk result (λ priced. (cost : ℕ → ℕ) → IsAnswered C.post costs.now.cost question.entry.net.now cost → IsTotalOf cost parts.now priced.cost) }
+    ensures given { IfOk result (λ priced. (cost : ℕ → ℕ) → GivesCosts C.post costs.now.cost question.entry.net.now cost → IsPriced (asked_of question.entry.net.now cost question.entry.log.now parts.now) priced) }
+    ensures total { IfOk result (λ priced. (cost : ℕ → ℕ) → GivesCosts C.post costs.now.cost question.entry.net.now cost → IsTotalOf cost parts.now priced.cost) }
 {
     question.net.is_built();
     question.log.is_whole();

@@ -1,6 +1,6 @@
 // What a run costs.
 ghost use Rattle.std.specs.Prelude.{◌≡◌, ◌<◌, ◌≤◌, ◌*◌, ℕ, All, length, sum_by, IfSome};
-ghost use Rattle.event_costs.specs.StoredCosts.{IsCost, IsAnswered};
+ghost use Rattle.event_costs.specs.StoredCosts.{IsCost, GivesCosts};
 ghost use Rattle.replay.specs.Traced.{event_of, word_of};
 ghost use Rattle.cost_least.specs.Entries.{entry_cost};
 
@@ -14,7 +14,7 @@ pub fn run_cost<C: Fn(u32) -> u32>(net: &Network, costs: &Costs<C>, entries: &[R
     requires net { costs.now.net ≡ net.now }
     requires known { All (λ e. e < length net.now.events) (word_of entries.now) }
     requires few { length entries.now ≤ 4000000 }
-    ensures { (cost : ℕ → ℕ) → IsAnswered C.post costs.now.cost net.now cost → result ≡ sum_by (entry_cost net.now cost) entries.now }
+    ensures { (cost : ℕ → ℕ) → GivesCosts C.post costs.now.cost net.now cost → result ≡ sum_by (entry_cost net.now cost) entries.now }
 {
     let mut cost = 0;
     for entry in entries {
@@ -28,7 +28,7 @@ fn entry_cost<C: Fn(u32) -> u32>(net: &Network, costs: &Costs<C>, entry: &RunSte
     requires cost { IsCost C.pre C.post costs.now.cost costs.now.net }
     requires net { costs.now.net ≡ net.now }
     requires known { IfSome (event_of entry.now) (λ e. e < length net.now.events) }
-    ensures cost { (cost : ℕ → ℕ) → IsAnswered C.post costs.now.cost net.now cost → result ≡ entry_cost net.now cost entry.now }
+    ensures cost { (cost : ℕ → ℕ) → GivesCosts C.post costs.now.cost net.now cost → result ≡ entry_cost net.now cost entry.now }
     ensures few { result ≤ 1000 }
 {
     match entry {

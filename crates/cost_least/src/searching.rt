@@ -1,7 +1,7 @@
 // The search for the least total, by halving: each bound is an assumption of an incremental solver.
 ghost use Rattle.std.specs.Prelude.{◌≡◌, ℕ, ◌<◌, ◌≤◌, min, ◌+◌, [], None, IfOk};
 ghost use Rattle.des_base.specs.declared.TheConstants.{MOST_STEPS};
-ghost use Rattle.event_costs.specs.StoredCosts.{IsCost, IsAnswered};
+ghost use Rattle.event_costs.specs.StoredCosts.{IsCost, GivesCosts};
 ghost use Rattle.event_costs.specs.declared.TheConstants.{MOST_COST};
 ghost use Rattle.least_faults.specs.Asking.{IsSearching};
 ghost use Rattle.least_faults.specs.Growing.{HasGrownWithin};
@@ -78,7 +78,7 @@ fn search<C: Fn(u32) -> u32, R: Fn(u32) -> u64>(
     ensures still { StayWeighed R.pre R.post parts.old parts.new question.entry.scale book.old.entries book.new.entries }
     ensures kept { KeepsCode parts.old parts.new }
     ensures searching { IsSearching book.old.entries book.new.entries budget.old budget.new }
-    ensures found { IfOk result (λ cheap. (cost : ℕ → ℕ) → IsAnswered C.post costs.now.cost question.entry.net.now cost → AreWeighed R.pre R.post cost parts.old question.entry.scale book.old.entries → HasFoundCost (asked_of question.entry.net.now cost question.entry.log.now parts.new) budget.old book.old.entries book.new.entries cheap) }
+    ensures found { IfOk result (λ cheap. (cost : ℕ → ℕ) → GivesCosts C.post costs.now.cost question.entry.net.now cost → AreWeighed R.pre R.post cost parts.old question.entry.scale book.old.entries → HasFoundCost (asked_of question.entry.net.now cost question.entry.log.now parts.new) budget.old book.old.entries book.new.entries cheap) }
 {
     question.net.is_built();
     question.log.is_whole();
@@ -104,12 +104,12 @@ fn halve<C: Fn(u32) -> u32, R: Fn(u32) -> u64>(
     requires belong { BelongTo question.net.now question.log.now parts.old }
     requires steps { parts.old.step.steps ≤ MOST_STEPS }
     requires asked { AreAsked R.pre R.post C.post costs.now.cost question.net.now parts.old question.scale book.old.entries }
-    requires known { (cost : ℕ → ℕ) → IsAnswered C.post costs.now.cost question.net.now cost → IsPriced (asked_of question.net.now cost question.log.now parts.old) known }
+    requires known { (cost : ℕ → ℕ) → GivesCosts C.post costs.now.cost question.net.now cost → IsPriced (asked_of question.net.now cost question.log.now parts.old) known }
     requires counted { 0 < known.cost → 0 < question.scale.inputs }
     ensures still { StayWeighed R.pre R.post parts.old parts.new question.entry.scale book.old.entries book.new.entries }
     ensures kept { KeepsCode parts.old parts.new }
     ensures searching { IsSearching book.old.entries book.new.entries budget.old budget.new }
-    ensures found { IfOk result (λ cheap. (cost : ℕ → ℕ) → IsAnswered C.post costs.now.cost question.entry.net.now cost → AreWeighed R.pre R.post cost parts.old question.entry.scale book.old.entries → HasFoundCost (asked_of question.entry.net.now cost question.entry.log.now parts.new) budget.old book.old.entries book.new.entries cheap) }
+    ensures found { IfOk result (λ cheap. (cost : ℕ → ℕ) → GivesCosts C.post costs.now.cost question.entry.net.now cost → AreWeighed R.pre R.post cost parts.old question.entry.scale book.old.entries → HasFoundCost (asked_of question.entry.net.now cost question.entry.log.now parts.new) budget.old book.old.entries book.new.entries cheap) }
 {
     question.net.is_built();
     question.log.is_whole();

@@ -14,7 +14,7 @@ use Rattle.des_net.specs.declared.parts.Trans.{Trans}
 use Rattle.des_net.specs.Limits.{most_states, most_transitions}
 use Rattle.des_net.specs.Network.{Component, IsTransOf, no_component}
 use Rattle.des_net.specs.Building.{IsDraftComponent, is_trans, has_trans, with_state, with_trans, with_action, action_place}
-use Rattle.des_net.specs.View.{AreKnown, HasOneMore}
+use Rattle.des_net.specs.View.{HaveSameTransitions, HasOneMore}
 
 -- no names are names
 pub AreNames-none : AreNames []
@@ -109,20 +109,20 @@ found_any q [] = refl
 found_any q (t ∷ ts) = λ i. found_one q t i || found_any q ts i
 
 -- none where none are
-pub AreKnown-none : AreKnown [] []
-AreKnown-none = record { found = λ from action to. refl }
+pub HaveSameTransitions-none : HaveSameTransitions [] []
+HaveSameTransitions-none = record { found = λ from action to. refl }
 
 -- the same after room was made
-pub AreKnown-again : (old new items more : List Trans) → AreKnown new old → AreKnown old items → more ≡ items → AreKnown new more
-AreKnown-again old new items more same known is = record { found = λ from action to. same.found from action to ∙ known.found from action to ∙ ap (list_any (is_trans from action to)) (sym is) }
+pub HaveSameTransitions-again : (old new items more : List Trans) → HaveSameTransitions new old → HaveSameTransitions old items → more ≡ items → HaveSameTransitions new more
+HaveSameTransitions-again old new items more same known is = record { found = λ from action to. same.found from action to ∙ known.found from action to ∙ ap (list_any (is_trans from action to)) (sym is) }
 
 or_none : (b : Bool) → (b || false) ≡ b
 or_none true = refl
 or_none false = refl
 
 -- and one more, which stands last
-pub AreKnown-push : (old new items more : List Trans) (trans : Trans) → AreKnown old items → HasOneMore trans old new → more ≡ items ++ trans ∷ [] → AreKnown new more
-AreKnown-push old new items more trans known one is = record {
+pub HaveSameTransitions-push : (old new items more : List Trans) (trans : Trans) → HaveSameTransitions old items → HasOneMore trans old new → more ≡ items ++ trans ∷ [] → HaveSameTransitions new more
+HaveSameTransitions-push old new items more trans known one is = record {
   found = λ from action to.
       one.found from action to ∙ ap (λ b. b || is_trans from action to trans) (known.found from action to)
       ∙ sym (ap (list_any (is_trans from action to)) is ∙ list_any-append (is_trans from action to) items (trans ∷ []) ∙ ap (λ b. list_any (is_trans from action to) items || b) (or_none (is_trans from action to trans)));

@@ -21,8 +21,8 @@ abbrev pub unseen : List Part → Event
 unseen parts = record { parts = parts; label = None; fault = false }
 
 -- an event that isn't seen, and is a fault
-abbrev pub fails : List Part → Event
-fails parts = record { parts = parts; label = None; fault = true }
+abbrev pub unseen_fault : List Part → Event
+unseen_fault parts = record { parts = parts; label = None; fault = true }
 
 -- a pump that beats until it jams; then it trips, and is fixed
 abbrev pub pump : Net
@@ -35,7 +35,7 @@ pump = record {
     action_names = codes "jam" ∷ codes "trip" ∷ codes "fix" ∷ codes "beat" ∷ [];
   } ∷ [];
   event_names = codes "jam" ∷ codes "trip" ∷ codes "fix" ∷ codes "beat" ∷ [];
-  events = fails (takes 0 0 ∷ []) ∷ seen (codes "T") (takes 0 1 ∷ []) ∷ seen (codes "F") (takes 0 2 ∷ []) ∷ seen (codes "B") (takes 0 3 ∷ []) ∷ [];
+  events = unseen_fault (takes 0 0 ∷ []) ∷ seen (codes "T") (takes 0 1 ∷ []) ∷ seen (codes "F") (takes 0 2 ∷ []) ∷ seen (codes "B") (takes 0 3 ∷ []) ∷ [];
 }
 
 -- no component and no event
@@ -82,7 +82,7 @@ masked = record {
     action_names = codes "y" ∷ codes "x" ∷ codes "f" ∷ [];
   } ∷ [];
   event_names = codes "ey" ∷ codes "ex" ∷ codes "ef" ∷ [];
-  events = seen (codes "B") (takes 0 0 ∷ []) ∷ seen (codes "A") (takes 0 1 ∷ []) ∷ fails (takes 0 2 ∷ []) ∷ [];
+  events = seen (codes "B") (takes 0 0 ∷ []) ∷ seen (codes "A") (takes 0 1 ∷ []) ∷ unseen_fault (takes 0 2 ∷ []) ∷ [];
 }
 
 -- the initial state settles which of two events can happen

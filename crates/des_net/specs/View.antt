@@ -12,7 +12,7 @@ abbrev pub component_view : CompInside → Component
 component_view a = record { state_names = a.state_names; initial = a.initial.items; transitions = a.transitions.items; action_names = a.action_names }
 
 -- the same transitions are in both lists, in whatever order
-pub record AreKnown (keys transitions : List Trans) : Type 0 where
+pub record HaveSameTransitions (keys transitions : List Trans) : Type 0 where
   pub found : (from action to : ℕ) → list_any (is_trans from action to) keys ≡ list_any (is_trans from action to) transitions
 
 -- this transition is in the list now, and which others are is as it was

@@ -14,14 +14,14 @@ use Rattle.endings.specs.declared.stop.Stop.TheVariants.{Usage, Load, Faulty, Lo
 use Rattle.endings.specs.declared.stop.FaultyText.{FaultyText}
 use Rattle.endings.specs.declared.stop.FaultyText.TheVariants.{Model, Log, Run, Cnf, Lrat, Cost}
 use Rattle.endings.specs.Transcripts.{End, said, cut, broken, Ending, EndsOne, Transcript, IsOne}
-use Rattle.endings.specs.Endings.{HasStatus, status_of_end, status_of_kind, status_of_stop, status_of_faulty, texts_of}
+use Rattle.endings.specs.Endings.{HasStatus, status_of_end, status_of_kind, status_of_stop, status_of_faulty, ending_texts}
 use Rattle.endings.specs.Files.{Loads, StopsAt, WithFile}
 use Rattle.endings.specs.Texts.{FileKind, limit_of, fault_of_text}
 use Rattle.diagnose_cli.specs.Commands.{files_of, command_of}
 use Rattle.diagnose_cli.specs.Replies.{MayReply}
-use Rattle.diagnose_cli.specs.Due.{halts, Says, Closes, InOrder, Answers}
-use Rattle.diagnose_cli.specs.Outcomes.{IsPut, Outcome, Tells}
-use Rattle.diagnose_cli.specs.Rows.{AreRead, Reads}
+use Rattle.diagnose_cli.specs.Due.{halts, Says, Closes, InOrder, MayAnswer}
+use Rattle.diagnose_cli.specs.Outcomes.{IsPut, Outcome, ShowsReply}
+use Rattle.diagnose_cli.specs.Rows.{AreRead, ReadsFiles}
 use Rattle.diagnose_cli.specs.Run.{Ends}
 
 -- ---- an ending that has a reply
@@ -32,7 +32,7 @@ status_one kind (said other) status four is shown = subst (λ (k : Kind). status
 status_one kind cut status four is shown = absurd (four shown)
 status_one kind broken status four is shown = absurd is
 
-pub told : (o : Outcome) (P : (Kind × List ℕ) → Type 0) (e : Ending) → o.status ≢ 4 → IsOkAnd e (IsOne P) → HasStatus e o.status → Took o.before o.now (concat (texts_of e)) → Tells o P
+pub told : (o : Outcome) (P : (Kind × List ℕ) → Type 0) (e : Ending) → o.status ≢ 4 → IsOkAnd e (IsOne P) → HasStatus e o.status → Took o.before o.now (concat (ending_texts e)) → ShowsReply o P
 told o P (Ok t) four one shown put = record {
   reply = one.reply;
   says = one.says;
@@ -41,9 +41,9 @@ told o P (Ok t) four one shown put = record {
 }
 told o P (Err stop) four one shown put = absurd one
 
-pub called : (l : Loads) (words : List (List ℕ)) (book : List BookEntry) (o : Option Command) (c : Command) (e : Ending) → o ≡ Some c → MatchOption o (e ≡ Err Usage) (λ c. Answers l words c book e) → Answers l words c book e
+pub called : (l : Loads) (words : List (List ℕ)) (book : List BookEntry) (o : Option Command) (c : Command) (e : Ending) → o ≡ Some c → MatchOption o (e ≡ Err Usage) (λ c. MayAnswer l words c book e) → MayAnswer l words c book e
 called l words book None c e is h = cc
-called l words book (Some d) c e is h = subst (λ (c : Command). Answers l words c book e) (same is) h
+called l words book (Some d) c e is h = subst (λ (c : Command). MayAnswer l words c book e) (same is) h
   where
     same : Some d ≡ Some c → d ≡ c
     same is = cc
@@ -99,7 +99,7 @@ closed l words i (kind ∷ kinds) files (text ∷ texts) closes e answer read h 
     (closed l words (i + 1) kinds (files ++ text ∷ []) texts closes e answer read.1 rest)
 
 -- it says what the command may
-pub said_in_all : (o : Outcome) (c : Command) (texts : List (List ℕ)) (ends : Ends o) → Reads o c texts → o.status ≢ 3 → o.status ≢ 9 → IsOkAnd ends.ending (Says c o.words o.book texts)
+pub said_in_all : (o : Outcome) (c : Command) (texts : List (List ℕ)) (ends : Ends o) → ReadsFiles o c texts → o.status ≢ 3 → o.status ≢ 9 → IsOkAnd ends.ending (Says c o.words o.book texts)
 said_in_all o c texts ends reads three nine =
     let e = ends.ending in
     let answer : HasAnswer e = record {
@@ -110,7 +110,7 @@ said_in_all o c texts ends reads three nine =
     asked (halts c o.words texts) e (Says c o.words o.book texts) reads.small closes
 
 -- so status and text tell a reply that a command with one may give
-pub row : (o : Outcome) (c : Single) (texts : List (List ℕ)) → Ends o → Reads o (One c) texts → o.status ≢ 3 → IsPut o.status → Tells o (MayReply c o.words o.book texts)
+pub row : (o : Outcome) (c : Single) (texts : List (List ℕ)) → Ends o → ReadsFiles o (One c) texts → o.status ≢ 3 → IsPut o.status → ShowsReply o (MayReply c o.words o.book texts)
 row o c texts ends reads three put = told o (MayReply c o.words o.book texts) ends.ending put.written (said_in_all o (One c) texts ends reads three put.memory) ends.shown ends.put
 
 -- ---- by the status, whatever is told of the files
@@ -159,7 +159,7 @@ AreHeld held words i (text ∷ texts) = IfSome (held (word_at words i)) (λ ther
 pub record SaidOver (o : Outcome) (c : Single) : Type 0 where
   pub texts : List (List ℕ)
   pub held : AreHeld o.loads.held o.words 1 texts
-  pub tells : Tells o (MayReply c o.words o.book texts)
+  pub tells : ShowsReply o (MayReply c o.words o.book texts)
 
 abbrev saying : Transcript → Ending
 saying t = Ok t
@@ -191,7 +191,7 @@ over_files l words i (kind ∷ kinds) files closes t h =
           }
     ]
 
-said_by : (o : Outcome) (c : Single) (e : Ending) → (IsStopStatus o.status → ⊥) → Answers o.loads o.words (One c) o.book e → HasStatus e o.status → Took o.before o.now (concat (texts_of e)) → SaidOver o c
+said_by : (o : Outcome) (c : Single) (e : Ending) → (IsStopStatus o.status → ⊥) → MayAnswer o.loads o.words (One c) o.book e → HasStatus e o.status → Took o.before o.now (concat (ending_texts e)) → SaidOver o c
 said_by o c (Ok t) answers h shown put =
     let over = over_files o.loads o.words 1 (files_of (One c)) [] (Closes (One c) o.words o.book) t h in
     let says = within (halts (One c) o.words over.texts) t (Says (One c) o.words o.book over.texts) over.closed in
@@ -215,7 +215,7 @@ pub record ToldOver (o : Outcome) (c : Command) : Type 0 where
   pub shown : o.status ≡ status_of_end told.end
   pub put : Took o.before o.now (concat told.texts)
 
-told_by : (o : Outcome) (c : Command) (e : Ending) → (IsStopStatus o.status → ⊥) → Answers o.loads o.words c o.book e → HasStatus e o.status → Took o.before o.now (concat (texts_of e)) → ToldOver o c
+told_by : (o : Outcome) (c : Command) (e : Ending) → (IsStopStatus o.status → ⊥) → MayAnswer o.loads o.words c o.book e → HasStatus e o.status → Took o.before o.now (concat (ending_texts e)) → ToldOver o c
 told_by o c (Ok t) answers h shown put =
     let over = over_files o.loads o.words 1 (files_of c) [] (Closes c o.words o.book) t h in
     record { texts = over.texts; held = over.held; told = t; says = within (halts c o.words over.texts) t (Says c o.words o.book over.texts) over.closed; shown = shown; put = put }

@@ -7,7 +7,7 @@ use Rattle.least_faults.specs.declared.TheConstants.{MOST_SIZE}
 use Rattle.log_order.specs.Log.{Log}
 use Rattle.proof_ledger.specs.Book.{BookEntry}
 use Rattle.replay.specs.QuestionSize.{question_size}
-use Rattle.telling.specs.Lines.{numbered}
+use Rattle.telling.specs.Lines.{line_with_number}
 use Rattle.diagnose_cli.specs.declared.command.Command.TheVariants.{One}
 use Rattle.diagnose_cli.specs.declared.command.Single.TheVariants.{Bench}
 use Rattle.endings.specs.declared.ending.Kind.{Kind}
@@ -36,14 +36,14 @@ module _ (units start steps budget : ℕ) (words : List (List ℕ)) (book : List
         subst (λ (o : Option ℕ). MatchOption (option_map (λ n. Large n) o) (IsOkAnd e says) (λ stop. e ≡ Err stop)) (sym over_limit) refl
 
     pub summed_up : (size : ℕ) (reply summary : Kind × List ℕ) (count : ℕ) → size ≡ question_size net alarms steps → size ≤ MOST_SIZE → count ≡ length alarms.alarms → SaysFound net alarms steps budget book reply
-        → summary ≡ (reply.0, numbered (codes "units ") units ++ numbered (codes "alarms ") count ++ numbered (codes "size ") size ++ first_line reply.1)
+        → summary ≡ (reply.0, line_with_number (codes "units ") units ++ line_with_number (codes "alarms ") count ++ line_with_number (codes "size ") size ++ first_line reply.1)
         → Closes (One (Bench units start steps budget)) words book [] (once (Ok summary))
     summed_up size reply summary count is small counted replied sums =
         let e : Ending = Ok (whole summary) in
-        let by_count : summary ≡ (reply.0, numbered (codes "units ") units ++ numbered (codes "alarms ") (length alarms.alarms) ++ numbered (codes "size ") size ++ first_line reply.1) =
-        sums ∙ ap (λ k. (reply.0, numbered (codes "units ") units ++ numbered (codes "alarms ") k ++ numbered (codes "size ") size ++ first_line reply.1)) counted in
+        let by_count : summary ≡ (reply.0, line_with_number (codes "units ") units ++ line_with_number (codes "alarms ") (length alarms.alarms) ++ line_with_number (codes "size ") size ++ first_line reply.1) =
+        sums ∙ ap (λ k. (reply.0, line_with_number (codes "units ") units ++ line_with_number (codes "alarms ") k ++ line_with_number (codes "size ") size ++ first_line reply.1)) counted in
         let by_size : summary ≡ summary_of units net alarms steps reply =
-        by_count ∙ ap (λ k. (reply.0, numbered (codes "units ") units ++ numbered (codes "alarms ") (length alarms.alarms) ++ numbered (codes "size ") k ++ first_line reply.1)) is in
+        by_count ∙ ap (λ k. (reply.0, line_with_number (codes "units ") units ++ line_with_number (codes "alarms ") (length alarms.alarms) ++ line_with_number (codes "size ") k ++ first_line reply.1)) is in
         let of_net : SaysSummary units net alarms steps budget book summary = record { found = replied.found; holds = replied.holds; is = by_size ∙ ap (summary_of units net alarms steps) replied.is } in
         let of_plant : SaysBenched units start steps budget book summary =
         subst (λ (a : Log). SaysSummary units (plant_net units) a steps budget book summary) log (subst (λ (n : Net). SaysSummary units n alarms steps budget book summary) network of_net) in

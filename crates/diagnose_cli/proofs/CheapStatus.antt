@@ -22,9 +22,9 @@ use Rattle.endings.specs.declared.ending.Kind.{Kind}
 use Rattle.diagnose_cli.specs.CheapReplies.{SaysCheap, kind_of_cheap}
 use Rattle.diagnose_cli.specs.CheapRows.{TellsCheapest, TellsDear, TellsUnpriced, cost_asked}
 use Rattle.endings.specs.Endings.{status_of_kind}
-use Rattle.diagnose_cli.specs.Outcomes.{Outcome, Tells}
+use Rattle.diagnose_cli.specs.Outcomes.{Outcome, ShowsReply}
 use Rattle.diagnose_cli.specs.Replies.{MayReply}
-use Rattle.diagnose_cli.specs.Rows.{AreTold, Asks}
+use Rattle.diagnose_cli.specs.Rows.{AreTold, CallsWith}
 use Rattle.diagnose_cli.specs.Run.{Ends}
 use Rattle.diagnose_cli.proofs.Answered.{AreHeld, IsStopStatus, between, said_over, same_text}
 
@@ -39,7 +39,7 @@ record TellsPriced (o : Outcome) (q : CostAsked) (budget : ℕ) : Type 0 where
 abbrev Saying : CostAsked → ℕ → List BookEntry → (Kind × List ℕ) → Type 0
 Saying q budget book reply = SaysCheap q.net q.cost q.log q.steps budget book reply
 
-of_reply : (o : Outcome) (q : CostAsked) (budget : ℕ) → Tells o (Saying q budget o.book) → TellsPriced o q budget
+of_reply : (o : Outcome) (q : CostAsked) (budget : ℕ) → ShowsReply o (Saying q budget o.book) → TellsPriced o q budget
 of_reply o q budget tells = record {
   answer = tells.says.answer;
   priced = tells.says.priced;
@@ -49,17 +49,17 @@ of_reply o q budget tells = record {
 
 -- over the three texts that are told
 over_texts : (o : Outcome) (n budget : ℕ) (text alarms prices : List ℕ) (texts : List (List ℕ)) → AreTold o.loads.held o.words 1 (text ∷ alarms ∷ prices ∷ []) → AreHeld o.loads.held o.words 1 texts
-    → Tells o (MayReply (Cheapest n budget) o.words o.book texts) → Tells o (Saying (cost_asked text alarms prices n) budget o.book)
+    → ShowsReply o (MayReply (Cheapest n budget) o.words o.book texts) → ShowsReply o (Saying (cost_asked text alarms prices n) budget o.book)
 over_texts o n budget text alarms prices [] there held tells = absurd tells.says
 over_texts o n budget text alarms prices (model ∷ []) there held tells = absurd tells.says
 over_texts o n budget text alarms prices (model ∷ rows ∷ []) there held tells = absurd tells.says
 over_texts o n budget text alarms prices (model ∷ rows ∷ costs ∷ []) there held tells =
-    let of_model = subst (λ (m : List ℕ). Tells o (Saying (cost_asked m rows costs n) budget o.book)) (sym (same_text (o.loads.held (word_at o.words 1)) text model there.0 held.0)) tells in
-    let of_log = subst (λ (a : List ℕ). Tells o (Saying (cost_asked text a costs n) budget o.book)) (sym (same_text (o.loads.held (word_at o.words 2)) alarms rows there.1.0 held.1.0)) of_model in
-    subst (λ (p : List ℕ). Tells o (Saying (cost_asked text alarms p n) budget o.book)) (sym (same_text (o.loads.held (word_at o.words 3)) prices costs there.1.1.0 held.1.1.0)) of_log
+    let of_model = subst (λ (m : List ℕ). ShowsReply o (Saying (cost_asked m rows costs n) budget o.book)) (sym (same_text (o.loads.held (word_at o.words 1)) text model there.0 held.0)) tells in
+    let of_log = subst (λ (a : List ℕ). ShowsReply o (Saying (cost_asked text a costs n) budget o.book)) (sym (same_text (o.loads.held (word_at o.words 2)) alarms rows there.1.0 held.1.0)) of_model in
+    subst (λ (p : List ℕ). ShowsReply o (Saying (cost_asked text alarms p n) budget o.book)) (sym (same_text (o.loads.held (word_at o.words 3)) prices costs there.1.1.0 held.1.1.0)) of_log
 over_texts o n budget text alarms prices (model ∷ rows ∷ costs ∷ other ∷ texts) there held tells = absurd tells.says
 
-told : (o : Outcome) (n budget : ℕ) (text alarms prices : List ℕ) → Ends o → Asks o (One (Cheapest n budget)) (text ∷ alarms ∷ prices ∷ []) → (IsStopStatus o.status → ⊥) → TellsPriced o (cost_asked text alarms prices n) budget
+told : (o : Outcome) (n budget : ℕ) (text alarms prices : List ℕ) → Ends o → CallsWith o (One (Cheapest n budget)) (text ∷ alarms ∷ prices ∷ []) → (IsStopStatus o.status → ⊥) → TellsPriced o (cost_asked text alarms prices n) budget
 told o n budget text alarms prices ends asks answers =
     let over = said_over o (Cheapest n budget) ends asks.command answers in
     of_reply o (cost_asked text alarms prices n) budget (over_texts o n budget text alarms prices over.texts asks.told over.held over.tells)
@@ -120,7 +120,7 @@ module _ (o : Outcome) (q : CostAsked) (budget : ℕ) where
       let small = unpriced_is_small q.net q.cost q.log q.steps budget o.book lo best shown in
       omega (arith, small, enough)
 
-module _ (o : Outcome) (ends : Ends o) (n budget : ℕ) (text alarms prices : List ℕ) (asks : Asks o (One (Cheapest n budget)) (text ∷ alarms ∷ prices ∷ [])) where
+module _ (o : Outcome) (ends : Ends o) (n budget : ℕ) (text alarms prices : List ℕ) (asks : CallsWith o (One (Cheapest n budget)) (text ∷ alarms ∷ prices ∷ [])) where
   pub cheapest : o.status ≡ 0 → TellsCheapest o (cost_asked text alarms prices n)
   cheapest is =
       let tells = told o n budget text alarms prices ends asks (λ stop. omega (arith, is, stop.low)) in

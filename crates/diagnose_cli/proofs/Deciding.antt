@@ -7,9 +7,9 @@ use Rattle.diagnose_cli.specs.declared.command.Command.TheVariants.{One, Session
 use Rattle.diagnose_cli.specs.declared.command.Single.TheVariants.{Trace, Show, Replay, Check, Ask, GenerateModel, GenerateLog, Bench, Twin, Cheapest}
 use Rattle.endings.specs.declared.ending.Kind.{Kind}
 use Rattle.diagnose_cli.specs.Deciding.{Suffices}
-use Rattle.diagnose_cli.specs.Outcomes.{Outcome, Tells}
+use Rattle.diagnose_cli.specs.Outcomes.{Outcome, ShowsReply}
 use Rattle.diagnose_cli.specs.Replies.{MayReply, SaysBenched}
-use Rattle.diagnose_cli.specs.Rows.{Asks}
+use Rattle.diagnose_cli.specs.Rows.{CallsWith}
 use Rattle.diagnose_cli.specs.Run.{Ends}
 use Rattle.diagnose_cli.proofs.Answered.{between, said_over}
 use Rattle.diagnose_cli.proofs.CheapStatus.{priced_by}
@@ -19,21 +19,21 @@ use Rattle.diagnose_cli.proofs.StatusRows.{decided, left_open}
 -- ---- a summary
 
 -- without texts
-over_none : (o : Outcome) (units start steps budget : ℕ) (texts : List (List ℕ)) → Tells o (MayReply (Bench units start steps budget) o.words o.book texts) → Tells o (SaysBenched units start steps budget o.book)
+over_none : (o : Outcome) (units start steps budget : ℕ) (texts : List (List ℕ)) → ShowsReply o (MayReply (Bench units start steps budget) o.words o.book texts) → ShowsReply o (SaysBenched units start steps budget o.book)
 over_none o units start steps budget [] tells = tells
 over_none o units start steps budget (text ∷ texts) tells = absurd tells.says
 
 -- ---- whichever command asks
 
 module _ (o : Outcome) (ends : Ends o) where
-  bench_decided : (units start steps budget : ℕ) → Asks o (One (Bench units start steps budget)) [] → 3 ^ variable_bound (plant_net units) (plant_log units start) steps ≤ budget → o.status ≡ 11 → ⊥
+  bench_decided : (units start steps budget : ℕ) → CallsWith o (One (Bench units start steps budget)) [] → 3 ^ variable_bound (plant_net units) (plant_log units start) steps ≤ budget → o.status ≡ 11 → ⊥
   bench_decided units start steps budget asks enough is =
       let over = said_over o (Bench units start steps budget) ends asks.command (between o.status 11 is (omega arith) (omega arith)) in
       let tells = over_none o units start steps budget over.texts over.tells in
       let said = tells.says in
       found_decided (plant_net units) (plant_log units start) steps budget o.book said.found said.holds.diagnosed enough (sym (ap (λ (r : Kind × List ℕ). r.0) said.is) ∙ left_open o tells is)
 
-  pub decided_row : (c : Command) (texts : List (List ℕ)) → Asks o c texts → Suffices c texts → o.status ≡ 11 → ⊥
+  pub decided_row : (c : Command) (texts : List (List ℕ)) → CallsWith o c texts → Suffices c texts → o.status ≡ 11 → ⊥
   decided_row (One Trace) texts asks enough is = absurd enough
   decided_row (One Show) texts asks enough is = absurd enough
   decided_row (One (Replay steps)) texts asks enough is = absurd enough

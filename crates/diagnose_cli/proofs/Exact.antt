@@ -12,10 +12,10 @@ use Rattle.endings.specs.declared.stop.Stop.TheVariants.{Usage, Load, Faulty, Lo
 use Rattle.endings.specs.declared.stop.FaultyText.{FaultyText}
 use Rattle.endings.specs.Transcripts.{Ending, Transcript}
 use Rattle.endings.specs.Files.{Loads, StopsAt}
-use Rattle.endings.specs.Endings.{HasStatus, status_of_stop, text_of_stop, texts_of}
+use Rattle.endings.specs.Endings.{HasStatus, status_of_stop, text_of_stop, ending_texts}
 use Rattle.endings.specs.Texts.{FileKind, limit_of, fault_of_text}
 use Rattle.diagnose_cli.specs.Commands.{files_of, command_of}
-use Rattle.diagnose_cli.specs.Due.{halts, Closes, InOrder, Answers}
+use Rattle.diagnose_cli.specs.Due.{halts, Closes, InOrder, MayAnswer}
 use Rattle.diagnose_cli.specs.Exact.{past, first_stop, stop_of_command, StopRow}
 use Rattle.diagnose_cli.specs.Outcomes.{Outcome}
 use Rattle.diagnose_cli.specs.Run.{Ends}
@@ -76,14 +76,14 @@ in_order_exact l words i (kind ∷ kinds) files closes halting e f m n h =
     ]
 
 due_exact : (l : Loads) (words : List (List ℕ)) (book : List BookEntry) (o : Option Command) (e : Ending)
-    → e ≢ Err Memory → ((j : ℕ) → e ≢ Err (Load j)) → MatchOption o (e ≡ Err Usage) (λ c. Answers l words c book e) → Is e (stop_of_command l.held words o)
+    → e ≢ Err Memory → ((j : ℕ) → e ≢ Err (Load j)) → MatchOption o (e ≡ Err Usage) (λ c. MayAnswer l words c book e) → Is e (stop_of_command l.held words o)
 due_exact l words book None e m n h = h
 due_exact l words book (Some c) e m n h = in_order_exact l words 1 (files_of c) [] (Closes c words book) (halts c words) e (λ texts. closes_here (halts c words texts) e _) m n h
 
-row_here : (stop : Option Stop) (o : Outcome) (e : Ending) → Is e stop → HasStatus e o.status → Took o.before o.now (concat (texts_of e)) → IfSome stop (λ stop. (o.status ≡ status_of_stop stop) × Took o.before o.now (text_of_stop stop))
+row_here : (stop : Option Stop) (o : Outcome) (e : Ending) → Is e stop → HasStatus e o.status → Took o.before o.now (concat (ending_texts e)) → IfSome stop (λ stop. (o.status ≡ status_of_stop stop) × Took o.before o.now (text_of_stop stop))
 row_here None o e h p t = tt
 row_here (Some stop) o e h p t =
-    (subst (λ (x : Ending). HasStatus x o.status) h p, subst (Took o.before o.now) (append-nil (text_of_stop stop)) (subst (λ (x : Ending). Took o.before o.now (concat (texts_of x))) h t))
+    (subst (λ (x : Ending). HasStatus x o.status) h p, subst (Took o.before o.now) (append-nil (text_of_stop stop)) (subst (λ (x : Ending). Took o.before o.now (concat (ending_texts x))) h t))
 
 pub stop_row : (o : Outcome) → Ends o → o.status ≢ 3 → o.status ≢ 9 → StopRow o
 stop_row o ends three nine =

@@ -9,10 +9,10 @@ use Rattle.endings.specs.declared.ending.Kind.{Kind}
 use Rattle.endings.specs.declared.ending.Kind.TheVariants.{Done, Rejected, Absent, Undecided, Many, Nothing, Ambiguous}
 use Rattle.std.specs.List.{concat}
 use Rattle.endings.specs.Transcripts.{End, said, cut, broken, Ending, Transcript, UnlessMemory}
-use Rattle.endings.specs.Endings.{HasStatus, status_of_end, status_of_kind, status_of_faulty, texts_of}
+use Rattle.endings.specs.Endings.{HasStatus, status_of_end, status_of_kind, status_of_faulty, ending_texts}
 use Rattle.endings.specs.Texts.{FileKind, fault_of_text}
 use Rattle.diagnose_cli.specs.Commands.{files_of, file_count, command_of}
-use Rattle.diagnose_cli.specs.Due.{Says, lacks_fault, stop_by, too_large, Closes, InOrder, Answers, Due}
+use Rattle.diagnose_cli.specs.Due.{Says, lacks_fault, stop_by, too_large, Closes, InOrder, MayAnswer, Due}
 use Rattle.diagnose_cli.specs.Outcomes.{Outcome}
 use Rattle.diagnose_cli.specs.Run.{Ends, RoseFor, LoadRow}
 
@@ -49,7 +49,7 @@ never_closes j true o says h = cc
 never_closes j false None says h = absurd h
 never_closes j false (Some size) says h = cc
 
-rose_at : (o : Outcome) (j : ℕ) (called : Option Command) → MatchOption called (failed j ≡ Err Usage) (λ c. Answers o.loads o.words c o.book (failed j)) → IsSomeAnd called (λ c. (1 ≤ j) × (j ≤ file_count c)) × RoseFor o j
+rose_at : (o : Outcome) (j : ℕ) (called : Option Command) → MatchOption called (failed j ≡ Err Usage) (λ c. MayAnswer o.loads o.words c o.book (failed j)) → IsSomeAnd called (λ c. (1 ≤ j) × (j ≤ file_count c)) × RoseFor o j
 rose_at o j None m = absurd (no_usage j m)
 rose_at o j (Some c) m =
     let rose = rose_in_order o (file_count c) 1 (files_of c) [] (Closes c o.words o.book) j (λ texts. never_closes j (lacks_fault c o.words texts) (too_large c texts) (Says c o.words o.book texts)) (omega arith) (omega arith) m in
@@ -77,7 +77,7 @@ no_load_end (said kind) p = no_load_kind kind p
 no_load_end cut p = cc
 no_load_end broken p = cc
 
-load_row_of : (o : Outcome) (e : Ending) → UnlessMemory e (Due o.loads o.words o.book e) → HasStatus e 3 → Took o.before o.now (concat (texts_of e)) → LoadRow o
+load_row_of : (o : Outcome) (e : Ending) → UnlessMemory e (Due o.loads o.words o.book e) → HasStatus e 3 → Took o.before o.now (concat (ending_texts e)) → LoadRow o
 load_row_of o (Ok told) d p t = absurd (no_load_end told.end p)
 load_row_of o (Err Usage) d p t = absurd (omega arith)
 load_row_of o (Err (Load i)) d p t =

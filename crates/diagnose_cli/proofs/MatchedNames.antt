@@ -11,7 +11,7 @@ use Rattle.log_order.specs.Log.{Log}
 use Rattle.replay.specs.Matching.{IsWellMatched, name_on}
 use Rattle.replay.specs.Traced.{word_of}
 use Rattle.replay.specs.declared.run.RunStep.{RunStep}
-use Rattle.report.specs.ReadBack.{HasNames, IsPrintable}
+use Rattle.report.specs.ReadBack.{HasAlarmNames, IsPrintable}
 
 found_step : (b : Bool) (text name : List ℕ) (later : Option ℕ) → bytes_eq text name ≡ b → IsName name → (IsSome later → IsName text) → IsSome (cond b (Some zero) (option_map suc later)) → IsName text
 found_step true text name later is named rest h = subst IsName (sym ((bytes_eq-Decides text name).0 is)) named
@@ -27,7 +27,7 @@ alarm_named : (alarm : Option (List ℕ)) (names : List (List ℕ)) → AllByRec
 alarm_named None names named h = tt
 alarm_named (Some text) names named h = found_name text names named h
 
-pub matched_names : (net : Net) (log : Log) (steps : List RunStep) → AllByRecursion IsName (names_of log.alarms) → IsWellMatched net log steps → HasNames steps
+pub matched_names : (net : Net) (log : Log) (steps : List RunStep) → AllByRecursion IsName (names_of log.alarms) → IsWellMatched net log steps → HasAlarmNames steps
 matched_names net log [] named h = All-nil (λ (s : RunStep). IfSome (name_on s) IsName)
 matched_names net log (step ∷ steps) named h =
     All-cons (λ (s : RunStep). IfSome (name_on s) IsName) step steps (alarm_named (name_on step) (names_of log.alarms) named h.0.known) (matched_names net log steps named h.1)

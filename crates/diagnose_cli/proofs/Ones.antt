@@ -9,7 +9,7 @@ use Rattle.endings.specs.declared.stop.Stop.{Stop}
 use Rattle.endings.specs.declared.stop.Stop.TheVariants.{Faulty, Usage}
 use Rattle.endings.specs.declared.stop.FaultyText.{FaultyText}
 use Rattle.diagnose_cli.specs.Commands.{command_of, files_of}
-use Rattle.diagnose_cli.specs.Due.{Answers, Closes, Due, InOrder, Says, halts}
+use Rattle.diagnose_cli.specs.Due.{MayAnswer, Closes, Due, InOrder, Says, halts}
 use Rattle.endings.specs.Files.{Loads}
 use Rattle.diagnose_cli.specs.Replies.{MayReply}
 use Rattle.endings.specs.Texts.{FileKind, fault_of_text}
@@ -51,14 +51,14 @@ in_place l words i (kind ∷ kinds) files closes t u f h =
     ]
 
 -- so a command with one reply, where it may answer that
-cuts : (l : Loads) (words : List (List ℕ)) (c : Single) (book : List BookEntry) → (r : Result (Kind × List ℕ) Stop) → UnlessMemory r (Answers l words (One c) book (once r)) → IfOk r (λ reply. Answers l words (One c) book (Ok (cut_short reply)))
+cuts : (l : Loads) (words : List (List ℕ)) (c : Single) (book : List BookEntry) → (r : Result (Kind × List ℕ) Stop) → UnlessMemory r (MayAnswer l words (One c) book (once r)) → IfOk r (λ reply. MayAnswer l words (One c) book (Ok (cut_short reply)))
 cuts l words c book (Err stop) h = tt
 cuts l words c book (Ok reply) h =
     in_place l words 1 (files_of (One c)) [] (Closes (One c) words book) (whole reply) (cut_short reply)
     (λ texts. past_stop (halts (One c) words texts) (whole reply) (cut_short reply) (Says (One c) words book texts (whole reply)) (Says (One c) words book texts (cut_short reply)) (cut_says c words book texts reply)) (h (λ never. cc))
 
-pub cuts_due : (l : Loads) (words : List (List ℕ)) (c : Single) (book : List BookEntry) → command_of words ≡ Some (One c) → (r : Result (Kind × List ℕ) Stop) → UnlessMemory r (Answers l words (One c) book (once r)) → IfOk r (λ reply. Due l words book (Ok (cut_short reply)))
+pub cuts_due : (l : Loads) (words : List (List ℕ)) (c : Single) (book : List BookEntry) → command_of words ≡ Some (One c) → (r : Result (Kind × List ℕ) Stop) → UnlessMemory r (MayAnswer l words (One c) book (once r)) → IfOk r (λ reply. Due l words book (Ok (cut_short reply)))
 cuts_due l words c book called (Err stop) h = tt
 cuts_due l words c book called (Ok reply) h =
     let e : Ending = Ok (cut_short reply) in
-    subst (λ (o : Option Command). MatchOption o (e ≡ Err Usage) (λ d. Answers l words d book e)) (sym called) (cuts l words c book (Ok reply) h)
+    subst (λ (o : Option Command). MatchOption o (e ≡ Err Usage) (λ d. MayAnswer l words d book e)) (sym called) (cuts l words c book (Ok reply) h)

@@ -14,11 +14,11 @@ use Rattle.endings.specs.declared.stop.Stop.{Stop}
 use Rattle.endings.specs.declared.stop.Stop.TheVariants.{Usage, Faulty, Memory}
 use Rattle.endings.specs.declared.stop.FaultyText.{FaultyText}
 use Rattle.endings.specs.Transcripts.{Ending, once, UnlessMemory}
-use Rattle.endings.specs.Files.{Loads, Holds, IsText, IsReadAs, IsFaultOf, StopsAt, StopsIn}
+use Rattle.endings.specs.Files.{Loads, Holds, IsText, IsReadAs, IsFileFault, StopsAt, StopsIn}
 use Rattle.endings.specs.Texts.{FileKind, model, log, limit_of, fault_of_text, fault_of_model}
 use Rattle.diagnose_cli.specs.FirstTwo.{AreFirstTwo, IsCase, StopsAtFirstTwo}
 use Rattle.diagnose_cli.specs.Commands.{command_of}
-use Rattle.diagnose_cli.specs.Due.{InOrder, Answers, Due}
+use Rattle.diagnose_cli.specs.Due.{InOrder, MayAnswer, Due}
 use Rattle.endings.proofs.Earlier.{stops_earlier}
 
 module _ (l : Loads) (words : List (List ℕ)) (i : ℕ) (kind : FileKind) (kinds : List FileKind) (files : List (List ℕ)) (closes : List (List ℕ) → Ending → Type 0) where
@@ -83,7 +83,7 @@ module _ (held now : List ℕ → Option (List ℕ)) (start before after : List 
   stops_in_earlier : (i : ℕ) (name : List ℕ) (limit : ℕ) (fault : List ℕ → Option FaultyText) (stop : Stop) → StopsIn (record { held = now; before = before; after = after }) i name limit fault stop → StopsIn (record { held = held; before = start; after = after }) i name limit fault stop
   stops_in_earlier i name limit fault stop h = elim h [
     | inl at ↦ inl (stops_earlier held now start before after i name limit stop same later at)
-    | inr b ↦ inr (subst (λ (f : List ℕ → Option (List ℕ)). IsFaultOf f name limit fault stop) same b)
+    | inr b ↦ inr (subst (λ (f : List ℕ → Option (List ℕ)). IsFileFault f name limit fault stop) same b)
   ]
 
   -- at the second file, behind a model that is read
@@ -148,12 +148,12 @@ memory_free (Err e) P is m = absurd (m (same is))
 
 -- that they call no command is due for words that call none
 pub usage_due : (l : Loads) (words : List (List ℕ)) (book : List BookEntry) → command_of words ≡ None → Due l words book (Err Usage)
-usage_due l words book is = subst (λ (o : Option Command). MatchOption o (◌≡◌ {A = Ending} (Err Usage) (Err Usage)) (λ c. Answers l words c book (Err Usage))) (sym is) refl
+usage_due l words book is = subst (λ (o : Option Command). MatchOption o (◌≡◌ {A = Ending} (Err Usage) (Err Usage)) (λ c. MayAnswer l words c book (Err Usage))) (sym is) refl
 
 -- what one command answers an equal one does
-pub due_alike : (l : Loads) (words : List (List ℕ)) (c d : Single) (book : List BookEntry) (r : Result (Kind × List ℕ) Stop) → c ≡ d → UnlessMemory r (Answers l words (One c) book (once r)) → UnlessMemory r (Answers l words (One d) book (once r))
-due_alike l words c d book r same h = subst (λ (e : Single). UnlessMemory r (Answers l words (One e) book (once r))) same h
+pub due_alike : (l : Loads) (words : List (List ℕ)) (c d : Single) (book : List BookEntry) (r : Result (Kind × List ℕ) Stop) → c ≡ d → UnlessMemory r (MayAnswer l words (One c) book (once r)) → UnlessMemory r (MayAnswer l words (One d) book (once r))
+due_alike l words c d book r same h = subst (λ (e : Single). UnlessMemory r (MayAnswer l words (One e) book (once r))) same h
 
 -- what a command answers is due for the words that call it
-pub due_of : (l : Loads) (words : List (List ℕ)) (c : Command) (book : List BookEntry) (r : Result (Kind × List ℕ) Stop) → command_of words ≡ Some c → UnlessMemory r (Answers l words c book (once r)) → UnlessMemory r (Due l words book (once r))
-due_of l words c book r is h m = subst (λ (o : Option Command). MatchOption o (once r ≡ Err Usage) (λ d. Answers l words d book (once r))) (sym is) (h m)
+pub due_of : (l : Loads) (words : List (List ℕ)) (c : Command) (book : List BookEntry) (r : Result (Kind × List ℕ) Stop) → command_of words ≡ Some c → UnlessMemory r (MayAnswer l words c book (once r)) → UnlessMemory r (Due l words book (once r))
+due_of l words c book r is h m = subst (λ (o : Option Command). MatchOption o (once r ≡ Err Usage) (λ d. MayAnswer l words d book (once r))) (sym is) (h m)

@@ -2,14 +2,14 @@
 use Rattle.std.proofs.Common.{◌≡◌, ◌≢◌, ◌∙◌, ℕ, zero, suc, List, Option, Some, None, ap, refl, subst}
 use Rattle.std.specs.Prelude.{All, codes}
 use Rattle.des_net.specs.Network.{Net}
-use Rattle.inquiries.specs.Refuted.{IsRefuted, IsRefutedBelow, IsRefutedFor, IsRefutedWithin}
+use Rattle.inquiries.specs.Refuted.{IsVerifiedRefutation, IsRefutedBelow, IsRefutedFor, IsRefutedWithin}
 use Rattle.inquiries.specs.declared.refutation.Refuted.TheVariants.{Within, Nothing, Undecided as NotRefuted}
 use Rattle.least_faults.specs.declared.answer.Found.{Found}
 use Rattle.least_faults.specs.declared.answer.Found.TheVariants.{Explained, Absent, Many, Undecided}
 use Rattle.log_order.specs.Log.{Log as AlarmLog}
 use Rattle.proof_ledger.specs.Book.{BookEntry}
 use Rattle.proof_ledger.specs.declared.checker.ProofStep.{ProofStep}
-use Rattle.proof_text.specs.PrintedText.{ReadsBack, steps_text}
+use Rattle.proof_text.specs.PrintedText.{ReadsBackAsProof, steps_text}
 use Rattle.proof_text.specs.ProofNumbers.{NumbersAscend, HasNoZero}
 use Rattle.diagnose_cli.specs.declared.command.Question.TheVariants.{PrintProof}
 use Rattle.endings.specs.declared.ending.Kind.{Kind}
@@ -44,10 +44,10 @@ module _ (net : Net) (log : AlarmLog) (n : ℕ) (book : List BookEntry) where
     fine_steps (Many best) h = fine_within (Some 255) h
     fine_steps (Undecided lo best) h = cc
 
-    module _ (reads : ReadsBack steps (steps_text steps)) (reply : Kind × List ℕ) (is : reply ≡ reply_of_proof bound steps) where
+    module _ (reads : ReadsBackAsProof steps (steps_text steps)) (reply : Kind × List ℕ) (is : reply ≡ reply_of_proof bound steps) where
       told_within : (b : Option ℕ) → IsRefutedWithin net log n b book (Within bound steps) → TellsRefutation net log n b book reply
       told_within b h =
-          tells_refutation net log n b book steps reply (subst (λ (s : List ProofStep). IsRefuted net log n b book s) (same_steps b bound h.steps steps h.is) h.refuted) reads
+          tells_refutation net log n b book steps reply (subst (λ (s : List ProofStep). IsVerifiedRefutation net log n b book s) (same_steps b bound h.steps steps h.is) h.refuted) reads
           (is ∙ ap (λ (o : Option ℕ). reply_of_proof o steps) (same_bound b bound h.steps steps h.is))
 
       told_below : (faults : ℕ) → IsRefutedBelow net log n faults book (Within bound steps) → TellsBelow net log n faults book reply

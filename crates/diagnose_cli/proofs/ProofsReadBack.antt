@@ -10,7 +10,7 @@ use Rattle.proof_ledger.specs.declared.checker.ProofStep.{ProofStep}
 use Rattle.proof_text.proofs.Commented.{commented, verified_alike}
 use Rattle.proof_text.specs.CnfText.{Formula}
 use Rattle.proof_text.specs.LratText.{proof_of}
-use Rattle.proof_text.specs.PrintedText.{IsProofText, KeepsLimits, ReadsBack, steps_text}
+use Rattle.proof_text.specs.PrintedText.{IsProofText, KeepsLimits, ReadsBackAsProof, steps_text}
 use Rattle.proof_text.specs.Refutation.{CanBePrinted}
 use Rattle.report.proofs.DecimalWords.{decimal_bytes}
 use Rattle.des_net.specs.Network.{Net}
@@ -19,7 +19,7 @@ use Rattle.proof_ledger.specs.Book.{BookEntry}
 use Rattle.endings.specs.declared.ending.Kind.{Kind}
 use Rattle.diagnose_cli.specs.Replies.{TellsRefutation, reply_of_proof}
 use Rattle.inquiries.specs.Formula.{question_formula}
-use Rattle.inquiries.specs.Refuted.{IsRefuted}
+use Rattle.inquiries.specs.Refuted.{IsVerifiedRefutation}
 use Rattle.diagnose_cli.specs.ProofText.{IsCheckedText, bound_word, proof_head}
 
 -- ---- behind the comment
@@ -35,12 +35,12 @@ head_skipped : (bound : Option ℕ) → is_counted 99 (head_line bound) ≡ fals
 head_skipped None = refl
 head_skipped (Some k) = refl
 
-reads_behind : (bound : Option ℕ) (steps : List ProofStep) (text : List ℕ) → ReadsBack steps text → ReadsBack steps (proof_head bound ++ text)
-reads_behind bound steps text reads = subst (ReadsBack steps) (sym (append_assoc (head_line bound) (10 ∷ []) text)) (commented (head_line bound) text steps (head_bytes bound) (head_skipped bound) reads)
+reads_behind : (bound : Option ℕ) (steps : List ProofStep) (text : List ℕ) → ReadsBackAsProof steps text → ReadsBackAsProof steps (proof_head bound ++ text)
+reads_behind bound steps text reads = subst (ReadsBackAsProof steps) (sym (append_assoc (head_line bound) (10 ∷ []) text)) (commented (head_line bound) text steps (head_bytes bound) (head_skipped bound) reads)
 
 -- ---- and as it is checked
 
-pub checked_text : (f : Formula) (bound : Option ℕ) (steps : List ProofStep) → KeepsLimits f → CanBePrinted f.vars f.clauses steps → ReadsBack steps (steps_text steps) → check_proof f.clauses steps ≡ Verified →
+pub checked_text : (f : Formula) (bound : Option ℕ) (steps : List ProofStep) → KeepsLimits f → CanBePrinted f.vars f.clauses steps → ReadsBackAsProof steps (steps_text steps) → check_proof f.clauses steps ≡ Verified →
     IsCheckedText f (proof_head bound ++ steps_text steps)
 checked_text f bound steps limits printable reads verified = record {
   well = read.well;
@@ -51,7 +51,7 @@ checked_text f bound steps limits printable reads verified = record {
     read = reads_behind bound steps (steps_text steps) reads f.vars (length f.clauses) (omega (arith, limits.0)) printable.steps_known printable.behind
 
 -- so the reply is checked that has the refutation
-pub tells_refutation : (net : Net) (alarms : AlarmLog) (n : ℕ) (bound : Option ℕ) (book : List BookEntry) (steps : List ProofStep) (reply : Kind × List ℕ) → IsRefuted net alarms n bound book steps → ReadsBack steps (steps_text steps) →
+pub tells_refutation : (net : Net) (alarms : AlarmLog) (n : ℕ) (bound : Option ℕ) (book : List BookEntry) (steps : List ProofStep) (reply : Kind × List ℕ) → IsVerifiedRefutation net alarms n bound book steps → ReadsBackAsProof steps (steps_text steps) →
     reply ≡ reply_of_proof bound steps → TellsRefutation net alarms n bound book reply
 tells_refutation net alarms n bound book steps reply refuted reads is = record {
   steps = steps;

@@ -17,10 +17,10 @@ use Rattle.endings.specs.declared.ending.Kind.{Kind}
 use Rattle.endings.specs.declared.stop.Stop.{Stop}
 use Rattle.endings.specs.declared.stop.Stop.TheVariants.{Large, Usage, Memory as NoMemory}
 use Rattle.endings.specs.Texts.{script}
-use Rattle.diagnose_cli.specs.FirstTwo.{IsPlan, StopsAtFirstTwo}
+use Rattle.diagnose_cli.specs.FirstTwo.{IsScriptCase, StopsAtFirstTwo}
 use Rattle.diagnose_cli.specs.Commands.{command_of}
 use Rattle.diagnose_cli.specs.SessionReplies.{IsSession}
-use Rattle.diagnose_cli.specs.Due.{Answers, Closes, Due, HasNotBegun, above_limit}
+use Rattle.diagnose_cli.specs.Due.{MayAnswer, Closes, Due, HasNotBegun, above_limit}
 use Rattle.endings.specs.Files.{Loads}
 use Rattle.endings.specs.Puts.{Finishes, Speaks}
 use Rattle.diagnose_cli.specs.Run.{SaysStop}
@@ -110,14 +110,14 @@ module _ (steps budget : ℕ) (words : List (List ℕ)) (book : List BookEntry) 
 
 -- ---- for the words that call it
 
-pub due_for : (l : Loads) (words : List (List ℕ)) (c : Command) (book : List BookEntry) (e : Ending) → command_of words ≡ Some c → Answers l words c book e → Due l words book e
-due_for l words c book e called h = subst (λ (o : Option Command). MatchOption o (e ≡ Err Usage) (λ d. Answers l words d book e)) (sym called) h
+pub due_for : (l : Loads) (words : List (List ℕ)) (c : Command) (book : List BookEntry) (e : Ending) → command_of words ≡ Some c → MayAnswer l words c book e → Due l words book e
+due_for l words c book e called h = subst (λ (o : Option Command). MatchOption o (e ≡ Err Usage) (λ d. MayAnswer l words d book e)) (sym called) h
 
 pub not_begun : (words : List (List ℕ)) (book : List BookEntry) → book ≡ [] → HasNotBegun words book
 not_begun words book none steps budget is = none
 
 module _ (l : Loads) (words : List (List ℕ)) (steps budget : ℕ) (book : List BookEntry) (called : command_of words ≡ Some (Session steps budget)) where
-  pub plan_speaks : (net : Net) (rows : List Row) (before now : Option (List ℕ)) (rose : Type 0) (status : ℕ) (plan : IsPlan l.held words net rows)
+  pub plan_speaks : (net : Net) (rows : List Row) (before now : Option (List ℕ)) (rose : Type 0) (status : ℕ) (plan : IsScriptCase l.held words net rows)
       → Speaks (Closes (Session steps budget) words book (plan.text ∷ plan.second ∷ [])) (book ≡ []) before now rose status → Speaks (Due l words book) (HasNotBegun words book) before now rose status
   plan_speaks net rows before now rose status plan speaks =
       speaks_weaker (Closes (Session steps budget) words book (plan.text ∷ plan.second ∷ [])) (Due l words book)

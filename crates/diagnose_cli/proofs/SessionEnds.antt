@@ -4,13 +4,13 @@ use Rattle.alarm_session.specs.Session.{IsSessionBook, Stage, first_stage}
 use Rattle.des_net.specs.Network.{Net}
 use Rattle.log_csv.specs.declared.row.Row.{Row}
 use Rattle.proof_ledger.specs.Book.{BookEntry}
-use Rattle.telling.specs.Telling.{BreaksOff, ComesTo as TellsTo, EachGoes, IsCutShort, Tells}
+use Rattle.telling.specs.Telling.{BreaksOff, ComesTo as TellsTo, EachGoes, IsCutShort, TellsEach}
 use Rattle.telling.specs.declared.each.Broken.{Broken}
 use Rattle.telling.specs.declared.each.Broken.TheVariants.{Memory, Put}
 use Rattle.endings.specs.declared.ending.Kind.TheVariants.{Done}
 use Rattle.diagnose_cli.specs.declared.session_rows.Plan.{Plan}
 use Rattle.endings.specs.Puts.{Speaks}
-use Rattle.diagnose_cli.specs.SessionReplies.{ComesTo, EndsSession, HasReplies, IsBroken, IsCut, IsRowReplied, IsUntold}
+use Rattle.diagnose_cli.specs.SessionReplies.{SessionComesTo, EndsSession, HasReplies, IsBroken, IsCut, IsRowReplied, IsUntold}
 use Rattle.diagnose_cli.specs.Sessions.{IsCarriedOut, MaySay, RowIsUntold, RowTells, status_of_session}
 use Rattle.endings.specs.Transcripts.{End, said, cut, broken}
 use Rattle.diagnose_cli.proofs.SessionFronts.{nothing_replied, replied_more, row_replied, rows_told}
@@ -18,15 +18,15 @@ use Rattle.endings.proofs.Speaking.{speaks_broken, speaks_cut, speaks_said}
 
 module _ {S : Type 0} (plan : S → Plan) (stage : S → Stage) (s : S) (rows : List Row) (t : S) (begins : stage s ≡ first_stage (plan s).net (plan s).limits.steps) (asks : IsSessionBook (plan s).net (plan s).limits.steps (stage s)) where
   -- the rows so far, from the beginning on
-  so_far : (front : List Row) (left : S) (texts : List (List ℕ)) → Tells (RowTells plan stage) s front left texts → (plan left ≡ plan s) × HasReplies (plan s).net (plan s).limits.steps (plan s).limits.budget front (stage left) texts
+  so_far : (front : List Row) (left : S) (texts : List (List ℕ)) → TellsEach (RowTells plan stage) s front left texts → (plan left ≡ plan s) × HasReplies (plan s).net (plan s).limits.steps (plan s).limits.budget front (stage left) texts
   so_far front left texts told = rows_told plan stage s [] front left [] texts (nothing_replied (plan s).net (plan s).limits.steps (plan s).limits.budget (stage s) begins asks) told
 
   -- it came to a row
-  comes_to : (row : Row) (left : S) (texts : List (List ℕ)) → TellsTo (RowTells plan stage) s rows row left texts → ComesTo (plan s).net (plan s).limits.steps (plan s).limits.budget rows row (stage left) texts
+  comes_to : (row : Row) (left : S) (texts : List (List ℕ)) → TellsTo (RowTells plan stage) s rows row left texts → SessionComesTo (plan s).net (plan s).limits.steps (plan s).limits.budget rows row (stage left) texts
   comes_to row left texts comes = record { front = comes.front; others = comes.others; split = comes.split; replied = (so_far comes.front left texts comes.told).1 }
 
   -- what is said is what a session says, by the way that it ends
-  finished : (texts : List (List ℕ)) → Tells (RowTells plan stage) s rows t texts → EndsSession (plan s).net (plan s).limits.steps (plan s).limits.budget rows (stage t).book texts (said Done)
+  finished : (texts : List (List ℕ)) → TellsEach (RowTells plan stage) s rows t texts → EndsSession (plan s).net (plan s).limits.steps (plan s).limits.budget rows (stage t).book texts (said Done)
   finished texts told = (refl, record { left = stage t; replied = (so_far rows t texts told).1; book_is = refl })
 
   broken_off : (texts : List (List ℕ)) → BreaksOff (RowTells plan stage) (RowIsUntold plan stage) s rows t texts → EndsSession (plan s).net (plan s).limits.steps (plan s).limits.budget rows (stage t).book texts broken

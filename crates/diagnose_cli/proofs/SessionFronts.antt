@@ -21,7 +21,7 @@ use Rattle.proof_ledger.specs.Book.{BookEntry}
 use Rattle.prop_core.specs.VariableNames.{Name}
 use Rattle.replay.specs.QuestionSize.{variable_bound}
 use Rattle.run_decode.specs.QuestionAxioms.{BuiltQuestion}
-use Rattle.telling.specs.Telling.{Tells}
+use Rattle.telling.specs.Telling.{TellsEach}
 use Rattle.diagnose_cli.specs.declared.session_rows.Plan.{Plan}
 use Rattle.diagnose_cli.specs.SessionReplies.{AreDecided, HasReplies, IsDecided, IsRowReplied, RunsReplay, TellsDecided, TellsReplaying, replies_to}
 use Rattle.diagnose_cli.specs.Sessions.{IsCarriedOut, RowIsUntold, RowTells, TellsKnown}
@@ -124,7 +124,7 @@ module _ {S : Type 0} (plan : S → Plan) (stage : S → Stage) where
   abbrev Replied : Plan → List Row → Stage → List (List ℕ) → Type 0
   Replied p rows left texts = HasReplies p.net p.limits.steps p.limits.budget rows left texts
 
-  pub rows_told : (s : S) (front rows : List Row) (t : S) (before texts : List (List ℕ)) → Replied (plan s) front (stage s) before → Tells (RowTells plan stage) s rows t texts
+  pub rows_told : (s : S) (front rows : List Row) (t : S) (before texts : List (List ℕ)) → Replied (plan s) front (stage s) before → TellsEach (RowTells plan stage) s rows t texts
       → (plan t ≡ plan s) × Replied (plan s) (front ++ rows) (stage t) (before ++ texts)
   rows_told s front [] t before texts so_far told = (
     ap plan told.0,

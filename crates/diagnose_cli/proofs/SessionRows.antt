@@ -9,9 +9,9 @@ use Rattle.model_text.specs.ModelFaults.{network_of}
 use Rattle.diagnose_cli.specs.declared.command.Command.TheVariants.{Session}
 use Rattle.endings.specs.declared.ending.Kind.{Kind}
 use Rattle.diagnose_cli.specs.SessionReplies.{EndsSession, IsSession}
-use Rattle.endings.specs.Endings.{HasStatus, status_of_end, status_of_kind, texts_of}
+use Rattle.endings.specs.Endings.{HasStatus, status_of_end, status_of_kind, ending_texts}
 use Rattle.diagnose_cli.specs.Outcomes.{Outcome, IsPut, IsUnbroken}
-use Rattle.diagnose_cli.specs.Rows.{Reads, TellsSession}
+use Rattle.diagnose_cli.specs.Rows.{ReadsFiles, TellsSession}
 use Rattle.diagnose_cli.specs.Run.{Ends}
 use Rattle.endings.specs.Transcripts.{End, said, cut, broken, Ending}
 use Rattle.diagnose_cli.proofs.Answered.{said_in_all}
@@ -29,10 +29,10 @@ ended o net n budget rows texts (said kind) is_put says shown put = record {
 ended o net n budget rows texts cut is_put says shown put = absurd (is_put.written shown)
 ended o net n budget rows texts broken is_put says shown put = absurd (is_put.memory shown)
 
-session_told : (o : Outcome) (net : Net) (n budget : ℕ) (rows : List Row) (e : Ending) → IsPut o.status → IsOkAnd e (IsSession net n budget rows o.book) → HasStatus e o.status → Took o.before o.now (concat (texts_of e)) → TellsSession o net n budget rows
+session_told : (o : Outcome) (net : Net) (n budget : ℕ) (rows : List Row) (e : Ending) → IsPut o.status → IsOkAnd e (IsSession net n budget rows o.book) → HasStatus e o.status → Took o.before o.now (concat (ending_texts e)) → TellsSession o net n budget rows
 session_told o net n budget rows (Ok told) is_put says shown put = ended o net n budget rows told.texts told.end is_put says shown put
 session_told o net n budget rows (Err stop) is_put says shown put = absurd says
 
-pub session_row : (o : Outcome) (steps budget : ℕ) (text lines : List ℕ) → Ends o → Reads o (Session steps budget) (text ∷ lines ∷ []) → IsUnbroken o.status → TellsSession o (network_of text) steps budget (script_of lines)
+pub session_row : (o : Outcome) (steps budget : ℕ) (text lines : List ℕ) → Ends o → ReadsFiles o (Session steps budget) (text ∷ lines ∷ []) → IsUnbroken o.status → TellsSession o (network_of text) steps budget (script_of lines)
 session_row o steps budget text lines ends reads unbroken =
     session_told o (network_of text) steps budget (script_of lines) ends.ending unbroken.put (said_in_all o (Session steps budget) (text ∷ lines ∷ []) ends reads unbroken.loaded unbroken.put.memory) ends.shown ends.put

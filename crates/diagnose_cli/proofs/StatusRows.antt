@@ -29,8 +29,8 @@ use Rattle.endings.specs.declared.ending.Kind.TheVariants.{Done, Rejected, Absen
 use Rattle.endings.specs.Endings.{status_of_kind}
 use Rattle.inquiries.specs.Diagnosed.{IsDiagnosed}
 use Rattle.diagnose_cli.specs.Replies.{kind_of_found, reply_of_checked, AnswersQuestion, AnswersTo, HasEnough, MayReply, SaysFound}
-use Rattle.diagnose_cli.specs.Outcomes.{Outcome, Tells}
-use Rattle.diagnose_cli.specs.Rows.{AreTold, Asks, TellsLeast, TellsMany, TellsUndecided}
+use Rattle.diagnose_cli.specs.Outcomes.{Outcome, ShowsReply}
+use Rattle.diagnose_cli.specs.Rows.{AreTold, CallsWith, TellsLeast, TellsMany, TellsUndecided}
 use Rattle.diagnose_cli.specs.Run.{Ends}
 use Rattle.diagnose_cli.proofs.Answered.{AreHeld, IsStopStatus, between, said_over, same_text}
 
@@ -41,7 +41,7 @@ yes : (axioms : List Clause) (steps : List ProofStep) (checked : Checked) → ch
 yes axioms steps Verified is status = verified_refutes axioms steps is
 yes axioms steps (Rejected line kind) is status = absurd (omega arith)
 
-of_checked : (o : Outcome) (formula : List ℕ) (texts : List (List ℕ)) → o.loads.held (word_at o.words 1) ≡ Some formula → o.status ≡ 0 → AreHeld o.loads.held o.words 1 texts → Tells o (MayReply Check o.words o.book texts)
+of_checked : (o : Outcome) (formula : List ℕ) (texts : List (List ℕ)) → o.loads.held (word_at o.words 1) ≡ Some formula → o.status ≡ 0 → AreHeld o.loads.held o.words 1 texts → ShowsReply o (MayReply Check o.words o.book texts)
     → IsUnsatisfiable (formula_of formula).clauses
 of_checked o formula [] there zero held tells = absurd tells.says
 of_checked o formula (text ∷ []) there zero held tells = absurd tells.says
@@ -51,7 +51,7 @@ of_checked o formula (text ∷ proof ∷ []) there zero held tells =
     subst (λ (f : List ℕ). IsUnsatisfiable (formula_of f).clauses) (sym (same_text (o.loads.held (word_at o.words 1)) formula text there held.0)) (yes (formula_of text).clauses (proof_of proof) checked refl status)
 of_checked o formula (text ∷ proof ∷ other ∷ texts) there zero held tells = absurd tells.says
 
-pub refuted : (o : Outcome) → Ends o → (formula : List ℕ) → Asks o (One Check) (formula ∷ []) → o.status ≡ 0 → IsUnsatisfiable (formula_of formula).clauses
+pub refuted : (o : Outcome) → Ends o → (formula : List ℕ) → CallsWith o (One Check) (formula ∷ []) → o.status ≡ 0 → IsUnsatisfiable (formula_of formula).clauses
 refuted o ends formula asks zero =
     let over = said_over o Check ends asks.command (λ stop. omega (arith, zero, stop.low)) in
     of_checked o formula over.texts asks.told.0 zero over.held over.tells
@@ -60,16 +60,16 @@ refuted o ends formula asks zero =
 
 -- over the two texts that are told
 over_texts : (o : Outcome) (steps : ℕ) (question : Question) (text alarms : List ℕ) (texts : List (List ℕ)) → AreTold o.loads.held o.words 1 (text ∷ alarms ∷ []) → AreHeld o.loads.held o.words 1 texts
-    → Tells o (MayReply (Ask steps question) o.words o.book texts) → Tells o (AnswersTo question (network_of text) (log_of alarms) steps o.book)
+    → ShowsReply o (MayReply (Ask steps question) o.words o.book texts) → ShowsReply o (AnswersTo question (network_of text) (log_of alarms) steps o.book)
 over_texts o steps question text alarms [] there held tells = absurd tells.says
 over_texts o steps question text alarms (model ∷ []) there held tells = absurd tells.says
 over_texts o steps question text alarms (model ∷ rows ∷ []) there held tells =
-    let of_model = subst (λ (m : List ℕ). Tells o (AnswersTo question (network_of m) (log_of rows) steps o.book)) (sym (same_text (o.loads.held (word_at o.words 1)) text model there.0 held.0)) tells in
-    subst (λ (a : List ℕ). Tells o (AnswersTo question (network_of text) (log_of a) steps o.book)) (sym (same_text (o.loads.held (word_at o.words 2)) alarms rows there.1.0 held.1.0)) of_model
+    let of_model = subst (λ (m : List ℕ). ShowsReply o (AnswersTo question (network_of m) (log_of rows) steps o.book)) (sym (same_text (o.loads.held (word_at o.words 1)) text model there.0 held.0)) tells in
+    subst (λ (a : List ℕ). ShowsReply o (AnswersTo question (network_of text) (log_of a) steps o.book)) (sym (same_text (o.loads.held (word_at o.words 2)) alarms rows there.1.0 held.1.0)) of_model
 over_texts o steps question text alarms (model ∷ rows ∷ other ∷ texts) there held tells = absurd tells.says
 
 -- what is answered to it
-pub answer_told : (o : Outcome) (steps : ℕ) (question : Question) (text alarms : List ℕ) → Ends o → Asks o (One (Ask steps question)) (text ∷ alarms ∷ []) → (IsStopStatus o.status → ⊥) → Tells o (AnswersTo question (network_of text) (log_of alarms) steps o.book)
+pub answer_told : (o : Outcome) (steps : ℕ) (question : Question) (text alarms : List ℕ) → Ends o → CallsWith o (One (Ask steps question)) (text ∷ alarms ∷ []) → (IsStopStatus o.status → ⊥) → ShowsReply o (AnswersTo question (network_of text) (log_of alarms) steps o.book)
 answer_told o steps question text alarms ends asks answers =
     let over = said_over o (Ask steps question) ends asks.command answers in
     over_texts o steps question text alarms over.texts asks.told over.held over.tells
@@ -82,7 +82,7 @@ record TellsFound (o : Outcome) (net : Net) (alarms : Log) (n budget : ℕ) : Ty
   shown : o.status ≡ status_of_kind (kind_of_found found)
   put : Took o.before o.now (text_of_found net n found)
 
-of_reply : (o : Outcome) (net : Net) (alarms : Log) (steps budget : ℕ) → Tells o (AnswersTo (Diagnose budget) net alarms steps o.book) → TellsFound o net alarms steps budget
+of_reply : (o : Outcome) (net : Net) (alarms : Log) (steps budget : ℕ) → ShowsReply o (AnswersTo (Diagnose budget) net alarms steps o.book) → TellsFound o net alarms steps budget
 of_reply o net alarms steps budget tells =
     let said : SaysFound net alarms steps budget o.book tells.reply = tells.says.says in
     record {
@@ -92,7 +92,7 @@ of_reply o net alarms steps budget tells =
       put = subst (λ (r : Kind × List ℕ). Took o.before o.now r.1) said.is tells.put;
     }
 
-found_told : (o : Outcome) (steps budget : ℕ) (text alarms : List ℕ) → Ends o → Asks o (One (Ask steps (Diagnose budget))) (text ∷ alarms ∷ []) → (IsStopStatus o.status → ⊥) → TellsFound o (network_of text) (log_of alarms) steps budget
+found_told : (o : Outcome) (steps budget : ℕ) (text alarms : List ℕ) → Ends o → CallsWith o (One (Ask steps (Diagnose budget))) (text ∷ alarms ∷ []) → (IsStopStatus o.status → ⊥) → TellsFound o (network_of text) (log_of alarms) steps budget
 found_told o steps budget text alarms ends asks answers = of_reply o (network_of text) (log_of alarms) steps budget (answer_told o steps (Diagnose budget) text alarms ends asks answers)
 
 -- ---- by the status
@@ -147,32 +147,32 @@ open_kind Nothing is = absurd (omega arith)
 open_kind Ambiguous is = absurd (omega arith)
 
 -- a reply is of this kind where the status is this
-pub left_open : {P : (Kind × List ℕ) → Type 0} (o : Outcome) (tells : Tells o P) → o.status ≡ 11 → tells.reply.0 ≡ LeftOpen
+pub left_open : {P : (Kind × List ℕ) → Type 0} (o : Outcome) (tells : ShowsReply o P) → o.status ≡ 11 → tells.reply.0 ≡ LeftOpen
 left_open o tells is = open_kind tells.reply.0 (sym is ∙ tells.shown)
 
 module _ (o : Outcome) (ends : Ends o) where
-  pub explained : (steps budget : ℕ) (text alarms : List ℕ) → Asks o (One (Ask steps (Diagnose budget))) (text ∷ alarms ∷ []) → o.status ≡ 0 → TellsLeast o (network_of text) (log_of alarms) steps
+  pub explained : (steps budget : ℕ) (text alarms : List ℕ) → CallsWith o (One (Ask steps (Diagnose budget))) (text ∷ alarms ∷ []) → o.status ≡ 0 → TellsLeast o (network_of text) (log_of alarms) steps
   explained steps budget text alarms asks is =
       let tells = found_told o steps budget text alarms ends asks (λ stop. omega (arith, is, stop.low)) in
       least_of o (network_of text) (log_of alarms) steps budget tells.found (sym is ∙ tells.shown) tells.holds.diagnosed tells.put
 
-  pub absent : (steps budget : ℕ) (text alarms : List ℕ) → Asks o (One (Ask steps (Diagnose budget))) (text ∷ alarms ∷ []) → o.status ≡ 10 → IsAbsent (network_of text) (log_of alarms) steps
+  pub absent : (steps budget : ℕ) (text alarms : List ℕ) → CallsWith o (One (Ask steps (Diagnose budget))) (text ∷ alarms ∷ []) → o.status ≡ 10 → IsAbsent (network_of text) (log_of alarms) steps
   absent steps budget text alarms asks is =
       let tells = found_told o steps budget text alarms ends asks (λ stop. between o.status _ is (omega arith) (omega arith) stop) in
       absent_of o (network_of text) (log_of alarms) steps budget tells.found (sym is ∙ tells.shown) tells.holds.diagnosed
 
-  pub undecided : (steps budget : ℕ) (text alarms : List ℕ) → Asks o (One (Ask steps (Diagnose budget))) (text ∷ alarms ∷ []) → o.status ≡ 11 → TellsUndecided o (network_of text) (log_of alarms) steps budget
+  pub undecided : (steps budget : ℕ) (text alarms : List ℕ) → CallsWith o (One (Ask steps (Diagnose budget))) (text ∷ alarms ∷ []) → o.status ≡ 11 → TellsUndecided o (network_of text) (log_of alarms) steps budget
   undecided steps budget text alarms asks is =
       let tells = found_told o steps budget text alarms ends asks (λ stop. between o.status _ is (omega arith) (omega arith) stop) in
       undecided_of o (network_of text) (log_of alarms) steps budget tells.found (sym is ∙ tells.shown) tells.holds.diagnosed tells.put
 
-  pub many : (steps budget : ℕ) (text alarms : List ℕ) → Asks o (One (Ask steps (Diagnose budget))) (text ∷ alarms ∷ []) → o.status ≡ 12 → TellsMany o (network_of text) (log_of alarms) steps
+  pub many : (steps budget : ℕ) (text alarms : List ℕ) → CallsWith o (One (Ask steps (Diagnose budget))) (text ∷ alarms ∷ []) → o.status ≡ 12 → TellsMany o (network_of text) (log_of alarms) steps
   many steps budget text alarms asks is =
       let tells = found_told o steps budget text alarms ends asks (λ stop. between o.status _ is (omega arith) (omega arith) stop) in
       many_of o (network_of text) (log_of alarms) steps budget tells.found (sym is ∙ tells.shown) tells.holds.diagnosed tells.put
 
   -- a budget that is large enough decides each question
-  pub decided : (steps : ℕ) (question : Question) (text alarms : List ℕ) → Asks o (One (Ask steps question)) (text ∷ alarms ∷ []) → HasEnough question (network_of text) (log_of alarms) steps → o.status ≡ 11 → ⊥
+  pub decided : (steps : ℕ) (question : Question) (text alarms : List ℕ) → CallsWith o (One (Ask steps question)) (text ∷ alarms ∷ []) → HasEnough question (network_of text) (log_of alarms) steps → o.status ≡ 11 → ⊥
   decided steps question text alarms asks enough is =
       let tells = answer_told o steps question text alarms ends asks (λ stop. between o.status _ is (omega arith) (omega arith) stop) in
       tells.says.decided enough (left_open o tells is)

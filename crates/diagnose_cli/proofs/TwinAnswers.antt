@@ -18,10 +18,10 @@ use Rattle.replay.specs.Matching.{name_on}
 use Rattle.replay.specs.Traced.{word_of}
 use Rattle.replay.specs.declared.run.RunStep.{RunStep}
 use Rattle.report.proofs.ReadsBack.{printed_runs_read_back}
-use Rattle.report.specs.ReadBack.{HasNames, IsRunText}
+use Rattle.report.specs.ReadBack.{HasAlarmNames, IsRunText}
 use Rattle.report.specs.Replies.{TwinEventsKnown, text_of_run}
 use Rattle.twin_test.proofs.Decoding.{word_is}
-use Rattle.twin_test.specs.Tested.{IsTested, LeavesTwins, run_of, unnamed}
+use Rattle.twin_test.specs.Tested.{IsTested, LeavesTwins, run_of_pieces, unnamed}
 use Rattle.twin_test.specs.Twins.{AreAligned, twin_size}
 use Rattle.twin_test.specs.declared.answer.Twin.{Twin as TwinAnswer}
 use Rattle.twin_test.specs.declared.answer.Twin.TheVariants.{Ambiguous, Clear, Undecided}
@@ -48,17 +48,17 @@ twin_known net fault n d budget book Clear tested = tt
 twin_known net fault n d budget book Undecided tested = tt
 
 -- no alarm is named
-unnamed_names : (events : List ℕ) → HasNames (map unnamed events)
+unnamed_names : (events : List ℕ) → HasAlarmNames (map unnamed events)
 unnamed_names [] = All-nil (λ (s : RunStep). IfSome (name_on s) IsName)
 unnamed_names (e ∷ events) = All-cons (λ (s : RunStep). IfSome (name_on s) IsName) (unnamed e) (map unnamed events) tt (unnamed_names events)
 
 -- a run of n pieces reads back
-pieces_read_back : (net : Net) (n : ℕ) (pieces : List (List ℕ)) → IsNetwork net → IsDraft net → n ≤ 1000 → AreAligned net n pieces → IsRunText net (run_of pieces) (text_of_run net (run_of pieces))
+pieces_read_back : (net : Net) (n : ℕ) (pieces : List (List ℕ)) → IsNetwork net → IsDraft net → n ≤ 1000 → AreAligned net n pieces → IsRunText net (run_of_pieces pieces) (text_of_run net (run_of_pieces pieces))
 pieces_read_back net n pieces network drafted few aligned =
     let known = run_known net (joined pieces) aligned.run in
     let short = pieces_length net pieces network known aligned.apart in
     let most = mul-le (length pieces) (length net.components) 1000 1000 (omega (arith, few, aligned.size)) drafted.few_comps in
-    printed_runs_read_back net (run_of pieces) drafted
+    printed_runs_read_back net (run_of_pieces pieces) drafted
     (record { known = subst (All (λ e. e < length net.events)) (sym (word_is pieces)) known; named = unnamed_names (joined pieces); few = omega (arith, length-map (joined pieces) unnamed, short, most) })
 
 pub twin_reads_back : (net : Net) (fault n d budget : ℕ) (book : List BookEntry) (answer : TwinAnswer) → IsNetwork net → IsDraft net → n ≤ 1000 → IsTested net fault n d budget book answer → TwinRunsReadBack net answer

@@ -17,9 +17,9 @@ use Rattle.diagnose_cli.specs.declared.command.Command.TheVariants.{One}
 use Rattle.diagnose_cli.specs.declared.command.Single.TheVariants.{Twin}
 use Rattle.endings.specs.declared.ending.Kind.{Kind}
 use Rattle.endings.specs.Endings.{status_of_kind}
-use Rattle.diagnose_cli.specs.Outcomes.{Outcome, Tells}
+use Rattle.diagnose_cli.specs.Outcomes.{Outcome, ShowsReply}
 use Rattle.diagnose_cli.specs.Replies.{MayReply}
-use Rattle.diagnose_cli.specs.Rows.{AreTold, Asks}
+use Rattle.diagnose_cli.specs.Rows.{AreTold, CallsWith}
 use Rattle.diagnose_cli.specs.Run.{Ends}
 use Rattle.diagnose_cli.specs.TwinReplies.{SaysTwin, SaysOfWord, kind_of_twin}
 use Rattle.diagnose_cli.specs.TwinRows.{AsksTwins, TellsTwins, TellsNoTwins, TellsUntested}
@@ -48,7 +48,7 @@ names_fault net word n d budget book reply says = by (fault_event_of net word) r
     by None is h = absurd h
     by (Some fault) is h = record { fault = fault; named = is; says = h }
 
-of_reply : (o : Outcome) (net : Net) (n d budget : ℕ) → Tells o (SaysOfWord net (word_at o.words 2) n d budget o.book) → TellsTested o net n d budget
+of_reply : (o : Outcome) (net : Net) (n d budget : ℕ) → ShowsReply o (SaysOfWord net (word_at o.words 2) n d budget o.book) → TellsTested o net n d budget
 of_reply o net n d budget tells =
     let names = names_fault net (word_at o.words 2) n d budget o.book tells.reply tells.says in
     record {
@@ -62,13 +62,13 @@ of_reply o net n d budget tells =
 
 -- over the text that is told
 over_text : (o : Outcome) (n d budget : ℕ) (text : List ℕ) (texts : List (List ℕ)) → AreTold o.loads.held o.words 1 (text ∷ []) → AreHeld o.loads.held o.words 1 texts
-    → Tells o (MayReply (Twin n d budget) o.words o.book texts) → Tells o (SaysOfWord (network_of text) (word_at o.words 2) n d budget o.book)
+    → ShowsReply o (MayReply (Twin n d budget) o.words o.book texts) → ShowsReply o (SaysOfWord (network_of text) (word_at o.words 2) n d budget o.book)
 over_text o n d budget text [] there held tells = absurd tells.says
 over_text o n d budget text (model ∷ []) there held tells =
-    subst (λ (m : List ℕ). Tells o (SaysOfWord (network_of m) (word_at o.words 2) n d budget o.book)) (sym (same_text (o.loads.held (word_at o.words 1)) text model there.0 held.0)) tells
+    subst (λ (m : List ℕ). ShowsReply o (SaysOfWord (network_of m) (word_at o.words 2) n d budget o.book)) (sym (same_text (o.loads.held (word_at o.words 1)) text model there.0 held.0)) tells
 over_text o n d budget text (model ∷ other ∷ texts) there held tells = absurd tells.says
 
-told : (o : Outcome) (n d budget : ℕ) (text : List ℕ) → Ends o → Asks o (One (Twin n d budget)) (text ∷ []) → (IsStopStatus o.status → ⊥) → TellsTested o (network_of text) n d budget
+told : (o : Outcome) (n d budget : ℕ) (text : List ℕ) → Ends o → CallsWith o (One (Twin n d budget)) (text ∷ []) → (IsStopStatus o.status → ⊥) → TellsTested o (network_of text) n d budget
 told o n d budget text ends asks answers =
     let over = said_over o (Twin n d budget) ends asks.command answers in
     of_reply o (network_of text) n d budget (over_text o n d budget text over.texts asks.told over.held over.tells)
@@ -110,22 +110,22 @@ small_of net fault n d budget book Undecided is tested enough =
     omega (arith, small, enough)
 
 module _ (o : Outcome) (ends : Ends o) where
-  pub alike : (n d budget : ℕ) (text : List ℕ) → Asks o (One (Twin n d budget)) (text ∷ []) → o.status ≡ 17 → TellsTwins o (network_of text) n d
+  pub alike : (n d budget : ℕ) (text : List ℕ) → CallsWith o (One (Twin n d budget)) (text ∷ []) → o.status ≡ 17 → TellsTwins o (network_of text) n d
   alike n d budget text asks is =
       let tells = told o n d budget text ends asks (above o.status 17 is (omega arith)) in
       alike_of o (network_of text) n d budget tells tells.answer (sym is ∙ tells.shown) tells.tested tells.put
 
-  pub clear : (n d budget : ℕ) (text : List ℕ) → Asks o (One (Twin n d budget)) (text ∷ []) → o.status ≡ 0 → TellsNoTwins o (network_of text) n d
+  pub clear : (n d budget : ℕ) (text : List ℕ) → CallsWith o (One (Twin n d budget)) (text ∷ []) → o.status ≡ 0 → TellsNoTwins o (network_of text) n d
   clear n d budget text asks is =
       let tells = told o n d budget text ends asks (λ stop. omega (arith, is, stop.low)) in
       clear_of o (network_of text) n d budget tells tells.answer (sym is ∙ tells.shown) tells.tested tells.put
 
-  pub untested : (n d budget : ℕ) (text : List ℕ) → Asks o (One (Twin n d budget)) (text ∷ []) → o.status ≡ 11 → TellsUntested o (network_of text) n d budget
+  pub untested : (n d budget : ℕ) (text : List ℕ) → CallsWith o (One (Twin n d budget)) (text ∷ []) → o.status ≡ 11 → TellsUntested o (network_of text) n d budget
   untested n d budget text asks is =
       let tells = told o n d budget text ends asks (between o.status 11 is (omega arith) (omega arith)) in
       untested_of o (network_of text) n d budget tells tells.answer (sym is ∙ tells.shown) tells.tested tells.put
 
-  pub tested_by : (n d budget : ℕ) (text : List ℕ) → Asks o (One (Twin n d budget)) (text ∷ []) → 3 ^ twin_variables (network_of text) n d ≤ budget → o.status ≡ 11 → ⊥
+  pub tested_by : (n d budget : ℕ) (text : List ℕ) → CallsWith o (One (Twin n d budget)) (text ∷ []) → 3 ^ twin_variables (network_of text) n d ≤ budget → o.status ≡ 11 → ⊥
   tested_by n d budget text asks enough is =
       let tells = told o n d budget text ends asks (between o.status 11 is (omega arith) (omega arith)) in
       small_of (network_of text) tells.fault n d budget o.book tells.answer (sym is ∙ tells.shown) tells.tested enough

@@ -12,7 +12,7 @@ use Rattle.endings.specs.Files.{Loads}
 use Rattle.endings.specs.Endings.{HasStatus, status_of_end, status_of_kind, status_of_faulty}
 use Rattle.endings.specs.Texts.{FileKind, fault_of_text}
 use Rattle.diagnose_cli.specs.Commands.{files_of, command_of}
-use Rattle.diagnose_cli.specs.Due.{Says, lacks_fault, stop_by, too_large, Closes, InOrder, Answers, Due}
+use Rattle.diagnose_cli.specs.Due.{Says, lacks_fault, stop_by, too_large, Closes, InOrder, MayAnswer, Due}
 use Rattle.diagnose_cli.specs.Outcomes.{Outcome}
 use Rattle.diagnose_cli.specs.Run.{Ends}
 
@@ -37,7 +37,7 @@ never_closes true o says h = cc
 never_closes false None says h = absurd h
 never_closes false (Some size) says h = cc
 
-no_command : (l : Loads) (words : List (List ℕ)) (book : List BookEntry) (o : Option Command) → MatchOption o (usage ≡ Err Usage) (λ c. Answers l words c book usage) → o ≡ None
+no_command : (l : Loads) (words : List (List ℕ)) (book : List BookEntry) (o : Option Command) → MatchOption o (usage ≡ Err Usage) (λ c. MayAnswer l words c book usage) → o ≡ None
 no_command l words book None h = refl
 no_command l words book (Some c) h = absurd (not_in_order l words 1 (files_of c) [] (Closes c words book) (λ texts. never_closes (lacks_fault c words texts) (too_large c texts) (Says c words book texts)) h)
 

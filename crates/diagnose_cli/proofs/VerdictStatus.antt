@@ -20,9 +20,9 @@ use Rattle.verdict_telling.specs.Whole.{told_of}
 use Rattle.verdict_telling.specs.declared.whole.Told.TheVariants.{Judged}
 use Rattle.diagnose_cli.specs.declared.command.Command.TheVariants.{Verdicts}
 use Rattle.diagnose_cli.specs.Due.{Says}
-use Rattle.endings.specs.Endings.{HasStatus, status_of_end, status_of_kind, texts_of}
+use Rattle.endings.specs.Endings.{HasStatus, status_of_end, status_of_kind, ending_texts}
 use Rattle.diagnose_cli.specs.Outcomes.{Outcome, IsPut, IsUnbroken}
-use Rattle.diagnose_cli.specs.Rows.{AreTold, Asks, Reads}
+use Rattle.diagnose_cli.specs.Rows.{AreTold, CallsWith, ReadsFiles}
 use Rattle.diagnose_cli.specs.Run.{Ends}
 use Rattle.endings.specs.Transcripts.{End, Ending, Transcript, said, cut, broken}
 use Rattle.diagnose_cli.specs.VerdictReplies.{EndsVerdicts, IsVerdicts, MayTell, kind_of_told}
@@ -37,11 +37,11 @@ ended o net alarms n budget texts (said kind) is_put says shown put = record { f
 ended o net alarms n budget texts cut is_put says shown put = absurd (is_put.written shown)
 ended o net alarms n budget texts broken is_put says shown put = absurd (is_put.memory shown)
 
-told_in_all : (o : Outcome) (net : Net) (alarms : Log) (n budget : ℕ) (e : Ending) → IsPut o.status → MayTell net alarms n budget o.book e → HasStatus e o.status → Took o.before o.now (concat (texts_of e)) → TellsInAll o net alarms n budget
+told_in_all : (o : Outcome) (net : Net) (alarms : Log) (n budget : ℕ) (e : Ending) → IsPut o.status → MayTell net alarms n budget o.book e → HasStatus e o.status → Took o.before o.now (concat (ending_texts e)) → TellsInAll o net alarms n budget
 told_in_all o net alarms n budget (Ok told) is_put says shown put = ended o net alarms n budget told.texts told.end is_put says shown put
 told_in_all o net alarms n budget (Err stop) is_put says shown put = absurd says
 
-pub verdicts_row : (o : Outcome) (steps budget : ℕ) (text alarms : List ℕ) → Ends o → Reads o (Verdicts steps budget) (text ∷ alarms ∷ []) → IsUnbroken o.status → TellsInAll o (network_of text) (log_of alarms) steps budget
+pub verdicts_row : (o : Outcome) (steps budget : ℕ) (text alarms : List ℕ) → Ends o → ReadsFiles o (Verdicts steps budget) (text ∷ alarms ∷ []) → IsUnbroken o.status → TellsInAll o (network_of text) (log_of alarms) steps budget
 verdicts_row o steps budget text alarms ends reads unbroken =
     told_in_all o (network_of text) (log_of alarms) steps budget ends.ending unbroken.put (said_in_all o (Verdicts steps budget) (text ∷ alarms ∷ []) ends reads unbroken.loaded unbroken.put.memory) ends.shown ends.put
 
@@ -97,7 +97,7 @@ module _ (net : Net) (alarms : Log) (n budget : ℕ) (book : List BookEntry) (ve
   many_of (Many best) is holds = holds.answered.found.many
   many_of (Undecided lo best) is holds = absurd (omega (arith, is))
 
-module _ (o : Outcome) (ends : Ends o) (steps budget : ℕ) (text alarms : List ℕ) (asks : Asks o (Verdicts steps budget) (text ∷ alarms ∷ [])) where
+module _ (o : Outcome) (ends : Ends o) (steps budget : ℕ) (text alarms : List ℕ) (asks : CallsWith o (Verdicts steps budget) (text ∷ alarms ∷ [])) where
   pub verdicts_told : IsAnswerStatus o.status → TellsInAll o (network_of text) (log_of alarms) steps budget
   verdicts_told answer =
       let over = told_over o (Verdicts steps budget) ends asks.command (no_stop o.status answer) in

@@ -9,12 +9,12 @@ use Rattle.diagnose_cli.specs.declared.command.Question.{Question}
 use Rattle.diagnose_cli.specs.declared.command.Single.TheVariants.{Ask}
 use Rattle.endings.specs.declared.ending.Kind.{Kind}
 use Rattle.endings.specs.declared.stop.Stop.{Stop}
-use Rattle.diagnose_cli.specs.Due.{Answers}
+use Rattle.diagnose_cli.specs.Due.{MayAnswer}
 use Rattle.endings.specs.Files.{Loads}
 use Rattle.diagnose_cli.specs.Rows.{AreTold}
 use Rattle.endings.specs.Transcripts.{UnlessMemory, once}
 
 -- The answer is due for a command that asks the question. Whatever bytes the shelf tells of its two files, the book is empty, or has the axioms of the question over them, and P holds of it.
-pub record IsAsked (l : Loads) (words : List (List ℕ)) (steps : ℕ) (question : Question) (P : List BookEntry → Type 0) (book : List BookEntry) (answer : Result (Kind × List ℕ) Stop) : Type 0 where
-  pub due : UnlessMemory answer (Answers l words (One (Ask steps question)) book (once answer))
+pub record IsAnswerDue (l : Loads) (words : List (List ℕ)) (steps : ℕ) (question : Question) (P : List BookEntry → Type 0) (book : List BookEntry) (answer : Result (Kind × List ℕ) Stop) : Type 0 where
+  pub due : UnlessMemory answer (MayAnswer l words (One (Ask steps question)) book (once answer))
   pub left : (text alarms : List ℕ) → AreTold l.held words 1 (text ∷ alarms ∷ []) → LeavesQuestion (network_of text) (log_of alarms) steps P book

@@ -10,7 +10,7 @@ use Rattle.diagnose_cli.specs.declared.command.Command.TheVariants.{One}
 use Rattle.diagnose_cli.specs.declared.command.Single.TheVariants.{Ask, Bench, Cheapest}
 use Rattle.diagnose_cli.specs.Outcomes.{Outcome}
 use Rattle.diagnose_cli.specs.Replies.{HasEnough}
-use Rattle.diagnose_cli.specs.Rows.{Asks}
+use Rattle.diagnose_cli.specs.Rows.{CallsWith}
 
 -- the command asks one question with a budget, and this is at least 3 to the number of variables that network, log and steps allow
 abbrev pub Suffices : Command → List (List ℕ) → Type 0
@@ -21,4 +21,4 @@ Suffices _ _ = ⊥
 
 -- over whatever bytes the shelf tells, such a budget decides: the status isn't that of a question left open
 abbrev pub DecidedRow : Outcome → Type 0
-DecidedRow o = (c : Command) (texts : List (List ℕ)) → Asks o c texts → Suffices c texts → o.status ≢ 11
+DecidedRow o = (c : Command) (texts : List (List ℕ)) → CallsWith o c texts → Suffices c texts → o.status ≢ 11

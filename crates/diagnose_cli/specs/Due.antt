@@ -72,8 +72,8 @@ InOrder l words i (kind ∷ kinds) files closes e =
     (λ bytes e. MatchOption (fault_of_text kind files bytes) (InOrder l words (i + 1) kinds (files ++ bytes ∷ []) closes e) (λ text. e ≡ Err (Faulty text))) e
 
 -- what may be answered to a command with this book left: its files in order, which stand from word 1 on, and then the end
-abbrev pub Answers : Loads → List (List ℕ) → Command → List BookEntry → Ending → Type 0
-Answers l words c book = InOrder l words 1 (files_of c) [] (Closes c words book)
+abbrev pub MayAnswer : Loads → List (List ℕ) → Command → List BookEntry → Ending → Type 0
+MayAnswer l words c book = InOrder l words 1 (files_of c) [] (Closes c words book)
 
 -- the same where the first of the files are read, and these are their bytes
 abbrev pub AnswersAfter : Loads → List (List ℕ) → Command → List BookEntry → List (List ℕ) → Ending → Type 0
@@ -81,7 +81,7 @@ AnswersAfter l words c book files = InOrder l words (length files + 1) (drop (le
 
 -- what may be answered for these words with this book left, but for want of memory
 abbrev pub Due : Loads → List (List ℕ) → List BookEntry → Ending → Type 0
-Due l words book e = MatchOption (command_of words) (e ≡ Err Usage) (λ c. Answers l words c book e)
+Due l words book e = MatchOption (command_of words) (e ≡ Err Usage) (λ c. MayAnswer l words c book e)
 
 -- where the words call a session the book is empty, as it is before a session begins
 abbrev pub HasNotBegun : List (List ℕ) → List BookEntry → Type 0

@@ -25,8 +25,8 @@ abbrev pub IsCase : (List ℕ → Option (List ℕ)) → List (List ℕ) → Net
 IsCase held words net alarms = AreFirstTwo held words log net (λ rows. alarms ≡ log_of rows)
 
 -- the network of the model text and the rows of the script text
-abbrev pub IsPlan : (List ℕ → Option (List ℕ)) → List (List ℕ) → Net → List Row → Type 0
-IsPlan held words net rows = AreFirstTwo held words script net (λ lines. rows ≡ script_of lines)
+abbrev pub IsScriptCase : (List ℕ → Option (List ℕ)) → List (List ℕ) → Net → List Row → Type 0
+IsScriptCase held words net rows = AreFirstTwo held words script net (λ lines. rows ≡ script_of lines)
 
 -- why a command may stop at its model or at a second file of this kind
 abbrev pub StopsAtFirstTwo : FileKind → Loads → List (List ℕ) → Stop → Type 0

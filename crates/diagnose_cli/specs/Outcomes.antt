@@ -30,7 +30,7 @@ pub record IsUnbroken (status : ℕ) : Type 0 where
   pub put : IsPut status
 
 -- status and text are those of a reply of which P holds
-pub record Tells (o : Outcome) (P : (Kind × List ℕ) → Type 0) : Type 0 where
+pub record ShowsReply (o : Outcome) (P : (Kind × List ℕ) → Type 0) : Type 0 where
   pub reply : Kind × List ℕ
   pub says : P reply
   pub shown : o.status ≡ status_of_kind reply.0

@@ -31,7 +31,7 @@ use Rattle.replay.specs.Traced.{IsTraced}
 use Rattle.replay.specs.declared.tracing.Traced.{Traced}
 use Rattle.replay.specs.declared.tracing.Traced.TheVariants.{Ran, Stuck}
 use Rattle.report.specs.Replies.{text_of_traced, text_of_replayed, text_of_checked, text_of_found, told_run}
-use Rattle.telling.specs.Lines.{numbered}
+use Rattle.telling.specs.Lines.{line_with_number}
 use Rattle.diagnose_cli.specs.declared.command.Question.{Question}
 use Rattle.diagnose_cli.specs.declared.command.Question.TheVariants.{Diagnose, PrintCnf, PrintProof}
 use Rattle.diagnose_cli.specs.declared.command.Single.{Single}
@@ -40,7 +40,7 @@ use Rattle.endings.specs.declared.ending.Kind.{Kind}
 use Rattle.endings.specs.declared.ending.Kind.TheVariants.{Done, Rejected, Absent, Undecided, Many, Nothing}
 use Rattle.inquiries.specs.Diagnosed.{IsDiagnosed}
 use Rattle.inquiries.specs.Formula.{IsFormulaOf, question_formula}
-use Rattle.inquiries.specs.Refuted.{IsRefuted}
+use Rattle.inquiries.specs.Refuted.{IsVerifiedRefutation}
 use Rattle.diagnose_cli.specs.ProofText.{IsCheckedText, proof_head}
 use Rattle.endings.specs.Texts.{limit_of, run}
 use Rattle.diagnose_cli.specs.CheapReplies.{SaysCheap}
@@ -154,7 +154,7 @@ reply_of_proof bound steps = (Done, proof_head bound ++ steps_text steps)
 -- The reply has the refutation of the question within the bound that the book holds. Where the formula that `cnf` prints keeps the limits of such a file, `check` verifies the text of the reply over it.
 pub record TellsRefutation (net : Net) (alarms : AlarmLog) (n : ℕ) (bound : Option ℕ) (book : List BookEntry) (reply : Kind × List ℕ) : Type 0 where
   pub steps : List ProofStep
-  pub refuted : IsRefuted net alarms n bound book steps
+  pub refuted : IsVerifiedRefutation net alarms n bound book steps
   pub is : reply ≡ reply_of_proof bound steps
   pub again : KeepsLimits (question_formula net alarms n bound) → IsCheckedText (question_formula net alarms n bound) reply.1
 
@@ -212,7 +212,7 @@ first_line text = take (position_or_len (λ byte. byte == 10) text + 1) text
 abbrev pub summary_of : ℕ → Net → AlarmLog → ℕ → (Kind × List ℕ) → Kind × List ℕ
 summary_of units net alarms n reply = (
   reply.0,
-  numbered (codes "units ") units ++ numbered (codes "alarms ") (length alarms.alarms) ++ numbered (codes "size ") (question_size net alarms n) ++ first_line reply.1,
+  line_with_number (codes "units ") units ++ line_with_number (codes "alarms ") (length alarms.alarms) ++ line_with_number (codes "size ") (question_size net alarms n) ++ first_line reply.1,
 )
 
 -- the reply sums up what is found of a log of so many units, of which the run isn't printed

@@ -38,7 +38,7 @@ use Rattle.diagnose_cli.specs.Replies.{MayReply, budget_of}
 use Rattle.diagnose_cli.specs.SessionReplies.{HasReplies}
 use Rattle.diagnose_cli.specs.TwinReplies.{LeavesOfWord}
 use Rattle.diagnose_cli.specs.Due.{halts}
-use Rattle.diagnose_cli.specs.Outcomes.{Outcome, IsPut, IsUnbroken, Tells}
+use Rattle.diagnose_cli.specs.Outcomes.{Outcome, IsPut, IsUnbroken, ShowsReply}
 
 -- ---- the files of a command
 
@@ -56,7 +56,7 @@ AreRead held words i [] files (text ∷ texts) = ⊥
 AreRead held words i (kind ∷ kinds) files [] = ⊥
 
 -- the words call the command, all its files can be read, and nothing stops it then: it lacks no fault event, and its question isn't too large
-pub record Reads (o : Outcome) (c : Command) (texts : List (List ℕ)) : Type 0 where
+pub record ReadsFiles (o : Outcome) (c : Command) (texts : List (List ℕ)) : Type 0 where
   pub command : command_of o.words ≡ Some c
   pub files : AreRead o.loads.held o.words 1 (files_of c) [] texts
   pub small : halts c o.words texts ≡ None
@@ -67,7 +67,7 @@ AreTold held words i [] = ⊤
 AreTold held words i (text ∷ texts) = (held (word_at words i) ≡ Some text) × AreTold held words (i + 1) texts
 
 -- the words call the command, and the shelf tells these bytes of its files, from the first on, whatever they are
-pub record Asks (o : Outcome) (c : Command) (texts : List (List ℕ)) : Type 0 where
+pub record CallsWith (o : Outcome) (c : Command) (texts : List (List ℕ)) : Type 0 where
   pub command : command_of o.words ≡ Some c
   pub told : AreTold o.loads.held o.words 1 texts
 
@@ -75,11 +75,11 @@ pub record Asks (o : Outcome) (c : Command) (texts : List (List ℕ)) : Type 0 w
 
 -- where its files can be read, status and text are those of a reply that the command may give
 abbrev pub Row : Outcome → Single → List (List ℕ) → Type 0
-Row o c texts = Reads o (One c) texts → IsUnbroken o.status → Tells o (MayReply c o.words o.book texts)
+Row o c texts = ReadsFiles o (One c) texts → IsUnbroken o.status → ShowsReply o (MayReply c o.words o.book texts)
 
 -- so it is with a command that has no files, of which none can fail
 abbrev pub RowAlone : Outcome → Single → Type 0
-RowAlone o c = Reads o (One c) [] → IsPut o.status → Tells o (MayReply c o.words o.book [])
+RowAlone o c = ReadsFiles o (One c) [] → IsPut o.status → ShowsReply o (MayReply c o.words o.book [])
 
 -- so `trace` answers, over a model text and a run text
 abbrev pub TraceRow : Outcome → Type 0
@@ -96,7 +96,7 @@ ReplayRow o = (steps : ℕ) (text alarms events : List ℕ) → Row o (Replay st
 -- so `check` answers, over a formula text and a proof text; and where the status is 0, no assignment makes all clauses of the formula true
 pub record CheckRows (o : Outcome) : Type 0 where
   pub checked : (formula proof : List ℕ) → Row o Check (formula ∷ proof ∷ [])
-  pub refuted : (formula : List ℕ) → Asks o (One Check) (formula ∷ []) → o.status ≡ 0 → IsUnsatisfiable (formula_of formula).clauses
+  pub refuted : (formula : List ℕ) → CallsWith o (One Check) (formula ∷ []) → o.status ≡ 0 → IsUnsatisfiable (formula_of formula).clauses
 
 -- so each question about a model text and a log text is answered: `diagnose`, `cnf` with the question as a formula, and `proof` with the refutation of one
 abbrev pub AskedRow : Outcome → Type 0
@@ -125,7 +125,7 @@ pub record TellsSession (o : Outcome) (net : Net) (n budget : ℕ) (rows : List 
 -- where its files can be read
 abbrev pub SessionRow : Outcome → Type 0
 SessionRow o =
-    (steps budget : ℕ) (text lines : List ℕ) → Reads o (Session steps budget) (text ∷ lines ∷ []) → IsUnbroken o.status → TellsSession o (network_of text) steps budget (script_of lines)
+    (steps budget : ℕ) (text lines : List ℕ) → ReadsFiles o (Session steps budget) (text ∷ lines ∷ []) → IsUnbroken o.status → TellsSession o (network_of text) steps budget (script_of lines)
 
 -- ---- what each status of `diagnose` tells
 
@@ -158,11 +158,11 @@ pub record TellsUndecided (o : Outcome) (net : Net) (alarms : Log) (n budget : �
 
 -- By the status of `diagnose`, over whatever two texts the shelf tells. A budget of 3 to the number of variables that network, log and steps allow decides.
 pub record DiagnoseRows (o : Outcome) : Type 0 where
-  pub explained : (steps budget : ℕ) (text alarms : List ℕ) → Asks o (One (Ask steps (Diagnose budget))) (text ∷ alarms ∷ []) → o.status ≡ 0 → TellsLeast o (network_of text) (log_of alarms) steps
-  pub absent : (steps budget : ℕ) (text alarms : List ℕ) → Asks o (One (Ask steps (Diagnose budget))) (text ∷ alarms ∷ []) → o.status ≡ 10 → IsAbsent (network_of text) (log_of alarms) steps
-  pub undecided : (steps budget : ℕ) (text alarms : List ℕ) → Asks o (One (Ask steps (Diagnose budget))) (text ∷ alarms ∷ []) → o.status ≡ 11 → TellsUndecided o (network_of text) (log_of alarms) steps budget
-  pub many : (steps budget : ℕ) (text alarms : List ℕ) → Asks o (One (Ask steps (Diagnose budget))) (text ∷ alarms ∷ []) → o.status ≡ 12 → TellsMany o (network_of text) (log_of alarms) steps
-  pub decided : (steps budget : ℕ) (text alarms : List ℕ) → Asks o (One (Ask steps (Diagnose budget))) (text ∷ alarms ∷ []) → 3 ^ variable_bound (network_of text) (log_of alarms) steps ≤ budget → o.status ≢ 11
+  pub explained : (steps budget : ℕ) (text alarms : List ℕ) → CallsWith o (One (Ask steps (Diagnose budget))) (text ∷ alarms ∷ []) → o.status ≡ 0 → TellsLeast o (network_of text) (log_of alarms) steps
+  pub absent : (steps budget : ℕ) (text alarms : List ℕ) → CallsWith o (One (Ask steps (Diagnose budget))) (text ∷ alarms ∷ []) → o.status ≡ 10 → IsAbsent (network_of text) (log_of alarms) steps
+  pub undecided : (steps budget : ℕ) (text alarms : List ℕ) → CallsWith o (One (Ask steps (Diagnose budget))) (text ∷ alarms ∷ []) → o.status ≡ 11 → TellsUndecided o (network_of text) (log_of alarms) steps budget
+  pub many : (steps budget : ℕ) (text alarms : List ℕ) → CallsWith o (One (Ask steps (Diagnose budget))) (text ∷ alarms ∷ []) → o.status ≡ 12 → TellsMany o (network_of text) (log_of alarms) steps
+  pub decided : (steps budget : ℕ) (text alarms : List ℕ) → CallsWith o (One (Ask steps (Diagnose budget))) (text ∷ alarms ∷ []) → 3 ^ variable_bound (network_of text) (log_of alarms) steps ≤ budget → o.status ≢ 11
 
 -- ---- what is left in the book
 
@@ -182,4 +182,4 @@ Leaves _ _ _ book = ⊤
 
 -- so it is over whatever bytes the shelf tells, and whatever the status
 abbrev pub LeftRow : Outcome → Type 0
-LeftRow o = (c : Command) (texts : List (List ℕ)) → Asks o c texts → Leaves c o.words texts o.book
+LeftRow o = (c : Command) (texts : List (List ℕ)) → CallsWith o c texts → Leaves c o.words texts o.book

@@ -2,7 +2,7 @@
 use Rattle.std.specs.Prelude.{◌≡◌, ◌≢◌, ◌⊎◌, ℕ, List, [], ◌≤◌, codes, None, IfSome, IsSomeAnd, Bool, true, false}
 use Rattle.des_base.specs.Outside.{Rose, Took}
 use Rattle.des_base.specs.CommandWords.{word_at}
-use Rattle.telling.specs.Lines.{numbered}
+use Rattle.telling.specs.Lines.{line_with_number}
 use Rattle.diagnose_cli.specs.declared.command.Command.{Command}
 use Rattle.diagnose_cli.specs.declared.command.Command.TheVariants.{One, Session, Verdicts}
 use Rattle.diagnose_cli.specs.declared.command.Single.TheVariants.{Ask, Bench, Twin, Cheapest}
@@ -40,7 +40,7 @@ pub record LoadRow (o : Outcome) : Type 0 where
   pub file : ℕ
   pub known : HasFile o.words file
   pub rose : RoseFor o file
-  pub put : Took o.before o.now (numbered (codes "LOAD ") file)
+  pub put : Took o.before o.now (line_with_number (codes "LOAD ") file)
 
 -- by its status, whichever command the words call; rose says that the sink's count of faults rose
 pub record Ran (o : Outcome) (rose : Type 0) : Type 0 where

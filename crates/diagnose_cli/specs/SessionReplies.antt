@@ -70,7 +70,7 @@ abbrev pub IsUntold : Net → ℕ → ℕ → Row → Stage → Stage → Type 0
 IsUntold net n budget row old new = ((reply : List ℕ) × IsRowReplied net n budget old row new reply) ⊎ IsLeftUndone net n budget old row new
 
 -- A session over these rows came to one of them: those before it brought it to this stage, and these are their replies.
-pub record ComesTo (net : Net) (n budget : ℕ) (rows : List Row) (row : Row) (left : Stage) (texts : List (List ℕ)) : Type 0 where
+pub record SessionComesTo (net : Net) (n budget : ℕ) (rows : List Row) (row : Row) (left : Stage) (texts : List (List ℕ)) : Type 0 where
   pub front : List Row
   pub others : List Row
   pub split : rows ≡ front ++ row ∷ others
@@ -89,7 +89,7 @@ pub record IsCut (net : Net) (n budget : ℕ) (rows : List Row) (book : List Boo
   pub end : Stage
   pub earlier : List (List ℕ)
   pub last : List ℕ
-  pub comes : ComesTo net n budget rows row left earlier
+  pub comes : SessionComesTo net n budget rows row left earlier
   pub replied : IsRowReplied net n budget left row end last
   pub book_is : book ≡ end.book
   pub are : texts ≡ earlier ++ last ∷ []
@@ -99,7 +99,7 @@ pub record IsBroken (net : Net) (n budget : ℕ) (rows : List Row) (book : List 
   pub row : Row
   pub left : Stage
   pub end : Stage
-  pub comes : ComesTo net n budget rows row left texts
+  pub comes : SessionComesTo net n budget rows row left texts
   pub untold : IsUntold net n budget row left end
   pub book_is : book ≡ end.book
 

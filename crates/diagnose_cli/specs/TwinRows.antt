@@ -16,7 +16,7 @@ use Rattle.twin_test.specs.declared.answer.Twin.TheVariants.{Ambiguous, Clear, U
 use Rattle.diagnose_cli.specs.declared.command.Command.TheVariants.{One}
 use Rattle.diagnose_cli.specs.declared.command.Single.TheVariants.{Twin}
 use Rattle.diagnose_cli.specs.Outcomes.{Outcome}
-use Rattle.diagnose_cli.specs.Rows.{Asks, Row}
+use Rattle.diagnose_cli.specs.Rows.{CallsWith, Row}
 
 -- The word names this fault event, and the axioms of the book ask for its twins.
 pub record AsksTwins (o : Outcome) (net : Net) (n d : ℕ) : Type 0 where
@@ -49,7 +49,7 @@ pub record TellsUntested (o : Outcome) (net : Net) (n d budget : ℕ) : Type 0 w
 -- By the status, over whatever text the shelf tells. A budget of 3 to the number of variables that network, steps and what is to be seen determine decides.
 pub record TwinRows (o : Outcome) : Type 0 where
   pub answered : (n d budget : ℕ) (text : List ℕ) → Row o (Twin n d budget) (text ∷ [])
-  pub ambiguous : (n d budget : ℕ) (text : List ℕ) → Asks o (One (Twin n d budget)) (text ∷ []) → o.status ≡ 17 → TellsTwins o (network_of text) n d
-  pub clear : (n d budget : ℕ) (text : List ℕ) → Asks o (One (Twin n d budget)) (text ∷ []) → o.status ≡ 0 → TellsNoTwins o (network_of text) n d
-  pub undecided : (n d budget : ℕ) (text : List ℕ) → Asks o (One (Twin n d budget)) (text ∷ []) → o.status ≡ 11 → TellsUntested o (network_of text) n d budget
-  pub decided : (n d budget : ℕ) (text : List ℕ) → Asks o (One (Twin n d budget)) (text ∷ []) → 3 ^ twin_variables (network_of text) n d ≤ budget → o.status ≢ 11
+  pub ambiguous : (n d budget : ℕ) (text : List ℕ) → CallsWith o (One (Twin n d budget)) (text ∷ []) → o.status ≡ 17 → TellsTwins o (network_of text) n d
+  pub clear : (n d budget : ℕ) (text : List ℕ) → CallsWith o (One (Twin n d budget)) (text ∷ []) → o.status ≡ 0 → TellsNoTwins o (network_of text) n d
+  pub undecided : (n d budget : ℕ) (text : List ℕ) → CallsWith o (One (Twin n d budget)) (text ∷ []) → o.status ≡ 11 → TellsUntested o (network_of text) n d budget
+  pub decided : (n d budget : ℕ) (text : List ℕ) → CallsWith o (One (Twin n d budget)) (text ∷ []) → 3 ^ twin_variables (network_of text) n d ≤ budget → o.status ≢ 11

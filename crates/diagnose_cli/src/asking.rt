@@ -1,7 +1,7 @@
 // A question about a model and a log: its files, its size, what is asked of it, and the reply.
 ghost use Rattle.std.specs.Prelude.{◌≡◌, ◌≢◌, ◌<◌, ◌≤◌, ℕ, List, [], ◌∷◌, length, IfErr, IfOk};
 ghost use Rattle.des_base.specs.declared.TheConstants.{MOST_STEPS};
-ghost use Rattle.diagnose_cli.specs.Asking.{IsAsked};
+ghost use Rattle.diagnose_cli.specs.Asking.{IsAnswerDue};
 ghost use Rattle.diagnose_cli.specs.Due.{Closes};
 ghost use Rattle.endings.specs.Files.{loads};
 ghost use Rattle.diagnose_cli.specs.Replies.{AnswersTo, budget_of};
@@ -54,7 +54,7 @@ pub fn ask_question<F: Shelf>(
     requires words { 2 < length words.now }
     requires steps { steps ≤ MOST_STEPS }
     requires empty { book.old.entries ≡ [] }
-    ensures asked { IsAsked (loads F.held F.faults shelf.old shelf.new) words.now steps question (MayLearn (budget_of question)) book.new.entries result }
+    ensures asked { IsAnswerDue (loads F.held F.faults shelf.old shelf.new) words.now steps question (MayLearn (budget_of question)) book.new.entries result }
     ensures stopped { IfErr result (λ stop. stop ≢ Stop.Memory → book.new ≡ book.old) }
 {
     match question {
@@ -82,7 +82,7 @@ fn ask_case<F: Shelf, Q: Replying>(
     requires words { 2 < length words.now }
     requires steps { steps ≤ MOST_STEPS }
     requires empty { book.old.entries ≡ [] }
-    ensures asked { IsAsked (loads F.held F.faults shelf.old shelf.new) words.now steps (Q.question inquiry.now) (Q.leaves inquiry.now) book.new.entries result }
+    ensures asked { IsAnswerDue (loads F.held F.faults shelf.old shelf.new) words.now steps (Q.question inquiry.now) (Q.leaves inquiry.now) book.new.entries result }
     ensures stopped { IfErr result (λ stop. stop ≢ Stop.Memory → book.new ≡ book.old) }
 {
     let case = fetch_case(alloc, words, shelf)?;

@@ -2,12 +2,12 @@
 ghost use Rattle.std.specs.Prelude.{◌≡◌, ◌≢◌, ◌≤◌, ◌==◌, ◌++◌, ℕ, List, [], IfErr, IfOk, codes, length, string_bytes};
 ghost use Rattle.std.specs.List.{position_or_len};
 ghost use Rattle.gen_plant.specs.Plant.{most_units, plant_net, plant_log};
-ghost use Rattle.telling.specs.Lines.{numbered};
+ghost use Rattle.telling.specs.Lines.{line_with_number};
 ghost use Rattle.des_base.specs.declared.TheConstants.{MOST_STEPS};
 ghost use Rattle.endings.specs.Files.{Loads};
 ghost use Rattle.endings.specs.Transcripts.{UnlessMemory, once};
 ghost use Rattle.diagnose_cli.specs.Replies.{first_line};
-ghost use Rattle.diagnose_cli.specs.Due.{Answers, Closes};
+ghost use Rattle.diagnose_cli.specs.Due.{MayAnswer, Closes};
 ghost use Rattle.inquiries.specs.Begun.{HasLearntWithin, LeavesQuestion};
 
 use crate::asking::reply_to;
@@ -32,7 +32,7 @@ pub fn bench_command(
     requires units { units ≤ most_units }
     requires steps { limits.steps ≤ MOST_STEPS }
     requires empty { book.old.entries ≡ [] }
-    ensures due { (l : Loads) (words : List (List ℕ)) → UnlessMemory result (Answers l words (Command.One (Single.Bench units start limits.steps limits.budget)) book.new.entries (once result)) }
+    ensures due { (l : Loads) (words : List (List ℕ)) → UnlessMemory result (MayAnswer l words (Command.One (Single.Bench units start limits.steps limits.budget)) book.new.entries (once result)) }
     ensures stopped { IfErr result (λ stop. stop ≢ Stop.Memory → book.new ≡ book.old) }
     ensures left { LeavesQuestion (plant_net units) (plant_log units start) limits.steps (HasLearntWithin limits.budget) book.new.entries }
 {
@@ -73,7 +73,7 @@ fn bench(
 
 // The summary of a reply.
 fn sum_up(alloc: Global, units: u32, alarms: u32, size: u64, reply: &Reply) -> Result<Reply, Memory>
-    ensures { IfOk result (λ summary. summary ≡ (reply.now.0, numbered (codes "units ") units ++ numbered (codes "alarms ") alarms ++ numbered (codes "size ") size ++ first_line reply.now.1)) }
+    ensures { IfOk result (λ summary. summary ≡ (reply.now.0, line_with_number (codes "units ") units ++ line_with_number (codes "alarms ") alarms ++ line_with_number (codes "size ") size ++ first_line reply.now.1)) }
 {
     let head = format!(in alloc; "units {units}\nalarms {alarms}\nsize {size}\n")?;
     let mut text = head.into_bytes();

@@ -2,7 +2,7 @@
 ghost use Rattle.std.specs.Prelude.{◌≡◌, ◌≢◌, ◌<◌, ◌≤◌, ℕ, List, [], ◌∷◌, length, IfErr, IfOk};
 ghost use Rattle.des_base.specs.declared.TheConstants.{MOST_STEPS};
 ghost use Rattle.diagnose_cli.specs.CheapReplies.{SaysCheap, kind_of_cheap, reply_of_cheap};
-ghost use Rattle.diagnose_cli.specs.Due.{Answers, AnswersAfter, Closes};
+ghost use Rattle.diagnose_cli.specs.Due.{MayAnswer, AnswersAfter, Closes};
 ghost use Rattle.endings.specs.Files.{loads};
 ghost use Rattle.diagnose_cli.specs.Rows.{AreTold};
 ghost use Rattle.endings.specs.Transcripts.{UnlessMemory, once};
@@ -37,7 +37,7 @@ pub fn cheapest_command<F: Shelf>(
     requires words { 3 < length words.now }
     requires steps { limits.steps ≤ MOST_STEPS }
     requires empty { book.old.entries ≡ [] }
-    ensures due { UnlessMemory result (Answers (loads F.held F.faults shelf.old shelf.new) words.now (Command.One (Single.Cheapest limits.steps limits.budget)) book.new.entries (once result)) }
+    ensures due { UnlessMemory result (MayAnswer (loads F.held F.faults shelf.old shelf.new) words.now (Command.One (Single.Cheapest limits.steps limits.budget)) book.new.entries (once result)) }
     ensures stopped { IfErr result (λ stop. stop ≢ Stop.Memory → book.new ≡ book.old) }
     ensures left { (text alarms prices : List ℕ) → AreTold (F.held shelf.old) words.now 1 (text ∷ alarms ∷ prices ∷ []) → LeavesCosts (network_of text) (cost_of (network_of text) prices) (log_of alarms) limits.steps limits.budget book.new.entries }
 {

@@ -6,7 +6,7 @@ ghost use Rattle.proof_text.specs.CnfText.{formula, formula_of};
 ghost use Rattle.endings.specs.Files.{loads};
 ghost use Rattle.endings.specs.Transcripts.{UnlessMemory, once};
 ghost use Rattle.diagnose_cli.specs.Replies.{kind_of_checked, reply_of_checked};
-ghost use Rattle.diagnose_cli.specs.Due.{Answers, AnswersAfter};
+ghost use Rattle.diagnose_cli.specs.Due.{MayAnswer, AnswersAfter};
 
 use crate::command::{Command, Single};
 use des_base::{Memory, Shelf, WordList};
@@ -23,7 +23,7 @@ pub fn check_command<F: Shelf>(
     shelf: &mut F,
 ) -> Result<Reply, Stop>
     requires { 2 < length words.now }
-    ensures { (book : List BookEntry) → UnlessMemory result (Answers (loads F.held F.faults shelf.old shelf.new) words.now (Command.One Single.Check) book (once result)) }
+    ensures { (book : List BookEntry) → UnlessMemory result (MayAnswer (loads F.held F.faults shelf.old shelf.new) words.now (Command.One Single.Check) book (once result)) }
 {
     let cnf = fetch_cnf(alloc, words, shelf, 1)?;
     let answer = check_over(alloc, words, shelf, &cnf);

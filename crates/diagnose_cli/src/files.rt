@@ -1,6 +1,6 @@
 // The two files that most commands begin with.
 ghost use Rattle.std.specs.Prelude.{◌≡◌, ◌≢◌, ℕ, ◌<◌, ◌≤◌, List, length, IfOk, IfErr};
-ghost use Rattle.diagnose_cli.specs.FirstTwo.{IsCase, IsPlan, StopsAtFirstTwo};
+ghost use Rattle.diagnose_cli.specs.FirstTwo.{IsCase, IsScriptCase, StopsAtFirstTwo};
 ghost use Rattle.endings.specs.Files.{loads};
 ghost use Rattle.endings.specs.Texts.{log, script};
 
@@ -32,7 +32,7 @@ pub fn fetch_plan<F: Shelf>(
     limits: Limits,
 ) -> Result<Plan, Stop>
     requires { 2 < length words.now }
-    ensures read { IfOk result (λ plan. IsPlan (F.held shelf.old) words.now plan.net plan.script) }
+    ensures read { IfOk result (λ plan. IsScriptCase (F.held shelf.old) words.now plan.net plan.script) }
     ensures limits { IfOk result (λ plan. plan.limits ≡ limits) }
     ensures stop { IfErr result (λ stop. stop ≢ Stop.Memory → StopsAtFirstTwo script (loads F.held F.faults shelf.old shelf.new) words.now stop) }
 {

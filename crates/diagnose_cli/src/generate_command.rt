@@ -5,7 +5,7 @@ ghost use Rattle.proof_ledger.specs.Book.{BookEntry};
 ghost use Rattle.endings.specs.Files.{Loads};
 ghost use Rattle.endings.specs.Transcripts.{UnlessMemory, once};
 ghost use Rattle.diagnose_cli.specs.Replies.{reply_of_log};
-ghost use Rattle.diagnose_cli.specs.Due.{Answers};
+ghost use Rattle.diagnose_cli.specs.Due.{MayAnswer};
 
 use crate::command::{Command, Single};
 use crate::show_command::reply_of_model;
@@ -19,7 +19,7 @@ use std::alloc::Global;
 /// Prints the model of a generated plant.
 pub fn generate_model_command(alloc: Global, units: u32, start: u64) -> Result<Reply, Stop>
     requires { units ≤ most_units }
-    ensures { (l : Loads) (words : List (List ℕ)) (book : List BookEntry) → UnlessMemory result (Answers l words (Command.One (Single.GenerateModel units start)) book (once result)) }
+    ensures { (l : Loads) (words : List (List ℕ)) (book : List BookEntry) → UnlessMemory result (MayAnswer l words (Command.One (Single.GenerateModel units start)) book (once result)) }
 {
     let plant = generate(alloc, units, start)?;
     let reply = reply_of_model(alloc, &plant.net);
@@ -30,7 +30,7 @@ pub fn generate_model_command(alloc: Global, units: u32, start: u64) -> Result<R
 /// Prints the log of a generated plant.
 pub fn generate_log_command(alloc: Global, units: u32, start: u64) -> Result<Reply, Stop>
     requires { units ≤ most_units }
-    ensures { (l : Loads) (words : List (List ℕ)) (book : List BookEntry) → UnlessMemory result (Answers l words (Command.One (Single.GenerateLog units start)) book (once result)) }
+    ensures { (l : Loads) (words : List (List ℕ)) (book : List BookEntry) → UnlessMemory result (MayAnswer l words (Command.One (Single.GenerateLog units start)) book (once result)) }
 {
     let plant = generate(alloc, units, start)?;
     let reply = reply_of_log(alloc, &plant.log);

@@ -2,7 +2,7 @@
 ghost use Rattle.std.specs.Prelude.{◌≡◌, ◌++◌, All, codes, IfOk, OnOk};
 ghost use Rattle.diagnose_cli.specs.ProofText.{proof_head};
 ghost use Rattle.diagnose_cli.specs.Replies.{reply_of_proof};
-ghost use Rattle.proof_text.specs.PrintedText.{ReadsBack, steps_text};
+ghost use Rattle.proof_text.specs.PrintedText.{ReadsBackAsProof, steps_text};
 ghost use Rattle.proof_text.specs.ProofNumbers.{NumbersAscend, HasNoZero};
 
 use crate::asking::Replying;
@@ -51,7 +51,7 @@ fn reply_of_proof(alloc: Global, bound: Option<u8>, proof: &Proof) -> Result<Rep
     requires ascend { NumbersAscend 0 proof.now }
     requires above { All HasNoZero proof.now }
     ensures reply { IfOk result (λ reply. reply ≡ reply_of_proof bound proof.now) }
-    ensures reads_back { IfOk result (λ reply. ReadsBack proof.now (steps_text proof.now)) }
+    ensures reads_back { IfOk result (λ reply. ReadsBackAsProof proof.now (steps_text proof.now)) }
 {
     let mut text = Vec::new(alloc);
     push_head(bound, &mut text)?;

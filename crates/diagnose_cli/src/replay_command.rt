@@ -10,7 +10,7 @@ ghost use Rattle.proof_ledger.specs.Book.{BookEntry};
 ghost use Rattle.endings.specs.Files.{loads};
 ghost use Rattle.endings.specs.Transcripts.{UnlessMemory, once};
 ghost use Rattle.diagnose_cli.specs.Replies.{kind_of_replayed, reply_of_replayed};
-ghost use Rattle.diagnose_cli.specs.Due.{Answers, AnswersAfter};
+ghost use Rattle.diagnose_cli.specs.Due.{MayAnswer, AnswersAfter};
 
 use crate::command::{Command, Single};
 use crate::files::fetch_case;
@@ -30,7 +30,7 @@ pub fn replay_command<F: Shelf>(
     steps: u32,
 ) -> Result<Reply, Stop>
     requires { 3 < length words.now }
-    ensures { (book : List BookEntry) → UnlessMemory result (Answers (loads F.held F.faults shelf.old shelf.new) words.now (Command.One (Single.Replay steps)) book (once result)) }
+    ensures { (book : List BookEntry) → UnlessMemory result (MayAnswer (loads F.held F.faults shelf.old shelf.new) words.now (Command.One (Single.Replay steps)) book (once result)) }
 {
     let case = fetch_case(alloc, words, shelf)?;
     let answer = replay_over(alloc, words, shelf, &case, steps);

@@ -2,7 +2,7 @@
 ghost use Rattle.std.specs.Prelude.{◌≡◌, ◌≢◌, ◌<◌, ℕ, List, [], false, length, IfErr};
 ghost use Rattle.des_base.specs.Outside.{Rose};
 ghost use Rattle.diagnose_cli.specs.Commands.{IsWithinBounds, files_of, read_words};
-ghost use Rattle.diagnose_cli.specs.Due.{Answers};
+ghost use Rattle.diagnose_cli.specs.Due.{MayAnswer};
 ghost use Rattle.endings.specs.Files.{loads};
 ghost use Rattle.diagnose_cli.specs.Outcomes.{outcome};
 ghost use Rattle.diagnose_cli.specs.Rows.{TraceRow, ShowRow, ReplayRow, CheckRows, AskedRow, DiagnoseRows, GenerateRows, BenchRow, SessionRow, AreTold, Leaves, LeftRow};
@@ -104,7 +104,7 @@ fn answer<F: Shelf>(
     requires empty { book.old.entries ≡ [] }
     requires words { read_words (Command.One command) < length words.now }
     requires bounds { IsWithinBounds (Command.One command) }
-    ensures due { UnlessMemory result (Answers (loads F.held F.faults shelf.old shelf.new) words.now (Command.One command) book.new.entries (once result)) }
+    ensures due { UnlessMemory result (MayAnswer (loads F.held F.faults shelf.old shelf.new) words.now (Command.One command) book.new.entries (once result)) }
     ensures no_load { files_of (Command.One command) ≡ [] → shelf.new ≡ shelf.old }
     ensures no_question { is_question (Command.One command) ≡ false → book.new ≡ book.old }
     ensures stopped { IfErr result (λ stop. stop ≢ Stop.Memory → book.new ≡ book.old) }

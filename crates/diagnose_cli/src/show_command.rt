@@ -5,7 +5,7 @@ ghost use Rattle.model_text.specs.ReadBack.{IsAsRead, ReadsBack};
 ghost use Rattle.endings.specs.Files.{loads};
 ghost use Rattle.endings.specs.Transcripts.{UnlessMemory, once};
 ghost use Rattle.diagnose_cli.specs.Replies.{reply_of_model};
-ghost use Rattle.diagnose_cli.specs.Due.{Answers};
+ghost use Rattle.diagnose_cli.specs.Due.{MayAnswer};
 
 use crate::command::{Command, Single};
 use des_base::{Memory, Shelf, WordList};
@@ -17,7 +17,7 @@ use std::alloc::Global;
 /// Prints the network of a model in its plain form.
 pub fn show_command<F: Shelf>(alloc: Global, words: &WordList, shelf: &mut F) -> Result<Reply, Stop>
     requires { 1 < length words.now }
-    ensures { (book : List BookEntry) → UnlessMemory result (Answers (loads F.held F.faults shelf.old shelf.new) words.now (Command.One Single.Show) book (once result)) }
+    ensures { (book : List BookEntry) → UnlessMemory result (MayAnswer (loads F.held F.faults shelf.old shelf.new) words.now (Command.One Single.Show) book (once result)) }
 {
     let net = fetch_model(alloc, words, shelf, 1)?;
     let reply = reply_of_model(alloc, &net);

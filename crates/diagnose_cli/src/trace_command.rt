@@ -7,7 +7,7 @@ ghost use Rattle.replay.specs.declared.tracing.Traced.{Traced};
 ghost use Rattle.endings.specs.Files.{loads};
 ghost use Rattle.endings.specs.Transcripts.{UnlessMemory, once};
 ghost use Rattle.diagnose_cli.specs.Replies.{kind_of_traced, reply_of_traced};
-ghost use Rattle.diagnose_cli.specs.Due.{Answers, AnswersAfter};
+ghost use Rattle.diagnose_cli.specs.Due.{MayAnswer, AnswersAfter};
 
 use crate::command::{Command, Single};
 use des_base::{Memory, Shelf, WordList};
@@ -24,7 +24,7 @@ pub fn trace_command<F: Shelf>(
     shelf: &mut F,
 ) -> Result<Reply, Stop>
     requires { 2 < length words.now }
-    ensures { (book : List BookEntry) → UnlessMemory result (Answers (loads F.held F.faults shelf.old shelf.new) words.now (Command.One Single.Trace) book (once result)) }
+    ensures { (book : List BookEntry) → UnlessMemory result (MayAnswer (loads F.held F.faults shelf.old shelf.new) words.now (Command.One Single.Trace) book (once result)) }
 {
     let net = fetch_model(alloc, words, shelf, 1)?;
     let answer = trace_over(alloc, words, shelf, &net);

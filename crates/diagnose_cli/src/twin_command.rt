@@ -2,7 +2,7 @@
 ghost use Rattle.std.specs.Prelude.{◌≡◌, ◌≢◌, ◌<◌, ◌≤◌, ℕ, List, [], ◌∷◌, length, Some, IfErr, IfOk};
 ghost use Rattle.des_base.specs.declared.TheConstants.{MOST_STEPS};
 ghost use Rattle.des_base.specs.CommandWords.{word_at};
-ghost use Rattle.diagnose_cli.specs.Due.{Answers, Closes};
+ghost use Rattle.diagnose_cli.specs.Due.{MayAnswer, Closes};
 ghost use Rattle.endings.specs.Files.{loads};
 ghost use Rattle.diagnose_cli.specs.Rows.{AreTold};
 ghost use Rattle.endings.specs.Transcripts.{UnlessMemory, once};
@@ -49,7 +49,7 @@ pub fn twin_command<F: Shelf>(
     requires steps { limits.steps ≤ MOST_STEPS }
     requires after { limits.after ≤ MOST_STEPS }
     requires empty { book.old.entries ≡ [] }
-    ensures due { UnlessMemory result (Answers (loads F.held F.faults shelf.old shelf.new) words.now (Command.One (Single.Twin limits.steps limits.after limits.budget)) book.new.entries (once result)) }
+    ensures due { UnlessMemory result (MayAnswer (loads F.held F.faults shelf.old shelf.new) words.now (Command.One (Single.Twin limits.steps limits.after limits.budget)) book.new.entries (once result)) }
     ensures stopped { IfErr result (λ stop. stop ≢ Stop.Memory → book.new ≡ book.old) }
     ensures left { (text : List ℕ) → AreTold (F.held shelf.old) words.now 1 (text ∷ []) → LeavesOfWord (network_of text) (word_at words.now 2) limits.steps limits.after limits.budget book.new.entries }
 {

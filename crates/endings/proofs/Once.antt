@@ -8,7 +8,7 @@ use Rattle.endings.specs.declared.ending.Kind.{Kind}
 use Rattle.endings.specs.declared.stop.Stop.{Stop}
 use Rattle.endings.specs.declared.stop.Stop.TheVariants.{Memory}
 use Rattle.endings.specs.Transcripts.{Ending, OrMemory, UnlessMemory, cut_short, once}
-use Rattle.endings.specs.Endings.{texts_of, text_of_stop}
+use Rattle.endings.specs.Endings.{ending_texts, text_of_stop}
 use Rattle.endings.specs.Puts.{Finishes, IsCutOff, Puts, Speaks}
 
 due_once : (may : Ending → Type 0) (Q : Type 0) → Q → (r : Result (Kind × List ℕ) Stop) → UnlessMemory r (may (once r)) → OrMemory may Q (once r)
@@ -39,7 +39,7 @@ module _ (may : Ending → Type 0) (Q : Type 0) (q : Q) (r : Result (Kind × Lis
     cut_off = λ four. cut_by r due cuts (puts.memory four) (puts.front four);
   }
     where
-      cut_by : (x : Result (Kind × List ℕ) Stop) → UnlessMemory x (may (once x)) → IfOk x (λ reply. may (Ok (cut_short reply))) → once x ≢ Err Memory → TookFront before now (concat (texts_of (once x))) → IsCutOff may before now
+      cut_by : (x : Result (Kind × List ℕ) Stop) → UnlessMemory x (may (once x)) → IfOk x (λ reply. may (Ok (cut_short reply))) → once x ≢ Err Memory → TookFront before now (concat (ending_texts (once x))) → IsCutOff may before now
       cut_by (Ok reply) of cuts known front = record { ending = Ok (cut_short reply); due = cuts; last = refl; put = cut_first before now reply.1 (subst (TookFront before now) (append-nil reply.1) front) }
       cut_by (Err stop) of cuts known front = record {
         ending = Err stop;

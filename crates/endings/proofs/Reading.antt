@@ -25,7 +25,7 @@ use Rattle.proof_text.specs.LratText.{proof_of, first_lrat_fault}
 use Rattle.replay.specs.declared.run.RunStep.{RunStep}
 use Rattle.replay.specs.declared.run_text.RunRefusal.{RunRefusal}
 use Rattle.replay.specs.declared.run_text.RunRefusal.TheVariants.{Fault as RunFaulty, Memory as RunMemory}
-use Rattle.replay.specs.RunText.{run_of, first_fault as first_run_fault, Tells as TellsRun}
+use Rattle.replay.specs.RunText.{run_of, first_fault as first_run_fault, TellsFault}
 use Rattle.endings.specs.declared.stop.Stop.{Stop}
 use Rattle.endings.specs.declared.stop.Stop.TheVariants.{Faulty, Memory}
 use Rattle.endings.specs.declared.stop.FaultyText.{FaultyText}
@@ -53,7 +53,7 @@ pub model_read : (held : List ℕ → Option (List ℕ)) (name : List ℕ) (limi
 model_read held name limit text net holds well is = (text, record { holds = holds; well = none_told _ (first_model_fault text) well }, is)
 
 pub run_stops : (l : Loads) (i : ℕ) (name : List ℕ) (limit : ℕ) (net : Net) (text : List ℕ) (refusal : RunRefusal) (stop : Stop)
-    → Holds l.held name limit text → TellsRun (first_run_fault net text) refusal → stop ≡ stop_of_run refusal → stop ≢ Memory → StopsIn l i name limit (fault_of_run net) stop
+    → Holds l.held name limit text → TellsFault (first_run_fault net text) refusal → stop ≡ stop_of_run refusal → stop ≢ Memory → StopsIn l i name limit (fault_of_run net) stop
 run_stops l i name limit net text (RunFaulty fault) stop holds due is never =
     inr (record { bytes = text; holds = holds; text = Run fault; faulty = ap (option_map (λ f. Run f)) due; told = is })
 run_stops l i name limit net text RunMemory stop holds due is never = absurd (never is)

@@ -6,7 +6,7 @@ use Rattle.endings.specs.declared.stop.FaultyText.{FaultyText}
 use Rattle.endings.specs.declared.stop.FaultyText.TheVariants.{Model, Log, Run, Cnf, Lrat, Cost}
 use Rattle.endings.specs.declared.ending.Kind.{Kind}
 use Rattle.endings.specs.declared.ending.Kind.TheVariants.{Done, Rejected, Absent, Undecided, Many, Nothing, Ambiguous}
-use Rattle.telling.specs.Lines.{numbered, placed}
+use Rattle.telling.specs.Lines.{line_with_number, line_with_two_numbers}
 use Rattle.endings.specs.Transcripts.{End, said, cut, broken, Ending}
 
 -- the status of a reply, by its kind
@@ -51,24 +51,24 @@ HasStatus (Err stop) status = status ≡ status_of_stop stop
 
 -- the first fault of a text: what it is a text of, the line or the row, and the code of the fault
 abbrev pub text_of_faulty : FaultyText → List ℕ
-text_of_faulty (Model fault) = placed (codes "MODEL ") fault.line fault.code
-text_of_faulty (Log fault) = placed (codes "LOG ") fault.row fault.code
-text_of_faulty (Run fault) = placed (codes "RUN ") fault.line fault.code
-text_of_faulty (Cnf fault) = placed (codes "CNF ") fault.line fault.code
-text_of_faulty (Lrat fault) = placed (codes "LRAT ") fault.line fault.code
-text_of_faulty (Cost fault) = placed (codes "COST ") fault.line fault.code
+text_of_faulty (Model fault) = line_with_two_numbers (codes "MODEL ") fault.line fault.code
+text_of_faulty (Log fault) = line_with_two_numbers (codes "LOG ") fault.row fault.code
+text_of_faulty (Run fault) = line_with_two_numbers (codes "RUN ") fault.line fault.code
+text_of_faulty (Cnf fault) = line_with_two_numbers (codes "CNF ") fault.line fault.code
+text_of_faulty (Lrat fault) = line_with_two_numbers (codes "LRAT ") fault.line fault.code
+text_of_faulty (Cost fault) = line_with_two_numbers (codes "COST ") fault.line fault.code
 
 -- the text of a stop, on one line; it is empty where memory is wanting
 abbrev pub text_of_stop : Stop → List ℕ
 text_of_stop Usage = codes "USAGE\n"
-text_of_stop (Load file) = numbered (codes "LOAD ") file
+text_of_stop (Load file) = line_with_number (codes "LOAD ") file
 text_of_stop (Faulty text) = text_of_faulty text
-text_of_stop (Long file) = numbered (codes "LONG ") file
+text_of_stop (Long file) = line_with_number (codes "LONG ") file
 text_of_stop NoFault = codes "NOFAULT\n"
-text_of_stop (Large size) = numbered (codes "LARGE ") size
+text_of_stop (Large size) = line_with_number (codes "LARGE ") size
 text_of_stop Memory = []
 
 -- the texts of an ending, in the order in which they are put
-abbrev pub texts_of : Ending → List (List ℕ)
-texts_of (Ok told) = told.texts
-texts_of (Err stop) = text_of_stop stop ∷ []
+abbrev pub ending_texts : Ending → List (List ℕ)
+ending_texts (Ok told) = told.texts
+ending_texts (Err stop) = text_of_stop stop ∷ []

@@ -47,7 +47,7 @@ abbrev pub IsReadAs : (List ℕ → Option (List ℕ)) → List ℕ → ℕ → 
 IsReadAs held name limit fault P = (text : List ℕ) × IsText held name limit fault text × P text
 
 -- the stop tells the fault of the bytes of a file
-pub record IsFaultOf (held : List ℕ → Option (List ℕ)) (name : List ℕ) (limit : ℕ) (fault : List ℕ → Option FaultyText) (stop : Stop) : Type 0 where
+pub record IsFileFault (held : List ℕ → Option (List ℕ)) (name : List ℕ) (limit : ℕ) (fault : List ℕ → Option FaultyText) (stop : Stop) : Type 0 where
   pub bytes : List ℕ
   pub holds : Holds held name limit bytes
   pub text : FaultyText
@@ -56,7 +56,7 @@ pub record IsFaultOf (held : List ℕ → Option (List ℕ)) (name : List ℕ) (
 
 -- why a command may stop at file i: before it has the bytes, or by a fault of its text
 abbrev pub StopsIn : Loads → ℕ → List ℕ → ℕ → (List ℕ → Option FaultyText) → Stop → Type 0
-StopsIn l i name limit fault stop = StopsAt l i name limit stop ⊎ IsFaultOf l.held name limit fault stop
+StopsIn l i name limit fault stop = StopsAt l i name limit stop ⊎ IsFileFault l.held name limit fault stop
 
 -- the command stops at file i, or goes on with its bytes
 abbrev pub WithFile : Loads → ℕ → List ℕ → ℕ → (List ℕ → Ending → Type 0) → Ending → Type 0

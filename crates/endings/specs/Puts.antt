@@ -5,15 +5,15 @@ use Rattle.des_base.specs.Outside.{Took, TookFront}
 use Rattle.telling.specs.Telling.{TookCut}
 use Rattle.endings.specs.declared.stop.Stop.TheVariants.{Memory}
 use Rattle.endings.specs.Transcripts.{Ending, OrMemory, cut}
-use Rattle.endings.specs.Endings.{HasStatus, texts_of}
+use Rattle.endings.specs.Endings.{HasStatus, ending_texts}
 
 -- The texts of one ending, by the status that is answered. Out of memory nothing is put, so that no put can fail. Here rose says that the sink's count of faults rose.
 pub record Puts (e : Ending) (before now : Option (List ℕ)) (rose : Type 0) (status : ℕ) : Type 0 where
   pub shown : status ≢ 4 → status ≢ 9 → HasStatus e status
-  pub whole : status ≢ 4 → status ≢ 9 → Took before now (concat (texts_of e))
+  pub whole : status ≢ 4 → status ≢ 9 → Took before now (concat (ending_texts e))
   pub nothing : status ≡ 9 → Took before now []
   pub memory : status ≡ 4 → e ≢ Err Memory
-  pub front : status ≡ 4 → TookFront before now (concat (texts_of e))
+  pub front : status ≡ 4 → TookFront before now (concat (ending_texts e))
   pub put_failed : status ≡ 4 → rose
 
 -- ---- of an ending that may come
@@ -23,7 +23,7 @@ pub record Finishes (may : Ending → Type 0) (before now : Option (List ℕ)) (
   pub ending : Ending
   pub due : may ending
   pub shown : HasStatus ending status
-  pub put : Took before now (concat (texts_of ending))
+  pub put : Took before now (concat (ending_texts ending))
 
 -- Its last text can't be put whole: what a command says ends so, and a stop may, but for want of memory, for which nothing is put.
 abbrev pub EndsCut : Ending → Type 0
@@ -35,7 +35,7 @@ pub record IsCutOff (may : Ending → Type 0) (before now : Option (List ℕ)) :
   pub ending : Ending
   pub due : may ending
   pub last : EndsCut ending
-  pub put : TookCut (texts_of ending) before now
+  pub put : TookCut (ending_texts ending) before now
 
 -- An ending that is due was put: whole, or where the status is 4 with a front of its last text. Or it ran out of memory before anything was put, where lost is so. Here rose says that the sink's count of faults rose.
 pub record Speaks (due : Ending → Type 0) (lost : Type 0) (before now : Option (List ℕ)) (rose : Type 0) (status : ℕ) : Type 0 where

@@ -5,7 +5,7 @@ ghost use Rattle.telling.specs.Telling.{RisesExactlyIf};
 ghost use Rattle.endings.specs.Transcripts.{once};
 ghost use Rattle.endings.specs.Puts.{Puts};
 ghost use Rattle.endings.specs.declared.stop.Stop.TheVariants.{Memory as NoMemory};
-ghost use Rattle.endings.specs.Endings.{HasStatus, texts_of, status_of_kind};
+ghost use Rattle.endings.specs.Endings.{HasStatus, ending_texts, status_of_kind};
 
 use crate::stop::{Stop, status_of_stop, text_of_stop};
 use des_base::{Memory, Sink};
@@ -86,7 +86,7 @@ pub fn put_once<S: Sink>(alloc: Global, ending: Result<Reply, Stop>, out: &mut S
 // The status of an ending and its text, but for want of memory.
 fn told(alloc: Global, ending: Result<Reply, Stop>) -> Result<(u8, Vec<u8>), Memory>
     ensures status { IfOk result (λ r. HasStatus (once ending) r.0) }
-    ensures text { IfOk result (λ r. texts_of (once ending) ≡ r.1.items ∷ []) }
+    ensures text { IfOk result (λ r. ending_texts (once ending) ≡ r.1.items ∷ []) }
     ensures memory { OnOk result (once ending ≢ Err NoMemory) }
 {
     match ending {

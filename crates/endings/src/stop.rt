@@ -2,7 +2,7 @@
 ghost use Rattle.std.specs.Prelude.{◌≡◌, ◌∷◌, ◌++◌, [], IfOk, string_bytes};
 ghost use Rattle.endings.specs.declared.stop.Stop.TheVariants.{Memory as NoMemory};
 ghost use Rattle.endings.specs.Endings.{status_of_faulty, status_of_stop, text_of_faulty, text_of_stop};
-ghost use Rattle.telling.specs.Lines.{placed};
+ghost use Rattle.telling.specs.Lines.{line_with_two_numbers};
 ghost use Rattle.endings.specs.Refusals.{stop_of_model, stop_of_log, stop_of_run, stop_of_cnf, stop_of_lrat, stop_of_cost};
 
 use des_base::Memory;
@@ -179,7 +179,7 @@ fn text_of_faulty(alloc: Global, text: FaultyText) -> Result<String, Memory>
 
 // A word, and the line and the code of a fault.
 fn placed(alloc: Global, word: &str, line: u32, code: u8) -> Result<String, Memory>
-    ensures { IfOk result (λ text. string_bytes text ≡ placed (word.now ++ 32 ∷ []) line code) }
+    ensures { IfOk result (λ text. string_bytes text ≡ line_with_two_numbers (word.now ++ 32 ∷ []) line code) }
 {
     Ok(format!(in alloc; "{word} {line} {code}\n")?)
 }

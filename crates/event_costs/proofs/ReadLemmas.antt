@@ -10,14 +10,14 @@ use Rattle.event_costs.specs.declared.fault.CostFault.{CostFault}
 use Rattle.event_costs.specs.declared.table.Price.{Price}
 use Rattle.event_costs.specs.CostText.{cost_line, line_price, shape_code, fault_or, first_code, prices_of, given_to}
 use Rattle.event_costs.specs.Prices.{cost_at}
-use Rattle.event_costs.specs.Reading.{IsEmptyTable, Holds, GivesPrice, HasCode, IsTableOfLines}
+use Rattle.event_costs.specs.Reading.{IsEmptyTable, IsPriceTable, GivesPrice, HasCode, IsTableOfLines}
 use Rattle.event_costs.proofs.TableLemmas.{given_push, other, holds_more}
 
 -- the lines before the rest have no code, and the table has what they give, to fault events alone
 pub record IsReadTo (net : Net) (all rest : List NumberedLine) (table : List (Option ℕ)) : Type 0 where
   pub earlier : List Price
   pub long : length table ≡ length net.events
-  pub holds : Holds earlier table
+  pub holds : IsPriceTable earlier table
   pub lines : prices_of net all ≡ earlier ++ prices_of net rest
   pub codes : first_code net [] all ≡ first_code net earlier rest
   pub faults : (e : ℕ) → is_fault net e ≡ false → given_to earlier e ≡ None

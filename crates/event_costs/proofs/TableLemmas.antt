@@ -8,7 +8,7 @@ use Rattle.std.proofs.lemmas.List.Folds.{find-append}
 use Rattle.event_costs.specs.declared.table.Price.{Price}
 use Rattle.event_costs.specs.CostText.{given_to}
 use Rattle.event_costs.specs.Prices.{given_at, cost_at}
-use Rattle.event_costs.specs.Reading.{Holds}
+use Rattle.event_costs.specs.Reading.{IsPriceTable}
 
 either : (o p : Option Price) → option_map (λ (x : Price). x.cost) (option_or o p) ≡ option_or (option_map (λ (x : Price). x.cost) o) (option_map (λ (x : Price). x.cost) p)
 either None p = refl
@@ -40,7 +40,7 @@ or_none : (o : Option ℕ) → option_or o None ≡ o
 or_none None = refl
 or_none (Some x) = refl
 
-pub holds_more : (earlier : List Price) (table : List (Option ℕ)) (price : Price) → Holds earlier table → price.event < length table → given_at table price.event ≡ None → Holds (earlier ++ price ∷ []) (set table price.event (Some price.cost))
+pub holds_more : (earlier : List Price) (table : List (Option ℕ)) (price : Price) → IsPriceTable earlier table → price.event < length table → given_at table price.event ≡ None → IsPriceTable (earlier ++ price ∷ []) (set table price.event (Some price.cost))
 holds_more earlier table price holds within free e = by (cases_eq e price.event)
   where
     by : (e ≡ price.event) ⊎ (e ≢ price.event) → get_or (set table price.event (Some price.cost)) e None ≡ given_to (earlier ++ price ∷ []) e

@@ -19,8 +19,8 @@ pub record IsEmptyTable (events : ℕ) (table : List (Option ℕ)) : Type 0 wher
   pub none : (e : ℕ) → given_at table e ≡ None
 
 -- the table has what these prices give
-abbrev pub Holds : List Price → List (Option ℕ) → Type 0
-Holds earlier table = (e : ℕ) → given_at table e ≡ given_to earlier e
+abbrev pub IsPriceTable : List Price → List (Option ℕ) → Type 0
+IsPriceTable earlier table = (e : ℕ) → given_at table e ≡ given_to earlier e
 
 -- The line gives this price, of a fault event to which the table gives nothing yet. It has no code where the table holds what the lines before it give, whatever they are.
 pub record GivesPrice (net : Net) (table : List (Option ℕ)) (line : Option CostLine) (price : Price) : Type 0 where
@@ -28,12 +28,12 @@ pub record GivesPrice (net : Net) (table : List (Option ℕ)) (line : Option Cos
   pub within : price.event < length net.events
   pub fault : is_fault net price.event ≡ true
   pub free : given_at table price.event ≡ None
-  pub well : (earlier : List Price) → Holds earlier table → shape_code net earlier line ≡ None
+  pub well : (earlier : List Price) → IsPriceTable earlier table → shape_code net earlier line ≡ None
 
 -- the line has the code of the fault, where the table holds what the lines before it give
 pub record HasCode (net : Net) (table : List (Option ℕ)) (number : ℕ) (line : Option CostLine) (fault : CostFault) : Type 0 where
   pub line_is : fault.line ≡ number
-  pub code_is : (earlier : List Price) → Holds earlier table → shape_code net earlier line ≡ Some fault.code
+  pub code_is : (earlier : List Price) → IsPriceTable earlier table → shape_code net earlier line ≡ Some fault.code
 
 -- a line gives a price or has a code
 abbrev pub ReadsPrice : Net → List (Option ℕ) → ℕ → Option CostLine → Result Price CostFault → Type 0

@@ -15,5 +15,5 @@ pub record IsCost {C : Type 0} (may : C → ℕ → Type 0) (gives : C → ℕ �
   pub single : (e one other : ℕ) → e < length net.events → gives cost e one → gives cost e other → one ≡ other
 
 -- this is what the closure answers on the fault events
-abbrev pub IsAnswered : {C : Type 0} → (C → ℕ → ℕ → Type 0) → C → Net → (ℕ → ℕ) → Type 0
-IsAnswered gives stored net cost = (e : ℕ) → e < length net.events → is_fault net e ≡ true → gives stored e (cost e)
+abbrev pub GivesCosts : {C : Type 0} → (C → ℕ → ℕ → Type 0) → C → Net → (ℕ → ℕ) → Type 0
+GivesCosts gives stored net cost = (e : ℕ) → e < length net.events → is_fault net e ≡ true → gives stored e (cost e)

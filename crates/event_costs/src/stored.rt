@@ -2,7 +2,7 @@
 ghost use Rattle.std.specs.Prelude.{◌≡◌, ℕ, ◌<◌, length, true};
 ghost use Rattle.des_net.specs.Network.{is_fault};
 ghost use Rattle.event_costs.specs.Prices.{IsPrice};
-ghost use Rattle.event_costs.specs.StoredCosts.{IsCost, IsAnswered};
+ghost use Rattle.event_costs.specs.StoredCosts.{IsCost, GivesCosts};
 
 use des_base::EventId;
 use des_net::Network;
@@ -47,7 +47,7 @@ impl<C: Fn(u32) -> u32> Costs<C> {
         requires fault { is_fault self.now.net event ≡ true }
         ensures answer { C.post self.now.cost event result }
         ensures price { IsPrice result }
-        ensures cost { (cost : ℕ → ℕ) → IsAnswered C.post self.now.cost self.now.net cost → result ≡ cost event }
+        ensures cost { (cost : ℕ → ℕ) → GivesCosts C.post self.now.cost self.now.net cost → result ≡ cost event }
     {
         (self.cost)(event.0)
     }

@@ -11,7 +11,7 @@ use Rattle.fault_verdicts.proofs.Events.{few_true, run_has, true_run_of}
 use Rattle.fault_verdicts.proofs.Judged.{open_found, possible_found, refuted_found}
 use Rattle.fault_verdicts.specs.Asked.{some_step_clauses}
 use Rattle.fault_verdicts.specs.Judged.{IsBestRun, IsJudged, IsVerdict}
-use Rattle.fault_verdicts.specs.Judging.{AreAssumedOf, IsAsked, bound_for, verdict_of}
+use Rattle.fault_verdicts.specs.Judging.{AreAssumedOf, IsVerdictShown, bound_for, verdict_of}
 use Rattle.fault_verdicts.specs.declared.answer.Verdict.{Verdict}
 use Rattle.fault_verdicts.specs.declared.answer.Verdict.TheVariants.{Possible, Open}
 use Rattle.least_faults.proofs.Asked.{both_paid, both_unmarked, both_whole}
@@ -74,7 +74,7 @@ module _ (net : Net) (log : Log) (n k e : ℕ) (first : List RunStep) (there : B
   abbrev since : List BookEntry
   since = map axiomatic adds.axioms ++ searched.since
 
-  with_verdict : (verdict : Verdict) → IsVerdict (axioms_of new) (clauses_of new) old since net log n k e before first verdict → IsAsked net log n k e first before after old new verdict
+  with_verdict : (verdict : Verdict) → IsVerdict (axioms_of new) (clauses_of new) old since net log n k e before first verdict → IsVerdictShown net log n k e first before after old new verdict
   with_verdict verdict found = record {
     since = since;
     whole = both_whole old mid new before after adds searched;
@@ -84,7 +84,7 @@ module _ (net : Net) (log : Log) (n k e : ℕ) (first : List RunStep) (there : B
     found = found;
   }
 
-  pub asked_open : IsSpent new assumed after → IsAsked net log n k e first before after old new Open
+  pub asked_open : IsSpent new assumed after → IsVerdictShown net log n k e first before after old new Open
   asked_open spent =
       let paid = both_paid old mid new before after adds searched in
       let nothing = spent.nothing in
@@ -108,7 +108,7 @@ module _ (net : Net) (log : Log) (n k e : ℕ) (first : List RunStep) (there : B
         negates = negates_only assumed put.put.clause (subst (λ c. list_all (λ l. is_true assumed (negation l)) c ≡ true) (sym clause) refuted.negated);
       }
 
-  pub asked_refuted : (number : ℕ) → HasPut mid new (solver.Unsat number) → IsRefuted new assumed number → IsValidBook new → IsAsked net log n k e first before after old new (verdict_of there)
+  pub asked_refuted : (number : ℕ) → HasPut mid new (solver.Unsat number) → IsRefuted new assumed number → IsValidBook new → IsVerdictShown net log n k e first before after old new (verdict_of there)
   asked_refuted number put refuted valid =
       let final_entry = ends number put refuted in
       let in' = subst (λ xs. Contains xs (final final_entry.clause final_entry.hints)) (sym (both_whole old mid new before after adds searched)) (append_right old since (final final_entry.clause final_entry.hints) final_entry.there) in
@@ -120,7 +120,7 @@ pub asked_possible : {R : Type 0} (may : R → ℕ → Type 0) (gives : R → �
     (value : ℕ → Bool) → AllClausesTrue value (axioms_of mid) → AllLiteralsTrue value assumed → IsWellMatched net log other → Explains net log parts.step.steps (word_of other) (order_of log other) →
     ((false_lits : List Lit) → AreFalseLiterals parts.code.code false_lits → faults_of net (word_of other) (order_of log other) ≡ true_count value (fault_literals net (code_grid parts.step) ++ false_lits)) →
     other ≡ decoded_run net log (truth_of parts.step parts.code.code value) (least_order (length log.alarms) log.pairs) parts.step.steps →
-    IsAsked net log parts.step.steps k e first before after old new (Possible other)
+    IsVerdictShown net log parts.step.steps k e first before after old new (Possible other)
 asked_possible may gives parts net log k e first other there assumed old mid new before after adds searched known best told has are belong network valid event value axioms literals matched explains faults run =
     let n = parts.step.steps in
     let grid = code_grid parts.step in
@@ -135,7 +135,7 @@ asked_possible may gives parts net log k e first other there assumed old mid new
 
 -- ---- between the marks
 
-pub judged : (net : Net) (log : Log) (n k e budget left : ℕ) (first : List RunStep) (old opened asked new : List BookEntry) (verdict : Verdict) → opened ≡ old ++ mark 0 ∷ [] → new ≡ asked ++ mark 1 ∷ [] → IsAsked net log n k e first budget left opened asked verdict →
+pub judged : (net : Net) (log : Log) (n k e budget left : ℕ) (first : List RunStep) (old opened asked new : List BookEntry) (verdict : Verdict) → opened ≡ old ++ mark 0 ∷ [] → new ≡ asked ++ mark 1 ∷ [] → IsVerdictShown net log n k e first budget left opened asked verdict →
     IsJudged net log n k e budget first old new verdict
 judged net log n k e budget left first old opened asked new verdict begins closes is = record {
   since = is.since;

@@ -3,7 +3,7 @@ use Rattle.std.proofs.Common.{◌≡◌, ℕ, ◌+◌, ◌-◌, ◌*◌, ◌≤�
 use Rattle.des_base.specs.declared.TheConstants.{MOST_COLUMNS}
 use Rattle.des_net.specs.Network.{Net}
 use Rattle.fault_verdicts.specs.Judged.{IsBestRun}
-use Rattle.fault_verdicts.specs.Judging.{GoesOn}
+use Rattle.fault_verdicts.specs.Judging.{KeepsStepsAndLog}
 use Rattle.least_faults.specs.Answers.{IsExplanation}
 use Rattle.least_faults.specs.declared.answer.Best.{Best}
 use Rattle.least_faults.specs.declared.parts.Parts.{Parts}
@@ -20,7 +20,7 @@ pub record HaveFew {R : Type 0} (most : ℕ) (parts : Parts R) : Type 0 where
   pub few : parts.vars + (MOST_COLUMNS - length parts.counter.columns) * length parts.counter.inputs ≤ most
 
 -- a call makes one more at most
-pub still_few : {R : Type 0} (most : ℕ) (old new : Parts R) → GoesOn 1 old new → length new.counter.columns ≤ MOST_COLUMNS → HaveFew most old → HaveFew (most + 1) new
+pub still_few : {R : Type 0} (most : ℕ) (old new : Parts R) → KeepsStepsAndLog 1 old new → length new.counter.columns ≤ MOST_COLUMNS → HaveFew most old → HaveFew (most + 1) new
 still_few most old new goes within few = record { columns = within; few = by }
   where
     left : (a b c i : ℕ) → c ≡ a + b → c ≤ 256 → (256 - c) * i + b * i ≡ (256 - a) * i

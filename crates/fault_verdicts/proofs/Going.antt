@@ -1,7 +1,7 @@
 -- How parts and book go on: by columns, by a variable, by a search and by marks.
 use Rattle.std.proofs.Common.{◌≡◌, ◌∙◌, ℕ, zero, suc, ◌+◌, ◌*◌, ◌≤◌, List, [], ◌∷◌, ◌++◌, length, refl, sym, ap, subst, arith, length-append}
 use Rattle.fault_verdicts.proofs.Ready.{ready_by_solver}
-use Rattle.fault_verdicts.specs.Judging.{GoesOn}
+use Rattle.fault_verdicts.specs.Judging.{KeepsStepsAndLog}
 use Rattle.fault_verdicts.specs.Ready.{AreReadyWith, AreReadyForVerdicts}
 use Rattle.least_faults.proofs.Closing.{marked_axioms, marked_clauses}
 use Rattle.least_faults.proofs.Columns.{keeps_both, keeps_none}
@@ -26,13 +26,13 @@ use Rattle.step_encode.specs.Coded.{CodedSteps}
 -- ---- the parts
 
 -- what a solver learns and reserves changes nothing
-pub goes_by_solver : {R : Type 0} (more : ℕ) (parts : Parts R) (solver : SolverState R) → solver.order.rank ≡ parts.solver.order.rank → GoesOn more parts (record parts { solver = solver })
+pub goes_by_solver : {R : Type 0} (more : ℕ) (parts : Parts R) (solver : SolverState R) → solver.order.rank ≡ parts.solver.order.rank → KeepsStepsAndLog more parts (record parts { solver = solver })
 goes_by_solver more parts solver rank = record { step = refl; code = refl; counter = keeps_none parts.counter; rank = rank; few = omega arith }
 
-pub goes_nowhere : {R : Type 0} (more : ℕ) (parts : Parts R) → GoesOn more parts parts
+pub goes_nowhere : {R : Type 0} (more : ℕ) (parts : Parts R) → KeepsStepsAndLog more parts parts
 goes_nowhere more parts = goes_by_solver more parts parts.solver refl
 
-pub goes_with_variable : {R : Type 0} (parts : Parts R) (vars : ℕ) (solver : SolverState R) → vars ≡ parts.vars + 1 → solver.order.rank ≡ parts.solver.order.rank → GoesOn 1 parts (record parts { vars = vars; solver = solver })
+pub goes_with_variable : {R : Type 0} (parts : Parts R) (vars : ℕ) (solver : SolverState R) → vars ≡ parts.vars + 1 → solver.order.rank ≡ parts.solver.order.rank → KeepsStepsAndLog 1 parts (record parts { vars = vars; solver = solver })
 goes_with_variable parts vars solver is rank = record { step = refl; code = refl; counter = keeps_none parts.counter; rank = rank; few = omega (arith, is) }
 
 one_more_row : (a b c : ℕ) → (a + b * c) + c ≡ a + suc b * c
@@ -49,7 +49,7 @@ vars_by_columns question (suc columns) =
     ∙ ap (λ c. (question.vars + columns * length question.counter.inputs) + c) (inputs_kept question columns)
     ∙ one_more_row question.vars columns (length question.counter.inputs)
 
-pub goes_with_columns : {R : Type 0} (old new : Parts R) (book entries : List BookEntry) → KeepsQuestion old new book entries → GoesOn 0 old new
+pub goes_with_columns : {R : Type 0} (old new : Parts R) (book entries : List BookEntry) → KeepsQuestion old new book entries → KeepsStepsAndLog 0 old new
 goes_with_columns old new book entries keeps = record {
   step = keeps.step;
   code = keeps.code;
@@ -58,7 +58,7 @@ goes_with_columns old new book entries keeps = record {
   few = (let vars = ap (λ (q : BuiltQuestion). q.vars) keeps.built ∙ vars_by_columns (built_of old book) (length keeps.counter.columns) in omega (arith, vars));
 }
 
-pub goes_both : {R : Type 0} (one two more : ℕ) (old mid new : Parts R) → one + two ≤ more → GoesOn one old mid → GoesOn two mid new → GoesOn more old new
+pub goes_both : {R : Type 0} (one two more : ℕ) (old mid new : Parts R) → one + two ≤ more → KeepsStepsAndLog one old mid → KeepsStepsAndLog two mid new → KeepsStepsAndLog more old new
 goes_both one two more old mid new enough first second = record {
   step = second.step ∙ first.step;
   code = second.code ∙ first.code;
@@ -81,7 +81,7 @@ goes_both one two more old mid new enough first second = record {
         let right : b * j ≡ b * i = ap (λ k. b * k) same in
         omega (arith, left, right, first_few, second_few, enough)
 
-pub belong_on : {R : Type 0} (net : Net) (log : Log) (more : ℕ) (old new : Parts R) → GoesOn more old new → BelongTo net log old → BelongTo net log new
+pub belong_on : {R : Type 0} (net : Net) (log : Log) (more : ℕ) (old new : Parts R) → KeepsStepsAndLog more old new → BelongTo net log old → BelongTo net log new
 belong_on net log more old new goes belong =
     subst (λ (s : CodedSteps). BelongTogether net log s new.code.code) (sym goes.step)
     (subst (λ (c : LogCodeState). BelongTogether net log old.step c.code) (sym goes.code) belong)
@@ -114,5 +114,5 @@ ready_with_mark may gives parts number book new is ready =
     )
 
 -- fewer variables are as many at most
-pub goes_more : {R : Type 0} (few more : ℕ) (old new : Parts R) → few ≤ more → GoesOn few old new → GoesOn more old new
+pub goes_more : {R : Type 0} (few more : ℕ) (old new : Parts R) → few ≤ more → KeepsStepsAndLog few old new → KeepsStepsAndLog more old new
 goes_more few more old new enough goes = record { step = goes.step; code = goes.code; counter = goes.counter; rank = goes.rank; few = (let vars = goes.few in omega (arith, vars, enough)) }

@@ -14,19 +14,19 @@ use Rattle.des_net.specs.QuestionSize.{fault_event_count}
 use Rattle.fault_verdicts.specs.Asked.{some_step_clause, some_step_clauses}
 use Rattle.fault_verdicts.specs.Judging.{event_signed, signed_literal}
 use Rattle.fault_verdicts.specs.Ready.{AreReadyWith}
-use Rattle.fault_verdicts.specs.Telling.{AreMade, IsGridOf}
+use Rattle.fault_verdicts.specs.Telling.{AreMade, IsEventGrid}
 use Rattle.least_faults.proofs.AxiomLists.{axioms_added}
 use Rattle.least_faults.proofs.Below.{room_names_below}
 use Rattle.least_faults.proofs.Beside.{beside, clauses_still}
 use Rattle.least_faults.proofs.ColumnsBuilt.{vars_grow}
 use Rattle.least_faults.specs.Columns.{columns_built}
 use Rattle.least_faults.specs.Growing.{AddsAxioms, KeepsQuestion}
-use Rattle.least_faults.specs.Parts.{AreReady, AreReadyBeside, BelongTo, HaveRoom, built_of, names_of}
+use Rattle.least_faults.specs.Parts.{AreReady, AreReadyBeside, BelongTo, HaveRoom, built_of, names_of_parts}
 use Rattle.least_faults.specs.declared.TheConstants.{MOST_SIZE}
 use Rattle.least_faults.specs.declared.parts.Parts.{Parts}
 use Rattle.log_clauses.proofs.Codes.{has_name, named_entry}
 use Rattle.log_clauses.proofs.Lists.{all_at, pairs_append}
-use Rattle.log_encode.specs.CodedLog.{CodedLog, code_names as log_names}
+use Rattle.log_encode.specs.CodedLog.{CodedLog, log_names}
 use Rattle.log_order.specs.Log.{Log}
 use Rattle.proof_ledger.specs.Book.{BookEntry, axiomatic, axioms_of, clauses_of}
 use Rattle.prop_core.specs.Clauses.{Clause, HasValues, negation}
@@ -92,7 +92,7 @@ none_above steps code counter vars room = no_name (whole_names steps code counte
 -- ---- the events
 
 -- by the names of the parts the grid's variables are those of the events
-pub gridded : (steps : CodedSteps) (code : CodedLog) (counter : CounterState) (vars : ℕ) → HaveRoom steps code counter vars → IsGridOf (whole_names steps code counter) steps.net steps.steps (code_grid steps)
+pub gridded : (steps : CodedSteps) (code : CodedLog) (counter : CounterState) (vars : ℕ) → HaveRoom steps code counter vars → IsEventGrid (whole_names steps code counter) steps.net steps.steps (code_grid steps)
 gridded steps code counter vars room =
     let naming = together_one_naming steps code counter room.together in (
       refl,
@@ -209,11 +209,11 @@ ready_with_columns may gives old new book entries made some ready keeps adds wit
   both = subst (λ axioms. AreBoth axioms (with'.own ++ adds.axioms) (some_step_clauses (code_grid new.step) made)) (sym (ap axioms_of adds.more ∙ axioms_added book adds.axioms))
       (subst (λ (s : CodedSteps). AreBoth (axioms_of book ++ adds.axioms) (with'.own ++ adds.axioms) (some_step_clauses (code_grid s) made)) (sym keeps.step)
       (both_more (axioms_of book) with'.own (some_step_clauses (code_grid old.step) made) adds.axioms with'.both));
-  made_new = subst (λ (s : CodedSteps). AreMade (names_of new) s.net made) (sym keeps.step) (record {
+  made_new = subst (λ (s : CodedSteps). AreMade (names_of_parts new) s.net made) (sym keeps.step) (record {
     once = with'.made_new.once;
-    new = all_from (λ (entry : ℕ × ℕ). name_of (names_of new) entry.0 ≡ None) made (λ entry in'.
+    new = all_from (λ (entry : ℕ × ℕ). name_of (names_of_parts new) entry.0 ≡ None) made (λ entry in'.
         subst (λ (q : BuiltQuestion). name_of (names_in q) entry.0 ≡ None) (sym keeps.built)
-        (none_by_columns (built_of old book) (length keeps.counter.columns) entry.0 (all_at (λ (e : ℕ × ℕ). e.0 < old.vars) made with'.below entry in') (all_at (λ (e : ℕ × ℕ). name_of (names_of old) e.0 ≡ None) made with'.made_new.new entry in')));
+        (none_by_columns (built_of old book) (length keeps.counter.columns) entry.0 (all_at (λ (e : ℕ × ℕ). e.0 < old.vars) made with'.below entry in') (all_at (λ (e : ℕ × ℕ). name_of (names_of_parts old) e.0 ≡ None) made with'.made_new.new entry in')));
     events = with'.made_new.events;
     faults = with'.made_new.faults;
   });
@@ -270,7 +270,7 @@ ready_with_literal may gives parts solver vars book entries made e with' known f
         let low = all_at (λ (x : ℕ × ℕ). x.0 < parts.vars) made with'.below a in' in
         let last = ap (λ (x : ℕ × ℕ). x.0) (only (parts.vars, e) b there) in
         omega (arith, low, last, same));
-    new = all_append (λ (x : ℕ × ℕ). name_of (names_of parts) x.0 ≡ None) made ((parts.vars, e) ∷ []) with'.made_new.new (none_above parts.step parts.code.code parts.counter parts.vars with'.beside.coded, tt);
+    new = all_append (λ (x : ℕ × ℕ). name_of (names_of_parts parts) x.0 ≡ None) made ((parts.vars, e) ∷ []) with'.made_new.new (none_above parts.step parts.code.code parts.counter parts.vars with'.beside.coded, tt);
     events = all_append (λ (x : ℕ × ℕ). x.1 < length parts.step.net.events) made ((parts.vars, e) ∷ []) with'.made_new.events (known, tt);
     faults = all_append (λ (x : ℕ × ℕ). is_fault parts.step.net x.1 ≡ true) made ((parts.vars, e) ∷ []) with'.made_new.faults (fault, tt);
   };

@@ -24,7 +24,7 @@ use Rattle.run_decode.specs.Tells.{Rides, SaysOfWords, Tells}
 use Rattle.step_encode.specs.FaultInputs.{event_literal, event_literals}
 use Rattle.fault_verdicts.proofs.Truths.{beq_true, beq_false, happened, happening, event_is, some_true, true_some}
 use Rattle.fault_verdicts.specs.Asked.{asked_for, without, with_event, some_step_clause, some_step_clauses, no_step_literals}
-use Rattle.fault_verdicts.specs.Telling.{IsGridOf, AreMade, AsksBeside}
+use Rattle.fault_verdicts.specs.Telling.{IsEventGrid, AreMade, AsksBeside}
 
 -- the event happens in no step, and in some
 abbrev Nowhere : ℕ → ℕ → (Name → Bool) → Type 0
@@ -86,7 +86,7 @@ one_event (entry ∷ made) once var e f first second = by (cons_cases entry made
     by (inr a) (inl b) later = absurd (all_at (λ (p : ℕ × ℕ). entry.0 ≢ p.0) made once.0 (var, e) a (ap (λ (p : ℕ × ℕ). p.0) b))
     by (inr a) (inr b) later = later a b
 
-no_step_off : (net : Net) (n : ℕ) (names : List (ℕ × Name)) (grid : Grid) → IsGridOf names net n grid → (e : ℕ) → e < length net.events → (value : Name → Bool) (given : ℕ → Bool) → Nowhere n e value →
+no_step_off : (net : Net) (n : ℕ) (names : List (ℕ × Name)) (grid : Grid) → IsEventGrid names net n grid → (e : ℕ) → e < length net.events → (value : Name → Bool) (given : ℕ → Bool) → Nowhere n e value →
     (l : Lit) → Contains (no_step_literals grid e) l → IsTrue (literal_true (assignment_by names value given) l)
 no_step_off net n names grid gridded e known value given none l in' =
     let assignment = assignment_by names value given in
@@ -98,7 +98,7 @@ no_step_off net n names grid gridded e known value given none l in' =
     subst (λ (m : Lit). IsTrue (literal_true assignment m)) outer.2 (subst (λ (m : Lit). IsTrue (literal_true assignment (negation m))) inner.2
     (beq_false (assignment (event_literal grid e inner.0).var) ∙ ap not low))
 
-module _ (net : Net) (n : ℕ) (names : List (ℕ × Name)) (once : HasEachOnce names) (grid : Grid) (gridded : IsGridOf names net n grid) (made : List (ℕ × ℕ)) (are : AreMade names net made) where
+module _ (net : Net) (n : ℕ) (names : List (ℕ × Name)) (once : HasEachOnce names) (grid : Grid) (gridded : IsEventGrid names net n grid) (made : List (ℕ × ℕ)) (are : AreMade names net made) where
   -- all made variables false
   free : (value : Name → Bool) → AllClausesTrue (assignment_by names value (λ var. false)) (some_step_clauses grid made)
   free value = clauses_of_made (assignment_by names value (λ var. false)) grid made (λ entry in'.

@@ -16,7 +16,7 @@ use Rattle.run_clauses.specs.Steps.{AreSteps}
 use Rattle.step_encode.specs.FaultInputs.{event_literal, event_literals}
 use Rattle.run_clauses.proofs.Lists.{in_numbers, from_numbers}
 use Rattle.des_base.specs.Lists.{numbers_below}
-use Rattle.fault_verdicts.specs.Telling.{IsGridOf}
+use Rattle.fault_verdicts.specs.Telling.{IsEventGrid}
 
 -- ---- truth values
 
@@ -67,7 +67,7 @@ happening net n value pieces are e t known less is =
 
 -- ---- by variable
 
-module _ (net : Net) (n : ℕ) (names : List (ℕ × Name)) (grid : Grid) (gridded : IsGridOf names net n grid) (assignment : ℕ → Bool) (value : Name → Bool) (match : Match names assignment value) where
+module _ (net : Net) (n : ℕ) (names : List (ℕ × Name)) (grid : Grid) (gridded : IsEventGrid names net n grid) (assignment : ℕ → Bool) (value : Name → Bool) (match : Match names assignment value) where
   pub event_is : (e t : ℕ) → e < length net.events → t < n → literal_true assignment (event_literal grid e t) ≡ value (happens e (suc t))
   event_is e t known less = beq_true (assignment (event_literal grid e t).var) ∙ match (event_literal grid e t).var (happens e (suc t)) (gridded.1 e t known less)
 

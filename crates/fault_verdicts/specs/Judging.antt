@@ -30,7 +30,7 @@ abbrev pub event_signed : Grid → Bool → ℕ → List Lit
 event_signed grid sign e = map (signed_literal grid sign e) (numbers_below grid.steps)
 
 -- Steps and log of a question stay as they are, and so does what ranks. The counter perhaps has further columns, and beside their variables at most so many were made.
-pub record GoesOn {R : Type 0} (more : ℕ) (old new : Parts R) : Type 0 where
+pub record KeepsStepsAndLog {R : Type 0} (more : ℕ) (old new : Parts R) : Type 0 where
   pub step : new.step ≡ old.step
   pub code : new.code ≡ old.code
   pub counter : KeepsColumns old.counter new.counter
@@ -79,7 +79,7 @@ verdict_of true = Certain
 verdict_of false = Excluded
 
 -- The entries that were put show the verdict, by what was left of the budget; each clause that was learnt was fresh.
-pub record IsAsked (net : Net) (log : Log) (n k e : ℕ) (first : List RunStep) (left_old left_new : ℕ) (old new : List BookEntry) (verdict : Verdict) : Type 0 where
+pub record IsVerdictShown (net : Net) (log : Log) (n k e : ℕ) (first : List RunStep) (left_old left_new : ℕ) (old new : List BookEntry) (verdict : Verdict) : Type 0 where
   pub since : List BookEntry
   pub whole : new ≡ old ++ since
   pub unmarked : (number : ℕ) → count_by (is_mark number) since ≡ 0

@@ -15,8 +15,8 @@ use Rattle.run_decode.specs.Question.{Asks}
 use Rattle.run_decode.specs.Tells.{AreBoth}
 
 -- by these names the grid's variables are those of the events in n steps
-abbrev pub IsGridOf : List (ℕ × Name) → Net → ℕ → Grid → Type 0
-IsGridOf names net n grid = (grid.steps ≡ n) × ((e t : ℕ) → e < length net.events → t < n → name_of names (grid_variable grid e (suc t)) ≡ Some (happens e (suc t)))
+abbrev pub IsEventGrid : List (ℕ × Name) → Net → ℕ → Grid → Type 0
+IsEventGrid names net n grid = (grid.steps ≡ n) × ((e t : ℕ) → e < length net.events → t < n → name_of names (grid_variable grid e (suc t)) ≡ Some (happens e (suc t)))
 
 -- The variables that were made, each for a fault event: none stands twice, and none is of the question.
 pub record AreMade (names : List (ℕ × Name)) (net : Net) (made : List (ℕ × ℕ)) : Type 0 where
@@ -29,7 +29,7 @@ pub record AreMade (names : List (ℕ × Name)) (net : Net) (made : List (ℕ ×
 pub record AsksBeside (net : Net) (log : Log) (n k : ℕ) (names : List (ℕ × Name)) (grid : Grid) (made : List (ℕ × ℕ)) (whole : List Clause) (assumed : List Lit) : Type 0 where
   pub clauses : List Clause
   pub asks : Asks net log n (Some k) names clauses assumed
-  pub gridded : IsGridOf names net n grid
+  pub gridded : IsEventGrid names net n grid
   pub made_new : AreMade names net made
   pub both : AreBoth whole clauses (some_step_clauses grid made)
 

@@ -1,7 +1,7 @@
 // What is assumed of an event beside the guards and the bound.
 ghost use Rattle.std.specs.Prelude.{◌≡◌, ℕ, ◌<◌, ◌≤◌, List, true, false, length, IfOk};
 ghost use Rattle.des_net.specs.Network.{is_fault};
-ghost use Rattle.fault_verdicts.specs.Judging.{AreAssumedOf, GoesOn, bound_for};
+ghost use Rattle.fault_verdicts.specs.Judging.{AreAssumedOf, KeepsStepsAndLog, bound_for};
 ghost use Rattle.fault_verdicts.specs.Ready.{AreReadyForVerdicts, AreReadyWith};
 ghost use Rattle.least_faults.specs.Asking.{AreAssumptions};
 ghost use Rattle.least_faults.specs.Growing.{AddsAxioms};
@@ -23,7 +23,7 @@ pub fn guards_within<R: Fn(u32) -> u64>(
     requires ready { AreReadyForVerdicts R.pre R.post parts.old book.old.entries }
     requires few { k ≤ 255 }
     ensures ready { (made : List (ℕ × ℕ)) → AreReadyWith R.pre R.post parts.old book.old.entries made → AreReadyWith R.pre R.post parts.new book.new.entries made }
-    ensures goes_on { GoesOn 0 parts.old parts.new }
+    ensures goes_on { KeepsStepsAndLog 0 parts.old parts.new }
     ensures axioms { AddsAxioms book.old.entries book.new.entries }
     ensures within { IfOk result (λ assumed. AreAssumptions parts.new.code.code parts.new.counter (bound_for parts.new.counter k) assumed.items) }
 {
@@ -47,7 +47,7 @@ pub fn assume_none<R: Fn(u32) -> u64>(
     requires few { k ≤ 255 }
     requires known { event < length parts.old.step.net.events }
     ensures ready { AreReadyForVerdicts R.pre R.post parts.new book.new.entries }
-    ensures goes_on { GoesOn 1 parts.old parts.new }
+    ensures goes_on { KeepsStepsAndLog 1 parts.old parts.new }
     ensures axioms { AddsAxioms book.old.entries book.new.entries }
     ensures assumed { IfOk result (λ assumed. AreAssumedOf R.pre R.post parts.new book.new.entries k event true assumed.items) }
 {
@@ -70,7 +70,7 @@ pub fn assume_some<R: Fn(u32) -> u64>(
     requires fault { is_fault parts.old.step.net event ≡ true }
     requires room { parts.old.vars ≤ 1000000000 }
     ensures ready { AreReadyForVerdicts R.pre R.post parts.new book.new.entries }
-    ensures goes_on { GoesOn 1 parts.old parts.new }
+    ensures goes_on { KeepsStepsAndLog 1 parts.old parts.new }
     ensures axioms { AddsAxioms book.old.entries book.new.entries }
     ensures assumed { IfOk result (λ assumed. AreAssumedOf R.pre R.post parts.new book.new.entries k event false assumed.items) }
 {

@@ -3,7 +3,7 @@ ghost use Rattle.std.specs.Prelude.{◌≡◌, ◌<◌, ◌≤◌, ◌↔◌, Co
 ghost use Rattle.des_base.specs.declared.TheConstants.{MOST_STEPS};
 ghost use Rattle.des_net.specs.Network.{is_fault};
 ghost use Rattle.fault_verdicts.specs.Judged.{IsBestRun, IsJudged};
-ghost use Rattle.fault_verdicts.specs.Judging.{AreAssumedOf, GoesOn, IsAsked, has_this, verdict_of};
+ghost use Rattle.fault_verdicts.specs.Judging.{AreAssumedOf, KeepsStepsAndLog, IsVerdictShown, has_this, verdict_of};
 ghost use Rattle.fault_verdicts.specs.Ready.{AreReadyForVerdicts};
 ghost use Rattle.least_faults.specs.Asking.{IsSearching};
 ghost use Rattle.least_faults.specs.Growing.{AddsAxioms, HasGrownWithin};
@@ -49,7 +49,7 @@ pub fn verdict<R: Fn(u32) -> u64>(
     requires fault { is_fault net.now event ≡ true }
     requires room { parts.old.vars ≤ 1000000000 }
     ensures ready { AreReadyForVerdicts R.pre R.post parts.new book.new.entries }
-    ensures goes_on { GoesOn 1 parts.old parts.new }
+    ensures goes_on { KeepsStepsAndLog 1 parts.old parts.new }
     ensures grown { HasGrownWithin budget book.old.entries book.new.entries }
     ensures judged { IfOk result (IsJudged net.now log.now parts.new.step.steps k event budget first.now book.old.entries book.new.entries) }
 {
@@ -88,9 +88,9 @@ fn ask<R: Fn(u32) -> u64>(
     requires fault { is_fault about.net.now event ≡ true }
     requires room { parts.old.vars ≤ 1000000000 }
     ensures ready { AreReadyForVerdicts R.pre R.post parts.new book.new.entries }
-    ensures goes_on { GoesOn 1 parts.old parts.new }
+    ensures goes_on { KeepsStepsAndLog 1 parts.old parts.new }
     ensures searching { IsSearching book.old.entries book.new.entries left.old left.new }
-    ensures asked { IfOk result (IsAsked about.entry.net.now about.entry.log.now parts.new.step.steps k event first.now left.old left.new book.old.entries book.new.entries) }
+    ensures asked { IfOk result (IsVerdictShown about.entry.net.now about.entry.log.now parts.new.step.steps k event first.now left.old left.new book.old.entries book.new.entries) }
 {
     about.net.is_built();
     about.log.is_whole();
@@ -127,7 +127,7 @@ fn assume<R: Fn(u32) -> u64>(
     requires fault { is_fault parts.old.step.net event ≡ true }
     requires room { parts.old.vars ≤ 1000000000 }
     ensures ready { AreReadyForVerdicts R.pre R.post parts.new book.new.entries }
-    ensures goes_on { GoesOn 1 parts.old parts.new }
+    ensures goes_on { KeepsStepsAndLog 1 parts.old parts.new }
     ensures axioms { AddsAxioms book.old.entries book.new.entries }
     ensures assumed { IfOk result (λ assumed. AreAssumedOf R.pre R.post parts.new book.new.entries k event there assumed.items) }
 {

@@ -1,7 +1,7 @@
 // Literals about an event: that it happens in no step, or in some.
 ghost use Rattle.std.specs.Prelude.{◌≡◌, ◌+◌, ◌*◌, ◌<◌, ◌≤◌, ◌++◌, true, length, IfOk, OnOk};
 ghost use Rattle.des_net.specs.Network.{is_fault};
-ghost use Rattle.fault_verdicts.specs.Judging.{GoesOn, HasMade, event_signed};
+ghost use Rattle.fault_verdicts.specs.Judging.{KeepsStepsAndLog, HasMade, event_signed};
 ghost use Rattle.fault_verdicts.specs.Ready.{AreReadyForVerdicts};
 ghost use Rattle.least_faults.specs.Growing.{AddsAxioms};
 
@@ -40,7 +40,7 @@ pub fn in_some_step<R: Fn(u32) -> u64>(
     requires fault { is_fault parts.old.step.net event ≡ true }
     requires room { parts.old.vars ≤ 1000000000 }
     ensures ready { AreReadyForVerdicts R.pre R.post parts.new book.new.entries }
-    ensures goes_on { GoesOn 1 parts.old parts.new }
+    ensures goes_on { KeepsStepsAndLog 1 parts.old parts.new }
     ensures axioms { AddsAxioms book.old.entries book.new.entries }
     ensures made { IfOk result (HasMade R.pre R.post parts.new book.new.entries event) }
 {

@@ -12,7 +12,7 @@ use Rattle.des_base.specs.Names.{place_of}
 use Rattle.log_order.specs.Adding.{alarm_refusal, with_alarm, before_refusal, with_pair, names_of}
 use Rattle.log_order.specs.declared.TheConstants.{MOST_ALARMS, MOST_PAIRS}
 use Rattle.log_order.specs.Log.{Log, has_pair, reaches, closes_cycle, a_log, an_alarm}
-use Rattle.gen_plant.specs.Plant.{most_units, units, number_of, number_after, trips, tripping, trip_label, alarm_name, alarm_of, in_a_row, plant_log}
+use Rattle.gen_plant.specs.Plant.{most_units, units, sequence_number, number_after, trips, tripping, trip_label, alarm_name, trip_alarm, in_a_row, plant_log}
 use Rattle.gen_plant.specs.Stages.{with_tripped, AwaitsAlarm}
 use Rattle.gen_plant.proofs.Lists.{units_more, units_below, each_filtered, absent_map}
 use Rattle.gen_plant.proofs.NameLemmas.{other_numeral}
@@ -91,7 +91,7 @@ pub first_added : (old log : Log) (unit : ℕ) (name label : List ℕ) → name 
     → log ≡ with_alarm old name (label ∷ []) false → log ≡ with_tripped old unit
 first_added old log unit name label called labelled none in_row is =
     let pairs : old.pairs ≡ in_a_row (length old.alarms + 1) = in_row ∙ ap in_a_row (sym none) ∙ ap (λ n. in_a_row (n + 1)) none in
-    named_alarm old log unit name label called labelled is ∙ ap (λ ps. (a_log (old.alarms ++ alarm_of unit ∷ []) ps)) pairs
+    named_alarm old log unit name label called labelled is ∙ ap (λ ps. (a_log (old.alarms ++ trip_alarm unit ∷ []) ps)) pairs
 
 pub next_added : (old log new : Log) (unit first second : ℕ) (name label : List ℕ) → name ≡ alarm_name unit → label ≡ trip_label unit → second ≡ length old.alarms → first + 1 ≡ second
     → old.pairs ≡ in_a_row (length old.alarms) → log ≡ with_alarm old name (label ∷ []) false → new ≡ record log { pairs = with_pair log.pairs first second } → new ≡ with_tripped old unit
@@ -99,19 +99,19 @@ next_added old log new unit first second name label called labelled at next in_r
     let before : log.pairs ≡ row first = ap (λ (l : Log). l.pairs) is ∙ in_row ∙ row_of first (length old.alarms) (omega arith) in
     let pairs : with_pair log.pairs first second ≡ in_a_row (length old.alarms + 1) =
     ap (λ ps. with_pair ps first second) before ∙ ap (with_pair (row first) first) (sym next) ∙ row_more first ∙ sym (row_of (first + 1) (length old.alarms + 1) (omega arith)) in
-    let alarms : log.alarms ≡ old.alarms ++ alarm_of unit ∷ [] = ap (λ (l : Log). l.alarms) (named_alarm old log unit name label called labelled is) in
+    let alarms : log.alarms ≡ old.alarms ++ trip_alarm unit ∷ [] = ap (λ (l : Log). l.alarms) (named_alarm old log unit name label called labelled is) in
     is_new ∙ (λ i. (a_log (alarms i) (pairs i)))
 
 -- ---- one more unit
 
-names_are : (xs : List ℕ) → names_of (map alarm_of xs) ≡ map alarm_name xs
+names_are : (xs : List ℕ) → names_of (map trip_alarm xs) ≡ map alarm_name xs
 names_are [] = refl
 names_are (x ∷ xs) = ap (λ ns. alarm_name x ∷ ns) (names_are xs)
 
 filter_count : (p : ℕ → Bool) (xs : List ℕ) → length (filter p xs) ≤ length xs
 filter_count p xs = omega (arith, length-filter_both p (λ x. not (p x)) (λ x. refl) xs)
 
-length_mapped : (xs : List ℕ) → length (map alarm_of xs) ≡ length xs
+length_mapped : (xs : List ℕ) → length (map trip_alarm xs) ≡ length xs
 length_mapped [] = refl
 length_mapped (x ∷ xs) = ap suc (length_mapped xs)
 
@@ -127,26 +127,26 @@ awaits_alarm start done few =
       row = ap in_a_row (sym (length_mapped (tripping done start)));
     }
 
-map_push : (xs : List ℕ) (x : ℕ) → map alarm_of (xs ++ x ∷ []) ≡ map alarm_of xs ++ alarm_of x ∷ []
+map_push : (xs : List ℕ) (x : ℕ) → map trip_alarm (xs ++ x ∷ []) ≡ map trip_alarm xs ++ trip_alarm x ∷ []
 map_push [] x = refl
-map_push (y ∷ xs) x = ap (λ alarms. alarm_of y ∷ alarms) (map_push xs x)
+map_push (y ∷ xs) x = ap (λ alarms. trip_alarm y ∷ alarms) (map_push xs x)
 
 abbrev log_of : List ℕ → Log
-log_of xs = a_log (map alarm_of xs) (in_a_row (length xs))
+log_of xs = a_log (map trip_alarm xs) (in_a_row (length xs))
 
 log_more : (b : Bool) (xs : List ℕ) (x : ℕ) → log_of (xs ++ cond b (x ∷ []) []) ≡ cond b (with_tripped (log_of xs) x) (log_of xs)
 log_more true xs x =
-    let count : length (xs ++ x ∷ []) ≡ length (map alarm_of xs) + 1 = omega (arith, length-append xs (x ∷ []), length_mapped xs) in
+    let count : length (xs ++ x ∷ []) ≡ length (map trip_alarm xs) + 1 = omega (arith, length-append xs (x ∷ []), length_mapped xs) in
     λ i. (a_log (map_push xs x i) (ap in_a_row count i))
 log_more false xs x = ap log_of (append-nil xs)
 
 tripping_more : (start done : ℕ) → tripping (done + 1) start ≡ tripping done start ++ cond (trips start (done + 1)) ((done + 1) ∷ []) []
 tripping_more start done = ap (filter (trips start)) (units_more done) ∙ filter-append (trips start) (units done) ((done + 1) ∷ [])
 
-pub number_next : (start done number next : ℕ) → number ≡ number_of start done → next ≡ number_after number → next ≡ number_of start (done + 1)
-number_next start done number next is is_next = is_next ∙ ap number_after is ∙ ap (number_of start) (sym (add-one done))
+pub number_next : (start done number next : ℕ) → number ≡ sequence_number start done → next ≡ number_after number → next ≡ sequence_number start (done + 1)
+number_next start done number next is is_next = is_next ∙ ap number_after is ∙ ap (sequence_number start) (sym (add-one done))
 
-pub unit_logged : (start done number : ℕ) (old new : Log) → old ≡ plant_log done start → number ≡ number_of start (done + 1)
+pub unit_logged : (start done number : ℕ) (old new : Log) → old ≡ plant_log done start → number ≡ sequence_number start (done + 1)
     → new ≡ (if number % 4 == 0 then with_tripped old (done + 1) else old) → new ≡ plant_log (done + 1) start
 unit_logged start done number old new is is_number is_new =
     is_new ∙ ap (λ x. cond (x % 4 == 0) (with_tripped old (done + 1)) old) is_number

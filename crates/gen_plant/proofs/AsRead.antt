@@ -6,7 +6,7 @@ use Rattle.std.proofs.lemmas.List.Elements.{All-nil, All-cons, All-append}
 use Rattle.des_base.proofs.BoolLemmas.{join}
 use Rattle.des_base.specs.Names.{is_name_byte, is_name_text}
 use Rattle.des_net.specs.Network.{Net}
-use Rattle.des_net.specs.Models.{takes, seen, fails}
+use Rattle.des_net.specs.Models.{takes, seen, unseen_fault}
 use Rattle.model_text.specs.ReadBack.{HasNamedLabel, IsAsRead, IsInOrder}
 use Rattle.gen_plant.specs.Plant.{most_units, units, bus_component, unit_component, events_of, fix_label, plant_net, trip_label}
 use Rattle.gen_plant.specs.Stages.{is_front}
@@ -34,7 +34,7 @@ fix_front = refl
 -- the labels of one unit's events
 unit_named : (i : ℕ) → i < 1000 → All HasNamedLabel (events_of i)
 unit_named i h =
-    let jam = fails (takes i 0 ∷ []) in
+    let jam = unseen_fault (takes i 0 ∷ []) in
     let trip = seen (trip_label i) (takes i 1 ∷ takes 0 0 ∷ []) in
     let fix = seen (fix_label i) (takes i 2 ∷ []) in
     All-cons HasNamedLabel jam (trip ∷ fix ∷ []) refl

@@ -2,12 +2,12 @@
 use Rattle.std.proofs.Common.{◌≡◌, ℕ, true, false, List, [], ◌∷◌, refl}
 use Rattle.std.specs.Prelude.{codes, map}
 use Rattle.std.specs.Fmt.{digits}
-use Rattle.des_net.specs.Models.{moves, takes, seen, fails}
+use Rattle.des_net.specs.Models.{moves, takes, seen, unseen_fault}
 use Rattle.log_order.specs.Log.{Alarm, a_log, an_alarm}
-use Rattle.gen_plant.specs.Plant.{number_of, tripping, units, plant_net, plant_log}
+use Rattle.gen_plant.specs.Plant.{sequence_number, tripping, units, plant_net, plant_log}
 
 -- the first numbers of start 7
-pub numbers_of_seven : map (number_of 7) (units 40)
+pub numbers_of_seven : map (sequence_number 7) (units 40)
     ≡ 38 ∷ 96 ∷ 95 ∷ 90 ∷ 65 ∷ 37 ∷ 91 ∷ 70 ∷ 62 ∷ 22 ∷ 16 ∷ 83 ∷ 30 ∷ 56 ∷ 89 ∷ 60 ∷ 12 ∷ 63 ∷ 27 ∷ 41 ∷ 14 ∷ 73 ∷ 77 ∷ 0 ∷ 3 ∷ 18 ∷ 93 ∷ 80 ∷ 15 ∷ 78 ∷ 5 ∷ 28 ∷ 46 ∷ 39 ∷ 4 ∷ 23 ∷ 21 ∷ 11 ∷ 58 ∷ 2 ∷ []
 numbers_of_seven = refl
 
@@ -29,7 +29,7 @@ pub one_unit : plant_net 1 ≡ record {
         action_names = codes "jam" ∷ codes "trip" ∷ codes "fix" ∷ [];
       } ∷ [];
   event_names = codes "jam-1" ∷ codes "trip-1" ∷ codes "fix-1" ∷ [];
-  events = fails (takes 1 0 ∷ []) ∷ seen (codes "T-1") (takes 1 1 ∷ takes 0 0 ∷ []) ∷ seen (codes "F-1") (takes 1 2 ∷ []) ∷ [];
+  events = unseen_fault (takes 1 0 ∷ []) ∷ seen (codes "T-1") (takes 1 1 ∷ takes 0 0 ∷ []) ∷ seen (codes "F-1") (takes 1 2 ∷ []) ∷ [];
 }
 unfolding digits
 one_unit = refl

@@ -3,7 +3,7 @@ use Rattle.std.specs.Prelude.{ℕ, zero, suc, ◌+◌, ◌-◌, ◌*◌, ◌%◌
 use Rattle.std.specs.List.{range_with_len}
 use Rattle.des_base.specs.Lists.{numbers_below}
 use Rattle.des_net.specs.Network.{Component, Event, Net}
-use Rattle.des_net.specs.Models.{moves, takes, seen, fails}
+use Rattle.des_net.specs.Models.{moves, takes, seen, unseen_fault}
 use Rattle.log_order.specs.Log.{Alarm, Log, a_log, an_alarm}
 
 -- how many units a plant may have
@@ -21,13 +21,13 @@ abbrev pub number_after : ℕ → ℕ
 number_after x = (5 * x + 3) % 97
 
 -- number i of the sequence that begins with the start's rest by 97, counted from 0; unit i has number i
-abbrev pub number_of : ℕ → ℕ → ℕ
-number_of start zero = start % 97
-number_of start (suc i) = number_after (number_of start i)
+abbrev pub sequence_number : ℕ → ℕ → ℕ
+sequence_number start zero = start % 97
+sequence_number start (suc i) = number_after (sequence_number start i)
 
 -- unit i trips where 4 divides number i of the sequence
 abbrev pub trips : ℕ → ℕ → Bool
-trips start i = number_of start i % 4 == 0
+trips start i = sequence_number start i % 4 == 0
 
 -- the units, of z, that trip from this start, in order
 abbrev pub tripping : ℕ → ℕ → List ℕ
@@ -78,7 +78,7 @@ fix_label i = codes "F-" ++ decimal i
 
 -- Unit i jams, which is a fault and isn't seen; it trips, which the bus notes; and it is fixed. The bus is component 0, and unit i is component i.
 abbrev pub events_of : ℕ → List Event
-events_of i = fails (takes i 0 ∷ []) ∷ seen (trip_label i) (takes i 1 ∷ takes 0 0 ∷ []) ∷ seen (fix_label i) (takes i 2 ∷ []) ∷ []
+events_of i = unseen_fault (takes i 0 ∷ []) ∷ seen (trip_label i) (takes i 1 ∷ takes 0 0 ∷ []) ∷ seen (fix_label i) (takes i 2 ∷ []) ∷ []
 
 -- the plant of z units: the bus and then the units, each with its three events
 abbrev pub plant_net : ℕ → Net
@@ -96,8 +96,8 @@ abbrev pub alarm_name : ℕ → List ℕ
 alarm_name i = codes "a" ++ decimal i
 
 -- each unit that trips has an alarm, which can stand for its trip alone
-abbrev pub alarm_of : ℕ → Alarm
-alarm_of i = an_alarm (alarm_name i) (trip_label i ∷ []) false
+abbrev pub trip_alarm : ℕ → Alarm
+trip_alarm i = an_alarm (alarm_name i) (trip_label i ∷ []) false
 
 -- of so many alarms each is before the next
 abbrev pub in_a_row : ℕ → List (ℕ × ℕ)
@@ -105,4 +105,4 @@ in_a_row count = map (λ k. (k, k + 1)) (numbers_below (count - 1))
 
 -- the log of the plant of z units from this start: an alarm for each unit that trips, each before the next
 abbrev pub plant_log : ℕ → ℕ → Log
-plant_log z start = a_log (map alarm_of (tripping z start)) (in_a_row (length (tripping z start)))
+plant_log z start = a_log (map trip_alarm (tripping z start)) (in_a_row (length (tripping z start)))

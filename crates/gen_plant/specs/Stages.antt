@@ -7,7 +7,7 @@ use Rattle.des_net.specs.Building.{with_event, event_refusal}
 use Rattle.des_net.specs.Models.{takes}
 use Rattle.log_order.specs.Adding.{names_of}
 use Rattle.log_order.specs.Log.{Log, a_log}
-use Rattle.gen_plant.specs.Plant.{most_units, units, bus_component, unit_component, unit_name, jam_name, trip_name, fix_name, event_names_of, events_of, trip_label, alarm_name, alarm_of, in_a_row}
+use Rattle.gen_plant.specs.Plant.{most_units, units, bus_component, unit_component, unit_name, jam_name, trip_name, fix_name, event_names_of, events_of, trip_label, alarm_name, trip_alarm, in_a_row}
 
 -- a word that a number of up to four digits may follow in a name
 abbrev pub is_front : List ℕ → Bool
@@ -55,7 +55,7 @@ pub record AwaitsUnit (net : Net) (unit : ℕ) : Type 0 where
 
 -- the log with the alarm of one more unit
 abbrev pub with_tripped : Log → ℕ → Log
-with_tripped log unit = a_log (log.alarms ++ alarm_of unit ∷ []) (in_a_row (length log.alarms + 1))
+with_tripped log unit = a_log (log.alarms ++ trip_alarm unit ∷ []) (in_a_row (length log.alarms + 1))
 
 -- the unit's alarm would not be refused, and those that are there stand in a row
 pub record AwaitsAlarm (log : Log) (unit : ℕ) : Type 0 where

@@ -1,10 +1,10 @@
 // The numbers that follow one another from a start.
 ghost use Rattle.std.specs.Prelude.{◌≡◌, ◌<◌};
-ghost use Rattle.gen_plant.specs.Plant.{number_of, number_after};
+ghost use Rattle.gen_plant.specs.Plant.{sequence_number, number_after};
 
 /// The number that the others follow.
 pub fn first_number(start: u64) -> u32
-    ensures first { result ≡ number_of start 0 }
+    ensures first { result ≡ sequence_number start 0 }
     ensures small { result < 97 }
 {
     (start % 97) as u32

@@ -12,7 +12,7 @@ use Rattle.least_faults.specs.Answers.{HaveLearntFresh, IsAnswered}
 use Rattle.least_faults.proofs.Staying.{built_still}
 use Rattle.least_faults.specs.Building.{AreBuilt}
 use Rattle.least_faults.specs.Growing.{AddsAxioms, HasGrownWithin, KeepsQuestion}
-use Rattle.least_faults.specs.Parts.{IsBuilt, built_of, names_of}
+use Rattle.least_faults.specs.Parts.{IsBuilt, built_of, names_of_parts}
 use Rattle.log_order.specs.Log.{Log}
 use Rattle.proof_ledger.specs.Book.{BookEntry, axiomatic, axioms_of, IsValidBook}
 use Rattle.proof_ledger.specs.Fresh.{is_learnt}
@@ -105,6 +105,6 @@ module _ {R : Type 0} (may : R → ℕ → Type 0) (gives : R → ℕ → ℕ �
   pub axioms_left : AddsAxioms old book → HasQuestion net log parts.step.steps HasAxiomsAlone book
   axioms_left adds = question_left HasAxiomsAlone (axioms_alone book (adds_both [] old book (record { axioms = question_axioms net log parts.step.steps 0; more = begun.axioms }) adds))
 
-  pub diagnosed_begun : (budget : ℕ) (found : Found) → IsValidBook book → IsAnswered (names_of later) (built_of parts old) net log later.step.steps budget old book found → IsDiagnosed net log parts.step.steps budget book found
+  pub diagnosed_begun : (budget : ℕ) (found : Found) → IsValidBook book → IsAnswered (names_of_parts later) (built_of parts old) net log later.step.steps budget old book found → IsDiagnosed net log parts.step.steps budget book found
   diagnosed_begun budget found valid answered =
-      diagnosed_by (names_of later) (built_of parts old) net log parts.step.steps later.step.steps budget later old book found first_built begun.axioms stays_built steps_stay answered valid
+      diagnosed_by (names_of_parts later) (built_of parts old) net log parts.step.steps later.step.steps budget later old book found first_built begun.axioms stays_built steps_stay answered valid

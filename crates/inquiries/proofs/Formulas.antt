@@ -17,13 +17,13 @@ use Rattle.least_faults.specs.Asking.{AreAssumed, AreAssumptions, assumed_by}
 use Rattle.least_faults.specs.Columns.{columns_for}
 use Rattle.least_faults.specs.Evidence.{IsPosed}
 use Rattle.least_faults.specs.Growing.{AddsAxioms, KeepsQuestion}
-use Rattle.least_faults.specs.Parts.{AreParts, AreReady, BelongTo, IsBuilt, built_of, names_of}
+use Rattle.least_faults.specs.Parts.{AreParts, AreReady, BelongTo, IsBuilt, built_of, names_of_parts}
 use Rattle.log_clauses.specs.LogClauses.{guard_literals}
 use Rattle.log_encode.specs.CodedLog.{CodedLog, without_names}
 use Rattle.log_order.specs.Log.{Log, IsValidLog}
 use Rattle.proof_ledger.specs.Book.{BookEntry, axiomatic, axioms_of, clauses_of}
 use Rattle.proof_text.specs.CnfText.{Formula, formula}
-use Rattle.proof_text.specs.Refutation.{units}
+use Rattle.proof_text.specs.Refutation.{unit_clauses}
 use Rattle.prop_core.specs.Clauses.{Clause, HasValues, literal_true, clause_true, AllClausesTrue, AllLiteralsTrue}
 use Rattle.prop_core.specs.VariableNames.{Name, NamedLiteral, ReadsAs, named_clause}
 use Rattle.prop_core.specs.declared.lit.Lit.{Lit}
@@ -40,7 +40,7 @@ use Rattle.inquiries.specs.Formula.{IsFormulaOf, IsSatisfiable, bound_within, co
 
 -- ---- what makes it true
 
-units_true : (value : ℕ → Bool) (assumed : List Lit) → AllLiteralsTrue value assumed → AllClausesTrue value (units assumed)
+units_true : (value : ℕ → Bool) (assumed : List Lit) → AllLiteralsTrue value assumed → AllClausesTrue value (unit_clauses assumed)
 units_true value [] h = tt
 units_true value (l ∷ assumed) h = (one (literal_true value l) h.0, units_true value assumed h.1)
   where
@@ -48,7 +48,7 @@ units_true value (l ∷ assumed) h = (one (literal_true value l) h.0, units_true
     one true is = is
     one false is = is
 
-true_units : (value : ℕ → Bool) (assumed : List Lit) → AllClausesTrue value (units assumed) → AllLiteralsTrue value assumed
+true_units : (value : ℕ → Bool) (assumed : List Lit) → AllClausesTrue value (unit_clauses assumed) → AllLiteralsTrue value assumed
 true_units value [] h = tt
 true_units value (l ∷ assumed) h = (one (literal_true value l) h.0, true_units value assumed h.1)
   where
@@ -58,31 +58,31 @@ true_units value (l ∷ assumed) h = (one (literal_true value l) h.0, true_units
 
 -- an assignment makes it true just where something explains within the bound
 pub satisfied_where_explained : (clauses : List Clause) (assumed : List Lit) (net : Net) (log : Log) (n : ℕ) (bound : Option ℕ) → IsFaithful clauses assumed net log n bound →
-    IsSatisfiable (clauses ++ units assumed) ↔ IsExplainedWithin net log n bound
+    IsSatisfiable (clauses ++ unit_clauses assumed) ↔ IsExplainedWithin net log n bound
 satisfied_where_explained clauses assumed net log n bound faithful = (sound, complete)
   where
-    sound : IsSatisfiable (clauses ++ units assumed) → IsExplainedWithin net log n bound
+    sound : IsSatisfiable (clauses ++ unit_clauses assumed) → IsExplainedWithin net log n bound
     sound (value, all) =
-        let parts = all_split (λ c. IsTrue (clause_true value c)) clauses (units assumed) all in
+        let parts = all_split (λ c. IsTrue (clause_true value c)) clauses (unit_clauses assumed) all in
         faithful.sound value (record { clauses_true = parts.0; assumed_true = true_units value assumed parts.1 })
 
-    complete : IsExplainedWithin net log n bound → IsSatisfiable (clauses ++ units assumed)
+    complete : IsExplainedWithin net log n bound → IsSatisfiable (clauses ++ unit_clauses assumed)
     complete explained =
         let found = faithful.complete explained.word explained.order explained.explains explained.within in
-        (found.0, all_append (λ c. IsTrue (clause_true found.0 c)) clauses (units assumed) found.1.clauses_true (units_true found.0 assumed found.1.assumed_true))
+        (found.0, all_append (λ c. IsTrue (clause_true found.0 c)) clauses (unit_clauses assumed) found.1.clauses_true (units_true found.0 assumed found.1.assumed_true))
 
 -- ---- its variables
 
-units_below : (vars : ℕ) (assumed : List Lit) → HasValues vars assumed → AllByRecursion (HasValues vars) (units assumed)
+units_below : (vars : ℕ) (assumed : List Lit) → HasValues vars assumed → AllByRecursion (HasValues vars) (unit_clauses assumed)
 units_below vars [] h = tt
 units_below vars (l ∷ assumed) h = (
   All-cons (λ (x : Lit). x.var < vars) l [] (All-head (λ (x : Lit). x.var < vars) l assumed h) (All-nil (λ (x : Lit). x.var < vars)),
   units_below vars assumed (All-tail (λ (x : Lit). x.var < vars) l assumed h),
 )
 
-pub clauses_below : (vars : ℕ) (clauses : List Clause) (assumed : List Lit) → AllByRecursion (HasValues vars) clauses → HasValues vars assumed → All (HasValues vars) (clauses ++ units assumed)
+pub clauses_below : (vars : ℕ) (clauses : List Clause) (assumed : List Lit) → AllByRecursion (HasValues vars) clauses → HasValues vars assumed → All (HasValues vars) (clauses ++ unit_clauses assumed)
 clauses_below vars clauses assumed below h =
-    All-from_recursion (HasValues vars) (clauses ++ units assumed) (all_append (HasValues vars) clauses (units assumed) below (units_below vars assumed h))
+    All-from_recursion (HasValues vars) (clauses ++ unit_clauses assumed) (all_append (HasValues vars) clauses (unit_clauses assumed) below (units_below vars assumed h))
 
 -- ---- what it asks
 
@@ -168,30 +168,30 @@ module _ {R : Type 0} (may : R → ℕ → Type 0) (gives : R → ℕ → ℕ �
   assumed_is : assumed ≡ question_assumed net log n bound
   assumed_is = a.assumes.listed ∙ ap (assumed_by parts.code.code parts.counter) counted_is ∙ ap (λ (q : BuiltQuestion). assumed_by q.code q.counter (bound_within net log n bound)) question_is
 
-  posed : IsPosed (names_of parts) (axioms_of book) assumed net log n bound
+  posed : IsPosed (names_of_parts parts) (axioms_of book) assumed net log n bound
   posed =
       let here = belong_still net log old parts a.keeps a.belong in
       let same = a.counts ∙ ap (λ (inputs : List Lit). if nat_eq (length inputs) 0 then None else bound) (sym a.keeps.counter.inputs) in
       let assumptions = subst (λ b. AreAssumptions parts.code.code parts.counter b assumed) same a.assumes.assumptions in
       let by_parts = posed_by parts.step parts.code.code parts.counter parts.vars (axioms_of book) a.ready.coded bound assumed log (subst IsNetwork (sym here.of_steps) a.network) a.valid here.same_log assumptions in
-      let of_net = subst (λ net'. IsPosed (names_of parts) (axioms_of book) assumed net' log parts.step.steps bound) here.of_steps by_parts in
-      subst (λ k. IsPosed (names_of parts) (axioms_of book) assumed net log k bound) (ap (λ (s : CodedSteps). s.steps) a.keeps.step ∙ a.steps) of_net
+      let of_net = subst (λ net'. IsPosed (names_of_parts parts) (axioms_of book) assumed net' log parts.step.steps bound) here.of_steps by_parts in
+      subst (λ k. IsPosed (names_of_parts parts) (axioms_of book) assumed net log k bound) (ap (λ (s : CodedSteps). s.steps) a.keeps.step ∙ a.steps) of_net
 
-  pub is_formula : (vars : ℕ) (f : Formula) → vars ≡ parts.vars → f ≡ formula vars (clauses_of book ++ units assumed) → IsFormulaOf net log n bound book f
+  pub is_formula : (vars : ℕ) (f : Formula) → vars ≡ parts.vars → f ≡ formula vars (clauses_of book ++ unit_clauses assumed) → IsFormulaOf net log n bound book f
   is_formula vars f count is = record {
     is = all;
     known = known;
     exact = exact;
     alone = axioms_alone book whole ∙ ap (λ (q : BuiltQuestion). map axiomatic q.axioms) question_is;
-    names = names_of parts;
-    posed = subst (λ (lits : List Lit). IsPosed (names_of parts) (axioms_of book) lits net log n bound) assumed_is posed;
+    names = names_of_parts parts;
+    posed = subst (λ (lits : List Lit). IsPosed (names_of_parts parts) (axioms_of book) lits net log n bound) assumed_is posed;
   }
     where
-      clauses : f ≡ formula parts.vars (axioms_of book ++ units assumed)
-      clauses = is ∙ ap (λ v. formula v (clauses_of book ++ units assumed)) count ∙ ap (λ (cs : List Clause). formula parts.vars (cs ++ units assumed)) (axioms_are_clauses book whole)
+      clauses : f ≡ formula parts.vars (axioms_of book ++ unit_clauses assumed)
+      clauses = is ∙ ap (λ v. formula v (clauses_of book ++ unit_clauses assumed)) count ∙ ap (λ (cs : List Clause). formula parts.vars (cs ++ unit_clauses assumed)) (axioms_are_clauses book whole)
 
       all : f ≡ question_formula net log n bound
-      all = clauses ∙ ap (λ (lits : List Lit). formula parts.vars (axioms_of book ++ units lits)) assumed_is ∙ ap (λ (q : BuiltQuestion). formula q.vars (q.axioms ++ units (question_assumed net log n bound))) question_is
+      all = clauses ∙ ap (λ (lits : List Lit). formula parts.vars (axioms_of book ++ unit_clauses lits)) assumed_is ∙ ap (λ (q : BuiltQuestion). formula q.vars (q.axioms ++ unit_clauses (question_assumed net log n bound))) question_is
 
       assumed_known : HasValues parts.vars assumed
       assumed_known = assumed_below parts.step parts.code.code parts.counter parts.vars (axioms_of book) (axioms_of book) assumed net log n bound a.ready.coded posed

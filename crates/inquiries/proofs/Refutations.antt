@@ -19,9 +19,9 @@ use Rattle.least_faults.specs.Answers.{IsAnswered}
 use Rattle.least_faults.specs.Asking.{AreAssumed, assumed_by, bound_part}
 use Rattle.least_faults.specs.Columns.{built_within, columns_for}
 use Rattle.least_faults.specs.Evidence.{HasLastFinal, IsEvidence, IsPosed, is_final}
-use Rattle.least_faults.specs.Parts.{AreReady, BelongTo, IsBuilt, names_of}
+use Rattle.least_faults.specs.Parts.{AreReady, BelongTo, IsBuilt, names_of_parts}
 use Rattle.log_clauses.proofs.Codes.{IsReadOf, named_entry, read_of}
-use Rattle.log_encode.specs.CodedLog.{CodedLog, code_names as log_names, read_names, without_names}
+use Rattle.log_encode.specs.CodedLog.{CodedLog, log_names, read_names, without_names}
 use Rattle.log_order.specs.Log.{Log, IsValidLog}
 use Rattle.proof_ledger.specs.Book.{BookEntry, axiomatic, final, mark, axiom_of, axioms_of, clause_of, clauses_of}
 use Rattle.proof_ledger.specs.Checking.{check_proof}
@@ -29,7 +29,7 @@ use Rattle.proof_ledger.specs.declared.checker.ProofStep.{ProofStep}
 use Rattle.proof_ledger.specs.declared.checker.Checked.TheVariants.{Verified}
 use Rattle.proof_text.proofs.Fronts.{front_ends}
 use Rattle.proof_text.proofs.Readable.{can_be_printed}
-use Rattle.proof_text.specs.Refutation.{EndsIn, front_to, refuted_formula, refutation_steps, units}
+use Rattle.proof_text.specs.Refutation.{EndsIn, front_to, refuted_formula, refutation_steps, unit_clauses}
 use Rattle.prop_core.proofs.Listed.{clause_written}
 use Rattle.prop_core.specs.Clauses.{Clause, HasValues, NegatesOnly, negation, literal_true, AllLiteralsTrue}
 use Rattle.prop_core.specs.Listings.{literal_by}
@@ -45,7 +45,7 @@ use Rattle.run_decode.specs.WholeNaming.{AreCodedTogether, whole_names}
 use Rattle.log_clauses.specs.LogClauses.{guard_literals}
 use Rattle.step_encode.specs.Coded.{CodedSteps, code_names as step_names}
 use Rattle.inquiries.specs.Formula.{bound_within, counted_bound, question_assumed, question_within}
-use Rattle.inquiries.specs.Refuted.{HasColumn, HasEvidence, HasEvidenceFor, IsLastFinal, IsRefuted}
+use Rattle.inquiries.specs.Refuted.{HasBoundColumn, HasEvidence, HasEvidenceFor, IsLastFinal, IsVerifiedRefutation}
 use Rattle.inquiries.proofs.Formulas.{posed_by}
 use Rattle.inquiries.proofs.LastFinals.{has_final, last_found}
 use Rattle.std.proofs.Math.ListN.{get_or-append}
@@ -213,7 +213,7 @@ bound_same net log n columns None less = refl
 bound_same net log n columns (Some k) less =
     ap (λ (l : Lit). l ∷ []) (literal_same net log n k (columns - (k + 1)) columns (omega (arith, less)))
 
-assumed_same : {R : Type 0} (net : Net) (log : Log) (n : ℕ) (bound : Option ℕ) (parts : Parts R) (book : List BookEntry) (assumed : List Lit) → IsBuilt net log n parts book → HasColumn parts.counter bound →
+assumed_same : {R : Type 0} (net : Net) (log : Log) (n : ℕ) (bound : Option ℕ) (parts : Parts R) (book : List BookEntry) (assumed : List Lit) → IsBuilt net log n parts book → HasBoundColumn parts.counter bound →
     assumed ≡ assumed_by parts.code.code parts.counter (counted_bound parts.counter bound) → assumed ≡ question_assumed net log n bound
 assumed_same net log n bound parts book assumed built column listed = listed ∙ ap (assumed_by parts.code.code parts.counter) counted ∙ all
   where
@@ -279,10 +279,10 @@ vars_counted net log n bound = by (nat_eq (length (question_built net log n 0).c
 module _ {R : Type 0} (may : R → ℕ → Type 0) (gives : R → ℕ → ℕ → Type 0) (net : Net) (log : Log) (parts : Parts R) (book : List BookEntry) (bound : Option ℕ) (belong : BelongTo net log parts) (ready : AreReady may gives parts book)
     (e : HasEvidence net log parts book bound) where
   abbrev names : List (ℕ × Name)
-  names = names_of parts
+  names = names_of_parts parts
 
   -- a bound that is counted has its column
-  pub has_column : HasColumn parts.counter bound
+  pub has_column : HasBoundColumn parts.counter bound
   has_column = by bound e.evidence.assumed e.evidence.posed.assumes (nat_eq (length parts.counter.inputs) 0) refl
     where
       by : (o : Option ℕ) (assumed : List Lit) → ReadsAs names assumed (assumption_literals net log parts.step.steps o) → (none : Bool) → nat_eq (length parts.counter.inputs) 0 ≡ none → IfSome (if none then None else o) (λ k. k < length parts.counter.columns)
@@ -341,7 +341,7 @@ module _ {R : Type 0} (may : R → ℕ → Type 0) (gives : R → ℕ → ℕ �
     axioms_before = filter_map-append axiom_of (map axiomatic first) (mark 0 ∷ refuted.earlier) ∙ ap (λ (cs : List Clause). cs ++ axioms_of refuted.earlier) (axioms_added [] first)
 
     pub is_refuted : (last : ℕ) (steps : List ProofStep) → IsLastFinal book last → IsBuilt net log parts.step.steps parts book → steps ≡ refutation_steps (front_to last book) assumed → check_proof (refuted_formula (front_to last book) assumed) steps ≡ Verified →
-        IsRefuted net log parts.step.steps bound book steps
+        IsVerifiedRefutation net log parts.step.steps bound book steps
     is_refuted last steps found built steps_are verified = record {
       last = last;
       ends = subst (λ (xs : List Lit). EndsIn book xs last) is (ends_in last found);
@@ -351,10 +351,10 @@ module _ {R : Type 0} (may : R → ℕ → Type 0) (gives : R → ℕ → ℕ �
           (posed_alike names (first ++ axioms_of refuted.earlier) (axioms_of book) e.evidence.assumed assumed net log parts.step.steps bound e.evidence.posed_before posed));
       listed = listed;
       steps_are = subst (λ (xs : List Lit). steps ≡ refutation_steps (front_to last book) xs) is steps_are;
-      verified = subst (λ (cs : List Clause). check_proof (cs ++ units (question_assumed net log parts.step.steps bound)) steps ≡ Verified) listed
+      verified = subst (λ (cs : List Clause). check_proof (cs ++ unit_clauses (question_assumed net log parts.step.steps bound)) steps ≡ Verified) listed
           (subst (λ (xs : List Lit). check_proof (refuted_formula (front_to last book) xs) steps ≡ Verified) is verified);
-      printable = can_be_printed most (front_to last book) (front_to last book) (length (front_to last book)) (question_assumed net log parts.step.steps bound) ((question_within net log parts.step.steps bound).axioms ++ units (question_assumed net log parts.step.steps bound)) steps
-          known (subst (HasValues most) is assumed_known) (take_whole (front_to last book)) (ap (λ (cs : List Clause). cs ++ units (question_assumed net log parts.step.steps bound)) (sym listed))
+      printable = can_be_printed most (front_to last book) (front_to last book) (length (front_to last book)) (question_assumed net log parts.step.steps bound) ((question_within net log parts.step.steps bound).axioms ++ unit_clauses (question_assumed net log parts.step.steps bound)) steps
+          known (subst (HasValues most) is assumed_known) (take_whole (front_to last book)) (ap (λ (cs : List Clause). cs ++ unit_clauses (question_assumed net log parts.step.steps bound)) (sym listed))
           (subst (λ (xs : List Lit). steps ≡ refutation_steps (front_to last book) xs) is steps_are);
     }
       where
@@ -400,17 +400,17 @@ module _ {R : Type 0} (may : R → ℕ → Type 0) (gives : R → ℕ → ℕ �
 -- ---- what was found
 
 evidence_within : {R : Type 0} (net : Net) (log : Log) (parts : Parts R) (since book : List BookEntry) (bound : Option ℕ) → book ≡ map axiomatic (question_axioms net log parts.step.steps 0) ++ mark 0 ∷ since ++ mark 1 ∷ [] →
-    IsEvidence (names_of parts) (question_built net log parts.step.steps 0) since net log parts.step.steps bound → HasEvidence net log parts book bound
+    IsEvidence (names_of_parts parts) (question_built net log parts.step.steps 0) since net log parts.step.steps bound → HasEvidence net log parts book bound
 evidence_within net log parts since book bound whole evidence = record { since = since; whole = whole; evidence = evidence }
 
 -- the book has evidence for the bound that it refutes
 pub evidence_for : {R : Type 0} (net : Net) (log : Log) (n : ℕ) (parts : Parts R) (budget : ℕ) (begun : BuiltQuestion) (old book : List BookEntry) (found : Found) → parts.step.steps ≡ n → begun ≡ question_built net log n 0 →
-    old ≡ map axiomatic (question_axioms net log n 0) → IsAnswered (names_of parts) begun net log parts.step.steps budget old book found → HasEvidenceFor net log parts book found
+    old ≡ map axiomatic (question_axioms net log n 0) → IsAnswered (names_of_parts parts) begun net log parts.step.steps budget old book found → HasEvidenceFor net log parts book found
 evidence_for net log n parts budget begun old book found steps is_first is_old answered =
-    by found (subst (λ (q : BuiltQuestion). IsAnswered (names_of parts) q net log parts.step.steps budget (map axiomatic (question_axioms net log parts.step.steps 0)) book found) (is_first ∙ ap (λ k. question_built net log k 0) (sym steps))
-    (subst (λ (o : List BookEntry). IsAnswered (names_of parts) begun net log parts.step.steps budget o book found) (is_old ∙ ap (λ k. map axiomatic (question_axioms net log k 0)) (sym steps)) answered))
+    by found (subst (λ (q : BuiltQuestion). IsAnswered (names_of_parts parts) q net log parts.step.steps budget (map axiomatic (question_axioms net log parts.step.steps 0)) book found) (is_first ∙ ap (λ k. question_built net log k 0) (sym steps))
+    (subst (λ (o : List BookEntry). IsAnswered (names_of_parts parts) begun net log parts.step.steps budget o book found) (is_old ∙ ap (λ k. map axiomatic (question_axioms net log k 0)) (sym steps)) answered))
   where
-    by : (f : Found) → IsAnswered (names_of parts) (question_built net log parts.step.steps 0) net log parts.step.steps budget (map axiomatic (question_axioms net log parts.step.steps 0)) book f → HasEvidenceFor net log parts book f
+    by : (f : Found) → IsAnswered (names_of_parts parts) (question_built net log parts.step.steps 0) net log parts.step.steps budget (map axiomatic (question_axioms net log parts.step.steps 0)) book f → HasEvidenceFor net log parts book f
     by (Explained best) a = (a.found.few, λ k is. evidence_within net log parts a.since book (Some k) a.whole (a.found.evidence k is))
     by Absent a = evidence_within net log parts a.since book None a.whole a.found.evidence
     by (Many best) a = evidence_within net log parts a.since book (Some 255) a.whole a.found.evidence

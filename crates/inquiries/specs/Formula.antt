@@ -8,7 +8,7 @@ use Rattle.least_faults.specs.Evidence.{IsPosed}
 use Rattle.log_order.specs.Log.{Log}
 use Rattle.proof_ledger.specs.Book.{BookEntry, axiomatic, axioms_of}
 use Rattle.proof_text.specs.CnfText.{Formula, formula}
-use Rattle.proof_text.specs.Refutation.{units}
+use Rattle.proof_text.specs.Refutation.{unit_clauses}
 use Rattle.prop_core.specs.Clauses.{Clause, HasValues, AllClausesTrue}
 use Rattle.prop_core.specs.VariableNames.{Name}
 use Rattle.prop_core.specs.declared.lit.Lit.{Lit}
@@ -35,7 +35,7 @@ question_assumed net log n bound = assumed_by (question_within net log n bound).
 
 -- the axioms of the question in their order, and then a unit clause for each assumption
 abbrev pub question_formula : Net → Log → ℕ → Option ℕ → Formula
-question_formula net log n bound = formula (question_within net log n bound).vars ((question_within net log n bound).axioms ++ units (question_assumed net log n bound))
+question_formula net log n bound = formula (question_within net log n bound).vars ((question_within net log n bound).axioms ++ unit_clauses (question_assumed net log n bound))
 
 -- ---- what it says
 

@@ -7,7 +7,7 @@ use Rattle.least_faults.specs.declared.answer.Found.{Found}
 use Rattle.least_faults.specs.declared.answer.Found.TheVariants.{Explained, Absent, Many, Undecided}
 use Rattle.least_faults.specs.declared.parts.Parts.{Parts}
 use Rattle.least_faults.specs.Evidence.{IsPosed, IsEvidence, is_final}
-use Rattle.least_faults.specs.Parts.{names_of}
+use Rattle.least_faults.specs.Parts.{names_of_parts}
 use Rattle.log_order.specs.Log.{Log}
 use Rattle.proof_ledger.specs.Book.{BookEntry, axiomatic, final, mark, axioms_of, clauses_of}
 use Rattle.proof_ledger.specs.Checking.{check_proof}
@@ -25,7 +25,7 @@ use Rattle.inquiries.specs.Formula.{counted_bound, question_assumed, question_fo
 
 -- The steps are the refutation that the book holds up to a final clause, of negations of what the question assumes within the bound. With this the axioms
 -- before that clause pose the question within the bound. They are, in their order, those of the formula of the question within the bound, and of that formula the steps are verified. Both can be printed.
-pub record IsRefuted (net : Net) (log : Log) (n : ℕ) (bound : Option ℕ) (book : List BookEntry) (steps : List ProofStep) : Type 0 where
+pub record IsVerifiedRefutation (net : Net) (log : Log) (n : ℕ) (bound : Option ℕ) (book : List BookEntry) (steps : List ProofStep) : Type 0 where
   pub last : ℕ
   pub ends : EndsIn book (question_assumed net log n bound) last
   pub names : List (ℕ × Name)
@@ -40,7 +40,7 @@ pub record IsRefuted (net : Net) (log : Log) (n : ℕ) (bound : Option ℕ) (boo
 -- the answer is the refutation within the bound, whose steps can be printed
 pub record IsRefutedWithin (net : Net) (log : Log) (n : ℕ) (bound : Option ℕ) (book : List BookEntry) (answer : Refuted) : Type 0 where
   pub steps : List ProofStep
-  pub refuted : IsRefuted net log n bound book steps
+  pub refuted : IsVerifiedRefutation net log n bound book steps
   pub ascend : NumbersAscend 0 steps
   pub above : All HasNoZero steps
   pub is : answer ≡ Within bound steps
@@ -76,14 +76,14 @@ pub record IsLastFinal (book : List BookEntry) (last : ℕ) : Type 0 where
   pub numbered : last ≡ length (clauses_of before) + 1
 
 -- the counter has the column for the bound, where there is a fault to count
-abbrev pub HasColumn : CounterState → Option ℕ → Type 0
-HasColumn counter bound = IfSome (counted_bound counter bound) (λ k. k < length counter.columns)
+abbrev pub HasBoundColumn : CounterState → Option ℕ → Type 0
+HasBoundColumn counter bound = IfSome (counted_bound counter bound) (λ k. k < length counter.columns)
 
 -- behind the axioms of the question without columns the book has evidence for the bound, between two marks
 pub record HasEvidence {R : Type 0} (net : Net) (log : Log) (parts : Parts R) (book : List BookEntry) (bound : Option ℕ) : Type 0 where
   pub since : List BookEntry
   pub whole : book ≡ map axiomatic (question_axioms net log parts.step.steps 0) ++ mark 0 ∷ since ++ mark 1 ∷ []
-  pub evidence : IsEvidence (names_of parts) (question_built net log parts.step.steps 0) since net log parts.step.steps bound
+  pub evidence : IsEvidence (names_of_parts parts) (question_built net log parts.step.steps 0) since net log parts.step.steps bound
 
 -- for the bound that what was found refutes: one less than the least number, none where nothing explains, and 255 where more are needed
 abbrev pub HasEvidenceFor : {R : Type 0} → Net → Log → Parts R → List BookEntry → Found → Type 0

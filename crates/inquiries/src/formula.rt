@@ -5,7 +5,7 @@ ghost use Rattle.inquiries.specs.Formula.{IsFormulaOf, counted_bound};
 ghost use Rattle.least_faults.specs.Asking.{IsBoundable};
 ghost use Rattle.proof_ledger.specs.Book.{clauses_of};
 ghost use Rattle.proof_text.specs.CnfText.{formula};
-ghost use Rattle.proof_text.specs.Refutation.{units};
+ghost use Rattle.proof_text.specs.Refutation.{unit_clauses};
 
 use crate::question::{Case, Inquiry};
 use card_counter::Counter;
@@ -58,7 +58,7 @@ pub fn counted(counter: &Counter, bound: Option<u8>) -> Option<u32>
 
 // The clauses of the book, and then a unit clause for each assumption.
 fn formula_under(alloc: Global, book: &Ledger, vars: u32, assumed: &[Lit]) -> Result<Cnf, Memory>
-    ensures { IfOk result (λ cnf. formula cnf.vars cnf.clauses.clauses ≡ formula vars (clauses_of book.now.entries ++ units assumed.now)) }
+    ensures { IfOk result (λ cnf. formula cnf.vars cnf.clauses.clauses ≡ formula vars (clauses_of book.now.entries ++ unit_clauses assumed.now)) }
 {
     let mut clauses = Clauses::new(alloc);
     clauses.append(book.clauses())?;

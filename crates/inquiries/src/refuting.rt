@@ -2,7 +2,7 @@
 ghost use Rattle.std.specs.Prelude.{◌≡◌, true, All, IfOk};
 ghost use Rattle.std.specs.List.{list_any};
 ghost use Rattle.inquiries.specs.Formula.{counted_bound};
-ghost use Rattle.inquiries.specs.Refuted.{HasColumn, HasEvidence, IsLastFinal, IsRefuted};
+ghost use Rattle.inquiries.specs.Refuted.{HasBoundColumn, HasEvidence, IsLastFinal, IsVerifiedRefutation};
 ghost use Rattle.least_faults.specs.Asking.{AreAssumed};
 ghost use Rattle.least_faults.specs.Evidence.{is_final};
 ghost use Rattle.proof_text.specs.ProofNumbers.{NumbersAscend, HasNoZero};
@@ -29,7 +29,7 @@ pub fn refuting_proof<R: Fn(u32) -> u64>(
     requires ready { AreReady R.pre R.post parts.now book.now.entries }
     requires built { IsBuilt case.now.net case.now.log parts.now.step.steps parts.now book.now.entries }
     requires evidence { HasEvidence case.now.net case.now.log parts.now book.now.entries bound }
-    ensures refuted { IfOk result (λ proof. IsRefuted case.now.net case.now.log parts.now.step.steps bound book.now.entries proof) }
+    ensures refuted { IfOk result (λ proof. IsVerifiedRefutation case.now.net case.now.log parts.now.step.steps bound book.now.entries proof) }
     ensures ascend { IfOk result (λ proof. NumbersAscend 0 proof) }
     ensures above { IfOk result (λ proof. All HasNoZero proof) }
 {
@@ -46,7 +46,7 @@ fn assumed_within<R: Fn(u32) -> u64>(
     parts: &Parts<R>,
     bound: Option<u8>,
 ) -> Result<Vec<Lit>, Memory>
-    requires { HasColumn parts.now.counter bound }
+    requires { HasBoundColumn parts.now.counter bound }
     ensures { IfOk result (λ assumed. AreAssumed parts.now.counter parts.now (counted_bound parts.now.counter bound) assumed.items) }
 {
     let mut assumed = Vec::new(alloc);

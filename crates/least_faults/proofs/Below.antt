@@ -10,7 +10,7 @@ use Rattle.least_faults.specs.Parts.{AreParts, HaveRoom}
 use Rattle.log_clauses.proofs.Codes.{read_of, named_entry}
 use Rattle.log_clauses.proofs.Lists.{all_at}
 use Rattle.log_encode.proofs.CodeLemmas.{asked_below}
-use Rattle.log_encode.specs.CodedLog.{CodedLog, code_names as log_names, read_names}
+use Rattle.log_encode.specs.CodedLog.{CodedLog, log_names, read_names}
 use Rattle.prop_core.specs.Clauses.{Clause, HasValues}
 use Rattle.prop_core.specs.NamedClauses.{IsCode}
 use Rattle.prop_core.specs.VariableNames.{Name, NamedLiteral, name_of, named_literal, named_clause, ReadsAs}

@@ -5,7 +5,7 @@ use Rattle.des_base.proofs.Elements.{all_at as at_each, all_append, cons_cases, 
 use Rattle.prop_core.proofs.Entailed.{derived_clauses_are_true}
 use Rattle.prop_core.specs.Clauses.{Clause, clause_true, AllClausesTrue}
 use Rattle.prop_core.specs.Derivation.{clause_numbered}
-use Rattle.proof_ledger.specs.Book.{BookEntry, axiomatic, learnt, final, mark, clause_of, clauses_of, axioms_of, EachAfter, IsDerived, IsValidBook}
+use Rattle.proof_ledger.specs.Book.{BookEntry, axiomatic, learnt, final, mark, clause_of, clauses_of, axioms_of, EachAfter, IsDerivedIfDue, IsValidBook}
 use Rattle.run_decode.specs.Decided.{Entails}
 use Rattle.std.specs.List.{cons_option}
 
@@ -22,7 +22,7 @@ numbered_true value clauses all number given e = by (number == 0) e
     by false is = one_of value clauses all (number - 1) given is
 
 -- one entry more, whose clause is true
-more_true : (value : ℕ → Bool) (earlier : List BookEntry) (e : BookEntry) → IsDerived earlier e → AllClausesTrue value (clauses_of earlier) → AllClausesTrue value (axioms_of (e ∷ [])) → AllClausesTrue value (clauses_of (e ∷ []))
+more_true : (value : ℕ → Bool) (earlier : List BookEntry) (e : BookEntry) → IsDerivedIfDue earlier e → AllClausesTrue value (clauses_of earlier) → AllClausesTrue value (axioms_of (e ∷ [])) → AllClausesTrue value (clauses_of (e ∷ []))
 more_true value earlier (axiomatic clause) derived all axioms = axioms
 more_true value earlier (learnt clause hints) derived all axioms = (derived_clauses_are_true (clause_numbered (clauses_of earlier)) clause hints derived value (numbered_true value (clauses_of earlier) all), tt)
 more_true value earlier (final clause hints) derived all axioms = (derived_clauses_are_true (clause_numbered (clauses_of earlier)) clause hints derived value (numbered_true value (clauses_of earlier) all), tt)
@@ -34,7 +34,7 @@ first_axioms value (learnt clause hints) book all = (tt, all)
 first_axioms value (final clause hints) book all = (tt, all)
 first_axioms value (mark number) book all = (tt, all)
 
-all_true : (value : ℕ → Bool) (earlier book : List BookEntry) → EachAfter IsDerived earlier book → AllClausesTrue value (clauses_of earlier) → AllClausesTrue value (axioms_of book) → AllClausesTrue value (clauses_of (earlier ++ book))
+all_true : (value : ℕ → Bool) (earlier book : List BookEntry) → EachAfter IsDerivedIfDue earlier book → AllClausesTrue value (clauses_of earlier) → AllClausesTrue value (axioms_of book) → AllClausesTrue value (clauses_of (earlier ++ book))
 all_true value earlier [] each all axioms = subst (λ b. AllClausesTrue value (clauses_of b)) (sym (append-nil earlier)) all
 all_true value earlier (e ∷ book) each all axioms =
     let parts = first_axioms value e book axioms in

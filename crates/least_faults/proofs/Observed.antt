@@ -11,7 +11,7 @@ use Rattle.des_base.proofs.NumbersBelow.{sum_numbers_more}
 use Rattle.des_base.specs.Lists.{numbers_below}
 use Rattle.des_net.specs.declared.parts.Part.{Part}
 use Rattle.des_net.specs.Network.{Net, IsNetwork, IsEvent, IsPart, has_part, parts_of, touches, event_at, no_event, label_of}
-use Rattle.des_net.specs.QuestionSize.{component_sizes, observable_count, state_number, touching_count}
+use Rattle.des_net.specs.QuestionSize.{component_sizes, observable_count, component_state_count, touching_count}
 use Rattle.run_clauses.proofs.Lists.{in_numbers}
 use Rattle.run_decode.proofs.SmallPieces.{first_of, first_there, first_known}
 
@@ -89,7 +89,7 @@ module _ (net : Net) (network : IsNetwork net) where
   unfolding touching bit
   few_observable =
       let seen = few_seen (length net.events) (omega arith) in
-      let squares = sum_le (touching_count net) (λ c. (state_number net c + touching_count net c) ^ 2) (numbers_below (length net.components)) (λ c. within_square (state_number net c) (touching_count net c)) in
+      let squares = sum_le (touching_count net) (λ c. (component_state_count net c + touching_count net c) ^ 2) (numbers_below (length net.components)) (λ c. within_square (component_state_count net c) (touching_count net c)) in
       omega (arith, seen, squares)
     where
       square : (m : ℕ) → m ^ 2 ≡ m * m

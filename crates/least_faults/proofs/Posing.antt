@@ -4,7 +4,7 @@ use Rattle.card_counter.specs.CounterState.{CounterState}
 use Rattle.des_base.proofs.Elements.{all_from as all_of}
 use Rattle.least_faults.specs.Asking.{AreAssumptions, Pose, bound_part}
 use Rattle.least_faults.specs.Evidence.{IsPosed}
-use Rattle.least_faults.specs.Parts.{AreParts, AreReady, BelongTo, names_of}
+use Rattle.least_faults.specs.Parts.{AreParts, AreReady, BelongTo, names_of_parts}
 use Rattle.des_net.specs.Network.{Net, IsNetwork}
 use Rattle.log_clauses.proofs.Lists.{all_at}
 use Rattle.log_encode.specs.CodedLog.{CodedLog, read_names, without_names}
@@ -67,13 +67,13 @@ poses steps code counter vars axioms bound assumed parts assumptions = clauses_p
 
 -- with its guards the parts ask a question without a bound
 pub unbounded : {R : Type 0} (may : R → ℕ → Type 0) (gives : R → ℕ → ℕ → Type 0) (parts : Parts R) (book : List BookEntry) (net : Net) (log : Log) (guards : List Lit) → AreReady may gives parts book → BelongTo net log parts → IsNetwork net → IsValidLog log →
-    ReadsAs (read_names parts.code.code) guards (guard_literals parts.code.code.net parts.code.code.log) → IsPosed (names_of parts) (axioms_of book) guards net log parts.step.steps None
+    ReadsAs (read_names parts.code.code) guards (guard_literals parts.code.code.net parts.code.code.log) → IsPosed (names_of_parts parts) (axioms_of book) guards net log parts.step.steps None
 unbounded may gives parts book net log guards ready belong network valid read =
-    subst (λ net'. IsPosed (names_of parts) (axioms_of book) guards net' log parts.step.steps None) belong.of_steps
+    subst (λ net'. IsPosed (names_of_parts parts) (axioms_of book) guards net' log parts.step.steps None) belong.of_steps
     (poses parts.step parts.code.code parts.counter parts.vars (axioms_of book) None guards ready.coded (record { guards = guards; read = read; whole = sym (append-nil guards); column = tt })
     log (subst IsNetwork (sym belong.of_steps) network) valid belong.same_log)
 
 -- they have no more names than network, log and n allow
-pub names_few : {R : Type 0} (may : R → ℕ → Type 0) (gives : R → ℕ → ℕ → Type 0) (parts : Parts R) (book : List BookEntry) (net : Net) (log : Log) → AreReady may gives parts book → BelongTo net log parts → length parts.counter.columns ≤ 256 → length (names_of parts) ≤ variable_bound net log parts.step.steps
+pub names_few : {R : Type 0} (may : R → ℕ → Type 0) (gives : R → ℕ → ℕ → Type 0) (parts : Parts R) (book : List BookEntry) (net : Net) (log : Log) → AreReady may gives parts book → BelongTo net log parts → length parts.counter.columns ≤ 256 → length (names_of_parts parts) ≤ variable_bound net log parts.step.steps
 names_few may gives parts book net log ready belong few =
-    subst (λ net'. length (names_of parts) ≤ variable_bound net' log parts.step.steps) belong.of_steps (together_are_few parts.step parts.code.code parts.counter log ready.coded.together belong.same_log few)
+    subst (λ net'. length (names_of_parts parts) ≤ variable_bound net' log parts.step.steps) belong.of_steps (together_are_few parts.step parts.code.code parts.counter log ready.coded.together belong.same_log few)

@@ -12,7 +12,7 @@ use Rattle.proof_ledger.specs.Book.{BookEntry, axiomatic, learnt, final, mark, c
 use Rattle.proof_ledger.specs.Fresh.{is_learnt}
 use Rattle.prop_core.specs.Clauses.{Clause, HasValues}
 use Rattle.prop_core.specs.declared.lit.Lit.{Lit}
-use Rattle.sat_solve.specs.Searching.{is_derived, IsClosedByFinal}
+use Rattle.sat_solve.specs.Searching.{is_learnt_or_final, IsClosedByFinal}
 use Rattle.des_net.specs.Network.{Net}
 use Rattle.log_order.specs.Log.{Log}
 use Rattle.run_decode.specs.Faithful.{IsFaithful}
@@ -34,21 +34,21 @@ none_final (c ∷ clauses) = none_final clauses
 
 -- ---- derived entries
 
-pub derived_unmarked : (number : ℕ) (since : List BookEntry) → list_all is_derived since ≡ true → count_by (is_mark number) since ≡ 0
+pub derived_unmarked : (number : ℕ) (since : List BookEntry) → list_all is_learnt_or_final since ≡ true → count_by (is_mark number) since ≡ 0
 derived_unmarked number [] h = refl
 derived_unmarked number (axiomatic c ∷ since) h = cc
 derived_unmarked number (learnt c hints ∷ since) h = derived_unmarked number since h
 derived_unmarked number (final c hints ∷ since) h = derived_unmarked number since h
 derived_unmarked number (mark k ∷ since) h = cc
 
-pub derived_no_axioms : (since : List BookEntry) → list_all is_derived since ≡ true → axioms_of since ≡ []
+pub derived_no_axioms : (since : List BookEntry) → list_all is_learnt_or_final since ≡ true → axioms_of since ≡ []
 derived_no_axioms [] h = refl
 derived_no_axioms (axiomatic c ∷ since) h = cc
 derived_no_axioms (learnt c hints ∷ since) h = derived_no_axioms since h
 derived_no_axioms (final c hints ∷ since) h = derived_no_axioms since h
 derived_no_axioms (mark k ∷ since) h = cc
 
-pub same_axioms : (old since : List BookEntry) → list_all is_derived since ≡ true → axioms_of (old ++ since) ≡ axioms_of old
+pub same_axioms : (old since : List BookEntry) → list_all is_learnt_or_final since ≡ true → axioms_of (old ++ since) ≡ axioms_of old
 same_axioms old since h = filter_map-append axiom_of old since ∙ ap (λ more. axioms_of old ++ more) (derived_no_axioms since h) ∙ append-nil (axioms_of old)
 
 pub learnt_no_axioms : (since : List BookEntry) → list_all is_learnt since ≡ true → axioms_of since ≡ []

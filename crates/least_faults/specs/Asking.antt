@@ -107,10 +107,10 @@ pub record IsStopped (code : CodedLog) (counter : CounterState) (bound : Option 
   pub clashes : Clashes (clauses_of book) assumed
 
 -- what an answer means: an explanation is found, the question is refuted, or the budget is spent
-abbrev pub Means : CodedLog → CounterState → Net → Log → ℕ → Option ℕ → BuiltQuestion → List BookEntry → List BookEntry → ℕ → Asked → Type 0
-Means code counter net log n bound first since book budget (Explained best) = IsWitness counter net log n bound best
-Means code counter net log n bound first since book budget Refuted = IsRefusal code counter net log n bound first since
-Means code counter net log n bound first since book budget Spent = IsStopped code counter bound book budget
+abbrev pub IsTrueAnswer : CodedLog → CounterState → Net → Log → ℕ → Option ℕ → BuiltQuestion → List BookEntry → List BookEntry → ℕ → Asked → Type 0
+IsTrueAnswer code counter net log n bound first since book budget (Explained best) = IsWitness counter net log n bound best
+IsTrueAnswer code counter net log n bound first since book budget Refuted = IsRefusal code counter net log n bound first since
+IsTrueAnswer code counter net log n bound first since book budget Spent = IsStopped code counter bound book budget
 
 -- What a question to the solver left, where it was built so first: the counter has got the columns that the bound needs, and all clauses of the book are over the variables of the question with them
 pub record HasAskedBy (code : CodedLog) (counter : CounterState) (first : BuiltQuestion) (net : Net) (log : Log) (n : ℕ) (bound : Option ℕ) (old new : List BookEntry) (budget_old budget_new : ℕ) (asked : Asked) : Type 0 where
@@ -122,7 +122,7 @@ pub record HasAskedBy (code : CodedLog) (counter : CounterState) (first : BuiltQ
   pub columns : length counter.columns ≡ max (length first.counter.columns) (columns_for bound)
   pub known : AllByRecursion (HasValues (built_within first bound).vars) (clauses_of new)
   pub put : ArePut code counter bound since asked
-  pub means : Means code counter net log n bound first since new budget_new asked
+  pub means : IsTrueAnswer code counter net log n bound first since new budget_new asked
 
 -- the same of the parts of a question
 abbrev pub HasAsked : {R : Type 0} → Parts R → BuiltQuestion → Net → Log → Option ℕ → List BookEntry → List BookEntry → ℕ → ℕ → Asked → Type 0

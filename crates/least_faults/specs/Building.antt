@@ -26,7 +26,7 @@ pub record IsHandedBack {R : Type 0} (may : R → ℕ → Type 0) (gives : R →
   pub rank : new.order.rank ≡ old.order.rank
 
 -- these are the axioms of the book, whose clauses the solver has adopted; it has the variables, and ranks by what ranked before
-pub record HasAdopted {R : Type 0} (may : R → ℕ → Type 0) (gives : R → ℕ → ℕ → Type 0) (axioms : List Clause) (vars : ℕ) (old new : SolverState R) (book : List BookEntry) : Type 0 where
+pub record HasAdoptedBook {R : Type 0} (may : R → ℕ → Type 0) (gives : R → ℕ → ℕ → Type 0) (axioms : List Clause) (vars : ℕ) (old new : SolverState R) (book : List BookEntry) : Type 0 where
   pub axioms_are : axioms_of book ≡ axioms
   pub adopted_all : new.adopted ≡ clauses_of book
   pub enough : vars ≤ new.vars

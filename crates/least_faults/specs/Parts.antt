@@ -73,5 +73,5 @@ pub record IsBuilt {R : Type 0} (net : Net) (log : Log) (n : ℕ) (parts : Parts
   pub determined : built_of parts book ≡ question_built net log n (length parts.counter.columns)
 
 -- the names of all variables
-abbrev pub names_of : {R : Type 0} → Parts R → List (ℕ × Name)
-names_of parts = whole_names parts.step parts.code.code parts.counter
+abbrev pub names_of_parts : {R : Type 0} → Parts R → List (ℕ × Name)
+names_of_parts parts = whole_names parts.step parts.code.code parts.counter

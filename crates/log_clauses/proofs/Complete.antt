@@ -15,9 +15,9 @@ use Rattle.log_clauses.proofs.Lists.{clash, filter_has, filter_from, all_at, pai
 use Rattle.log_clauses.proofs.Pieces.{IsStepSet, AreFrom, piece_is, pieces_are_steps}
 use Rattle.log_clauses.proofs.Rules.{or_false_is, shown_matches, shown_event, in_chain, has_event}
 use Rattle.log_clauses.proofs.Entries.{real_in, real_once, entry_in, real_has, real_from, one_entry, dropped_has, dropped_from, has_false}
-use Rattle.log_clauses.specs.Coded.{stands, coded}
+use Rattle.log_clauses.specs.Coded.{alarm_stands_for, coded_truth}
 use Rattle.log_clauses.specs.LogClauses.{chain, LogClause, log_clause, IsLogClause, chain_closed, takes_rest, uses_up, passes_on, taken_or_passed, not_done_first, stays_done, match_is_done, matched_once, match_is_real, done_by_match, one_match, done_if_asked, before_if_asked, matching_events, match_inputs}
-use Rattle.log_clauses.specs.Decoded.{is_false}
+use Rattle.log_clauses.specs.Decoded.{is_false_alarm}
 use Rattle.log_clauses.specs.LogLaws.{HasFalse, LogIsComplete}
 use Rattle.log_clauses.specs.LogTruth.{LogClausesHold, GuardsHold, DifferInLog}
 use Rattle.log_order.specs.Log.{Log, is_doubtful, place_in}
@@ -64,7 +64,7 @@ module _ (net : Net) (log : Log) (value : Name → Bool) (pieces : List (List �
     (once : EachPair (λ i j. i ≢ j) (joined (map alarms_of (before ∷ blocks)))) (each : (i : ℕ) → i < length log.alarms → Contains (joined (map alarms_of (before ∷ blocks))) i)
     (kept : (i j : ℕ) → Contains log.pairs (i, j) → place_in (joined (map alarms_of (before ∷ blocks))) i < place_in (joined (map alarms_of (before ∷ blocks))) j) where
   abbrev truth : Name → Bool
-  truth = coded net log pieces (before ∷ blocks) value
+  truth = coded_truth net log pieces (before ∷ blocks) value
 
   abbrev steps : List (List ℕ)
   steps = map alarms_of (before ∷ blocks)
@@ -87,20 +87,20 @@ module _ (net : Net) (log : Log) (value : Name → Bool) (pieces : List (List �
   shown_once : (t : ℕ) → t < length pieces → EachPair (λ e f. e ≢ f) (seen t)
   shown_once t h = pairs_filter (λ e f. e ≢ f) (λ e. is_some (label_of net e)) (get_or pieces t []) (piece t h).once
 
-  stands_match : (i e t : ℕ) → t < length pieces → stands net pieces (before ∷ blocks) i e (suc t) ≡ true → is_matching net log e i ≡ true
+  stands_match : (i e t : ℕ) → t < length pieces → alarm_stands_for net pieces (before ∷ blocks) i e (suc t) ≡ true → is_matching net log e i ≡ true
   stands_match i e t h is = shown_matches net log e i (paired (Shows net log) e i (seen t) (reals t) (zipped t h) is).0
 
-  stands_happens : (i e t : ℕ) → t < length pieces → stands net pieces (before ∷ blocks) i e (suc t) ≡ true → value (happens e (suc t)) ≡ true
+  stands_happens : (i e t : ℕ) → t < length pieces → alarm_stands_for net pieces (before ∷ blocks) i e (suc t) ≡ true → value (happens e (suc t)) ≡ true
   stands_happens i e t h is =
       let inside = (paired_in e i (seen t) (reals t) is).0 in
       (((piece t h).exact e).0 (filter_from (λ f. is_some (label_of net f)) (get_or pieces t []) e inside).1).1
 
-  someone : (e t : ℕ) → t < length pieces → is_some (label_of net e) ≡ true → value (happens e (suc t)) ≡ true → (i : ℕ) × (stands net pieces (before ∷ blocks) i e (suc t) ≡ true)
+  someone : (e t : ℕ) → t < length pieces → is_some (label_of net e) ≡ true → value (happens e (suc t)) ≡ true → (i : ℕ) × (alarm_stands_for net pieces (before ∷ blocks) i e (suc t) ≡ true)
   someone e t h shown is =
       partner (Shows net log) e (seen t) (reals t) (zipped t h) (filter_has (λ f. is_some (label_of net f)) (get_or pieces t []) e shown (((piece t h).exact e).1 (shown_event net e shown, is)))
 
   -- no alarm before place k of the chain stands for the event
-  rest_value : (e k t : ℕ) → coded net log pieces (before ∷ blocks) value (remaining e k t) ≡ value (happens e t) && not (list_any (λ i. stands net pieces (before ∷ blocks) i e t) (take k (chain net log e)))
+  rest_value : (e k t : ℕ) → coded_truth net log pieces (before ∷ blocks) value (remaining e k t) ≡ value (happens e t) && not (list_any (λ i. alarm_stands_for net pieces (before ∷ blocks) i e t) (take k (chain net log e)))
   rest_value e zero t = and_not_false (value (happens e t))
     where
       and_not_false : (b : Bool) → b ≡ b && true
@@ -108,20 +108,20 @@ module _ (net : Net) (log : Log) (value : Name → Bool) (pieces : List (List �
       and_not_false false = refl
   rest_value e (suc k) t = refl
 
-  rest_from : (e k t : ℕ) → coded net log pieces (before ∷ blocks) value (remaining e k t) ≡ true → (value (happens e t) ≡ true) × ((i : ℕ) → Contains (take k (chain net log e)) i → stands net pieces (before ∷ blocks) i e t ≡ true → ⊥)
+  rest_from : (e k t : ℕ) → coded_truth net log pieces (before ∷ blocks) value (remaining e k t) ≡ true → (value (happens e t) ≡ true) × ((i : ℕ) → Contains (take k (chain net log e)) i → alarm_stands_for net pieces (before ∷ blocks) i e t ≡ true → ⊥)
   rest_from e k t h =
-      let parts = both (value (happens e t)) (not (list_any (λ i. stands net pieces (before ∷ blocks) i e t) (take k (chain net log e)))) (sym (rest_value e k t) ∙ h) in
-      (parts.0, λ i in' is. contra (list_any (λ j. stands net pieces (before ∷ blocks) j e t) (take k (chain net log e))) (has_any (λ j. stands net pieces (before ∷ blocks) j e t) (take k (chain net log e)) i in' is) parts.1)
+      let parts = both (value (happens e t)) (not (list_any (λ i. alarm_stands_for net pieces (before ∷ blocks) i e t) (take k (chain net log e)))) (sym (rest_value e k t) ∙ h) in
+      (parts.0, λ i in' is. contra (list_any (λ j. alarm_stands_for net pieces (before ∷ blocks) j e t) (take k (chain net log e))) (has_any (λ j. alarm_stands_for net pieces (before ∷ blocks) j e t) (take k (chain net log e)) i in' is) parts.1)
     where
       contra : (b : Bool) → b ≡ true → not b ≡ true → ⊥
       contra true x y = cc
       contra false x y = cc
 
-  rest_to : (e k t : ℕ) → value (happens e t) ≡ true → ((i : ℕ) → Contains (take k (chain net log e)) i → stands net pieces (before ∷ blocks) i e t ≡ true → ⊥) → coded net log pieces (before ∷ blocks) value (remaining e k t) ≡ true
+  rest_to : (e k t : ℕ) → value (happens e t) ≡ true → ((i : ℕ) → Contains (take k (chain net log e)) i → alarm_stands_for net pieces (before ∷ blocks) i e t ≡ true → ⊥) → coded_truth net log pieces (before ∷ blocks) value (remaining e k t) ≡ true
   rest_to e k t is none =
-      rest_value e k t ∙ join (value (happens e t)) (not (list_any (λ i. stands net pieces (before ∷ blocks) i e t) (take k (chain net log e)))) is
-      (ap not (otherwise (list_any (λ i. stands net pieces (before ∷ blocks) i e t) (take k (chain net log e)))
-      (λ h. let found' = any_has (λ i. stands net pieces (before ∷ blocks) i e t) (take k (chain net log e)) h in none found'.0 found'.1 found'.2)))
+      rest_value e k t ∙ join (value (happens e t)) (not (list_any (λ i. alarm_stands_for net pieces (before ∷ blocks) i e t) (take k (chain net log e)))) is
+      (ap not (otherwise (list_any (λ i. alarm_stands_for net pieces (before ∷ blocks) i e t) (take k (chain net log e)))
+      (λ h. let found' = any_has (λ i. alarm_stands_for net pieces (before ∷ blocks) i e t) (take k (chain net log e)) h in none found'.0 found'.1 found'.2)))
 
   done_to : (i t : ℕ) → Contains (joined (take (suc t) steps)) i → truth (done i t) ≡ true
   done_to i t in' = found i (joined (take (suc t) steps)) in'
@@ -145,7 +145,7 @@ module _ (net : Net) (log : Log) (value : Name → Bool) (pieces : List (List �
   all_once = subst (λ xs. EachPair (λ i j. i ≢ j) xs) (sym (joined_alarms (before ∷ blocks))) once
 
   -- an entry tells whether its alarm is false
-  told : (entry : Entry) → Contains (flat_map (λ block. block) (before ∷ blocks)) entry → entry.real ≡ not (is_false log truth entry.alarm)
+  told : (entry : Entry) → Contains (flat_map (λ block. block) (before ∷ blocks)) entry → entry.real ≡ not (is_false_alarm log truth entry.alarm)
   told entry in' = by entry.real refl (doubted entry in') (is_doubtful log entry.alarm) refl
     where
       by : (b : Bool) → entry.real ≡ b → entry.real || is_doubtful log entry.alarm ≡ true → (d : Bool) → is_doubtful log entry.alarm ≡ d → entry.real ≡ not (is_doubtful log entry.alarm && truth (dropped entry.alarm))
@@ -159,26 +159,26 @@ module _ (net : Net) (log : Log) (value : Name → Bool) (pieces : List (List �
       by false e may true f = rw (e, f) (sym (ap not (dropped_has (flat_map (λ block. block) (before ∷ blocks)) entry in' e)))
       by false e may false f = let bad = rw (e, f) at may in cc
 
-  false_by : (entry : Entry) → Contains (flat_map (λ block. block) (before ∷ blocks)) entry → entry.real ≡ false → is_false log truth entry.alarm ≡ true
-  false_by entry in' e = flip (is_false log truth entry.alarm) (sym (told entry in') ∙ e)
+  false_by : (entry : Entry) → Contains (flat_map (λ block. block) (before ∷ blocks)) entry → entry.real ≡ false → is_false_alarm log truth entry.alarm ≡ true
+  false_by entry in' e = flip (is_false_alarm log truth entry.alarm) (sym (told entry in') ∙ e)
     where
       flip : (b : Bool) → not b ≡ false → b ≡ true
       flip true k = refl
       flip false k = cc
 
-  first_false : (i : ℕ) → Contains (joined (take 1 steps)) i → is_false log truth i ≡ true
+  first_false : (i : ℕ) → Contains (joined (take 1 steps)) i → is_false_alarm log truth i ≡ true
   first_false i in' = by (Contains-append_cases (alarms_of before) [] i in')
     where
-      by : Contains (alarms_of before) i ⊎ Contains [] i → is_false log truth i ≡ true
+      by : Contains (alarms_of before) i ⊎ Contains [] i → is_false_alarm log truth i ≡ true
       by (inr rest) = absurd (none_in_nil i rest)
       by (inl here) =
           let found' = entry_in before i here in
-          subst (λ j. is_false log truth j ≡ true) found'.2
+          subst (λ j. is_false_alarm log truth j ≡ true) found'.2
           (false_by found'.0 (Contains-append_left before (flat_map (λ block. block) blocks) found'.0 found'.1)
           (otherwise found'.0.real (λ h. none_in_nil found'.0.alarm (subst (λ xs. Contains xs found'.0.alarm) none (real_has before found'.0 found'.1 h)))))
 
   -- an alarm that stands for an event isn't false
-  stands_real : (i e t : ℕ) → stands net pieces (before ∷ blocks) i e (suc t) ≡ true → truth (dropped i) ≡ true → ⊥
+  stands_real : (i e t : ℕ) → alarm_stands_for net pieces (before ∷ blocks) i e (suc t) ≡ true → truth (dropped i) ≡ true → ⊥
   stands_real i e t is h =
       let here = real_from (get_or blocks t []) i (paired_in e i (seen t) (reals t) is).1 in
       let twin = dropped_from (flat_map (λ block. block) (before ∷ blocks)) i h in
@@ -187,22 +187,22 @@ module _ (net : Net) (log : Log) (value : Name → Bool) (pieces : List (List �
 
   -- an alarm of a block is false, or stands for an event
   block_split : (i t : ℕ) → t < length pieces → Contains (alarms_of (get_or blocks t [])) i →
-      (is_false log truth i ≡ true) ⊎ ((e : ℕ) × (is_matching net log e i ≡ true) × (stands net pieces (before ∷ blocks) i e (suc t) ≡ true))
+      (is_false_alarm log truth i ≡ true) ⊎ ((e : ℕ) × (is_matching net log e i ≡ true) × (alarm_stands_for net pieces (before ∷ blocks) i e (suc t) ≡ true))
   block_split i t h in' = let found' = entry_in (get_or blocks t []) i in' in by found'.0 found'.1 found'.2 found'.0.real refl
     where
       by : (entry : Entry) → Contains (get_or blocks t []) entry → entry.alarm ≡ i → (b : Bool) → entry.real ≡ b →
-          (is_false log truth i ≡ true) ⊎ ((e : ℕ) × (is_matching net log e i ≡ true) × (stands net pieces (before ∷ blocks) i e (suc t) ≡ true))
+          (is_false_alarm log truth i ≡ true) ⊎ ((e : ℕ) × (is_matching net log e i ≡ true) × (alarm_stands_for net pieces (before ∷ blocks) i e (suc t) ≡ true))
       by entry here is true e =
           let event = partner_back (Shows net log) i (seen t) (reals t) (zipped t h) (subst (λ j. Contains (reals t) j) is (real_has (get_or blocks t []) entry here e)) in
           inr (event.0, stands_match i event.0 t h event.1, event.1)
-      by entry here is false e = inl (subst (λ j. is_false log truth j ≡ true) is (false_by entry (Contains-append_right before (flat_map (λ block. block) blocks) entry (block_has blocks t entry here)) e))
+      by entry here is false e = inl (subst (λ j. is_false_alarm log truth j ≡ true) is (false_by entry (Contains-append_right before (flat_map (λ block. block) blocks) entry (block_has blocks t entry here)) e))
 
   -- a front of the chain over its matches
-  any_of_matches : (i t : ℕ) (es : List ℕ) (k : ℕ) → list_any truth (take k (map (λ e. matches i e (suc t)) es)) ≡ list_any (λ e. stands net pieces (before ∷ blocks) i e (suc t)) (take k es)
+  any_of_matches : (i t : ℕ) (es : List ℕ) (k : ℕ) → list_any truth (take k (map (λ e. matches i e (suc t)) es)) ≡ list_any (λ e. alarm_stands_for net pieces (before ∷ blocks) i e (suc t)) (take k es)
   any_of_matches i t [] zero = refl
   any_of_matches i t [] (suc k) = refl
   any_of_matches i t (e ∷ es) zero = refl
-  any_of_matches i t (e ∷ es) (suc k) = ap (λ b. stands net pieces (before ∷ blocks) i e (suc t) || b) (any_of_matches i t es k)
+  any_of_matches i t (e ∷ es) (suc k) = ap (λ b. alarm_stands_for net pieces (before ∷ blocks) i e (suc t) || b) (any_of_matches i t es k)
 
   -- an alarm stands for one event of a step
   one_of_matches : (i t : ℕ) → AtMostOneOf truth (match_inputs net log i (suc t))
@@ -213,70 +213,70 @@ module _ (net : Net) (log : Log) (value : Name → Bool) (pieces : List (List �
       (pairs_filter (λ e f. e ≢ f) (λ e. is_matching net log e i) (numbers_below (length net.events)) (range_once 0 (length net.events))) less first.1 second.1
       (same_event first.0 second.0 i (seen t) (reals t) (reals_once t) (ap truth first.2 ∙ here) (ap truth second.2 ∙ there))
 
-  clause_true : (which : LogClause) → IsLogClause net log (length pieces) which → named_clause_true (coded net log pieces (before ∷ blocks) value) (log_clause net log (length pieces) which) ≡ true
+  clause_true : (which : LogClause) → IsLogClause net log (length pieces) which → named_clause_true (coded_truth net log pieces (before ∷ blocks) value) (log_clause net log (length pieces) which) ≡ true
   clause_true (chain_closed e k t) h =
-      two_negations (k == length (chain net log e)) (coded net log pieces (before ∷ blocks) value (remaining e k (suc t))) (λ shut is.
+      two_negations (k == length (chain net log e)) (coded_truth net log pieces (before ∷ blocks) value (remaining e k (suc t))) (λ shut is.
       let step : t < length pieces = h.2 in
       let open' = rest_from e k (suc t) is in
       let found' = someone e t step h.0 open'.0 in
       let all : take k (chain net log e) ≡ chain net log e = (let same = eqb-true k (length (chain net log e)) shut in take_all k (chain net log e) (omega (arith, same))) in
       open'.1 found'.0 (subst (λ xs. Contains xs found'.0) (sym all) (in_chain net log e found'.0 (stands_match found'.0 e t step found'.1))) found'.1)
   clause_true (takes_rest i e k t) h =
-      implies (stands net pieces (before ∷ blocks) i e (suc t)) (coded net log pieces (before ∷ blocks) value (remaining e k (suc t))) (λ is.
+      implies (alarm_stands_for net pieces (before ∷ blocks) i e (suc t)) (coded_truth net log pieces (before ∷ blocks) value (remaining e k (suc t))) (λ is.
       let step : t < length pieces = h.1 in
       rest_to e k (suc t) (stands_happens i e t step is) (λ j in' other.
       let same = same_alarm e j i (seen t) (reals t) (shown_once t step) other is in
       take_not (chain net log e) k i (chain_once net log e) h.0 (subst (λ x. Contains (take k (chain net log e)) x) same in')))
   clause_true (uses_up i e k t) h =
-      two_negations (stands net pieces (before ∷ blocks) i e (suc t)) (coded net log pieces (before ∷ blocks) value (remaining e (suc k) (suc t))) (λ is rest.
+      two_negations (alarm_stands_for net pieces (before ∷ blocks) i e (suc t)) (coded_truth net log pieces (before ∷ blocks) value (remaining e (suc k) (suc t))) (λ is rest.
       (rest_from e (suc k) (suc t) rest).1 i (take_has (chain net log e) k (suc k) i h.0 (omega arith)) is)
   clause_true (passes_on e k t) h =
-      implies (coded net log pieces (before ∷ blocks) value (remaining e (suc k) (suc t))) (coded net log pieces (before ∷ blocks) value (remaining e k (suc t))) (λ rest.
+      implies (coded_truth net log pieces (before ∷ blocks) value (remaining e (suc k) (suc t))) (coded_truth net log pieces (before ∷ blocks) value (remaining e k (suc t))) (λ rest.
       let open' = rest_from e (suc k) (suc t) rest in
       rest_to e k (suc t) open'.0 (λ i in' is. open'.1 i (take_grows (chain net log e) k i in') is))
   clause_true (taken_or_passed i e k t) h =
-      c_one_of (coded net log pieces (before ∷ blocks) value (remaining e k (suc t))) (stands net pieces (before ∷ blocks) i e (suc t)) (coded net log pieces (before ∷ blocks) value (remaining e (suc k) (suc t))) (λ rest.
-      let open' = rest_from e k (suc t) rest in by (stands net pieces (before ∷ blocks) i e (suc t)) refl open'.0 open'.1)
+      c_one_of (coded_truth net log pieces (before ∷ blocks) value (remaining e k (suc t))) (alarm_stands_for net pieces (before ∷ blocks) i e (suc t)) (coded_truth net log pieces (before ∷ blocks) value (remaining e (suc k) (suc t))) (λ rest.
+      let open' = rest_from e k (suc t) rest in by (alarm_stands_for net pieces (before ∷ blocks) i e (suc t)) refl open'.0 open'.1)
     where
-      by : (b : Bool) → stands net pieces (before ∷ blocks) i e (suc t) ≡ b → value (happens e (suc t)) ≡ true → ((j : ℕ) → Contains (take k (chain net log e)) j → stands net pieces (before ∷ blocks) j e (suc t) ≡ true → ⊥) →
-          (stands net pieces (before ∷ blocks) i e (suc t) ≡ true) ⊎ (coded net log pieces (before ∷ blocks) value (remaining e (suc k) (suc t)) ≡ true)
+      by : (b : Bool) → alarm_stands_for net pieces (before ∷ blocks) i e (suc t) ≡ b → value (happens e (suc t)) ≡ true → ((j : ℕ) → Contains (take k (chain net log e)) j → alarm_stands_for net pieces (before ∷ blocks) j e (suc t) ≡ true → ⊥) →
+          (alarm_stands_for net pieces (before ∷ blocks) i e (suc t) ≡ true) ⊎ (coded_truth net log pieces (before ∷ blocks) value (remaining e (suc k) (suc t)) ≡ true)
       by true is there none = inl is
       by false is there none = inr (rest_to e (suc k) (suc t) there (λ j in' other. at j other (take_last (chain net log e) k j i h.0 in')))
         where
-          at : (j : ℕ) → stands net pieces (before ∷ blocks) j e (suc t) ≡ true → Contains (take k (chain net log e)) j ⊎ (i ≡ j) → ⊥
+          at : (j : ℕ) → alarm_stands_for net pieces (before ∷ blocks) j e (suc t) ≡ true → Contains (take k (chain net log e)) j ⊎ (i ≡ j) → ⊥
           at j other (inl early) = none j early other
-          at j other (inr same) = clash (stands net pieces (before ∷ blocks) j e (suc t)) other (subst (λ x. stands net pieces (before ∷ blocks) x e (suc t) ≡ false) same is)
+          at j other (inr same) = clash (alarm_stands_for net pieces (before ∷ blocks) j e (suc t)) other (subst (λ x. alarm_stands_for net pieces (before ∷ blocks) x e (suc t) ≡ false) same is)
   clause_true (not_done_first i) h =
       subst (λ b. not (truth (done i 0)) || b ≡ true) (sym (or_false_is log truth i []))
-      (implies (truth (done i 0)) (is_false log truth i) (λ is. first_false i (done_from i 0 is)))
+      (implies (truth (done i 0)) (is_false_alarm log truth i) (λ is. first_false i (done_from i 0 is)))
   clause_true (stays_done i t) h =
       implies (truth (done i t)) (truth (done i (suc t))) (λ is.
       done_to i (suc t) (subst (λ xs. Contains xs i) (sym (next t h.1)) (Contains-append_left (joined (take (suc t) steps)) (alarms_of (get_or blocks t [])) i (done_from i t is))))
   clause_true (match_is_done i e t) h =
-      implies (stands net pieces (before ∷ blocks) i e (suc t)) (truth (done i (suc t))) (λ is.
+      implies (alarm_stands_for net pieces (before ∷ blocks) i e (suc t)) (truth (done i (suc t))) (λ is.
       done_to i (suc t) (subst (λ xs. Contains xs i) (sym (next t h.1)) (Contains-append_right (joined (take (suc t) steps)) (alarms_of (get_or blocks t [])) i
       (real_in (get_or blocks t []) i (paired_in e i (seen t) (reals t) is).1))))
   clause_true (matched_once i e t) h =
-      two_negations (stands net pieces (before ∷ blocks) i e (suc t)) (truth (done i t)) (λ is earlier.
+      two_negations (alarm_stands_for net pieces (before ∷ blocks) i e (suc t)) (truth (done i t)) (λ is earlier.
       apart_append (joined (take (suc t) steps)) (alarms_of (get_or blocks t [])) i (subst (λ xs. EachPair (λ a b. a ≢ b) xs) (next t h.1) (front_once (suc t))) (done_from i t earlier)
       (real_in (get_or blocks t []) i (paired_in e i (seen t) (reals t) is).1))
   clause_true (match_is_real i e t) h =
-      two_negations (stands net pieces (before ∷ blocks) i e (suc t)) (truth (dropped i)) (λ is other. stands_real i e t is other)
+      two_negations (alarm_stands_for net pieces (before ∷ blocks) i e (suc t)) (truth (dropped i)) (λ is other. stands_real i e t is other)
   clause_true (done_by_match i t) h =
       subst (λ b. not (truth (done i (suc t))) || (truth (done i t) || b) ≡ true) (sym (or_false_is log truth i (map (λ e. yes (matches i e (suc t))) (matching_events net log i))))
-      (c_either (truth (done i (suc t))) (truth (done i t)) (is_false log truth i || list_any (named_true truth) (map (λ e. yes (matches i e (suc t))) (matching_events net log i))) (λ is.
+      (c_either (truth (done i (suc t))) (truth (done i t)) (is_false_alarm log truth i || list_any (named_true truth) (map (λ e. yes (matches i e (suc t))) (matching_events net log i))) (λ is.
       by (Contains-append_cases (joined (take (suc t) steps)) (alarms_of (get_or blocks t [])) i (subst (λ xs. Contains xs i) (next t h.1) (done_from i (suc t) is)))))
     where
       by : Contains (joined (take (suc t) steps)) i ⊎ Contains (alarms_of (get_or blocks t [])) i →
-          (truth (done i t) ≡ true) ⊎ (is_false log truth i || list_any (named_true truth) (map (λ e. yes (matches i e (suc t))) (matching_events net log i)) ≡ true)
+          (truth (done i t) ≡ true) ⊎ (is_false_alarm log truth i || list_any (named_true truth) (map (λ e. yes (matches i e (suc t))) (matching_events net log i)) ≡ true)
       by (inl early) = inl (done_to i t early)
       by (inr now) = inr (at (block_split i t h.1 now))
         where
-          at : (is_false log truth i ≡ true) ⊎ ((e : ℕ) × (is_matching net log e i ≡ true) × (stands net pieces (before ∷ blocks) i e (suc t) ≡ true)) →
-              is_false log truth i || list_any (named_true truth) (map (λ e. yes (matches i e (suc t))) (matching_events net log i)) ≡ true
-          at (inl false') = or_left (is_false log truth i) (list_any (named_true truth) (map (λ e. yes (matches i e (suc t))) (matching_events net log i))) false'
+          at : (is_false_alarm log truth i ≡ true) ⊎ ((e : ℕ) × (is_matching net log e i ≡ true) × (alarm_stands_for net pieces (before ∷ blocks) i e (suc t) ≡ true)) →
+              is_false_alarm log truth i || list_any (named_true truth) (map (λ e. yes (matches i e (suc t))) (matching_events net log i)) ≡ true
+          at (inl false') = or_left (is_false_alarm log truth i) (list_any (named_true truth) (map (λ e. yes (matches i e (suc t))) (matching_events net log i))) false'
           at (inr (e, matching, is)) =
-              or_right (is_false log truth i) (list_any (named_true truth) (map (λ f. yes (matches i f (suc t))) (matching_events net log i)))
+              or_right (is_false_alarm log truth i) (list_any (named_true truth) (map (λ f. yes (matches i f (suc t))) (matching_events net log i)))
               (mapped truth (λ f. matches i f (suc t)) (matching_events net log i) e (has_event net log e i matching) is)
   clause_true (one_match i t which) h =
       chains_hold truth (of_matches i (suc t)) (match_inputs net log i (suc t)) (λ k. sym (any_of_matches i t (matching_events net log i) k)) (one_of_matches i t) which h.2
@@ -290,14 +290,14 @@ module _ (net : Net) (log : Log) (value : Name → Bool) (pieces : List (List �
       let inside = place_inside (joined (take (suc t) steps)) (joined (drop (suc t) steps)) j (done_from j t is) in
       done_to i t (inside_place (joined (take (suc t) steps)) (joined (drop (suc t) steps)) i (omega (arith, less, inside))))
 
-  guards_true : GuardsHold net log (coded net log pieces (before ∷ blocks) value)
+  guards_true : GuardsHold net log (coded_truth net log pieces (before ∷ blocks) value)
   guards_true = (refl, shut (filter (λ e. is_some (label_of net e)) (numbers_below (length net.events))))
     where
-      shut : (es : List ℕ) → AllByRecursion (λ m. IsTrue (named_true (coded net log pieces (before ∷ blocks) value) m)) (map (λ e. yes (closed e (length (chain net log e)))) es)
+      shut : (es : List ℕ) → AllByRecursion (λ m. IsTrue (named_true (coded_truth net log pieces (before ∷ blocks) value) m)) (map (λ e. yes (closed e (length (chain net log e)))) es)
       shut [] = tt
       shut (e ∷ es) = (eq-eqb (length (chain net log e)) (length (chain net log e)) refl, shut es)
 
-differs : (net : Net) (log : Log) (pieces : List (List ℕ)) (blocks : List (List Entry)) (given : Name → Bool) → DifferInLog given (coded net log pieces blocks given)
+differs : (net : Net) (log : Log) (pieces : List (List ℕ)) (blocks : List (List Entry)) (given : Name → Bool) → DifferInLog given (coded_truth net log pieces blocks given)
 differs net log pieces blocks given (in_state c q t) h = refl
 differs net log pieces blocks given (happens e t) h = refl
 differs net log pieces blocks given asked h = cc
@@ -322,12 +322,12 @@ complete_from net log given pieces order are linear =
     λ i j in'. subst (λ xs. place_in xs i < place_in xs j) same (all_at (λ (p : ℕ × ℕ). place_in (alarms_of order) p.0 < place_in (alarms_of order) p.1) log.pairs linear.kept (i, j) in') in
     let doubted : (entry : Entry) → Contains (flat_map (λ block. block) (cut.before ∷ cut.blocks)) entry → may_stand log entry ≡ true =
     λ entry in'. all_at (λ e. may_stand log e ≡ true) order linear.doubted entry (subst (λ xs. Contains xs entry) (sym cut.whole) in') in (
-      coded net log pieces (cut.before ∷ cut.blocks) given,
+      coded_truth net log pieces (cut.before ∷ cut.blocks) given,
       differs net log pieces (cut.before ∷ cut.blocks) given,
       clause_true net log given pieces are cut.before cut.blocks cut.none cut.matched doubted once each kept,
       guards_true net log given pieces are cut.before cut.blocks cut.none cut.matched doubted once each kept,
-      has_false log (coded net log pieces (cut.before ∷ cut.blocks) given) order linear.complete
-          (all_from (λ entry. entry.real ≡ not (is_false log (coded net log pieces (cut.before ∷ cut.blocks) given) entry.alarm)) order
+      has_false log (coded_truth net log pieces (cut.before ∷ cut.blocks) given) order linear.complete
+          (all_from (λ entry. entry.real ≡ not (is_false_alarm log (coded_truth net log pieces (cut.before ∷ cut.blocks) given) entry.alarm)) order
           (λ entry in'. told net log given pieces are cut.before cut.blocks cut.none cut.matched doubted once each kept entry (subst (λ xs. Contains xs entry) cut.whole in'))),
     )
 

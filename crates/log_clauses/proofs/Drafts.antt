@@ -10,12 +10,12 @@ use Rattle.card_counter.specs.Exclusions.{IsExclusionClause, exclusion_list}
 use Rattle.des_base.proofs.Elements.{cons_cases, here_first, here_later, none_in_nil, flat_has, flat_from, map_has, map_from}
 use Rattle.des_base.specs.Lists.{numbers_below}
 use Rattle.des_net.specs.Network.{Net, label_of}
-use Rattle.des_net.specs.QuestionSize.{touching_count, fault_event_count, state_number}
+use Rattle.des_net.specs.QuestionSize.{touching_count, fault_event_count, component_state_count}
 use Rattle.log_clauses.proofs.Lists.{all_at, filter_has, filter_from}
 use Rattle.log_clauses.proofs.Rules.{has_event, event_matches, shown_event}
 use Rattle.log_clauses.proofs.Stay.{with_alarm, with_pair, range_more, matching_same, doubtful_same, doubtful_new}
 use Rattle.log_clauses.specs.Additions.{Addition, alarm_added, pair_added, with_addition, IsTaken, IsAlarmClause, IsAddedClause, IsFirstClause}
-use Rattle.log_clauses.specs.Drafts.{taken_events, link_clauses, match_clauses, done_clauses, alarm_clauses, real_clauses, added_clauses, first_clauses, DraftsAreCode, DraftsAreSmall, FirstClausesAreFew}
+use Rattle.log_clauses.specs.Drafts.{taken_events, alarm_link_clauses, match_clauses, done_clauses, alarm_clauses, real_clauses, added_clauses, first_clauses, DraftsAreCode, DraftsAreSmall, FirstClausesAreFew}
 use Rattle.log_clauses.specs.LogClauses.{chain, match_inputs, observable_events, LogClause, log_clause, chain_closed, takes_rest, uses_up, passes_on, taken_or_passed, not_done_first, stays_done, match_is_done, matched_once, match_is_real, done_by_match, one_match, done_if_asked, before_if_asked}
 use Rattle.log_order.specs.Log.{Log, Alarm, no_log, is_doubtful}
 use Rattle.prop_core.specs.Clauses.{Clause}
@@ -49,7 +49,7 @@ module _ (net : Net) (log : Log) (n : ℕ) (new : Alarm) where
   pub is_taken : (e : ℕ) → IsTaken net log new e → Contains (taken_events net log new) e
   is_taken e h = has_event net (with_alarm log new) e (length log.alarms) h
 
-  link_wanted : (e t : ℕ) → IsTaken net log new e → t < n → AllByRecursion (IsAlarmClause net log n new) (link_clauses (length log.alarms) e (length (chain net log e)) t)
+  link_wanted : (e t : ℕ) → IsTaken net log new e → t < n → AllByRecursion (IsAlarmClause net log n new) (alarm_link_clauses (length log.alarms) e (length (chain net log e)) t)
   link_wanted e t taken step = (
     (refl, taken, step),
     (
@@ -66,7 +66,7 @@ module _ (net : Net) (log : Log) (n : ℕ) (new : Alarm) where
 
   listed_wanted : (which : LogClause) → Contains (alarm_clauses net log n new) which → IsAlarmClause net log n new which
   listed_wanted which in' =
-      by (Contains-append_cases (flat_map (λ e. flat_map (link_clauses (length log.alarms) e (length (chain net log e))) (numbers_below n)) (taken_events net log new))
+      by (Contains-append_cases (flat_map (λ e. flat_map (alarm_link_clauses (length log.alarms) e (length (chain net log e))) (numbers_below n)) (taken_events net log new))
       (not_done_first (length log.alarms) ∷ done_if_asked (length log.alarms) ∷ flat_map (done_clauses (length log.alarms) (taken_events net log new)) (numbers_below n)) which in')
     where
       in_step : (t : ℕ) → t < n → Contains (done_clauses (length log.alarms) (taken_events net log new) t) which → IsAlarmClause net log n new which
@@ -92,12 +92,12 @@ module _ (net : Net) (log : Log) (n : ℕ) (new : Alarm) where
       after (inl is) = subst (IsAlarmClause net log n new) is refl
       after (inr there) = rest_of (cons_cases (done_if_asked (length log.alarms)) (flat_map (done_clauses (length log.alarms) (taken_events net log new)) (numbers_below n)) which there)
 
-      by : Contains (flat_map (λ e. flat_map (link_clauses (length log.alarms) e (length (chain net log e))) (numbers_below n)) (taken_events net log new)) which
+      by : Contains (flat_map (λ e. flat_map (alarm_link_clauses (length log.alarms) e (length (chain net log e))) (numbers_below n)) (taken_events net log new)) which
           ⊎ Contains (not_done_first (length log.alarms) ∷ done_if_asked (length log.alarms) ∷ flat_map (done_clauses (length log.alarms) (taken_events net log new)) (numbers_below n)) which → IsAlarmClause net log n new which
       by (inl there) =
-          let event = flat_from (λ e. flat_map (link_clauses (length log.alarms) e (length (chain net log e))) (numbers_below n)) (taken_events net log new) which there in
-          let step = flat_from (link_clauses (length log.alarms) event.0 (length (chain net log event.0))) (numbers_below n) which event.2 in
-          all_at (IsAlarmClause net log n new) (link_clauses (length log.alarms) event.0 (length (chain net log event.0)) step.0)
+          let event = flat_from (λ e. flat_map (alarm_link_clauses (length log.alarms) e (length (chain net log e))) (numbers_below n)) (taken_events net log new) which there in
+          let step = flat_from (alarm_link_clauses (length log.alarms) event.0 (length (chain net log event.0))) (numbers_below n) which event.2 in
+          all_at (IsAlarmClause net log n new) (alarm_link_clauses (length log.alarms) event.0 (length (chain net log event.0)) step.0)
           (link_wanted event.0 step.0 (taken_is event.0 event.1) (from_numbers n step.0 step.1)) which step.2
       by (inr there) = after (cons_cases (not_done_first (length log.alarms)) (done_if_asked (length log.alarms) ∷ flat_map (done_clauses (length log.alarms) (taken_events net log new)) (numbers_below n)) which there)
 
@@ -125,17 +125,17 @@ module _ (net : Net) (log : Log) (n : ℕ) (new : Alarm) where
       by (inr b) = real_from new.doubtful which refl b
 
   -- where a link's clause stands
-  in_links : (e t : ℕ) (which : LogClause) → IsTaken net log new e → t < n → Contains (link_clauses (length log.alarms) e (length (chain net log e)) t) which → Contains (added_clauses net log n (alarm_added new)) which
+  in_links : (e t : ℕ) (which : LogClause) → IsTaken net log new e → t < n → Contains (alarm_link_clauses (length log.alarms) e (length (chain net log e)) t) which → Contains (added_clauses net log n (alarm_added new)) which
   in_links e t which taken step there =
-      in_alarm which (Contains-append_left (flat_map (λ f. flat_map (link_clauses (length log.alarms) f (length (chain net log f))) (numbers_below n)) (taken_events net log new))
+      in_alarm which (Contains-append_left (flat_map (λ f. flat_map (alarm_link_clauses (length log.alarms) f (length (chain net log f))) (numbers_below n)) (taken_events net log new))
       (not_done_first (length log.alarms) ∷ done_if_asked (length log.alarms) ∷ flat_map (done_clauses (length log.alarms) (taken_events net log new)) (numbers_below n)) which
-      (flat_has (λ f. flat_map (link_clauses (length log.alarms) f (length (chain net log f))) (numbers_below n)) (taken_events net log new) e which (is_taken e taken)
-      (flat_has (link_clauses (length log.alarms) e (length (chain net log e))) (numbers_below n) t which (in_numbers n t step) there)))
+      (flat_has (λ f. flat_map (alarm_link_clauses (length log.alarms) f (length (chain net log f))) (numbers_below n)) (taken_events net log new) e which (is_taken e taken)
+      (flat_has (alarm_link_clauses (length log.alarms) e (length (chain net log e))) (numbers_below n) t which (in_numbers n t step) there)))
 
   in_rest : (which : LogClause) → Contains (not_done_first (length log.alarms) ∷ done_if_asked (length log.alarms) ∷ flat_map (done_clauses (length log.alarms) (taken_events net log new)) (numbers_below n)) which →
       Contains (added_clauses net log n (alarm_added new)) which
   in_rest which there =
-      in_alarm which (Contains-append_right (flat_map (λ f. flat_map (link_clauses (length log.alarms) f (length (chain net log f))) (numbers_below n)) (taken_events net log new))
+      in_alarm which (Contains-append_right (flat_map (λ f. flat_map (alarm_link_clauses (length log.alarms) f (length (chain net log f))) (numbers_below n)) (taken_events net log new))
       (not_done_first (length log.alarms) ∷ done_if_asked (length log.alarms) ∷ flat_map (done_clauses (length log.alarms) (taken_events net log new)) (numbers_below n)) which there)
 
   in_steps : (t : ℕ) (which : LogClause) → t < n → Contains (done_clauses (length log.alarms) (taken_events net log new) t) which → Contains (added_clauses net log n (alarm_added new)) which
@@ -281,12 +281,12 @@ module _ (net : Net) (log : Log) (n : ℕ) (new : Alarm) where
   alarm_size : length (alarm_clauses net log n new) ≤ length (taken_events net log new) * (n * 7) + (2 + n * (2 + 3 * length (taken_events net log new)))
   alarm_size =
       let range = length-range_with_len 0 n in
-      let front = flat_length (λ e. flat_map (link_clauses (length log.alarms) e (length (chain net log e))) (numbers_below n)) (taken_events net log new) (n * 7) (λ e.
-      let inner = flat_length (link_clauses (length log.alarms) e (length (chain net log e))) (numbers_below n) 7 (λ t. refl) in omega (arith, inner, range)) in
+      let front = flat_length (λ e. flat_map (alarm_link_clauses (length log.alarms) e (length (chain net log e))) (numbers_below n)) (taken_events net log new) (n * 7) (λ e.
+      let inner = flat_length (alarm_link_clauses (length log.alarms) e (length (chain net log e))) (numbers_below n) 7 (λ t. refl) in omega (arith, inner, range)) in
       let back = flat_few (done_clauses (length log.alarms) (taken_events net log new)) (numbers_below n) (2 + 3 * length (taken_events net log new)) (λ t.
       let few = match_few (length log.alarms) t (taken_events net log new) in omega (arith, few)) in
       let moved = ap (λ k. k * (2 + 3 * length (taken_events net log new))) range in
-      let whole = length-append (flat_map (λ e. flat_map (link_clauses (length log.alarms) e (length (chain net log e))) (numbers_below n)) (taken_events net log new))
+      let whole = length-append (flat_map (λ e. flat_map (alarm_link_clauses (length log.alarms) e (length (chain net log e))) (numbers_below n)) (taken_events net log new))
       (not_done_first (length log.alarms) ∷ done_if_asked (length log.alarms) ∷ flat_map (done_clauses (length log.alarms) (taken_events net log new)) (numbers_below n)) in
       omega (arith, range, front, back, whole, moved)
 
@@ -325,7 +325,7 @@ module _ (net : Net) (log : Log) (n : ℕ) (new : Alarm) where
       sum_by (λ i. matching_count net log i ^ 2 + 1) (numbers_below (length log.alarms)) + (matching_count net (with_alarm log new) (length log.alarms) ^ 2 + 1) =
       ap (λ k. sum_by (λ i. matching_count net (with_alarm log new) i ^ 2 + 1) (numbers_below k)) longer
       ∙ sum_more (λ i. matching_count net (with_alarm log new) i ^ 2 + 1) (λ i. matching_count net log i ^ 2 + 1) (length log.alarms) (λ i h. ap (λ k. k ^ 2 + 1) (same_count i h)) in
-      rw (sum, doubtful_more) (grows n (sum_by (λ c. (state_number net c + touching_count net c) ^ 2) (numbers_below (length net.components)))
+      rw (sum, doubtful_more) (grows n (sum_by (λ c. (component_state_count net c + touching_count net c) ^ 2) (numbers_below (length net.components)))
       (sum_by (λ i. matching_count net log i ^ 2 + 1) (numbers_below (length log.alarms))) (length log.pairs)
       (matching_count net (with_alarm log new) (length log.alarms) ^ 2 + 1) (256 * n * fault_event_count net) (doubtful_count log) (cond new.doubtful 1 0) (length (added_clauses net log n (alarm_added new))) added_few)
 
@@ -337,7 +337,7 @@ pair_small net log n i j =
     let size = length-map (numbers_below (suc n)) (λ t. before_if_asked i j t) in
     let range = length-range_with_len 0 (suc n) in
     let longer : length (log.pairs ++ (i, j) ∷ []) ≡ length log.pairs + 1 = omega (arith, length-append log.pairs ((i, j) ∷ [])) in
-    rw longer (pair_grows n (sum_by (λ c. (state_number net c + touching_count net c) ^ 2) (numbers_below (length net.components)))
+    rw longer (pair_grows n (sum_by (λ c. (component_state_count net c + touching_count net c) ^ 2) (numbers_below (length net.components)))
     (sum_by (λ k. matching_count net log k ^ 2 + 1) (numbers_below (length log.alarms))) (length log.pairs) (256 * n * fault_event_count net + 256 * doubtful_count log)
     (length (map (λ t. before_if_asked i j t) (numbers_below (suc n)))) (omega (arith, size, range)))
 

@@ -13,7 +13,7 @@ use Rattle.des_base.specs.Lists.{EachPair, numbers_below}
 use Rattle.log_clauses.proofs.Fronts.{any_has, has_any}
 use Rattle.log_clauses.proofs.Lists.{filter_has, filter_from, range_has, range_from, all_at, pairs_filter}
 use Rattle.log_clauses.specs.Coded.{is_dropped}
-use Rattle.log_clauses.specs.Decoded.{is_false, entry_of}
+use Rattle.log_clauses.specs.Decoded.{is_false_alarm, decoded_entry}
 use Rattle.log_clauses.specs.LogLaws.{HasFalse}
 use Rattle.log_order.specs.Log.{Log, ListsOnce, is_doubtful}
 use Rattle.prop_core.specs.VariableNames.{Name, dropped}
@@ -101,12 +101,12 @@ dropped_from order i h =
 -- ---- as the truth of names says
 
 module _ (log : Log) (value : Name → Bool) where
-  pub entries_alarms : (xs : List ℕ) → alarms_of (map (entry_of log value) xs) ≡ xs
+  pub entries_alarms : (xs : List ℕ) → alarms_of (map (decoded_entry log value) xs) ≡ xs
   entries_alarms [] = refl
   entries_alarms (x ∷ xs) = ap (λ ys. x ∷ ys) (entries_alarms xs)
 
   -- true ones among those that pass a test
-  pub entries_real : (p r : ℕ → Bool) (xs : List ℕ) → ((x : ℕ) → Contains xs x → p x && not (is_false log value x) ≡ r x) → real_alarms (map (entry_of log value) (filter p xs)) ≡ filter r xs
+  pub entries_real : (p r : ℕ → Bool) (xs : List ℕ) → ((x : ℕ) → Contains xs x → p x && not (is_false_alarm log value x) ≡ r x) → real_alarms (map (decoded_entry log value) (filter p xs)) ≡ filter r xs
   entries_real p r [] h = refl
   entries_real p r (x ∷ xs) h = by (p x) (h x (here_first x xs x refl)) (entries_real p r xs (λ y in'. h y (here_later x xs y in')))
     where
@@ -114,15 +114,15 @@ module _ (log : Log) (value : Name → Bool) where
       pick true entry rest = refl
       pick false entry rest = refl
 
-      by : (a : Bool) → a && not (is_false log value x) ≡ r x → real_alarms (map (entry_of log value) (filter p xs)) ≡ filter r xs →
-          real_alarms (map (entry_of log value) (cond a (x ∷ filter p xs) (filter p xs))) ≡ cond (r x) (x ∷ filter r xs) (filter r xs)
+      by : (a : Bool) → a && not (is_false_alarm log value x) ≡ r x → real_alarms (map (decoded_entry log value) (filter p xs)) ≡ filter r xs →
+          real_alarms (map (decoded_entry log value) (cond a (x ∷ filter p xs) (filter p xs))) ≡ cond (r x) (x ∷ filter r xs) (filter r xs)
       by true same later =
-          pick (not (is_false log value x)) (entry_of log value x) (filter (λ (entry : Entry). entry.real) (map (entry_of log value) (filter p xs)))
-          ∙ ap (λ ys. cond (not (is_false log value x)) (x ∷ ys) ys) later ∙ ap (λ b. cond b (x ∷ filter r xs) (filter r xs)) same
+          pick (not (is_false_alarm log value x)) (decoded_entry log value x) (filter (λ (entry : Entry). entry.real) (map (decoded_entry log value) (filter p xs)))
+          ∙ ap (λ ys. cond (not (is_false_alarm log value x)) (x ∷ ys) ys) later ∙ ap (λ b. cond b (x ∷ filter r xs) (filter r xs)) same
       by false same later = later ∙ ap (λ b. cond b (x ∷ filter r xs) (filter r xs)) same
 
   -- a false alarm is doubtful
-  pub entries_doubted : (xs : List ℕ) → AllByRecursion (λ entry. may_stand log entry ≡ true) (map (entry_of log value) xs)
+  pub entries_doubted : (xs : List ℕ) → AllByRecursion (λ entry. may_stand log entry ≡ true) (map (decoded_entry log value) xs)
   entries_doubted [] = tt
   entries_doubted (x ∷ xs) = (by (is_doubtful log x) (value (dropped x)), entries_doubted xs)
     where
@@ -133,9 +133,9 @@ module _ (log : Log) (value : Name → Bool) where
 
   -- the entries say of each alarm whether it is false
   abbrev pub AreTold : List Entry → Type 0
-  AreTold order = AllByRecursion (λ entry. entry.real ≡ not (is_false log value entry.alarm)) order
+  AreTold order = AllByRecursion (λ entry. entry.real ≡ not (is_false_alarm log value entry.alarm)) order
 
-  pub entries_told : (xs : List ℕ) → AreTold (map (entry_of log value) xs)
+  pub entries_told : (xs : List ℕ) → AreTold (map (decoded_entry log value) xs)
   entries_told [] = tt
   entries_told (x ∷ xs) = (refl, entries_told xs)
 
@@ -203,13 +203,13 @@ count_listed p m order lists =
         let below = (range_from 0 m x found.1).1 in
         filter_has p order x found.0 (lists.each x (omega (arith, below)))
 
-false_told : (log : Log) (value : Name → Bool) (order : List Entry) → AreTold log value order → false_count order ≡ count_by (is_false log value) (alarms_of order)
+false_told : (log : Log) (value : Name → Bool) (order : List Entry) → AreTold log value order → false_count order ≡ count_by (is_false_alarm log value) (alarms_of order)
 false_told log value [] told = refl
 false_told log value (entry ∷ order) told =
     let rest = false_told log value order told.1 in
     let left = count_cons (λ (e : Entry). not e.real) entry order in
-    let right = count_cons (is_false log value) entry.alarm (alarms_of order) in
-    let same : cond (not entry.real) 1 0 ≡ cond (is_false log value entry.alarm) 1 0 = ap {B = ℕ} (λ b. cond b 1 0) (ap not told.0 ∙ twice (is_false log value entry.alarm)) in
+    let right = count_cons (is_false_alarm log value) entry.alarm (alarms_of order) in
+    let same : cond (not entry.real) 1 0 ≡ cond (is_false_alarm log value entry.alarm) 1 0 = ap {B = ℕ} (λ b. cond b 1 0) (ap not told.0 ∙ twice (is_false_alarm log value entry.alarm)) in
     omega (arith, rest, left, right, same)
   where
     twice : (b : Bool) → not (not b) ≡ b
@@ -218,4 +218,4 @@ false_told log value (entry ∷ order) told =
 
 -- An order of all alarms that tells which are false has as many of them as the names say.
 pub has_false : (log : Log) (value : Name → Bool) (order : List Entry) → ListsOnce (length log.alarms) (alarms_of order) → AreTold log value order → HasFalse log value order
-has_false log value order lists told = false_told log value order told ∙ count_listed (is_false log value) (length log.alarms) (alarms_of order) lists
+has_false log value order lists told = false_told log value order told ∙ count_listed (is_false_alarm log value) (length log.alarms) (alarms_of order) lists

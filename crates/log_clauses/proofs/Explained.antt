@@ -21,7 +21,7 @@ use Rattle.log_clauses.specs.LogClauses.{log_clause, guard_literals, not_done_fi
 use Rattle.log_clauses.specs.LogCodeLaws.{IsLogCode, DifferInLogVariables, MakesLogTrue, LogCodeIsExact, IsUnboundedQuestion, ExplanationsAreCoded, AssignmentsExplain, RunsStayOpen}
 use Rattle.log_clauses.specs.LogCodes.{IsNamedLog}
 use Rattle.log_clauses.specs.LogTruth.{LogClausesHold, GuardsHold, is_of_log, DifferInLog}
-use Rattle.log_clauses.specs.Decoded.{is_false, decoded}
+use Rattle.log_clauses.specs.Decoded.{is_false_alarm, decoded}
 use Rattle.log_clauses.specs.LogLaws.{HasFalse}
 use Rattle.prop_core.proofs.NameLemmas.{values_match, assignments_match, code_holds}
 use Rattle.prop_core.specs.Clauses.{Clause, AllClausesTrue}
@@ -89,10 +89,10 @@ module _ (net : Net) (log : Log) (n : ℕ) (names : List (ℕ × Name)) (written
   pub false_kept : (assignment : ℕ → Bool) (value : Name → Bool) (order : List Entry) → Match names assignment value → HasFalse log value order → HasFalse log (value_by names assignment) order
   false_kept assignment value order match has = has ∙ ap (λ (p : ℕ → Bool). count_by p (numbers_below (length log.alarms))) (λ j i. same i j)
     where
-      same : (i : ℕ) → is_false log value i ≡ is_false log (value_by names assignment) i
+      same : (i : ℕ) → is_false_alarm log value i ≡ is_false_alarm log (value_by names assignment) i
       same i = by (is_doubtful log i) refl
         where
-          by : (b : Bool) → is_doubtful log i ≡ b → is_false log value i ≡ is_false log (value_by names assignment) i
+          by : (b : Bool) → is_doubtful log i ≡ b → is_false_alarm log value i ≡ is_false_alarm log (value_by names assignment) i
           by false e = rw e refl
           by true e = let named = dropped_named i e in rw e (sym (match named.0 (dropped i) named.1) ∙ values_match names code.once assignment named.0 (dropped i) named.1)
 

@@ -5,7 +5,7 @@ use Rattle.des_base.specs.Lists.{numbers_below}
 use Rattle.des_net.specs.Network.{Net, label_of}
 use Rattle.log_clauses.proofs.Lists.{found_is, finds, filter_from}
 use Rattle.log_clauses.proofs.Rules.{has_event, event_matches, is_shown, in_chain, alarm_happens, one_alarm, one_event, one_step, one_step_less, match_comes, match_real, each_comes, each_done, has_alarm, no_step_back}
-use Rattle.log_clauses.specs.Decoded.{alarm_at, event_at, is_false, comes}
+use Rattle.log_clauses.specs.Decoded.{alarm_at, alarm_event, is_false_alarm, comes}
 use Rattle.log_clauses.specs.LogClauses.{chain, matching_events}
 use Rattle.log_clauses.specs.LogLaws.{EventsAndAlarms, MatchesAreExact, HasOneStep, HasOneMatch, HasOneAlarm}
 use Rattle.log_clauses.specs.LogTruth.{LogClausesHold, GuardsHold}
@@ -19,7 +19,7 @@ module _ (net : Net) (log : Log) (n : ℕ) (value : Name → Bool) (held : LogCl
       let found = each_comes net log n value held guards i known in
       record { step = found.0; within = found.1; is = found.2; only = λ t inside is. one_step net log n value held i t found.0 known inside found.1 is found.2 }
 
-  one_match_of : (i : ℕ) → i < length log.alarms → is_false log value i ≡ false → HasOneMatch net log n value i
+  one_match_of : (i : ℕ) → i < length log.alarms → is_false_alarm log value i ≡ false → HasOneMatch net log n value i
   one_match_of i known real =
       let found = each_done net log n value held guards i known real in
       record {
@@ -83,14 +83,14 @@ matches_are_exact net log n value held guards =
 pub events_and_alarms : EventsAndAlarms
 events_and_alarms net log n value held guards i e t step = (to, from)
   where
-    to : alarm_at net log value e (suc t) ≡ Some i → event_at net log value t i ≡ Some e
+    to : alarm_at net log value e (suc t) ≡ Some i → alarm_event net log value t i ≡ Some e
     to h =
         let what = told net log n value held guards e t i step h in
         let found = finds (λ f. value (matches i f (suc t))) (matching_events net log i) e (has_event net log e i what.0) what.1 in
         let other = found_is (λ f. value (matches i f (suc t))) (matching_events net log i) found.0 found.1 in
         found.1 ∙ ap Some (one_event net log n value held i found.0 e t (event_matches net log found.0 i other.1) what.0 step other.0 what.1)
 
-    from : event_at net log value t i ≡ Some e → alarm_at net log value e (suc t) ≡ Some i
+    from : alarm_event net log value t i ≡ Some e → alarm_at net log value e (suc t) ≡ Some i
     from h =
         let found = found_is (λ f. value (matches i f (suc t))) (matching_events net log i) e h in
         let matching = event_matches net log e i found.1 in

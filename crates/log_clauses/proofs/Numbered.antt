@@ -16,7 +16,7 @@ use Rattle.log_clauses.proofs.Codes.{has_name}
 use Rattle.log_clauses.specs.Additions.{alarm_added, with_addition}
 use Rattle.log_clauses.specs.Drafts.{taken_events}
 use Rattle.log_clauses.specs.LogClauses.{chain}
-use Rattle.log_clauses.specs.LogNames.{IsLogName, link_names, alarm_names, match_chains, false_names, added_names, first_names, AreNew, AreLogNames, ReadsInOrder, NamesBegin, NamesGrow, PlacesOfNames, OrderedReads}
+use Rattle.log_clauses.specs.LogNames.{IsLogName, link_names, alarm_names, match_chains, false_names, added_names, first_names, BringsNewNames, AreLogNames, ReadsInOrder, NamesBegin, LogNamesGrow, PlacesOfNames, OrderedReads}
 use Rattle.log_order.specs.Log.{Log, Alarm}
 use Rattle.prop_core.specs.Clauses.{Clause}
 use Rattle.prop_core.specs.VariableNames.{Name, NamedLiteral, name_of, named_literal, named_clause, matches, unmatched, closed, done, dropped, some_of_first, of_matches, HasEachOnce}
@@ -63,10 +63,10 @@ names_begin net n first = record {
   );
 }
 
-pub names_grow : NamesGrow
+pub names_grow : LogNamesGrow
 names_grow net log n first addition names are = record { once = once; below = below; exact = λ name. (to name, λ h. from name h.0 h.1) }
   where
-    laws : AreNew net log n addition
+    laws : BringsNewNames net log n addition
     laws = names_are_new net log n addition
 
     once : HasEachOnce (names ++ laid_out first (added_names net log n addition))

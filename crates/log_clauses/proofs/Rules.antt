@@ -14,7 +14,7 @@ use Rattle.des_base.specs.Lists.{numbers_below}
 use Rattle.des_net.specs.Network.{Net, Event, label_of, no_event}
 use Rattle.log_clauses.proofs.Lists.{clash, filter_has, filter_from, range_has}
 use Rattle.log_clauses.specs.LogClauses.{chain, IsLink, chain_closed, takes_rest, uses_up, passes_on, taken_or_passed, not_done_first, stays_done, match_is_done, matched_once, done_by_match, one_match, done_if_asked, before_if_asked, matching_events, match_inputs, match_is_real, or_false}
-use Rattle.log_clauses.specs.Decoded.{is_false, comes}
+use Rattle.log_clauses.specs.Decoded.{is_false_alarm, comes}
 use Rattle.log_clauses.specs.LogTruth.{LogClausesHold, GuardsHold}
 use Rattle.log_order.specs.Log.{Log, Alarm, labels_of, is_doubtful}
 use Rattle.prop_core.proofs.Premises.{implied, neither}
@@ -41,7 +41,7 @@ under_two true false c h k l = cc
 under_two false b c h k l = cc
 
 -- these literals, or that the alarm is false
-pub or_false_is : (log : Log) (value : Name → Bool) (i : ℕ) (literals : List NamedLiteral) → list_any (named_true value) (or_false log i literals) ≡ is_false log value i || list_any (named_true value) literals
+pub or_false_is : (log : Log) (value : Name → Bool) (i : ℕ) (literals : List NamedLiteral) → list_any (named_true value) (or_false log i literals) ≡ is_false_alarm log value i || list_any (named_true value) literals
 or_false_is log value i literals = by (is_doubtful log i)
   where
     by : (b : Bool) → list_any (named_true value) (cond b (yes (dropped i) ∷ literals) literals) ≡ (b && value (dropped i)) || list_any (named_true value) literals
@@ -194,16 +194,16 @@ module _ (net : Net) (log : Log) (n : ℕ) (value : Name → Bool) (held : LogCl
       subst (λ x. value (done i x) ≡ true) same (implied (value (done i (s + d))) (value (done i (suc (s + d)))) (held (stays_done i (s + d)) (known, omega arith)) before)
 
   -- an alarm that is done from the start is false
-  pub false_first : (i : ℕ) → i < length log.alarms → value (done i 0) ≡ true → is_false log value i ≡ true
-  false_first i known is = implied (value (done i 0)) (is_false log value i) (subst (λ b. not (value (done i 0)) || b ≡ true) (or_false_is log value i []) (held (not_done_first i) known)) is
+  pub false_first : (i : ℕ) → i < length log.alarms → value (done i 0) ≡ true → is_false_alarm log value i ≡ true
+  false_first i known is = implied (value (done i 0)) (is_false_alarm log value i) (subst (λ b. not (value (done i 0)) || b ≡ true) (or_false_is log value i []) (held (not_done_first i) known)) is
 
   -- a true alarm that gets done in a step is matched there
-  pub comes_by_match : (i t : ℕ) → i < length log.alarms → t < n → is_false log value i ≡ false → comes value i (suc t) ≡ true → (e : ℕ) × (is_matching net log e i ≡ true) × (value (matches i e (suc t)) ≡ true)
+  pub comes_by_match : (i t : ℕ) → i < length log.alarms → t < n → is_false_alarm log value i ≡ false → comes value i (suc t) ≡ true → (e : ℕ) × (is_matching net log e i ≡ true) × (value (matches i e (suc t)) ≡ true)
   comes_by_match i t known step real is =
       let parts = both (value (done i (suc t))) (not (value (done i t))) is in
-      let clause : not (value (done i (suc t))) || (value (done i t) || (is_false log value i || list_any (named_true value) (map (λ e. yes (matches i e (suc t))) (matching_events net log i)))) ≡ true =
+      let clause : not (value (done i (suc t))) || (value (done i t) || (is_false_alarm log value i || list_any (named_true value) (map (λ e. yes (matches i e (suc t))) (matching_events net log i)))) ≡ true =
       subst (λ b. not (value (done i (suc t))) || (value (done i t) || b) ≡ true) (or_false_is log value i (map (λ e. yes (matches i e (suc t))) (matching_events net log i))) (held (done_by_match i t) (known, step)) in
-      let found = some_true value (λ e. matches i e (suc t)) (matching_events net log i) (last (value (done i (suc t))) (value (done i t)) (is_false log value i) (list_any (named_true value) (map (λ e. yes (matches i e (suc t))) (matching_events net log i))) clause parts.0 parts.1 real) in
+      let found = some_true value (λ e. matches i e (suc t)) (matching_events net log i) (last (value (done i (suc t))) (value (done i t)) (is_false_alarm log value i) (list_any (named_true value) (map (λ e. yes (matches i e (suc t))) (matching_events net log i))) clause parts.0 parts.1 real) in
       (found.0, event_matches net log found.0 i found.1, found.2)
     where
       last : (a b c d : Bool) → not a || (b || (c || d)) ≡ true → a ≡ true → not b ≡ true → c ≡ false → d ≡ true
@@ -250,10 +250,10 @@ module _ (net : Net) (log : Log) (n : ℕ) (value : Name → Bool) (held : LogCl
       by (inr h) (inr k) = omega arith
 
   -- an alarm with a match isn't false
-  pub match_real : (i e t : ℕ) → is_matching net log e i ≡ true → t < n → value (matches i e (suc t)) ≡ true → is_false log value i ≡ false
+  pub match_real : (i e t : ℕ) → is_matching net log e i ≡ true → t < n → value (matches i e (suc t)) ≡ true → is_false_alarm log value i ≡ false
   match_real i e t matching step is = by (is_doubtful log i) refl
     where
-      by : (b : Bool) → is_doubtful log i ≡ b → is_false log value i ≡ false
+      by : (b : Bool) → is_doubtful log i ≡ b → is_false_alarm log value i ≡ false
       by true e' = rw e' (otherwise (value (dropped i)) (neither (value (matches i e (suc t))) (value (dropped i)) (held (match_is_real i e t) (matching, e', step)) is))
       by false e' = rw e' refl
 
@@ -303,11 +303,11 @@ module _ (net : Net) (log : Log) (n : ℕ) (value : Name → Bool) (held : LogCl
     each_comes i known = comes_before n i (implied (value asked) (value (done i n)) (held (done_if_asked i) known) guards.0)
 
     -- a true alarm has a match
-    pub each_done : (i : ℕ) → i < length log.alarms → is_false log value i ≡ false → (t : ℕ) × (t < n) × (e : ℕ) × (is_matching net log e i ≡ true) × (value (matches i e (suc t)) ≡ true)
+    pub each_done : (i : ℕ) → i < length log.alarms → is_false_alarm log value i ≡ false → (t : ℕ) × (t < n) × (e : ℕ) × (is_matching net log e i ≡ true) × (value (matches i e (suc t)) ≡ true)
     each_done i known real = let found = each_comes i known in by found.0 found.1 found.2
       where
         by : (t : ℕ) → t ≤ n → comes value i t ≡ true → (s : ℕ) × (s < n) × (e : ℕ) × (is_matching net log e i ≡ true) × (value (matches i e (suc s)) ≡ true)
-        by zero inside is = clash (is_false log value i) (false_first i known is) real
+        by zero inside is = clash (is_false_alarm log value i) (false_first i known is) real
         by (suc t) inside is = let match = comes_by_match i t known (omega arith) real is in (t, omega arith, match.0, match.1, match.2)
 
     -- an observable event that happens has an alarm

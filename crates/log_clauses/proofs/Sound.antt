@@ -12,7 +12,7 @@ use Rattle.log_clauses.proofs.Lists.{clash, filter_has, filter_from, all_at, pai
 use Rattle.log_clauses.proofs.Pieces.{IsStepSet, AreFrom, pieces_are_steps}
 use Rattle.log_clauses.proofs.Rules as rules
 use Rattle.log_clauses.proofs.Rules.{shows, is_shown, shown_event, matching_alarm, has_event, event_matches, one_alarm, one_event, one_step, false_first, comes_by_match, match_comes, match_real, each_comes, has_alarm, no_step_back}
-use Rattle.log_clauses.specs.Decoded.{event_at, alarms_at, shown_at, unobservables, is_false, comes, entries_at, arranged, arranged_order, whole_order}
+use Rattle.log_clauses.specs.Decoded.{alarm_event, alarms_at, shown_at, unobservables, is_false_alarm, comes, entries_at, arranged, arranged_order, whole_order}
 use Rattle.log_clauses.specs.LogClauses.{matching_events}
 use Rattle.log_clauses.specs.LogLaws.{IsArranged, LogIsSound}
 use Rattle.log_clauses.specs.LogTruth.{LogClausesHold, GuardsHold}
@@ -83,12 +83,12 @@ module _ (net : Net) (log : Log) (n : ℕ) (value : Name → Bool) (held : LogCl
   sorted = from_places (λ b a. Contains log.pairs (b, a)) alarms complete.once (λ a b in' in2 pair.
       All-contains (λ (p : ℕ × ℕ). place_in alarms p.0 < place_in alarms p.1) log.pairs (b, a) (All-from_recursion (λ (p : ℕ × ℕ). place_in alarms p.0 < place_in alarms p.1) log.pairs kept) pair)
 
-  stands_for : (t i e : ℕ) → event_at net log value t i ≡ Some e → (is_matching net log e i ≡ true) × (value (matches i e (suc t)) ≡ true)
+  stands_for : (t i e : ℕ) → alarm_event net log value t i ≡ Some e → (is_matching net log e i ≡ true) × (value (matches i e (suc t)) ≡ true)
   stands_for t i e h =
       let found = found_is (λ f. value (matches i f (suc t))) (matching_events net log i) e h in
       (event_matches net log e i found.1, found.0)
 
-  has_one : (t i e : ℕ) → t < n → is_matching net log e i ≡ true → value (matches i e (suc t)) ≡ true → event_at net log value t i ≡ Some e
+  has_one : (t i e : ℕ) → t < n → is_matching net log e i ≡ true → value (matches i e (suc t)) ≡ true → alarm_event net log value t i ≡ Some e
   has_one t i e step matching is =
       let found = finds (λ f. value (matches i f (suc t))) (matching_events net log i) e (has_event net log e i matching) is in
       let other = stands_for t i found.0 found.1 in
@@ -192,28 +192,28 @@ module _ (net : Net) (log : Log) (n : ℕ) (value : Name → Bool) (held : LogCl
       by (inr rest) = known i (from_order 0 pieces i (omega arith) rest).4
 
   -- Of the alarms of a step those are true that have an event there.
-  pub real_at : (t i : ℕ) → t < n → i < length log.alarms → comes value i (suc t) && not (is_false log value i) ≡ is_some (event_at net log value t i)
-  real_at t i step here = by (event_at net log value t i) refl (comes value i (suc t)) refl (is_false log value i) refl
+  pub real_at : (t i : ℕ) → t < n → i < length log.alarms → comes value i (suc t) && not (is_false_alarm log value i) ≡ is_some (alarm_event net log value t i)
+  real_at t i step here = by (alarm_event net log value t i) refl (comes value i (suc t)) refl (is_false_alarm log value i) refl
     where
-      by : (o : Option ℕ) → event_at net log value t i ≡ o → (a : Bool) → comes value i (suc t) ≡ a → (b : Bool) → is_false log value i ≡ b → comes value i (suc t) && not (is_false log value i) ≡ is_some (event_at net log value t i)
+      by : (o : Option ℕ) → alarm_event net log value t i ≡ o → (a : Bool) → comes value i (suc t) ≡ a → (b : Bool) → is_false_alarm log value i ≡ b → comes value i (suc t) && not (is_false_alarm log value i) ≡ is_some (alarm_event net log value t i)
       by (Some e) is a f b g =
           let stands = stands_for t i e is in
-          ap (λ x. x && not (is_false log value i)) (match_comes net log n value held i e t stands.0 step stands.1)
+          ap (λ x. x && not (is_false_alarm log value i)) (match_comes net log n value held i e t stands.0 step stands.1)
           ∙ ap not (match_real net log n value held i e t stands.0 step stands.1) ∙ ap is_some (sym is)
-      by None is true f true g = ap (λ x. x && not (is_false log value i)) f ∙ ap not g ∙ ap is_some (sym is)
+      by None is true f true g = ap (λ x. x && not (is_false_alarm log value i)) f ∙ ap not g ∙ ap is_some (sym is)
       by None is true f false g =
           let match = comes_by_match net log n value held i t here step g f in
           let bad : None ≡ Some match.0 = sym is ∙ has_one t i match.0 step match.1 match.2 in cc
-      by None is false f b g = ap (λ x. x && not (is_false log value i)) f ∙ ap is_some (sym is)
+      by None is false f b g = ap (λ x. x && not (is_false_alarm log value i)) f ∙ ap is_some (sym is)
 
   real_entries : (t : ℕ) → t < n → real_alarms (entries_at log value alarms (suc t)) ≡ alarms_at net log value alarms t
-  real_entries t step = entries_real log value (λ i. comes value i (suc t)) (λ i. is_some (event_at net log value t i)) alarms (λ i in'. real_at t i step (known i in'))
+  real_entries t step = entries_real log value (λ i. comes value i (suc t)) (λ i. is_some (alarm_event net log value t i)) alarms (λ i in'. real_at t i step (known i in'))
 
   -- none that is done from the start
   pub real_first : real_alarms (entries_at log value alarms 0) ≡ []
-  real_first = entries_real log value (λ i. comes value i 0) (λ i. false) alarms (λ i in'. by (value (done i 0)) refl (is_false log value i) refl (false_first net log n value held i (known i in'))) ∙ filter_none (λ i. false) alarms (λ i in'. refl)
+  real_first = entries_real log value (λ i. comes value i 0) (λ i. false) alarms (λ i in'. by (value (done i 0)) refl (is_false_alarm log value i) refl (false_first net log n value held i (known i in'))) ∙ filter_none (λ i. false) alarms (λ i in'. refl)
     where
-      by : {i : ℕ} (a : Bool) → value (done i 0) ≡ a → (b : Bool) → is_false log value i ≡ b → (value (done i 0) ≡ true → is_false log value i ≡ true) → value (done i 0) && not (is_false log value i) ≡ false
+      by : {i : ℕ} (a : Bool) → value (done i 0) ≡ a → (b : Bool) → is_false_alarm log value i ≡ b → (value (done i 0) ≡ true → is_false_alarm log value i ≡ true) → value (done i 0) && not (is_false_alarm log value i) ≡ false
       by true e true f h = rw (e, f) refl
       by true e false f h = let bad : false ≡ true = sym f ∙ h e in cc
       by false e b f h = rw e refl
@@ -221,7 +221,7 @@ module _ (net : Net) (log : Log) (n : ℕ) (value : Name → Bool) (held : LogCl
   -- The arranged pieces show the arranged order.
   shown_at_observable : (t e : ℕ) → Contains (shown_at net log value alarms t) e → is_some (label_of net e) ≡ true
   shown_at_observable t e in' =
-      let found = mapped_from (event_at net log value t) alarms e in' in
+      let found = mapped_from (alarm_event net log value t) alarms e in' in
       is_shown net log e found.0 (stands_for t found.0 e found.2).0
 
   arranged_matched : (t : ℕ) (pieces : List (List ℕ)) → t + length pieces ≡ n → AllZip (Shows net log) (observables net (joined (arranged net log value alarms t pieces))) (real_alarms (arranged_order log value alarms t pieces))
@@ -230,7 +230,7 @@ module _ (net : Net) (log : Log) (n : ℕ) (value : Name → Bool) (held : LogCl
       subst (λ xs. AllZip (Shows net log) xs (real_alarms (arranged_order log value alarms t (piece ∷ pieces)))) (sym split)
       (subst (λ ys. AllZip (Shows net log) (shown_at net log value alarms t ++ observables net (joined rest)) ys) (sym true_ones)
       (zip_append (Shows net log) (shown_at net log value alarms t) (alarms_at net log value alarms t) (observables net (joined rest)) (real_alarms (arranged_order log value alarms (suc t) pieces))
-      (zip_mapped (Shows net log) (event_at net log value t) alarms (λ i e h. shows net log e i (stands_for t i e h).0)) (arranged_matched (suc t) pieces (omega arith))))
+      (zip_mapped (Shows net log) (alarm_event net log value t) alarms (λ i e h. shows net log e i (stands_for t i e h).0)) (arranged_matched (suc t) pieces (omega arith))))
     where
       rest : List (List ℕ)
       rest = arranged net log value alarms (suc t) pieces
@@ -268,7 +268,7 @@ module _ (net : Net) (log : Log) (n : ℕ) (value : Name → Bool) (held : LogCl
     where
       shown_happens : (e : ℕ) → Contains (shown_at net log value alarms t) e → value (happens e (suc t)) ≡ true
       shown_happens e in' =
-          let found = mapped_from (event_at net log value t) alarms e in' in
+          let found = mapped_from (alarm_event net log value t) alarms e in' in
           let stands = stands_for t found.0 e found.2 in
           match_at found.0 e stands.0 stands.1
         where
@@ -289,12 +289,12 @@ module _ (net : Net) (log : Log) (n : ℕ) (value : Name → Bool) (held : LogCl
           by true seen =
               let found = has_alarm net log n value held guards e t seen step h.1 in
               Contains-append_right (unobservables net piece) (shown_at net log value alarms t) e
-              (mapped_has (event_at net log value t) alarms found.0 e (complete.each found.0 (matching_alarm net log e found.0 found.1)) (has_one t found.0 e step found.1 found.2))
+              (mapped_has (alarm_event net log value t) alarms found.0 e (complete.each found.0 (matching_alarm net log e found.0 found.1)) (has_one t found.0 e step found.1 found.2))
           by false seen = Contains-append_left (unobservables net piece) (shown_at net log value alarms t) e (filter_has (λ f. not (is_some (label_of net f))) piece e (ap not seen) ((is.exact e).1 h))
 
       once : EachPair (λ e f. e ≢ f) (unobservables net piece ++ shown_at net log value alarms t)
       once = pairs_append (λ e f. e ≢ f) (unobservables net piece) (shown_at net log value alarms t) (pairs_filter (λ e f. e ≢ f) (λ f. not (is_some (label_of net f))) piece is.once)
-          (mapped_once (event_at net log value t) alarms complete.once (λ a b y first second.
+          (mapped_once (alarm_event net log value t) alarms complete.once (λ a b y first second.
           let x = stands_for t a y first in let z = stands_for t b y second in one_alarm net log n value held a b y t x.0 z.0 step x.1 z.1))
           (λ x y in' in2 same. clash (is_some (label_of net y)) (shown_at_observable t y in2)
           (flip (is_some (label_of net y)) (subst (λ z. not (is_some (label_of net z)) ≡ true) same (filter_from (λ f. not (is_some (label_of net f))) piece x in').0)))
@@ -330,12 +330,12 @@ whole_doubted log value alarms pieces =
 arranged_told : (log : Log) (value : Name → Bool) (alarms : List ℕ) (t : ℕ) (pieces : List (List ℕ)) → AreTold log value (arranged_order log value alarms t pieces)
 arranged_told log value alarms t [] = tt
 arranged_told log value alarms t (piece ∷ pieces) =
-    all_append (λ (entry : Entry). entry.real ≡ not (is_false log value entry.alarm)) (entries_at log value alarms (suc t)) (arranged_order log value alarms (suc t) pieces)
+    all_append (λ (entry : Entry). entry.real ≡ not (is_false_alarm log value entry.alarm)) (entries_at log value alarms (suc t)) (arranged_order log value alarms (suc t) pieces)
     (entries_told log value (filter (λ i. comes value i (suc t)) alarms)) (arranged_told log value alarms (suc t) pieces)
 
 whole_told : (log : Log) (value : Name → Bool) (alarms : List ℕ) (pieces : List (List ℕ)) → AreTold log value (whole_order log value alarms pieces)
 whole_told log value alarms pieces =
-    all_append (λ (entry : Entry). entry.real ≡ not (is_false log value entry.alarm)) (entries_at log value alarms 0) (arranged_order log value alarms 0 pieces)
+    all_append (λ (entry : Entry). entry.real ≡ not (is_false_alarm log value entry.alarm)) (entries_at log value alarms 0) (arranged_order log value alarms 0 pieces)
     (entries_told log value (filter (λ i. comes value i 0) alarms)) (arranged_told log value alarms 0 pieces)
 
 sound_from : (net : Net) (log : Log) (value : Name → Bool) (pieces : List (List ℕ)) (alarms : List ℕ) →

@@ -5,8 +5,8 @@ use Rattle.std.specs.List.{list_all}
 use Rattle.des_net.specs.Models.{apart, pump}
 use Rattle.log_order.specs.Log.{Alarm, Log, no_log, a_log, an_alarm}
 use Rattle.log_clauses.specs.Additions.{alarm_added, pair_added, with_addition, log_after}
-use Rattle.log_clauses.specs.Coded.{coded, opened}
-use Rattle.log_clauses.specs.Decoded.{decoded, decoded_order, alarm_at, event_at}
+use Rattle.log_clauses.specs.Coded.{coded_truth, opened}
+use Rattle.log_clauses.specs.Decoded.{decoded, decoded_order, alarm_at, alarm_event}
 use Rattle.log_clauses.specs.Drafts.{added_clauses, first_clauses}
 use Rattle.log_clauses.specs.LogClauses.{chain, matching_events, observable_events, LogClause, log_clause, guard_literals, chain_closed, takes_rest, uses_up, matched_once, done_by_match, one_match, not_done_first, before_if_asked}
 use Rattle.log_clauses.specs.LogNames.{added_names, first_names}
@@ -104,7 +104,7 @@ both (some_of_first family i) = false
 
 -- eb stands for y, and ea for x
 abbrev matched : Name → Bool
-matched = coded apart y_before_x ((1 ∷ 0 ∷ []) ∷ []) ([] ∷ all_true (1 ∷ 0 ∷ []) ∷ []) both
+matched = coded_truth apart y_before_x ((1 ∷ 0 ∷ []) ∷ []) ([] ∷ all_true (1 ∷ 0 ∷ []) ∷ []) both
 
 -- the clauses of the log in one step, as they come
 abbrev all_clauses : List LogClause
@@ -124,7 +124,7 @@ guards_true = refl
 pub clauses_true : list_all (λ which. named_clause_true matched (log_clause apart y_before_x 1 which)) all_clauses ≡ true
 clauses_true = refl
 
-pub x_is_ea : event_at apart y_before_x matched 0 0 ≡ Some 0
+pub x_is_ea : alarm_event apart y_before_x matched 0 0 ≡ Some 0
 x_is_ea = refl
 
 pub eb_is_y : alarm_at apart y_before_x matched 1 1 ≡ Some 1
@@ -142,7 +142,7 @@ decodes_order = refl
 -- ---- what is false
 
 -- with no alarm an event that happens breaks the guard of its chain
-pub empty_log_closes : named_clause_true (coded apart no_log ([] ∷ []) ([] ∷ [] ∷ []) both) (log_clause apart no_log 1 (chain_closed 0 0 0)) ≡ false
+pub empty_log_closes : named_clause_true (coded_truth apart no_log ([] ∷ []) ([] ∷ [] ∷ []) both) (log_clause apart no_log 1 (chain_closed 0 0 0)) ≡ false
 empty_log_closes = refl
 
 -- and without guards nothing is broken
@@ -151,21 +151,21 @@ unguarded_opens = refl
 
 -- x a step before y is against the pair
 abbrev x_first : Name → Bool
-x_first = coded apart y_before_x ((0 ∷ []) ∷ (1 ∷ []) ∷ []) ([] ∷ all_true (0 ∷ []) ∷ all_true (1 ∷ []) ∷ []) both
+x_first = coded_truth apart y_before_x ((0 ∷ []) ∷ (1 ∷ []) ∷ []) ([] ∷ all_true (0 ∷ []) ∷ all_true (1 ∷ []) ∷ []) both
 
 pub pair_broken : named_clause_true x_first (log_clause apart y_before_x 2 (before_if_asked 1 0 1)) ≡ false
 pair_broken = refl
 
 -- one alarm in two steps
 abbrev twice : Name → Bool
-twice = coded apart y_before_x ((0 ∷ []) ∷ (0 ∷ []) ∷ []) ([] ∷ all_true (0 ∷ []) ∷ all_true (0 ∷ []) ∷ []) both
+twice = coded_truth apart y_before_x ((0 ∷ []) ∷ (0 ∷ []) ∷ []) ([] ∷ all_true (0 ∷ []) ∷ all_true (0 ∷ []) ∷ []) both
 
 pub matched_twice : named_clause_true twice (log_clause apart y_before_x 2 (matched_once 0 0 1)) ≡ false
 matched_twice = refl
 
 -- one alarm for two events of a step
 abbrev for_two : Name → Bool
-for_two = coded pump beats ((1 ∷ 3 ∷ []) ∷ []) ([] ∷ all_true (0 ∷ 0 ∷ []) ∷ []) both
+for_two = coded_truth pump beats ((1 ∷ 3 ∷ []) ∷ []) ([] ∷ all_true (0 ∷ 0 ∷ []) ∷ []) both
 
 pub two_events : named_clause_true for_two (log_clause pump beats 1 (one_match 0 0 (two 0 1 (matches 0 1 1) (matches 0 3 1)))) ≡ false
 two_events = refl
@@ -180,7 +180,7 @@ y_perhaps_z_x = log_after no_log (alarm_added x ∷ alarm_added z ∷ alarm_adde
 
 -- z is done in step 1, as the others are
 abbrev z_dropped : Name → Bool
-z_dropped = coded apart y_perhaps_z_x ((1 ∷ 0 ∷ []) ∷ []) ([] ∷ (entry 2 true ∷ entry 1 false ∷ entry 0 true ∷ []) ∷ []) both
+z_dropped = coded_truth apart y_perhaps_z_x ((1 ∷ 0 ∷ []) ∷ []) ([] ∷ (entry 2 true ∷ entry 1 false ∷ entry 0 true ∷ []) ∷ []) both
 
 abbrev clauses_with_z : List LogClause
 clauses_with_z = first_clauses apart 1 ++ added_clauses apart no_log 1 (alarm_added x) ++ added_clauses apart (log_after no_log (alarm_added x ∷ [])) 1 (alarm_added z)
@@ -206,7 +206,7 @@ z-explains = refl
 
 -- done from the start it would be before y
 abbrev z_early : Name → Bool
-z_early = coded apart y_perhaps_z_x ((1 ∷ 0 ∷ []) ∷ []) ((entry 1 false ∷ []) ∷ (entry 2 true ∷ entry 0 true ∷ []) ∷ []) both
+z_early = coded_truth apart y_perhaps_z_x ((1 ∷ 0 ∷ []) ∷ []) ((entry 1 false ∷ []) ∷ (entry 2 true ∷ entry 0 true ∷ []) ∷ []) both
 
 pub z-too_early : named_clause_true z_early (log_clause apart y_perhaps_z_x 1 (before_if_asked 2 1 0)) ≡ false
 z-too_early = refl

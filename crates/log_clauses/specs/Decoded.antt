@@ -8,8 +8,8 @@ use Rattle.replay.specs.Explanation.{Entry}
 use Rattle.run_clauses.specs.Steps.{step_sets}
 
 -- the event that alarm i stands for in the step after t steps
-abbrev pub event_at : Net → Log → (Name → Bool) → ℕ → ℕ → Option ℕ
-event_at net log value t i = find (λ e. value (matches i e (suc t))) (matching_events net log i)
+abbrev pub alarm_event : Net → Log → (Name → Bool) → ℕ → ℕ → Option ℕ
+alarm_event net log value t i = find (λ e. value (matches i e (suc t))) (matching_events net log i)
 
 -- the alarm that stands for event e in step t, counted from 1
 abbrev pub alarm_at : Net → Log → (Name → Bool) → ℕ → ℕ → Option ℕ
@@ -17,11 +17,11 @@ alarm_at net log value e t = find (λ i. value (matches i e t)) (chain net log e
 
 -- those of the alarms that stand for an event of the step after t steps
 abbrev pub alarms_at : Net → Log → (Name → Bool) → List ℕ → ℕ → List ℕ
-alarms_at net log value alarms t = filter (λ i. is_some (event_at net log value t i)) alarms
+alarms_at net log value alarms t = filter (λ i. is_some (alarm_event net log value t i)) alarms
 
 -- the events that these alarms stand for in the step after t steps, in the order of the alarms
 abbrev pub shown_at : Net → Log → (Name → Bool) → List ℕ → ℕ → List ℕ
-shown_at net log value alarms t = filter_map (event_at net log value t) alarms
+shown_at net log value alarms t = filter_map (alarm_event net log value t) alarms
 
 -- the events of the piece that can't be seen
 abbrev pub unobservables : Net → List ℕ → List ℕ
@@ -34,8 +34,8 @@ arranged net log value alarms t (piece ∷ pieces) =
     (unobservables net piece ++ shown_at net log value alarms t) ∷ arranged net log value alarms (suc t) pieces
 
 -- alarm i is false
-abbrev pub is_false : Log → (Name → Bool) → ℕ → Bool
-is_false log value i = is_doubtful log i && value (dropped i)
+abbrev pub is_false_alarm : Log → (Name → Bool) → ℕ → Bool
+is_false_alarm log value i = is_doubtful log i && value (dropped i)
 
 -- alarm i gets done in step t, or, where that is 0, is so from the start
 abbrev pub comes : (Name → Bool) → ℕ → ℕ → Bool
@@ -43,12 +43,12 @@ comes value i zero = value (done i zero)
 comes value i (suc t) = value (done i (suc t)) && not (value (done i t))
 
 -- alarm i, with whether it is true
-abbrev pub entry_of : Log → (Name → Bool) → ℕ → Entry
-entry_of log value i = record { alarm = i; real = not (is_false log value i) }
+abbrev pub decoded_entry : Log → (Name → Bool) → ℕ → Entry
+decoded_entry log value i = record { alarm = i; real = not (is_false_alarm log value i) }
 
 -- the entries of the alarms that get done in step t, or, where that is 0, are so from the start, in their given order
 abbrev pub entries_at : Log → (Name → Bool) → List ℕ → ℕ → List Entry
-entries_at log value alarms t = map (entry_of log value) (filter (λ i. comes value i t) alarms)
+entries_at log value alarms t = map (decoded_entry log value) (filter (λ i. comes value i t) alarms)
 
 -- those of the steps after t steps, as many as there are pieces
 abbrev pub arranged_order : Log → (Name → Bool) → List ℕ → ℕ → List (List ℕ) → List Entry

@@ -19,8 +19,8 @@ abbrev pub taken_events : Net → Log → Alarm → List ℕ
 taken_events net log new = matching_events net (with_addition log (alarm_added new)) (length log.alarms)
 
 -- of alarm i, which comes after k alarms in the chain of event e, and the step after t steps
-abbrev pub link_clauses : ℕ → ℕ → ℕ → ℕ → List LogClause
-link_clauses i e k t = chain_closed e (suc k) t ∷ takes_rest i e k t ∷ uses_up i e k t ∷ passes_on e k t ∷ taken_or_passed i e k t
+abbrev pub alarm_link_clauses : ℕ → ℕ → ℕ → ℕ → List LogClause
+alarm_link_clauses i e k t = chain_closed e (suc k) t ∷ takes_rest i e k t ∷ uses_up i e k t ∷ passes_on e k t ∷ taken_or_passed i e k t
     ∷ match_is_done i e t ∷ matched_once i e t ∷ []
 
 -- at most one of these events for alarm i in the step after t steps
@@ -34,7 +34,7 @@ done_clauses i events t = stays_done i t ∷ done_by_match i t ∷ match_clauses
 -- a link of each event that the alarm may stand for, and then what is written of the alarm alone
 abbrev pub alarm_clauses : Net → Log → ℕ → Alarm → List LogClause
 alarm_clauses net log n new =
-    flat_map (λ e. flat_map (link_clauses (length log.alarms) e (length (chain net log e))) (numbers_below n)) (taken_events net log new)
+    flat_map (λ e. flat_map (alarm_link_clauses (length log.alarms) e (length (chain net log e))) (numbers_below n)) (taken_events net log new)
     ++ not_done_first (length log.alarms) ∷ done_if_asked (length log.alarms)
     ∷ flat_map (done_clauses (length log.alarms) (taken_events net log new)) (numbers_below n)
 

@@ -5,7 +5,7 @@ use Rattle.des_net.specs.Network.{Net, label_of}
 use Rattle.des_net.specs.Width.{joined}
 use Rattle.log_order.specs.Log.{Log, ListsOnce, Keeps, IsValidLog}
 use Rattle.log_clauses.specs.Coded.{opened}
-use Rattle.log_clauses.specs.Decoded.{arranged, whole_order, is_false, comes, alarm_at, event_at}
+use Rattle.log_clauses.specs.Decoded.{arranged, whole_order, is_false_alarm, comes, alarm_at, alarm_event}
 use Rattle.log_clauses.specs.LogTruth.{LogClausesHold, GuardsHold, DifferInLog, AgreeOnLog}
 use Rattle.prop_core.specs.VariableNames.{Name, happens, matches}
 use Rattle.replay.specs.Explanation.{Linearises, Entry, false_count, is_matching}
@@ -19,7 +19,7 @@ LogIsOpen = (value : Name → Bool) →
 
 -- by a truth of names as many doubtful alarms are false as in an order
 abbrev pub HasFalse : Log → (Name → Bool) → List Entry → Type 0
-HasFalse log value order = false_count order ≡ count_by (is_false log value) (numbers_below (length log.alarms))
+HasFalse log value order = false_count order ≡ count_by (is_false_alarm log value) (numbers_below (length log.alarms))
 
 -- the pieces and the order that a truth of names gives are its steps, and linearise the log with as many false alarms
 pub record IsArranged (net : Net) (log : Log) (n : ℕ) (value : Name → Bool) (alarms : List ℕ) (pieces : List (List ℕ)) : Type 0 where
@@ -73,8 +73,8 @@ pub record IsMatchedTo (net : Net) (log : Log) (value : Name → Bool) (e t i : 
 -- Each alarm has one step. The true alarms go with the events that happen and can be seen one by one, and a false alarm with none. Pairs don't step back.
 pub record AreMatched (net : Net) (log : Log) (n : ℕ) (value : Name → Bool) : Type 0 where
   pub steps : (i : ℕ) → i < length log.alarms → HasOneStep n value i
-  pub alarms : (i : ℕ) → i < length log.alarms → is_false log value i ≡ false → HasOneMatch net log n value i
-  pub real : (i e t : ℕ) → t < n → IsTrue (is_matching net log e i) → value (matches i e (suc t)) ≡ true → is_false log value i ≡ false
+  pub alarms : (i : ℕ) → i < length log.alarms → is_false_alarm log value i ≡ false → HasOneMatch net log n value i
+  pub real : (i e t : ℕ) → t < n → IsTrue (is_matching net log e i) → value (matches i e (suc t)) ≡ true → is_false_alarm log value i ≡ false
   pub events : (e t : ℕ) → t < n → IsTrue (is_some (label_of net e)) → value (happens e (suc t)) ≡ true → HasOneAlarm net log value e t
   pub found : (e t i : ℕ) → t < n → alarm_at net log value e (suc t) ≡ Some i → IsMatchedTo net log value e t i
   pub kept : (i j s t : ℕ) → i < length log.alarms → Contains log.pairs (i, j) → s ≤ n → t ≤ n → comes value i s ≡ true → comes value j t ≡ true → s ≤ t
@@ -86,7 +86,7 @@ MatchesAreExact = (net : Net) (log : Log) (n : ℕ) (value : Name → Bool) → 
 -- The alarm of an event in a step is the one whose event it is.
 abbrev pub EventsAndAlarms : Type 0
 EventsAndAlarms = (net : Net) (log : Log) (n : ℕ) (value : Name → Bool) → LogClausesHold net log n value → GuardsHold net log value →
-    (i e t : ℕ) → t < n → alarm_at net log value e (suc t) ≡ Some i ↔ event_at net log value t i ≡ Some e
+    (i e t : ℕ) → t < n → alarm_at net log value e (suc t) ≡ Some i ↔ alarm_event net log value t i ≡ Some e
 
 -- The clauses of a log and its guards read no names but those of the log and of events.
 abbrev pub OnlyLogMatters : Type 0

@@ -65,14 +65,14 @@ abbrev pub first_names : Net → List Name
 first_names net = asked ∷ map (λ e. closed e 0) (observable_events net)
 
 -- The names that an addition brings are new, each one name, and with them a log has its names.
-pub record AreNew (net : Net) (log : Log) (n : ℕ) (addition : Addition) : Type 0 where
+pub record BringsNewNames (net : Net) (log : Log) (n : ℕ) (addition : Addition) : Type 0 where
   pub once : EachPair (λ a b. a ≢ b) (added_names net log n addition)
   pub fresh : (name : Name) → Contains (added_names net log n addition) name → IsLogName net log n name → ⊥
   pub all : (name : Name) → IsLogName net (with_addition log addition) n name ↔ IsLogName net log n name ⊎ Contains (added_names net log n addition) name
 
 -- So it is of each addition to each log.
 abbrev pub NamesAreNew : Type 0
-NamesAreNew = (net : Net) (log : Log) (n : ℕ) (addition : Addition) → AreNew net log n addition
+NamesAreNew = (net : Net) (log : Log) (n : ℕ) (addition : Addition) → BringsNewNames net log n addition
 
 -- They are no more than the bound on the variables of a question grows by.
 abbrev pub NamesAreFew : Type 0
@@ -106,12 +106,12 @@ abbrev pub NamesBegin : Type 0
 NamesBegin = (net : Net) (n first : ℕ) → AreLogNames net no_log n (first + length (first_names net)) (laid_out first (first_names net))
 
 -- and the names of an addition, on the variables that come next, make those of a log the names of the log with the addition.
-abbrev pub NamesGrow : Type 0
-NamesGrow = (net : Net) (log : Log) (n first : ℕ) (addition : Addition) (names : List (ℕ × Name)) → AreLogNames net log n first names →
+abbrev pub LogNamesGrow : Type 0
+LogNamesGrow = (net : Net) (log : Log) (n first : ℕ) (addition : Addition) (names : List (ℕ × Name)) → AreLogNames net log n first names →
     AreLogNames net (with_addition log addition) n (first + length (added_names net log n addition)) (with_added net log n addition names first)
 
 -- Where the names of a new alarm stand: a link of each event that it may stand for, one after another, then when it is done, then the chains over its matches, and at the end, where it is doubtful, whether it is false.
-pub record HasPlaces (net : Net) (log : Log) (n first : ℕ) (new : Alarm) (names : List (ℕ × Name)) : Type 0 where
+pub record HasAlarmPlaces (net : Net) (log : Log) (n first : ℕ) (new : Alarm) (names : List (ℕ × Name)) : Type 0 where
   pub closing : (p e : ℕ) → slice_get (taken_events net log new) p ≡ Some e →
       name_of names (first + p * (1 + n * 2)) ≡ Some (closed e (suc (length (chain net log e))))
   pub matching : (p e t : ℕ) → slice_get (taken_events net log new) p ≡ Some e → t < n →
@@ -127,7 +127,7 @@ pub record HasPlaces (net : Net) (log : Log) (n first : ℕ) (new : Alarm) (name
 -- They stand so where they are added behind the names of a log.
 abbrev pub PlacesOfNames : Type 0
 PlacesOfNames = (net : Net) (log : Log) (n first : ℕ) (new : Alarm) (names : List (ℕ × Name)) → AreLogNames net log n first names →
-    HasPlaces net log n first new (with_added net log n (alarm_added new) names first)
+    HasAlarmPlaces net log n first new (with_added net log n (alarm_added new) names first)
 
 -- literal by literal the clause has these names and signs
 abbrev pub ReadsInOrder : List (ℕ × Name) → Clause → List NamedLiteral → Type 0

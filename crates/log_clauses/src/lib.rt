@@ -17,7 +17,7 @@ ghost use Rattle.log_clauses.specs.Drafts.{DraftsAreCode, DraftsAreSmall, FirstC
 ghost use Rattle.log_clauses.specs.LogCodeLaws.{AssignmentsExplain, ExplanationsAreCoded, LogCodeIsExact, RunsStayOpen};
 ghost use Rattle.log_clauses.specs.LogCodes.{CodeBegins, CodeGrows, CodesStay, ReadingsStay};
 ghost use Rattle.log_clauses.specs.LogLaws.{EventsAndAlarms, LogIsComplete, LogIsOpen, LogIsSound, MatchesAreExact, OnlyLogMatters};
-ghost use Rattle.log_clauses.specs.LogNames.{FirstNamesAreAll, NamesAreFew, NamesAreNew, NamesBegin, NamesGrow, OrderedReads, PlacesOfNames};
+ghost use Rattle.log_clauses.specs.LogNames.{FirstNamesAreAll, NamesAreFew, NamesAreNew, NamesBegin, LogNamesGrow, OrderedReads, PlacesOfNames};
 
 // ---- what the clauses of a log say, by name
 
@@ -139,7 +139,7 @@ pub fn names_begin()
 
 /// The names of an addition, on fresh variables in a row, make those of a log the names of the log with the addition.
 pub fn names_grow()
-    ensures { NamesGrow }
+    ensures { LogNamesGrow }
 {}
 
 /// Where the names of a new alarm stand in the row of the addition that brings it.

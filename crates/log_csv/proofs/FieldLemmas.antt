@@ -1,7 +1,7 @@
 -- The fields of a record, by their places.
 use Rattle.std.proofs.Common.{◌≡◌, ◌+◌, ◌≤◌, ℕ, zero, suc, true, cond, ◌&&◌, List, [], ◌∷◌, length, drop, Some, None, refl, arith, ap, sym, ◌∙◌}
 use Rattle.csv.specs.Records.{field_at}
-use Rattle.log_csv.specs.Records.{are_empty, is_empty, keyword_of, record_by_word, record_with, two_fields}
+use Rattle.log_csv.specs.Records.{are_empty, is_empty_field, keyword_of, record_by_word, record_with, two_fields}
 
 more : (i : ℕ) → suc (i + 1) ≡ suc i + 1
 more i = omega arith
@@ -27,7 +27,7 @@ drop-past (f ∷ fs) (suc i) h = drop-past fs i (omega arith)
 
 -- ---- the fields from a place on
 
-pub are_empty-at : (fields : List (List ℕ)) (i : ℕ) (field : List ℕ) → Some field ≡ field_at fields i → are_empty (drop i fields) ≡ (is_empty field && are_empty (drop (i + 1) fields))
+pub are_empty-at : (fields : List (List ℕ)) (i : ℕ) (field : List ℕ) → Some field ≡ field_at fields i → are_empty (drop i fields) ≡ (is_empty_field field && are_empty (drop (i + 1) fields))
 are_empty-at fields i field h = ap are_empty (field_at-drop fields i field (sym h))
 
 later_none : (fields : List (List ℕ)) (i : ℕ) → field_at fields i ≡ None → field_at fields (i + 1) ≡ None

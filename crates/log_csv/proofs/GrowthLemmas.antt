@@ -8,7 +8,7 @@ use Rattle.des_base.specs.Names.{place_of}
 use Rattle.log_order.specs.Log.{Alarm, Log, a_log, an_alarm}
 use Rattle.log_order.specs.Adding.{names_of, with_alarm, with_pair, with_texts}
 use Rattle.log_csv.specs.Records.{Record, alarm, before, ask, nothing, malformed}
-use Rattle.log_csv.specs.LogText.{alarm_of, alarms_of, ids_of, pair_of, pairs_of, with_pairs, written_pairs}
+use Rattle.log_csv.specs.LogText.{recorded_alarm, recorded_alarms, ids_of, recorded_pair, pairs_of, with_pairs, written_pairs}
 use Rattle.log_csv.specs.Reading.{IsKnown, IsLogOf}
 
 -- ---- lists
@@ -44,7 +44,7 @@ pub place-stays : (text : List ℕ) (ids more : List (List ℕ)) → is_some (pl
 place-stays text [] more h = cc
 place-stays text (id ∷ ids) more h = stays_step (bytes_eq text id) (place_of text ids) (place_of text (ids ++ more)) h (place-stays text ids more)
 
-pair-stays : (ids more : List (List ℕ)) (said : Record) → IsKnown ids said → pair_of (ids ++ more) said ≡ pair_of ids said
+pair-stays : (ids more : List (List ℕ)) (said : Record) → IsKnown ids said → recorded_pair (ids ++ more) said ≡ recorded_pair ids said
 pair-stays ids more (alarm maybe id labels) h = refl
 pair-stays ids more (before first second) h =
     ap (λ o. option_and_then (λ i. option_map (λ j. (i, j)) (place_of second (ids ++ more))) o) (place-stays first ids more h.0)
@@ -60,11 +60,11 @@ known-stays ids more ask h = tt
 known-stays ids more nothing h = tt
 known-stays ids more malformed h = tt
 
-pairs-stay : (ids more : List (List ℕ)) (earlier : List Record) → AllByRecursion (IsKnown ids) earlier → filter_map (pair_of (ids ++ more)) earlier ≡ filter_map (pair_of ids) earlier
+pairs-stay : (ids more : List (List ℕ)) (earlier : List Record) → AllByRecursion (IsKnown ids) earlier → filter_map (recorded_pair (ids ++ more)) earlier ≡ filter_map (recorded_pair ids) earlier
 pairs-stay ids more [] h = refl
 pairs-stay ids more (said ∷ others) h =
-    ap (λ o. cons_option o (filter_map (pair_of (ids ++ more)) others)) (pair-stays ids more said h.0)
-    ∙ ap (cons_option (pair_of ids said)) (pairs-stay ids more others h.1)
+    ap (λ o. cons_option o (filter_map (recorded_pair (ids ++ more)) others)) (pair-stays ids more said h.0)
+    ∙ ap (cons_option (recorded_pair ids said)) (pairs-stay ids more others h.1)
 
 all-known : (ids more : List (List ℕ)) (earlier : List Record) (said : Record) → AllByRecursion (IsKnown ids) earlier → IsKnown (ids ++ more) said → AllByRecursion (IsKnown (ids ++ more)) (earlier ++ said ∷ [])
 all-known ids more [] said h k = (k, tt)
@@ -74,26 +74,26 @@ all-known ids more (other ∷ others) said h k = (known-stays ids more other h.0
 
 -- the ids that a record adds
 abbrev new_ids : Record → List (List ℕ)
-new_ids said = names_of (option_to_list (alarm_of said))
+new_ids said = names_of (option_to_list (recorded_alarm said))
 
 ids_of-push : (earlier : List Record) (said : Record) → ids_of (earlier ++ said ∷ []) ≡ ids_of earlier ++ new_ids said
-ids_of-push earlier said = ap names_of (filter_map-push alarm_of earlier said) ∙ names_of-append (alarms_of earlier) (option_to_list (alarm_of said))
+ids_of-push earlier said = ap names_of (filter_map-push recorded_alarm earlier said) ∙ names_of-append (recorded_alarms earlier) (option_to_list (recorded_alarm said))
 
 pairs_of-push : (earlier : List Record) (said : Record) → AllByRecursion (IsKnown (ids_of earlier)) earlier
-    → pairs_of (earlier ++ said ∷ []) ≡ with_pairs (pairs_of earlier) (option_to_list (pair_of (ids_of earlier ++ new_ids said) said))
+    → pairs_of (earlier ++ said ∷ []) ≡ with_pairs (pairs_of earlier) (option_to_list (recorded_pair (ids_of earlier ++ new_ids said) said))
 pairs_of-push earlier said known =
     let ids = ids_of earlier in
     let more = new_ids said in
-    ap (λ names. with_pairs [] (filter_map (pair_of names) (earlier ++ said ∷ []))) (ids_of-push earlier said)
-    ∙ ap (with_pairs []) (filter_map-push (pair_of (ids ++ more)) earlier said ∙ ap (λ ps. ps ++ option_to_list (pair_of (ids ++ more) said)) (pairs-stay ids more earlier known))
-    ∙ with_pairs-append [] (written_pairs earlier) (option_to_list (pair_of (ids ++ more) said))
+    ap (λ names. with_pairs [] (filter_map (recorded_pair names) (earlier ++ said ∷ []))) (ids_of-push earlier said)
+    ∙ ap (with_pairs []) (filter_map-push (recorded_pair (ids ++ more)) earlier said ∙ ap (λ ps. ps ++ option_to_list (recorded_pair (ids ++ more) said)) (pairs-stay ids more earlier known))
+    ∙ with_pairs-append [] (written_pairs earlier) (option_to_list (recorded_pair (ids ++ more) said))
 
 log-push : (earlier : List Record) (said : Record) (log : Log) → AllByRecursion (IsKnown (ids_of earlier)) earlier → IsKnown (ids_of earlier ++ new_ids said) said
-    → log.alarms ≡ alarms_of earlier ++ option_to_list (alarm_of said) → log.pairs ≡ with_pairs (pairs_of earlier) (option_to_list (pair_of (ids_of earlier ++ new_ids said) said))
+    → log.alarms ≡ recorded_alarms earlier ++ option_to_list (recorded_alarm said) → log.pairs ≡ with_pairs (pairs_of earlier) (option_to_list (recorded_pair (ids_of earlier ++ new_ids said) said))
     → IsLogOf (earlier ++ said ∷ []) log
 log-push earlier said log known is alarms pairs = record {
-  is = ap (λ as'. let l : Log = (a_log as' log.pairs) in l) (alarms ∙ sym (filter_map-push alarm_of earlier said))
-      ∙ ap (λ ps. let l : Log = (a_log (alarms_of (earlier ++ said ∷ [])) ps) in l) (pairs ∙ sym (pairs_of-push earlier said known));
+  is = ap (λ as'. let l : Log = (a_log as' log.pairs) in l) (alarms ∙ sym (filter_map-push recorded_alarm earlier said))
+      ∙ ap (λ ps. let l : Log = (a_log (recorded_alarms (earlier ++ said ∷ [])) ps) in l) (pairs ∙ sym (pairs_of-push earlier said known));
   known = subst (λ ids. AllByRecursion (IsKnown ids) (earlier ++ said ∷ [])) (sym (ids_of-push earlier said)) (all-known (ids_of earlier) (new_ids said) earlier said known is);
 }
 
@@ -104,9 +104,9 @@ log-alarm earlier maybe id labels log new h e =
     (ap (λ l. l.pairs) e ∙ ap (λ l. l.pairs) h.is)
 
 pub log-nothing : (earlier : List Record) (log : Log) → IsLogOf earlier log → IsLogOf (earlier ++ nothing ∷ []) log
-log-nothing earlier log h = log-push earlier nothing log h.known tt (ap (λ l. l.alarms) h.is ∙ sym (append-nil (alarms_of earlier))) (ap (λ l. l.pairs) h.is)
+log-nothing earlier log h = log-push earlier nothing log h.known tt (ap (λ l. l.alarms) h.is ∙ sym (append-nil (recorded_alarms earlier))) (ap (λ l. l.pairs) h.is)
 
-pair_is : (ids : List (List ℕ)) (first second : List ℕ) (i j : ℕ) → place_of first ids ≡ Some i → place_of second ids ≡ Some j → pair_of ids (before first second) ≡ Some (i, j)
+pair_is : (ids : List (List ℕ)) (first second : List ℕ) (i j : ℕ) → place_of first ids ≡ Some i → place_of second ids ≡ Some j → recorded_pair ids (before first second) ≡ Some (i, j)
 pair_is ids first second i j h k =
     ap (λ o. option_and_then (λ i. option_map (λ j. (i, j)) (place_of second ids)) o) h
     ∙ ap (λ o. option_map (λ j. (i, j)) o) k
@@ -117,6 +117,6 @@ log-pair earlier first second i j log new h a b e =
     let ids = ids_of earlier in
     log-push earlier (before first second) new h.known
     (ap is_some (ap (place_of first) (append-nil ids) ∙ a), ap is_some (ap (place_of second) (append-nil ids) ∙ b))
-    (ap (λ l. l.alarms) e ∙ ap (λ l. l.alarms) h.is ∙ sym (append-nil (alarms_of earlier)))
+    (ap (λ l. l.alarms) e ∙ ap (λ l. l.alarms) h.is ∙ sym (append-nil (recorded_alarms earlier)))
     (ap (λ l. l.pairs) e ∙ ap (λ l. with_pair l.pairs i j) h.is
-    ∙ ap (λ o. with_pairs (pairs_of earlier) (option_to_list o)) (sym (ap (λ names. pair_of names (before first second)) (append-nil ids) ∙ pair_is ids first second i j a b)))
+    ∙ ap (λ o. with_pairs (pairs_of earlier) (option_to_list o)) (sym (ap (λ names. recorded_pair names (before first second)) (append-nil ids) ∙ pair_is ids first second i j a b)))

@@ -20,8 +20,8 @@ use Rattle.log_csv.specs.declared.refusal.RowRefusal.TheVariants.{Shape, Name, M
 use Rattle.log_csv.specs.Records.{Record, alarm, before, ask, nothing, malformed, record_of}
 use Rattle.log_csv.specs.Faults.{IsDue, fault_at}
 use Rattle.log_csv.specs.ScriptText.{is_malformed, row_code, row_of, words_of}
-use Rattle.log_csv.specs.LogText.{alarms_of, first_fault, first_record_fault, ids_of, is_pair_past_limit, is_question, log_of, log_of_records, pairs_of, record_code}
-use Rattle.log_csv.specs.Reading.{Adds, IsLogOf, IsReadTo, ReadsRecord, code_of, log_refusal_at, refusal_at}
+use Rattle.log_csv.specs.LogText.{recorded_alarms, first_fault, first_record_fault, ids_of, is_pair_past_limit, is_question_record, log_of, log_of_records, pairs_of, record_code}
+use Rattle.log_csv.specs.Reading.{Adds, IsLogOf, IsReadTo, ReadsRecord, refusal_code, log_refusal_at, refusal_at}
 use Rattle.csv.specs.Reading.{default_config, records, strip_bom}
 use Rattle.log_csv.proofs.RowLemmas.{malformed_refused}
 use Rattle.log_csv.proofs.GrowthLemmas.{log-alarm, log-nothing, log-pair}
@@ -40,7 +40,7 @@ name_first false true false o h f = cc
 name_first false false true o h f = refl
 name_first false false false o h f = cc
 
-no_words : (said : Record) → is_question said ≡ true → not (list_all is_name_text (words_of said)) ≡ false
+no_words : (said : Record) → is_question_record said ≡ true → not (list_all is_name_text (words_of said)) ≡ false
 no_words (alarm maybe id labels) h = cc
 no_words (before first second) h = cc
 no_words ask h = refl
@@ -54,11 +54,11 @@ six_case false false h = cc
 
 pub code-shape : (earlier : List Record) (said : Record) → row_code said ≡ Some 6 → record_code earlier said ≡ Some 6
 unfolding row_code record_code
-code-shape earlier said h = shape_first (is_malformed said) (is_question said) _ (six_case (is_malformed said) (not (list_all is_name_text (words_of said))) h)
+code-shape earlier said h = shape_first (is_malformed said) (is_question_record said) _ (six_case (is_malformed said) (not (list_all is_name_text (words_of said))) h)
 
 pub code-name : (earlier : List Record) (said : Record) → row_code said ≡ Some 7 → record_code earlier said ≡ Some 7
 unfolding row_code record_code
-code-name earlier said h = name_first (is_malformed said) (is_question said) (not (list_all is_name_text (words_of said))) _ h (no_words said)
+code-name earlier said h = name_first (is_malformed said) (is_question_record said) (not (list_all is_name_text (words_of said))) _ h (no_words said)
 
 pub code-ask : (earlier : List Record) → record_code earlier ask ≡ Some 6
 unfolding record_code
@@ -71,35 +71,35 @@ code-nothing earlier = refl
 -- ---- alarms
 
 alarm_case : (n d l p : Bool) → ◌≡◌ {A = Option ℕ} (cond n (Some 7) None) None
-    → cond n (Some 7) (cond d (Some 1) (cond l (Some 4) (cond p (Some 5) None))) ≡ option_map code_of (cond d (Some refused.Double) (cond l (Some refused.NoLabels) (cond p (Some refused.Limit) None)))
+    → cond n (Some 7) (cond d (Some 1) (cond l (Some 4) (cond p (Some 5) None))) ≡ option_map refusal_code (cond d (Some refused.Double) (cond l (Some refused.NoLabels) (cond p (Some refused.Limit) None)))
 alarm_case true d l p h = cc
 alarm_case false true l p h = refl
 alarm_case false false true p h = refl
 alarm_case false false false true h = refl
 alarm_case false false false false h = refl
 
-code-alarm : (earlier : List Record) (maybe : Bool) (id : List ℕ) (labels : List (List ℕ)) → row_code (alarm maybe id labels) ≡ None → record_code earlier (alarm maybe id labels) ≡ option_map code_of (alarm_refusal (log_of_records earlier) id labels)
+code-alarm : (earlier : List Record) (maybe : Bool) (id : List ℕ) (labels : List (List ℕ)) → row_code (alarm maybe id labels) ≡ None → record_code earlier (alarm maybe id labels) ≡ option_map refusal_code (alarm_refusal (log_of_records earlier) id labels)
 unfolding row_code record_code alarm_refusal
 code-alarm earlier maybe id labels h =
-    alarm_case (not (list_all is_name_text (id ∷ labels))) (is_some (place_of id (ids_of earlier))) (nat_le (length labels) 0) (nat_le MOST_ALARMS (length (alarms_of earlier)) || nat_lt MOST_LABELS (length labels)) h
+    alarm_case (not (list_all is_name_text (id ∷ labels))) (is_some (place_of id (ids_of earlier))) (nat_le (length labels) 0) (nat_le MOST_ALARMS (length (recorded_alarms earlier)) || nat_lt MOST_LABELS (length labels)) h
 
-answer_due : (row : ℕ) (why : Option LogRefusal) (e : LogRefusal) → Answers {X = ℕ} (Err e) why → IsDue (fault_at row (option_map code_of why)) (log_refusal_at row e)
-answer_due row why refused.Double h = ap (λ o. fault_at row (option_map code_of o)) h
-answer_due row why refused.Unknown h = ap (λ o. fault_at row (option_map code_of o)) h
-answer_due row why refused.Cycle h = ap (λ o. fault_at row (option_map code_of o)) h
-answer_due row why refused.NoLabels h = ap (λ o. fault_at row (option_map code_of o)) h
-answer_due row why refused.Limit h = ap (λ o. fault_at row (option_map code_of o)) h
+answer_due : (row : ℕ) (why : Option LogRefusal) (e : LogRefusal) → Answers {X = ℕ} (Err e) why → IsDue (fault_at row (option_map refusal_code why)) (log_refusal_at row e)
+answer_due row why refused.Double h = ap (λ o. fault_at row (option_map refusal_code o)) h
+answer_due row why refused.Unknown h = ap (λ o. fault_at row (option_map refusal_code o)) h
+answer_due row why refused.Cycle h = ap (λ o. fault_at row (option_map refusal_code o)) h
+answer_due row why refused.NoLabels h = ap (λ o. fault_at row (option_map refusal_code o)) h
+answer_due row why refused.Limit h = ap (λ o. fault_at row (option_map refusal_code o)) h
 answer_due row why refused.Memory h = tt
 
 pub alarm-added : (earlier : List Record) (maybe : Bool) (id : List ℕ) (labels : List (List ℕ)) (row : ℕ) (log new : Log) → IsLogOf earlier log → row_code (alarm maybe id labels) ≡ None
     → alarm_refusal log id labels ≡ None → new ≡ with_alarm log id labels maybe → Adds earlier (alarm maybe id labels) row new (Ok tt)
 alarm-added earlier maybe id labels row log new h named none e =
-    (code-alarm earlier maybe id labels named ∙ ap (λ l. option_map code_of (alarm_refusal l id labels)) (sym h.is) ∙ ap (option_map code_of) none, log-alarm earlier maybe id labels log new h e)
+    (code-alarm earlier maybe id labels named ∙ ap (λ l. option_map refusal_code (alarm_refusal l id labels)) (sym h.is) ∙ ap (option_map refusal_code) none, log-alarm earlier maybe id labels log new h e)
 
 pub alarm-refused : (earlier : List Record) (maybe : Bool) (id : List ℕ) (labels : List (List ℕ)) (row : ℕ) (log new : Log) (e : LogRefusal) → IsLogOf earlier log → row_code (alarm maybe id labels) ≡ None
     → Answers {X = ℕ} (Err e) (alarm_refusal log id labels) → Adds earlier (alarm maybe id labels) row new (Err (log_refusal_at row e))
 alarm-refused earlier maybe id labels row log new e h named a =
-    subst (λ (code : Option ℕ). IsDue (fault_at row code) (log_refusal_at row e)) (sym (code-alarm earlier maybe id labels named ∙ ap (λ l. option_map code_of (alarm_refusal l id labels)) (sym h.is)))
+    subst (λ (code : Option ℕ). IsDue (fault_at row code) (log_refusal_at row e)) (sym (code-alarm earlier maybe id labels named ∙ ap (λ l. option_map refusal_code (alarm_refusal l id labels)) (sym h.is)))
     (answer_due row (alarm_refusal log id labels) e a)
 
 -- ---- pairs
@@ -123,23 +123,23 @@ code-unknown earlier first second h u = unknown_case (not (list_all is_name_text
 pair_case : (n : Bool) (o p : Option ℕ) (pairs : List (ℕ × ℕ)) (m i j : ℕ) → ◌≡◌ {A = Option ℕ} (cond n (Some 7) None) None → o ≡ Some i → p ≡ Some j → nat_lt i m ≡ true → nat_lt j m ≡ true
     → cond n (Some 7) (cond (is_none o || is_none p) (Some 2) (cond (option_map_or (λ (pair : ℕ × ℕ). closes_cycle pairs pair.0 pair.1) (option_and_then (λ a. option_map (λ b. (a, b)) p) o) false) (Some 3)
     (cond (option_map_or (is_pair_past_limit pairs) (option_and_then (λ a. option_map (λ b. (a, b)) p) o) false) (Some 5) None)))
-    ≡ option_map code_of (cond (nat_lt i m && nat_lt j m) (cond (closes_cycle pairs i j) (Some refused.Cycle) (cond (not (has_pair pairs i j) && nat_le MOST_PAIRS (length pairs)) (Some refused.Limit) None)) (Some refused.Unknown))
+    ≡ option_map refusal_code (cond (nat_lt i m && nat_lt j m) (cond (closes_cycle pairs i j) (Some refused.Cycle) (cond (not (has_pair pairs i j) && nat_le MOST_PAIRS (length pairs)) (Some refused.Limit) None)) (Some refused.Unknown))
 pair_case true o p pairs m i j h a b l k = cc
 pair_case false o p pairs m i j h a b l k = rw (a, b, l, k) (last (closes_cycle pairs i j) (not (has_pair pairs i j) && nat_le MOST_PAIRS (length pairs)))
   where
-    last : (c d : Bool) → cond c (Some 3) (cond d (Some 5) None) ≡ option_map code_of (cond c (Some refused.Cycle) (cond d (Some refused.Limit) None))
+    last : (c d : Bool) → cond c (Some 3) (cond d (Some 5) None) ≡ option_map refusal_code (cond c (Some refused.Cycle) (cond d (Some refused.Limit) None))
     last true d = refl
     last false true = refl
     last false false = refl
 
-place_less : (text : List ℕ) (earlier : List Record) (i : ℕ) → place_of text (ids_of earlier) ≡ Some i → nat_lt i (length (alarms_of earlier)) ≡ true
-place_less text earlier i h = let l = place_of-within text (ids_of earlier) i (sym h) in is_less i (length (alarms_of earlier)) (omega (arith, length-names_of (alarms_of earlier)))
+place_less : (text : List ℕ) (earlier : List Record) (i : ℕ) → place_of text (ids_of earlier) ≡ Some i → nat_lt i (length (recorded_alarms earlier)) ≡ true
+place_less text earlier i h = let l = place_of-within text (ids_of earlier) i (sym h) in is_less i (length (recorded_alarms earlier)) (omega (arith, length-names_of (recorded_alarms earlier)))
 
 code-pair : (earlier : List Record) (first second : List ℕ) (i j : ℕ) → row_code (before first second) ≡ None → place_of first (ids_of earlier) ≡ Some i → place_of second (ids_of earlier) ≡ Some j
-    → record_code earlier (before first second) ≡ option_map code_of (before_refusal (length (alarms_of earlier)) (pairs_of earlier) i j)
+    → record_code earlier (before first second) ≡ option_map refusal_code (before_refusal (length (recorded_alarms earlier)) (pairs_of earlier) i j)
 unfolding row_code record_code before_refusal
 code-pair earlier first second i j h a b =
-    pair_case (not (list_all is_name_text (first ∷ second ∷ []))) (place_of first (ids_of earlier)) (place_of second (ids_of earlier)) (pairs_of earlier) (length (alarms_of earlier)) i j h a b (place_less first earlier i a) (place_less second earlier j b)
+    pair_case (not (list_all is_name_text (first ∷ second ∷ []))) (place_of first (ids_of earlier)) (place_of second (ids_of earlier)) (pairs_of earlier) (length (recorded_alarms earlier)) i j h a b (place_less first earlier i a) (place_less second earlier j b)
 
 place_in_log : (earlier : List Record) (log : Log) (text : List ℕ) (o : Option ℕ) → IsLogOf earlier log → o ≡ place_of text (names_of log.alarms) → place_of text (ids_of earlier) ≡ o
 place_in_log earlier log text o h e = ap (λ l. place_of text (names_of l.alarms)) (sym h.is) ∙ sym e
@@ -154,16 +154,16 @@ pair-second_unknown earlier first second row log h named none = ap (fault_at row
 
 code-pair_log : (earlier : List Record) (first second : List ℕ) (i j : ℕ) (log : Log) → IsLogOf earlier log → row_code (before first second) ≡ None
     → (Some i ≡ place_of first (names_of log.alarms)) → (Some j ≡ place_of second (names_of log.alarms))
-    → record_code earlier (before first second) ≡ option_map code_of (before_refusal (length log.alarms) log.pairs i j)
+    → record_code earlier (before first second) ≡ option_map refusal_code (before_refusal (length log.alarms) log.pairs i j)
 code-pair_log earlier first second i j log h named a b =
     code-pair earlier first second i j named (place_in_log earlier log first (Some i) h a) (place_in_log earlier log second (Some j) h b)
-    ∙ ap (λ l. option_map code_of (before_refusal (length l.alarms) l.pairs i j)) (sym h.is)
+    ∙ ap (λ l. option_map refusal_code (before_refusal (length l.alarms) l.pairs i j)) (sym h.is)
 
 pub pair-added : (earlier : List Record) (first second : List ℕ) (row i j : ℕ) (log new : Log) → IsLogOf earlier log → row_code (before first second) ≡ None
     → (Some i ≡ place_of first (names_of log.alarms)) → (Some j ≡ place_of second (names_of log.alarms))
     → before_refusal (length log.alarms) log.pairs i j ≡ None → new ≡ record log { pairs = with_pair log.pairs i j } → Adds earlier (before first second) row new (Ok tt)
 pair-added earlier first second row i j log new h named a b none e = (
-  code-pair_log earlier first second i j log h named a b ∙ ap (option_map code_of) none,
+  code-pair_log earlier first second i j log h named a b ∙ ap (option_map refusal_code) none,
   log-pair earlier first second i j log new h (place_in_log earlier log first (Some i) h a) (place_in_log earlier log second (Some j) h b) e,
 )
 

@@ -9,7 +9,7 @@ use Rattle.csv.specs.declared.parser.Action.TheVariants as act
 use Rattle.csv.specs.declared.parser.State.{State}
 use Rattle.csv.specs.declared.parser.State.TheVariants as st
 use Rattle.csv.specs.declared.reader.Reader.{Reader}
-use Rattle.log_csv.specs.RecordsLeft.{IsNext, IsPlain, records_in, records_left, text_left}
+use Rattle.log_csv.specs.RecordsLeft.{IsNextRecord, IsPlain, records_in, records_left, text_left}
 
 -- ---- one record
 
@@ -169,16 +169,16 @@ records_few bytes = let a = few_in (length (strip_bom bytes) + 1) st.StartRecord
 -- a read of a reader of the plain format
 pub record IsRead (old new : Reader (Bor (List ℕ))) (found : Bool) (fields : List (List ℕ)) : Type 0 where
   pub plain : IsPlain new
-  pub next : IsNext (records_left old) found fields (records_left new)
+  pub next : IsNextRecord (records_left old) found fields (records_left new)
 
-next_is : (s t : State) (xs ys : List ℕ) (o : Option Read) (found : Bool) (fields : List (List ℕ)) → next_record default_config s [] [] xs ≡ o → NextIs o found fields t ys → IsNext (records_in s xs) found fields (records_in t ys)
+next_is : (s t : State) (xs ys : List ℕ) (o : Option Read) (found : Bool) (fields : List (List ℕ)) → next_record default_config s [] [] xs ≡ o → NextIs o found fields t ys → IsNextRecord (records_in s xs) found fields (records_in t ys)
 next_is s t xs ys None true fields e h = cc
 next_is s t xs ys None false fields e h = records_in-none s xs e
 next_is s t xs ys (Some p) true fields e h = records_in-some s xs p e ∙ ap (λ f. f ∷ records_in p.1 p.2) (sym h.1) ∙ ap (λ q. fields ∷ records_in q p.2) (sym h.2) ∙ ap (λ q. fields ∷ records_in t q) (sym h.3)
 next_is s t xs ys (Some p) false fields e h = cc
 
 -- the text that is left is known
-some_left : (s t : State) (xs : List ℕ) (left : Option (List ℕ)) (found : Bool) (fields : List (List ℕ)) → ReadsNext default_config s (Some xs) left found fields t → (ys : List ℕ) × (left ≡ Some ys) × IsNext (records_in s xs) found fields (records_in t ys)
+some_left : (s t : State) (xs : List ℕ) (left : Option (List ℕ)) (found : Bool) (fields : List (List ℕ)) → ReadsNext default_config s (Some xs) left found fields t → (ys : List ℕ) × (left ≡ Some ys) × IsNextRecord (records_in s xs) found fields (records_in t ys)
 some_left s t xs None found fields h = absurd h
 some_left s t xs (Some ys) found fields h = (ys, refl, next_is s t xs ys _ found fields refl h)
 

@@ -12,7 +12,7 @@ use Rattle.des_base.proofs.Elements.{list_all-put}
 use Rattle.des_base.specs.Names.{is_name_byte, is_name_text}
 use Rattle.des_base.proofs.BoolLemmas.{both, join, most_is, or_left, otherwise, same}
 use Rattle.log_order.specs.Log.{Alarm, Log, id_of}
-use Rattle.log_csv.specs.Records.{Record, alarm, before, is_empty, labels_in, record_of, records_of}
+use Rattle.log_csv.specs.Records.{Record, alarm, before, is_empty_field, labels_in, record_of, records_of}
 use Rattle.log_csv.specs.PrintedLog.{alarm_line, alarm_word, line_of_ids, log_text, pair_line}
 use Rattle.log_csv.specs.RecordsLeft.{records_in}
 use Rattle.log_csv.proofs.LabelLemmas.{is_bar}
@@ -85,7 +85,7 @@ split_joined (x ∷ y ∷ ys) some h =
     let parts = both (is_name_text x) (list_all is_name_text (y ∷ ys)) h in
     to_bar x (join_with_byte 124 (y ∷ ys)) (name-bytes x parts.0) ∙ ap (λ rest. x ∷ rest) (split_joined (y ∷ ys) (omega arith) parts.1)
 
-not_empty : (xs : List ℕ) → 1 ≤ length xs → is_empty xs ≡ false
+not_empty : (xs : List ℕ) → 1 ≤ length xs → is_empty_field xs ≡ false
 not_empty [] h = absurd (omega arith)
 not_empty (x ∷ xs) h = otherwise (length (x ∷ xs) == 0) (λ e. let none : length (x ∷ xs) ≡ 0 = same _ _ e in omega arith)
 

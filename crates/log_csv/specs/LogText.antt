@@ -14,32 +14,32 @@ use Rattle.log_csv.specs.Faults.{fault_at}
 -- ---- the log of records
 
 -- an alarm, doubtful or not, and its labels, each once and at its first place
-abbrev pub alarm_of : Record → Option Alarm
-alarm_of (alarm maybe id labels) = Some (an_alarm id (with_texts [] labels) maybe)
-alarm_of (before first second) = None
-alarm_of ask = None
-alarm_of nothing = None
-alarm_of malformed = None
+abbrev pub recorded_alarm : Record → Option Alarm
+recorded_alarm (alarm maybe id labels) = Some (an_alarm id (with_texts [] labels) maybe)
+recorded_alarm (before first second) = None
+recorded_alarm ask = None
+recorded_alarm nothing = None
+recorded_alarm malformed = None
 
 -- the alarms of the records, in order
-abbrev pub alarms_of : List Record → List Alarm
-alarms_of records = filter_map alarm_of records
+abbrev pub recorded_alarms : List Record → List Alarm
+recorded_alarms records = filter_map recorded_alarm records
 
 -- the ids of the alarms of the records, in order
 abbrev pub ids_of : List Record → List (List ℕ)
-ids_of records = names_of (alarms_of records)
+ids_of records = names_of (recorded_alarms records)
 
 -- two alarms by the places of their ids, where both are known
-abbrev pub pair_of : List (List ℕ) → Record → Option (ℕ × ℕ)
-pair_of ids (alarm maybe id labels) = None
-pair_of ids (before first second) = option_and_then (λ i. option_map (λ j. (i, j)) (place_of second ids)) (place_of first ids)
-pair_of ids ask = None
-pair_of ids nothing = None
-pair_of ids malformed = None
+abbrev pub recorded_pair : List (List ℕ) → Record → Option (ℕ × ℕ)
+recorded_pair ids (alarm maybe id labels) = None
+recorded_pair ids (before first second) = option_and_then (λ i. option_map (λ j. (i, j)) (place_of second ids)) (place_of first ids)
+recorded_pair ids ask = None
+recorded_pair ids nothing = None
+recorded_pair ids malformed = None
 
 -- the pairs as often as they are written, where both ids are of alarms of the records
 abbrev pub written_pairs : List Record → List (ℕ × ℕ)
-written_pairs records = filter_map (pair_of (ids_of records)) records
+written_pairs records = filter_map (recorded_pair (ids_of records)) records
 
 -- these pairs, and behind them the others that are new
 abbrev pub with_pairs : List (ℕ × ℕ) → List (ℕ × ℕ) → List (ℕ × ℕ)
@@ -52,7 +52,7 @@ pairs_of records = with_pairs [] (written_pairs records)
 
 -- the alarms and the pairs that the records say; a record that says neither adds nothing
 abbrev pub log_of_records : List Record → Log
-log_of_records records = a_log (alarms_of records) (pairs_of records)
+log_of_records records = a_log (recorded_alarms records) (pairs_of records)
 
 -- the log of a text without a fault
 abbrev pub log_of : List ℕ → Log
@@ -61,12 +61,12 @@ log_of bytes = log_of_records (records_of bytes)
 -- ---- its first fault
 
 -- the record is a question, which scripts have and logs do not
-abbrev pub is_question : Record → Bool
-is_question (alarm maybe id labels) = false
-is_question (before first second) = false
-is_question ask = true
-is_question nothing = false
-is_question malformed = false
+abbrev pub is_question_record : Record → Bool
+is_question_record (alarm maybe id labels) = false
+is_question_record (before first second) = false
+is_question_record ask = true
+is_question_record nothing = false
+is_question_record malformed = false
 
 -- an earlier alarm has the id
 abbrev pub is_double : List Record → Record → Bool
@@ -86,7 +86,7 @@ is_unknown earlier malformed = false
 
 -- the earlier pairs lead from the second alarm to the first
 abbrev pub is_cycle : List Record → Record → Bool
-is_cycle earlier said = option_map_or (λ pair. closes_cycle (pairs_of earlier) pair.0 pair.1) (pair_of (ids_of earlier) said) false
+is_cycle earlier said = option_map_or (λ pair. closes_cycle (pairs_of earlier) pair.0 pair.1) (recorded_pair (ids_of earlier) said) false
 
 -- the record is an alarm whose label field is empty
 abbrev pub lacks_labels : Record → Bool
@@ -102,8 +102,8 @@ is_pair_past_limit pairs pair = not (has_pair pairs pair.0 pair.1) && nat_le MOS
 
 -- a limit would be passed: by one more alarm, by the labels as they are written, or by a pair that is new
 abbrev pub is_past_limit : List Record → Record → Bool
-is_past_limit earlier (alarm maybe id labels) = nat_le MOST_ALARMS (length (alarms_of earlier)) || nat_lt MOST_LABELS (length labels)
-is_past_limit earlier (before first second) = option_map_or (is_pair_past_limit (pairs_of earlier)) (pair_of (ids_of earlier) (before first second)) false
+is_past_limit earlier (alarm maybe id labels) = nat_le MOST_ALARMS (length (recorded_alarms earlier)) || nat_lt MOST_LABELS (length labels)
+is_past_limit earlier (before first second) = option_map_or (is_pair_past_limit (pairs_of earlier)) (recorded_pair (ids_of earlier) (before first second)) false
 is_past_limit earlier ask = false
 is_past_limit earlier nothing = false
 is_past_limit earlier malformed = false
@@ -111,7 +111,7 @@ is_past_limit earlier malformed = false
 -- the first code, in this order, whose condition holds of a record and the accepted records before it
 unfoldable pub record_code : List Record → Record → Option ℕ
 record_code earlier said =
-    if is_malformed said || is_question said then Some 6
+    if is_malformed said || is_question_record said then Some 6
     else if not (list_all is_name_text (words_of said)) then Some 7
     else if is_double earlier said then Some 1
     else if is_unknown earlier said then Some 2

@@ -88,13 +88,13 @@ pub record IsReadTo (bytes : List ℕ) (left : List (List (List ℕ))) (row : �
   pub faults : first_record_fault (row + 1) earlier (map record_of left) ≡ first_fault bytes
 
 -- the code of a refusal of the log, or 0 for want of memory, which is no fault of the text
-abbrev pub code_of : LogRefusal → ℕ
-code_of refused.Double = 1
-code_of refused.Unknown = 2
-code_of refused.Cycle = 3
-code_of refused.NoLabels = 4
-code_of refused.Limit = 5
-code_of refused.Memory = 0
+abbrev pub refusal_code : LogRefusal → ℕ
+refusal_code refused.Double = 1
+refusal_code refused.Unknown = 2
+refusal_code refused.Cycle = 3
+refusal_code refused.NoLabels = 4
+refusal_code refused.Limit = 5
+refusal_code refused.Memory = 0
 
 -- the refusal of a text, where the log refuses the record of this row
 abbrev pub log_refusal_at : ℕ → LogRefusal → LogReadRefusal

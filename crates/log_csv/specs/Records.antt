@@ -16,16 +16,16 @@ pub data Record : Type 0 where
   malformed : Record
 
 -- the field has no byte
-abbrev pub is_empty : List ℕ → Bool
-is_empty field = length field == 0
+abbrev pub is_empty_field : List ℕ → Bool
+is_empty_field field = length field == 0
 
 -- no field has a byte: so also where there are no fields
 abbrev pub are_empty : List (List ℕ) → Bool
-are_empty fields = list_all is_empty fields
+are_empty fields = list_all is_empty_field fields
 
 -- the labels in a field: its pieces between bars, and none where it is empty
 abbrev pub labels_in : List ℕ → List (List ℕ)
-labels_in field = if is_empty field then [] else slice_split (λ byte. byte == 124) field
+labels_in field = if is_empty_field field then [] else slice_split (λ byte. byte == 124) field
 
 -- two fields, behind which no other has a byte
 abbrev pub two_fields : List (List ℕ) → Option (List ℕ × List ℕ)

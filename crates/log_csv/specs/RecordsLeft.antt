@@ -29,6 +29,6 @@ pub record IsPlain (rdr : Reader (Bor (List ℕ))) : Type 0 where
   pub known : text_left rdr ≡ Some text
 
 -- whether there was a record, its fields, and the records after it
-abbrev pub IsNext : List (List (List ℕ)) → Bool → List (List ℕ) → List (List (List ℕ)) → Type 0
-IsNext old true fields new = old ≡ fields ∷ new
-IsNext old false fields new = old ≡ []
+abbrev pub IsNextRecord : List (List (List ℕ)) → Bool → List (List ℕ) → List (List (List ℕ)) → Type 0
+IsNextRecord old true fields new = old ≡ fields ∷ new
+IsNextRecord old false fields new = old ≡ []

@@ -2,7 +2,7 @@
 ghost use Rattle.std.specs.Prelude.{◌≡◌, ◌≤◌, length, IfOk, OnOk};
 ghost use Rattle.csv.specs.Reading.{default_config, records, strip_bom};
 ghost use Rattle.csv.specs.Records.{fields_of};
-ghost use Rattle.log_csv.specs.RecordsLeft.{IsPlain, IsNext, records_left};
+ghost use Rattle.log_csv.specs.RecordsLeft.{IsPlain, IsNextRecord, records_left};
 
 use csv::{ByteRecord, Reader, ReaderBuilder};
 use des_base::Memory;
@@ -25,7 +25,7 @@ pub fn records_of(alloc: Global, bytes: &[u8]) -> Reader<&[u8]>
 pub fn next_record(reader: &mut Reader<&[u8]>, fields: &mut ByteRecord) -> Result<bool, Memory>
     requires { IsPlain reader.old }
     ensures plain { OnOk result (IsPlain reader.new) }
-    ensures next { IfOk result (λ found. IsNext (records_left reader.old) found (fields_of fields.new) (records_left reader.new)) }
+    ensures next { IfOk result (λ found. IsNextRecord (records_left reader.old) found (fields_of fields.new) (records_left reader.new)) }
 {
     let Ok(found) = reader.read_byte_record(fields) else {
         return Err(Memory);

@@ -10,7 +10,7 @@ use Rattle.des_net.specs.Network.{Net}
 use Rattle.log_order.specs.Log.{is_doubtful}
 use Rattle.log_clauses.specs.Additions.{alarm_added, with_addition}
 use Rattle.log_clauses.specs.LogClauses.{chain, observable_events, guard_literals, matching_events}
-use Rattle.log_clauses.specs.Decoded.{alarm_at, is_false}
+use Rattle.log_clauses.specs.Decoded.{alarm_at, is_false_alarm}
 use Rattle.log_clauses.specs.LogNames.{first_names, ReadsInOrder}
 use Rattle.log_clauses.proofs.Lists.{clash, filter_has, filter_from}
 use Rattle.replay.specs.Explanation.{is_matching}
@@ -24,13 +24,13 @@ use Rattle.log_encode.proofs.GrowLemmas.{taken_width, new_vars, new_alarm, ends_
 use Rattle.log_encode.proofs.TakenLemmas.{map_count}
 use Rattle.log_encode.proofs.VariableLemmas.{link_is_small}
 use Rattle.log_encode.specs.AlarmState.{AlarmState, variables_of, is_matched}
-use Rattle.log_encode.specs.AlarmVariables.{IsWithin, variable_count, false_width, match_variable, done_variable, dropped_variable}
-use Rattle.log_encode.specs.CodedLog.{CodedLog, code_names, read_names, empty_code, code_after, addition_width, nameless, false_literals, IsCodedLog}
+use Rattle.log_encode.specs.AlarmVariables.{AreWithinLimit, alarm_variable_count, false_width, match_variable, done_variable, dropped_variable}
+use Rattle.log_encode.specs.CodedLog.{CodedLog, log_names, read_names, empty_code, code_after, addition_width, nameless, false_literals, IsCodedLog}
 use Rattle.log_encode.specs.declared.log_code.LogCode.TheInside.{Inside}
-use Rattle.log_encode.specs.Drafted.{LogCodeState, DraftState, IsDraftOf, IsStepOf}
+use Rattle.log_encode.specs.Drafted.{LogCodeState, DraftState, IsDraftOf, IsStepOfAlarm}
 use Rattle.log_encode.specs.declared.taken.ChainEnd.{ChainEnd}
 use Rattle.log_encode.specs.declared.taken.Taken.{Taken}
-use Rattle.log_encode.specs.View.{IsChainEnd, IsRest, AreEnds, AreFalse, IsAlarm, AreKept, IsLogCode, coded_of, coded, code_view}
+use Rattle.log_encode.specs.View.{IsChainEnd, IsRest, AreEnds, AreFalse, IsCodedAlarm, AreKept, KeepsLogCode, coded_of, coded, code_view}
 use Rattle.log_encode.specs.Written.{has_any_label, taken_from, first_ends, guards_of, all_closed_written, alarm_written, dropped_written, ends_after, HasRest, link_from, link_of}
 use Rattle.prop_core.specs.declared.grid.Grid.{Grid}
 use Rattle.prop_core.specs.declared.lit.Lit.{Lit}
@@ -121,7 +121,7 @@ alarm_at_place [] i d h = absurd (omega arith)
 alarm_at_place (x ∷ alarms) zero d h = refl
 alarm_at_place (x ∷ alarms) (suc i) d h = alarm_at_place alarms i d (omega arith)
 
-pub alarm_within : (code : CodedLog) (i : ℕ) (alarm : AlarmState) → IsCodedLog code → IsAlarm code i alarm → IsWithin (variables_of code.grid.steps alarm)
+pub alarm_within : (code : CodedLog) (i : ℕ) (alarm : AlarmState) → IsCodedLog code → IsCodedAlarm code i alarm → AreWithinLimit (variables_of code.grid.steps alarm)
 alarm_within code i alarm coded is = omega (arith, is.within, coded.few)
 
 -- ---- a draft of an alarm
@@ -141,7 +141,7 @@ draft_known_events code labels maybe first chain_ends guards is =
     (subst (λ k. AllByRecursion (λ (end : ChainEnd). end.event < k) chain_ends) is.coded.events (draft_known code labels maybe first chain_ends guards is))
 
 pub draft_within : (code : CodedLog) (labels : List (List ℕ)) (maybe : Bool) (first : ℕ) (chain_ends : List ChainEnd) (guards : List Lit) → IsDrafting code labels maybe first chain_ends guards →
-    first + (variable_count (length (taken_from code.net labels chain_ends)) code.grid.steps + false_width maybe) ≤ VAR_LIMIT
+    first + (alarm_variable_count (length (taken_from code.net labels chain_ends)) code.grid.steps + false_width maybe) ≤ VAR_LIMIT
 draft_within code labels maybe first chain_ends guards is = omega (arith, is.few, taken_width code labels maybe chain_ends is.chains.events)
 
 has_rest : (code : CodedLog) (end : ChainEnd) → IsCodedLog code → end.event < code.grid.events → IsChainEnd code end → HasRest code.grid (record { event = end.event; last = end.last })
@@ -170,9 +170,9 @@ pub guards_len : (net : Net) (grid : Grid) (asked len : ℕ) (chain_ends slice :
 guards_len net grid asked len chain_ends slice guards is same made count = sym count ∙ ap length (made ∙ ap (guards_of asked) same) ∙ first_guards net grid asked chain_ends is
 
 -- the alarm of a number, and the code that it stands in
-pub found_alarm : (a : Inside) (state : LogCodeState) (i : ℕ) (alarm : AlarmState) → code_view a ≡ state → IsLogCode a → i < length state.code.log.alarms → alarm ≡ slice_index_or a.alarms.items i alarm → IsAlarm state.code i alarm × IsCodedLog state.code
+pub found_alarm : (a : Inside) (state : LogCodeState) (i : ℕ) (alarm : AlarmState) → code_view a ≡ state → KeepsLogCode a → i < length state.code.log.alarms → alarm ≡ slice_index_or a.alarms.items i alarm → IsCodedAlarm state.code i alarm × IsCodedLog state.code
 found_alarm a state i alarm view inv known at =
-    subst (λ (s : LogCodeState). i < length s.code.log.alarms → IsAlarm s.code i alarm × IsCodedLog s.code) view
+    subst (λ (s : LogCodeState). i < length s.code.log.alarms → IsCodedAlarm s.code i alarm × IsCodedLog s.code) view
     (λ known. (inv.kept.alarms i alarm (alarm_at_place a.alarms.items i alarm (omega (arith, known, map_count (λ (x : AlarmState). nameless x.labels x.doubtful) a.alarms.items)) ∙ ap (λ x. Some x) (sym at)), inv.kept.log))
     known
 
@@ -186,7 +186,7 @@ link_below k (taken ∷ takes) e link h = by (taken.event == e) refl h (link_bel
     by true is at later = let same : k ≡ link = cc (rw is at at) in omega (arith, same)
     by false is at later = let rest = later (rw is at at) in omega (arith, rest)
 
-pub match_below : (vars : AlarmVars) (link t : ℕ) → link < vars.links → t < vars.steps → match_variable vars link t < vars.start + variable_count vars.links vars.steps
+pub match_below : (vars : AlarmVars) (link t : ℕ) → link < vars.links → t < vars.steps → match_variable vars link t < vars.start + alarm_variable_count vars.links vars.steps
 match_below vars link t h time = let bound = link_is_small vars.links (1 + vars.steps * 2) link h in omega (arith, bound)
 
 -- the link of an event is where it stands
@@ -212,14 +212,14 @@ link_none k (taken ∷ takes) e h here = by (taken.event == e) refl h (cons_case
 
 -- alarm k may stand for the event, and does in the step
 abbrev pub stands_for : CodedLog → (ℕ → Bool) → ℕ → ℕ → ℕ → Bool
-stands_for code value e t k = is_matching code.net code.log e k && value_by (code_names code) value (matches k e t)
+stands_for code value e t k = is_matching code.net code.log e k && value_by (log_names code) value (matches k e t)
 
-pub matched_is : (code : CodedLog) (i : ℕ) (alarm : AlarmState) (value : ℕ → Bool) (e step : ℕ) → IsCodedLog code → IsAlarm code i alarm → e < length code.net.events → 1 ≤ step → step ≤ code.grid.steps →
+pub matched_is : (code : CodedLog) (i : ℕ) (alarm : AlarmState) (value : ℕ → Bool) (e step : ℕ) → IsCodedLog code → IsCodedAlarm code i alarm → e < length code.net.events → 1 ≤ step → step ≤ code.grid.steps →
     is_matched code.grid.steps alarm value e (step - 1) ≡ stands_for code value e step i
 matched_is code i alarm value e step coded is known from_one within = by (link_of alarm.takes e) refl
   where
     by : (o : Option ℕ) → link_of alarm.takes e ≡ o → option_map_or (λ link. value (match_variable (variables_of code.grid.steps alarm) link (step - 1))) o false ≡ stands_for code value e step i
-    by None at = sym (and_false (is_matching code.net code.log e i) (value_by (code_names code) value (matches i e step)) (otherwise (is_matching code.net code.log e i) (λ passes.
+    by None at = sym (and_false (is_matching code.net code.log e i) (value_by (log_names code) value (matches i e step)) (otherwise (is_matching code.net code.log e i) (λ passes.
         link_none 0 alarm.takes e at (subst (λ es. Contains es e) (sym is.events) (filter_has (λ x. is_matching code.net code.log x i) (numbers_below (length code.net.events)) e passes (in_numbers (length code.net.events) e known))))))
       where
         and_false : (a b : Bool) → a ≡ false → a && b ≡ false
@@ -231,10 +231,10 @@ matched_is code i alarm value e step coded is known from_one within = by (link_o
         let there : slice_get (matching_events code.net code.log i) found.0 ≡ Some e = subst (λ es. slice_get es found.0 ≡ Some e) is.events found.2 in
         let passes : is_matching code.net code.log e i ≡ true = (filter_from (λ x. is_matching code.net code.log x i) (numbers_below (length code.net.events)) e (contains_at (matching_events code.net code.log i) found.0 e there)).0 in
         let step_is : suc (step - 1) ≡ step = omega arith in
-        let named : name_of (code_names code) (match_variable (variables_of code.grid.steps alarm) link (step - 1)) ≡ Some (matches i e step) =
-        subst (λ p. name_of (code_names code) (match_variable (variables_of code.grid.steps alarm) p (step - 1)) ≡ Some (matches i e step)) (sym place)
-        (subst (λ t. name_of (code_names code) (match_variable (variables_of code.grid.steps alarm) found.0 (step - 1)) ≡ Some (matches i e t)) step_is (is.matching found.0 e (step - 1) there (omega arith))) in
-        let valued = values_match (code_names code) coded.names.once value (match_variable (variables_of code.grid.steps alarm) link (step - 1)) (matches i e step) named in
+        let named : name_of (log_names code) (match_variable (variables_of code.grid.steps alarm) link (step - 1)) ≡ Some (matches i e step) =
+        subst (λ p. name_of (log_names code) (match_variable (variables_of code.grid.steps alarm) p (step - 1)) ≡ Some (matches i e step)) (sym place)
+        (subst (λ t. name_of (log_names code) (match_variable (variables_of code.grid.steps alarm) found.0 (step - 1)) ≡ Some (matches i e t)) step_is (is.matching found.0 e (step - 1) there (omega arith))) in
+        let valued = values_match (log_names code) coded.names.once value (match_variable (variables_of code.grid.steps alarm) link (step - 1)) (matches i e step) named in
         rw passes valued
 
 -- the first of the numbers that pass both tests
@@ -280,7 +280,7 @@ find_miss p q m none = find_nothing p q 0 m (λ j high low. none j (omega (arith
 
 -- ---- the draft itself
 
-pub drafting : (a : Inside) (state : LogCodeState) (labels : List (List ℕ)) (maybe : Bool) (first : ℕ) → code_view a ≡ state → IsLogCode a → state.code.vars ≤ first → first + addition_width state.code (alarm_added (nameless labels maybe)) ≤ VAR_LIMIT →
+pub drafting : (a : Inside) (state : LogCodeState) (labels : List (List ℕ)) (maybe : Bool) (first : ℕ) → code_view a ≡ state → KeepsLogCode a → state.code.vars ≤ first → first + addition_width state.code (alarm_added (nameless labels maybe)) ≤ VAR_LIMIT →
     IsDrafting (coded a) labels maybe first a.ends.items a.guards.items
 drafting a state labels maybe first view inv made few = record {
   coded = inv.kept.log;
@@ -296,7 +296,7 @@ taken_are a state net labels slice takes view same sliced is =
 
 -- what the draft of an alarm keeps for its commit
 pub record IsReadyAlarm (code : CodedLog) (first : ℕ) (labels : List (List ℕ)) (maybe : Bool) (takes : List Taken) (after : List ChainEnd) (guards later : List Lit) : Type 0 where
-  pub alarm : IsAlarm (code_after code (alarm_added (nameless labels maybe)) first) (length code.log.alarms) (record { labels = labels; doubtful = maybe; takes = takes; start = first })
+  pub alarm : IsCodedAlarm (code_after code (alarm_added (nameless labels maybe)) first) (length code.log.alarms) (record { labels = labels; doubtful = maybe; takes = takes; start = first })
   pub chains : AreEnds (code_after code (alarm_added (nameless labels maybe)) first) after guards
   pub false_ones : AreFalse (code_after code (alarm_added (nameless labels maybe)) first) later
 
@@ -313,7 +313,7 @@ draft_brings code labels maybe first links chain_ends guards takes clauses is t 
     rw (w, l, t) (alarm_brings code labels maybe first chain_ends is.coded (grown_is_coded code (alarm_added (nameless labels maybe)) first is.coded is.above is.few) is.above is.chains.events (draft_known code labels maybe first chain_ends guards is) is.chains.each)
 
 pub draft_width : (code : CodedLog) (labels : List (List ℕ)) (maybe : Bool) (first links : ℕ) (chain_ends : List ChainEnd) (guards : List Lit) (takes : List Taken) → IsDrafting code labels maybe first chain_ends guards → takes ≡ taken_from code.net labels chain_ends → links ≡ length takes →
-    addition_width code (alarm_added (nameless labels maybe)) ≡ variable_count links code.grid.steps + false_width maybe
+    addition_width code (alarm_added (nameless labels maybe)) ≡ alarm_variable_count links code.grid.steps + false_width maybe
 draft_width code labels maybe first links chain_ends guards takes is t l = rw (l, t) (taken_width code labels maybe chain_ends is.chains.events)
 
 -- no alarm so far stands for the event
@@ -331,34 +331,34 @@ none_more state value e step number is miss = record { none = λ k h. by k (k ==
     by k false other h = is.none k (omega (arith, h, λ (same : k ≡ number). clash {A = ⊥} (k == number) (eq-eqb k number same) other))
 
 -- the alarm of a number in a code that is kept
-pub kept_alarm : (a : Inside) (state : LogCodeState) (i : ℕ) (alarm : AlarmState) → code_view a ≡ state → IsLogCode a → i < length a.alarms.items → slice_get a.alarms.items i ≡ Some alarm → IsAlarm state.code i alarm × IsCodedLog state.code
-kept_alarm a state i alarm view inv known at = subst (λ (s : LogCodeState). IsAlarm s.code i alarm × IsCodedLog s.code) view (inv.kept.alarms i alarm at, inv.kept.log)
+pub kept_alarm : (a : Inside) (state : LogCodeState) (i : ℕ) (alarm : AlarmState) → code_view a ≡ state → KeepsLogCode a → i < length a.alarms.items → slice_get a.alarms.items i ≡ Some alarm → IsCodedAlarm state.code i alarm × IsCodedLog state.code
+kept_alarm a state i alarm view inv known at = subst (λ (s : LogCodeState). IsCodedAlarm s.code i alarm × IsCodedLog s.code) view (inv.kept.alarms i alarm at, inv.kept.log)
 
-pub kept_count : (a : Inside) (state : LogCodeState) → code_view a ≡ state → IsLogCode a → (length state.code.log.alarms ≡ length a.alarms.items) × IsCodedLog state.code
+pub kept_count : (a : Inside) (state : LogCodeState) → code_view a ≡ state → KeepsLogCode a → (length state.code.log.alarms ≡ length a.alarms.items) × IsCodedLog state.code
 kept_count a state view inv = subst (λ (s : LogCodeState). (length s.code.log.alarms ≡ length a.alarms.items) × IsCodedLog s.code) view (map_count (λ (x : AlarmState). nameless x.labels x.doubtful) a.alarms.items, inv.kept.log)
 
 pub found_first : (state : LogCodeState) (value : ℕ → Bool) (e step number : ℕ) → NoneSoFar state value e step number → number < length state.code.log.alarms → stands_for state.code value e step number ≡ true →
-    Some number ≡ alarm_at state.code.net state.code.log (value_by (code_names state.code) value) e step
+    Some number ≡ alarm_at state.code.net state.code.log (value_by (log_names state.code) value) e step
 found_first state value e step number is known hit =
-    sym (find_hit (λ i. value_by (code_names state.code) value (matches i e step)) (is_matching state.code.net state.code.log e) (length state.code.log.alarms) number known hit is.none)
+    sym (find_hit (λ i. value_by (log_names state.code) value (matches i e step)) (is_matching state.code.net state.code.log e) (length state.code.log.alarms) number known hit is.none)
 
-pub found_none : (state : LogCodeState) (value : ℕ → Bool) (e step number : ℕ) → NoneSoFar state value e step number → length state.code.log.alarms ≤ number → None ≡ alarm_at state.code.net state.code.log (value_by (code_names state.code) value) e step
+pub found_none : (state : LogCodeState) (value : ℕ → Bool) (e step number : ℕ) → NoneSoFar state value e step number → length state.code.log.alarms ≤ number → None ≡ alarm_at state.code.net state.code.log (value_by (log_names state.code) value) e step
 found_none state value e step number is all =
-    sym (find_miss (λ i. value_by (code_names state.code) value (matches i e step)) (is_matching state.code.net state.code.log e) (length state.code.log.alarms) (λ k h. is.none k (omega (arith, h))))
+    sym (find_miss (λ i. value_by (log_names state.code) value (matches i e step)) (is_matching state.code.net state.code.log e) (length state.code.log.alarms) (λ k h. is.none k (omega (arith, h))))
 
 -- the alarm of a turn of the loop
-pub turned_alarm : (a : Inside) (state : LogCodeState) (slice : List AlarmState) (i : ℕ) (alarm : AlarmState) → code_view a ≡ state → IsLogCode a → slice ≡ a.alarms.items → i < length slice → alarm ≡ slice_index_or slice i alarm → IsAlarm state.code i alarm × IsCodedLog state.code
+pub turned_alarm : (a : Inside) (state : LogCodeState) (slice : List AlarmState) (i : ℕ) (alarm : AlarmState) → code_view a ≡ state → KeepsLogCode a → slice ≡ a.alarms.items → i < length slice → alarm ≡ slice_index_or slice i alarm → IsCodedAlarm state.code i alarm × IsCodedLog state.code
 turned_alarm a state slice i alarm view inv same within at =
     kept_alarm a state i alarm view inv (subst (λ xs. i < length xs) same within) (subst (λ xs. slice_get xs i ≡ Some alarm) same (alarm_at_place slice i alarm within ∙ ap (λ x. Some x) (sym at)))
 
-pub turned_count : (a : Inside) (state : LogCodeState) (slice : List AlarmState) → code_view a ≡ state → IsLogCode a → slice ≡ a.alarms.items → length state.code.log.alarms ≡ length slice
+pub turned_count : (a : Inside) (state : LogCodeState) (slice : List AlarmState) → code_view a ≡ state → KeepsLogCode a → slice ≡ a.alarms.items → length state.code.log.alarms ≡ length slice
 turned_count a state slice view inv same = (kept_count a state view inv).0 ∙ ap length (sym same)
 
 -- the same by an equal code and equal labels
 pub ready_change : (code value : CodedLog) (labels kept : List (List ℕ)) (maybe : Bool) (first : ℕ) (takes : List Taken) (after : List ChainEnd) (guards later : List Lit) → code ≡ value → kept ≡ labels → IsReadyAlarm code first labels maybe takes after guards later →
-    IsAlarm (code_after value (alarm_added (nameless kept maybe)) first) (length value.log.alarms) (record { labels = kept; doubtful = maybe; takes = takes; start = first }) × AreEnds (code_after value (alarm_added (nameless kept maybe)) first) after guards × AreFalse (code_after value (alarm_added (nameless kept maybe)) first) later
+    IsCodedAlarm (code_after value (alarm_added (nameless kept maybe)) first) (length value.log.alarms) (record { labels = kept; doubtful = maybe; takes = takes; start = first }) × AreEnds (code_after value (alarm_added (nameless kept maybe)) first) after guards × AreFalse (code_after value (alarm_added (nameless kept maybe)) first) later
 ready_change code value labels kept maybe first takes after guards later same alike ready =
-    rw alike (subst (λ (k : CodedLog). IsAlarm (code_after k (alarm_added (nameless labels maybe)) first) (length k.log.alarms) (record { labels = labels; doubtful = maybe; takes = takes; start = first }) × AreEnds (code_after k (alarm_added (nameless labels maybe)) first) after guards × AreFalse (code_after k (alarm_added (nameless labels maybe)) first) later) same
+    rw alike (subst (λ (k : CodedLog). IsCodedAlarm (code_after k (alarm_added (nameless labels maybe)) first) (length k.log.alarms) (record { labels = labels; doubtful = maybe; takes = takes; start = first }) × AreEnds (code_after k (alarm_added (nameless labels maybe)) first) after guards × AreFalse (code_after k (alarm_added (nameless labels maybe)) first) later) same
     (ready.alarm, ready.chains, ready.false_ones))
 
 -- a draft of the code is one of an equal code
@@ -389,40 +389,40 @@ clause_named names (l ∷ ls) (m ∷ ms) z =
     let rest = clause_named names ls ms z.1 in
     rw (here, rest) refl
 
-pub false_read : (code : CodedLog) (lits : List Lit) → AreFalse code lits → named_clause (code_names code) lits ≡ Some (false_literals code.log)
-false_read code lits are = clause_named (code_names code) lits (false_literals code.log) are
+pub false_read : (code : CodedLog) (lits : List Lit) → AreFalse code lits → named_clause (log_names code) lits ≡ Some (false_literals code.log)
+false_read code lits are = clause_named (log_names code) lits (false_literals code.log) are
 
-pub false_is : (code : CodedLog) (i : ℕ) (alarm : AlarmState) (value : ℕ → Bool) → IsCodedLog code → IsAlarm code i alarm →
-    (alarm.doubtful && value (dropped_variable (variables_of code.grid.steps alarm))) ≡ is_false code.log (value_by (code_names code) value) i
+pub false_is : (code : CodedLog) (i : ℕ) (alarm : AlarmState) (value : ℕ → Bool) → IsCodedLog code → IsCodedAlarm code i alarm →
+    (alarm.doubtful && value (dropped_variable (variables_of code.grid.steps alarm))) ≡ is_false_alarm code.log (value_by (log_names code) value) i
 false_is code i alarm value coded is = by alarm.doubtful refl
   where
-    by : (b : Bool) → alarm.doubtful ≡ b → (alarm.doubtful && value (dropped_variable (variables_of code.grid.steps alarm))) ≡ is_false code.log (value_by (code_names code) value) i
+    by : (b : Bool) → alarm.doubtful ≡ b → (alarm.doubtful && value (dropped_variable (variables_of code.grid.steps alarm))) ≡ is_false_alarm code.log (value_by (log_names code) value) i
     by true e =
         let mark : is_doubtful code.log i ≡ true = is.mark ∙ e in
-        let valued = values_match (code_names code) coded.names.once value (dropped_variable (variables_of code.grid.steps alarm)) (dropped i) (is.being_false e) in
+        let valued = values_match (log_names code) coded.names.once value (dropped_variable (variables_of code.grid.steps alarm)) (dropped i) (is.being_false e) in
         rw (e, mark) valued
     by false e = let mark : is_doubtful code.log i ≡ false = is.mark ∙ e in rw (e, mark) refl
 
-pub first_is_step : (code : CodedLog) (i : ℕ) (alarm : AlarmState) (value : ℕ → Bool) (step : ℕ) (vars : AlarmVars) → IsCodedLog code → IsAlarm code i alarm → vars ≡ variables_of code.grid.steps alarm →
-    step ≤ vars.steps → ((t : ℕ) → t < step → value (done_variable vars t) ≡ false) → (step < vars.steps → value (done_variable vars step) ≡ true) → value_by (code_names code) value (done i code.grid.steps) ≡ true →
-    IsStepOf code.grid.steps (value_by (code_names code) value) i step
+pub first_is_step : (code : CodedLog) (i : ℕ) (alarm : AlarmState) (value : ℕ → Bool) (step : ℕ) (vars : AlarmVars) → IsCodedLog code → IsCodedAlarm code i alarm → vars ≡ variables_of code.grid.steps alarm →
+    step ≤ vars.steps → ((t : ℕ) → t < step → value (done_variable vars t) ≡ false) → (step < vars.steps → value (done_variable vars step) ≡ true) → value_by (log_names code) value (done i code.grid.steps) ≡ true →
+    IsStepOfAlarm code.grid.steps (value_by (log_names code) value) i step
 first_is_step code i alarm value step vars coded is same = subst (λ (v : AlarmVars). step ≤ v.steps → ((t : ℕ) → t < step → value (done_variable v t) ≡ false) → (step < v.steps → value (done_variable v step) ≡ true) →
-    value_by (code_names code) value (done i code.grid.steps) ≡ true → IsStepOf code.grid.steps (value_by (code_names code) value) i step) (sym same) shown
+    value_by (log_names code) value (done i code.grid.steps) ≡ true → IsStepOfAlarm code.grid.steps (value_by (log_names code) value) i step) (sym same) shown
   where
     own : AlarmVars
     own = variables_of code.grid.steps alarm
 
-    valued : (t : ℕ) → t ≤ code.grid.steps → value_by (code_names code) value (done i t) ≡ value (done_variable own t)
-    valued t h = sym (values_match (code_names code) coded.names.once value (done_variable own t) (done i t) (is.being_done t h))
+    valued : (t : ℕ) → t ≤ code.grid.steps → value_by (log_names code) value (done i t) ≡ value (done_variable own t)
+    valued t h = sym (values_match (log_names code) coded.names.once value (done_variable own t) (done i t) (is.being_done t h))
 
     shown : step ≤ own.steps → ((t : ℕ) → t < step → value (done_variable own t) ≡ false) → (step < own.steps → value (done_variable own step) ≡ true) →
-        value_by (code_names code) value (done i code.grid.steps) ≡ true → IsStepOf code.grid.steps (value_by (code_names code) value) i step
+        value_by (log_names code) value (done i code.grid.steps) ≡ true → IsStepOfAlarm code.grid.steps (value_by (log_names code) value) i step
     shown within least there last = record {
       within = within;
       is = by (step == code.grid.steps) refl;
       least = λ t h. valued t (omega (arith, h, within)) ∙ least t h;
     }
       where
-        by : (b : Bool) → (step == code.grid.steps) ≡ b → value_by (code_names code) value (done i step) ≡ true
-        by true e = subst (λ t. value_by (code_names code) value (done i t) ≡ true) (sym (eqb-true step code.grid.steps e)) last
+        by : (b : Bool) → (step == code.grid.steps) ≡ b → value_by (log_names code) value (done i step) ≡ true
+        by true e = subst (λ t. value_by (log_names code) value (done i t) ≡ true) (sym (eqb-true step code.grid.steps e)) last
         by false e = valued step within ∙ there (omega (arith, within, λ (is : step ≡ code.grid.steps). clash {A = ⊥} (step == code.grid.steps) (eq-eqb step code.grid.steps is) e))

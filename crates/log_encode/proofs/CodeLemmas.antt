@@ -16,7 +16,7 @@ use Rattle.log_clauses.specs.BesideEvents.{AreBesideEvents, IsAfterEvents}
 use Rattle.log_clauses.proofs.BesideEvents.{names_join_events}
 use Rattle.log_clauses.proofs.Numbered.{names_begin, names_grow}
 use Rattle.log_encode.proofs.Naming.{row_above}
-use Rattle.log_encode.specs.CodedLog.{CodedLog, names_from, code_names, empty_code, code_after, addition_width, false_literals, IsCodedLog}
+use Rattle.log_encode.specs.CodedLog.{CodedLog, names_from, log_names, empty_code, code_after, addition_width, false_literals, IsCodedLog}
 use Rattle.prop_core.specs.declared.grid.Grid.{Grid}
 use Rattle.prop_core.specs.VariableNames.{Name, done, dropped, yes}
 use Rattle.std.specs.Prelude.{flat_map}
@@ -41,7 +41,7 @@ names_snoc net n before (alarm ∷ alarms) (start ∷ starts) new first same =
     ∙ sym (append_assoc here (names_from net n (of_alarms (before ++ alarm ∷ [])) alarms starts) (laid_out first (added_names net (of_alarms (before ++ alarm ∷ alarms)) n (alarm_added new))))
 
 pub names_with_alarm : (code : CodedLog) (new : Alarm) (first : ℕ) → length code.starts ≡ length code.log.alarms →
-    code_names (code_after code (alarm_added new) first) ≡ code_names code ++ laid_out first (added_names code.net code.log code.grid.steps (alarm_added new))
+    log_names (code_after code (alarm_added new) first) ≡ log_names code ++ laid_out first (added_names code.net code.log code.grid.steps (alarm_added new))
 names_with_alarm code new first same =
     ap (λ xs. laid_out code.asked (first_names code.net) ++ xs) (names_snoc code.net code.grid.steps [] code.log.alarms code.starts new first same)
     ∙ sym (append_assoc (laid_out code.asked (first_names code.net)) (names_from code.net code.grid.steps no_log code.log.alarms code.starts) (laid_out first (added_names code.net code.log code.grid.steps (alarm_added new))))
@@ -71,20 +71,20 @@ raised net log n vars more names h are = record {
 }
 
 abbrev Grown : CodedLog → Addition → ℕ → Type 0
-Grown code addition first = AreLogNames code.net (with_addition code.log addition) code.grid.steps (first + addition_width code addition) (code_names (code_after code addition first))
+Grown code addition first = AreLogNames code.net (with_addition code.log addition) code.grid.steps (first + addition_width code addition) (log_names (code_after code addition first))
 
 grown : (code : CodedLog) (addition : Addition) (first : ℕ) → IsCodedLog code → code.vars ≤ first → Grown code addition first
 grown code (alarm_added new) first is above =
     subst (AreLogNames code.net (with_addition code.log (alarm_added new)) code.grid.steps (first + addition_width code (alarm_added new))) (sym (names_with_alarm code new first is.each))
-    (names_grow code.net code.log code.grid.steps first (alarm_added new) (code_names code) (raised code.net code.log code.grid.steps code.vars first (code_names code) above is.names))
+    (names_grow code.net code.log code.grid.steps first (alarm_added new) (log_names code) (raised code.net code.log code.grid.steps code.vars first (log_names code) above is.names))
 grown code (pair_added i j) first is above =
-    subst (AreLogNames code.net (with_addition code.log (pair_added i j)) code.grid.steps (first + 0)) (append-nil (code_names code))
-    (names_grow code.net code.log code.grid.steps first (pair_added i j) (code_names code) (raised code.net code.log code.grid.steps code.vars first (code_names code) above is.names))
+    subst (AreLogNames code.net (with_addition code.log (pair_added i j)) code.grid.steps (first + 0)) (append-nil (log_names code))
+    (names_grow code.net code.log code.grid.steps first (pair_added i j) (log_names code) (raised code.net code.log code.grid.steps code.vars first (log_names code) above is.names))
 
-still_after : (code : CodedLog) (addition : Addition) (first : ℕ) → IsCodedLog code → code.asked ≤ first → AllByRecursion (λ entry. code.asked ≤ entry.0) (code_names (code_after code addition first))
+still_after : (code : CodedLog) (addition : Addition) (first : ℕ) → IsCodedLog code → code.asked ≤ first → AllByRecursion (λ entry. code.asked ≤ entry.0) (log_names (code_after code addition first))
 still_after code (alarm_added new) first is above =
     subst (AllByRecursion (λ entry. code.asked ≤ entry.0)) (sym (names_with_alarm code new first is.each))
-    (all_append (λ (entry : ℕ × Name). code.asked ≤ entry.0) (code_names code) (laid_out first (added_names code.net code.log code.grid.steps (alarm_added new))) is.after (row_above first code.asked (added_names code.net code.log code.grid.steps (alarm_added new)) above))
+    (all_append (λ (entry : ℕ × Name). code.asked ≤ entry.0) (log_names code) (laid_out first (added_names code.net code.log code.grid.steps (alarm_added new))) is.after (row_above first code.asked (added_names code.net code.log code.grid.steps (alarm_added new)) above))
 still_after code (pair_added i j) first is above = is.after
 
 still_each : (code : CodedLog) (addition : Addition) (first : ℕ) → IsCodedLog code → length (code_after code addition first).starts ≡ length (code_after code addition first).log.alarms
@@ -117,8 +117,8 @@ grown_is_coded code addition first is above few =
     }
 
 -- the names of a code go together with those of the events
-pub beside : (code : CodedLog) → IsCodedLog code → AreBesideEvents code.net code.grid.steps code.grid.first (code_names code)
-beside code coded = names_join_events code.net code.log code.grid.steps code.grid.first code.vars (code_names code) coded.names (all_after (code_names code) coded.after)
+pub beside : (code : CodedLog) → IsCodedLog code → AreBesideEvents code.net code.grid.steps code.grid.first (log_names code)
+beside code coded = names_join_events code.net code.log code.grid.steps code.grid.first code.vars (log_names code) coded.names (all_after (log_names code) coded.after)
   where
     made : code.grid.first + length code.net.events * code.grid.steps ≤ code.asked
     made = subst (λ k. code.grid.first + k * code.grid.steps ≤ code.asked) coded.events coded.made

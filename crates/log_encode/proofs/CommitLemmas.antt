@@ -9,7 +9,7 @@ use Rattle.log_encode.proofs.TakenLemmas.{map_count}
 use Rattle.log_encode.specs.AlarmState.{AlarmState}
 use Rattle.log_encode.specs.CodedLog.{CodedLog, code_after, addition_width, nameless}
 use Rattle.log_encode.specs.declared.taken.ChainEnd.{ChainEnd}
-use Rattle.log_encode.specs.View.{AreEnds, AreFalse, IsAlarm, AreKept, IsReadyDraft, IsReadyChange, addition_of, coded_of}
+use Rattle.log_encode.specs.View.{AreEnds, AreFalse, IsCodedAlarm, AreKept, IsReadyDraft, IsReadyChange, addition_of, coded_of}
 use Rattle.log_encode.specs.declared.draft.Change.{Change}
 use Rattle.log_encode.specs.declared.draft.Change.TheVariants.{Alarm, Pair}
 use Rattle.log_encode.specs.declared.draft.Draft.TheInside.{Inside as DraftInside}
@@ -35,7 +35,7 @@ pair_committed net grid asked old first width vars i j chain_ends guards dropped
 
 pub alarm_committed : (net : Net) (grid : Grid) (asked old first width vars : ℕ) (chain_ends after : List ChainEnd) (guards then dropped later : List Lit) (alarms longer : List AlarmState) (pairs : List (ℕ × ℕ)) (alarm : AlarmState) →
     AreKept (coded_of net grid asked old alarms pairs) chain_ends guards dropped alarms → IsAfter (coded_of net grid asked old alarms pairs) (alarm_added (nameless alarm.labels alarm.doubtful)) first width vars → alarm.start ≡ first →
-    IsAlarm (code_after (coded_of net grid asked old alarms pairs) (alarm_added (nameless alarm.labels alarm.doubtful)) first) (length (coded_of net grid asked old alarms pairs).log.alarms) alarm →
+    IsCodedAlarm (code_after (coded_of net grid asked old alarms pairs) (alarm_added (nameless alarm.labels alarm.doubtful)) first) (length (coded_of net grid asked old alarms pairs).log.alarms) alarm →
     AreEnds (code_after (coded_of net grid asked old alarms pairs) (alarm_added (nameless alarm.labels alarm.doubtful)) first) after then → AreFalse (code_after (coded_of net grid asked old alarms pairs) (alarm_added (nameless alarm.labels alarm.doubtful)) first) later → longer ≡ alarms ++ alarm ∷ [] →
     AreKept (coded_of net grid asked vars longer pairs) after then later longer × (coded_of net grid asked vars longer pairs ≡ code_after (coded_of net grid asked old alarms pairs) (alarm_added (nameless alarm.labels alarm.doubtful)) first)
 alarm_committed net grid asked old first width vars chain_ends after guards then dropped later alarms longer pairs alarm kept is begins last chains false_ones l =
@@ -50,7 +50,7 @@ alarm_committed net grid asked old first width vars chain_ends after guards then
 -- what a draft that is committed tells of the code, where it adds an alarm
 pub record TellsAlarm (code : CodedLog) (first width : ℕ) (alarm : AlarmState) (after : List ChainEnd) (then later : List Lit) : Type 0 where
   pub begins : alarm.start ≡ first
-  pub last : IsAlarm (code_after code (alarm_added (nameless alarm.labels alarm.doubtful)) first) (length code.log.alarms) alarm
+  pub last : IsCodedAlarm (code_after code (alarm_added (nameless alarm.labels alarm.doubtful)) first) (length code.log.alarms) alarm
   pub chains : AreEnds (code_after code (alarm_added (nameless alarm.labels alarm.doubtful)) first) after then
   pub false_ones : AreFalse (code_after code (alarm_added (nameless alarm.labels alarm.doubtful)) first) later
   pub after_it : IsAfter code (alarm_added (nameless alarm.labels alarm.doubtful)) first width (first + width)

@@ -7,7 +7,7 @@ use Rattle.des_base.specs.Lists.{numbers_below}
 use Rattle.des_net.specs.Network.{Net}
 use Rattle.log_order.specs.Log.{Log, Alarm, no_log}
 use Rattle.log_clauses.specs.Additions.{alarm_added, pair_added, with_addition}
-use Rattle.log_clauses.specs.Drafts.{link_clauses, alarm_clauses, real_clauses, added_clauses, taken_events, first_clauses, added_list}
+use Rattle.log_clauses.specs.Drafts.{alarm_link_clauses, alarm_clauses, real_clauses, added_clauses, taken_events, first_clauses, added_list}
 use Rattle.log_clauses.specs.LogClauses.{chain, observable_events, chain_closed, before_if_asked, log_clause}
 use Rattle.log_clauses.specs.LogNames.{first_names}
 use Rattle.log_clauses.proofs.Drafts.{drafts_are_code, drafts_are_small, first_clauses_are_few}
@@ -20,7 +20,7 @@ use Rattle.log_encode.proofs.Reading.{zip_flat, zip_count, AreLinkNames, link_re
 use Rattle.log_encode.proofs.StayLemmas.{named_still}
 use Rattle.log_encode.proofs.TakenLemmas.{taken_are_events, taken_is_filter}
 use Rattle.log_encode.specs.AlarmVariables.{done_variable}
-use Rattle.log_encode.specs.CodedLog.{CodedLog, code_names, names_from, read_names, code_after, empty_code, nameless, IsCodedLog}
+use Rattle.log_encode.specs.CodedLog.{CodedLog, log_names, names_from, read_names, code_after, empty_code, nameless, IsCodedLog}
 use Rattle.log_encode.specs.declared.taken.ChainEnd.{ChainEnd}
 use Rattle.log_encode.specs.View.{IsChainEnd, IsRest}
 use Rattle.log_encode.specs.Written.{has_any_label, taken_from, rest_variable, link_written, link_variables, steps_of_link, links_written, done_written, real_written, alarm_written, pair_written, closed_written, all_closed_written}
@@ -38,7 +38,7 @@ use Rattle.log_encode.specs.WrittenLog.{AppendsFirst}
 -- ---- names behind those of the code
 
 -- what has a name by the code has it beside the events
-pub lifted : (code : CodedLog) (var : ℕ) (name : Name) → IsCodedLog code → name_of (code_names code) var ≡ Some name → name_of (read_names code) var ≡ Some name
+pub lifted : (code : CodedLog) (var : ℕ) (name : Name) → IsCodedLog code → name_of (log_names code) var ≡ Some name → name_of (read_names code) var ≡ Some name
 lifted code var name coded h = (beside code coded).other var name h
 
 -- an event in a step has its name
@@ -63,9 +63,9 @@ link_named : (code : CodedLog) (labels : List (List ℕ)) (maybe : Bool) (first 
     (link_variables code.grid (new_vars code first links maybe) link (record { event = e; last = last }) t)
 link_named code labels maybe first links link e t last coded grown above known time at count is =
     let there = places code labels maybe first coded above in
-    let more : (v : ℕ) (x : Name) → name_of (code_names (code_after code (alarm_added (nameless labels maybe)) first)) v ≡ Some x → name_of (read_names (code_after code (alarm_added (nameless labels maybe)) first)) v ≡ Some x =
+    let more : (v : ℕ) (x : Name) → name_of (log_names (code_after code (alarm_added (nameless labels maybe)) first)) v ≡ Some x → name_of (read_names (code_after code (alarm_added (nameless labels maybe)) first)) v ≡ Some x =
     λ v x h. lifted (code_after code (alarm_added (nameless labels maybe)) first) v x grown h in
-    let finished : (u : ℕ) → u ≤ code.grid.steps → name_of (code_names (code_after code (alarm_added (nameless labels maybe)) first)) (done_variable (new_vars code first links maybe) u) ≡ Some (done (length code.log.alarms) u) = λ u within. subst (λ k. name_of (code_names (code_after code (alarm_added (nameless labels maybe)) first)) (first + (k * (1 + code.grid.steps * 2) + u)) ≡ Some (done (length code.log.alarms) u)) count (there.being_done u within) in record {
+    let finished : (u : ℕ) → u ≤ code.grid.steps → name_of (log_names (code_after code (alarm_added (nameless labels maybe)) first)) (done_variable (new_vars code first links maybe) u) ≡ Some (done (length code.log.alarms) u) = λ u within. subst (λ k. name_of (log_names (code_after code (alarm_added (nameless labels maybe)) first)) (first + (k * (1 + code.grid.steps * 2) + u)) ≡ Some (done (length code.log.alarms) u)) count (there.being_done u within) in record {
       closing = more _ _ (there.closing link e at);
       rest = rest_named code (nameless labels maybe) first e t last coded grown known time is;
       matching = more _ _ (there.matching link e t at time);
@@ -81,7 +81,7 @@ links_read : (code : CodedLog) (labels : List (List ℕ)) (maybe : Bool) (first 
     AllByRecursion (λ (end : ChainEnd). end.event < code.grid.events) ends → AllByRecursion (IsChainEnd code) ends →
     AllZip (Reads code.net (with_addition code.log (alarm_added (nameless labels maybe))) code.grid.steps (read_names (code_after code (alarm_added (nameless labels maybe)) first)))
     (links_written code.grid (new_vars code first links maybe) (length before) (taken_from code.net labels ends))
-    (flat_map (λ e. flat_map (link_clauses (length code.log.alarms) e (length (chain code.net code.log e))) (numbers_below code.grid.steps)) (filter (has_any_label code.net labels) (map (λ (end : ChainEnd). end.event) ends)))
+    (flat_map (λ e. flat_map (alarm_link_clauses (length code.log.alarms) e (length (chain code.net code.log e))) (numbers_below code.grid.steps)) (filter (has_any_label code.net labels) (map (λ (end : ChainEnd). end.event) ends)))
 links_read code labels maybe first links before [] coded grown above count are known all = tt
 links_read code labels maybe first links before (end ∷ ends) coded grown above count are known all =
     by (has_any_label code.net labels end.event) refl (λ earlier same. links_read code labels maybe first links earlier ends coded grown above count same known.1 all.1)
@@ -93,10 +93,10 @@ links_read code labels maybe first links before (end ∷ ends) coded grown above
         ((earlier : List ℕ) → taken_events code.net code.log (nameless labels maybe) ≡ earlier ++ filter (has_any_label code.net labels) (map (λ (x : ChainEnd). x.event) ends) →
         AllZip (Reads code.net (with_addition code.log (alarm_added (nameless labels maybe))) code.grid.steps (read_names (code_after code (alarm_added (nameless labels maybe)) first)))
         (links_written code.grid (new_vars code first links maybe) (length earlier) (taken_from code.net labels ends))
-        (flat_map (λ e. flat_map (link_clauses (length code.log.alarms) e (length (chain code.net code.log e))) (numbers_below code.grid.steps)) (filter (has_any_label code.net labels) (map (λ (x : ChainEnd). x.event) ends)))) →
+        (flat_map (λ e. flat_map (alarm_link_clauses (length code.log.alarms) e (length (chain code.net code.log e))) (numbers_below code.grid.steps)) (filter (has_any_label code.net labels) (map (λ (x : ChainEnd). x.event) ends)))) →
         AllZip (Reads code.net (with_addition code.log (alarm_added (nameless labels maybe))) code.grid.steps (read_names (code_after code (alarm_added (nameless labels maybe)) first)))
         (links_written code.grid (new_vars code first links maybe) (length before) (taken_from code.net labels (end ∷ ends)))
-        (flat_map (λ e. flat_map (link_clauses (length code.log.alarms) e (length (chain code.net code.log e))) (numbers_below code.grid.steps)) (filter (has_any_label code.net labels) (map (λ (x : ChainEnd). x.event) (end ∷ ends))))
+        (flat_map (λ e. flat_map (alarm_link_clauses (length code.log.alarms) e (length (chain code.net code.log e))) (numbers_below code.grid.steps)) (filter (has_any_label code.net labels) (map (λ (x : ChainEnd). x.event) (end ∷ ends))))
     by true is later =
         let split : taken_events code.net code.log (nameless labels maybe) ≡ before ++ end.event ∷ filter (has_any_label code.net labels) (map (λ (x : ChainEnd). x.event) ends) = are ∙ rw is refl in
         let at : slice_get (taken_events code.net code.log (nameless labels maybe)) (length before) ≡ Some end.event = rw split (get_at before (filter (has_any_label code.net labels) (map (λ (x : ChainEnd). x.event) ends)) end.event) in
@@ -104,26 +104,26 @@ links_read code labels maybe first links before (end ∷ ends) coded grown above
         let others = later (before ++ end.event ∷ []) (split ∙ sym (append_assoc before (end.event ∷ []) (filter (has_any_label code.net labels) (map (λ (x : ChainEnd). x.event) ends)))) in
         let here = zip_flat (Reads code.net (with_addition code.log (alarm_added (nameless labels maybe))) code.grid.steps (read_names (code_after code (alarm_added (nameless labels maybe)) first)))
         (λ t. link_written (link_variables code.grid (new_vars code first links maybe) (length before) (record { event = end.event; last = end.last }) t))
-        (link_clauses (length code.log.alarms) end.event (length (chain code.net code.log end.event))) 0 code.grid.steps
+        (alarm_link_clauses (length code.log.alarms) end.event (length (chain code.net code.log end.event))) 0 code.grid.steps
         (λ t h. link_reads code.net (with_addition code.log (alarm_added (nameless labels maybe))) code.grid.steps (read_names (code_after code (alarm_added (nameless labels maybe)) first)) (length code.log.alarms) end.event (length (chain code.net code.log end.event)) t
         (link_variables code.grid (new_vars code first links maybe) (length before) (record { event = end.event; last = end.last }) t)
         (link_named code labels maybe first links (length before) end.event t end.last coded grown above known.0 (omega (arith, h)) at count all.0.rest)) in
         rw is (zip_append (Reads code.net (with_addition code.log (alarm_added (nameless labels maybe))) code.grid.steps (read_names (code_after code (alarm_added (nameless labels maybe)) first)))
         (steps_of_link code.grid (new_vars code first links maybe) (length before) (record { event = end.event; last = end.last }) code.grid.steps)
-        (flat_map (link_clauses (length code.log.alarms) end.event (length (chain code.net code.log end.event))) (numbers_below code.grid.steps))
+        (flat_map (alarm_link_clauses (length code.log.alarms) end.event (length (chain code.net code.log end.event))) (numbers_below code.grid.steps))
         (links_written code.grid (new_vars code first links maybe) (suc (length before)) (taken_from code.net labels ends))
-        (flat_map (λ e. flat_map (link_clauses (length code.log.alarms) e (length (chain code.net code.log e))) (numbers_below code.grid.steps)) (filter (has_any_label code.net labels) (map (λ (x : ChainEnd). x.event) ends)))
+        (flat_map (λ e. flat_map (alarm_link_clauses (length code.log.alarms) e (length (chain code.net code.log e))) (numbers_below code.grid.steps)) (filter (has_any_label code.net labels) (map (λ (x : ChainEnd). x.event) ends)))
         here
         (subst (λ k. AllZip (Reads code.net (with_addition code.log (alarm_added (nameless labels maybe))) code.grid.steps (read_names (code_after code (alarm_added (nameless labels maybe)) first)))
         (links_written code.grid (new_vars code first links maybe) k (taken_from code.net labels ends))
-        (flat_map (λ e. flat_map (link_clauses (length code.log.alarms) e (length (chain code.net code.log e))) (numbers_below code.grid.steps)) (filter (has_any_label code.net labels) (map (λ (x : ChainEnd). x.event) ends)))) one others))
+        (flat_map (λ e. flat_map (alarm_link_clauses (length code.log.alarms) e (length (chain code.net code.log e))) (numbers_below code.grid.steps)) (filter (has_any_label code.net labels) (map (λ (x : ChainEnd). x.event) ends)))) one others))
     by false is later =
         let same : taken_events code.net code.log (nameless labels maybe) ≡ before ++ filter (has_any_label code.net labels) (map (λ (x : ChainEnd). x.event) ends) = are ∙ rw is refl in
         rw is (later before same)
 
 -- ---- the whole draft of an alarm
 
-pub asked_named : (code : CodedLog) → name_of (code_names code) code.asked ≡ Some asked
+pub asked_named : (code : CodedLog) → name_of (log_names code) code.asked ≡ Some asked
 asked_named code =
     let here : name_of (laid_out code.asked (first_names code.net)) code.asked ≡ Some asked = subst (λ v. name_of (laid_out code.asked (first_names code.net)) v ≡ Some asked) (omega arith) (named_at code.asked (first_names code.net) 0 asked refl) in
     found_more (laid_out code.asked (first_names code.net)) (names_from code.net code.grid.steps no_log code.log.alarms code.starts) code.asked asked here
@@ -132,17 +132,17 @@ alarm_named : (code : CodedLog) (labels : List (List ℕ)) (maybe : Bool) (first
     AreAlarmNames (read_names (code_after code (alarm_added (nameless labels maybe)) first)) code.grid.steps (length code.log.alarms) (taken_events code.net code.log (nameless labels maybe)) (new_vars code first links maybe)
 alarm_named code labels maybe first links coded grown above count =
     let there = places code labels maybe first coded above in
-    let more : (v : ℕ) (x : Name) → name_of (code_names (code_after code (alarm_added (nameless labels maybe)) first)) v ≡ Some x → name_of (read_names (code_after code (alarm_added (nameless labels maybe)) first)) v ≡ Some x =
+    let more : (v : ℕ) (x : Name) → name_of (log_names (code_after code (alarm_added (nameless labels maybe)) first)) v ≡ Some x → name_of (read_names (code_after code (alarm_added (nameless labels maybe)) first)) v ≡ Some x =
     λ v x h. lifted (code_after code (alarm_added (nameless labels maybe)) first) v x grown h in record {
       links = sym count;
       steps = refl;
       matching = λ p e t at time. more _ _ (there.matching p e t at time);
-      being_done = λ t within. more _ _ (subst (λ k. name_of (code_names (code_after code (alarm_added (nameless labels maybe)) first)) (first + (k * (1 + code.grid.steps * 2) + t)) ≡ Some (done (length code.log.alarms) t)) count (there.being_done t within));
+      being_done = λ t within. more _ _ (subst (λ k. name_of (log_names (code_after code (alarm_added (nameless labels maybe)) first)) (first + (k * (1 + code.grid.steps * 2) + t)) ≡ Some (done (length code.log.alarms) t)) count (there.being_done t within));
       chaining = λ t time k below.
           let links : chain_count links ≡ chain_count (length (taken_events code.net code.log (nameless labels maybe))) = ap chain_count (sym count) in
           let name = there.chaining t time k (subst (λ m. k < m) links below) in
-          more _ _ (subst (λ m. name_of (code_names (code_after code (alarm_added (nameless labels maybe)) first)) (first + (m * (1 + code.grid.steps * 2) + (suc code.grid.steps + t * chain_count m)) + k) ≡ Some (some_of_first (of_matches (length code.log.alarms) (suc t)) (suc k))) count name);
-      being_false = λ h. more _ _ (subst (λ m. name_of (code_names (code_after code (alarm_added (nameless labels maybe)) first)) (first + (m * (1 + code.grid.steps * 2) + (suc code.grid.steps + code.grid.steps * chain_count m))) ≡ Some (dropped (length code.log.alarms))) count (there.being_false h));
+          more _ _ (subst (λ m. name_of (log_names (code_after code (alarm_added (nameless labels maybe)) first)) (first + (m * (1 + code.grid.steps * 2) + (suc code.grid.steps + t * chain_count m)) + k) ≡ Some (some_of_first (of_matches (length code.log.alarms) (suc t)) (suc k))) count name);
+      being_false = λ h. more _ _ (subst (λ m. name_of (log_names (code_after code (alarm_added (nameless labels maybe)) first)) (first + (m * (1 + code.grid.steps * 2) + (suc code.grid.steps + code.grid.steps * chain_count m))) ≡ Some (dropped (length code.log.alarms))) count (there.being_false h));
     }
 
 alarm_listed : (code : CodedLog) (labels : List (List ℕ)) (maybe : Bool) (first : ℕ) (ends : List ChainEnd) → IsCodedLog code → IsCodedLog (code_after code (alarm_added (nameless labels maybe)) first) → code.vars ≤ first →
@@ -165,10 +165,10 @@ alarm_listed code labels maybe first ends coded grown above are known all =
     zip_append (Reads code.net log code.grid.steps names) (links_written code.grid vars 0 (taken_from code.net labels ends) ++ done_written code.asked vars) (alarm_clauses code.net code.log code.grid.steps (nameless labels maybe))
     (real_written vars) (real_clauses maybe (length code.log.alarms) (taken_events code.net code.log (nameless labels maybe)) code.grid.steps)
     (zip_append (Reads code.net log code.grid.steps names) (links_written code.grid vars 0 (taken_from code.net labels ends))
-    (flat_map (λ e. flat_map (link_clauses (length code.log.alarms) e (length (chain code.net code.log e))) (numbers_below code.grid.steps)) (taken_events code.net code.log (nameless labels maybe)))
+    (flat_map (λ e. flat_map (alarm_link_clauses (length code.log.alarms) e (length (chain code.net code.log e))) (numbers_below code.grid.steps)) (taken_events code.net code.log (nameless labels maybe)))
     (done_written code.asked vars) _
     (subst (λ es. AllZip (Reads code.net log code.grid.steps names) (links_written code.grid vars 0 (taken_from code.net labels ends))
-    (flat_map (λ e. flat_map (link_clauses (length code.log.alarms) e (length (chain code.net code.log e))) (numbers_below code.grid.steps)) es)) (sym found) linked) finished) reals
+    (flat_map (λ e. flat_map (alarm_link_clauses (length code.log.alarms) e (length (chain code.net code.log e))) (numbers_below code.grid.steps)) es)) (sym found) linked) finished) reals
 
 -- what is written of a new alarm is what it brings, and no more than its size allows
 pub alarm_brings : (code : CodedLog) (labels : List (List ℕ)) (maybe : Bool) (first : ℕ) (ends : List ChainEnd) → IsCodedLog code → IsCodedLog (code_after code (alarm_added (nameless labels maybe)) first) → code.vars ≤ first →
@@ -200,7 +200,7 @@ pair_listed net log n names ask first second i j a (suc k) within asks firsts se
 )
 
 pub pair_brings : (code : CodedLog) (i j first second start : ℕ) → IsCodedLog (code_after code (pair_added i j) start) →
-    ((t : ℕ) → t ≤ code.grid.steps → name_of (code_names code) (first + t) ≡ Some (done i t)) → ((t : ℕ) → t ≤ code.grid.steps → name_of (code_names code) (second + t) ≡ Some (done j t)) →
+    ((t : ℕ) → t ≤ code.grid.steps → name_of (log_names code) (first + t) ≡ Some (done i t)) → ((t : ℕ) → t ≤ code.grid.steps → name_of (log_names code) (second + t) ≡ Some (done j t)) →
     IsListed (read_names (code_after code (pair_added i j) start)) (added_list code.net code.log code.grid.steps (pair_added i j)) (pair_written code.asked first second code.grid.steps)
     × (length (pair_written code.asked first second code.grid.steps) + 12 * question_size code.net code.log code.grid.steps ≤ 12 * question_size code.net (with_addition code.log (pair_added i j)) code.grid.steps + 12)
 pair_brings code i j first second start grown firsts seconds =

@@ -11,7 +11,7 @@ use Rattle.log_order.specs.Log.{Log, Alarm}
 use Rattle.log_clauses.specs.Additions.{alarm_added, with_addition}
 use Rattle.log_clauses.specs.Drafts.{taken_events}
 use Rattle.log_clauses.specs.LogClauses.{chain, observable_events}
-use Rattle.log_clauses.specs.LogNames.{HasPlaces, ReadsInOrder}
+use Rattle.log_clauses.specs.LogNames.{HasAlarmPlaces, ReadsInOrder}
 use Rattle.log_clauses.proofs.Lists.{pairs_filter}
 use Rattle.log_clauses.proofs.Numbered.{places_of_names}
 use Rattle.log_clauses.proofs.Stay.{doubtful_new}
@@ -19,12 +19,12 @@ use Rattle.log_encode.proofs.CodeLemmas.{names_with_alarm, raised, false_more}
 use Rattle.log_encode.proofs.StayLemmas.{end_stays, chain_joined, named_still}
 use Rattle.log_encode.proofs.TakenLemmas.{taken_are_events, taken_is_filter, width_is, map_count}
 use Rattle.log_encode.proofs.VariableLemmas.{link_is_small}
-use Rattle.log_encode.specs.AlarmVariables.{variable_count, false_width, dropped_variable}
-use Rattle.log_encode.specs.CodedLog.{CodedLog, code_names, code_after, addition_width, nameless, false_literals, IsCodedLog}
+use Rattle.log_encode.specs.AlarmVariables.{alarm_variable_count, false_width, dropped_variable}
+use Rattle.log_encode.specs.CodedLog.{CodedLog, log_names, code_after, addition_width, nameless, false_literals, IsCodedLog}
 use Rattle.log_encode.specs.declared.alarm_vars.AlarmVars.{AlarmVars}
 use Rattle.log_encode.specs.declared.taken.ChainEnd.{ChainEnd}
 use Rattle.log_encode.specs.declared.taken.Taken.{Taken}
-use Rattle.log_encode.specs.View.{IsChainEnd, AreEnds, AreFalse, IsAlarm}
+use Rattle.log_encode.specs.View.{IsChainEnd, AreEnds, AreFalse, IsCodedAlarm}
 use Rattle.log_encode.specs.Written.{has_any_label, taken_from, end_after, ends_after, guards_of, dropped_written}
 use Rattle.prop_core.specs.declared.lit.Lit.{Lit}
 use Rattle.prop_core.specs.VariableNames.{Name, NamedLiteral, name_of, yes, closed, remaining, done, dropped}
@@ -79,10 +79,10 @@ abbrev pub new_vars : CodedLog → ℕ → ℕ → Bool → AlarmVars
 new_vars code first links maybe = record { start = first; links = links; steps = code.grid.steps; doubtful = maybe }
 
 -- the names of the longer log, where they are
-pub places : (code : CodedLog) (labels : List (List ℕ)) (maybe : Bool) (first : ℕ) → IsCodedLog code → code.vars ≤ first → HasPlaces code.net code.log code.grid.steps first (nameless labels maybe) (code_names (code_after code (alarm_added (nameless labels maybe)) first))
+pub places : (code : CodedLog) (labels : List (List ℕ)) (maybe : Bool) (first : ℕ) → IsCodedLog code → code.vars ≤ first → HasAlarmPlaces code.net code.log code.grid.steps first (nameless labels maybe) (log_names (code_after code (alarm_added (nameless labels maybe)) first))
 places code labels maybe first coded above =
-    subst (HasPlaces code.net code.log code.grid.steps first (nameless labels maybe)) (sym (names_with_alarm code (nameless labels maybe) first coded.each))
-    (places_of_names code.net code.log code.grid.steps first (nameless labels maybe) (code_names code) (raised code.net code.log code.grid.steps code.vars first (code_names code) above coded.names))
+    subst (HasAlarmPlaces code.net code.log code.grid.steps first (nameless labels maybe)) (sym (names_with_alarm code (nameless labels maybe) first coded.each))
+    (places_of_names code.net code.log code.grid.steps first (nameless labels maybe) (log_names code) (raised code.net code.log code.grid.steps code.vars first (log_names code) above coded.names))
 
 joined_count : (net : Net) (log : Log) (new : Alarm) (e : ℕ) → has_any_label net new.labels e ≡ true → length (chain net (with_addition log (alarm_added new)) e) ≡ suc (length (chain net log e))
 joined_count net log new e h = ap length (chain_joined net log new e h) ∙ omega (arith, length-append (chain net log e) (length log.alarms ∷ []))
@@ -93,25 +93,25 @@ get_at (x ∷ before) after e = get_at before after e
 
 -- a chain that the alarm joins
 joined_end : (code : CodedLog) (labels : List (List ℕ)) (maybe : Bool) (first links link e : ℕ) → IsCodedLog code → code.vars ≤ first → has_any_label code.net labels e ≡ true →
-    slice_get (taken_events code.net code.log (nameless labels maybe)) link ≡ Some e → link < links → addition_width code (alarm_added (nameless labels maybe)) ≡ variable_count links code.grid.steps + false_width maybe →
+    slice_get (taken_events code.net code.log (nameless labels maybe)) link ≡ Some e → link < links → addition_width code (alarm_added (nameless labels maybe)) ≡ alarm_variable_count links code.grid.steps + false_width maybe →
     IsChainEnd (code_after code (alarm_added (nameless labels maybe)) first) (end_after (new_vars code first links maybe) link e)
 joined_end code labels maybe first links link e coded above h at inside width =
     let there = places code labels maybe first coded above in
     let count = joined_count code.net code.log (nameless labels maybe) e h in
     let bound = link_is_small links (1 + code.grid.steps * 2) link inside in record {
-      closing = subst (λ k. name_of (code_names (code_after code (alarm_added (nameless labels maybe)) first)) (first + link * (1 + code.grid.steps * 2)) ≡ Some (closed e k)) (sym count) (there.closing link e at);
+      closing = subst (λ k. name_of (log_names (code_after code (alarm_added (nameless labels maybe)) first)) (first + link * (1 + code.grid.steps * 2)) ≡ Some (closed e k)) (sym count) (there.closing link e at);
       rest = (
         omega (arith, bound, width),
         λ t time.
             let var : first + (link * (1 + code.grid.steps * 2) + suc (t * 2 + 1)) ≡ first + (link * (1 + code.grid.steps * 2) + suc (0 * 2 + 1)) + t * 2 = omega arith in
-            subst (λ v. name_of (code_names (code_after code (alarm_added (nameless labels maybe)) first)) v ≡ Some (remaining e (length (chain code.net (with_addition code.log (alarm_added (nameless labels maybe))) e)) (suc t))) var
-            (subst (λ k. name_of (code_names (code_after code (alarm_added (nameless labels maybe)) first)) (first + (link * (1 + code.grid.steps * 2) + suc (t * 2 + 1))) ≡ Some (remaining e k (suc t))) (sym count) (there.passing link e t at time)),
+            subst (λ v. name_of (log_names (code_after code (alarm_added (nameless labels maybe)) first)) v ≡ Some (remaining e (length (chain code.net (with_addition code.log (alarm_added (nameless labels maybe))) e)) (suc t))) var
+            (subst (λ k. name_of (log_names (code_after code (alarm_added (nameless labels maybe)) first)) (first + (link * (1 + code.grid.steps * 2) + suc (t * 2 + 1))) ≡ Some (remaining e k (suc t))) (sym count) (there.passing link e t at time)),
       );
     }
 
 -- all ends, after the links before
 ends_grow : (code : CodedLog) (labels : List (List ℕ)) (maybe : Bool) (first links : ℕ) (before : List ℕ) (ends : List ChainEnd) → IsCodedLog code → code.vars ≤ first →
-    addition_width code (alarm_added (nameless labels maybe)) ≡ variable_count links code.grid.steps + false_width maybe → length (taken_events code.net code.log (nameless labels maybe)) ≡ links →
+    addition_width code (alarm_added (nameless labels maybe)) ≡ alarm_variable_count links code.grid.steps + false_width maybe → length (taken_events code.net code.log (nameless labels maybe)) ≡ links →
     taken_events code.net code.log (nameless labels maybe) ≡ before ++ filter (has_any_label code.net labels) (map (λ (end : ChainEnd). end.event) ends) → AllByRecursion (IsChainEnd code) ends →
     AllByRecursion (IsChainEnd (code_after code (alarm_added (nameless labels maybe)) first)) (lengthened code.net labels (new_vars code first links maybe) (length before) ends)
 ends_grow code labels maybe first links before [] coded above width count are all = tt
@@ -140,7 +140,7 @@ pub taken_count : (code : CodedLog) (labels : List (List ℕ)) (maybe : Bool) (e
 taken_count code labels maybe ends are = ap length (sym (taken_are_events code.net code.log labels maybe ends are)) ∙ map_count (λ (taken : Taken). taken.event) (taken_from code.net labels ends)
 
 pub taken_width : (code : CodedLog) (labels : List (List ℕ)) (maybe : Bool) (ends : List ChainEnd) → map (λ (end : ChainEnd). end.event) ends ≡ observable_events code.net →
-    addition_width code (alarm_added (nameless labels maybe)) ≡ variable_count (length (taken_from code.net labels ends)) code.grid.steps + false_width maybe
+    addition_width code (alarm_added (nameless labels maybe)) ≡ alarm_variable_count (length (taken_from code.net labels ends)) code.grid.steps + false_width maybe
 taken_width code labels maybe ends are = width_is code.net code.log code.grid.steps labels maybe (taken_from code.net labels ends) (taken_are_events code.net code.log labels maybe ends are)
 
 pub ends_with_alarm : (code : CodedLog) (labels : List (List ℕ)) (maybe : Bool) (first : ℕ) (ends : List ChainEnd) (guards : List Lit) → IsCodedLog code → code.vars ≤ first → AreEnds code ends guards →
@@ -160,16 +160,16 @@ ends_with_alarm code labels maybe first ends guards coded above are =
     }
 
 pub new_alarm : (code : CodedLog) (labels : List (List ℕ)) (maybe : Bool) (first : ℕ) (ends : List ChainEnd) → IsCodedLog code → code.vars ≤ first → map (λ (end : ChainEnd). end.event) ends ≡ observable_events code.net →
-    IsAlarm (code_after code (alarm_added (nameless labels maybe)) first) (length code.log.alarms) (record { labels = labels; doubtful = maybe; takes = taken_from code.net labels ends; start = first })
+    IsCodedAlarm (code_after code (alarm_added (nameless labels maybe)) first) (length code.log.alarms) (record { labels = labels; doubtful = maybe; takes = taken_from code.net labels ends; start = first })
 new_alarm code labels maybe first ends coded above are =
     let there = places code labels maybe first coded above in
     let width = taken_width code labels maybe ends are in record {
       events = taken_are_events code.net code.log labels maybe ends are;
       within = omega (arith, width);
       matching = λ p e t at time. there.matching p e t at time;
-      being_done = λ t time. subst (λ k. name_of (code_names (code_after code (alarm_added (nameless labels maybe)) first)) (first + (k * (1 + code.grid.steps * 2) + t)) ≡ Some (done (length code.log.alarms) t)) (taken_count code labels maybe ends are) (there.being_done t time);
+      being_done = λ t time. subst (λ k. name_of (log_names (code_after code (alarm_added (nameless labels maybe)) first)) (first + (k * (1 + code.grid.steps * 2) + t)) ≡ Some (done (length code.log.alarms) t)) (taken_count code labels maybe ends are) (there.being_done t time);
       mark = doubtful_new code.log (nameless labels maybe);
-      being_false = λ h. subst (λ k. name_of (code_names (code_after code (alarm_added (nameless labels maybe)) first)) (first + (k * (1 + code.grid.steps * 2) + (suc code.grid.steps + code.grid.steps * chain_count k))) ≡ Some (dropped (length code.log.alarms))) (taken_count code labels maybe ends are) (there.being_false h);
+      being_false = λ h. subst (λ k. name_of (log_names (code_after code (alarm_added (nameless labels maybe)) first)) (first + (k * (1 + code.grid.steps * 2) + (suc code.grid.steps + code.grid.steps * chain_count k))) ≡ Some (dropped (length code.log.alarms))) (taken_count code labels maybe ends are) (there.being_false h);
     }
 
 -- ---- what says that alarms are false
@@ -185,12 +185,12 @@ pub false_with_alarm : (code : CodedLog) (labels : List (List ℕ)) (maybe : Boo
 false_with_alarm code labels maybe first ends lits coded above are old =
     let after = code_after code (alarm_added (nameless labels maybe)) first in
     let vars = new_vars code first (length (taken_from code.net labels ends)) maybe in
-    let kept = reads_still (code_names code) (code_names after) lits (false_literals code.log) (λ v x h. named_still code (nameless labels maybe) first v x coded.each h) old in
-    subst (ReadsInOrder (code_names after) (lits ++ dropped_written vars)) (sym (false_more code.log (nameless labels maybe)))
+    let kept = reads_still (log_names code) (log_names after) lits (false_literals code.log) (λ v x h. named_still code (nameless labels maybe) first v x coded.each h) old in
+    subst (ReadsInOrder (log_names after) (lits ++ dropped_written vars)) (sym (false_more code.log (nameless labels maybe)))
     (zip_append _ lits (false_literals code.log) (dropped_written vars) (if maybe then yes (dropped (length code.log.alarms)) ∷ [] else []) kept
     (by maybe (new_alarm code labels maybe first ends coded above are).being_false))
   where
-    by : (b : Bool) → (b ≡ true → name_of (code_names (code_after code (alarm_added (nameless labels maybe)) first)) (dropped_variable (new_vars code first (length (taken_from code.net labels ends)) maybe)) ≡ Some (dropped (length code.log.alarms))) →
-        ReadsInOrder (code_names (code_after code (alarm_added (nameless labels maybe)) first)) (if b then (record { var = dropped_variable (new_vars code first (length (taken_from code.net labels ends)) maybe); positive = true }) ∷ [] else []) (if b then yes (dropped (length code.log.alarms)) ∷ [] else [])
+    by : (b : Bool) → (b ≡ true → name_of (log_names (code_after code (alarm_added (nameless labels maybe)) first)) (dropped_variable (new_vars code first (length (taken_from code.net labels ends)) maybe)) ≡ Some (dropped (length code.log.alarms))) →
+        ReadsInOrder (log_names (code_after code (alarm_added (nameless labels maybe)) first)) (if b then (record { var = dropped_variable (new_vars code first (length (taken_from code.net labels ends)) maybe); positive = true }) ∷ [] else []) (if b then yes (dropped (length code.log.alarms)) ∷ [] else [])
     by true h = ((h refl, refl), tt)
     by false h = tt

@@ -11,7 +11,7 @@ use Rattle.des_base.specs.ChainCount.{chain_count}
 use Rattle.des_base.specs.Lists.{numbers_below}
 use Rattle.des_net.specs.Network.{Net}
 use Rattle.log_order.specs.Log.{Log, is_doubtful}
-use Rattle.log_clauses.specs.Drafts.{link_clauses, match_clauses, done_clauses, real_clauses}
+use Rattle.log_clauses.specs.Drafts.{alarm_link_clauses, match_clauses, done_clauses, real_clauses}
 use Rattle.log_clauses.specs.LogClauses.{LogClause, log_clause, matching_events, one_match, match_is_real, not_done_first, done_if_asked, or_false}
 use Rattle.log_clauses.proofs.Numbered.{ordered_names}
 use Rattle.card_counter.specs.CounterState.{positive, negative}
@@ -72,7 +72,7 @@ pub record AreLinkNames (names : List (ℕ × Name)) (i e k t : ℕ) (v : LinkVa
   pub before : name_of names v.before ≡ Some (done i t)
   pub after : name_of names v.after ≡ Some (done i (suc t))
 
-pub link_reads : (net : Net) (log : Log) (n : ℕ) (names : List (ℕ × Name)) (i e k t : ℕ) (v : LinkVars) → AreLinkNames names i e k t v → AllZip (Reads net log n names) (link_written v) (link_clauses i e k t)
+pub link_reads : (net : Net) (log : Log) (n : ℕ) (names : List (ℕ × Name)) (i e k t : ℕ) (v : LinkVars) → AreLinkNames names i e k t v → AllZip (Reads net log n names) (link_written v) (alarm_link_clauses i e k t)
 link_reads net log n names i e k t v are = (
   reads_two names v.closed v.passed false false _ _ are.closing are.passing,
   (

@@ -12,9 +12,9 @@ use Rattle.log_clauses.proofs.Stay.{matching_same, chain_is, doubtful_same}
 use Rattle.log_encode.proofs.CodeLemmas.{names_with_alarm}
 use Rattle.log_encode.proofs.TakenLemmas.{suits_new}
 use Rattle.log_encode.specs.AlarmState.{AlarmState}
-use Rattle.log_encode.specs.CodedLog.{CodedLog, code_names, code_after, addition_width, nameless, IsCodedLog}
+use Rattle.log_encode.specs.CodedLog.{CodedLog, log_names, code_after, addition_width, nameless, IsCodedLog}
 use Rattle.log_encode.specs.declared.taken.ChainEnd.{ChainEnd}
-use Rattle.log_encode.specs.View.{IsChainEnd, IsRest, AreEnds, AreFalse, IsAlarm, AreKept, coded_of}
+use Rattle.log_encode.specs.View.{IsChainEnd, IsRest, AreEnds, AreFalse, IsCodedAlarm, AreKept, coded_of}
 use Rattle.log_encode.specs.Written.{has_any_label}
 use Rattle.prop_core.proofs.NameLemmas.{found_more}
 use Rattle.prop_core.specs.declared.grid.Grid.{Grid}
@@ -24,16 +24,16 @@ use Rattle.replay.specs.Explanation.{is_matching}
 use Rattle.run_clauses.specs.LaidOut.{laid_out}
 
 -- what has a name keeps it
-pub named_still : (code : CodedLog) (new : Alarm) (first var : ℕ) (name : Name) → length code.starts ≡ length code.log.alarms → name_of (code_names code) var ≡ Some name →
-    name_of (code_names (code_after code (alarm_added new) first)) var ≡ Some name
+pub named_still : (code : CodedLog) (new : Alarm) (first var : ℕ) (name : Name) → length code.starts ≡ length code.log.alarms → name_of (log_names code) var ≡ Some name →
+    name_of (log_names (code_after code (alarm_added new) first)) var ≡ Some name
 named_still code new first var name same h =
-    subst (λ names. name_of names var ≡ Some name) (sym (names_with_alarm code new first same)) (found_more (code_names code) (laid_out first (added_names code.net code.log code.grid.steps (alarm_added new))) var name h)
+    subst (λ names. name_of names var ≡ Some name) (sym (names_with_alarm code new first same)) (found_more (log_names code) (laid_out first (added_names code.net code.log code.grid.steps (alarm_added new))) var name h)
 
 pub matching_still : (net : Net) (log : Log) (new : Alarm) (i : ℕ) → i < length log.alarms → matching_events net (with_addition log (alarm_added new)) i ≡ matching_events net log i
 matching_still net log new i h =
     filter_alike (λ e. is_matching net (with_addition log (alarm_added new)) e i) (λ e. is_matching net log e i) (numbers_below (length net.events)) (λ e. matching_same net log new e i h)
 
-pub alarm_stays : (code : CodedLog) (new : Alarm) (first i : ℕ) (alarm : AlarmState) → IsCodedLog code → code.vars ≤ first → i < length code.log.alarms → IsAlarm code i alarm → IsAlarm (code_after code (alarm_added new) first) i alarm
+pub alarm_stays : (code : CodedLog) (new : Alarm) (first i : ℕ) (alarm : AlarmState) → IsCodedLog code → code.vars ≤ first → i < length code.log.alarms → IsCodedAlarm code i alarm → IsCodedAlarm (code_after code (alarm_added new) first) i alarm
 alarm_stays code new first i alarm coded above known is =
     let same = matching_still code.net code.log new i known in record {
       events = is.events ∙ sym same;
@@ -62,12 +62,12 @@ rest_stays : (code : CodedLog) (new : Alarm) (first e : ℕ) (last : Option ℕ)
 rest_stays code new first e None coded above apart is = ap length (chain_kept code.net code.log new e apart) ∙ is
 rest_stays code new first e (Some start) coded above apart is = (
   omega (arith, is.0),
-  λ t time. named_still code new first _ _ coded.each (subst (λ xs. name_of (code_names code) (start + t * 2) ≡ Some (remaining e (length xs) (suc t))) (sym (chain_kept code.net code.log new e apart)) (is.1 t time)),
+  λ t time. named_still code new first _ _ coded.each (subst (λ xs. name_of (log_names code) (start + t * 2) ≡ Some (remaining e (length xs) (suc t))) (sym (chain_kept code.net code.log new e apart)) (is.1 t time)),
 )
 
 pub end_stays : (code : CodedLog) (new : Alarm) (first : ℕ) (end : ChainEnd) → IsCodedLog code → code.vars ≤ first → has_any_label code.net new.labels end.event ≡ false → IsChainEnd code end → IsChainEnd (code_after code (alarm_added new) first) end
 end_stays code new first end coded above apart is = record {
-  closing = named_still code new first _ _ coded.each (subst (λ xs. name_of (code_names code) end.closed ≡ Some (closed end.event (length xs))) (sym (chain_kept code.net code.log new end.event apart)) is.closing);
+  closing = named_still code new first _ _ coded.each (subst (λ xs. name_of (log_names code) end.closed ≡ Some (closed end.event (length xs))) (sym (chain_kept code.net code.log new end.event apart)) is.closing);
   rest = rest_stays code new first end.event end.last coded above apart is.rest;
 }
 
@@ -118,15 +118,15 @@ coded_with_alarm net grid asked vars first alarms pairs alarm begins =
 
 pub kept_with_alarm : (code : CodedLog) (first : ℕ) (ends after : List ChainEnd) (guards then dropped later : List Lit) (alarms : List AlarmState) (alarm : AlarmState) → length code.log.alarms ≡ length alarms →
     IsCodedLog (code_after code (alarm_added (nameless alarm.labels alarm.doubtful)) first) → code.vars ≤ first → AreKept code ends guards dropped alarms →
-    AreEnds (code_after code (alarm_added (nameless alarm.labels alarm.doubtful)) first) after then → AreFalse (code_after code (alarm_added (nameless alarm.labels alarm.doubtful)) first) later → IsAlarm (code_after code (alarm_added (nameless alarm.labels alarm.doubtful)) first) (length code.log.alarms) alarm →
+    AreEnds (code_after code (alarm_added (nameless alarm.labels alarm.doubtful)) first) after then → AreFalse (code_after code (alarm_added (nameless alarm.labels alarm.doubtful)) first) later → IsCodedAlarm (code_after code (alarm_added (nameless alarm.labels alarm.doubtful)) first) (length code.log.alarms) alarm →
     AreKept (code_after code (alarm_added (nameless alarm.labels alarm.doubtful)) first) after then later (alarms ++ alarm ∷ [])
 kept_with_alarm code first ends after guards then dropped later alarms alarm count coded above kept chains false_ones is = record {
   log = coded;
   chains = chains;
   false_ones = false_ones;
-  alarms = get_snoc (IsAlarm (code_after code (alarm_added (nameless alarm.labels alarm.doubtful)) first)) alarms alarm
+  alarms = get_snoc (IsCodedAlarm (code_after code (alarm_added (nameless alarm.labels alarm.doubtful)) first)) alarms alarm
       (λ i a at. alarm_stays code (nameless alarm.labels alarm.doubtful) first i a kept.log above (omega (arith, count, got_within alarms i a at)) (kept.alarms i a at))
-      (subst (λ k. IsAlarm (code_after code (alarm_added (nameless alarm.labels alarm.doubtful)) first) k alarm) count is);
+      (subst (λ k. IsCodedAlarm (code_after code (alarm_added (nameless alarm.labels alarm.doubtful)) first) k alarm) count is);
 }
   where
     got_within : (xs : List AlarmState) (i : ℕ) (a : AlarmState) → slice_get xs i ≡ Some a → i < length xs

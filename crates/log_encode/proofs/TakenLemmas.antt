@@ -14,7 +14,7 @@ use Rattle.log_clauses.specs.Drafts.{taken_events}
 use Rattle.log_clauses.specs.LogClauses.{chain, observable_events}
 use Rattle.log_clauses.specs.LogNames.{added_names, alarm_names, match_chains, false_names, link_names}
 use Rattle.log_clauses.proofs.Drafts.{flat_length}
-use Rattle.log_encode.specs.AlarmVariables.{variable_count, false_width}
+use Rattle.log_encode.specs.AlarmVariables.{alarm_variable_count, false_width}
 use Rattle.log_encode.specs.CodedLog.{nameless}
 use Rattle.log_encode.specs.declared.taken.ChainEnd.{ChainEnd}
 use Rattle.log_encode.specs.declared.taken.Taken.{Taken}
@@ -84,7 +84,7 @@ false_is_small false = omega arith
 
 -- how many variables a new alarm takes
 pub width_is : (net : Net) (log : Log) (n : ℕ) (labels : List (List ℕ)) (maybe : Bool) (takes : List Taken) → map (λ (taken : Taken). taken.event) takes ≡ taken_events net log (nameless labels maybe) →
-    length (added_names net log n (alarm_added (nameless labels maybe))) ≡ variable_count (length takes) n + false_width maybe
+    length (added_names net log n (alarm_added (nameless labels maybe))) ≡ alarm_variable_count (length takes) n + false_width maybe
 width_is net log n labels maybe takes is =
     let new = nameless labels maybe in
     let links = flat_length (λ e. link_names n (length log.alarms) e (length (chain net log e))) (taken_events net log new) (1 + n * 2) (λ e. link_size n (length log.alarms) e (length (chain net log e))) in

@@ -13,7 +13,7 @@ use Rattle.log_clauses.specs.Drafts.{added_list, first_list}
 use Rattle.log_clauses.proofs.Explained.{log_code_is_exact}
 use Rattle.log_encode.proofs.CodeLemmas.{beside, grown_is_coded, names_with_alarm}
 use Rattle.log_encode.proofs.TakenLemmas.{map_count}
-use Rattle.log_encode.specs.CodedLog.{CodedLog, code_names, read_names, code_after, without_names, nameless, IsCodedLog}
+use Rattle.log_encode.specs.CodedLog.{CodedLog, log_names, read_names, code_after, without_names, nameless, IsCodedLog}
 use Rattle.log_encode.specs.BuiltLog.{DraftIsBuilt, FirstIsBuilt}
 use Rattle.log_encode.specs.Drafted.{DraftState, IsDraftOf}
 use Rattle.log_encode.specs.WrittenLog.{WrittenGrows, WrittenIsExact, NamesDontMatter}
@@ -24,20 +24,20 @@ use Rattle.run_clauses.specs.LaidOut.{laid_out, event_block}
 use Rattle.std.proofs.lemmas.List.Elements.{Contains-append_cases, Contains-append_left, Contains-append_right}
 
 -- the names of a code are among those of a longer one
-names_stay : (code : CodedLog) (addition : Addition) (first : ℕ) → IsCodedLog code → (entry : ℕ × Name) → Contains (code_names code) entry → Contains (code_names (code_after code addition first)) entry
+names_stay : (code : CodedLog) (addition : Addition) (first : ℕ) → IsCodedLog code → (entry : ℕ × Name) → Contains (log_names code) entry → Contains (log_names (code_after code addition first)) entry
 names_stay code (alarm_added new) first coded entry here =
-    subst (λ names. Contains names entry) (sym (names_with_alarm code new first coded.each)) (Contains-append_left (code_names code) (laid_out first (added_names code.net code.log code.grid.steps (alarm_added new))) entry here)
+    subst (λ names. Contains names entry) (sym (names_with_alarm code new first coded.each)) (Contains-append_left (log_names code) (laid_out first (added_names code.net code.log code.grid.steps (alarm_added new))) entry here)
 names_stay code (pair_added i j) first coded entry here = here
 
 among : (code : CodedLog) (addition : Addition) (first : ℕ) → IsCodedLog code → AreAmong (read_names code) (read_names (code_after code addition first))
-among code addition first coded entry here = by (Contains-append_cases events (code_names code) entry here)
+among code addition first coded entry here = by (Contains-append_cases events (log_names code) entry here)
   where
     events : List (ℕ × Name)
     events = laid_out code.grid.first (event_block code.grid.steps (length code.net.events))
 
-    by : Contains events entry ⊎ Contains (code_names code) entry → Contains (events ++ code_names (code_after code addition first)) entry
-    by (inl event) = Contains-append_left events (code_names (code_after code addition first)) entry event
-    by (inr own) = Contains-append_right events (code_names (code_after code addition first)) entry (names_stay code addition first coded entry own)
+    by : Contains events entry ⊎ Contains (log_names code) entry → Contains (events ++ log_names (code_after code addition first)) entry
+    by (inl event) = Contains-append_left events (log_names (code_after code addition first)) entry event
+    by (inr own) = Contains-append_right events (log_names (code_after code addition first)) entry (names_stay code addition first coded entry own)
 
 -- a draft is one of its own addition and first variable
 pub its_own : (code : CodedLog) (addition : Addition) (first : ℕ) (draft : DraftState) → IsDraftOf code addition first draft → IsDraftOf code draft.addition draft.first draft

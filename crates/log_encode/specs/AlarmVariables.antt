@@ -9,8 +9,8 @@ abbrev pub link_width : ℕ → ℕ
 link_width steps = 1 + steps * 2
 
 -- how many a certain alarm has: of its links, of when it is done, and of the chains over its matches
-abbrev pub variable_count : ℕ → ℕ → ℕ
-variable_count links steps = links * link_width steps + (suc steps + steps * chain_count links)
+abbrev pub alarm_variable_count : ℕ → ℕ → ℕ
+alarm_variable_count links steps = links * link_width steps + (suc steps + steps * chain_count links)
 
 -- and how many more a doubtful one
 abbrev pub false_width : Bool → ℕ
@@ -19,7 +19,7 @@ false_width false = 0
 
 -- how many variables an alarm has in all
 abbrev pub alarm_width : AlarmVars → ℕ
-alarm_width vars = variable_count vars.links vars.steps + false_width vars.doubtful
+alarm_width vars = alarm_variable_count vars.links vars.steps + false_width vars.doubtful
 
 -- the first variable of a link ends the chain after it
 abbrev pub closed_variable : AlarmVars → ℕ → ℕ
@@ -46,5 +46,5 @@ abbrev pub dropped_variable : AlarmVars → ℕ
 dropped_variable vars = vars.start + (vars.links * link_width vars.steps + (suc vars.steps + vars.steps * chain_count vars.links))
 
 -- all are within the limit of variables
-abbrev pub IsWithin : AlarmVars → Type 0
-IsWithin vars = vars.start + alarm_width vars ≤ VAR_LIMIT
+abbrev pub AreWithinLimit : AlarmVars → Type 0
+AreWithinLimit vars = vars.start + alarm_width vars ≤ VAR_LIMIT

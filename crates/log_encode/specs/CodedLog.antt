@@ -39,12 +39,12 @@ names_from net n log (alarm ∷ alarms) (start ∷ starts) =
     laid_out start (added_names net log n (alarm_added alarm)) ++ names_from net n (with_addition log (alarm_added alarm)) alarms starts
 
 -- the variables that the code made, and what they stand for
-abbrev pub code_names : CodedLog → List (ℕ × Name)
-code_names code = laid_out code.asked (first_names code.net) ++ names_from code.net code.grid.steps no_log code.log.alarms code.starts
+abbrev pub log_names : CodedLog → List (ℕ × Name)
+log_names code = laid_out code.asked (first_names code.net) ++ names_from code.net code.grid.steps no_log code.log.alarms code.starts
 
 -- those that its clauses have: of the events too
 abbrev pub read_names : CodedLog → List (ℕ × Name)
-read_names code = with_events code.net code.grid.steps code.grid.first (code_names code)
+read_names code = with_events code.net code.grid.steps code.grid.first (log_names code)
 
 -- that an alarm is false, for each doubtful one
 abbrev pub false_literals : Log → List NamedLiteral
@@ -79,8 +79,8 @@ code_after code addition first = record code {
 pub record IsCodedLog (code : CodedLog) : Type 0 where
   pub events : code.grid.events ≡ length code.net.events
   pub made : code.grid.first + code.grid.events * code.grid.steps ≤ code.asked
-  pub names : AreLogNames code.net code.log code.grid.steps code.vars (code_names code)
-  pub after : AllByRecursion (λ entry. code.asked ≤ entry.0) (code_names code)
+  pub names : AreLogNames code.net code.log code.grid.steps code.vars (log_names code)
+  pub after : AllByRecursion (λ entry. code.asked ≤ entry.0) (log_names code)
   pub few : code.vars ≤ VAR_LIMIT
   pub each : length code.starts ≡ length code.log.alarms
   pub alarms : length code.log.alarms ≤ code.vars

@@ -37,7 +37,7 @@ HasRoomFor state (alarm_added new) = 1 ≤ state.spare_alarms
 HasRoomFor state (pair_added i j) = 1 ≤ state.spare_pairs
 
 -- the least number of steps within which alarm i is done
-pub record IsStepOf (n : ℕ) (value : Name → Bool) (i step : ℕ) : Type 0 where
+pub record IsStepOfAlarm (n : ℕ) (value : Name → Bool) (i step : ℕ) : Type 0 where
   pub within : step ≤ n
   pub is : value (done i step) ≡ true
   pub least : (t : ℕ) → t < step → value (done i t) ≡ false

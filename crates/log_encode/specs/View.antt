@@ -13,7 +13,7 @@ use Rattle.log_encode.specs.declared.taken.ChainEnd.{ChainEnd}
 use Rattle.log_encode.specs.declared.taken.Taken.{Taken}
 use Rattle.log_encode.specs.AlarmState.{AlarmState, variables_of}
 use Rattle.log_encode.specs.AlarmVariables.{match_variable, done_variable, dropped_variable, alarm_width}
-use Rattle.log_encode.specs.CodedLog.{CodedLog, nameless, code_names, false_literals, IsCodedLog, code_after, addition_width}
+use Rattle.log_encode.specs.CodedLog.{CodedLog, nameless, log_names, false_literals, IsCodedLog, code_after, addition_width}
 use Rattle.log_encode.specs.Drafted.{LogCodeState, DraftState}
 use Rattle.log_encode.specs.Written.{guards_of}
 use Rattle.log_clauses.specs.LogNames.{ReadsInOrder}
@@ -47,11 +47,11 @@ code_view a = record { code = coded a; spare_alarms = a.spare_alarms; spare_pair
 abbrev pub IsRest : CodedLog → ℕ → Option ℕ → Type 0
 IsRest code e None = length (chain code.net code.log e) ≡ 0
 IsRest code e (Some first) = (first + code.grid.steps * 2 ≤ code.vars)
-    × ((t : ℕ) → t < code.grid.steps → name_of (code_names code) (first + t * 2) ≡ Some (remaining e (length (chain code.net code.log e)) (suc t)))
+    × ((t : ℕ) → t < code.grid.steps → name_of (log_names code) (first + t * 2) ≡ Some (remaining e (length (chain code.net code.log e)) (suc t)))
 
 -- the end stands behind the present alarms of its chain: its variable closes the chain there, and what comes to it is what these leave
 pub record IsChainEnd (code : CodedLog) (end : ChainEnd) : Type 0 where
-  pub closing : name_of (code_names code) end.closed ≡ Some (closed end.event (length (chain code.net code.log end.event)))
+  pub closing : name_of (log_names code) end.closed ≡ Some (closed end.event (length (chain code.net code.log end.event)))
   pub rest : IsRest code end.event end.last
 
 -- the ends of the chains of all events that can be seen, and the guards
@@ -61,28 +61,28 @@ pub record AreEnds (code : CodedLog) (ends : List ChainEnd) (guards : List Lit) 
   pub guarding : guards ≡ guards_of code.asked ends
 
 -- alarm i takes the events that it may stand for, and its variables are its own
-pub record IsAlarm (code : CodedLog) (i : ℕ) (alarm : AlarmState) : Type 0 where
+pub record IsCodedAlarm (code : CodedLog) (i : ℕ) (alarm : AlarmState) : Type 0 where
   pub events : map (λ (taken : Taken). taken.event) alarm.takes ≡ matching_events code.net code.log i
   pub within : alarm.start + alarm_width (variables_of code.grid.steps alarm) ≤ code.vars
   pub matching : (p e t : ℕ) → slice_get (matching_events code.net code.log i) p ≡ Some e → t < code.grid.steps →
-      name_of (code_names code) (match_variable (variables_of code.grid.steps alarm) p t) ≡ Some (matches i e (suc t))
-  pub being_done : (t : ℕ) → t ≤ code.grid.steps → name_of (code_names code) (done_variable (variables_of code.grid.steps alarm) t) ≡ Some (done i t)
+      name_of (log_names code) (match_variable (variables_of code.grid.steps alarm) p t) ≡ Some (matches i e (suc t))
+  pub being_done : (t : ℕ) → t ≤ code.grid.steps → name_of (log_names code) (done_variable (variables_of code.grid.steps alarm) t) ≡ Some (done i t)
   pub mark : is_doubtful code.log i ≡ alarm.doubtful
-  pub being_false : alarm.doubtful ≡ true → name_of (code_names code) (dropped_variable (variables_of code.grid.steps alarm)) ≡ Some (dropped i)
+  pub being_false : alarm.doubtful ≡ true → name_of (log_names code) (dropped_variable (variables_of code.grid.steps alarm)) ≡ Some (dropped i)
 
 -- these say of the doubtful alarms, one after another, that they are false
 abbrev pub AreFalse : CodedLog → List Lit → Type 0
-AreFalse code lits = ReadsInOrder (code_names code) lits (false_literals code.log)
+AreFalse code lits = ReadsInOrder (log_names code) lits (false_literals code.log)
 
 -- what is kept beside a code
 pub record AreKept (code : CodedLog) (ends : List ChainEnd) (guards dropped : List Lit) (states : List AlarmState) : Type 0 where
   pub log : IsCodedLog code
   pub chains : AreEnds code ends guards
   pub false_ones : AreFalse code dropped
-  pub alarms : (i : ℕ) (alarm : AlarmState) → slice_get states i ≡ Some alarm → IsAlarm code i alarm
+  pub alarms : (i : ℕ) (alarm : AlarmState) → slice_get states i ≡ Some alarm → IsCodedAlarm code i alarm
 
 -- what the fields keep: all that stands beside the code fits it, and the room that they tell is there
-pub record IsLogCode (a : Inside) : Type 0 where
+pub record KeepsLogCode (a : Inside) : Type 0 where
   pub kept : AreKept (coded a) a.ends.items a.guards.items a.dropped.items a.alarms.items
   pub room_for_alarms : vec_len a.alarms + a.spare_alarms ≤ vec_capacity a.alarms
   pub room_for_pairs : vec_len a.pairs + a.spare_pairs ≤ vec_capacity a.pairs
@@ -102,7 +102,7 @@ draft_view a = record { code = a.code.value.code; addition = addition_of a.chang
 abbrev pub IsReadyChange : CodedLog → ℕ → Change → Type 0
 IsReadyChange code first (Alarm alarm ends guards lits) =
     (alarm.start ≡ first)
-    × IsAlarm (code_after code (alarm_added (nameless alarm.labels alarm.doubtful)) first) (length code.log.alarms) alarm
+    × IsCodedAlarm (code_after code (alarm_added (nameless alarm.labels alarm.doubtful)) first) (length code.log.alarms) alarm
     × AreEnds (code_after code (alarm_added (nameless alarm.labels alarm.doubtful)) first) ends.items guards.items
     × AreFalse (code_after code (alarm_added (nameless alarm.labels alarm.doubtful)) first) lits.items
 IsReadyChange code first (Pair i j) = ⊤

@@ -137,20 +137,20 @@ abbrev pub guards_of : ℕ → List ChainEnd → List Lit
 guards_of asked ends = positive asked ∷ map (λ (end : ChainEnd). positive end.closed) ends
 
 -- where the log is asked for, the first alarm, whose done variables begin here, is done no later than the second: for each number of steps below k
-abbrev pub pair_first : ℕ → ℕ → ℕ → ℕ → List Clause
-pair_first asked first second k = map (λ t. negative asked ∷ negative (second + t) ∷ positive (first + t) ∷ []) (numbers_below k)
+abbrev pub pair_written_below : ℕ → ℕ → ℕ → ℕ → List Clause
+pair_written_below asked first second k = map (λ t. negative asked ∷ negative (second + t) ∷ positive (first + t) ∷ []) (numbers_below k)
 
 -- the same for each number of steps up to n
 abbrev pub pair_written : ℕ → ℕ → ℕ → ℕ → List Clause
-pair_written asked first second n = pair_first asked first second (n + 1)
+pair_written asked first second n = pair_written_below asked first second (n + 1)
 
 -- where the chain of an event ends without an alarm, the event doesn't happen, in the first n steps
-abbrev pub closed_first : Grid → ChainEnd → ℕ → List Clause
-closed_first grid end n = map (λ t. negative end.closed ∷ negative (grid_variable grid end.event (suc t)) ∷ []) (numbers_below n)
+abbrev pub closed_written_below : Grid → ChainEnd → ℕ → List Clause
+closed_written_below grid end n = map (λ t. negative end.closed ∷ negative (grid_variable grid end.event (suc t)) ∷ []) (numbers_below n)
 
 -- the same in all steps
 abbrev pub closed_written : Grid → ChainEnd → List Clause
-closed_written grid end = closed_first grid end grid.steps
+closed_written grid end = closed_written_below grid end grid.steps
 
 -- the same of each of these chains
 abbrev pub all_closed_written : Grid → List ChainEnd → List Clause

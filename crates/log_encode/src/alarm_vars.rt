@@ -2,7 +2,7 @@
 ghost use Rattle.std.specs.Prelude.{◌≡◌, ◌+◌, ◌<◌, ◌≤◌, true};
 ghost use Rattle.des_base.specs.ChainCount.{chain_count};
 ghost use Rattle.des_base.specs.declared.TheConstants.{VAR_LIMIT};
-ghost use Rattle.log_encode.specs.AlarmVariables.{closed_variable, match_variable, passed_variable, done_variable, chain_variable, dropped_variable, alarm_width, false_width, IsWithin};
+ghost use Rattle.log_encode.specs.AlarmVariables.{closed_variable, match_variable, passed_variable, done_variable, chain_variable, dropped_variable, alarm_width, false_width, AreWithinLimit};
 
 use card_counter::chain_count;
 
@@ -28,7 +28,7 @@ impl AlarmVars {
     // How many they are.
     #[tactic(auto, using(crate::proofs::VariableLemmas::count_is_small))]
     pub fn count(self) -> u32
-        requires { IsWithin self }
+        requires { AreWithinLimit self }
         ensures { result ≡ alarm_width self }
     {
         self.links * (1 + self.steps * 2)
@@ -39,7 +39,7 @@ impl AlarmVars {
     // Ends the chain after a link.
     #[tactic(auto, using(crate::proofs::VariableLemmas::link_is_small))]
     pub fn closed(self, link: u32) -> u32
-        requires within { IsWithin self }
+        requires within { AreWithinLimit self }
         requires link { link < self.links }
         ensures { result ≡ closed_variable self link }
     {
@@ -49,7 +49,7 @@ impl AlarmVars {
     // Matches the alarm to the event of a link in the step after so many.
     #[tactic(auto, using(crate::proofs::VariableLemmas::link_is_small))]
     pub fn matched(self, link: u32, step: u32) -> u32
-        requires within { IsWithin self }
+        requires within { AreWithinLimit self }
         requires link { link < self.links }
         requires step { step < self.steps }
         ensures { result ≡ match_variable self link step }
@@ -60,7 +60,7 @@ impl AlarmVars {
     // Passes the event of a link on in the step after so many.
     #[tactic(auto, using(crate::proofs::VariableLemmas::link_is_small))]
     pub fn passed(self, link: u32, step: u32) -> u32
-        requires within { IsWithin self }
+        requires within { AreWithinLimit self }
         requires link { link < self.links }
         requires step { step < self.steps }
         ensures { result ≡ passed_variable self link step }
@@ -71,7 +71,7 @@ impl AlarmVars {
     // The first of those that pass the event of a link on.
     #[tactic(auto, using(crate::proofs::VariableLemmas::link_is_small))]
     pub fn first_passed(self, link: u32) -> u32
-        requires within { IsWithin self }
+        requires within { AreWithinLimit self }
         requires link { link < self.links }
         ensures { result ≡ passed_variable self link 0 }
     {
@@ -81,7 +81,7 @@ impl AlarmVars {
     // Says that the alarm is done within so many steps: matched, or false.
     #[tactic(auto, using(crate::proofs::VariableLemmas::count_is_small))]
     pub fn done(self, steps: u32) -> u32
-        requires within { IsWithin self }
+        requires within { AreWithinLimit self }
         requires step { steps ≤ self.steps }
         ensures { result ≡ done_variable self steps }
     {
@@ -90,7 +90,7 @@ impl AlarmVars {
 
     // The first of those by which the alarm is matched at most once in the step after so many.
     pub fn chain(self, step: u32) -> u32
-        requires within { IsWithin self }
+        requires within { AreWithinLimit self }
         requires step { step < self.steps }
         ensures first { result ≡ chain_variable self step }
         ensures room { result + chain_count self.links ≤ VAR_LIMIT }
@@ -103,7 +103,7 @@ impl AlarmVars {
     // Says that the alarm is false.
     #[tactic(auto, using(crate::proofs::VariableLemmas::count_is_small))]
     pub fn dropped(self) -> u32
-        requires within { IsWithin self }
+        requires within { AreWithinLimit self }
         requires doubtful { self.doubtful ≡ true }
         ensures { result ≡ dropped_variable self }
     {

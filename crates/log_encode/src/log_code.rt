@@ -1,16 +1,16 @@
 // The code of an alarm log, which grows by drafts.
 ghost use Rattle.std.specs.Prelude.{◌≡◌, ◌<◌, ◌≤◌, ◌+◌, ◌*◌, ◌++◌, ◌∷◌, [], ℕ, Some, true, false, ◌&&◌, length, vec_len, vec_capacity, IfOk, OnOk, OnErr};
 ghost use Rattle.log_clauses.specs.Additions.{alarm_added, pair_added};
-ghost use Rattle.log_clauses.specs.Decoded.{alarm_at, is_false};
+ghost use Rattle.log_clauses.specs.Decoded.{alarm_at, is_false_alarm};
 ghost use Rattle.log_clauses.specs.LogClauses.{guard_literals};
 ghost use Rattle.log_clauses.specs.LogNames.{first_names};
 ghost use Rattle.prop_core.specs.Clauses.{value_in};
 ghost use Rattle.prop_core.specs.NamedClauses.{value_by};
 ghost use Rattle.prop_core.specs.VariableNames.{ReadsAs, name_of, named_clause, done};
 ghost use Rattle.log_encode.specs.AlarmState.{variables_of, is_matched};
-ghost use Rattle.log_encode.specs.AlarmVariables.{IsWithin, alarm_width, done_variable, dropped_variable};
-ghost use Rattle.log_encode.specs.CodedLog.{IsCodedLog, empty_code, code_after, code_names, false_literals, read_names, nameless, addition_width};
-ghost use Rattle.log_encode.specs.Drafted.{IsDraftOf, IsStepOf, HasRoomFor};
+ghost use Rattle.log_encode.specs.AlarmVariables.{AreWithinLimit, alarm_width, done_variable, dropped_variable};
+ghost use Rattle.log_encode.specs.CodedLog.{IsCodedLog, empty_code, code_after, log_names, false_literals, read_names, nameless, addition_width};
+ghost use Rattle.log_encode.specs.Drafted.{IsDraftOf, IsStepOfAlarm, HasRoomFor};
 ghost use Rattle.log_encode.specs.WrittenLog.{AppendsFirst};
 
 use crate::alarm_code::{AlarmCode, copy_labels};
@@ -51,11 +51,11 @@ impl Model for LogCode {
 
     ghost Value = { LogCodeState };
 
-    ghost use Rattle.log_encode.specs.View.{code_view, IsLogCode};
+    ghost use Rattle.log_encode.specs.View.{code_view, KeepsLogCode};
 
     ghost view = { code_view };
 
-    ghost invariant = { IsLogCode };
+    ghost invariant = { KeepsLogCode };
 }
 
 impl LogCode {
@@ -242,7 +242,7 @@ impl LogCode {
 
     /// That an alarm is false, for each doubtful alarm of the log.
     pub fn false_lits(&self) -> &[Lit]
-        ensures { named_clause (code_names self.now.code) result.now ≡ Some (false_literals self.now.code.log) }
+        ensures { named_clause (log_names self.now.code) result.now ≡ Some (false_literals self.now.code.log) }
     {
         self.dropped.as_slice()
     }
@@ -261,7 +261,7 @@ impl LogCode {
         requires from_one { 1 ≤ step }
         requires step { step ≤ self.now.code.grid.steps }
         requires values { self.now.code.vars ≤ length assign.now }
-        ensures { result ≡ alarm_at self.now.code.net self.now.code.log (value_by (code_names self.now.code) (value_in assign.now)) event step }
+        ensures { result ≡ alarm_at self.now.code.net self.now.code.log (value_by (log_names self.now.code) (value_in assign.now)) event step }
     {
         for (number, alarm) in self.alarms.iter().enumerate() {
             if self.is_matched(alarm, assign, event, step - 1) {
@@ -275,7 +275,7 @@ impl LogCode {
     pub fn is_false(&self, assign: &Assignment, alarm: u32) -> bool
         requires alarm { alarm < length self.now.code.log.alarms }
         requires values { self.now.code.vars ≤ length assign.now }
-        ensures { result ≡ is_false self.now.code.log (value_by (code_names self.now.code) (value_in assign.now)) alarm }
+        ensures { result ≡ is_false_alarm self.now.code.log (value_by (log_names self.now.code) (value_in assign.now)) alarm }
     {
         self.is_dropped(&self.alarms[alarm as usize], assign)
     }
@@ -285,8 +285,8 @@ impl LogCode {
     pub fn step_of(&self, assign: &Assignment, alarm: u32) -> u32
         requires alarm { alarm < length self.now.code.log.alarms }
         requires values { self.now.code.vars ≤ length assign.now }
-        requires last { value_by (code_names self.now.code) (value_in assign.now) (done alarm self.now.code.grid.steps) ≡ true }
-        ensures { IsStepOf self.now.code.grid.steps (value_by (code_names self.now.code) (value_in assign.now)) alarm result }
+        requires last { value_by (log_names self.now.code) (value_in assign.now) (done alarm self.now.code.grid.steps) ≡ true }
+        ensures { IsStepOfAlarm self.now.code.grid.steps (value_by (log_names self.now.code) (value_in assign.now)) alarm result }
     {
         first_done(self.vars_of(&self.alarms[alarm as usize]), assign)
     }
@@ -302,7 +302,7 @@ impl LogCode {
     pub fn undone(&self, alarm: u32, steps: u32) -> Lit
         requires alarm { alarm < length self.now.code.log.alarms }
         requires steps { steps ≤ self.now.code.grid.steps }
-        ensures name { name_of (code_names self.now.code) result.var ≡ Some (done alarm steps) }
+        ensures name { name_of (log_names self.now.code) result.var ≡ Some (done alarm steps) }
         ensures sign { result.positive ≡ false }
     {
         Lit::new(self.done(alarm) + steps, false)
@@ -310,7 +310,7 @@ impl LogCode {
 
     // Whether the alarm is false.
     fn is_dropped(&self, alarm: &AlarmCode, assign: &Assignment) -> bool
-        requires within { IsWithin (variables_of self.now.code.grid.steps alarm.now) }
+        requires within { AreWithinLimit (variables_of self.now.code.grid.steps alarm.now) }
         requires values { alarm.now.start + alarm_width (variables_of self.now.code.grid.steps alarm.now) ≤ length assign.now }
         ensures { result ≡ (alarm.now.doubtful && value_in assign.now (dropped_variable (variables_of self.now.code.grid.steps alarm.now))) }
     {
@@ -320,7 +320,7 @@ impl LogCode {
     // Whether the alarm stands for the event in the step after so many.
     fn is_matched(&self, alarm: &AlarmCode, assign: &Assignment, event: EventId, step: u32) -> bool
         requires step { step < self.now.code.grid.steps }
-        requires within { IsWithin (variables_of self.now.code.grid.steps alarm.now) }
+        requires within { AreWithinLimit (variables_of self.now.code.grid.steps alarm.now) }
         requires values { alarm.now.start + alarm_width (variables_of self.now.code.grid.steps alarm.now) ≤ length assign.now }
         ensures { result ≡ is_matched self.now.code.grid.steps alarm.now (value_in assign.now) event step }
     {
@@ -332,7 +332,7 @@ impl LogCode {
 
     // Where the variables of an alarm stand.
     fn vars_of(&self, alarm: &AlarmCode) -> AlarmVars
-        requires { IsWithin (variables_of self.now.code.grid.steps alarm.now) }
+        requires { AreWithinLimit (variables_of self.now.code.grid.steps alarm.now) }
         ensures { result ≡ variables_of self.now.code.grid.steps alarm.now }
     {
         AlarmVars {
@@ -348,7 +348,7 @@ impl LogCode {
         requires { alarm < length self.now.code.log.alarms }
         ensures within { result + self.now.code.grid.steps < self.now.code.vars }
         ensures few { self.now.code.vars ≤ VAR_LIMIT }
-        ensures names { (t : ℕ) → t ≤ self.now.code.grid.steps → name_of (code_names self.now.code) (result + t) ≡ Some (done alarm t) }
+        ensures names { (t : ℕ) → t ≤ self.now.code.grid.steps → name_of (log_names self.now.code) (result + t) ≡ Some (done alarm t) }
     {
         self.vars_of(&self.alarms[alarm as usize]).done(0)
     }
@@ -356,7 +356,7 @@ impl LogCode {
 
 // The least number of steps within which the alarm of these variables is done, or the number of all steps.
 fn first_done(vars: AlarmVars, assign: &Assignment) -> u32
-    requires within { IsWithin vars }
+    requires within { AreWithinLimit vars }
     requires values { vars.start + alarm_width vars ≤ length assign.now }
     ensures within { result ≤ vars.steps }
     ensures least { (t : ℕ) → t < result → value_in assign.now (done_variable vars t) ≡ false }

@@ -1,6 +1,6 @@
 // The events that an alarm may stand for, with the ends of their chains.
 ghost use Rattle.std.specs.Prelude.{◌≡◌, ◌<◌, ◌≤◌, ◌+◌, ◌*◌, length, All, IfOk, IfSome};
-ghost use Rattle.log_encode.specs.AlarmVariables.{IsWithin};
+ghost use Rattle.log_encode.specs.AlarmVariables.{AreWithinLimit};
 ghost use Rattle.log_encode.specs.Written.{rest_variable, has_any_label, taken_from, end_after, ends_after};
 
 use crate::alarm_vars::AlarmVars;
@@ -77,7 +77,7 @@ pub fn taken_by(
 
 // The end of a chain after a link.
 fn end_after(vars: AlarmVars, link: u32, event: EventId) -> ChainEnd
-    requires within { IsWithin vars }
+    requires within { AreWithinLimit vars }
     requires link { link < vars.links }
     ensures { result ≡ end_after vars link event }
 {
@@ -95,7 +95,7 @@ pub fn ends_after(
     vars: AlarmVars,
     takes: &[Taken],
 ) -> Result<Vec<ChainEnd>, Memory>
-    requires within { IsWithin vars }
+    requires within { AreWithinLimit vars }
     requires links { vars.links ≡ length takes.now }
     ensures { IfOk result (λ after. after.items ≡ ends_after vars 0 ends.now takes.now) }
 {

@@ -4,7 +4,7 @@ ghost use Rattle.des_base.specs.ChainCount.{chain_count};
 ghost use Rattle.des_base.specs.declared.TheConstants.{VAR_LIMIT};
 ghost use Rattle.card_counter.specs.AtMostOne.{exclusion_clauses};
 ghost use Rattle.card_counter.specs.CounterState.{positive, negative};
-ghost use Rattle.log_encode.specs.AlarmVariables.{IsWithin, done_variable};
+ghost use Rattle.log_encode.specs.AlarmVariables.{AreWithinLimit, done_variable};
 ghost use Rattle.log_encode.specs.Written.{alarm_written, all_closed_written, closed_written, done_written, dropped_written, ends_written, link_variables, link_written, links_written, matches_at, pair_written, real_of_link, real_written, reals_written, step_written, steps_of_link, HasRest};
 
 use crate::alarm_vars::AlarmVars;
@@ -59,7 +59,7 @@ fn write_link(link: LinkVars, out: &mut Clauses) -> Result<(), Memory>
 }
 
 fn link_vars(grid: Grid, vars: AlarmVars, link: u32, taken: &Taken, step: u32) -> LinkVars
-    requires within { IsWithin vars }
+    requires within { AreWithinLimit vars }
     requires steps { vars.steps ≡ grid.steps }
     requires link { link < vars.links }
     requires step { step < vars.steps }
@@ -85,7 +85,7 @@ fn write_steps(
     taken: &Taken,
     out: &mut Clauses,
 ) -> Result<(), Memory>
-    requires within { IsWithin vars }
+    requires within { AreWithinLimit vars }
     requires steps { vars.steps ≡ grid.steps }
     requires link { link < vars.links }
     requires few { grid.first + grid.events * grid.steps ≤ VAR_LIMIT }
@@ -105,7 +105,7 @@ fn write_links(
     takes: &[Taken],
     out: &mut Clauses,
 ) -> Result<(), Memory>
-    requires within { IsWithin vars }
+    requires within { AreWithinLimit vars }
     requires steps { vars.steps ≡ grid.steps }
     requires links { vars.links ≡ length takes.now }
     requires few { grid.first + grid.events * grid.steps ≤ VAR_LIMIT }
@@ -120,7 +120,7 @@ fn write_links(
 
 // That the alarm is matched to the events of its links in a step, one literal each.
 fn matches_at(alloc: Global, vars: AlarmVars, step: u32) -> Result<Vec<Lit>, Memory>
-    requires within { IsWithin vars }
+    requires within { AreWithinLimit vars }
     requires step { step < vars.steps }
     ensures { IfOk result (λ lits. lits.items ≡ matches_at vars step) }
 {
@@ -133,7 +133,7 @@ fn matches_at(alloc: Global, vars: AlarmVars, step: u32) -> Result<Vec<Lit>, Mem
 
 // That the alarm is false, where it is doubtful.
 fn push_dropped(vars: AlarmVars, lits: &mut Vec<Lit>) -> Result<(), Memory>
-    requires { IsWithin vars }
+    requires { AreWithinLimit vars }
     ensures { OnOk result (lits.new.items ≡ lits.old.items ++ dropped_written vars) }
 {
     if vars.doubtful {
@@ -155,7 +155,7 @@ fn exclude(matches: &[Lit], first: u32, out: &mut Clauses) -> Result<(), Memory>
 // Whether the alarm is done after a step: where it was before, or one of its events is its match there, and one at most. A
 // doubtful one is so where it is false.
 fn write_step(alloc: Global, vars: AlarmVars, step: u32, out: &mut Clauses) -> Result<(), Memory>
-    requires within { IsWithin vars }
+    requires within { AreWithinLimit vars }
     requires step { step < vars.steps }
     ensures { OnOk result (out.new.clauses ≡ out.old.clauses ++ step_written vars step) }
 {
@@ -174,7 +174,7 @@ fn write_step(alloc: Global, vars: AlarmVars, step: u32, out: &mut Clauses) -> R
 
 // At first the alarm isn't done, unless it is false.
 fn write_first(alloc: Global, vars: AlarmVars, out: &mut Clauses) -> Result<(), Memory>
-    requires { IsWithin vars }
+    requires { AreWithinLimit vars }
     ensures { OnOk result (out.new.clauses ≡ out.old.clauses ++ (negative (done_variable vars 0) ∷ dropped_written vars) ∷ []) }
 {
     let mut first = Vec::new(alloc);
@@ -187,7 +187,7 @@ fn write_first(alloc: Global, vars: AlarmVars, out: &mut Clauses) -> Result<(), 
 // Whether the alarm is done, within all numbers of steps: at first it isn't, unless it is false, and at last it is where the log
 // is asked for.
 fn write_done(alloc: Global, asked: u32, vars: AlarmVars, out: &mut Clauses) -> Result<(), Memory>
-    requires { IsWithin vars }
+    requires { AreWithinLimit vars }
     ensures { OnOk result (out.new.clauses ≡ out.old.clauses ++ done_written asked vars) }
 {
     write_first(alloc, vars, out)?;
@@ -201,7 +201,7 @@ fn write_done(alloc: Global, asked: u32, vars: AlarmVars, out: &mut Clauses) -> 
 // That a false alarm isn't matched to the event of a link.
 #[tactic(auto, using(crate::proofs::LoopLemmas::map_more_on))]
 fn write_real_link(vars: AlarmVars, link: u32, out: &mut Clauses) -> Result<(), Memory>
-    requires within { IsWithin vars }
+    requires within { AreWithinLimit vars }
     requires doubtful { vars.doubtful ≡ true }
     requires link { link < vars.links }
     ensures { OnOk result (out.new.clauses ≡ out.old.clauses ++ real_of_link vars link vars.steps) }
@@ -215,7 +215,7 @@ fn write_real_link(vars: AlarmVars, link: u32, out: &mut Clauses) -> Result<(), 
 // The same for all links.
 #[tactic(auto, using(crate::proofs::LoopLemmas::flat_more_on))]
 fn write_reals(vars: AlarmVars, out: &mut Clauses) -> Result<(), Memory>
-    requires within { IsWithin vars }
+    requires within { AreWithinLimit vars }
     requires doubtful { vars.doubtful ≡ true }
     ensures { OnOk result (out.new.clauses ≡ out.old.clauses ++ reals_written vars vars.links) }
 {
@@ -227,7 +227,7 @@ fn write_reals(vars: AlarmVars, out: &mut Clauses) -> Result<(), Memory>
 
 // The same where the alarm is doubtful.
 fn write_real(vars: AlarmVars, out: &mut Clauses) -> Result<(), Memory>
-    requires { IsWithin vars }
+    requires { AreWithinLimit vars }
     ensures { OnOk result (out.new.clauses ≡ out.old.clauses ++ real_written vars) }
 {
     if vars.doubtful {
@@ -245,7 +245,7 @@ pub fn write_alarm(
     takes: &[Taken],
     out: &mut Clauses,
 ) -> Result<(), Memory>
-    requires within { IsWithin vars }
+    requires within { AreWithinLimit vars }
     requires steps { vars.steps ≡ grid.steps }
     requires links { vars.links ≡ length takes.now }
     requires few { grid.first + grid.events * grid.steps ≤ VAR_LIMIT }
@@ -259,7 +259,7 @@ pub fn write_alarm(
 
 // That alarms are false, with the new one.
 pub fn dropped_after(alloc: Global, dropped: &[Lit], vars: AlarmVars) -> Result<Vec<Lit>, Memory>
-    requires { IsWithin vars }
+    requires { AreWithinLimit vars }
     ensures { IfOk result (λ after. after.items ≡ dropped.now ++ dropped_written vars) }
 {
     let mut after = Vec::new(alloc);

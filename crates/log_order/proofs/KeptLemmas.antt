@@ -7,7 +7,7 @@ use Rattle.des_base.proofs.Elements.{all_split}
 use Rattle.log_order.specs.Log.{AreKnown, AreOrdered, ListsOnce, StandOnce, place_in, has_pair, reaches}
 use Rattle.log_order.specs.Adding.{with_pair}
 use Rattle.log_order.proofs.Places.{places-from}
-use Rattle.log_order.specs.Precedence.{is_in, is_marked, moved, with_follower, IsKept}
+use Rattle.log_order.specs.Precedence.{is_in, is_marked, moved, with_follower, IsKeptOrder}
 use Rattle.log_order.proofs.Reaching.{IsClosed, reaches-closed, reaches-itself}
 use Rattle.log_order.proofs.OrderLemmas.{all_append, ListsOnce-push, Keeps-push, AreKnown-more, ListsOnce-moved, Keeps-moved_new, Keeps-cycle, stands-kept}
 use Rattle.des_base.proofs.BoolLemmas.{itself, neither, otherwise, same, differ, or_assoc}
@@ -22,8 +22,8 @@ get_or-none [] (suc i) = refl
 get_or-none (l ∷ ls) zero = refl
 get_or-none (l ∷ ls) (suc i) = get_or-none ls i
 
-pub IsKept-push : (pairs : List (ℕ × ℕ)) (order : List ℕ) (lists : List (List ℕ)) → IsKept pairs order lists → IsKept pairs (order ++ length order ∷ []) (lists ++ [] ∷ [])
-IsKept-push pairs order lists h =
+pub IsKeptOrder-push : (pairs : List (ℕ × ℕ)) (order : List ℕ) (lists : List (List ℕ)) → IsKeptOrder pairs order lists → IsKeptOrder pairs (order ++ length order ∷ []) (lists ++ [] ∷ [])
+IsKeptOrder-push pairs order lists h =
     let long : length (order ++ length order ∷ []) ≡ length order + 1 = length-append order (length order ∷ []) in
     record {
       known = subst (λ m. AreKnown m pairs) (sym long) (AreKnown-more (length order) pairs h.known);
@@ -54,9 +54,9 @@ length-set (x ∷ xs) (suc a) l = ap suc (length-set xs a l)
 pub length-moved : (p : ℕ → Bool) (order : List ℕ) → length (moved p order) ≡ length order
 length-moved p order = omega (arith, length-append (filter (λ x. not (p x)) order) (filter p order), length-filter_both p (λ x. not (p x)) (λ x. refl) order)
 
-pub IsKept-with : (pairs : List (ℕ × ℕ)) (order : List ℕ) (lists : List (List ℕ)) (first second : ℕ) (marks : List Bool) → IsKept pairs order lists → first < length order → second < length order
-    → ((i : ℕ) → is_marked marks i ≡ reaches pairs second i) → reaches pairs second first ≡ false → IsKept (pairs ++ (first, second) ∷ []) (moved (is_marked marks) order) (with_follower lists first second)
-IsKept-with pairs order lists first second marks h l k same apart =
+pub IsKeptOrder-with : (pairs : List (ℕ × ℕ)) (order : List ℕ) (lists : List (List ℕ)) (first second : ℕ) (marks : List Bool) → IsKeptOrder pairs order lists → first < length order → second < length order
+    → ((i : ℕ) → is_marked marks i ≡ reaches pairs second i) → reaches pairs second first ≡ false → IsKeptOrder (pairs ++ (first, second) ∷ []) (moved (is_marked marks) order) (with_follower lists first second)
+IsKeptOrder-with pairs order lists first second marks h l k same apart =
     let long : length (moved (is_marked marks) order) ≡ length order = length-moved (is_marked marks) order in
     let closed : IsClosed (is_marked marks) pairs = record { at = λ i j pair m. same j ∙ (reaches-closed pairs second).at i j pair (sym (same i) ∙ m) } in
     record {
@@ -68,13 +68,13 @@ IsKept-with pairs order lists first second marks h l k same apart =
     }
 
 -- with lists that are equal to these
-pub IsKept-as : (pairs new_pairs : List (ℕ × ℕ)) (order new_order : List ℕ) (lists new_lists : List (List ℕ)) → new_pairs ≡ pairs → new_order ≡ order → new_lists ≡ lists → IsKept pairs order lists → IsKept new_pairs new_order new_lists
-IsKept-as pairs new_pairs order new_order lists new_lists e f g h =
-    subst (λ p. IsKept p new_order new_lists) (sym e) (subst (λ o. IsKept pairs o new_lists) (sym f) (subst (λ l. IsKept pairs order l) (sym g) h))
+pub IsKeptOrder-as : (pairs new_pairs : List (ℕ × ℕ)) (order new_order : List ℕ) (lists new_lists : List (List ℕ)) → new_pairs ≡ pairs → new_order ≡ order → new_lists ≡ lists → IsKeptOrder pairs order lists → IsKeptOrder new_pairs new_order new_lists
+IsKeptOrder-as pairs new_pairs order new_order lists new_lists e f g h =
+    subst (λ p. IsKeptOrder p new_order new_lists) (sym e) (subst (λ o. IsKeptOrder pairs o new_lists) (sym f) (subst (λ l. IsKeptOrder pairs order l) (sym g) h))
 
 -- ---- orders and cycles
 
-pub AreOrdered-from : (pairs : List (ℕ × ℕ)) (order : List ℕ) (lists : List (List ℕ)) → IsKept pairs order lists → AreOrdered (length order) pairs
+pub AreOrdered-from : (pairs : List (ℕ × ℕ)) (order : List ℕ) (lists : List (List ℕ)) → IsKeptOrder pairs order lists → AreOrdered (length order) pairs
 AreOrdered-from pairs order lists h = record { known = h.known; order = order; complete = h.listed; kept = h.kept }
 
 with_case : (m : ℕ) (pairs : List (ℕ × ℕ)) (i j : ℕ) (b : Bool) → AreOrdered m pairs → i < m → j < m → reaches pairs j i ≡ false → AreOrdered m (cond b pairs (pairs ++ (i, j) ∷ []))

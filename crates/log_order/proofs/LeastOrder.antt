@@ -6,7 +6,7 @@ use Rattle.std.specs.Option.{option_map_or}
 use Rattle.log_order.specs.Log.{ListsOnce, Keeps, AreKnown, AreOrdered, has_pair}
 use Rattle.des_base.specs.Lists.{EachPair}
 use Rattle.log_order.specs.Precedence.{is_in, is_marked}
-use Rattle.log_order.specs.Order.{first_below, waits, with_next, taken_first, least_order}
+use Rattle.log_order.specs.Order.{first_below, is_held_back, with_next, taken_first, least_order}
 use Rattle.des_base.proofs.BoolLemmas.{both, join, either, or_left, or_right, not_false, not_true, otherwise, same, itself, neither}
 use Rattle.log_order.proofs.Places.{stands, places-from, stands-append, in_from, in_is}
 use Rattle.log_order.proofs.OrderLemmas.{all_append, each_append, stands-kept}
@@ -171,10 +171,10 @@ front_next m pairs taken k i h l new free = record {
   few = let less = missing-less m taken i l new in let few = h.few in omega arith;
 }
 
-front_case : (m : ℕ) (pairs : List (ℕ × ℕ)) (taken : List ℕ) (k : ℕ) (o : Option ℕ) → first_below m (λ i. not (waits (is_in taken) pairs i)) ≡ o → AreOrdered m pairs → IsFront m pairs taken k → k < m → IsFront m pairs (option_map_or (λ i. taken ++ i ∷ []) o taken) (k + 1)
+front_case : (m : ℕ) (pairs : List (ℕ × ℕ)) (taken : List ℕ) (k : ℕ) (o : Option ℕ) → first_below m (λ i. not (is_held_back (is_in taken) pairs i)) ≡ o → AreOrdered m pairs → IsFront m pairs taken k → k < m → IsFront m pairs (option_map_or (λ i. taken ++ i ∷ []) o taken) (k + 1)
 front_case m pairs taken k (Some i) e order h l =
-    let first = first_below-some m (λ i. not (waits (is_in taken) pairs i)) i e in
-    let free = neither (is_in taken i) _ (not_true (waits (is_in taken) pairs i) first.holds) in
+    let first = first_below-some m (λ i. not (is_held_back (is_in taken) pairs i)) i e in
+    let free = neither (is_in taken i) _ (not_true (is_held_back (is_in taken) pairs i) first.holds) in
     front_next m pairs taken k i h first.below free.0 free.1
 front_case m pairs taken k None e order h l = record {
   below = h.below;
@@ -190,10 +190,10 @@ front_case m pairs taken k None e order h l = record {
         let x : ℕ = next.0 in
         let at = next.1 in
         let free : list_any (λ pair. pair.1 == next.0 && not (is_in taken pair.0)) pairs ≡ false = none_waits pairs (is_in taken) next.0 (λ a pair. at.before a (stands-kept order.order pairs a next.0 order.kept pair)) in
-        let waiting : waits (is_in taken) pairs next.0 ≡ false = ap (λ b. b || list_any (λ pair. pair.1 == next.0 && not (is_in taken pair.0)) pairs) at.new ∙ free in
+        let waiting : is_held_back (is_in taken) pairs next.0 ≡ false = ap (λ b. b || list_any (λ pair. pair.1 == next.0 && not (is_in taken pair.0)) pairs) at.new ∙ free in
         let below : next.0 < m = below_of order.order next.0 order.complete.below at.there in
-        let no = first_below-none m (λ i. not (waits (is_in taken) pairs i)) next.0 e below in
-        let yes : not (waits (is_in taken) pairs next.0) ≡ true = not_false (waits (is_in taken) pairs next.0) waiting in
+        let no = first_below-none m (λ i. not (is_held_back (is_in taken) pairs i)) next.0 e below in
+        let yes : not (is_held_back (is_in taken) pairs next.0) ≡ true = not_false (is_held_back (is_in taken) pairs next.0) waiting in
         cc
       where
         below_of : (xs : List ℕ) (x : ℕ) → AllByRecursion (λ i. i < m) xs → is_in xs x ≡ true → x < m
@@ -204,7 +204,7 @@ front : (m : ℕ) (pairs : List (ℕ × ℕ)) → AreOrdered m pairs → (k : �
 front m pairs order zero l = record { below = tt; once = tt; kept = λ i j pair there. cc; few = let none = missing-none m in omega arith }
 front m pairs order (suc k) l =
     subst (λ n. IsFront m pairs (taken_first m pairs (suc k)) n) (omega arith)
-    (front_case m pairs (taken_first m pairs k) k (first_below m (λ i. not (waits (is_in (taken_first m pairs k)) pairs i))) refl order (front m pairs order k (omega arith)) (omega arith))
+    (front_case m pairs (taken_first m pairs k) k (first_below m (λ i. not (is_held_back (is_in (taken_first m pairs k)) pairs i))) refl order (front m pairs order k (omega arith)) (omega arith))
 
 keeps_from : (m : ℕ) (taken : List ℕ) (pairs : List (ℕ × ℕ)) → ((i : ℕ) → i < m → is_in taken i ≡ true) → AreKnown m pairs → ((i j : ℕ) → has_pair pairs i j ≡ true → is_in taken j ≡ true → stands taken i j ≡ true) → Keeps taken pairs
 keeps_from m taken [] all known h = tt
@@ -241,17 +241,17 @@ pub first_below-found : (m k : ℕ) (p : ℕ → Bool) → p k ≡ true → firs
 first_below-found zero k p h none l = absurd (omega arith)
 first_below-found (suc m) k p h none l = found_step m k p h none l (λ less. first_below-found m k p h none less) (k == m) refl
 
-pub first_below-marks : (m : ℕ) (pairs : List (ℕ × ℕ)) (order : List ℕ) (taken marks : List Bool) → ((i : ℕ) → is_marked taken i ≡ is_in order i) → ((i : ℕ) → is_marked marks i ≡ waits (is_marked taken) pairs i)
-    → first_below m (λ i. not (is_marked marks i)) ≡ first_below m (λ i. not (waits (is_in order) pairs i))
+pub first_below-marks : (m : ℕ) (pairs : List (ℕ × ℕ)) (order : List ℕ) (taken marks : List Bool) → ((i : ℕ) → is_marked taken i ≡ is_in order i) → ((i : ℕ) → is_marked marks i ≡ is_held_back (is_marked taken) pairs i)
+    → first_below m (λ i. not (is_marked marks i)) ≡ first_below m (λ i. not (is_held_back (is_in order) pairs i))
 first_below-marks m pairs order taken marks t w =
     let tests : is_marked taken ≡ is_in order = λ k i. t i k in
-    let all : (i : ℕ) → is_marked marks i ≡ waits (is_in order) pairs i = λ i. w i ∙ ap (λ test. waits test pairs i) tests in
+    let all : (i : ℕ) → is_marked marks i ≡ is_held_back (is_in order) pairs i = λ i. w i ∙ ap (λ test. is_held_back test pairs i) tests in
     λ k. first_below m (λ i. not (all i k))
 
-pub with_next-none : (m : ℕ) (pairs : List (ℕ × ℕ)) (taken : List ℕ) → first_below m (λ i. not (waits (is_in taken) pairs i)) ≡ None → taken ≡ with_next m pairs taken
+pub with_next-none : (m : ℕ) (pairs : List (ℕ × ℕ)) (taken : List ℕ) → first_below m (λ i. not (is_held_back (is_in taken) pairs i)) ≡ None → taken ≡ with_next m pairs taken
 with_next-none m pairs taken h = sym (ap (λ o. option_map_or (λ i. taken ++ i ∷ []) o taken) h)
 
-pub with_next-some : (m : ℕ) (pairs : List (ℕ × ℕ)) (taken : List ℕ) (i : ℕ) → first_below m (λ i. not (waits (is_in taken) pairs i)) ≡ Some i → with_next m pairs taken ≡ taken ++ i ∷ []
+pub with_next-some : (m : ℕ) (pairs : List (ℕ × ℕ)) (taken : List ℕ) (i : ℕ) → first_below m (λ i. not (is_held_back (is_in taken) pairs i)) ≡ Some i → with_next m pairs taken ≡ taken ++ i ∷ []
 with_next-some m pairs taken i h = ap (λ o. option_map_or (λ i. taken ++ i ∷ []) o taken) h
 
 pub taken-more : (order : List ℕ) (taken new : List Bool) (next i : ℕ) → next < length taken → new ≡ slice_set taken next true → ((j : ℕ) → is_marked taken j ≡ is_in order j) → is_marked new i ≡ is_in (order ++ next ∷ []) i
@@ -264,7 +264,7 @@ none-taken (suc n) (suc i) = none-taken n i
 
 -- what a search through the marks finds is the smallest free number
 pub next-is : (n m : ℕ) (pairs : List (ℕ × ℕ)) (order : List ℕ) (taken read marks read_marks : List Bool) (next : ℕ) → n ≡ m → read ≡ taken → read_marks ≡ marks → ((i : ℕ) → is_marked taken i ≡ is_in order i)
-    → ((i : ℕ) → is_marked marks i ≡ waits (is_marked read) pairs i) → first_below n (λ i. not (is_marked read_marks i)) ≡ Some next → first_below m (λ i. not (waits (is_in order) pairs i)) ≡ Some next
+    → ((i : ℕ) → is_marked marks i ≡ is_held_back (is_marked read) pairs i) → first_below n (λ i. not (is_marked read_marks i)) ≡ Some next → first_below m (λ i. not (is_held_back (is_in order) pairs i)) ≡ Some next
 next-is n m pairs order taken read marks read_marks next e f g t w h =
-    sym (first_below-marks m pairs order taken marks t (λ i. w i ∙ ap (λ ms. waits (is_marked ms) pairs i) f))
+    sym (first_below-marks m pairs order taken marks t (λ i. w i ∙ ap (λ ms. is_held_back (is_marked ms) pairs i) f))
     ∙ ap (λ k. first_below k (λ i. not (is_marked marks i))) (sym e) ∙ ap (λ ms. first_below n (λ i. not (is_marked ms i))) (sym g) ∙ h

@@ -6,7 +6,7 @@ use Rattle.std.proofs.lemmas.List.{get_or_default}
 use Rattle.std.proofs.lemmas.List.Elements.{All-from_recursion}
 use Rattle.log_order.specs.Log.{ListsOnce, AreKnown, place_in, has_pair, reaches}
 use Rattle.des_base.specs.Lists.{EachPair}
-use Rattle.log_order.specs.Precedence.{is_in, is_marked, IsKept, IsPassed}
+use Rattle.log_order.specs.Precedence.{is_in, is_marked, IsKeptOrder, IsPassed}
 use Rattle.des_base.proofs.BoolLemmas.{both, either, or_left, or_right, otherwise, same, itself, alike}
 use Rattle.log_order.proofs.Places.{places-from}
 use Rattle.log_order.proofs.Reaching.{IsClosed, reaches-least, reaches-closed, reaches-itself}
@@ -55,13 +55,13 @@ all_from m [] h = tt
 all_from m (x ∷ xs) h = (h x (or_left (x == x) _ (itself x)), all_from m xs (λ j t. h j (or_right (x == j) _ t)))
 
 -- what follows a number is below the count
-pub followers-known : (pairs : List (ℕ × ℕ)) (order : List ℕ) (lists : List (List ℕ)) (x m : ℕ) (list : List ℕ) → IsKept pairs order lists → list ≡ get_or lists x [] → m ≡ length order → All (λ j. j < m) list
+pub followers-known : (pairs : List (ℕ × ℕ)) (order : List ℕ) (lists : List (List ℕ)) (x m : ℕ) (list : List ℕ) → IsKeptOrder pairs order lists → list ≡ get_or lists x [] → m ≡ length order → All (λ j. j < m) list
 followers-known pairs order lists x m list h e same = All-from_recursion (λ j. j < m) list (all_from m list (λ j there.
     let pair : has_pair pairs x j ≡ true = sym (h.followers.same x j) ∙ ap (λ l. is_in l j) (sym e) ∙ there in
     subst (λ n. j < n) (sym same) (known-at (length order) pairs x j h.known pair).1))
 
 -- the list of a number of the order
-pub list-at : (pairs : List (ℕ × ℕ)) (order : List ℕ) (lists : List (List ℕ)) (k x : ℕ) (list : List ℕ) → IsKept pairs order lists → k < length order → x ≡ get_or order k x → list ≡ get_or lists x list → list ≡ get_or lists x []
+pub list-at : (pairs : List (ℕ × ℕ)) (order : List ℕ) (lists : List (List ℕ)) (k x : ℕ) (list : List ℕ) → IsKeptOrder pairs order lists → k < length order → x ≡ get_or order k x → list ≡ get_or lists x list → list ≡ get_or lists x []
 list-at pairs order lists k x list h l at is =
     let below : x < length order = subst (λ y. y < length order) (sym at) (all_at (λ i. i < length order) order k x h.listed.below l) in
     is ∙ get_or_default lists x list [] (let same = h.matched in omega arith)
@@ -102,7 +102,7 @@ before m order k x i h l within at b differ =
     let not_here : place_in order i ≡ k → ⊥ = λ e. differ (sym there.there ∙ ap (λ p. get_or order p i) e ∙ get_or_default order k i x within ∙ sym at) in
     grind arith
 
-passed_case : (pairs : List (ℕ × ℕ)) (order : List ℕ) (lists : List (List ℕ)) (from : ℕ) (marks new : List Bool) (k x : ℕ) (list : List ℕ) → IsKept pairs order lists → IsPassed pairs order from marks k
+passed_case : (pairs : List (ℕ × ℕ)) (order : List ℕ) (lists : List (List ℕ)) (from : ℕ) (marks new : List Bool) (k x : ℕ) (list : List ℕ) → IsKeptOrder pairs order lists → IsPassed pairs order from marks k
     → k < length order → x ≡ get_or order k x → is_marked marks x ≡ true → list ≡ get_or lists x [] → ((i : ℕ) → is_marked new i ≡ (is_marked marks i || is_in list i))
     → (i j : ℕ) → has_pair pairs i j ≡ true → place_in order i < k + 1 → is_marked new i ≡ true → (b : Bool) → (i == x) ≡ b → is_marked new j ≡ true
 passed_case pairs order lists from marks new k x list kept h l at marked e more i j pair b m true is =
@@ -120,7 +120,7 @@ passed_case pairs order lists from marks new k x list kept h l at marked e more 
           absurd (omega arith)
     ]
 
-pub IsPassed-marked : (pairs : List (ℕ × ℕ)) (order : List ℕ) (lists : List (List ℕ)) (from : ℕ) (marks new : List Bool) (k x : ℕ) (list : List ℕ) → IsKept pairs order lists → IsPassed pairs order from marks k
+pub IsPassed-marked : (pairs : List (ℕ × ℕ)) (order : List ℕ) (lists : List (List ℕ)) (from : ℕ) (marks new : List Bool) (k x : ℕ) (list : List ℕ) → IsKeptOrder pairs order lists → IsPassed pairs order from marks k
     → k < length order → x ≡ get_or order k x → is_marked marks x ≡ true → list ≡ get_or lists x [] → length new ≡ length marks → ((i : ℕ) → is_marked new i ≡ (is_marked marks i || is_in list i)) → IsPassed pairs order from new (k + 1)
 IsPassed-marked pairs order lists from marks new k x list kept h l at marked e long more = record {
   long = long ∙ h.long;
@@ -133,13 +133,13 @@ IsPassed-marked pairs order lists from marks new k x list kept h l at marked e l
   closed = λ i j pair b m. passed_case pairs order lists from marks new k x list kept h l at marked e more i j pair b m (i == x) refl;
 }
 
-unmarked_case : (pairs : List (ℕ × ℕ)) (order : List ℕ) (lists : List (List ℕ)) (from : ℕ) (marks : List Bool) (k x : ℕ) → IsKept pairs order lists → IsPassed pairs order from marks k
+unmarked_case : (pairs : List (ℕ × ℕ)) (order : List ℕ) (lists : List (List ℕ)) (from : ℕ) (marks : List Bool) (k x : ℕ) → IsKeptOrder pairs order lists → IsPassed pairs order from marks k
     → k < length order → x ≡ get_or order k x → is_marked marks x ≡ false → (i j : ℕ) → has_pair pairs i j ≡ true → place_in order i < k + 1 → is_marked marks i ≡ true → (b : Bool) → (i == x) ≡ b → is_marked marks j ≡ true
 unmarked_case pairs order lists from marks k x kept h l at none i j pair b m true is = let k : is_marked marks i ≡ is_marked marks x = ap (is_marked marks) (same i x is) in cc
 unmarked_case pairs order lists from marks k x kept h l at none i j pair b m false is =
     h.closed i j pair (before (length order) order k x i kept.listed (known-at (length order) pairs i j kept.known pair).0 l at b (λ t. let yes : (i == x) ≡ true = ap (λ y. i == y) (sym t) ∙ itself i in cc)) m
 
-pub IsPassed-unmarked : (pairs : List (ℕ × ℕ)) (order : List ℕ) (lists : List (List ℕ)) (from : ℕ) (marks : List Bool) (k x : ℕ) → IsKept pairs order lists → IsPassed pairs order from marks k
+pub IsPassed-unmarked : (pairs : List (ℕ × ℕ)) (order : List ℕ) (lists : List (List ℕ)) (from : ℕ) (marks : List Bool) (k x : ℕ) → IsKeptOrder pairs order lists → IsPassed pairs order from marks k
     → k < length order → x ≡ get_or order k x → is_marked marks x ≡ false → IsPassed pairs order from marks (k + 1)
 IsPassed-unmarked pairs order lists from marks k x kept h l at none = record {
   long = h.long;
@@ -148,7 +148,7 @@ IsPassed-unmarked pairs order lists from marks k x kept h l at none = record {
   closed = λ i j pair b m. unmarked_case pairs order lists from marks k x kept h l at none i j pair b m (i == x) refl;
 }
 
-pub IsPassed-end : (pairs : List (ℕ × ℕ)) (order : List ℕ) (lists : List (List ℕ)) (from : ℕ) (marks : List Bool) (k : ℕ) → IsKept pairs order lists → IsPassed pairs order from marks k → length order ≤ k → (i : ℕ) → is_marked marks i ≡ reaches pairs from i
+pub IsPassed-end : (pairs : List (ℕ × ℕ)) (order : List ℕ) (lists : List (List ℕ)) (from : ℕ) (marks : List Bool) (k : ℕ) → IsKeptOrder pairs order lists → IsPassed pairs order from marks k → length order ≤ k → (i : ℕ) → is_marked marks i ≡ reaches pairs from i
 IsPassed-end pairs order lists from marks k kept h l i =
     let closed : IsClosed (is_marked marks) pairs = record {
       at = λ a b pair m.

@@ -10,12 +10,12 @@ first_below zero p = None
 first_below (suc m) p = option_map_or (λ i. Some i) (first_below m p) (if p m then Some m else None)
 
 -- a number isn't free where it is taken, or a number that a pair puts before it isn't
-abbrev pub waits : (ℕ → Bool) → List (ℕ × ℕ) → ℕ → Bool
-waits taken pairs i = taken i || list_any (λ pair. pair.1 == i && not (taken pair.0)) pairs
+abbrev pub is_held_back : (ℕ → Bool) → List (ℕ × ℕ) → ℕ → Bool
+is_held_back taken pairs i = taken i || list_any (λ pair. pair.1 == i && not (taken pair.0)) pairs
 
 -- the smallest free number is taken next
 abbrev pub with_next : ℕ → List (ℕ × ℕ) → List ℕ → List ℕ
-with_next m pairs taken = option_map_or (λ i. taken ++ i ∷ []) (first_below m (λ i. not (waits (is_in taken) pairs i))) taken
+with_next m pairs taken = option_map_or (λ i. taken ++ i ∷ []) (first_below m (λ i. not (is_held_back (is_in taken) pairs i))) taken
 
 -- the first k that are taken
 abbrev pub taken_first : ℕ → List (ℕ × ℕ) → ℕ → List ℕ

@@ -33,7 +33,7 @@ pub record AreFollowers (pairs : List (ℕ × ℕ)) (followers : List (List ℕ)
   pub same : (i j : ℕ) → is_in (slice_index_or followers i []) j ≡ has_pair pairs i j
 
 -- the order has all numbers and keeps the pairs, and beside it stand the followers of each number
-pub record IsKept (pairs : List (ℕ × ℕ)) (order : List ℕ) (lists : List (List ℕ)) : Type 0 where
+pub record IsKeptOrder (pairs : List (ℕ × ℕ)) (order : List ℕ) (lists : List (List ℕ)) : Type 0 where
   pub known : AreKnown (length order) pairs
   pub listed : ListsOnce (length order) order
   pub kept : Keeps order pairs

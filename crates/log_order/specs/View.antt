@@ -6,7 +6,7 @@ use Rattle.log_order.specs.Log.{Log, StandOnce}
 use Rattle.log_order.specs.Adding.{names_of, IsAlarm}
 use Rattle.log_order.specs.Meanings.{alarms_with}
 use Rattle.log_order.specs.declared.TheConstants.{MOST_ALARMS, MOST_PAIRS}
-use Rattle.log_order.specs.Precedence.{Precedence, IsKept}
+use Rattle.log_order.specs.Precedence.{Precedence, IsKeptOrder}
 use Rattle.log_order.specs.declared.alarm_log.AlarmLog.TheInside.{Inside as LogInside}
 use Rattle.log_order.specs.declared.precedence.Precedence.TheInside.{Inside as PrecedenceInside}
 
@@ -16,7 +16,7 @@ precedence_view a = record { count = length a.order.items; pairs = a.pairs.items
 
 -- what the fields keep: the order and the followers fit the pairs, no pair stands twice, and the numbers are no more than alarms may be
 pub record IsPrecedence (a : PrecedenceInside) : Type 0 where
-  pub kept : IsKept a.pairs.items a.order.items a.followers.items
+  pub kept : IsKeptOrder a.pairs.items a.order.items a.followers.items
   pub few : length a.order.items ≤ MOST_ALARMS
   pub once : StandOnce a.pairs.items
 

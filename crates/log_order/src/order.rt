@@ -1,7 +1,7 @@
 // The order of the smallest free alarms.
 ghost use Rattle.std.specs.Prelude.{◌≡◌, ◌<◌, ℕ, ◌^◌, All, not, length, IfOk, OnOk};
 ghost use Rattle.log_order.specs.Precedence.{is_in, is_marked};
-ghost use Rattle.log_order.specs.Order.{first_below, waits, with_next, taken_first, least_order};
+ghost use Rattle.log_order.specs.Order.{first_below, is_held_back, with_next, taken_first, least_order};
 
 use crate::marks::is_marked;
 use des_base::Memory;
@@ -10,7 +10,7 @@ use std::alloc::Global;
 // Marks the numbers that are taken, and those that a pair puts behind one that isn't.
 fn waiting(alloc: Global, pairs: &[(u32, u32)], taken: &[bool]) -> Result<Vec<bool>, Memory>
     requires { All (λ pair. pair.1 < length taken.now) pairs.now }
-    ensures { IfOk result (λ marks. (i : ℕ) → is_marked marks.items i ≡ waits (is_marked taken.now) pairs.now i) }
+    ensures { IfOk result (λ marks. (i : ℕ) → is_marked marks.items i ≡ is_held_back (is_marked taken.now) pairs.now i) }
 {
     let mut marks = Vec::from_slice(alloc, taken)?;
     for pair in pairs {

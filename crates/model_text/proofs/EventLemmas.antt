@@ -11,7 +11,7 @@ use Rattle.des_net.specs.declared.parts.Part.{Part}
 use Rattle.des_net.specs.Network.{Component as Automaton, no_component}
 use Rattle.des_net.specs.Building.{is_known, IsDraftEvent, AreDraftEvents}
 use Rattle.model_text.specs.ModelLines.{NamedPart}
-use Rattle.model_text.specs.ModelNetwork.{number, numbered_part, event_of, NamedEvent}
+use Rattle.model_text.specs.ModelNetwork.{number, numbered_part, numbered_event, NamedEvent}
 use Rattle.model_text.proofs.NumberLemmas.{KeepsPlaces, KeepsPlaces-itself, number-kept}
 
 -- each component keeps the numbers of its actions
@@ -70,11 +70,11 @@ parts_kept names more old new g (p ∷ ps) h =
     λ i. part_kept names more old new g p (known old (numbered_part names old p) (and_left (is_known old (numbered_part names old p)) rest h)) i
     ∷ parts_kept names more old new g ps (and_right (is_known old (numbered_part names old p)) rest h) i
 
-events_by : (names more : List (List ℕ)) (old new : List Automaton) → ListsGrow names more old new → (es : List NamedEvent) → AllByRecursion (IsDraftEvent old) (map (event_of names old) es)
-    → map (event_of more new) es ≡ map (event_of names old) es
+events_by : (names more : List (List ℕ)) (old new : List Automaton) → ListsGrow names more old new → (es : List NamedEvent) → AllByRecursion (IsDraftEvent old) (map (numbered_event names old) es)
+    → map (numbered_event more new) es ≡ map (numbered_event names old) es
 events_by names more old new g [] h = refl
 events_by names more old new g (e ∷ es) h = λ i. record { parts = parts_kept names more old new g e.parts h.0.known i; label = e.label; fault = e.fault } ∷ events_by names more old new g es h.1 i
 
-pub events_kept : (names more : List (List ℕ)) (old new : List Automaton) → ListsGrow names more old new → (es : List NamedEvent) → AreDraftEvents old (map (event_of names old) es)
-    → map (event_of more new) es ≡ map (event_of names old) es
-events_kept names more old new g es h = events_by names more old new g es (recursion_from_All (IsDraftEvent old) (map (event_of names old) es) h.each)
+pub events_kept : (names more : List (List ℕ)) (old new : List Automaton) → ListsGrow names more old new → (es : List NamedEvent) → AreDraftEvents old (map (numbered_event names old) es)
+    → map (numbered_event more new) es ≡ map (numbered_event names old) es
+events_kept names more old new g es h = events_by names more old new g es (recursion_from_All (IsDraftEvent old) (map (numbered_event names old) es) h.each)

@@ -6,7 +6,7 @@ use Rattle.std.proofs.lemmas.List.{map-append}
 use Rattle.std.proofs.lemmas.Option.{get_or_from_slice_get}
 use Rattle.des_net.specs.Network.{Component as Automaton, Net, no_component}
 use Rattle.des_net.specs.Building.{IsDraft, change_at, change_component, with_component, with_event}
-use Rattle.model_text.specs.ModelNetwork.{Section, NamedEvent, component_of, event_of, numbered_part}
+use Rattle.model_text.specs.ModelNetwork.{Section, NamedEvent, component_of, numbered_event, numbered_part}
 use Rattle.model_text.specs.Growth.{last_place}
 use Rattle.model_text.proofs.NumberLemmas.{KeepsPlaces, KeepsPlaces-itself, KeepsPlaces-append}
 use Rattle.model_text.proofs.EventLemmas.{ActionsGrow, ActionsGrow-push, ActionsGrow-last, events_kept}
@@ -23,7 +23,7 @@ network_from sections events = record {
   component_names = names_of sections;
   components = automata_of sections;
   event_names = map (λ e. e.name) events;
-  events = map (event_of (names_of sections) (automata_of sections)) events;
+  events = map (numbered_event (names_of sections) (automata_of sections)) events;
 }
 
 last_at : (front : List Automaton) (c : Automaton) → length front ≡ length (front ++ c ∷ []) - 1
@@ -63,7 +63,7 @@ network_from-component sections events name d =
       component_names = names i;
       components = automata i;
       event_names = map (λ (e : NamedEvent). e.name) events;
-      events = ((λ j. map (event_of (names j) (automata j)) events) ∙ kept) i;
+      events = ((λ j. map (numbered_event (names j) (automata j)) events) ∙ kept) i;
     }
 
 actions_last : (front : List Automaton) (c d : Automaton) (old new : List Automaton) → old ≡ front ++ c ∷ [] → new ≡ front ++ d ∷ [] → KeepsPlaces c.action_names d.action_names → ActionsGrow old new
@@ -91,7 +91,7 @@ network_from-last front last other events change d same changed grows =
       component_names = names i;
       components = automata i;
       event_names = map (λ (e : NamedEvent). e.name) events;
-      events = ((λ j. map (event_of (names j) (automata_of (front ++ other ∷ []))) events) ∙ kept) i;
+      events = ((λ j. map (numbered_event (names j) (automata_of (front ++ other ∷ []))) events) ∙ kept) i;
     }
 
 -- one more event
@@ -101,5 +101,5 @@ network_from-event sections events e = λ i. record {
   component_names = names_of sections;
   components = automata_of sections;
   event_names = map-append (λ (f : NamedEvent). f.name) events (e ∷ []) i;
-  events = map-append (event_of (names_of sections) (automata_of sections)) events (e ∷ []) i;
+  events = map-append (numbered_event (names_of sections) (automata_of sections)) events (e ∷ []) i;
 }

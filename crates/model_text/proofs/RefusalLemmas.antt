@@ -21,7 +21,7 @@ use Rattle.model_text.specs.ModelLines.{ModelLine, component, state, transition,
 use Rattle.model_text.specs.ModelFaults.{has_repeated, stands_in, words_of}
 use Rattle.model_text.specs.Refusals.{refusal_of_build}
 use Rattle.model_text.specs.Growth.{last_place, last_states, parts_by_name}
-use Rattle.model_text.specs.LineCodes.{first_of, has_placed, has_named, is_empty, code_by, code_by_tokens, IsCoded}
+use Rattle.model_text.specs.LineCodes.{first_of, has_placed, has_named, is_without_components, code_by, code_by_tokens, IsCoded}
 use Rattle.model_text.specs.LineAdditions.{AddsLine, IsNamed, IsLabelled}
 use Rattle.model_text.proofs.CodeLemmas.{limited, state_refusal-at, trans_refusal-at}
 use Rattle.model_text.proofs.PartLemmas.{all_found, all_there, all_repeated}
@@ -80,15 +80,15 @@ component-refused net name r h answered =
 homeless : (b named double unknown past : Bool) → b ≡ true → first_of b named double unknown past ≡ Some 7
 homeless b named double unknown past h = rw h refl
 
-none_there : (net : Net) → length net.components ≡ 0 → is_empty net ≡ true
+none_there : (net : Net) → length net.components ≡ 0 → is_without_components net ≡ true
 none_there net h = ap (λ n. nat_le n 0) h
 
 pub state-homeless : (net : Net) (name : List ℕ) (initial : Bool) → length net.components ≡ 0 → code_by net (state name initial) ≡ Some 7
-state-homeless net name initial h = homeless (is_empty net) (list_all is_name_text (name ∷ [])) (stands_in (last_states net) name) false (nat_le 256 (length (last_states net))) (none_there net h)
+state-homeless net name initial h = homeless (is_without_components net) (list_all is_name_text (name ∷ [])) (stands_in (last_states net) name) false (nat_le 256 (length (last_states net))) (none_there net h)
 
 pub transition-homeless : (net : Net) (from action to : List ℕ) → length net.components ≡ 0 → code_by net (transition from action to) ≡ Some 7
 transition-homeless net from action to h =
-    homeless (is_empty net) (list_all is_name_text (from ∷ action ∷ to ∷ [])) (has_named (component_at net (last_place net)) from action to)
+    homeless (is_without_components net) (list_all is_name_text (from ∷ action ∷ to ∷ [])) (has_named (component_at net (last_place net)) from action to)
     (not (stands_in (last_states net) from && stands_in (last_states net) to)) (nat_le 50000 (trans_count net.components)) (none_there net h)
 
 -- ---- the component that was begun last
@@ -97,7 +97,7 @@ module _ (net : Net) (comp : ℕ) (current : comp + 1 ≡ length net.components)
   abbrev last : Automaton
   last = component_at net (last_place net)
 
-  some : is_empty net ≡ false
+  some : is_without_components net ≡ false
   some = grind (arith, nat_tests)
 
   place : comp ≡ last_place net
@@ -107,7 +107,7 @@ module _ (net : Net) (comp : ℕ) (current : comp + 1 ≡ length net.components)
   at = slice_get-get_or net.components comp no_component (omega arith) ∙ ap (λ i. Some (get_or net.components i no_component)) place
 
   pub state-unnamed : (name : List ℕ) (initial : Bool) → is_name_text name ≡ false → code_by net (state name initial) ≡ Some 3
-  state-unnamed name initial h = unnamed (is_empty net) (list_all is_name_text (name ∷ [])) (stands_in (last_states net) name) false (nat_le 256 (length (last_states net))) some (one_name name false h)
+  state-unnamed name initial h = unnamed (is_without_components net) (list_all is_name_text (name ∷ [])) (stands_in (last_states net) name) false (nat_le 256 (length (last_states net))) some (one_name name false h)
 
   pub state-refused : (name : List ℕ) (initial : Bool) (r : BuildRefusal) → is_name_text name ≡ true → Answers {X = ℕ} (Err r) (state_refusal net.components comp name) → IsCoded (code_by net (state name initial)) (refusal_of_build r)
   state-refused name initial r h answered =
@@ -122,7 +122,7 @@ module _ (net : Net) (comp : ℕ) (current : comp + 1 ≡ length net.components)
   -- a transition with a word that is no name
   pub transition-unnamed : (from action to : List ℕ) → (is_name_text from && (is_name_text action && (is_name_text to && true))) ≡ false → code_by net (transition from action to) ≡ Some 3
   transition-unnamed from action to h =
-      unnamed (is_empty net) (list_all is_name_text (from ∷ action ∷ to ∷ [])) (has_named last from action to) (not (stands_in (last_states net) from && stands_in (last_states net) to)) (nat_le 50000 (trans_count net.components)) some h
+      unnamed (is_without_components net) (list_all is_name_text (from ∷ action ∷ to ∷ [])) (has_named last from action to) (not (stands_in (last_states net) from && stands_in (last_states net) to)) (nat_le 50000 (trans_count net.components)) some h
 
   -- one of whose states isn't known
   pub transition-unknown : (from action to : List ℕ) (o p : Option ℕ) → (is_name_text from && (is_name_text action && (is_name_text to && true))) ≡ true → place_of from last.state_names ≡ o → place_of to last.state_names ≡ p

@@ -11,7 +11,7 @@ use Rattle.des_net.specs.declared.parts.Part.{Part}
 use Rattle.des_net.specs.Network.{Component as Automaton, Net, IsTransOf, no_component}
 use Rattle.des_net.specs.Building.{IsDraft, trans_count}
 use Rattle.model_text.specs.ModelLines.{ModelLine, component, state, transition, event, NamedPart}
-use Rattle.model_text.specs.ModelNetwork.{Section, NamedEvent, NamedTransition, sections, current, last_lines, component_names, events_in, state_names_in, transitions_in, actions_in, component_of, event_of, number, numbered_transition, network_of_lines}
+use Rattle.model_text.specs.ModelNetwork.{Section, NamedEvent, NamedTransition, sections, current, last_lines, component_names, events_in, state_names_in, transitions_in, actions_in, component_of, numbered_event, number, numbered_transition, network_of_lines}
 use Rattle.model_text.specs.ModelFaults.{is_same_transition, has_repeated, stands_in, words_of, line_code}
 use Rattle.model_text.specs.Growth.{parts_by_name}
 use Rattle.model_text.specs.LineCodes.{first_of, has_placed, has_named, code_by}
@@ -125,7 +125,7 @@ coded-event : (earlier : List ModelLine) (name : List ℕ) (label : Option (List
 coded-event earlier name label fault parts =
     let net = network_of_lines earlier in
     let known = known_found net parts (parts_by_name net parts) refl in
-    let many = sym (length-map (events_in earlier) (event_of (names_of (sections earlier)) (automata_of (sections earlier)))) in
+    let many = sym (length-map (events_in earlier) (numbered_event (names_of (sections earlier)) (automata_of (sections earlier)))) in
     λ i. first_of false (list_all is_name_text (words_of (event name label fault parts))) (stands_in net.event_names name || has_repeated (map (λ (p : NamedPart). p.component) parts))
     (not (known i)) (nat_le 4000 (many i) || nat_lt 16 (length parts))
 

@@ -15,7 +15,7 @@ use Rattle.des_net.specs.declared.refusal.BuildRefusal.TheVariants.{Double, Unkn
 use Rattle.des_net.specs.Network.{Component as Automaton, Net, IsTransOf, no_component}
 use Rattle.des_net.specs.Building.{IsDraft, IsDraftComponent, change_component, with_component, with_state, with_trans, with_event, state_refusal, event_refusal, has_trans, trans_count, is_known, repeats}
 use Rattle.model_text.specs.ModelLines.{ModelLine, component, state, transition, event, NamedPart}
-use Rattle.model_text.specs.ModelNetwork.{Section, NamedEvent, NamedTransition, last_lines, state_names_in, transitions_in, actions_in, component_of, event_of, numbered_transition}
+use Rattle.model_text.specs.ModelNetwork.{Section, NamedEvent, NamedTransition, last_lines, state_names_in, transitions_in, actions_in, component_of, numbered_event, numbered_transition}
 use Rattle.model_text.specs.ModelFaults.{is_same_transition, has_repeated}
 use Rattle.model_text.specs.Growth.{grown, unless, last_place, parts_by_name, grown_by_transition, grown_by_event}
 use Rattle.model_text.specs.GrowthLaw.{HasNames, HasNamedParts}
@@ -242,7 +242,7 @@ event-at sections events e (Some qs) d names h =
     let named = all_named net names d.named (e.name ∷ option_to_list e.label) e.parts qs found in
     let repeated = all_repeated net e.parts qs found in
     let known = all_known net e.parts qs found in
-    let many = length-map events (event_of (names_of sections) (automata_of sections)) in
+    let many = length-map events (numbered_event (names_of sections) (automata_of sections)) in
     let few = length_all net e.parts qs found in
     Step-plain words (is_some (place_of e.name net.event_names) || repeats qs) (nat_le 4000 (length net.events) || nat_lt 16 (length qs)) m _ _ _
     (λ i. outcome false (named i) (is_some (place_of e.name net.event_names) || repeated i) (not (known i)) (nat_le 4000 (sym many i) || nat_lt 16 (few i)))
@@ -273,5 +273,5 @@ network_from-on_last sections events name label fault parts =
       component_names = names i;
       components = automata i;
       event_names = map (λ (e : NamedEvent). e.name) events;
-      events = map (event_of (names i) (automata i)) events;
+      events = map (numbered_event (names i) (automata i)) events;
     }

@@ -32,17 +32,17 @@ abbrev pub has_named : Automaton → (from action to : List ℕ) → Bool
 has_named c from action to = has_placed c action (place_of from c.state_names) (place_of to c.state_names)
 
 -- no component was begun yet, so a state or a transition has no home
-abbrev pub is_empty : Net → Bool
-is_empty net = nat_le (length net.components) 0
+abbrev pub is_without_components : Net → Bool
+is_without_components net = nat_le (length net.components) 0
 
 -- the first code that a line has, told by the network alone, or none where the line is accepted
 abbrev pub code_by : Net → ModelLine → Option ℕ
 code_by net (component name) =
     first_of false (list_all is_name_text (words_of (component name))) (stands_in net.component_names name) false (nat_le most_components (length net.components))
 code_by net (state name initial) =
-    first_of (is_empty net) (list_all is_name_text (words_of (state name initial))) (stands_in (last_states net) name) false (nat_le most_states (length (last_states net)))
+    first_of (is_without_components net) (list_all is_name_text (words_of (state name initial))) (stands_in (last_states net) name) false (nat_le most_states (length (last_states net)))
 code_by net (transition from action to) =
-    first_of (is_empty net) (list_all is_name_text (words_of (transition from action to)))
+    first_of (is_without_components net) (list_all is_name_text (words_of (transition from action to)))
     (has_named (component_at net (last_place net)) from action to)
     (not (stands_in (last_states net) from && stands_in (last_states net) to))
     (nat_le most_transitions (trans_count net.components))

@@ -131,8 +131,8 @@ numbered_part names components part =
     record { comp = c; action = number (slice_index_or components c no_component).action_names part.action }
 
 -- a declared event, its parts by numbers
-abbrev pub event_of : List (List ℕ) → List Automaton → NamedEvent → Happening
-event_of names components e = record { parts = map (numbered_part names components) e.parts; label = e.label; fault = e.fault }
+abbrev pub numbered_event : List (List ℕ) → List Automaton → NamedEvent → Happening
+numbered_event names components e = record { parts = map (numbered_part names components) e.parts; label = e.label; fault = e.fault }
 
 -- the names on the `component` lines, in order
 abbrev pub component_names : List ModelLine → List (List ℕ)
@@ -148,7 +148,7 @@ network_of_lines lines = record {
   component_names = component_names lines;
   components = components_of lines;
   event_names = map (λ e. e.name) (events_in lines);
-  events = map (event_of (component_names lines) (components_of lines)) (events_in lines);
+  events = map (numbered_event (component_names lines) (components_of lines)) (events_in lines);
 }
 
 -- what the lines of a text say, where they have shapes

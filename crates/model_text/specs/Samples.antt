@@ -12,8 +12,8 @@ abbrev pub wide_text_of : List (List ℕ) → List ℕ
 wide_text_of lines = flat_map (λ line. line ++ 13 ∷ 10 ∷ []) lines
 
 -- the outcome that there is a fault, of this code on this line
-abbrev pub fault_at : ℕ → ℕ → Option ModelFault
-fault_at line code = Some (record { line = line; code = code })
+abbrev pub sample_fault : ℕ → ℕ → Option ModelFault
+sample_fault line code = Some (record { line = line; code = code })
 
 -- a valve that jams, trips and is fixed
 abbrev pub valve_lines : List (List ℕ)

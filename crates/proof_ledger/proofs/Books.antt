@@ -10,8 +10,8 @@ use Rattle.proof_ledger.specs.declared.entry.Kept.{Kept}
 use Rattle.proof_ledger.specs.declared.entry.Kept.TheVariants.{Axiom, Learnt, Final, Mark}
 use Rattle.proof_ledger.specs.declared.ledger.Origin.{Origin}
 use Rattle.proof_ledger.specs.declared.ledger.Origin.TheVariants as origins
-use Rattle.proof_ledger.specs.Book.{BookEntry, axiomatic, learnt, final, mark, clause_of, clause_hints_of, clauses_of, hints_of, shown, EachAfter, IsDerived, DerivesFrom, IsEntryAt}
-use Rattle.proof_ledger.specs.Kept.{book_of, kept_from, kept, entry_of, IsBook, IsKept, made}
+use Rattle.proof_ledger.specs.Book.{BookEntry, axiomatic, learnt, final, mark, clause_of, clause_hints_of, clauses_of, hints_of, shown, EachAfter, IsDerivedIfDue, DerivesFrom, IsEntryAt}
+use Rattle.proof_ledger.specs.Kept.{book_of, kept_from, kept, visible_entry, IsBook, IsKeptBook, made}
 
 -- the book of what is kept of it
 pub book_of-kept : (count : ℕ) (book : List BookEntry) → book_of (kept_from count book) (clauses_of book) (hints_of book) ≡ book
@@ -31,13 +31,13 @@ kept_from-append count (learnt clause hints ∷ book) e = let h = kept_from-appe
 kept_from-append count (final clause hints ∷ book) e = let h = kept_from-append (count + 1) book e in let n : count + 1 + length (clauses_of book) ≡ count + suc (length (clauses_of book)) = omega arith in cc
 kept_from-append count (mark k ∷ book) e = let h = kept_from-append count book e in cc
 
-each_more : (earlier book : List BookEntry) (e : BookEntry) → EachAfter IsDerived earlier book → IsDerived (earlier ++ book) e → EachAfter IsDerived earlier (book ++ e ∷ [])
-each_more earlier [] e all h = (subst (λ (b : List BookEntry). IsDerived b e) (append-nil earlier) h, tt)
-each_more earlier (x ∷ book) e all h = (all.0, each_more (earlier ++ x ∷ []) book e all.1 (subst (λ (b : List BookEntry). IsDerived b e) (sym (append_assoc earlier (x ∷ []) book)) h))
+each_more : (earlier book : List BookEntry) (e : BookEntry) → EachAfter IsDerivedIfDue earlier book → IsDerivedIfDue (earlier ++ book) e → EachAfter IsDerivedIfDue earlier (book ++ e ∷ [])
+each_more earlier [] e all h = (subst (λ (b : List BookEntry). IsDerivedIfDue b e) (append-nil earlier) h, tt)
+each_more earlier (x ∷ book) e all h = (all.0, each_more (earlier ++ x ∷ []) book e all.1 (subst (λ (b : List BookEntry). IsDerivedIfDue b e) (sym (append_assoc earlier (x ∷ []) book)) h))
 
 -- An entry joins a book: what is kept is that of the longer book.
 pub record Joined (entries : List Kept) (clauses : List Clause) (hints : List (List ℕ)) (book : List BookEntry) : Type 0 where
-  pub kept : IsKept entries clauses hints
+  pub kept : IsKeptBook entries clauses hints
   pub book_is : book_of entries clauses hints ≡ book
   pub count : length clauses ≡ length (clauses_of book)
 
@@ -50,7 +50,7 @@ is_book entries clauses hints book h =
       count = ap length h.clauses_are;
     }
 
-pub joined : (es es' : List Kept) (cs cs' : List Clause) (hs hs' : List (List ℕ)) (book : List BookEntry) (e : BookEntry) → IsKept es cs hs → book_of es cs hs ≡ book → IsDerived book e →
+pub joined : (es es' : List Kept) (cs cs' : List Clause) (hs hs' : List (List ℕ)) (book : List BookEntry) (e : BookEntry) → IsKeptBook es cs hs → book_of es cs hs ≡ book → IsDerivedIfDue book e →
     es' ≡ es ++ kept (length cs + 1) e ∷ [] → cs' ≡ cs ++ clauses_of (e ∷ []) → hs' ≡ hs ++ hints_of (e ∷ []) → Joined es' cs' hs' (book ++ e ∷ [])
 joined es es' cs cs' hs hs' book e before same derived more_entries more_clauses more_hints =
     let k : IsBook es cs hs book = subst (λ (b : List BookEntry). IsBook es cs hs b) same before in
@@ -80,7 +80,7 @@ length-hints_of (final clause hints ∷ book) = ap suc (length-hints_of book)
 length-hints_of (mark k ∷ book) = length-hints_of book
 
 -- and as many hints as clauses
-pub count_hints : (es : List Kept) (cs : List Clause) (hs : List (List ℕ)) (book : List BookEntry) → IsKept es cs hs → book_of es cs hs ≡ book → length hs ≡ length (clauses_of book)
+pub count_hints : (es : List Kept) (cs : List Clause) (hs : List (List ℕ)) (book : List BookEntry) → IsKeptBook es cs hs → book_of es cs hs ≡ book → length hs ≡ length (clauses_of book)
 count_hints es cs hs book before same = ap length before.hints_are ∙ length-hints_of (book_of es cs hs) ∙ ap (λ (b : List BookEntry). length (clauses_of b)) same
 
 kept_at : (count : ℕ) (book : List BookEntry) (place : ℕ) (d : Kept) → place < length book →
@@ -102,27 +102,27 @@ kept_at count (final clause hints ∷ book) (suc k) d h =
 kept_at count (mark m ∷ book) (suc k) d h = kept_at count book k d (omega arith)
 
 -- what is kept of an entry shows it
-entry_of-kept : (number : ℕ) (e : BookEntry) → entry_of (kept number e) ≡ shown number e
-entry_of-kept number (axiomatic clause) = refl
-entry_of-kept number (learnt clause hints) = refl
-entry_of-kept number (final clause hints) = refl
-entry_of-kept number (mark k) = refl
+visible_entry-kept : (number : ℕ) (e : BookEntry) → visible_entry (kept number e) ≡ shown number e
+visible_entry-kept number (axiomatic clause) = refl
+visible_entry-kept number (learnt clause hints) = refl
+visible_entry-kept number (final clause hints) = refl
+visible_entry-kept number (mark k) = refl
 
 if_some : (o : Option BookEntry) (P Q : BookEntry → Type 0) → ((e : BookEntry) → P e → Q e) → MatchOption o ⊥ P → MatchOption o ⊥ Q
 if_some None P Q f h = h
 if_some (Some e) P Q f h = f e h
 
 -- the entry at a place is shown with the number of its clause
-pub entry_at : (es : List Kept) (cs : List Clause) (hs : List (List ℕ)) (book : List BookEntry) (place : ℕ) (there : Kept) (entry : Entry) → IsKept es cs hs → book_of es cs hs ≡ book →
-    place < length book → there ≡ get_or es place there → entry ≡ entry_of there → IsEntryAt book place entry
+pub entry_at : (es : List Kept) (cs : List Clause) (hs : List (List ℕ)) (book : List BookEntry) (place : ℕ) (there : Kept) (entry : Entry) → IsKeptBook es cs hs → book_of es cs hs ≡ book →
+    place < length book → there ≡ get_or es place there → entry ≡ visible_entry there → IsEntryAt book place entry
 entry_at es cs hs book place there entry same_book same h e shows =
     let k : IsBook es cs hs book = subst (λ (b : List BookEntry). IsBook es cs hs b) same same_book in
     let at : get_or (kept_from 0 book) place there ≡ there = sym (e ∙ ap (λ (l : List Kept). get_or l place there) k.entries_are) in
     let n : 0 + length (clauses_of (take place book)) + 1 ≡ length (clauses_of (take place book)) + 1 = omega arith in
-    if_some (slice_get book place) _ _ (λ x is. shows ∙ ap entry_of (sym at ∙ is) ∙ ap (λ (m : ℕ). entry_of (kept m x)) n ∙ entry_of-kept _ x) (kept_at 0 book place there h)
+    if_some (slice_get book place) _ _ (λ x is. shows ∙ ap visible_entry (sym at ∙ is) ∙ ap (λ (m : ℕ). visible_entry (kept m x)) n ∙ visible_entry-kept _ x) (kept_at 0 book place there h)
 
 -- the hints of a clause
-pub hints_at : (es : List Kept) (cs : List Clause) (hs : List (List ℕ)) (book : List BookEntry) (place : ℕ) (hints : List ℕ) → IsKept es cs hs → book_of es cs hs ≡ book →
+pub hints_at : (es : List Kept) (cs : List Clause) (hs : List (List ℕ)) (book : List BookEntry) (place : ℕ) (hints : List ℕ) → IsKeptBook es cs hs → book_of es cs hs ≡ book →
     slice_get hs place ≡ Some hints → slice_get (hints_of book) place ≡ Some hints
 hints_at es cs hs book place hints before same at =
     let k : IsBook es cs hs book = subst (λ (b : List BookEntry). IsBook es cs hs b) same before in
@@ -133,14 +133,14 @@ one_more cs c = grind (arith, common_steps)
 
 -- an axiom joins the book
 pub axiom_joined : (clause : Clause) (es es' : List Kept) (cs cs' : List Clause) (hs hs' : List (List ℕ)) (book : List BookEntry) (id : ℕ) →
-    IsKept es cs hs → book_of es cs hs ≡ book → id ≡ length cs' → es' ≡ es ++ Axiom id ∷ [] → cs' ≡ cs ++ clause ∷ [] → hs' ≡ hs ++ [] ∷ [] → Joined es' cs' hs' (book ++ axiomatic clause ∷ [])
+    IsKeptBook es cs hs → book_of es cs hs ≡ book → id ≡ length cs' → es' ≡ es ++ Axiom id ∷ [] → cs' ≡ cs ++ clause ∷ [] → hs' ≡ hs ++ [] ∷ [] → Joined es' cs' hs' (book ++ axiomatic clause ∷ [])
 axiom_joined clause es es' cs cs' hs hs' book id before same number e c h =
     let n : id ≡ length cs + 1 = number ∙ ap length c ∙ one_more cs clause in
     joined es es' cs cs' hs hs' book (axiomatic clause) before same tt (e ∙ ap (λ k. es ++ Axiom k ∷ []) n) c h
 
 -- a clause that is derived joins it by its origin
 pub put_joined : (origin : Origin) (clause : Clause) (hints : List ℕ) (es es' : List Kept) (cs cs' : List Clause) (hs hs' : List (List ℕ)) (book : List BookEntry) (id : ℕ) (entry : Kept) →
-    IsKept es cs hs → book_of es cs hs ≡ book → DerivesFrom book clause hints → id ≡ length cs' → entry ≡ kept id (made origin [] []) →
+    IsKeptBook es cs hs → book_of es cs hs ≡ book → DerivesFrom book clause hints → id ≡ length cs' → entry ≡ kept id (made origin [] []) →
     es' ≡ es ++ entry ∷ [] → cs' ≡ cs ++ clause ∷ [] → hs' ≡ hs ++ hints ∷ [] → Joined es' cs' hs' (book ++ made origin clause hints ∷ [])
 put_joined origins.Learnt clause hints es es' cs cs' hs hs' book id entry before same derived number is e c h =
     let n : id ≡ length cs + 1 = number ∙ ap length c ∙ one_more cs clause in
@@ -150,5 +150,5 @@ put_joined origins.Final clause hints es es' cs cs' hs hs' book id entry before 
     joined es es' cs cs' hs hs' book (final clause hints) before same derived (e ∙ ap (λ x. es ++ x ∷ []) (is ∙ ap Final n)) c h
 
 -- a mark joins it, and the clauses stay
-pub mark_joined : (number : ℕ) (es es' : List Kept) (cs : List Clause) (hs : List (List ℕ)) (book : List BookEntry) → IsKept es cs hs → book_of es cs hs ≡ book → es' ≡ es ++ Mark number ∷ [] → Joined es' cs hs (book ++ mark number ∷ [])
+pub mark_joined : (number : ℕ) (es es' : List Kept) (cs : List Clause) (hs : List (List ℕ)) (book : List BookEntry) → IsKeptBook es cs hs → book_of es cs hs ≡ book → es' ≡ es ++ Mark number ∷ [] → Joined es' cs hs (book ++ mark number ∷ [])
 mark_joined number es es' cs hs book before same e = joined es es' cs cs hs hs book (mark number) before same tt e (sym (append-nil cs)) (sym (append-nil hs))

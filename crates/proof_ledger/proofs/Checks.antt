@@ -11,7 +11,7 @@ use Rattle.proof_ledger.specs.declared.checker.ProofStep.{ProofStep}
 use Rattle.proof_ledger.specs.declared.checker.ProofStep.TheVariants.{Add, Delete}
 use Rattle.proof_ledger.specs.declared.checker.Checked.{Checked}
 use Rattle.proof_ledger.specs.declared.checker.Checked.TheVariants.{Verified, Rejected}
-use Rattle.proof_ledger.specs.Checking.{with_clause, without, is_empty, Checking, answered, holds, after_add, after_step, check_from, check_proof, Leads, IsUnsatisfiable}
+use Rattle.proof_ledger.specs.Checking.{with_clause, without, is_empty_clause, Checking, answered, holds, after_add, after_step, check_from, check_proof, IsCheckedSoFar, IsUnsatisfiable}
 
 -- two that hold the same are one
 pub held_same : (f g : ℕ → Option Clause) → ((n : ℕ) → f n ≡ g n) → f ≡ g
@@ -38,7 +38,7 @@ step_true value held (Delete ids) all (answered checked) e = cc
 step_true value held (Delete ids) all (holds more) e = let same : without held ids ≡ more = cc in subst (λ (m : ℕ → Option Clause). MakesHeldTrue value m) same (without_true value held ids all)
 step_true value held (Add line id clause hints) all c e = by (derive held clause hints) refl c e
   where
-    emptied : (cl : Clause) → IsTrue (clause_true value cl) → (c : Checking) → cond (is_empty cl) (answered Verified) (holds (with_clause held id cl)) ≡ c →
+    emptied : (cl : Clause) → IsTrue (clause_true value cl) → (c : Checking) → cond (is_empty_clause cl) (answered Verified) (holds (with_clause held id cl)) ≡ c →
         elim c as (λ _. Type 0) [ answered checked ↦ (checked ≡ Verified → ⊥) | holds more ↦ MakesHeldTrue value more ]
     emptied [] t c is = cc
     emptied (l ∷ ls) t (answered checked) is = cc
@@ -85,7 +85,7 @@ check-answered held steps i step checked h e is = ap (check_from held) (step_mor
 
 -- or it goes on with what is held then
 pub check-holds : (held after : ℕ → Option Clause) (steps : List ProofStep) (i : ℕ) (step : ProofStep) → i < length steps → step ≡ get_or steps i step →
-    Leads (after_step held step) None after → check_from held (drop i steps) ≡ check_from after (drop (i + 1) steps)
+    IsCheckedSoFar (after_step held step) None after → check_from held (drop i steps) ≡ check_from after (drop (i + 1) steps)
 check-holds held after steps i step h e (other, is, same) =
     ap (check_from held) (step_more steps i step h e) ∙ (rw (is, check_from) refl ∙ ap (λ (f : ℕ → Option Clause). check_from f (drop (i + 1) steps)) (sym (held_same after other same)))
 

@@ -57,11 +57,11 @@ abbrev pub DerivesFrom : List BookEntry → Clause → List ℕ → Type 0
 DerivesFrom earlier clause hints = Derives (clause_numbered (clauses_of earlier)) clause hints
 
 -- an entry that has to be derived is, from the clauses of the entries before it
-abbrev pub IsDerived : List BookEntry → BookEntry → Type 0
-IsDerived earlier (axiomatic clause) = ⊤
-IsDerived earlier (learnt clause hints) = DerivesFrom earlier clause hints
-IsDerived earlier (final clause hints) = DerivesFrom earlier clause hints
-IsDerived earlier (mark k) = ⊤
+abbrev pub IsDerivedIfDue : List BookEntry → BookEntry → Type 0
+IsDerivedIfDue earlier (axiomatic clause) = ⊤
+IsDerivedIfDue earlier (learnt clause hints) = DerivesFrom earlier clause hints
+IsDerivedIfDue earlier (final clause hints) = DerivesFrom earlier clause hints
+IsDerivedIfDue earlier (mark k) = ⊤
 
 -- P holds of each element of the list, with those before it: the ones given, and the list's own.
 abbrev pub EachAfter : {X : Type 0} → (List X → X → Type 0) → List X → List X → Type 0
@@ -70,7 +70,7 @@ EachAfter P earlier (x ∷ xs) = P earlier x × EachAfter P (earlier ++ x ∷ []
 
 -- each learnt and each final clause of the book derives by its hints from the clauses before it
 abbrev pub IsValidBook : List BookEntry → Type 0
-IsValidBook book = EachAfter IsDerived [] book
+IsValidBook book = EachAfter IsDerivedIfDue [] book
 
 -- an entry as a caller sees it, with the number of its clause
 abbrev pub shown : ℕ → BookEntry → Entry

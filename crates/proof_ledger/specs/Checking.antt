@@ -17,9 +17,9 @@ abbrev pub without : (ℕ → Option Clause) → List ℕ → ℕ → Option Cla
 without held numbers asked = if list_any (nat_eq asked) numbers then None else held asked
 
 -- the clause has no literal, so that no assignment makes it true
-abbrev pub is_empty : Clause → Bool
-is_empty [] = true
-is_empty (l ∷ ls) = false
+abbrev pub is_empty_clause : Clause → Bool
+is_empty_clause [] = true
+is_empty_clause (l ∷ ls) = false
 
 -- after a step there is an answer, or other clauses are held
 pub data Checking : Type 0 where
@@ -28,7 +28,7 @@ pub data Checking : Type 0 where
 
 -- an addition that derives ends the proof where its clause is empty, and else its clause is held; one that fails ends it, by its line and kind
 abbrev pub after_add : (ℕ → Option Clause) → ℕ → ℕ → Clause → Derivation → Checking
-after_add held line id clause derives = if is_empty clause then answered Verified else holds (with_clause held id clause)
+after_add held line id clause derives = if is_empty_clause clause then answered Verified else holds (with_clause held id clause)
 after_add held line id clause (fails at kind) = answered (Rejected line kind)
 
 -- what a step comes to with the clauses that are held: an addition has to derive, and a deletion never fails
@@ -50,6 +50,6 @@ abbrev pub IsUnsatisfiable : List Clause → Type 0
 IsUnsatisfiable clauses = (value : ℕ → Bool) → AllClausesTrue value clauses → ⊥
 
 -- the code's answer after a step, and what is held then
-abbrev pub Leads : Checking → Option Checked → (ℕ → Option Clause) → Type 0
-Leads checking (Some checked) held = checking ≡ answered checked
-Leads checking None held = (other : ℕ → Option Clause) × (checking ≡ holds other) × ((number : ℕ) → held number ≡ other number)
+abbrev pub IsCheckedSoFar : Checking → Option Checked → (ℕ → Option Clause) → Type 0
+IsCheckedSoFar checking (Some checked) held = checking ≡ answered checked
+IsCheckedSoFar checking None held = (other : ℕ → Option Clause) × (checking ≡ holds other) × ((number : ℕ) → held number ≡ other number)

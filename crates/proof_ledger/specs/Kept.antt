@@ -39,8 +39,8 @@ pub record IsBook (entries : List Kept) (clauses : List Clause) (hints : List (L
   pub valid : IsValidBook book
 
 -- the entries, clauses and hints that are kept are those of a valid book: the one that `book_of` reads from them
-abbrev pub IsKept : List Kept → List Clause → List (List ℕ) → Type 0
-IsKept entries clauses hints = IsBook entries clauses hints (book_of entries clauses hints)
+abbrev pub IsKeptBook : List Kept → List Clause → List (List ℕ) → Type 0
+IsKeptBook entries clauses hints = IsBook entries clauses hints (book_of entries clauses hints)
 
 -- an entry as it is kept, with the number of its clause
 abbrev pub kept : ℕ → BookEntry → Kept
@@ -50,11 +50,11 @@ kept number (final clause hints) = Final number
 kept number (mark k) = Mark k
 
 -- the entry that a caller sees
-abbrev pub entry_of : Kept → Entry
-entry_of (Axiom number) = shown_entries.Axiom number
-entry_of (Learnt number) = shown_entries.Learnt number
-entry_of (Final number) = shown_entries.Final number
-entry_of (Mark k) = shown_entries.Mark k
+abbrev pub visible_entry : Kept → Entry
+visible_entry (Axiom number) = shown_entries.Axiom number
+visible_entry (Learnt number) = shown_entries.Learnt number
+visible_entry (Final number) = shown_entries.Final number
+visible_entry (Mark k) = shown_entries.Mark k
 
 -- the entry that is made of a clause by its origin
 abbrev pub made : Origin → Clause → List ℕ → BookEntry

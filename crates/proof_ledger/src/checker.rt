@@ -1,7 +1,7 @@
 // The checker of proofs.
 ghost use Rattle.std.specs.Prelude.{◌≡◌, IfOk};
 ghost use Rattle.proof_ledger.specs.HeldClauses.{held_by};
-ghost use Rattle.proof_ledger.specs.Checking.{check_proof, after_step, Leads, IsUnsatisfiable};
+ghost use Rattle.proof_ledger.specs.Checking.{check_proof, after_step, IsCheckedSoFar, IsUnsatisfiable};
 
 use crate::follow::{Outcome, derive_by};
 use crate::held::HeldClauses;
@@ -60,7 +60,7 @@ fn take_step<'a>(
     held: &mut HeldClauses<'a>,
     step: &'a ProofStep,
 ) -> Result<Option<Checked>, Memory>
-    ensures { IfOk result (λ ended. Leads (after_step (held_by held.old) step.now) ended (held_by held.new)) }
+    ensures { IfOk result (λ ended. IsCheckedSoFar (after_step (held_by held.old) step.now) ended (held_by held.new)) }
 {
     match step {
         ProofStep::Add {

@@ -1,6 +1,6 @@
 // An entry of a book.
 ghost use Rattle.std.specs.Prelude.{◌≡◌};
-ghost use Rattle.proof_ledger.specs.Kept.{entry_of};
+ghost use Rattle.proof_ledger.specs.Kept.{visible_entry};
 
 use des_base::Memory;
 use prop_core::ClauseId;
@@ -29,7 +29,7 @@ pub enum Kept {
 
 // The entry that is kept so.
 pub fn shown_entry(kept: Kept) -> Entry
-    ensures { result ≡ entry_of kept }
+    ensures { result ≡ visible_entry kept }
 {
     match kept {
         Kept::Axiom(number) => Entry::Axiom(ClauseId(number as u64)),

@@ -32,14 +32,14 @@ pub struct Ledger {
 
 impl Model for Ledger {
     ghost use Rattle.std.specs.Prelude.{◌+◌, ◌≤◌, vec_len, vec_capacity};
-    ghost use Rattle.proof_ledger.specs.Kept.{LedgerState, book_of, IsKept};
+    ghost use Rattle.proof_ledger.specs.Kept.{LedgerState, book_of, IsKeptBook};
 
     ghost Value = { LedgerState };
 
     ghost view = { λ a. record { entries = book_of a.entries.items a.clauses.clauses a.hints.pieces; spare_clauses = a.clauses.spare_clauses; spare_literals = a.clauses.spare_literals } };
 
     ghost invariant = { λ a. record {
-      kept : IsKept a.entries.items a.clauses.clauses a.hints.pieces;
+      kept : IsKeptBook a.entries.items a.clauses.clauses a.hints.pieces;
       hints : a.clauses.spare_clauses ≤ a.hints.spare_pieces;
       entries : vec_len a.entries + a.clauses.spare_clauses ≤ vec_capacity a.entries;
     } };

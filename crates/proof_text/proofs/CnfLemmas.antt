@@ -6,7 +6,7 @@ use Rattle.std.specs.Prelude.{◌&&◌, ◌==◌, not, nat_lt, All}
 use Rattle.des_base.specs.CountedLines.{NumberedLine, numbered, counted_lines, tokens_of, last_line}
 use Rattle.prop_core.specs.declared.lit.Lit.{Lit}
 use Rattle.prop_core.specs.Clauses.{Clause, HasValues}
-use Rattle.proof_text.specs.ClauseReading.{clauses_of}
+use Rattle.proof_text.specs.ClauseReading.{spelled_clauses}
 use Rattle.proof_text.specs.declared.fault.TextFault.{TextFault}
 use Rattle.proof_text.specs.declared.header.Header.{Header}
 use Rattle.proof_text.specs.SignedNumbers.{is_number, is_zero, size_of, literal_of}
@@ -40,16 +40,16 @@ known_literal true size vars n within zero = grind (arith, nat_tests)
 known_literal false size vars n within zero = cc
 
 -- the clauses of tokens without a fault have known variables alone
-pub clauses_known : (vars end left : ℕ) (is_open : Bool) (front : Clause) (tokens : List LinedToken) → HasValues vars front → fault_of_tokens vars end left is_open tokens ≡ None → All (HasValues vars) (clauses_of front tokens)
+pub clauses_known : (vars end left : ℕ) (is_open : Bool) (front : Clause) (tokens : List LinedToken) → HasValues vars front → fault_of_tokens vars end left is_open tokens ≡ None → All (HasValues vars) (spelled_clauses front tokens)
 clauses_known vars end left is_open front [] h none = All-nil (HasValues vars)
 clauses_known vars end left is_open front (token ∷ tokens) h none =
     let parts = fault_or-none token.line (token_code vars left is_open token.text) (fault_of_tokens vars end (left_after left is_open) (not (is_zero token.text)) tokens) none in
     let well = chain-none (is_number token.text) (nat_lt vars (size_of token.text)) (not is_open && left == 0) not_a_number unknown_variable other_count parts.0 in
     step (is_zero token.text) refl well.0 well.1 (λ next known. clauses_known vars end (left_after left is_open) (not (is_zero token.text)) next tokens known parts.1)
   where
-    step : (b : Bool) → is_zero token.text ≡ b → is_number token.text ≡ true → nat_lt vars (size_of token.text) ≡ false → ((next : Clause) → HasValues vars next → All (HasValues vars) (clauses_of next tokens))
-        → All (HasValues vars) (cond b (front ∷ clauses_of [] tokens) (clauses_of (front ++ literal_of token.text ∷ []) tokens))
-    step true e number within rest = All-cons (HasValues vars) front (clauses_of [] tokens) h (rest [] (All-nil (λ (l : Lit). l.var < vars)))
+    step : (b : Bool) → is_zero token.text ≡ b → is_number token.text ≡ true → nat_lt vars (size_of token.text) ≡ false → ((next : Clause) → HasValues vars next → All (HasValues vars) (spelled_clauses next tokens))
+        → All (HasValues vars) (cond b (front ∷ spelled_clauses [] tokens) (spelled_clauses (front ++ literal_of token.text ∷ []) tokens))
+    step true e number within rest = All-cons (HasValues vars) front (spelled_clauses [] tokens) h (rest [] (All-nil (λ (l : Lit). l.var < vars)))
     step false e number within rest =
         rest (front ++ literal_of token.text ∷ [])
         (All-push (λ (l : Lit). l.var < vars) front (literal_of token.text) h (known_literal (is_number token.text) (size_of token.text) vars number within e))

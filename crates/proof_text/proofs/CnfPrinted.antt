@@ -9,13 +9,13 @@ use Rattle.des_base.proofs.PrintedLines.{line_byte, IsWord, tokens_of-word, toke
 use Rattle.des_base.specs.CountedLines.{NumberedLine, numbered, counted_from, counted_lines, tokens_of, last_line}
 use Rattle.prop_core.specs.declared.lit.Lit.{Lit}
 use Rattle.prop_core.specs.Clauses.{Clause, HasValues}
-use Rattle.proof_text.specs.ClauseReading.{clauses_of}
+use Rattle.proof_text.specs.ClauseReading.{spelled_clauses}
 use Rattle.proof_text.specs.SignedNumbers.{is_number, is_zero, size_of, literal_of}
 use Rattle.proof_text.specs.TextFaults.{fault_or, not_a_number, unknown_variable, other_count}
 use Rattle.proof_text.specs.CnfText.{most, stated, header_of, LinedToken, lined, tokens_in, left_after, fault_of_tokens, fault_of_lines, fault_of_body, Formula, formula, formula_of_body, formula_of_lines}
 use Rattle.proof_text.specs.PrintedText.{literal_word, literals_text, clause_text, header_text, formula_text, IsFormulaText}
 use Rattle.proof_text.proofs.CnfLemmas.{within_limits}
-use Rattle.proof_text.proofs.PieceLemmas.{clauses_of-pieces}
+use Rattle.proof_text.proofs.PieceLemmas.{spelled_clauses-pieces}
 use Rattle.proof_text.proofs.WordLemmas.{AreNumerals, numeral_word, numeral_words, spaced, line_of, tokens_of-line, line_of-bytes, line_of-counts}
 use Rattle.proof_text.proofs.NumeralLemmas.{number_of-decimal, decimal_numeral, literal_word_numeral, signed, signed_of-literal, ReadsAs, reads_as, literal-signed, above_zero}
 
@@ -100,19 +100,19 @@ whole_clause vars end left line (l ∷ ls) later few h =
     ∙ ap (λ n. fault_of_tokens vars end n true (clause_tokens line ls later)) (one_less left)
     ∙ inside_clause vars end left line ls later few (All-tail (λ (m : Lit). m.var < vars) l ls h)
 
-taken_step : (b : Bool) (front : Clause) (l : Lit) (later : List LinedToken) → b ≡ false → cond b (front ∷ clauses_of [] later) (clauses_of (front ++ l ∷ []) later) ≡ clauses_of (front ++ l ∷ []) later
+taken_step : (b : Bool) (front : Clause) (l : Lit) (later : List LinedToken) → b ≡ false → cond b (front ∷ spelled_clauses [] later) (spelled_clauses (front ++ l ∷ []) later) ≡ spelled_clauses (front ++ l ∷ []) later
 taken_step true front l later h = cc
 taken_step false front l later h = refl
 
-clauses_of-clause : (vars line : ℕ) (front clause : Clause) (later : List LinedToken) → vars ≤ 2 ^ 32 → HasValues vars clause → clauses_of front (clause_tokens line clause later) ≡ (front ++ clause) ∷ clauses_of [] later
-clauses_of-clause vars line front [] later few h = ap (λ (c : Clause). c ∷ clauses_of [] later) (sym (append-nil front))
-clauses_of-clause vars line front (l ∷ ls) later few h =
+spelled_clauses-clause : (vars line : ℕ) (front clause : Clause) (later : List LinedToken) → vars ≤ 2 ^ 32 → HasValues vars clause → spelled_clauses front (clause_tokens line clause later) ≡ (front ++ clause) ∷ spelled_clauses [] later
+spelled_clauses-clause vars line front [] later few h = ap (λ (c : Clause). c ∷ spelled_clauses [] later) (sym (append-nil front))
+spelled_clauses-clause vars line front (l ∷ ls) later few h =
     let here : l.var < vars = All-head (λ (m : Lit). m.var < vars) l ls h in
     let reads = literal_reads vars l few here in
     taken_step (is_zero (literal_word l)) front (literal_of (literal_word l)) (clause_tokens line ls later) (reads.zero ∙ above_zero l.var)
-    ∙ ap (λ (m : Lit). clauses_of (front ++ m ∷ []) (clause_tokens line ls later)) (reads.literal ∙ literal-signed l)
-    ∙ clauses_of-clause vars line (front ++ l ∷ []) ls later few (All-tail (λ (m : Lit). m.var < vars) l ls h)
-    ∙ ap (λ (c : Clause). c ∷ clauses_of [] later) (append_assoc front (l ∷ []) ls)
+    ∙ ap (λ (m : Lit). spelled_clauses (front ++ m ∷ []) (clause_tokens line ls later)) (reads.literal ∙ literal-signed l)
+    ∙ spelled_clauses-clause vars line (front ++ l ∷ []) ls later few (All-tail (λ (m : Lit). m.var < vars) l ls h)
+    ∙ ap (λ (c : Clause). c ∷ spelled_clauses [] later) (append_assoc front (l ∷ []) ls)
 
 -- ---- the lines of the clauses
 
@@ -147,15 +147,15 @@ fault_of-clauses vars end n (clause ∷ clauses) few h =
     ∙ whole_clause vars end (length clauses) n clause later few here
     ∙ fault_of-clauses vars end (n + 1) clauses few (All-tail (HasValues vars) clause clauses h)
 
-clauses_of-clauses : (vars n : ℕ) (clauses : List Clause) → vars ≤ 2 ^ 32 → AllKnown vars clauses → clauses_of [] (tokens_in (clause_lines n clauses)) ≡ clauses
+spelled_clauses-clauses : (vars n : ℕ) (clauses : List Clause) → vars ≤ 2 ^ 32 → AllKnown vars clauses → spelled_clauses [] (tokens_in (clause_lines n clauses)) ≡ clauses
 unfolding clause_lines
-clauses_of-clauses vars n [] few h = refl
-clauses_of-clauses vars n (clause ∷ clauses) few h =
+spelled_clauses-clauses vars n [] few h = refl
+spelled_clauses-clauses vars n (clause ∷ clauses) few h =
     let later = tokens_in (clause_lines (n + 1) clauses) in
     let here = All-head (HasValues vars) clause clauses h in
-    ap (λ words. clauses_of [] (map (lined n) words ++ later)) (clause_line-tokens vars clause few here)
-    ∙ clauses_of-clause vars n [] clause later few here
-    ∙ ap (λ cs. clause ∷ cs) (clauses_of-clauses vars (n + 1) clauses few (All-tail (HasValues vars) clause clauses h))
+    ap (λ words. spelled_clauses [] (map (lined n) words ++ later)) (clause_line-tokens vars clause few here)
+    ∙ spelled_clauses-clause vars n [] clause later few here
+    ∙ ap (λ cs. clause ∷ cs) (spelled_clauses-clauses vars (n + 1) clauses few (All-tail (HasValues vars) clause clauses h))
 
 -- ---- the header
 
@@ -213,5 +213,5 @@ printed_formula f vars clauses known =
           ∙ fault_of-clauses f.vars end 2 f.clauses few known;
       value = ap formula_of_lines (counted f vars clauses known)
           ∙ ap (λ o. formula_of_body o tokens) (header_said f.vars (length f.clauses) v c)
-          ∙ ap (formula f.vars) (sym (clauses_of-pieces tokens) ∙ clauses_of-clauses f.vars 2 f.clauses few known);
+          ∙ ap (formula f.vars) (sym (spelled_clauses-pieces tokens) ∙ spelled_clauses-clauses f.vars 2 f.clauses few known);
     }

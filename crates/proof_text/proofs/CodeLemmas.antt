@@ -7,7 +7,7 @@ use Rattle.des_base.proofs.BoolLemmas.{both, join, neither, not_false, not_true}
 use Rattle.des_base.specs.Numbers.{number_of, number_up_to, up_to}
 use Rattle.proof_text.specs.SignedNumbers.{Signed, plain, behind_minus, is_number, size_of, is_negative, is_zero}
 use Rattle.proof_text.specs.LratText.{cut, with_token, cut_at_zero, greatest, is_too_large, is_unsigned, some_rest, first_code}
-use Rattle.proof_text.specs.LineReading.{is_id, is_known}
+use Rattle.proof_text.specs.LineReading.{is_id, is_known_literal}
 use Rattle.std.proofs.lemmas.Bool.{or_from}
 
 -- ---- the number of a line
@@ -87,21 +87,21 @@ are_ids (token ∷ tokens) h =
       negative = or_from (is_negative token) (list_any is_negative tokens) here.negative rest.negative;
     }
 
-pub known_pass : (vars : ℕ) (tokens : List (List ℕ)) → list_all is_number tokens ≡ true → list_any (λ token. nat_lt vars (size_of token)) tokens ≡ false → list_all (is_known vars) tokens ≡ true
+pub known_pass : (vars : ℕ) (tokens : List (List ℕ)) → list_all is_number tokens ≡ true → list_any (λ token. nat_lt vars (size_of token)) tokens ≡ false → list_all (is_known_literal vars) tokens ≡ true
 known_pass vars [] number unknown = refl
 known_pass vars (token ∷ tokens) number unknown =
     let n = both (is_number token) (list_all is_number tokens) number in
     let u = neither (nat_lt vars (size_of token)) (list_any (λ token. nat_lt vars (size_of token)) tokens) unknown in
-    join (is_known vars token) (list_all (is_known vars) tokens) (join (is_number token) (not (nat_lt vars (size_of token))) n.0 (not_false (nat_lt vars (size_of token)) u.0)) (known_pass vars tokens n.1 u.1)
+    join (is_known_literal vars token) (list_all (is_known_literal vars) tokens) (join (is_number token) (not (nat_lt vars (size_of token))) n.0 (not_false (nat_lt vars (size_of token)) u.0)) (known_pass vars tokens n.1 u.1)
 
 pub record AreKnown (vars : ℕ) (tokens : List (List ℕ)) : Type 0 where
   pub number : list_all is_number tokens ≡ true
   pub unknown : list_any (λ token. nat_lt vars (size_of token)) tokens ≡ false
 
-pub are_known : (vars : ℕ) (tokens : List (List ℕ)) → list_all (is_known vars) tokens ≡ true → AreKnown vars tokens
+pub are_known : (vars : ℕ) (tokens : List (List ℕ)) → list_all (is_known_literal vars) tokens ≡ true → AreKnown vars tokens
 are_known vars [] h = record { number = refl; unknown = refl }
 are_known vars (token ∷ tokens) h =
-    let parts = both (is_known vars token) (list_all (is_known vars) tokens) h in
+    let parts = both (is_known_literal vars token) (list_all (is_known_literal vars) tokens) h in
     let here = both (is_number token) (not (nat_lt vars (size_of token))) parts.0 in
     let rest = are_known vars tokens parts.1 in
     record {

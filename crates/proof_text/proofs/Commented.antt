@@ -8,8 +8,8 @@ use Rattle.proof_ledger.specs.declared.checker.Checked.{Checked}
 use Rattle.proof_ledger.specs.declared.checker.Checked.TheVariants.{Verified, Rejected}
 use Rattle.proof_ledger.specs.declared.checker.ProofStep.{ProofStep}
 use Rattle.proof_ledger.specs.declared.checker.ProofStep.TheVariants.{Add, Delete}
-use Rattle.proof_text.specs.LratText.{LratLine, addition, deletion, last_after, line_code, lrat_fault_of, lrat_line, step_of, steps_of}
-use Rattle.proof_text.specs.PrintedText.{ReadsBack, without_line}
+use Rattle.proof_text.specs.LratText.{LratLine, addition, deletion, last_after, line_code, lrat_fault_of, lrat_line, proof_step_of, proof_steps_of}
+use Rattle.proof_text.specs.PrintedText.{ReadsBackAsProof, without_line}
 use Rattle.proof_text.specs.TextFaults.{fault_or}
 use Rattle.proof_text.specs.declared.fault.TextFault.{TextFault}
 use Rattle.prop_core.specs.Clauses.{Clause}
@@ -25,13 +25,13 @@ abbrev behind : ℕ → List (List ℕ) → List NumberedLine
 behind n lines = counted_among (numbered_from (n + 1) lines)
 
 abbrev said : List NumberedLine → List ProofStep
-said found = map without_line (steps_of found)
+said found = map without_line (proof_steps_of found)
 
-same_last : (last n m : ℕ) (line : LratLine) → last_after last (step_of n line) ≡ last_after last (step_of m line)
+same_last : (last n m : ℕ) (line : LratLine) → last_after last (proof_step_of n line) ≡ last_after last (proof_step_of m line)
 same_last last n m (addition id literals hints ended rest) = refl
 same_last last n m (deletion id ids ended rest) = refl
 
-same_step : (n m : ℕ) (line : LratLine) → without_line (step_of n line) ≡ without_line (step_of m line)
+same_step : (n m : ℕ) (line : LratLine) → without_line (proof_step_of n line) ≡ without_line (proof_step_of m line)
 same_step n m (addition id literals hints ended rest) = refl
 same_step n m (deletion id ids ended rest) = refl
 
@@ -46,9 +46,9 @@ well_step : (vars last n m : ℕ) (line : List ℕ) (lines : List (List ℕ)) (b
     lrat_fault_of vars last (counted_among (numbered_from n (line ∷ lines))) ≡ None → lrat_fault_of vars last (counted_among (numbered_from m (line ∷ lines))) ≡ None
 well_step vars last n m line lines true is later well =
     ap (lrat_fault_of vars last) (counted_more true (numbered m line) (numbered_from (m + 1) lines) is)
-    ∙ none_either n m (line_code vars last (lrat_line (tokens_of line))) (lrat_fault_of vars (last_after last (step_of n (lrat_line (tokens_of line)))) (behind n lines)) (lrat_fault_of vars (last_after last (step_of m (lrat_line (tokens_of line)))) (behind m lines))
+    ∙ none_either n m (line_code vars last (lrat_line (tokens_of line))) (lrat_fault_of vars (last_after last (proof_step_of n (lrat_line (tokens_of line)))) (behind n lines)) (lrat_fault_of vars (last_after last (proof_step_of m (lrat_line (tokens_of line)))) (behind m lines))
     (sym (ap (lrat_fault_of vars last) (counted_more true (numbered n line) (numbered_from (n + 1) lines) is)) ∙ well)
-    (λ none. later (last_after last (step_of m (lrat_line (tokens_of line)))) (ap (λ k. lrat_fault_of vars k (behind n lines)) (same_last last m n (lrat_line (tokens_of line))) ∙ none))
+    (λ none. later (last_after last (proof_step_of m (lrat_line (tokens_of line)))) (ap (λ k. lrat_fault_of vars k (behind n lines)) (same_last last m n (lrat_line (tokens_of line))) ∙ none))
 well_step vars last n m line lines false is later well =
     ap (lrat_fault_of vars last) (counted_more false (numbered m line) (numbered_from (m + 1) lines) is)
     ∙ later last (sym (ap (lrat_fault_of vars last) (counted_more false (numbered n line) (numbered_from (n + 1) lines) is)) ∙ well)
@@ -77,13 +77,13 @@ after_comment comment text bytes skipped =
     ∙ counted_more false (numbered 1 comment) (numbered_from 2 (text_lines text)) skipped
 
 -- A text reads back with a comment before it as without.
-pub commented : (comment text : List ℕ) (steps : List ProofStep) → list_all line_byte comment ≡ true → is_counted 99 comment ≡ false → ReadsBack steps text → ReadsBack steps (comment ++ 10 ∷ text)
+pub commented : (comment text : List ℕ) (steps : List ProofStep) → list_all line_byte comment ≡ true → is_counted 99 comment ≡ false → ReadsBackAsProof steps text → ReadsBackAsProof steps (comment ++ 10 ∷ text)
 commented comment text steps bytes skipped reads = λ vars clauses few known behind.
     let back = reads vars clauses few known behind in
     let lines = after_comment comment text bytes skipped in
     record {
       well = ap (lrat_fault_of vars clauses) lines ∙ well_anywhere vars clauses 1 2 (text_lines text) back.well;
-      value = ap (λ found. map without_line (steps_of found)) lines ∙ steps_anywhere 2 1 (text_lines text) ∙ back.value;
+      value = ap (λ found. map without_line (proof_steps_of found)) lines ∙ steps_anywhere 2 1 (text_lines text) ∙ back.value;
     }
 
 -- ---- what a proof comes to

@@ -17,9 +17,9 @@ use Rattle.proof_ledger.specs.declared.checker.ProofStep.TheVariants.{Add, Delet
 use Rattle.proof_text.specs.ProofNumbers.{NumbersAscend, HasNoZero}
 use Rattle.proof_text.specs.SignedNumbers.{plain, is_number, is_zero, size_of, literal_of}
 use Rattle.proof_text.specs.TextFaults.{fault_or}
-use Rattle.proof_text.specs.LratText.{Cut, cut, with_token, cut_at_zero, greatest, is_deletion_mark, some_rest, addition_of, addition_line, deletion_of, lrat_line, line_code, step_of, last_after, lrat_fault_of, steps_of}
-use Rattle.proof_text.specs.LineReading.{is_id, is_known}
-use Rattle.proof_text.specs.PrintedText.{literal_word, numbers_text, step_text, steps_text, NumbersFit, without_line, HasVariablesBelow, HasNumberAbove, ReadsBack}
+use Rattle.proof_text.specs.LratText.{Cut, cut, with_token, cut_at_zero, greatest, is_deletion_mark, some_rest, cut_addition, addition_line, deletion_of, lrat_line, line_code, proof_step_of, last_after, lrat_fault_of, proof_steps_of}
+use Rattle.proof_text.specs.LineReading.{is_id, is_known_literal}
+use Rattle.proof_text.specs.PrintedText.{literal_word, numbers_text, step_text, steps_text, NumbersFit, without_line, HasVariablesBelow, HasNumberAbove, ReadsBackAsProof}
 use Rattle.proof_text.proofs.CodeLemmas.{id_passes}
 use Rattle.proof_text.proofs.WellLines.{hints_well, literals_well, addition_well, addition_has_no_code, deletion_has_no_code}
 use Rattle.proof_text.proofs.WordLemmas.{IsNumeral, numeral_word, numeral_words, spaced, line_of, line_of-cons, tokens_of-line, line_of-bytes, numeral_counts}
@@ -144,12 +144,12 @@ sizes : (numbers : List ℕ) → AllFit numbers → map size_of (map decimal num
 sizes [] h = refl
 sizes (n ∷ ns) h = (λ i. (decimal_reads n (All-head (λ (m : ℕ). m < 2 ^ 64) n ns h)).size i ∷ sizes ns (All-tail (λ (m : ℕ). m < 2 ^ 64) n ns h) i)
 
-literals_are_known : (vars : ℕ) (clause : Clause) → vars ≤ 2 ^ 32 → HasValues vars clause → list_all (is_known vars) (map literal_word clause) ≡ true
+literals_are_known : (vars : ℕ) (clause : Clause) → vars ≤ 2 ^ 32 → HasValues vars clause → list_all (is_known_literal vars) (map literal_word clause) ≡ true
 literals_are_known vars [] small h = refl
 literals_are_known vars (l ∷ ls) small h =
     let here : l.var < vars = All-head (λ (m : Lit). m.var < vars) l ls h in
     let reads = literal_reads vars l small here in
-    join (is_known vars (literal_word l)) (list_all (is_known vars) (map literal_word ls))
+    join (is_known_literal vars (literal_word l)) (list_all (is_known_literal vars) (map literal_word ls))
     (join (is_number (literal_word l)) (not (nat_lt vars (size_of (literal_word l)))) reads.number (not_false (nat_lt vars (size_of (literal_word l))) (known_size vars l.var (size_of (literal_word l)) here reads.size)))
     (literals_are_known vars ls small (All-tail (λ (m : Lit). m.var < vars) l ls h))
 
@@ -161,8 +161,8 @@ literals vars (l ∷ ls) small h =
 -- what is read of a step's tokens
 record StepReads (vars last : ℕ) (texts : List (List ℕ)) (step : ProofStep) : Type 0 where
   code : line_code vars last (lrat_line texts) ≡ None
-  said : (n : ℕ) → without_line (step_of n (lrat_line texts)) ≡ without_line step
-  next : (n : ℕ) → last_after last (step_of n (lrat_line texts)) ≡ last_after last step
+  said : (n : ℕ) → without_line (proof_step_of n (lrat_line texts)) ≡ without_line step
+  next : (n : ℕ) → last_after last (proof_step_of n (lrat_line texts)) ≡ last_after last step
 
 mark_step : (b : Bool) (id token : List ℕ) (tokens : List (List ℕ)) → b ≡ false → cond b (deletion_of id (cut_at_zero tokens)) (addition_line id (token ∷ tokens)) ≡ addition_line id (token ∷ tokens)
 mark_step true id token tokens h = cc
@@ -191,16 +191,16 @@ addition_reads vars last id line clause hints small above h =
     let above_last : nat_lt last (size_of (decimal id)) ≡ true = ap (nat_lt last) reads.size ∙ is_less last id above in
     let well_hints : (c : Cut) → c ≡ cut hs true [] → ((c.ended && list_all is_id c.front) && not (some_rest c.behind)) ≡ true
     = λ c e. ap (λ (d : Cut). (d.ended && list_all is_id d.front) && not (some_rest d.behind)) e ∙ join (list_all is_id hs) true (numbers_are_ids hints h.fit.1) refl in
-    let well_literals : (c : Cut) → c ≡ cut lits true (hs ++ zero_word ∷ []) → (c.ended && list_all (is_known vars) c.front) ≡ true
-    = λ c e. ap (λ (d : Cut). d.ended && list_all (is_known vars) d.front) e ∙ literals_are_known vars clause small h.below in
+    let well_literals : (c : Cut) → c ≡ cut lits true (hs ++ zero_word ∷ []) → (c.ended && list_all (is_known_literal vars) c.front) ≡ true
+    = λ c e. ap (λ (d : Cut). d.ended && list_all (is_known_literal vars) d.front) e ∙ literals_are_known vars clause small h.below in
     let well : addition_well vars last (decimal id) tokens ≡ true
     = join (is_id (decimal id)) (nat_lt last (size_of (decimal id)) && literals_well vars tokens) (decimal_is_id id h.fit.0)
     (join (nat_lt last (size_of (decimal id))) (literals_well vars tokens) above_last
-    (join ((cut_at_zero tokens).ended && list_all (is_known vars) (cut_at_zero tokens).front) (hints_well (cut_at_zero tokens).behind)
+    (join ((cut_at_zero tokens).ended && list_all (is_known_literal vars) (cut_at_zero tokens).front) (hints_well (cut_at_zero tokens).behind)
     (well_literals (cut_at_zero tokens) first) (well_hints (cut_at_zero (cut_at_zero tokens).behind) then))) in
-    let said : (n : ℕ) → step_of n (lrat_line (decimal id ∷ tokens)) ≡ Add n id clause hints
-    = λ n. ap (step_of n) is_addition
-    ∙ (λ i. step_of n (addition_of (decimal id) (first i) (then i)))
+    let said : (n : ℕ) → proof_step_of n (lrat_line (decimal id ∷ tokens)) ≡ Add n id clause hints
+    = λ n. ap (proof_step_of n) is_addition
+    ∙ (λ i. proof_step_of n (cut_addition (decimal id) (first i) (then i)))
     ∙ (λ i. Add n (reads.size i) (literals vars clause small h.below i) (sizes hints h.fit.1 i)) in
     record {
       code = ap (line_code vars last) is_addition ∙ addition_has_no_code vars last (decimal id) tokens well;
@@ -215,8 +215,8 @@ deletion_reads vars last ids h =
     let then : cut_at_zero tokens ≡ cut hs true [] = cut_words hs [] (numbers_no_zeros ids h.fit h.above) in
     let well_hints : (c : Cut) → c ≡ cut hs true [] → ((c.ended && list_all is_id c.front) && not (some_rest c.behind)) ≡ true
     = λ c e. ap (λ (d : Cut). (d.ended && list_all is_id d.front) && not (some_rest d.behind)) e ∙ join (list_all is_id hs) true (numbers_are_ids ids h.fit) refl in
-    let said : (n : ℕ) → step_of n (lrat_line (deletion_words ids ++ zero_word ∷ [])) ≡ Delete ids
-    = λ n. ap (λ c. step_of n (deletion_of (codes "1") c)) then ∙ ap Delete (sizes ids h.fit) in
+    let said : (n : ℕ) → proof_step_of n (lrat_line (deletion_words ids ++ zero_word ∷ [])) ≡ Delete ids
+    = λ n. ap (λ c. proof_step_of n (deletion_of (codes "1") c)) then ∙ ap Delete (sizes ids h.fit) in
     record {
       code = deletion_has_no_code vars last (codes "1") tokens (well_hints (cut_at_zero tokens) then);
       said = λ n. ap without_line (said n);
@@ -255,18 +255,18 @@ fault_of-steps vars last n [] small above h = refl
 fault_of-steps vars last n (step ∷ steps) small above h =
     let words = step_words step ++ zero_word ∷ [] in
     let reads = step_reads vars last step steps small above h.0 in
-    ap (λ texts. fault_or n (line_code vars last (lrat_line texts)) (lrat_fault_of vars (last_after last (step_of n (lrat_line texts))) (step_lines (n + 1) steps))) (tokens_of-line (step_words step) (are_step_words vars step small h.0))
-    ∙ ap (λ code. fault_or n code (lrat_fault_of vars (last_after last (step_of n (lrat_line words))) (step_lines (n + 1) steps))) reads.code
+    ap (λ texts. fault_or n (line_code vars last (lrat_line texts)) (lrat_fault_of vars (last_after last (proof_step_of n (lrat_line texts))) (step_lines (n + 1) steps))) (tokens_of-line (step_words step) (are_step_words vars step small h.0))
+    ∙ ap (λ code. fault_or n code (lrat_fault_of vars (last_after last (proof_step_of n (lrat_line words))) (step_lines (n + 1) steps))) reads.code
     ∙ ap (λ m. lrat_fault_of vars m (step_lines (n + 1) steps)) (reads.next n)
     ∙ fault_of-steps vars (last_after last step) (n + 1) steps small (ascends_here last step steps above) h.1
 
-steps_of-steps : (vars last n : ℕ) (steps : List ProofStep) → vars ≤ 2 ^ 32 → NumbersAscend last steps → ArePrintable vars steps → map without_line (steps_of (step_lines n steps)) ≡ map without_line steps
+proof_steps_of-steps : (vars last n : ℕ) (steps : List ProofStep) → vars ≤ 2 ^ 32 → NumbersAscend last steps → ArePrintable vars steps → map without_line (proof_steps_of (step_lines n steps)) ≡ map without_line steps
 unfolding step_lines
-steps_of-steps vars last n [] small above h = refl
-steps_of-steps vars last n (step ∷ steps) small above h =
+proof_steps_of-steps vars last n [] small above h = refl
+proof_steps_of-steps vars last n (step ∷ steps) small above h =
     let reads = step_reads vars last step steps small above h.0 in
-    ap (λ texts. without_line (step_of n (lrat_line texts)) ∷ map without_line (steps_of (step_lines (n + 1) steps))) (tokens_of-line (step_words step) (are_step_words vars step small h.0))
-    ∙ (λ i. reads.said n i ∷ steps_of-steps vars (last_after last step) (n + 1) steps small (ascends_here last step steps above) h.1 i)
+    ap (λ texts. without_line (proof_step_of n (lrat_line texts)) ∷ map without_line (proof_steps_of (step_lines (n + 1) steps))) (tokens_of-line (step_words step) (are_step_words vars step small h.0))
+    ∙ (λ i. reads.said n i ∷ proof_steps_of-steps vars (last_after last step) (n + 1) steps small (ascends_here last step steps above) h.1 i)
 
 are_printable : (vars : ℕ) (steps : List ProofStep) → All (HasVariablesBelow vars) steps → All NumbersFit steps → All HasNoZero steps → ArePrintable vars steps
 are_printable vars [] below fit above = tt
@@ -281,7 +281,7 @@ ascend_from last clauses [] h above = tt
 ascend_from last clauses (Add line id clause hints ∷ steps) h above = (All-head (HasNumberAbove clauses) (Add line id clause hints) steps above, h.1)
 ascend_from last clauses (Delete ids ∷ steps) h above = ascend_from last clauses steps h (All-tail (HasNumberAbove clauses) (Delete ids) steps above)
 
-pub printed_steps : (steps : List ProofStep) → All NumbersFit steps → NumbersAscend 0 steps → All HasNoZero steps → ReadsBack steps (steps_text steps)
+pub printed_steps : (steps : List ProofStep) → All NumbersFit steps → NumbersAscend 0 steps → All HasNoZero steps → ReadsBackAsProof steps (steps_text steps)
 printed_steps steps fit ascend above = λ vars clauses h below numbers.
     let small = few vars h in
     let printable = are_printable vars steps below fit above in
@@ -289,5 +289,5 @@ printed_steps steps fit ascend above = λ vars clauses h below numbers.
     let lines = counted_from-steps vars 1 steps small printable in
     record {
       well = ap (lrat_fault_of vars clauses) lines ∙ fault_of-steps vars clauses 1 steps small from printable;
-      value = ap (λ ls. map without_line (steps_of ls)) lines ∙ steps_of-steps vars clauses 1 steps small from printable;
+      value = ap (λ ls. map without_line (proof_steps_of ls)) lines ∙ proof_steps_of-steps vars clauses 1 steps small from printable;
     }

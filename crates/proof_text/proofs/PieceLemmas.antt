@@ -4,8 +4,8 @@ use Rattle.std.proofs.lemmas.List.Splits.{length-slice_split}
 use Rattle.std.specs.List.{slice_split, onto_first}
 use Rattle.prop_core.specs.Clauses.{Clause}
 use Rattle.proof_text.specs.SignedNumbers.{literal_of}
-use Rattle.proof_text.specs.CnfText.{LinedToken, before_last, ends_clause, clause_of, clauses_in}
-use Rattle.proof_text.specs.ClauseReading.{clauses_of}
+use Rattle.proof_text.specs.CnfText.{LinedToken, before_last, ends_clause, spelled_clause, clauses_in}
+use Rattle.proof_text.specs.ClauseReading.{spelled_clauses}
 
 -- the first clause has these literals in front too
 abbrev with_front : Clause → List Clause → List Clause
@@ -21,22 +21,22 @@ before_last-cons piece [] h = absurd (omega arith)
 before_last-cons piece (next ∷ pieces) h = refl
 
 onto_step : (front : Clause) (token : LinedToken) (pieces : List (List LinedToken))
-    → with_front (front ++ literal_of token.text ∷ []) (map clause_of (before_last pieces)) ≡ with_front front (map clause_of (before_last (onto_first token pieces)))
+    → with_front (front ++ literal_of token.text ∷ []) (map spelled_clause (before_last pieces)) ≡ with_front front (map spelled_clause (before_last (onto_first token pieces)))
 onto_step front token [] = refl
 onto_step front token (piece ∷ []) = refl
-onto_step front token (piece ∷ next ∷ pieces) = ap (λ (c : Clause). c ∷ map clause_of (before_last (next ∷ pieces))) (append_assoc front (literal_of token.text ∷ []) (clause_of piece))
+onto_step front token (piece ∷ next ∷ pieces) = ap (λ (c : Clause). c ∷ map spelled_clause (before_last (next ∷ pieces))) (append_assoc front (literal_of token.text ∷ []) (spelled_clause piece))
 
-piece_step : (b : Bool) (front : Clause) (token : LinedToken) (tokens : List LinedToken) → ((next : Clause) → clauses_of next tokens ≡ with_front next (clauses_in tokens))
-    → cond b (front ∷ clauses_of [] tokens) (clauses_of (front ++ literal_of token.text ∷ []) tokens)
-    ≡ with_front front (map clause_of (before_last (cond b ([] ∷ slice_split ends_clause tokens) (onto_first token (slice_split ends_clause tokens)))))
+piece_step : (b : Bool) (front : Clause) (token : LinedToken) (tokens : List LinedToken) → ((next : Clause) → spelled_clauses next tokens ≡ with_front next (clauses_in tokens))
+    → cond b (front ∷ spelled_clauses [] tokens) (spelled_clauses (front ++ literal_of token.text ∷ []) tokens)
+    ≡ with_front front (map spelled_clause (before_last (cond b ([] ∷ slice_split ends_clause tokens) (onto_first token (slice_split ends_clause tokens)))))
 piece_step true front token tokens h =
     (λ i. sym (append-nil front) i ∷ (h [] ∙ with_nothing (clauses_in tokens)) i)
-    ∙ ap (λ ps. with_front front (map clause_of ps)) (sym (before_last-cons [] (slice_split ends_clause tokens) (omega (arith, length-slice_split ends_clause tokens))))
+    ∙ ap (λ ps. with_front front (map spelled_clause ps)) (sym (before_last-cons [] (slice_split ends_clause tokens) (omega (arith, length-slice_split ends_clause tokens))))
 piece_step false front token tokens h = h (front ++ literal_of token.text ∷ []) ∙ onto_step front token (slice_split ends_clause tokens)
 
-clauses_of-front : (front : Clause) (tokens : List LinedToken) → clauses_of front tokens ≡ with_front front (clauses_in tokens)
-clauses_of-front front [] = refl
-clauses_of-front front (token ∷ tokens) = piece_step (ends_clause token) front token tokens (λ next. clauses_of-front next tokens)
+spelled_clauses-front : (front : Clause) (tokens : List LinedToken) → spelled_clauses front tokens ≡ with_front front (clauses_in tokens)
+spelled_clauses-front front [] = refl
+spelled_clauses-front front (token ∷ tokens) = piece_step (ends_clause token) front token tokens (λ next. spelled_clauses-front next tokens)
 
-pub clauses_of-pieces : (tokens : List LinedToken) → clauses_of [] tokens ≡ clauses_in tokens
-clauses_of-pieces tokens = clauses_of-front [] tokens ∙ with_nothing (clauses_in tokens)
+pub spelled_clauses-pieces : (tokens : List LinedToken) → spelled_clauses [] tokens ≡ clauses_in tokens
+spelled_clauses-pieces tokens = spelled_clauses-front [] tokens ∙ with_nothing (clauses_in tokens)

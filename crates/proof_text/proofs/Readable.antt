@@ -13,7 +13,7 @@ use Rattle.proof_ledger.specs.declared.checker.ProofStep.{ProofStep}
 use Rattle.proof_ledger.specs.declared.checker.ProofStep.TheVariants.{Add}
 use Rattle.proof_text.specs.PrintedText.{HasNumberAbove, HasVariablesBelow}
 use Rattle.proof_text.specs.ProofNumbers.{NumbersAscend, HasNoZero}
-use Rattle.proof_text.specs.Refutation.{CanBePrinted, units, refuted_formula, numbers_from, new_number, derived_of, derived_steps, steps_behind, refutation_steps, EndsIn, front_to}
+use Rattle.proof_text.specs.Refutation.{CanBePrinted, unit_clauses, refuted_formula, numbers_from, new_number, derived_of, derived_steps, steps_behind, refutation_steps, EndsIn, front_to}
 use Rattle.proof_text.proofs.Rechecking.{proof_is, verified_is}
 
 -- ---- the formula's variables
@@ -26,15 +26,15 @@ axioms_known vars (learnt c hints ∷ book) (suc k) h = axioms_known vars book k
 axioms_known vars (final c hints ∷ book) (suc k) h = axioms_known vars book k (All-tail (HasValues vars) c (clauses_of book) h)
 axioms_known vars (mark m ∷ book) (suc k) h = axioms_known vars book k h
 
-units_known : (vars : ℕ) (assumed : List Lit) → HasValues vars assumed → All (HasValues vars) (units assumed)
+units_known : (vars : ℕ) (assumed : List Lit) → HasValues vars assumed → All (HasValues vars) (unit_clauses assumed)
 units_known vars [] h = All-nil (HasValues vars)
 units_known vars (l ∷ assumed) h =
-    All-cons (HasValues vars) (l ∷ []) (units assumed) (All-cons (λ (x : Lit). x.var < vars) l [] (All-head (λ (x : Lit). x.var < vars) l assumed h) (All-nil (λ (x : Lit). x.var < vars)))
+    All-cons (HasValues vars) (l ∷ []) (unit_clauses assumed) (All-cons (λ (x : Lit). x.var < vars) l [] (All-head (λ (x : Lit). x.var < vars) l assumed h) (All-nil (λ (x : Lit). x.var < vars)))
     (units_known vars assumed (All-tail (λ (x : Lit). x.var < vars) l assumed h))
 
 formula_known : (vars : ℕ) (book : List BookEntry) (k : ℕ) (assumed : List Lit) (formula : List Clause) → All (HasValues vars) (clauses_of book) → HasValues vars assumed → formula ≡ refuted_formula (take k book) assumed → All (HasValues vars) formula
 formula_known vars book k assumed formula h a is =
-    subst (All (HasValues vars)) (sym is) (All-append (HasValues vars) (axioms_of (take k book)) (units assumed) (axioms_known vars book k h) (units_known vars assumed a))
+    subst (All (HasValues vars)) (sym is) (All-append (HasValues vars) (axioms_of (take k book)) (unit_clauses assumed) (axioms_known vars book k h) (units_known vars assumed a))
 
 -- ---- the variables of the steps
 
@@ -160,7 +160,7 @@ can_be_printed vars book front k assumed formula steps known assumptions up_to f
     end = Add 0 (first + length (derived_of front)) [] (range_with_len (length (axioms_of front) + 1) (length assumed) ++ new_number numbers (length (clauses_of front)) ∷ [])
 
     count : length formula ≡ length (axioms_of front) + length assumed
-    count = ap length formula_is ∙ length-append (axioms_of front) (units assumed) ∙ ap (λ n. length (axioms_of front) + n) (length-map assumed (λ (l : Lit). let c : Clause = l ∷ [] in c))
+    count = ap length formula_is ∙ length-append (axioms_of front) (unit_clauses assumed) ∙ ap (λ n. length (axioms_of front) + n) (length-map assumed (λ (l : Lit). let c : Clause = l ∷ [] in c))
 
 -- ---- the proof alone
 
@@ -183,7 +183,7 @@ is_refuting book assumed last count axioms clauses steps valid ends front count_
     formula = refuted_formula (take count book) assumed
 
     long : length formula ≡ length (axioms_of (take count book)) + length assumed
-    long = length-append (axioms_of (take count book)) (units assumed) ∙ ap (λ n. length (axioms_of (take count book)) + n) (length-map assumed (λ (l : Lit). let c : Clause = l ∷ [] in c))
+    long = length-append (axioms_of (take count book)) (unit_clauses assumed) ∙ ap (λ n. length (axioms_of (take count book)) + n) (length-map assumed (λ (l : Lit). let c : Clause = l ∷ [] in c))
 
     all : steps ≡ refutation_steps (front_to last book) assumed
     all = proof_is book assumed last count axioms clauses formula steps ends front refl count_is (omega (arith, clauses_are, count_is, long)) steps_are

@@ -12,14 +12,14 @@ use Rattle.prop_core.specs.declared.lit.Lit.{Lit}
 use Rattle.prop_core.specs.Clauses.{Clause, negation, same_literal, is_true, is_false, NegatesOnly}
 use Rattle.prop_core.specs.Derivation.{Standing, falsified, satisfied, unit, wide, standing, after_standing, after_hint, two_open, hints_end, follow, Derivation, derives, fails, ended, derive, clause_numbered}
 use Rattle.prop_core.proofs.Following.{follow-falsified, follow-satisfied, follow-unit, follow_ended}
-use Rattle.proof_ledger.specs.Book.{BookEntry, axiomatic, learnt, final, mark, axiom_of, clause_of, axioms_of, clauses_of, EachAfter, IsDerived, IsValidBook}
-use Rattle.proof_ledger.specs.Checking.{with_clause, is_empty, answered, holds, after_add, after_step, check_from, check_proof}
+use Rattle.proof_ledger.specs.Book.{BookEntry, axiomatic, learnt, final, mark, axiom_of, clause_of, axioms_of, clauses_of, EachAfter, IsDerivedIfDue, IsValidBook}
+use Rattle.proof_ledger.specs.Checking.{with_clause, is_empty_clause, answered, holds, after_add, after_step, check_from, check_proof}
 use Rattle.proof_ledger.specs.declared.checker.ProofStep.{ProofStep}
 use Rattle.proof_ledger.specs.declared.checker.ProofStep.TheVariants.{Add}
 use Rattle.proof_ledger.specs.declared.checker.Checked.TheVariants.{Verified}
 use Rattle.proof_ledger.proofs.Checks.{held_same}
 use Rattle.proof_text.proofs.Fronts.{front_ends}
-use Rattle.proof_text.specs.Refutation.{units, refuted_formula, numbers_from, new_number, derived_of, derived_steps, steps_behind, refutation_steps, EndsIn, front_to, RefutationsCheck}
+use Rattle.proof_text.specs.Refutation.{unit_clauses, refuted_formula, numbers_from, new_number, derived_of, derived_steps, steps_behind, refutation_steps, EndsIn, front_to, RefutationsCheck}
 
 -- ---- numbers of clauses
 
@@ -126,13 +126,13 @@ one_more xs c = held_same (with_clause (clause_numbered xs) (length xs + 1) c) (
 -- ---- the steps
 
 check_added : (held : ℕ → Option Clause) (line id : ℕ) (clause : Clause) (hints : List ℕ) (steps : List ProofStep) → derive held clause hints ≡ derives →
-    ((b : Bool) → is_empty clause ≡ b → b ≡ false → check_from (with_clause held id clause) steps ≡ Verified) → check_from held (Add line id clause hints ∷ steps) ≡ Verified
-check_added held line id clause hints steps derived rest = by (is_empty clause) refl
+    ((b : Bool) → is_empty_clause clause ≡ b → b ≡ false → check_from (with_clause held id clause) steps ≡ Verified) → check_from held (Add line id clause hints ∷ steps) ≡ Verified
+check_added held line id clause hints steps derived rest = by (is_empty_clause clause) refl
   where
-    after : (b : Bool) → is_empty clause ≡ b → after_step held (Add line id clause hints) ≡ cond b (answered Verified) (holds (with_clause held id clause))
+    after : (b : Bool) → is_empty_clause clause ≡ b → after_step held (Add line id clause hints) ≡ cond b (answered Verified) (holds (with_clause held id clause))
     after b e = ap (after_add held line id clause) derived ∙ ap (λ t. cond t (answered Verified) (holds (with_clause held id clause))) e
 
-    by : (b : Bool) → is_empty clause ≡ b → check_from held (Add line id clause hints ∷ steps) ≡ Verified
+    by : (b : Bool) → is_empty_clause clause ≡ b → check_from held (Add line id clause hints ∷ steps) ≡ Verified
     by true e = rw (after true e, check_from) refl
     by false e = rw (after false e, check_from) (rest false e refl)
 
@@ -209,7 +209,7 @@ module _ (axioms assumptions : List Clause) (numbers : List ℕ) (tail : List Pr
       (subst (λ k. check_from (clause_numbered (all (derived ++ c ∷ []))) (derived_steps numbers k rest ++ tail) ≡ Verified) (sym (longer derived c)) later))
 
   module _ (finish : (done : List BookEntry) (derived : List Clause) → done ≡ book → Stands done [] derived → check_from (clause_numbered (all derived)) tail ≡ Verified) where
-    pub go : (done rest : List BookEntry) (derived : List Clause) → done ++ rest ≡ book → EachAfter IsDerived done rest → Stands done rest derived →
+    pub go : (done rest : List BookEntry) (derived : List Clause) → done ++ rest ≡ book → EachAfter IsDerivedIfDue done rest → Stands done rest derived →
         check_from (clause_numbered (all derived)) (derived_steps numbers (length (all derived) + 1) rest ++ tail) ≡ Verified
     go done [] derived is each s = finish done derived (sym (append-nil done) ∙ is) s
     go done (axiomatic c ∷ rest) derived is each s = go (done ++ axiomatic c ∷ []) rest derived (append_assoc done (axiomatic c ∷ []) rest ∙ is) each.1 (with_axiom done rest derived c s)
@@ -302,12 +302,12 @@ module _ (held : ℕ → Option Clause) (last : ℕ) (clause : Clause) (there : 
 
 -- ---- all of it
 
-held_units : (front back : List Clause) (rest : List Lit) → HeldFrom (clause_numbered (front ++ (units rest ++ back))) (length front + 1) rest
+held_units : (front back : List Clause) (rest : List Lit) → HeldFrom (clause_numbered (front ++ (unit_clauses rest ++ back))) (length front + 1) rest
 held_units front back [] = tt
 held_units front back (a ∷ rest) = (
-  at_seam front (a ∷ []) (units rest ++ back),
-  subst (λ xs. HeldFrom (clause_numbered xs) (length front + 1 + 1) rest) (append_assoc front ((a ∷ []) ∷ []) (units rest ++ back))
-      (subst (λ k. HeldFrom (clause_numbered ((front ++ (a ∷ []) ∷ []) ++ (units rest ++ back))) k rest) (one front) (held_units (front ++ (a ∷ []) ∷ []) back rest)),
+  at_seam front (a ∷ []) (unit_clauses rest ++ back),
+  subst (λ xs. HeldFrom (clause_numbered xs) (length front + 1 + 1) rest) (append_assoc front ((a ∷ []) ∷ []) (unit_clauses rest ++ back))
+      (subst (λ k. HeldFrom (clause_numbered ((front ++ (a ∷ []) ∷ []) ++ (unit_clauses rest ++ back))) k rest) (one front) (held_units (front ++ (a ∷ []) ∷ []) back rest)),
 )
   where
     one : (xs : List Clause) → length (xs ++ (a ∷ []) ∷ []) + 1 ≡ length xs + 1 + 1
@@ -316,9 +316,9 @@ held_units front back (a ∷ rest) = (
 checks_at_end : (before : List BookEntry) (clause : Clause) (hints : List ℕ) (assumed : List Lit) → IsValidBook (before ++ final clause hints ∷ []) → NegatesOnly assumed clause →
     check_proof (refuted_formula (before ++ final clause hints ∷ []) assumed) (refutation_steps (before ++ final clause hints ∷ []) assumed) ≡ Verified
 checks_at_end before clause hints assumed valid negates =
-    subst (λ k. check_from (clause_numbered (axioms ++ units assumed)) (derived_steps numbers k book ++ tail) ≡ Verified) count
-    (subst (λ xs. check_from (clause_numbered xs) (derived_steps numbers (length (all axioms (units assumed) numbers tail book []) + 1) book ++ tail) ≡ Verified) (append-nil (axioms ++ units assumed))
-    (go axioms (units assumed) numbers tail book finish [] book [] refl valid begins))
+    subst (λ k. check_from (clause_numbered (axioms ++ unit_clauses assumed)) (derived_steps numbers k book ++ tail) ≡ Verified) count
+    (subst (λ xs. check_from (clause_numbered xs) (derived_steps numbers (length (all axioms (unit_clauses assumed) numbers tail book []) + 1) book ++ tail) ≡ Verified) (append-nil (axioms ++ unit_clauses assumed))
+    (go axioms (unit_clauses assumed) numbers tail book finish [] book [] refl valid begins))
   where
     book : List BookEntry
     book = before ++ final clause hints ∷ []
@@ -332,17 +332,17 @@ checks_at_end before clause hints assumed valid negates =
     tail : List ProofStep
     tail = Add 0 (length axioms + length assumed + 1 + length (derived_of book)) [] (range_with_len (length axioms + 1) (length assumed) ++ new_number numbers (length (clauses_of book)) ∷ []) ∷ []
 
-    count : length (all axioms (units assumed) numbers tail book []) + 1 ≡ length axioms + length assumed + 1
+    count : length (all axioms (unit_clauses assumed) numbers tail book []) + 1 ≡ length axioms + length assumed + 1
     count =
-        let one = ap (λ (xs : List Clause). length xs) (append-nil (axioms ++ units assumed)) in
-        let two = length-append axioms (units assumed) in
+        let one = ap (λ (xs : List Clause). length xs) (append-nil (axioms ++ unit_clauses assumed)) in
+        let two = length-append axioms (unit_clauses assumed) in
         let three = length-map assumed (λ (l : Lit). let c : Clause = l ∷ [] in c) in
         omega (arith, one, two, three)
 
-    begins : Stands axioms (units assumed) numbers tail book [] book []
+    begins : Stands axioms (unit_clauses assumed) numbers tail book [] book []
     begins = record { front = []; whole = ap (λ k. numbers_from 1 k book) (sym count); held = tt; split = refl }
 
-    finish : (done : List BookEntry) (derived : List Clause) → done ≡ book → Stands axioms (units assumed) numbers tail book done [] derived → check_from (clause_numbered (all axioms (units assumed) numbers tail book derived)) tail ≡ Verified
+    finish : (done : List BookEntry) (derived : List Clause) → done ≡ book → Stands axioms (unit_clauses assumed) numbers tail book done [] derived → check_from (clause_numbered (all axioms (unit_clauses assumed) numbers tail book derived)) tail ≡ Verified
     finish done derived is s =
         check_added (clause_numbered held) 0 (length (axioms_of book) + length assumed + 1 + length (derived_of book)) [] (range_with_len (length axioms + 1) (length assumed) ++ new_number numbers (length (clauses_of book)) ∷ []) [] derived_empty (λ b e f. absurd (not_both b e f))
       where
@@ -350,7 +350,7 @@ checks_at_end before clause hints assumed valid negates =
         not_both b e f = cc
 
         held : List Clause
-        held = (axioms ++ units assumed) ++ derived
+        held = (axioms ++ unit_clauses assumed) ++ derived
 
         last_there : IsAt held (new_number numbers (length (clauses_of book))) clause
         last_there =
@@ -367,11 +367,11 @@ checks_at_end before clause hints assumed valid negates =
         derived_empty : derive (clause_numbered held) [] (range_with_len (length axioms + 1) (length assumed) ++ new_number numbers (length (clauses_of book)) ∷ []) ≡ derives
         derived_empty =
             closes (clause_numbered held) (new_number numbers (length (clauses_of book))) clause last_there assumed negates [] assumed [] 0 (length axioms + 1) refl tt
-            (subst (λ xs. HeldFrom (clause_numbered xs) (length axioms + 1) assumed) (sym (append_assoc axioms (units assumed) derived)) (held_units axioms derived assumed))
+            (subst (λ xs. HeldFrom (clause_numbered xs) (length axioms + 1) assumed) (sym (append_assoc axioms (unit_clauses assumed) derived)) (held_units axioms derived assumed))
 
 -- ---- with later entries
 
-valid_front : (earlier front later : List BookEntry) → EachAfter IsDerived earlier (front ++ later) → EachAfter IsDerived earlier front
+valid_front : (earlier front later : List BookEntry) → EachAfter IsDerivedIfDue earlier (front ++ later) → EachAfter IsDerivedIfDue earlier front
 valid_front earlier [] later h = tt
 valid_front earlier (e ∷ front) later h = (h.0, valid_front (earlier ++ e ∷ []) front later h.1)
 
@@ -394,7 +394,7 @@ proof_is book assumed last count axioms clauses formula steps ends front formula
   where
     assumptions : clauses - axioms ≡ length assumed
     assumptions =
-        let all = ap length formula_is ∙ length-append (axioms_of (take count book)) (units assumed) in
+        let all = ap length formula_is ∙ length-append (axioms_of (take count book)) (unit_clauses assumed) in
         let one = length-map assumed (λ (l : Lit). let c : Clause = l ∷ [] in c) in
         omega (arith, axioms_are, clauses_are, all, one)
 

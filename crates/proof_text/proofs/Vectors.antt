@@ -6,7 +6,7 @@ use Rattle.prop_core.specs.declared.lit.Lit.{Lit}
 use Rattle.proof_ledger.specs.declared.checker.ProofStep.TheVariants.{Add, Delete}
 use Rattle.proof_text.specs.declared.fault.TextFault.{TextFault}
 use Rattle.proof_text.specs.SignedNumbers.{is_number, is_zero, size_of}
-use Rattle.proof_text.specs.TextFaults.{fault_at}
+use Rattle.proof_text.specs.TextFaults.{fault_on_line}
 use Rattle.proof_text.specs.CnfText.{first_cnf_fault, formula_of, formula}
 use Rattle.proof_text.specs.PrintedText.{formula_text, steps_text}
 use Rattle.proof_text.specs.LratText.{first_lrat_fault, proof_of}
@@ -39,36 +39,36 @@ long_number = refl
 
 -- ---- faults of a formula
 
-no_bytes : first_cnf_fault [] ≡ fault_at 1 1
+no_bytes : first_cnf_fault [] ≡ fault_on_line 1 1
 no_bytes = refl
 
-other_header : first_cnf_fault (text_of (codes "p cnf 2 -1" ∷ [])) ≡ fault_at 1 1
+other_header : first_cnf_fault (text_of (codes "p cnf 2 -1" ∷ [])) ≡ fault_on_line 1 1
 other_header = refl
 
-word_among_literals : first_cnf_fault (text_of (codes "p cnf 2 1" ∷ codes "1 x 0" ∷ [])) ≡ fault_at 2 2
+word_among_literals : first_cnf_fault (text_of (codes "p cnf 2 1" ∷ codes "1 x 0" ∷ [])) ≡ fault_on_line 2 2
 word_among_literals = refl
 
-variable_too_great : first_cnf_fault (text_of (codes "p cnf 1 1" ∷ codes "1 -2 0" ∷ [])) ≡ fault_at 2 3
+variable_too_great : first_cnf_fault (text_of (codes "p cnf 1 1" ∷ codes "1 -2 0" ∷ [])) ≡ fault_on_line 2 3
 variable_too_great = refl
 
-clause_too_many : first_cnf_fault (text_of (codes "p cnf 2 1" ∷ codes "1 0 2 0" ∷ [])) ≡ fault_at 2 4
+clause_too_many : first_cnf_fault (text_of (codes "p cnf 2 1" ∷ codes "1 0 2 0" ∷ [])) ≡ fault_on_line 2 4
 clause_too_many = refl
 
-clause_too_few : first_cnf_fault (text_of (codes "p cnf 2 2" ∷ codes "1 0" ∷ [])) ≡ fault_at 2 4
+clause_too_few : first_cnf_fault (text_of (codes "p cnf 2 2" ∷ codes "1 0" ∷ [])) ≡ fault_on_line 2 4
 clause_too_few = refl
 
-clause_without_end : first_cnf_fault (text_of (codes "p cnf 2 1" ∷ codes "1 2" ∷ [])) ≡ fault_at 2 5
+clause_without_end : first_cnf_fault (text_of (codes "p cnf 2 1" ∷ codes "1 2" ∷ [])) ≡ fault_on_line 2 5
 clause_without_end = refl
 
 -- code 5 comes before code 4 at the end
-without_end_and_too_few : first_cnf_fault (text_of (codes "p cnf 2 3" ∷ codes "1 2" ∷ [] ∷ [])) ≡ fault_at 3 5
+without_end_and_too_few : first_cnf_fault (text_of (codes "p cnf 2 3" ∷ codes "1 2" ∷ [] ∷ [])) ≡ fault_on_line 3 5
 without_end_and_too_few = refl
 
 -- the first token at fault decides, and 3 comes before 4 for one token
-extra_clause_begins_above : first_cnf_fault (text_of (codes "p cnf 2 1" ∷ codes "1 0 3 x" ∷ [])) ≡ fault_at 2 3
+extra_clause_begins_above : first_cnf_fault (text_of (codes "p cnf 2 1" ∷ codes "1 0 3 x" ∷ [])) ≡ fault_on_line 2 3
 extra_clause_begins_above = refl
 
-variables_over_limit : first_cnf_fault (text_of (codes "p cnf 100000001 0" ∷ [])) ≡ fault_at 1 8
+variables_over_limit : first_cnf_fault (text_of (codes "p cnf 100000001 0" ∷ [])) ≡ fault_on_line 1 8
 variables_over_limit = refl
 
 -- ---- formulas
@@ -90,47 +90,47 @@ lrat_fault lines = first_lrat_fault 2 4 (text_of lines)
 nothing : first_lrat_fault 2 4 [] ≡ None
 nothing = refl
 
-hint_negative : lrat_fault (codes "5 1 0 -1 2 0" ∷ []) ≡ fault_at 1 7
+hint_negative : lrat_fault (codes "5 1 0 -1 2 0" ∷ []) ≡ fault_on_line 1 7
 hint_negative = refl
 
-line_not_ended : lrat_fault (codes "5 2 0 1 2" ∷ []) ≡ fault_at 1 5
+line_not_ended : lrat_fault (codes "5 2 0 1 2" ∷ []) ≡ fault_on_line 1 5
 line_not_ended = refl
 
-number_of_an_axiom : lrat_fault (codes "4 2 0 1 2 0" ∷ []) ≡ fault_at 1 6
+number_of_an_axiom : lrat_fault (codes "4 2 0 1 2 0" ∷ []) ≡ fault_on_line 1 6
 number_of_an_axiom = refl
 
-not_ascending : lrat_fault (codes "6 2 0 1 2 0" ∷ codes "1 d 6 0" ∷ codes "6 0 5 3 4 0" ∷ []) ≡ fault_at 3 6
+not_ascending : lrat_fault (codes "6 2 0 1 2 0" ∷ codes "1 d 6 0" ∷ codes "6 0 5 3 4 0" ∷ []) ≡ fault_on_line 3 6
 not_ascending = refl
 
-variable_of_a_proof : first_lrat_fault 2 1 (text_of (codes "2 3 0 1 0" ∷ [])) ≡ fault_at 1 3
+variable_of_a_proof : first_lrat_fault 2 1 (text_of (codes "2 3 0 1 0" ∷ [])) ≡ fault_on_line 1 3
 variable_of_a_proof = refl
 
-long_literal : lrat_fault (codes "5 99999999999999999999 0 1 0" ∷ []) ≡ fault_at 1 3
+long_literal : lrat_fault (codes "5 99999999999999999999 0 1 0" ∷ []) ≡ fault_on_line 1 3
 long_literal = refl
 
-id_too_large : lrat_fault (codes "18446744073709551616 1 0 1 0" ∷ []) ≡ fault_at 1 8
+id_too_large : lrat_fault (codes "18446744073709551616 1 0 1 0" ∷ []) ≡ fault_on_line 1 8
 id_too_large = refl
 
 -- too large comes before no number, even for the negative
-large_before_strange : lrat_fault (codes "x 1 0 -18446744073709551616 0" ∷ []) ≡ fault_at 1 8
+large_before_strange : lrat_fault (codes "x 1 0 -18446744073709551616 0" ∷ []) ≡ fault_on_line 1 8
 large_before_strange = refl
 
-behind_the_end : lrat_fault (codes "5 d 3 0 4 0" ∷ []) ≡ fault_at 1 5
+behind_the_end : lrat_fault (codes "5 d 3 0 4 0" ∷ []) ≡ fault_on_line 1 5
 behind_the_end = refl
 
-word_behind_the_end : lrat_fault (codes "5 d 3 0 x" ∷ []) ≡ fault_at 1 2
+word_behind_the_end : lrat_fault (codes "5 d 3 0 x" ∷ []) ≡ fault_on_line 1 2
 word_behind_the_end = refl
 
-negative_deletion : lrat_fault (codes "-5 d 3 0" ∷ []) ≡ fault_at 1 2
+negative_deletion : lrat_fault (codes "-5 d 3 0" ∷ []) ≡ fault_on_line 1 2
 negative_deletion = refl
 
-zero_addition : lrat_fault (codes "0 1 0 2 0" ∷ []) ≡ fault_at 1 2
+zero_addition : lrat_fault (codes "0 1 0 2 0" ∷ []) ≡ fault_on_line 1 2
 zero_addition = refl
 
-low_before_unknown : lrat_fault (codes "4 9 0 -1 0" ∷ []) ≡ fault_at 1 6
+low_before_unknown : lrat_fault (codes "4 9 0 -1 0" ∷ []) ≡ fault_on_line 1 6
 low_before_unknown = refl
 
-unknown_before_negative : lrat_fault (codes "5 9 0 -1 0" ∷ []) ≡ fault_at 1 3
+unknown_before_negative : lrat_fault (codes "5 9 0 -1 0" ∷ []) ≡ fault_on_line 1 3
 unknown_before_negative = refl
 
 -- ---- proofs

@@ -10,8 +10,8 @@ use Rattle.prop_core.specs.declared.lit.Lit.{Lit}
 use Rattle.proof_ledger.specs.declared.checker.ProofStep.{ProofStep}
 use Rattle.proof_ledger.specs.declared.checker.ProofStep.TheVariants.{Delete}
 use Rattle.proof_text.specs.SignedNumbers.{is_number, size_of, is_negative, is_zero, literal_of}
-use Rattle.proof_text.specs.LratText.{cut_at_zero, is_too_large, is_unsigned, is_positive, some_rest, line_code, lrat_line, addition_line, deletion_of, is_deletion_mark, step_of, last_after, lrat_fault_of, steps_of, cut, with_token}
-use Rattle.proof_text.specs.LineReading.{is_id, is_known, only, ids_only, with_hints, literals_and_hints, add_step, addition_read, deletion_read, step_read, line_read}
+use Rattle.proof_text.specs.LratText.{cut_at_zero, is_too_large, is_unsigned, is_positive, some_rest, line_code, lrat_line, addition_line, deletion_of, is_deletion_mark, proof_step_of, last_after, lrat_fault_of, proof_steps_of, cut, with_token}
+use Rattle.proof_text.specs.LineReading.{is_id, is_known_literal, only, ids_only, with_hints, literals_and_hints, add_step, addition_read, deletion_read, step_read, line_read}
 use Rattle.proof_text.specs.ProofNumbers.{HasNoZero, NumbersAscend}
 use Rattle.proof_text.proofs.CnfLemmas.{fault_or-none}
 use Rattle.proof_text.proofs.CodeLemmas.{id_is_read, IsIdToken, id_token, id_passes, ids_pass, AreIds, are_ids, known_pass, are_known, nothing_numbers, first_ended, none_of, no_code}
@@ -40,7 +40,7 @@ abbrev pub hints_well : List (List ℕ) → Bool
 hints_well tokens = ((cut_at_zero tokens).ended && list_all is_id (cut_at_zero tokens).front) && not (some_rest (cut_at_zero tokens).behind)
 
 abbrev pub literals_well : ℕ → List (List ℕ) → Bool
-literals_well vars tokens = ((cut_at_zero tokens).ended && list_all (is_known vars) (cut_at_zero tokens).front) && hints_well (cut_at_zero tokens).behind
+literals_well vars tokens = ((cut_at_zero tokens).ended && list_all (is_known_literal vars) (cut_at_zero tokens).front) && hints_well (cut_at_zero tokens).behind
 
 abbrev pub addition_well : ℕ → ℕ → List ℕ → List (List ℕ) → Bool
 addition_well vars last id tokens = is_id id && (nat_lt last (size_of id) && literals_well vars tokens)
@@ -59,19 +59,19 @@ literals_and_hints_is : (vars : ℕ) (tokens : List (List ℕ)) (parts : List Li
 literals_and_hints_is vars tokens parts is =
     let c = cut_at_zero tokens in
     let read : List Lit × List (List ℕ) = (map literal_of c.front, c.behind) in
-    chain (c.ended && list_all (is_known vars) c.front) (hints_well c.behind) read with_hints parts
+    chain (c.ended && list_all (is_known_literal vars) c.front) (hints_well c.behind) read with_hints parts
     (mapped (hints_well c.behind) (map size_of (cut_at_zero c.behind).front) (λ hints. (read.0, hints)) (ids_only c.behind) (ids_only_is c.behind) ∙ ap (λ (p : List Lit × List ℕ). cond (hints_well c.behind) (Some p) None) (sym is))
 
 addition_is_read : (line vars last : ℕ) (id : List ℕ) (tokens : List (List ℕ))
-    → option_and_then (λ n. addition_read line vars last n tokens) (cond (is_id id) (Some (size_of id)) None) ≡ cond (addition_well vars last id tokens) (Some (step_of line (addition_line id tokens))) None
+    → option_and_then (λ n. addition_read line vars last n tokens) (cond (is_id id) (Some (size_of id)) None) ≡ cond (addition_well vars last id tokens) (Some (proof_step_of line (addition_line id tokens))) None
 addition_is_read line vars last id tokens =
     let parts : List Lit × List ℕ = (map literal_of (cut_at_zero tokens).front, map size_of (cut_at_zero (cut_at_zero tokens).behind).front) in
-    chain (is_id id) (nat_lt last (size_of id) && literals_well vars tokens) (size_of id) (λ n. addition_read line vars last n tokens) (step_of line (addition_line id tokens))
-    (guarded (nat_lt last (size_of id)) (literals_well vars tokens) (option_map (add_step line (size_of id)) (literals_and_hints vars tokens)) (step_of line (addition_line id tokens))
+    chain (is_id id) (nat_lt last (size_of id) && literals_well vars tokens) (size_of id) (λ n. addition_read line vars last n tokens) (proof_step_of line (addition_line id tokens))
+    (guarded (nat_lt last (size_of id)) (literals_well vars tokens) (option_map (add_step line (size_of id)) (literals_and_hints vars tokens)) (proof_step_of line (addition_line id tokens))
     (mapped (literals_well vars tokens) parts (add_step line (size_of id)) (literals_and_hints vars tokens) (literals_and_hints_is vars tokens parts refl)))
 
 deletion_is_read : (line : ℕ) (id : List ℕ) (tokens : List (List ℕ))
-    → option_and_then (λ (n : ℕ). deletion_read tokens) (cond (is_id id) (Some (size_of id)) None) ≡ cond (deletion_well id tokens) (Some (step_of line (deletion_of id (cut_at_zero tokens)))) None
+    → option_and_then (λ (n : ℕ). deletion_read tokens) (cond (is_id id) (Some (size_of id)) None) ≡ cond (deletion_well id tokens) (Some (proof_step_of line (deletion_of id (cut_at_zero tokens)))) None
 deletion_is_read line id tokens =
     chain (is_id id) (hints_well tokens) (size_of id) (λ (n : ℕ). deletion_read tokens) (Delete (map size_of (cut_at_zero tokens).front))
     (mapped (hints_well tokens) (map size_of (cut_at_zero tokens).front) Delete (ids_only tokens) (ids_only_is tokens))
@@ -83,11 +83,11 @@ line_well vars last (id ∷ token ∷ tokens) = cond (is_deletion_mark token) (d
 
 branch_is_read : (b : Bool) (line vars last : ℕ) (id token : List ℕ) (tokens : List (List ℕ))
     → option_and_then (λ n. cond b (deletion_read tokens) (addition_read line vars last n (token ∷ tokens))) (cond (is_id id) (Some (size_of id)) None)
-    ≡ cond (cond b (deletion_well id tokens) (addition_well vars last id (token ∷ tokens))) (Some (step_of line (cond b (deletion_of id (cut_at_zero tokens)) (addition_line id (token ∷ tokens))))) None
+    ≡ cond (cond b (deletion_well id tokens) (addition_well vars last id (token ∷ tokens))) (Some (proof_step_of line (cond b (deletion_of id (cut_at_zero tokens)) (addition_line id (token ∷ tokens))))) None
 branch_is_read true line vars last id token tokens = deletion_is_read line id tokens
 branch_is_read false line vars last id token tokens = addition_is_read line vars last id (token ∷ tokens)
 
-line_is_read : (line vars last : ℕ) (texts : List (List ℕ)) → line_read line vars last texts ≡ cond (line_well vars last texts) (Some (step_of line (lrat_line texts))) None
+line_is_read : (line vars last : ℕ) (texts : List (List ℕ)) → line_read line vars last texts ≡ cond (line_well vars last texts) (Some (proof_step_of line (lrat_line texts))) None
 line_is_read line vars last [] = refl
 line_is_read line vars last (id ∷ []) = ap (option_and_then (step_read line vars last [])) (id_is_read id) ∙ addition_is_read line vars last id []
 line_is_read line vars last (id ∷ token ∷ tokens) = ap (option_and_then (step_read line vars last (token ∷ tokens))) (id_is_read id) ∙ branch_is_read (is_deletion_mark token) line vars last id token tokens
@@ -135,8 +135,8 @@ addition_without_code vars last id tokens h =
     join (is_id id) (nat_lt last (size_of id) && literals_well vars tokens)
     (id_passes id sign.0 (not_true (is_negative id) sign.1) large.0)
     (join (nat_lt last (size_of id)) (literals_well vars tokens) (not_is_false (nat_lt last (size_of id)) none.not_low)
-    (join (c.ended && list_all (is_known vars) c.front) (hints_well c.behind)
-    (join c.ended (list_all (is_known vars) c.front) (first_ended c.ended tokens refl ended) (known_pass vars c.front (not_is_false (list_all is_number c.front) strange-3.1) none.not_unknown))
+    (join (c.ended && list_all (is_known_literal vars) c.front) (hints_well c.behind)
+    (join c.ended (list_all (is_known_literal vars) c.front) (first_ended c.ended tokens refl ended) (known_pass vars c.front (not_is_false (list_all is_number c.front) strange-3.1) none.not_unknown))
     (hints_pass c.behind ended (ids_pass d.front large.1 (not_is_false (list_all is_number d.front) strange-2.1) none.not_negative) unended.1)))
 
 pub addition_has_no_code : (vars last : ℕ) (id : List ℕ) (tokens : List (List ℕ)) → addition_well vars last id tokens ≡ true → line_code vars last (addition_line id tokens) ≡ None
@@ -145,8 +145,8 @@ addition_has_no_code vars last id tokens h =
     let d = cut_at_zero c.behind in
     let parts = both (is_id id) (nat_lt last (size_of id) && literals_well vars tokens) h in
     let above = both (nat_lt last (size_of id)) (literals_well vars tokens) parts.1 in
-    let sections = both (c.ended && list_all (is_known vars) c.front) (hints_well c.behind) above.1 in
-    let literals = are_known vars c.front (both c.ended (list_all (is_known vars) c.front) sections.0).1 in
+    let sections = both (c.ended && list_all (is_known_literal vars) c.front) (hints_well c.behind) above.1 in
+    let literals = are_known vars c.front (both c.ended (list_all (is_known_literal vars) c.front) sections.0).1 in
     let hints = hints_are_well c.behind sections.1 in
     let number = id_token id parts.0 in
     no_code _ _ _ _ _ _ (record {
@@ -227,9 +227,9 @@ none_step : (w : Bool) (said : ProofStep) → None ≡ cond w (Some said) None �
 none_step true said h = cc
 none_step false said h = refl
 
-pub step_is_said : (line vars last : ℕ) (texts : List (List ℕ)) (step : ProofStep) → Some step ≡ line_read line vars last texts → (step ≡ step_of line (lrat_line texts)) × (line_code vars last (lrat_line texts) ≡ None)
+pub step_is_said : (line vars last : ℕ) (texts : List (List ℕ)) (step : ProofStep) → Some step ≡ line_read line vars last texts → (step ≡ proof_step_of line (lrat_line texts)) × (line_code vars last (lrat_line texts) ≡ None)
 step_is_said line vars last texts step h =
-    let parts = some_step (line_well vars last texts) step (step_of line (lrat_line texts)) (h ∙ line_is_read line vars last texts) in
+    let parts = some_step (line_well vars last texts) step (proof_step_of line (lrat_line texts)) (h ∙ line_is_read line vars last texts) in
     (parts.1, line_has_no_code vars last texts parts.0)
 
 some_code : (o : Option ℕ) → (o ≡ None → ⊥) → IsSome o
@@ -238,7 +238,7 @@ some_code (Some x) h = search rules
 
 pub line_has_a_code : (line vars last : ℕ) (texts : List (List ℕ)) → None ≡ line_read line vars last texts → IsSome (line_code vars last (lrat_line texts))
 line_has_a_code line vars last texts h =
-    let ill : line_well vars last texts ≡ false = none_step (line_well vars last texts) (step_of line (lrat_line texts)) (h ∙ line_is_read line vars last texts) in
+    let ill : line_well vars last texts ≡ false = none_step (line_well vars last texts) (proof_step_of line (lrat_line texts)) (h ∙ line_is_read line vars last texts) in
     some_code (line_code vars last (lrat_line texts)) (λ none. let well : line_well vars last texts ≡ true = line_without_code vars last texts none in cc)
 
 -- the numbers of the additions of a proof without a fault ascend
@@ -248,24 +248,24 @@ above_last vars last id tokens h =
     less_is last (size_of id) (both (nat_lt last (size_of id)) (literals_well vars tokens) parts.1).0
 
 ascends_with : (vars last : ℕ) (line : ℕ) (texts : List (List ℕ)) → line_well vars last texts ≡ true
-    → (steps : List ProofStep) → NumbersAscend (last_after last (step_of line (lrat_line texts))) steps → NumbersAscend last (step_of line (lrat_line texts) ∷ steps)
+    → (steps : List ProofStep) → NumbersAscend (last_after last (proof_step_of line (lrat_line texts))) steps → NumbersAscend last (proof_step_of line (lrat_line texts) ∷ steps)
 ascends_with vars last line [] h steps rest = cc
 ascends_with vars last line (id ∷ []) h steps rest = (above_last vars last id [] h, rest)
 ascends_with vars last line (id ∷ token ∷ tokens) h steps rest = branch (is_deletion_mark token) h rest
   where
     branch : (b : Bool) → cond b (deletion_well id tokens) (addition_well vars last id (token ∷ tokens)) ≡ true
-        → NumbersAscend (last_after last (step_of line (cond b (deletion_of id (cut_at_zero tokens)) (addition_line id (token ∷ tokens))))) steps
-        → NumbersAscend last (step_of line (cond b (deletion_of id (cut_at_zero tokens)) (addition_line id (token ∷ tokens))) ∷ steps)
+        → NumbersAscend (last_after last (proof_step_of line (cond b (deletion_of id (cut_at_zero tokens)) (addition_line id (token ∷ tokens))))) steps
+        → NumbersAscend last (proof_step_of line (cond b (deletion_of id (cut_at_zero tokens)) (addition_line id (token ∷ tokens))) ∷ steps)
     branch true h rest = rest
     branch false h rest = (above_last vars last id (token ∷ tokens) h, rest)
 
-pub numbers_ascend : (vars last : ℕ) (lines : List NumberedLine) → lrat_fault_of vars last lines ≡ None → NumbersAscend last (steps_of lines)
+pub numbers_ascend : (vars last : ℕ) (lines : List NumberedLine) → lrat_fault_of vars last lines ≡ None → NumbersAscend last (proof_steps_of lines)
 numbers_ascend vars last [] h = tt
 numbers_ascend vars last (line ∷ lines) h =
     let texts = tokens_of line.text in
-    let step = step_of line.number (lrat_line texts) in
+    let step = proof_step_of line.number (lrat_line texts) in
     let parts = fault_or-none line.number (line_code vars last (lrat_line texts)) (lrat_fault_of vars (last_after last step) lines) h in
-    ascends_with vars last line.number texts (line_without_code vars last texts parts.0) (steps_of lines) (numbers_ascend vars (last_after last step) lines parts.1)
+    ascends_with vars last line.number texts (line_without_code vars last texts parts.0) (proof_steps_of lines) (numbers_ascend vars (last_after last step) lines parts.1)
 
 -- no number of a proof without a fault is 0
 abbrev NoZeros : List (List ℕ) → Type 0
@@ -293,28 +293,28 @@ sizes_above (token ∷ tokens) h k =
 ids_above : (tokens : List (List ℕ)) → hints_well tokens ≡ true → All (λ n. 0 < n) (map size_of (cut_at_zero tokens).front)
 ids_above tokens h = sizes_above (cut_at_zero tokens).front (front_no_zeros tokens) (hints_are_well tokens h).ids.number
 
-addition_no_zero : (vars last n : ℕ) (id : List ℕ) (tokens : List (List ℕ)) → addition_well vars last id tokens ≡ true → HasNoZero (step_of n (addition_line id tokens))
+addition_no_zero : (vars last n : ℕ) (id : List ℕ) (tokens : List (List ℕ)) → addition_well vars last id tokens ≡ true → HasNoZero (proof_step_of n (addition_line id tokens))
 addition_no_zero vars last n id tokens h =
     let c = cut_at_zero tokens in
     let parts = both (is_id id) (nat_lt last (size_of id) && literals_well vars tokens) h in
     let literals = (both (nat_lt last (size_of id)) (literals_well vars tokens) parts.1).1 in
     let above : last < size_of id = above_last vars last id tokens h in
-    (omega arith, ids_above c.behind (both (c.ended && list_all (is_known vars) c.front) (hints_well c.behind) literals).1)
+    (omega arith, ids_above c.behind (both (c.ended && list_all (is_known_literal vars) c.front) (hints_well c.behind) literals).1)
 
 branch_no_zero : (b : Bool) (vars last n : ℕ) (id token : List ℕ) (tokens : List (List ℕ)) → cond b (deletion_well id tokens) (addition_well vars last id (token ∷ tokens)) ≡ true
-    → HasNoZero (step_of n (cond b (deletion_of id (cut_at_zero tokens)) (addition_line id (token ∷ tokens))))
+    → HasNoZero (proof_step_of n (cond b (deletion_of id (cut_at_zero tokens)) (addition_line id (token ∷ tokens))))
 branch_no_zero true vars last n id token tokens h = ids_above tokens (both (is_id id) (hints_well tokens) h).1
 branch_no_zero false vars last n id token tokens h = addition_no_zero vars last n id (token ∷ tokens) h
 
-line_no_zero : (vars last n : ℕ) (texts : List (List ℕ)) → line_well vars last texts ≡ true → HasNoZero (step_of n (lrat_line texts))
+line_no_zero : (vars last n : ℕ) (texts : List (List ℕ)) → line_well vars last texts ≡ true → HasNoZero (proof_step_of n (lrat_line texts))
 line_no_zero vars last n [] h = cc
 line_no_zero vars last n (id ∷ []) h = addition_no_zero vars last n id [] h
 line_no_zero vars last n (id ∷ token ∷ tokens) h = branch_no_zero (is_deletion_mark token) vars last n id token tokens h
 
-pub no_zeros : (vars last : ℕ) (lines : List NumberedLine) → lrat_fault_of vars last lines ≡ None → All HasNoZero (steps_of lines)
+pub no_zeros : (vars last : ℕ) (lines : List NumberedLine) → lrat_fault_of vars last lines ≡ None → All HasNoZero (proof_steps_of lines)
 no_zeros vars last [] h = All-nil HasNoZero
 no_zeros vars last (line ∷ lines) h =
     let texts = tokens_of line.text in
-    let step = step_of line.number (lrat_line texts) in
+    let step = proof_step_of line.number (lrat_line texts) in
     let parts = fault_or-none line.number (line_code vars last (lrat_line texts)) (lrat_fault_of vars (last_after last step) lines) h in
-    All-cons HasNoZero step (steps_of lines) (line_no_zero vars last line.number texts (line_without_code vars last texts parts.0)) (no_zeros vars (last_after last step) lines parts.1)
+    All-cons HasNoZero step (proof_steps_of lines) (line_no_zero vars last line.number texts (line_without_code vars last texts parts.0)) (no_zeros vars (last_after last step) lines parts.1)

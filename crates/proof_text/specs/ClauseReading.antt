@@ -22,8 +22,8 @@ abbrev pub entry_code : List ℕ → ℕ
 entry_code text = if is_number text then unknown_variable else not_a_number
 
 -- the clauses of the tokens, one token after the other, where these literals stand in front
-abbrev pub clauses_of : Clause → List LinedToken → List Clause
-clauses_of front [] = []
-clauses_of front (token ∷ tokens) =
-    if is_zero token.text then front ∷ clauses_of [] tokens
-    else clauses_of (front ++ literal_of token.text ∷ []) tokens
+abbrev pub spelled_clauses : Clause → List LinedToken → List Clause
+spelled_clauses front [] = []
+spelled_clauses front (token ∷ tokens) =
+    if is_zero token.text then front ∷ spelled_clauses [] tokens
+    else spelled_clauses (front ++ literal_of token.text ∷ []) tokens

@@ -8,7 +8,7 @@ use Rattle.prop_core.specs.Clauses.{Clause}
 use Rattle.proof_text.specs.declared.fault.TextFault.{TextFault}
 use Rattle.proof_text.specs.declared.header.Header.{Header}
 use Rattle.proof_text.specs.SignedNumbers.{is_number, is_zero, size_of, literal_of}
-use Rattle.proof_text.specs.TextFaults.{no_header, not_a_number, unknown_variable, other_count, not_ended, over_limit, fault_at, fault_or}
+use Rattle.proof_text.specs.TextFaults.{no_header, not_a_number, unknown_variable, other_count, not_ended, over_limit, fault_on_line, fault_or}
 
 -- the greatest number of variables, and of clauses, that a header may state
 abbrev pub most : ℕ
@@ -96,7 +96,7 @@ fault_of_body end number header tokens = fault_or number (header_code header) (f
 
 -- the first fault of the counted lines, of which the first is the header; without any the header is missing, on the last line `end`
 abbrev pub fault_of_lines : ℕ → List NumberedLine → Option TextFault
-fault_of_lines end [] = fault_at end no_header
+fault_of_lines end [] = fault_on_line end no_header
 fault_of_lines end (header ∷ lines) = fault_of_body end header.number (header_of (tokens_of header.text)) (tokens_in lines)
 
 -- the first fault of a text, if it has one; lines that begin with `c` are comments
@@ -114,12 +114,12 @@ abbrev pub ends_clause : LinedToken → Bool
 ends_clause token = is_zero token.text
 
 -- the clause of the literals that these tokens spell, one for each
-abbrev pub clause_of : List LinedToken → Clause
-clause_of tokens = map (λ token. literal_of token.text) tokens
+abbrev pub spelled_clause : List LinedToken → Clause
+spelled_clause tokens = map (λ token. literal_of token.text) tokens
 
 -- the clauses of the tokens: the pieces that a `0` ends
 abbrev pub clauses_in : List LinedToken → List Clause
-clauses_in tokens = map clause_of (before_last (slice_split ends_clause tokens))
+clauses_in tokens = map spelled_clause (before_last (slice_split ends_clause tokens))
 
 -- a formula, and how many variables it is over
 pub record Formula : Type 0 where

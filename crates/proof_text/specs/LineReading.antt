@@ -13,8 +13,8 @@ abbrev pub is_id : List ℕ → Bool
 is_id token = is_unsigned token && not (is_too_large token)
 
 -- a literal of one of so many variables, or 0
-abbrev pub is_known : ℕ → List ℕ → Bool
-is_known vars token = is_number token && not (nat_lt vars (size_of token))
+abbrev pub is_known_literal : ℕ → List ℕ → Bool
+is_known_literal vars token = is_number token && not (nat_lt vars (size_of token))
 
 -- what the front of a cut says, token by token, and what stands behind it: none where no `0` ends it, or a token of it fails the test
 abbrev pub section_of : {X : Type 0} → (List ℕ → Bool) → (List ℕ → X) → Cut → Option (List X × List (List ℕ))
@@ -30,7 +30,7 @@ ids_section tokens = section is_id size_of tokens
 
 -- the literals before the first `0`, where there are so many variables, and what follows it
 abbrev pub literals_section : ℕ → List (List ℕ) → Option (List Lit × List (List ℕ))
-literals_section vars tokens = section (is_known vars) literal_of tokens
+literals_section vars tokens = section (is_known_literal vars) literal_of tokens
 
 -- what was read, where nothing follows it
 abbrev pub only : {X : Type 0} → X × List (List ℕ) → Option X

@@ -38,8 +38,8 @@ abbrev pub is_deletion_mark : List ℕ → Bool
 is_deletion_mark token = bytes_eq token (codes "d")
 
 -- an addition by the cut of its literals, and by that of the tokens behind them, the hints
-abbrev pub addition_of : List ℕ → Cut → Cut → LratLine
-addition_of id literals hints = addition id literals.front hints.front hints.ended hints.behind
+abbrev pub cut_addition : List ℕ → Cut → Cut → LratLine
+cut_addition id literals hints = addition id literals.front hints.front hints.ended hints.behind
 
 -- a deletion by the cut of the tokens behind its `d`
 abbrev pub deletion_of : List ℕ → Cut → LratLine
@@ -47,7 +47,7 @@ deletion_of id ids = deletion id ids.front ids.ended ids.behind
 
 -- the hints stand behind the literals
 abbrev pub addition_line : List ℕ → List (List ℕ) → LratLine
-addition_line id tokens = addition_of id (cut_at_zero tokens) (cut_at_zero (cut_at_zero tokens).behind)
+addition_line id tokens = cut_addition id (cut_at_zero tokens) (cut_at_zero (cut_at_zero tokens).behind)
 
 -- the line of these tokens; what is missing is empty, the number too
 abbrev pub lrat_line : List (List ℕ) → LratLine
@@ -103,9 +103,9 @@ line_code vars last (deletion id ids ended rest) = first_code
     false false false
 
 -- the step that a line says
-abbrev pub step_of : ℕ → LratLine → ProofStep
-step_of number (addition id literals hints ended rest) = Add number (size_of id) (map literal_of literals) (map size_of hints)
-step_of number (deletion id ids ended rest) = Delete (map size_of ids)
+abbrev pub proof_step_of : ℕ → LratLine → ProofStep
+proof_step_of number (addition id literals hints ended rest) = Add number (size_of id) (map literal_of literals) (map size_of hints)
+proof_step_of number (deletion id ids ended rest) = Delete (map size_of ids)
 
 -- the number that the next addition has to exceed, after a step
 abbrev pub last_after : ℕ → ProofStep → ℕ
@@ -117,16 +117,16 @@ abbrev pub lrat_fault_of : ℕ → ℕ → List NumberedLine → Option TextFaul
 lrat_fault_of vars last [] = None
 lrat_fault_of vars last (line ∷ lines) =
     fault_or line.number (line_code vars last (lrat_line (tokens_of line.text)))
-    (lrat_fault_of vars (last_after last (step_of line.number (lrat_line (tokens_of line.text)))) lines)
+    (lrat_fault_of vars (last_after last (proof_step_of line.number (lrat_line (tokens_of line.text)))) lines)
 
 -- The first fault of the text of a proof, if it has one. Lines that begin with `c` are comments. Original clauses have the numbers from 1 to their count.
 abbrev pub first_lrat_fault : ℕ → ℕ → List ℕ → Option TextFault
 first_lrat_fault vars clauses bytes = lrat_fault_of vars clauses (counted_lines 99 bytes)
 
 -- the steps that the lines say, one for each
-abbrev pub steps_of : List NumberedLine → List ProofStep
-steps_of lines = map (λ line. step_of line.number (lrat_line (tokens_of line.text))) lines
+abbrev pub proof_steps_of : List NumberedLine → List ProofStep
+proof_steps_of lines = map (λ line. proof_step_of line.number (lrat_line (tokens_of line.text))) lines
 
 -- the steps of a text without a fault
 abbrev pub proof_of : List ℕ → List ProofStep
-proof_of bytes = steps_of (counted_lines 99 bytes)
+proof_of bytes = proof_steps_of (counted_lines 99 bytes)

@@ -79,5 +79,5 @@ HasNumberAbove clauses (Add line id clause hints) = clauses < id
 HasNumberAbove clauses (Delete ids) = ⊤
 
 -- The text reads back as this proof, for each number of variables above its own, at most 2^30, and each number of clauses below those of its additions.
-abbrev pub ReadsBack : List ProofStep → List ℕ → Type 0
-ReadsBack steps text = (vars clauses : ℕ) → vars ≤ 1073741824 → All (HasVariablesBelow vars) steps → All (HasNumberAbove clauses) steps → IsProofText vars clauses steps text
+abbrev pub ReadsBackAsProof : List ProofStep → List ℕ → Type 0
+ReadsBackAsProof steps text = (vars clauses : ℕ) → vars ≤ 1073741824 → All (HasVariablesBelow vars) steps → All (HasNumberAbove clauses) steps → IsProofText vars clauses steps text

@@ -38,12 +38,12 @@ front_to (suc number) (mark k ∷ book) = mark k ∷ front_to (suc number) book
 -- ---- the formula
 
 -- each assumption as a clause of one literal
-abbrev pub units : List Lit → List Clause
-units assumed = map (λ (l : Lit). l ∷ []) assumed
+abbrev pub unit_clauses : List Lit → List Clause
+unit_clauses assumed = map (λ (l : Lit). l ∷ []) assumed
 
 -- the axioms in their order, and then the assumptions
 abbrev pub refuted_formula : List BookEntry → List Lit → List Clause
-refuted_formula book assumed = axioms_of book ++ units assumed
+refuted_formula book assumed = axioms_of book ++ unit_clauses assumed
 
 -- ---- the proof
 
@@ -79,14 +79,14 @@ derived_steps numbers next (final clause hints ∷ book) = Add 0 next clause (ma
 derived_steps numbers next (mark k ∷ book) = derived_steps numbers next book
 
 -- the steps behind so many axioms and so many assumptions, and the empty clause by the assumptions and the clause that was the last
-abbrev pub steps_by : List ℕ → ℕ → ℕ → ℕ → List BookEntry → List ProofStep
-steps_by numbers axioms assumptions last book =
+abbrev pub steps_to_empty_clause : List ℕ → ℕ → ℕ → ℕ → List BookEntry → List ProofStep
+steps_to_empty_clause numbers axioms assumptions last book =
     derived_steps numbers (axioms + assumptions + 1) book
     ++ Add 0 (axioms + assumptions + 1 + length (derived_of book)) [] (range_with_len (axioms + 1) assumptions ++ new_number numbers last ∷ []) ∷ []
 
 -- those steps by the new numbers of the clauses: axioms from 1 on, and what was derived behind the axioms and the assumptions
 abbrev pub steps_behind : ℕ → ℕ → ℕ → List BookEntry → List ProofStep
-steps_behind axioms assumptions last book = steps_by (numbers_from 1 (axioms + assumptions + 1) book) axioms assumptions last book
+steps_behind axioms assumptions last book = steps_to_empty_clause (numbers_from 1 (axioms + assumptions + 1) book) axioms assumptions last book
 
 -- the proof by all that was derived
 abbrev pub refutation_steps : List BookEntry → List Lit → List ProofStep

@@ -37,13 +37,13 @@ abbrev pub over_limit : ℕ
 over_limit = 8
 
 -- a fault on this line, with this code
-abbrev pub fault_at : ℕ → ℕ → Option TextFault
-fault_at line code = Some (record { line = line; code = code })
+abbrev pub fault_on_line : ℕ → ℕ → Option TextFault
+fault_on_line line code = Some (record { line = line; code = code })
 
 -- the fault with this code, where there is one, and else a later one
 abbrev pub fault_or : ℕ → Option ℕ → Option TextFault → Option TextFault
 fault_or line None later = later
-fault_or line (Some code) later = fault_at line code
+fault_or line (Some code) later = fault_on_line line code
 
 -- A refusal for a fault tells the first fault of the text. Want of memory says nothing.
 abbrev pub IsDue : Option TextFault → TextRefusal → Type 0

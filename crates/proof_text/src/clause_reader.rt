@@ -1,7 +1,7 @@
 // Reading clauses, token by token.
 ghost use Rattle.std.specs.Prelude.{◌≡◌, ℕ, ◌≤◌, ◌++◌, ◌∷◌, [], List, MatchResult, IfOk, OnOk, None, false};
 ghost use Rattle.proof_text.specs.TextFaults.{fault_or, IsDue};
-ghost use Rattle.proof_text.specs.ClauseReading.{ended_by, open_after, entry_code, clauses_of};
+ghost use Rattle.proof_text.specs.ClauseReading.{ended_by, open_after, entry_code, spelled_clauses};
 ghost use Rattle.proof_text.specs.CnfText.{LinedToken, lined, some_open, end_code, fault_of_tokens, clauses_in};
 
 use crate::body::{BodyToken, BodyTokens};
@@ -43,7 +43,7 @@ impl ClauseReader {
         requires { self.old.vars ≤ VAR_LIMIT }
         ensures vars { self.new.vars ≡ self.old.vars }
         ensures faults { (end : ℕ) (later : List LinedToken) → MatchResult result (λ _. fault_of_tokens self.old.vars end self.old.left (some_open self.old.front.items) (lined token.entry.line token.entry.text.now ∷ later) ≡ fault_of_tokens self.new.vars end self.new.left (some_open self.new.front.items) later) (IsDue (fault_of_tokens self.old.vars end self.old.left (some_open self.old.front.items) (lined token.entry.line token.entry.text.now ∷ later))) }
-        ensures clauses { OnOk result ((later : List LinedToken) → self.new.clauses.clauses ++ clauses_of self.new.front.items later ≡ self.old.clauses.clauses ++ clauses_of self.old.front.items (lined token.entry.line token.entry.text.now ∷ later)) }
+        ensures clauses { OnOk result ((later : List LinedToken) → self.new.clauses.clauses ++ spelled_clauses self.new.front.items later ≡ self.old.clauses.clauses ++ spelled_clauses self.old.front.items (lined token.entry.line token.entry.text.now ∷ later)) }
     {
         let Some(entry) = read_entry(token.text, self.vars) else {
             return Err(fault_at(token.line, entry_code(token.text)));

@@ -4,7 +4,7 @@ ghost use Rattle.des_base.specs.CountedLines.{tokens_of};
 ghost use Rattle.proof_text.specs.ProofNumbers.{NumbersAscend, HasNoZero};
 ghost use Rattle.proof_text.specs.declared.fault.TextFault.{TextFault};
 ghost use Rattle.proof_text.specs.TextFaults.{fault_or, IsDue};
-ghost use Rattle.proof_text.specs.LratText.{line_code, lrat_line, step_of, last_after, first_lrat_fault, proof_of};
+ghost use Rattle.proof_text.specs.LratText.{line_code, lrat_line, proof_step_of, last_after, first_lrat_fault, proof_of};
 
 use crate::fault::{TextRefusal, fault_at};
 use crate::line_faults::line_code;
@@ -43,7 +43,7 @@ pub fn read_lrat(alloc: Global, bytes: &[u8], vars: u32, clauses: u64) -> Result
 // The step of a line, or its fault. An addition's number has to be greater than `last`.
 fn read_line(alloc: Global, line: Line<'_>, vars: u32, last: u64) -> Result<ProofStep, TextRefusal>
     requires { vars ≤ VAR_LIMIT }
-    ensures step { IfOk result (λ step. step ≡ step_of line.entry.number (lrat_line (tokens_of line.entry.text.now))) }
+    ensures step { IfOk result (λ step. step ≡ proof_step_of line.entry.number (lrat_line (tokens_of line.entry.text.now))) }
     ensures well { OnOk result (line_code vars last (lrat_line (tokens_of line.entry.text.now)) ≡ None) }
     ensures refused { IfErr result (λ refusal. (later : Option TextFault) → IsDue (fault_or line.entry.number (line_code vars last (lrat_line (tokens_of line.entry.text.now))) later) refusal) }
 {

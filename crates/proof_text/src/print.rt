@@ -4,7 +4,7 @@ ghost use Rattle.des_base.specs.Lists.{Extends};
 ghost use Rattle.prop_core.specs.Clauses.{HasValues};
 ghost use Rattle.proof_text.specs.ProofNumbers.{NumbersAscend, HasNoZero};
 ghost use Rattle.proof_text.specs.CnfText.{formula};
-ghost use Rattle.proof_text.specs.PrintedText.{KeepsLimits, IsFormulaText, ReadsBack, NumbersFit, literal_word, literals_text, numbers_text, header_text, clause_text, formula_text, step_words_text, step_text, steps_text};
+ghost use Rattle.proof_text.specs.PrintedText.{KeepsLimits, IsFormulaText, ReadsBackAsProof, NumbersFit, literal_word, literals_text, numbers_text, header_text, clause_text, formula_text, step_words_text, step_text, steps_text};
 
 use crate::cnf::Cnf;
 use crate::proof::Proof;
@@ -164,7 +164,7 @@ pub fn print_lrat(proof: &Proof, out: &mut Vec<u8>) -> Result<(), Memory>
     requires ascend { NumbersAscend 0 proof.now }
     requires above { All HasNoZero proof.now }
     ensures text { OnOk result (out.new.items ≡ out.old.items ++ steps_text proof.now) }
-    ensures reads_back { OnOk result (ReadsBack proof.now (drop (length out.old.items) out.new.items)) }
+    ensures reads_back { OnOk result (ReadsBackAsProof proof.now (drop (length out.old.items) out.new.items)) }
     ensures err { OnErr result (out.new.items ≡ out.old.items) }
 {
     let before = out.len();

@@ -47,12 +47,12 @@ clause_holds value clause = list_any (literal_holds value) clause
 -- ---- variables
 
 -- the literal by the variable of its name
-abbrev pub literal_of : {X : Type 0} → (X → ℕ) → LiteralOf X → Lit
-literal_of at l = record { var = at l.name; positive = l.positive }
+abbrev pub literal_with_variable : {X : Type 0} → (X → ℕ) → LiteralOf X → Lit
+literal_with_variable at l = record { var = at l.name; positive = l.positive }
 
 -- clauses by the variables of the names, one by one and literal by literal
 abbrev pub written_as : {X : Type 0} → (X → ℕ) → List (List (LiteralOf X)) → List Clause
-written_as at list = map (λ named. map (literal_of at) named) list
+written_as at list = map (λ named. map (literal_with_variable at) named) list
 
 -- no variable has two names, and no name two variables
 abbrev pub AreOnce : {X : Type 0} → List (ℕ × X) → Type 0

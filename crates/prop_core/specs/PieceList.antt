@@ -8,18 +8,18 @@ pub record PieceList (X : Type 0) : Type 0 where
   pub spare_items : ℕ
 
 -- the lists from a place of the items on, of which each ends where the next begins
-abbrev pub pieces_from : {X : Type 0} → List X → ℕ → List ℕ → List (List X)
-pieces_from items start [] = []
-pieces_from items start (end ∷ ends) = slice_range items start end ∷ pieces_from items end ends
+abbrev pub pieces_by_ends : {X : Type 0} → List X → ℕ → List ℕ → List (List X)
+pieces_by_ends items start [] = []
+pieces_by_ends items start (end ∷ ends) = slice_range items start end ∷ pieces_by_ends items end ends
 
 -- the lists from the first item on, by the places where they end
 abbrev pub pieces_of : {X : Type 0} → List X → List ℕ → List (List X)
-pieces_of items ends = pieces_from items 0 ends
+pieces_of items ends = pieces_by_ends items 0 ends
 
 -- from a place on the ends ascend, and the last is this one
-abbrev pub IsCutInto : ℕ → ℕ → List ℕ → Type 0
-IsCutInto start last [] = start ≡ last
-IsCutInto start last (end ∷ ends) = (start ≤ end) × IsCutInto end last ends
+abbrev pub EndsAscend : ℕ → ℕ → List ℕ → Type 0
+EndsAscend start last [] = start ≡ last
+EndsAscend start last (end ∷ ends) = (start ≤ end) × EndsAscend end last ends
 
 -- so many items later
 abbrev pub later_by : ℕ → ℕ → ℕ

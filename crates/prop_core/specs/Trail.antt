@@ -33,13 +33,13 @@ abbrev pub is_forced_by : List Lit → Lit → Clause → Bool
 is_forced_by taken l clause = list_any (same_literal l) clause && list_all (λ k. same_literal l k || is_false taken k) clause
 
 -- a literal with its reason: the clause that forced it, or none where it was decided
-pub record Placed : Type 0 where
+pub record PlacedLiteral : Type 0 where
   pub literal : Lit
   pub reason : Option Clause
 
 -- the literals of a trail, in their order and without their reasons
-abbrev pub literals_of : List Placed → List Lit
-literals_of places = map (λ (p : Placed). p.literal) places
+abbrev pub literals_of : List PlacedLiteral → List Lit
+literals_of places = map (λ (p : PlacedLiteral). p.literal) places
 
 -- Just before a decision all clauses are quiet; any other literal has a clause that forces it.
 abbrev pub HasReason : List Clause → List Lit → Lit → Option Clause → Type 0
@@ -47,19 +47,19 @@ HasReason clauses before l None = all_quiet before clauses ≡ true
 HasReason clauses before l (Some clause) = Contains clauses clause × (is_forced_by before l clause ≡ true)
 
 -- each place, after those before it
-abbrev pub EachPlaced : List Clause → List Lit → List Placed → Type 0
+abbrev pub EachPlaced : List Clause → List Lit → List PlacedLiteral → Type 0
 EachPlaced clauses before [] = Unit {0}
 EachPlaced clauses before (p ∷ places) = HasReason clauses before p.literal p.reason × EachPlaced clauses (before ++ p.literal ∷ []) places
 
 -- a trail over clauses
-pub record IsTrail (clauses : List Clause) (trail : List Placed) : Type 0 where
+pub record IsTrail (clauses : List Clause) (trail : List PlacedLiteral) : Type 0 where
   pub once : HasVarsOnce (literals_of trail)
   pub each : EachPlaced clauses [] trail
 
 -- A further conflict: a trail over the clauses that makes all assumptions true, has a decision that is no assumption, and
 -- makes a clause false.
 pub record Clashes (clauses : List Clause) (assumed : List Lit) : Type 0 where
-  pub trail : List Placed
+  pub trail : List PlacedLiteral
   pub is_trail : IsTrail clauses trail
   pub assumes : list_all (is_true (literals_of trail)) assumed ≡ true
   pub decision : Lit

@@ -1,6 +1,6 @@
 // Lists that stand one behind another.
 ghost use Rattle.std.specs.Prelude.{◌≡◌, ℕ, ◌<◌, ◌≤◌, ◌+◌, ◌-◌, ◌^◌, ◌++◌, ◌∷◌, [], length, map, max, OnOk, OnErr, Some, slice_get, slice_index_or, vec_len, vec_capacity};
-ghost use Rattle.prop_core.specs.PieceList.{IsCutInto, later_by};
+ghost use Rattle.prop_core.specs.PieceList.{EndsAscend, later_by};
 
 use des_base::Memory;
 use std::alloc::Global;
@@ -18,14 +18,14 @@ pub struct Pieces<T> {
 
 impl<T> Model for Pieces<T> {
     ghost use Rattle.std.specs.Prelude.{◌+◌, ◌<◌, ◌≤◌, ◌^◌, vec_len, vec_capacity};
-    ghost use Rattle.prop_core.specs.PieceList.{PieceList, pieces_of, IsCutInto};
+    ghost use Rattle.prop_core.specs.PieceList.{PieceList, pieces_of, EndsAscend};
 
     ghost Value = { PieceList T };
 
     ghost view = { λ a. record { pieces = pieces_of a.items.items a.ends.items; spare_pieces = a.spare_pieces; spare_items = a.spare_items } };
 
     ghost invariant = { λ a. record {
-      cut : IsCutInto 0 (vec_len a.items) a.ends.items;
+      cut : EndsAscend 0 (vec_len a.items) a.ends.items;
       room_ends : vec_len a.ends + a.spare_pieces ≤ vec_capacity a.ends;
       room_items : vec_len a.items + a.spare_items ≤ vec_capacity a.items;
       few_ends : vec_len a.ends + a.spare_pieces < 2 ^ 32;
@@ -171,7 +171,7 @@ fn make_room<X>(items: &mut Vec<X>, spare: usize, more: usize) -> Result<(), Mem
 // Adds ends of lists that are to stand so many items later, in room that is there.
 fn append_ends(ends: &mut Vec<u32>, later: u32, more: &[u32])
     requires room { vec_len ends.old + length more.now ≤ vec_capacity ends.old }
-    requires small { (count : ℕ) × IsCutInto 0 count more.now × (later + count < 2 ^ 32) }
+    requires small { (count : ℕ) × EndsAscend 0 count more.now × (later + count < 2 ^ 32) }
     ensures added { ends.new.items ≡ ends.old.items ++ map (later_by later) more.now }
     ensures len { vec_len ends.new ≡ vec_len ends.old + length more.now }
     ensures capacity { vec_capacity ends.old ≤ vec_capacity ends.new }

@@ -44,13 +44,13 @@ abbrev pub pair_of : Log → List RunStep → List ℕ × List Entry
 pair_of log run = (word_of run, order_of log run)
 
 -- an event has the name of an alarm where it can be seen, and nowhere else
-abbrev pub IsNamed : Net → RunStep → Type 0
-IsNamed net (Happens event alarm) = is_some alarm ≡ is_some (label_of net event)
-IsNamed net (Dropped alarm) = ⊤
+abbrev pub IsNamedWhereSeen : Net → RunStep → Type 0
+IsNamedWhereSeen net (Happens event alarm) = is_some alarm ≡ is_some (label_of net event)
+IsNamedWhereSeen net (Dropped alarm) = ⊤
 
 -- and the alarm on the step is the log's
 pub record IsMatched (net : Net) (log : Log) (step : RunStep) : Type 0 where
-  pub named : IsNamed net step
+  pub named : IsNamedWhereSeen net step
   pub known : IfSome (name_on step) (λ name. IsSome (place_of name (names_of log.alarms)))
 
 -- exactly the events that can be seen have alarms, and all alarms of the run are in the log

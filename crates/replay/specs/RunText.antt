@@ -34,25 +34,25 @@ stated_length (word ∷ count ∷ []) = if bytes_eq word (codes "run") then numb
 stated_length (word ∷ count ∷ more ∷ words) = None
 
 -- with this word the line of a false alarm begins; it is no name
-abbrev pub is_mark : List ℕ → Bool
-is_mark word = bytes_eq word (codes "!")
+abbrev pub is_false_alarm_mark : List ℕ → Bool
+is_false_alarm_mark word = bytes_eq word (codes "!")
 
 -- the words of a step's line: its event or the mark of a false alarm, and the name of an alarm where there is one, as after the mark
 abbrev pub step_words : List (List ℕ) → Option (List ℕ × Option (List ℕ))
 step_words [] = None
-step_words (event ∷ []) = if is_mark event then None else Some (event, None)
+step_words (event ∷ []) = if is_false_alarm_mark event then None else Some (event, None)
 step_words (event ∷ alarm ∷ []) = Some (event, Some alarm)
 step_words (event ∷ alarm ∷ more ∷ words) = None
 
 -- those of them that must be names
 abbrev pub names_in : List (List ℕ) → List (List ℕ)
 names_in [] = []
-names_in (event ∷ words) = if is_mark event then words else event ∷ words
+names_in (event ∷ words) = if is_false_alarm_mark event then words else event ∷ words
 
 -- the event is the network's
 abbrev pub knows_event : Net → List (List ℕ) → Bool
 knows_event net [] = false
-knows_event net (event ∷ words) = is_mark event || not (is_none (place_of event net.event_names))
+knows_event net (event ∷ words) = is_false_alarm_mark event || not (is_none (place_of event net.event_names))
 
 -- The first code of a step's line, where so many lines may still come. A counted line has a word, so code 2 is for more than two, or for the mark alone.
 abbrev pub step_code : Net → ℕ → List (List ℕ) → Option ℕ
@@ -94,7 +94,7 @@ first_fault net bytes = fault_of_lines net (last_line bytes) (after_reply_line (
 abbrev pub step_of : Net → List (List ℕ) → Option RunStep
 step_of net [] = None
 step_of net (event ∷ []) = option_map (λ e. Happens e None) (place_of event net.event_names)
-step_of net (event ∷ alarm ∷ words) = if is_mark event then Some (Dropped alarm) else option_map (λ e. Happens e (Some alarm)) (place_of event net.event_names)
+step_of net (event ∷ alarm ∷ words) = if is_false_alarm_mark event then Some (Dropped alarm) else option_map (λ e. Happens e (Some alarm)) (place_of event net.event_names)
 
 -- the steps that the lines say; a line whose event isn't known says none
 abbrev pub steps_of : Net → List NumberedLine → List RunStep
@@ -110,6 +110,6 @@ abbrev pub run_of : Net → List ℕ → List RunStep
 run_of net bytes = steps_of net (after_header (after_reply_line (counted_lines 35 bytes)))
 
 -- A refusal for a fault tells this one.
-abbrev pub Tells : Option RunFault → RunRefusal → Type 0
-Tells fault (Fault told) = fault ≡ Some told
-Tells fault Memory = ⊤
+abbrev pub TellsFault : Option RunFault → RunRefusal → Type 0
+TellsFault fault (Fault told) = fault ≡ Some told
+TellsFault fault Memory = ⊤

@@ -9,7 +9,7 @@ use Rattle.des_base.proofs.PlaceLemmas.{text_turned, text_itself}
 use Rattle.des_base.proofs.PrintedLines.{IsNameText}
 use Rattle.des_base.specs.CountedLines.{is_blank, is_counted}
 use Rattle.des_base.specs.Names.{AreDistinct, IsName, is_name_byte, is_name_text, place_of}
-use Rattle.replay.specs.RunText.{is_mark}
+use Rattle.replay.specs.RunText.{is_false_alarm_mark}
 
 -- ---- words
 
@@ -54,9 +54,9 @@ own_place (name ∷ names) (suc k) distinct l =
     (other_text name names k (omega arith) distinct.0) (own_place names k distinct.1 (omega arith))
 
 -- a name isn't the mark of a false alarm
-pub no_mark : (text : List ℕ) → is_name_text text ≡ true → is_mark text ≡ false
+pub no_mark : (text : List ℕ) → is_name_text text ≡ true → is_false_alarm_mark text ≡ false
 unfolding is_name_text is_name_byte
-no_mark text h = otherwise (is_mark text) (λ marked.
+no_mark text h = otherwise (is_false_alarm_mark text) (λ marked.
     let same : text ≡ codes "!" = (bytes_eq-Decides text (codes "!")).0 marked in
     let no_name : is_name_text text ≡ false = ap is_name_text same in
     cc)

@@ -11,8 +11,8 @@ use Rattle.replay.specs.declared.run.RunStep.{RunStep}
 use Rattle.replay.specs.declared.run.RunStep.TheVariants.{Happens, Dropped}
 use Rattle.least_faults.specs.declared.answer.Found.TheVariants.{Explained, Absent, Many, Undecided}
 use Rattle.report.specs.Replies.{text_of_alarm, text_of_step, text_of_run}
-use Rattle.telling.specs.Lines.{numbered, placed}
-use Rattle.report.specs.ReadBack.{HasNames, RepliesAreShort, RepliesFit}
+use Rattle.telling.specs.Lines.{line_with_number, line_with_two_numbers}
+use Rattle.report.specs.ReadBack.{HasAlarmNames, RepliesAreShort, RepliesFit}
 use Rattle.report.specs.VerdictTexts.{RunsFit}
 use Rattle.des_base.proofs.PrintedLines.{name_text}
 
@@ -44,11 +44,11 @@ name_at-length (name ∷ names) (suc k) h = name_at-length names k h.1
 
 -- ---- lines
 
-numbered-length : (words : List ℕ) (n : ℕ) → length (numbered words n) ≤ length words + 65
-numbered-length words n = omega (arith, length-append (words ++ decimal n) (10 ∷ []), length-append words (decimal n), decimal-length n)
+line_with_number-length : (words : List ℕ) (n : ℕ) → length (line_with_number words n) ≤ length words + 65
+line_with_number-length words n = omega (arith, length-append (words ++ decimal n) (10 ∷ []), length-append words (decimal n), decimal-length n)
 
-placed-length : (words : List ℕ) (first second : ℕ) → length (placed words first second) ≤ length words + 130
-placed-length words first second =
+line_with_two_numbers-length : (words : List ℕ) (first second : ℕ) → length (line_with_two_numbers words first second) ≤ length words + 130
+line_with_two_numbers-length words first second =
     omega (arith, length-append (words ++ decimal first ++ 32 ∷ decimal second) (10 ∷ []), length-append (words ++ decimal first) (32 ∷ decimal second), length-append words (decimal first), decimal-length first, decimal-length second)
 
 alarm-length : (alarm : Option (List ℕ)) → IfSome alarm IsName → length (text_of_alarm alarm) ≤ 65
@@ -61,7 +61,7 @@ step-length net (Happens event alarm) names h =
     omega (arith, length-append (name ++ text_of_alarm alarm) (10 ∷ []), length-append name (text_of_alarm alarm), name_at-length net.event_names event names, alarm-length alarm h)
 step-length net (Dropped alarm) names h = omega (arith, length-append (codes "! " ++ alarm) (10 ∷ []), length-append (codes "! ") alarm, name-length alarm h)
 
-steps-length : (net : Net) (steps : List RunStep) → AllByRecursion IsName net.event_names → HasNames steps → length (flat_map (text_of_step net) steps) ≤ 130 * length steps
+steps-length : (net : Net) (steps : List RunStep) → AllByRecursion IsName net.event_names → HasAlarmNames steps → length (flat_map (text_of_step net) steps) ≤ 130 * length steps
 steps-length net [] names h = omega arith
 steps-length net (step ∷ steps) names h =
     omega (
@@ -71,24 +71,24 @@ steps-length net (step ∷ steps) names h =
       steps-length net steps names (All-tail (λ (s : RunStep). IfSome (name_on s) IsName) step steps h),
     )
 
-run-length : (net : Net) (steps : List RunStep) → AllByRecursion IsName net.event_names → HasNames steps → length (text_of_run net steps) ≤ 130 * length steps + 69
+run-length : (net : Net) (steps : List RunStep) → AllByRecursion IsName net.event_names → HasAlarmNames steps → length (text_of_run net steps) ≤ 130 * length steps + 69
 run-length net steps names h =
-    omega (arith, length-append (numbered (codes "run ") (length steps)) (flat_map (text_of_step net) steps), numbered-length (codes "run ") (length steps), steps-length net steps names h)
+    omega (arith, length-append (line_with_number (codes "run ") (length steps)) (flat_map (text_of_step net) steps), line_with_number-length (codes "run ") (length steps), steps-length net steps names h)
 
 -- ---- replies
 
-behind_line : (net : Net) (line : List ℕ) (steps : List RunStep) → length line ≤ 140 → AllByRecursion IsName net.event_names → HasNames steps → length (line ++ text_of_run net steps) ≤ 130 * length steps + 209
+behind_line : (net : Net) (line : List ℕ) (steps : List RunStep) → length line ≤ 140 → AllByRecursion IsName net.event_names → HasAlarmNames steps → length (line ++ text_of_run net steps) ≤ 130 * length steps + 209
 behind_line net line steps short names h = omega (arith, length-append line (text_of_run net steps), run-length net steps names h)
 
 unknown-length : (lo : ℕ) → length (codes "UNDECIDED " ++ decimal lo ++ codes " -\n") ≤ 209
 unknown-length lo = omega (arith, length-append (codes "UNDECIDED " ++ decimal lo) (codes " -\n"), length-append (codes "UNDECIDED ") (decimal lo), decimal-length lo)
 
 pub replies_are_short : RepliesAreShort
-replies_are_short net n (Explained best) whole h = behind_line net (numbered (codes "EXPLAINED ") best.faults) best.run (omega (arith, numbered-length (codes "EXPLAINED ") best.faults)) whole.event_names.each h
-replies_are_short net n Absent whole h = omega (arith, numbered-length (codes "NONE ") n)
+replies_are_short net n (Explained best) whole h = behind_line net (line_with_number (codes "EXPLAINED ") best.faults) best.run (omega (arith, line_with_number-length (codes "EXPLAINED ") best.faults)) whole.event_names.each h
+replies_are_short net n Absent whole h = omega (arith, line_with_number-length (codes "NONE ") n)
 replies_are_short net n (Many best) whole h = behind_line net (codes "MANY 255\n") best.run (omega arith) whole.event_names.each h
 replies_are_short net n (Undecided lo None) whole h = omega (arith, unknown-length lo)
-replies_are_short net n (Undecided lo (Some best)) whole h = behind_line net (placed (codes "UNDECIDED ") lo best.faults) best.run (omega (arith, placed-length (codes "UNDECIDED ") lo best.faults)) whole.event_names.each h
+replies_are_short net n (Undecided lo (Some best)) whole h = behind_line net (line_with_two_numbers (codes "UNDECIDED ") lo best.faults) best.run (omega (arith, line_with_two_numbers-length (codes "UNDECIDED ") lo best.faults)) whole.event_names.each h
 
 short_enough : (bytes steps : ℕ) → bytes ≤ 130 * steps + 209 → steps ≤ 4000000 → bytes ≤ 536870912
 short_enough bytes steps short few = omega arith

@@ -14,13 +14,13 @@ use Rattle.des_base.specs.Names.{AreNames, IsName, is_name_text, place_of}
 use Rattle.des_base.specs.Numbers.{up_to}
 use Rattle.des_net.specs.Network.{Net}
 use Rattle.replay.specs.Matching.{name_on}
-use Rattle.replay.specs.RunText.{stated_length, is_mark, step_words, names_in, knows_event, step_code, fault_at, first_fault_in, shortage, fault_of_steps, step_of, steps_of}
+use Rattle.replay.specs.RunText.{stated_length, is_false_alarm_mark, step_words, names_in, knows_event, step_code, fault_at, first_fault_in, shortage, fault_of_steps, step_of, steps_of}
 use Rattle.replay.specs.Traced.{word_of}
 use Rattle.replay.specs.declared.run.RunStep.{RunStep}
 use Rattle.replay.specs.declared.run.RunStep.TheVariants.{Happens, Dropped}
 use Rattle.replay.specs.declared.run_text.RunFault.{RunFault}
 use Rattle.report.specs.Replies.{text_of_alarm, text_of_step, text_of_run}
-use Rattle.report.specs.ReadBack.{HasNames}
+use Rattle.report.specs.ReadBack.{HasAlarmNames}
 use Rattle.report.proofs.DecimalWords.{decimal_bytes, decimal_word}
 use Rattle.report.proofs.NameWords.{no_mark, name_counts, name_at, own_place}
 
@@ -85,7 +85,7 @@ no_code a b c d h1 h2 h3 h4 = rw (h1, h2, h3, h4) refl
 some_left : (left : ℕ) → 0 < left → nat_le left 0 ≡ false
 some_left left h = grind (arith, nat_tests)
 
-two_words : (event : List ℕ) (alarm : Option (List ℕ)) → is_mark event ≡ false → is_none (step_words (event ∷ alarm_words alarm)) ≡ false
+two_words : (event : List ℕ) (alarm : Option (List ℕ)) → is_false_alarm_mark event ≡ false → is_none (step_words (event ∷ alarm_words alarm)) ≡ false
 two_words event None unmarked = ap (λ b. is_none {T = List ℕ × Option (List ℕ)} (cond b None (Some (event, None)))) unmarked
 two_words event (Some alarm) unmarked = refl
 
@@ -140,7 +140,7 @@ abbrev pub AreNamed : Net → List RunStep → Type 0
 AreNamed net [] = ⊤
 AreNamed net (step ∷ steps) = IsNamed net step × AreNamed net steps
 
-pub are_named : (net : Net) (steps : List RunStep) → AreNames net.event_names → length net.event_names ≡ length net.events → All (λ e. e < length net.events) (word_of steps) → HasNames steps
+pub are_named : (net : Net) (steps : List RunStep) → AreNames net.event_names → length net.event_names ≡ length net.events → All (λ e. e < length net.events) (word_of steps) → HasAlarmNames steps
     → AreNamed net steps
 are_named net [] names called known named = tt
 are_named net (Happens event alarm ∷ steps) names called known named =

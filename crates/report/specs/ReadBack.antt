@@ -12,13 +12,13 @@ use Rattle.least_faults.specs.declared.answer.Found.{Found}
 use Rattle.report.specs.Replies.{text_of_run, text_of_found, told_run}
 
 -- the alarms of a run have names
-abbrev pub HasNames : List RunStep → Type 0
-HasNames steps = All (λ step. IfSome (name_on step) IsName) steps
+abbrev pub HasAlarmNames : List RunStep → Type 0
+HasAlarmNames steps = All (λ step. IfSome (name_on step) IsName) steps
 
 -- a run of the network's events, whose alarms have names, and with no more steps than a run text may have
 pub record IsPrintable (net : Net) (steps : List RunStep) : Type 0 where
   pub known : All (λ e. e < length net.events) (word_of steps)
-  pub named : HasNames steps
+  pub named : HasAlarmNames steps
   pub few : length steps ≤ 4000000
 
 -- The text is a run text without a fault, and this is its run.
@@ -41,7 +41,7 @@ told_steps found = option_map_or (λ best. best.run) (told_run found) []
 
 -- A reply has at most 130 bytes for each step of its run, and 209 before them.
 abbrev pub RepliesAreShort : Type 0
-RepliesAreShort = (net : Net) (n : ℕ) (found : Found) → IsDraft net → HasNames (told_steps found) → length (text_of_found net n found) ≤ 130 * length (told_steps found) + 209
+RepliesAreShort = (net : Net) (n : ℕ) (found : Found) → IsDraft net → HasAlarmNames (told_steps found) → length (text_of_found net n found) ≤ 130 * length (told_steps found) + 209
 
 -- A reply that tells a run is no longer than a run text may be.
 abbrev pub RepliesFit : Type 0

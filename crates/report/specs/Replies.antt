@@ -16,7 +16,7 @@ use Rattle.replay.specs.declared.run.RunStep.TheVariants.{Happens, Dropped}
 use Rattle.replay.specs.Traced.{word_of}
 use Rattle.replay.specs.declared.tracing.Traced.{Traced}
 use Rattle.replay.specs.declared.tracing.Traced.TheVariants.{Ran, Stuck}
-use Rattle.telling.specs.Lines.{numbered, placed}
+use Rattle.telling.specs.Lines.{line_with_number, line_with_two_numbers}
 use Rattle.twin_test.specs.declared.answer.Twin.{Twin}
 use Rattle.twin_test.specs.declared.answer.Twin.TheVariants.{Ambiguous, Clear, Undecided as NotTested}
 
@@ -34,26 +34,26 @@ paired words first second = words ++ first ++ 32 ∷ second ++ 10 ∷ []
 
 -- the number of faults of the run, or the place of the first event that the network can't perform
 abbrev pub text_of_traced : Traced → List ℕ
-text_of_traced (Ran faults) = numbered (codes "RAN ") faults
-text_of_traced (Stuck at) = numbered (codes "REJECTED STUCK ") at
+text_of_traced (Ran faults) = line_with_number (codes "RAN ") faults
+text_of_traced (Stuck at) = line_with_number (codes "REJECTED STUCK ") at
 
 -- alarms are told by their names
 abbrev pub text_of_replayed : List (List ℕ) → Replayed → List ℕ
-text_of_replayed names (Accepted faults) = numbered (codes "ACCEPTED ") faults
-text_of_replayed names (AtEvent at) = numbered (codes "REJECTED STUCK ") at
-text_of_replayed names (BadAlarm at) = numbered (codes "REJECTED ALARM ") at
+text_of_replayed names (Accepted faults) = line_with_number (codes "ACCEPTED ") faults
+text_of_replayed names (AtEvent at) = line_with_number (codes "REJECTED STUCK ") at
+text_of_replayed names (BadAlarm at) = line_with_number (codes "REJECTED ALARM ") at
 text_of_replayed names (Missing alarm) = named (codes "REJECTED MISSING ") (slice_index_or names alarm [])
 text_of_replayed names (Order first second) = paired (codes "REJECTED ORDER ") (slice_index_or names first []) (slice_index_or names second [])
-text_of_replayed names (TooWide pieces) = numbered (codes "REJECTED WIDE ") pieces
+text_of_replayed names (TooWide pieces) = line_with_number (codes "REJECTED WIDE ") pieces
 
 -- that the proof is verified, or the line and the kind of its first fault
 abbrev pub text_of_checked : Checked → List ℕ
 text_of_checked Verified = codes "VERIFIED\n"
-text_of_checked (Rejected line kind) = placed (codes "REJECTED ") line kind
+text_of_checked (Rejected line kind) = line_with_two_numbers (codes "REJECTED ") line kind
 
 -- by the number of the refusal
 abbrev pub text_of_refused : ℕ → List ℕ
-text_of_refused number = numbered (codes "REFUSED ") number
+text_of_refused number = line_with_number (codes "REFUSED ") number
 
 -- ---- runs
 
@@ -69,19 +69,19 @@ text_of_step net (Dropped alarm) = named (codes "! ") alarm
 
 -- the number of the steps, and then a line for each
 abbrev pub text_of_run : Net → List RunStep → List ℕ
-text_of_run net steps = numbered (codes "run ") (length steps) ++ flat_map (text_of_step net) steps
+text_of_run net steps = line_with_number (codes "run ") (length steps) ++ flat_map (text_of_step net) steps
 
 -- ---- what was found of the least number of faults
 
 -- the faults that are needed, those of the run that is known, and the run
 abbrev pub text_of_bounds : Net → ℕ → Option Best → List ℕ
-text_of_bounds net lo (Some best) = placed (codes "UNDECIDED ") lo best.faults ++ text_of_run net best.run
+text_of_bounds net lo (Some best) = line_with_two_numbers (codes "UNDECIDED ") lo best.faults ++ text_of_run net best.run
 text_of_bounds net lo None = codes "UNDECIDED " ++ decimal lo ++ codes " -\n"
 
 -- by the number of steps within which it was asked
 abbrev pub text_of_found : Net → ℕ → Found → List ℕ
-text_of_found net n (Explained best) = numbered (codes "EXPLAINED ") best.faults ++ text_of_run net best.run
-text_of_found net n Absent = numbered (codes "NONE ") n
+text_of_found net n (Explained best) = line_with_number (codes "EXPLAINED ") best.faults ++ text_of_run net best.run
+text_of_found net n Absent = line_with_number (codes "NONE ") n
 text_of_found net n (Many best) = codes "MANY 255\n" ++ text_of_run net best.run
 text_of_found net n (Undecided lo best) = text_of_bounds net lo best
 
@@ -107,8 +107,8 @@ text_of_both net faulty healthy = (codes "faulty\n" ++ text_of_run net faulty) +
 
 -- by the number of steps within which it was asked: both runs, or that there are none
 abbrev pub text_of_twin : Net → ℕ → Twin → List ℕ
-text_of_twin net n (Ambiguous faulty healthy) = numbered (codes "AMBIGUOUS ") n ++ text_of_both net faulty healthy
-text_of_twin net n Clear = numbered (codes "CLEAR ") n
+text_of_twin net n (Ambiguous faulty healthy) = line_with_number (codes "AMBIGUOUS ") n ++ text_of_both net faulty healthy
+text_of_twin net n Clear = line_with_number (codes "CLEAR ") n
 text_of_twin net n NotTested = codes "UNDECIDED\n"
 
 -- the events of the runs that are told, if they are, are the network's
@@ -121,13 +121,13 @@ TwinEventsKnown net NotTested = ⊤
 
 -- the total below which nothing explains, that of the run that is known, and the run
 abbrev pub text_of_totals : Net → ℕ → Option Priced → List ℕ
-text_of_totals net lo (Some priced) = placed (codes "UNDECIDED ") lo priced.cost ++ text_of_run net priced.run
+text_of_totals net lo (Some priced) = line_with_two_numbers (codes "UNDECIDED ") lo priced.cost ++ text_of_run net priced.run
 text_of_totals net lo None = codes "UNDECIDED " ++ decimal lo ++ codes " -\n"
 
 -- by the number of steps within which it was asked
 abbrev pub text_of_cheap : Net → ℕ → Cheap → List ℕ
-text_of_cheap net n (Cheapest priced) = numbered (codes "CHEAPEST ") priced.cost ++ text_of_run net priced.run
-text_of_cheap net n NotPriced = numbered (codes "NONE ") n
+text_of_cheap net n (Cheapest priced) = line_with_number (codes "CHEAPEST ") priced.cost ++ text_of_run net priced.run
+text_of_cheap net n NotPriced = line_with_number (codes "NONE ") n
 text_of_cheap net n (Dear run) = codes "DEAR 1000\n" ++ text_of_run net run
 text_of_cheap net n (NotWeighed lo best) = text_of_totals net lo best
 

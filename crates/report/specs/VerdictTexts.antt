@@ -10,15 +10,15 @@ use Rattle.report.specs.ReadBack.{IsPrintable}
 use Rattle.report.specs.Replies.{named, text_of_run}
 
 -- a word, the name of the event, and the end of the line
-abbrev pub event_line : Net → List ℕ → ℕ → List ℕ
-event_line net word event = named word (slice_index_or net.event_names event [])
+abbrev pub named_event_line : Net → List ℕ → ℕ → List ℕ
+named_event_line net word event = named word (slice_index_or net.event_names event [])
 
 -- the verdict and the event; where it is possible, the run that shows it
 abbrev pub text_of_verdict : Net → ℕ → Verdict → List ℕ
-text_of_verdict net event Certain = event_line net (codes "CERTAIN ") event
-text_of_verdict net event Excluded = event_line net (codes "EXCLUDED ") event
-text_of_verdict net event (Possible run) = event_line net (codes "POSSIBLE ") event ++ text_of_run net run
-text_of_verdict net event Open = event_line net (codes "OPEN ") event
+text_of_verdict net event Certain = named_event_line net (codes "CERTAIN ") event
+text_of_verdict net event Excluded = named_event_line net (codes "EXCLUDED ") event
+text_of_verdict net event (Possible run) = named_event_line net (codes "POSSIBLE ") event ++ text_of_run net run
+text_of_verdict net event Open = named_event_line net (codes "OPEN ") event
 
 -- the events of the run that a verdict shows, if it shows one, are the network's
 abbrev pub RunKnown : Net → Verdict → Type 0

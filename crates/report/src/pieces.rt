@@ -2,7 +2,7 @@
 ghost use Rattle.std.specs.Prelude.{◌≡◌, ◌++◌, take, OnErr, OnOk};
 ghost use Rattle.des_base.specs.Lists.{Extends};
 ghost use Rattle.report.specs.Replies.{named, paired};
-ghost use Rattle.telling.specs.Lines.{numbered, placed};
+ghost use Rattle.telling.specs.Lines.{line_with_number, line_with_two_numbers};
 
 use des_base::{Memory, push_decimal};
 
@@ -17,7 +17,7 @@ pub fn push_text(text: &str, out: &mut Vec<u8>) -> Result<(), Memory>
 
 /// Appends words, a number and the end of the line.
 pub fn push_numbered(words: &str, n: u64, out: &mut Vec<u8>) -> Result<(), Memory>
-    ensures ok { OnOk result (out.new.items ≡ out.old.items ++ numbered words.now n) }
+    ensures ok { OnOk result (out.new.items ≡ out.old.items ++ line_with_number words.now n) }
     ensures kept { Extends out.old.items out.new.items }
 {
     push_text(words, out)?;
@@ -27,7 +27,7 @@ pub fn push_numbered(words: &str, n: u64, out: &mut Vec<u8>) -> Result<(), Memor
 
 /// Appends words, two numbers and the end of the line.
 pub fn push_placed(words: &str, first: u64, second: u64, out: &mut Vec<u8>) -> Result<(), Memory>
-    ensures ok { OnOk result (out.new.items ≡ out.old.items ++ placed words.now first second) }
+    ensures ok { OnOk result (out.new.items ≡ out.old.items ++ line_with_two_numbers words.now first second) }
     ensures kept { Extends out.old.items out.new.items }
 {
     push_text(words, out)?;

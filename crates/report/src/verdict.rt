@@ -1,7 +1,7 @@
 // The text of a verdict on a fault event.
 ghost use Rattle.std.specs.Prelude.{◌≡◌, ◌<◌, ◌++◌, length, OnErr, OnOk};
 ghost use Rattle.des_base.specs.Lists.{Extends};
-ghost use Rattle.report.specs.VerdictTexts.{RunKnown, event_line, text_of_verdict};
+ghost use Rattle.report.specs.VerdictTexts.{RunKnown, named_event_line, text_of_verdict};
 
 use crate::pieces::{push_named, whole_or_nothing};
 use crate::run::{name_of, push_run};
@@ -53,7 +53,7 @@ fn push_verdict(
 // Appends a word, the name of the event, and the end of the line.
 fn push_event(word: &str, event: EventId, net: &Network, out: &mut Vec<u8>) -> Result<(), Memory>
     requires { event < length net.now.events }
-    ensures ok { OnOk result (out.new.items ≡ out.old.items ++ event_line net.now word.now event) }
+    ensures ok { OnOk result (out.new.items ≡ out.old.items ++ named_event_line net.now word.now event) }
     ensures kept { Extends out.old.items out.new.items }
 {
     push_named(word, name_of(net, event), out)

@@ -3,7 +3,7 @@ use Rattle.std.proofs.Common.{◌≡◌, ◌∙◌, ℕ, zero, suc, List, [], �
 use Rattle.std.specs.List.{range_with_len}
 use Rattle.card_counter.specs.CounterState.{without_columns}
 use Rattle.des_net.specs.Network.{Net}
-use Rattle.log_encode.specs.CodedLog.{CodedLog, code_names as log_names, false_literals, IsCodedLog}
+use Rattle.log_encode.specs.CodedLog.{CodedLog, log_names, false_literals, IsCodedLog}
 use Rattle.prop_core.proofs.Listed.{clause_written, listed_are_written}
 use Rattle.prop_core.specs.Clauses.{Clause}
 use Rattle.prop_core.specs.Listings.{written_by}

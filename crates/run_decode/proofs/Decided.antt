@@ -10,10 +10,10 @@ use Rattle.prop_core.specs.Clauses.{Clause, literal_true, clause_true, negation,
 use Rattle.prop_core.specs.declared.lit.Lit.{Lit}
 use Rattle.replay.specs.Explanation.{NeedsFaults, faults_of}
 use Rattle.run_decode.proofs.Questions.{question_is_faithful}
-use Rattle.run_decode.specs.Decided.{IsRefuted, Entails, FaithfulDecides, RefutedIsDecided, NoneIsLeast, QuestionIsDecided}
+use Rattle.run_decode.specs.Decided.{AreUnsatisfiable, Entails, FaithfulDecides, RefutedIsDecided, NoneIsLeast, QuestionIsDecided}
 use Rattle.run_decode.specs.Faithful.{IsFaithful}
 
-above : (net : Net) (log : Log) (n b : ℕ) (clauses : List Clause) (assumed : List Lit) → IsFaithful clauses assumed net log n (Some b) → IsRefuted clauses assumed → NeedsFaults net log n (suc b)
+above : (net : Net) (log : Log) (n b : ℕ) (clauses : List Clause) (assumed : List Lit) → IsFaithful clauses assumed net log n (Some b) → AreUnsatisfiable clauses assumed → NeedsFaults net log n (suc b)
 above net log n b clauses assumed faithful refuted word order explains = by (cases_lt b (faults_of net word order))
   where
     by : (b < faults_of net word order) ⊎ (faults_of net word order ≤ b) → suc b ≤ faults_of net word order
@@ -43,7 +43,7 @@ not_true assignment assumed all (l ∷ clause) negates h = by (either (literal_t
     by (inl here) later = opposite (assignment l.var) l.positive (all_at (λ m. IsTrue (literal_true assignment m)) assumed all (negation l) negates.0) here
     by (inr rest) later = later rest
 
-pub refuted_by : (clauses : List Clause) (assumed : List Lit) (clause : Clause) → Entails clauses clause → NegatesOnly assumed clause → IsRefuted clauses assumed
+pub refuted_by : (clauses : List Clause) (assumed : List Lit) (clause : Clause) → Entails clauses clause → NegatesOnly assumed clause → AreUnsatisfiable clauses assumed
 refuted_by clauses assumed clause entails negates assignment makes = not_true assignment assumed makes.assumed_true clause negates (entails assignment makes.clauses_true)
 
 pub refuted_is_decided : RefutedIsDecided

@@ -7,7 +7,7 @@ use Rattle.des_base.specs.Lists.{numbers_below}
 use Rattle.des_net.specs.Network.{Net, IsNetwork, label_of}
 use Rattle.des_net.specs.Width.{joined, IsPiece}
 use Rattle.log_order.specs.Log.{Log, ListsOnce, Keeps, IsValidLog}
-use Rattle.log_clauses.specs.Decoded.{event_at, comes, is_false, shown_at, unobservables, arranged, decoded}
+use Rattle.log_clauses.specs.Decoded.{alarm_event, comes, is_false_alarm, shown_at, unobservables, arranged, decoded}
 use Rattle.log_clauses.specs.LogLaws.{IsArranged}
 use Rattle.log_clauses.specs.LogTruth.{LogClausesHold, GuardsHold}
 use Rattle.log_clauses.proofs.Lists.{filter_from, all_at}
@@ -20,7 +20,7 @@ use Rattle.replay.specs.Traced.{word_of, event_of}
 use Rattle.run_clauses.proofs.Exact.{steps_are_exact}
 use Rattle.run_clauses.proofs.Lists.{from_numbers, in_numbers}
 use Rattle.run_clauses.specs.Steps.{IsOrderOf, events_at, step_sets}
-use Rattle.run_decode.specs.Decoding.{plain_step, alarm_step, shown_steps, is_plain, plain_events, falls, no_event, first_steps, decoded_step, decoded_run}
+use Rattle.run_decode.specs.Decoding.{plain_step, alarm_step, shown_steps, is_plain, plain_events, falls, no_alarm_event, first_steps, decoded_step, decoded_run}
 use Rattle.run_decode.proofs.ShownSteps.{shown_word}
 use Rattle.run_decode.proofs.SmallPieces.{piece_small}
 use Rattle.log_clauses.proofs.Rules.{false_first}
@@ -39,16 +39,16 @@ word_append xs ys = filter_map-append event_of xs ys
 
 -- what the clauses of a log settle of its alarms in each step
 pub record AreSettled (net : Net) (log : Log) (n : ℕ) (value : Name → Bool) : Type 0 where
-  pub at : (t i : ℕ) → t < n → i < length log.alarms → comes value i (suc t) && not (is_false log value i) ≡ is_some (event_at net log value t i)
-  pub first : (i : ℕ) → i < length log.alarms → comes value i 0 && not (is_false log value i) ≡ false
+  pub at : (t i : ℕ) → t < n → i < length log.alarms → comes value i (suc t) && not (is_false_alarm log value i) ≡ is_some (alarm_event net log value t i)
+  pub first : (i : ℕ) → i < length log.alarms → comes value i 0 && not (is_false_alarm log value i) ≡ false
 
 pub are_settled : (net : Net) (log : Log) (n : ℕ) (value : Name → Bool) (order : List ℕ) → LogClausesHold net log n value → GuardsHold net log value → ListsOnce (length log.alarms) order → Keeps order log.pairs → AreSettled net log n value
 are_settled net log n value order logged guarded listed kept = record {
   at = real_at net log n value logged guarded order listed kept;
-  first = λ i known. by (value (done i 0)) refl (is_false log value i) refl (false_first net log n value logged i known);
+  first = λ i known. by (value (done i 0)) refl (is_false_alarm log value i) refl (false_first net log n value logged i known);
 }
   where
-    by : {i : ℕ} (a : Bool) → value (done i 0) ≡ a → (b : Bool) → is_false log value i ≡ b → (value (done i 0) ≡ true → is_false log value i ≡ true) → value (done i 0) && not (is_false log value i) ≡ false
+    by : {i : ℕ} (a : Bool) → value (done i 0) ≡ a → (b : Bool) → is_false_alarm log value i ≡ b → (value (done i 0) ≡ true → is_false_alarm log value i ≡ true) → value (done i 0) && not (is_false_alarm log value i) ≡ false
     by true e true f h = rw (e, f) refl
     by true e false f h = let bad : false ≡ true = sym f ∙ h e in cc
     by false e b f h = rw e refl
@@ -81,16 +81,16 @@ pub step_word : (net : Net) (log : Log) (n : ℕ) (value : Name → Bool) (order
     word_of (decoded_step net log value order t) ≡ piece net (without_names log) value order t
 step_word net log n value order t settled known time =
     let bare = without_names log in
-    let shown = shown_steps log (event_at net bare value t) (falls bare value (suc t)) order in
+    let shown = shown_steps log (alarm_event net bare value t) (falls bare value (suc t)) order in
     word_append (map plain_step (plain_events net value t)) shown
     ∙ ap (λ xs. xs ++ word_of shown) (plain_word (plain_events net value t) ∙ plain_is net value t)
-    ∙ ap (λ xs. unobservables net (events_at net value (suc t)) ++ xs) (shown_word log (event_at net bare value t) (falls bare value (suc t)) order (λ i in' fallen.
-    none_of (comes value i (suc t)) (is_false bare value i) (event_at net bare value t i) (settled.at t i time (all_at (λ j. j < length bare.alarms) order known i in')) fallen))
+    ∙ ap (λ xs. unobservables net (events_at net value (suc t)) ++ xs) (shown_word log (alarm_event net bare value t) (falls bare value (suc t)) order (λ i in' fallen.
+    none_of (comes value i (suc t)) (is_false_alarm bare value i) (alarm_event net bare value t i) (settled.at t i time (all_at (λ j. j < length bare.alarms) order known i in')) fallen))
 
 first_word : (log : Log) (value : Name → Bool) (order : List ℕ) → word_of (first_steps log value order) ≡ []
-first_word log value order = shown_word log no_event (falls (without_names log) value 0) order (λ i in' h. refl) ∙ none order
+first_word log value order = shown_word log no_alarm_event (falls (without_names log) value 0) order (λ i in' h. refl) ∙ none order
   where
-    none : (xs : List ℕ) → filter_map no_event xs ≡ []
+    none : (xs : List ℕ) → filter_map no_alarm_event xs ≡ []
     none [] = refl
     none (x ∷ xs) = none xs
 
@@ -160,7 +160,7 @@ step_small net log n t value order network valid stepped logged guarded listed k
     from_numbers (length net.events) q (filter_from (λ e. value (happens e (suc t))) (numbers_below (length net.events)) q ((order_of_step.same q).0 h)).1)) apart in
     let parts = length-append (unobservables net (events_at net value (suc t))) (shown_at net bare value order t) in
     let plain = ap length (plain_is net value t) in
-    let shown = shown_short log (event_at net bare value t) (falls bare value (suc t)) order in
-    let whole = length-append (map plain_step (plain_events net value t)) (shown_steps log (event_at net bare value t) (falls bare value (suc t)) order) in
+    let shown = shown_short log (alarm_event net bare value t) (falls bare value (suc t)) order in
+    let whole = length-append (map plain_step (plain_events net value t)) (shown_steps log (alarm_event net bare value t) (falls bare value (suc t)) order) in
     let mapped = map_count plain_step (plain_events net value t) in
     omega (arith, few, parts, plain, shown, whole, mapped)

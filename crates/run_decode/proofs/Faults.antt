@@ -9,7 +9,7 @@ use Rattle.des_net.specs.Network.{Net, is_fault}
 use Rattle.des_net.specs.Width.{joined}
 use Rattle.log_clauses.proofs.Entries.{same_size}
 use Rattle.log_clauses.proofs.Lists.{filter_has, filter_from, pairs_filter}
-use Rattle.log_clauses.specs.Decoded.{is_false}
+use Rattle.log_clauses.specs.Decoded.{is_false_alarm}
 use Rattle.log_order.specs.Log.{Log, is_doubtful}
 use Rattle.log_clauses.proofs.Pieces.{IsStepSet, AreFrom, pieces_are_steps}
 use Rattle.prop_core.specs.NamedClauses.{named_true}
@@ -89,19 +89,19 @@ named_count value (name ∷ names) =
     omega (arith, rest, left, right)
 
 -- names are true as inputs where they are as names, of doubtful alarms alone
-doubtful_count_is : (log : Log) (value : Name → Bool) (xs : List ℕ) → count_by value (map (λ i. dropped i) (filter (is_doubtful log) xs)) ≡ count_by (is_false log value) xs
+doubtful_count_is : (log : Log) (value : Name → Bool) (xs : List ℕ) → count_by value (map (λ i. dropped i) (filter (is_doubtful log) xs)) ≡ count_by (is_false_alarm log value) xs
 doubtful_count_is log value [] = refl
 doubtful_count_is log value (x ∷ xs) = by (is_doubtful log x) refl (doubtful_count_is log value xs)
   where
-    by : (b : Bool) → is_doubtful log x ≡ b → count_by value (map (λ i. dropped i) (filter (is_doubtful log) xs)) ≡ count_by (is_false log value) xs →
-        count_by value (map (λ i. dropped i) (cond b (x ∷ filter (is_doubtful log) xs) (filter (is_doubtful log) xs))) ≡ count_by (is_false log value) (x ∷ xs)
+    by : (b : Bool) → is_doubtful log x ≡ b → count_by value (map (λ i. dropped i) (filter (is_doubtful log) xs)) ≡ count_by (is_false_alarm log value) xs →
+        count_by value (map (λ i. dropped i) (cond b (x ∷ filter (is_doubtful log) xs) (filter (is_doubtful log) xs))) ≡ count_by (is_false_alarm log value) (x ∷ xs)
     by true e rest =
         let left = count_cons value (dropped x) (map (λ i. dropped i) (filter (is_doubtful log) xs)) in
-        let right = count_cons (is_false log value) x xs in
+        let right = count_cons (is_false_alarm log value) x xs in
         let same = ap {B = ℕ} (λ b. cond (b && value (dropped x)) 1 0) e in
         omega (arith, rest, left, right, same)
     by false e rest =
-        let right = count_cons (is_false log value) x xs in
+        let right = count_cons (is_false_alarm log value) x xs in
         let same = ap {B = ℕ} (λ b. cond (b && value (dropped x)) 1 0) e in
         omega (arith, rest, right, same)
 

@@ -14,7 +14,7 @@ use Rattle.des_net.specs.QuestionSize.{step_variables, counter_size, fault_event
 use Rattle.log_clauses.proofs.NewNames.{names_leave_room, first_names_are_all}
 use Rattle.log_clauses.specs.Additions.{alarm_added}
 use Rattle.log_clauses.specs.LogNames.{first_names, added_names}
-use Rattle.log_encode.specs.CodedLog.{CodedLog, names_from, code_names as log_names, false_literals}
+use Rattle.log_encode.specs.CodedLog.{CodedLog, names_from, log_names, false_literals}
 use Rattle.log_order.specs.Log.{Log, Alarm, no_log, is_doubtful, a_log}
 use Rattle.prop_core.specs.declared.grid.Grid.{Grid}
 use Rattle.prop_core.specs.declared.lit.Lit.{Lit}

@@ -8,7 +8,7 @@ use Rattle.card_counter.specs.Exclusions.{IsExclusionClause}
 use Rattle.des_base.proofs.Elements.{filter_alike}
 use Rattle.des_base.specs.Lists.{numbers_below}
 use Rattle.des_net.specs.Network.{Net, label_of}
-use Rattle.log_clauses.specs.Decoded.{alarm_at, event_at, is_false, comes, entry_of, arranged, arranged_order, whole_order}
+use Rattle.log_clauses.specs.Decoded.{alarm_at, alarm_event, is_false_alarm, comes, decoded_entry, arranged, arranged_order, whole_order}
 use Rattle.log_clauses.specs.LogClauses.{guard_literals, chain, matching_events, observable_events, LogClause, log_clause, IsLogClause, chain_closed, takes_rest, uses_up, passes_on, taken_or_passed, not_done_first, stays_done, match_is_done, matched_once, match_is_real, done_by_match, one_match, done_if_asked, before_if_asked, or_false}
 use Rattle.log_clauses.specs.LogCodes.{IsNamedLog}
 use Rattle.log_encode.specs.CodedLog.{without_names, nameless}
@@ -138,17 +138,17 @@ module _ (net : Net) (log other : Log) (alike : AreAlike log other) where
 
   -- ---- runs
 
-  event_alike : (value : Name → Bool) (t i : ℕ) → event_at net log value t i ≡ event_at net other value t i
+  event_alike : (value : Name → Bool) (t i : ℕ) → alarm_event net log value t i ≡ alarm_event net other value t i
   event_alike value t i = ap (λ es. find (λ e. value (matches i e (suc t))) es) (events_alike i)
 
   arranged_alike : (value : Name → Bool) (alarms : List ℕ) (t : ℕ) (pieces : List (List ℕ)) → arranged net log value alarms t pieces ≡ arranged net other value alarms t pieces
   arranged_alike value alarms t [] = refl
-  arranged_alike value alarms t (piece ∷ pieces) = rw (mapped_alike (event_at net log value t) (event_at net other value t) alarms (event_alike value t), arranged_alike value alarms (suc t) pieces) refl
+  arranged_alike value alarms t (piece ∷ pieces) = rw (mapped_alike (alarm_event net log value t) (alarm_event net other value t) alarms (event_alike value t), arranged_alike value alarms (suc t) pieces) refl
 
-  false_alike : (value : Name → Bool) (i : ℕ) → is_false log value i ≡ is_false other value i
+  false_alike : (value : Name → Bool) (i : ℕ) → is_false_alarm log value i ≡ is_false_alarm other value i
   false_alike value i = ap (λ b. b && value (dropped i)) (alike.marks i)
 
-  entries_alike : (value : Name → Bool) (xs : List ℕ) → map (entry_of log value) xs ≡ map (entry_of other value) xs
+  entries_alike : (value : Name → Bool) (xs : List ℕ) → map (decoded_entry log value) xs ≡ map (decoded_entry other value) xs
   entries_alike value [] = refl
   entries_alike value (x ∷ xs) = rw (false_alike value x, entries_alike value xs) refl
 

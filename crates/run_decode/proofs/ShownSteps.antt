@@ -4,7 +4,7 @@ use Rattle.des_base.proofs.Elements.{here_first, here_later}
 use Rattle.des_base.specs.Names.{place_of}
 use Rattle.log_order.specs.Adding.{names_of}
 use Rattle.log_order.specs.Log.{Log, id_of}
-use Rattle.log_clauses.specs.Decoded.{is_false, comes, entries_at}
+use Rattle.log_clauses.specs.Decoded.{is_false_alarm, comes, entries_at}
 use Rattle.prop_core.specs.VariableNames.{Name}
 use Rattle.replay.specs.Explanation.{Entry}
 use Rattle.replay.specs.Matching.{order_of}
@@ -38,21 +38,21 @@ shown_order log event dropped (i ∷ order) found = by (dropped i) refl (event i
         ∙ ap (λ b. record { alarm = i; real = not b } ∷ map (λ j. record { alarm = j; real = not (dropped j) }) (filter (λ j. dropped j || is_some (event j)) order)) (sym e))
 
 abbrev kept : Log → (Name → Bool) → (ℕ → Option ℕ) → ℕ → List ℕ → List Entry
-kept log value event s xs = map (λ j. record { alarm = j; real = not (comes value j s && is_false log value j) }) (filter (λ j. (comes value j s && is_false log value j) || is_some (event j)) xs)
+kept log value event s xs = map (λ j. record { alarm = j; real = not (comes value j s && is_false_alarm log value j) }) (filter (λ j. (comes value j s && is_false_alarm log value j) || is_some (event j)) xs)
 
 -- those are the entries of the step, where exactly the true alarms that come there have an event
-pub step_entries : (log : Log) (value : Name → Bool) (event : ℕ → Option ℕ) (s : ℕ) (order : List ℕ) → ((i : ℕ) → Contains order i → comes value i s && not (is_false log value i) ≡ is_some (event i)) →
-    map (λ i. record { alarm = i; real = not (comes value i s && is_false log value i) }) (filter (λ i. (comes value i s && is_false log value i) || is_some (event i)) order) ≡ entries_at log value order s
+pub step_entries : (log : Log) (value : Name → Bool) (event : ℕ → Option ℕ) (s : ℕ) (order : List ℕ) → ((i : ℕ) → Contains order i → comes value i s && not (is_false_alarm log value i) ≡ is_some (event i)) →
+    map (λ i. record { alarm = i; real = not (comes value i s && is_false_alarm log value i) }) (filter (λ i. (comes value i s && is_false_alarm log value i) || is_some (event i)) order) ≡ entries_at log value order s
 step_entries log value event s [] agree = refl
 step_entries log value event s (i ∷ order) agree =
-    by (comes value i s) refl (is_false log value i) refl (is_some (event i)) refl (agree i (here_first i order i refl)) (step_entries log value event s order (λ j in'. agree j (here_later i order j in')))
+    by (comes value i s) refl (is_false_alarm log value i) refl (is_some (event i)) refl (agree i (here_first i order i refl)) (step_entries log value event s order (λ j in'. agree j (here_later i order j in')))
   where
-    by : (a : Bool) → comes value i s ≡ a → (b : Bool) → is_false log value i ≡ b → (c : Bool) → is_some (event i) ≡ c → comes value i s && not (is_false log value i) ≡ is_some (event i) →
+    by : (a : Bool) → comes value i s ≡ a → (b : Bool) → is_false_alarm log value i ≡ b → (c : Bool) → is_some (event i) ≡ c → comes value i s && not (is_false_alarm log value i) ≡ is_some (event i) →
         kept log value event s order ≡ entries_at log value order s → kept log value event s (i ∷ order) ≡ entries_at log value (i ∷ order) s
-    by true e true f c g h later = rw (e, f) (ap (λ b. record { alarm = i; real = not b } ∷ kept log value event s order) (ap (λ b. b && is_false log value i) e ∙ f)
+    by true e true f c g h later = rw (e, f) (ap (λ b. record { alarm = i; real = not b } ∷ kept log value event s order) (ap (λ b. b && is_false_alarm log value i) e ∙ f)
         ∙ ap (λ (xs : List Entry). record { alarm = i; real = false } ∷ xs) later)
-    by true e false f true g h later = rw (e, f, g) (ap (λ b. record { alarm = i; real = not b } ∷ kept log value event s order) (ap (λ b. b && is_false log value i) e ∙ f)
+    by true e false f true g h later = rw (e, f, g) (ap (λ b. record { alarm = i; real = not b } ∷ kept log value event s order) (ap (λ b. b && is_false_alarm log value i) e ∙ f)
         ∙ ap (λ (xs : List Entry). record { alarm = i; real = true } ∷ xs) later)
-    by true e false f false g h later = let bad : true ≡ false = sym (ap (λ b. b && not (is_false log value i)) e ∙ ap not f) ∙ h ∙ g in cc
-    by false e b f true g h later = let bad : false ≡ true = sym (ap (λ x. x && not (is_false log value i)) e) ∙ h ∙ g in cc
+    by true e false f false g h later = let bad : true ≡ false = sym (ap (λ b. b && not (is_false_alarm log value i)) e ∙ ap not f) ∙ h ∙ g in cc
+    by false e b f true g h later = let bad : false ≡ true = sym (ap (λ x. x && not (is_false_alarm log value i)) e) ∙ h ∙ g in cc
     by false e b f false g h later = rw (e, g) later

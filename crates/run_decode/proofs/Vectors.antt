@@ -5,7 +5,7 @@ use Rattle.card_counter.specs.CounterClauses.{CountClause, counts_on, counts_up,
 use Rattle.des_base.proofs.Elements.{cons_cases, here_first, here_later, none_in_nil}
 use Rattle.des_base.specs.Lists.{numbers_below}
 use Rattle.des_net.specs.Models.{apart, pump}
-use Rattle.des_net.specs.QuestionSize.{state_number}
+use Rattle.des_net.specs.QuestionSize.{component_state_count}
 use Rattle.log_clauses.specs.LogClauses.{LogClause, log_clause, IsLogClause, chain_closed, takes_rest, uses_up, passes_on, taken_or_passed, not_done_first, stays_done, match_is_done, matched_once, match_is_real, done_by_match, one_match, done_if_asked, before_if_asked}
 use Rattle.log_order.specs.Log.{no_log}
 use Rattle.prop_core.proofs.FamilyLemmas.{reads_whole}
@@ -100,7 +100,7 @@ not_a_state c t (q ∷ qs) zero x at same = cc
 not_a_state c t (q ∷ qs) (suc i) x at same = not_a_state c t qs i x at same
 
 not_over_states : (c t : ℕ) (which : ExclusionClause) → IsExclusionClause (state_inputs pump c t) which → HaveName (exclusion_clause (of_states c t) which) → ⊥
-not_over_states c t (two i j x y) (few, order, first, second) each = not_a_state c t (numbers_below (state_number pump c)) i x first (each (no x) (0, omega arith, refl))
+not_over_states c t (two i j x y) (few, order, first, second) each = not_a_state c t (numbers_below (component_state_count pump c)) i x first (each (no x) (0, omega arith, refl))
 not_over_states c t (opens i x) is each = let same = each (yes (some_of_first (of_states c t) (suc i))) (1, omega arith, refl) in cc
 not_over_states c t (goes_on i) is each = let same = each (no (some_of_first (of_states c t) (suc i))) (0, omega arith, refl) in cc
 not_over_states c t (shuts_out i x) is each = let same = each (no (some_of_first (of_states c t) (suc i))) (1, omega arith, refl) in cc
@@ -121,7 +121,7 @@ not_over_events g t (goes_on i) known is each = let same = each (no (some_of_fir
 not_over_events g t (shuts_out i x) known is each = let same = each (no (some_of_first (of_events (suc t) g) (suc i))) (1, omega arith, refl) in cc
 
 not_of_steps : (which : StepClause) → IsStepClause pump 2 which → HaveName (step_clause pump which) → Contains (step_clause pump which) (no (happens 0 1)) → ⊥
-not_of_steps (some_state c t) known each in' = states_no c t (numbers_below (state_number pump c)) each in'
+not_of_steps (some_state c t) known each in' = states_no c t (numbers_below (component_state_count pump c)) each in'
 not_of_steps (one_state c t which) (known, time, is) each in' = not_over_states c t which is each
 not_of_steps (not_at_start c q) known each in' = let same = each (no (in_state c q 0)) (0, omega arith, refl) in cc
 not_of_steps (moves e c a q t) known each in' = let same = each (no (in_state c q t)) (1, omega arith, refl) in cc

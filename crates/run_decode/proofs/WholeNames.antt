@@ -14,7 +14,7 @@ use Rattle.log_clauses.specs.LogClauses.{guard_literals}
 use Rattle.log_clauses.specs.LogCodes.{IsNamedLog, AreAmong}
 use Rattle.log_clauses.specs.LogNames.{IsLogName, added_names, alarm_names, match_chains, false_names}
 use Rattle.log_encode.proofs.CodeLemmas.{names_with_alarm, asked_below, grown_is_coded, false_more}
-use Rattle.log_encode.specs.CodedLog.{CodedLog, code_names as log_names, read_names, false_literals, addition_width, code_after, IsCodedLog}
+use Rattle.log_encode.specs.CodedLog.{CodedLog, log_names, read_names, false_literals, addition_width, code_after, IsCodedLog}
 use Rattle.des_base.specs.declared.TheConstants.{VAR_LIMIT}
 use Rattle.log_clauses.proofs.Codes.{has_name, named_entry}
 use Rattle.log_order.specs.Log.{Alarm}
@@ -33,7 +33,7 @@ use Rattle.run_decode.proofs.RunNames.{is_step, Differ, step_entry, log_entry, s
 use Rattle.run_decode.proofs.Reading.{clause_stays, bound_is_read}
 use Rattle.run_decode.specs.Drawn.{fault_inputs, assumption_literals}
 use Rattle.run_decode.specs.Question.{IsReadAmong, IsQuestion}
-use Rattle.run_decode.specs.WholeNaming.{whole_names, false_input, counter_after, AreApart, AreCodedTogether, HaveOneNaming, TogetherOneNaming, TogetherBegins, TogetherGrow, AreClausesOf, TogetherAsk}
+use Rattle.run_decode.specs.WholeNaming.{whole_names, false_input, counter_after, IsApartFromCounter, AreCodedTogether, HaveOneNaming, TogetherOneNaming, TogetherBegins, TogetherGrow, AreClausesOf, TogetherAsk}
 use Rattle.std.proofs.lemmas.List.Elements.{Contains-append_cases, Contains-append_left, Contains-append_right}
 use Rattle.step_encode.proofs.Codes.{grid_ends}
 use Rattle.step_encode.specs.Coded.{CodedSteps, code_names as step_names, code_grid, variable_count}
@@ -133,7 +133,7 @@ together_begins steps code counter false_lits beside read is =
 
 module _ (steps : CodedSteps) (code : CodedLog) (counter : CounterState) (first : ℕ) (together : AreCodedTogether steps code counter) (above : code.vars ≤ first) (made : IsMade first counter) where
   -- the variables of an addition come after those of the counter
-  apart_by_addition : (addition : Addition) → AreApart (code_after code addition first) counter
+  apart_by_addition : (addition : Addition) → IsApartFromCounter (code_after code addition first) counter
   apart_by_addition (alarm_added new) entry i j in' place =
       by (Contains-append_cases (log_names code) (laid_out first (added_names code.net code.log code.grid.steps (alarm_added new))) entry (subst (λ names. Contains names entry) (names_with_alarm code new first together.beside.logged.each) in'))
     where
@@ -162,7 +162,7 @@ module _ (steps : CodedSteps) (code : CodedLog) (counter : CounterState) (first 
           let last = subst (λ k. variable (with_column counter first) i k ≡ first + i) (sym is) (variable_last counter first i below) in
           omega (arith, begins, last)
 
-  apart_by_column : AreApart code (with_column counter first)
+  apart_by_column : IsApartFromCounter code (with_column counter first)
   apart_by_column entry i j in' place = by (place_cases counter first i j place)
     where
       by : IsPlace counter i j ⊎ ((i < length counter.inputs) × (j ≡ length counter.columns)) → entry.0 ≢ variable (with_column counter first) i j

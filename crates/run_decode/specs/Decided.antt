@@ -10,8 +10,8 @@ use Rattle.run_decode.specs.Faithful.{MakesTrue, IsFaithful}
 use Rattle.run_decode.specs.Question.{Asks}
 
 -- no assignment makes clauses and assumptions true
-abbrev pub IsRefuted : List Clause → List Lit → Type 0
-IsRefuted clauses assumed = (assignment : ℕ → Bool) → MakesTrue assignment clauses assumed → ⊥
+abbrev pub AreUnsatisfiable : List Clause → List Lit → Type 0
+AreUnsatisfiable clauses assumed = (assignment : ℕ → Bool) → MakesTrue assignment clauses assumed → ⊥
 
 -- each assignment that makes the clauses true makes this one true
 abbrev pub Entails : List Clause → Clause → Type 0
@@ -31,7 +31,7 @@ Decides net log n (Some b) = IsAbove net log n b
 -- A faithful question that is refuted is decided,
 abbrev pub FaithfulDecides : Type 0
 FaithfulDecides = (net : Net) (log : Log) (n : ℕ) (bound : Option ℕ) (clauses : List Clause) (assumed : List Lit) →
-    IsFaithful clauses assumed net log n bound → IsRefuted clauses assumed → Decides net log n bound
+    IsFaithful clauses assumed net log n bound → AreUnsatisfiable clauses assumed → Decides net log n bound
 
 -- and so it is by a clause of negated assumptions that its clauses entail.
 abbrev pub RefutedIsDecided : Type 0

@@ -35,7 +35,7 @@ pub record Asks (net : Net) (log : Log) (n : ℕ) (bound : Option ℕ) (names : 
 -- ---- from its parts
 
 -- by some of these names the clauses are those of a family
-pub record IsPart (names : List (ℕ × Name)) (family : List NamedLiteral → Type 0) (written : List Clause) : Type 0 where
+pub record IsCodeAmong (names : List (ℕ × Name)) (family : List NamedLiteral → Type 0) (written : List Clause) : Type 0 where
   pub own : List (ℕ × Name)
   pub among : AreAmong own names
   pub code : IsCode own family written

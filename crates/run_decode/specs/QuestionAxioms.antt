@@ -5,7 +5,7 @@ use Rattle.des_net.specs.Network.{Net}
 use Rattle.log_clauses.specs.Additions.{Addition, alarm_added, pair_added}
 use Rattle.log_clauses.specs.Drafts.{added_list}
 use Rattle.log_encode.specs.BuiltLog.{BuiltLog, built_log}
-use Rattle.log_encode.specs.CodedLog.{CodedLog, code_names as log_names, read_names, code_after, addition_width, false_literals, without_names, IsCodedLog}
+use Rattle.log_encode.specs.CodedLog.{CodedLog, log_names, read_names, code_after, addition_width, false_literals, without_names, IsCodedLog}
 use Rattle.log_order.specs.Log.{Log}
 use Rattle.prop_core.specs.Clauses.{Clause}
 use Rattle.prop_core.specs.Listings.{literal_by, written_by}

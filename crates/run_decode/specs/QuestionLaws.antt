@@ -20,7 +20,7 @@ use Rattle.run_clauses.specs.StepCodes.{IsNamedStep}
 use Rattle.run_decode.specs.DecodedRuns.{GivesExplanation}
 use Rattle.run_decode.specs.Drawn.{IsInstance, IsDrawn, fault_inputs, bound_literals, assumption_literals}
 use Rattle.run_decode.specs.Faithful.{IsWithin, MakesTrue, IsFaithful}
-use Rattle.run_decode.specs.Question.{IsQuestion, Asks, IsPart, IsReadAmong}
+use Rattle.run_decode.specs.Question.{IsQuestion, Asks, IsCodeAmong, IsReadAmong}
 
 -- What asks a question over a network and a valid log is faithful.
 abbrev pub QuestionIsFaithful : Type 0
@@ -55,7 +55,7 @@ InstancesStay = (net : Net) (log : Log) (n : ℕ) (addition : Addition) (names m
 -- Clauses that are those of the three parts, each by some of the names, are those of the question,
 abbrev pub PartsMakeQuestion : Type 0
 PartsMakeQuestion = (net : Net) (log : Log) (n columns : ℕ) (names : List (ℕ × Name)) (clauses stepped logged counted : List Clause) → HasEachOnce names →
-    IsPart names (IsNamedStep net n) stepped → IsPart names (IsNamedLog net log n) logged → IsPart names (IsNamedCount (fault_inputs net log n) columns) counted →
+    IsCodeAmong names (IsNamedStep net n) stepped → IsCodeAmong names (IsNamedLog net log n) logged → IsCodeAmong names (IsNamedCount (fault_inputs net log n) columns) counted →
     ((clause : Clause) → Contains clauses clause ↔ Contains stepped clause ⊎ (Contains logged clause ⊎ Contains counted clause)) →
     IsQuestion net log n columns names clauses
 

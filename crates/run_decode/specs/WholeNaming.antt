@@ -8,7 +8,7 @@ use Rattle.log_clauses.specs.LogClauses.{guard_literals}
 use Rattle.log_clauses.specs.LogCodes.{AreAmong}
 use Rattle.log_order.specs.Log.{Log, Alarm}
 use Rattle.replay.specs.QuestionSize.{variable_bound}
-use Rattle.log_encode.specs.CodedLog.{without_names, CodedLog, code_names as log_names, read_names, code_after, addition_width}
+use Rattle.log_encode.specs.CodedLog.{without_names, CodedLog, log_names, read_names, code_after, addition_width}
 use Rattle.log_encode.specs.Drafted.{DraftState, IsDraftOf}
 use Rattle.log_encode.specs.WrittenLog.{IsWritten, Follows}
 use Rattle.prop_core.specs.Clauses.{Clause}
@@ -28,8 +28,8 @@ abbrev pub whole_names : CodedSteps → CodedLog → CounterState → List (ℕ 
 whole_names steps code counter = step_names steps ++ (log_names code ++ counter_names counter)
 
 -- no variable of the log is one of the counter
-abbrev pub AreApart : CodedLog → CounterState → Type 0
-AreApart code counter = (entry : ℕ × Name) (i j : ℕ) → Contains (log_names code) entry → IsPlace counter i j → entry.0 ≢ variable counter i j
+abbrev pub IsApartFromCounter : CodedLog → CounterState → Type 0
+IsApartFromCounter code counter = (entry : ℕ × Name) (i j : ℕ) → Contains (log_names code) entry → IsPlace counter i j → entry.0 ≢ variable counter i j
 
 -- The inputs are the faults of the steps, and then that alarms of the log are false.
 pub record AreInputs (steps : CodedSteps) (code : CodedLog) (inputs : List Lit) : Type 0 where
@@ -43,7 +43,7 @@ pub record AreCodedTogether (steps : CodedSteps) (code : CodedLog) (counter : Co
   pub counted : IsCounter counter
   pub inputs : AreInputs steps code counter.inputs
   pub later : (i j : ℕ) → IsPlace counter i j → steps.first + variable_count steps.net steps.steps ≤ variable counter i j
-  pub apart : AreApart code counter
+  pub apart : IsApartFromCounter code counter
 
 -- No name and no variable stands twice; the parts keep their names, and the inputs of the counter read as the fault events in all steps and the false alarms.
 pub record HaveOneNaming (steps : CodedSteps) (code : CodedLog) (counter : CounterState) : Type 0 where

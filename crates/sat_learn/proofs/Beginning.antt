@@ -15,7 +15,7 @@ use Rattle.sat_prop.specs.Levels.{IsLastDecision}
 use Rattle.sat_prop.specs.Quiet.{stands, AreQuiet, IsConflict, IsQuietAtDecisions}
 use Rattle.sat_prop.specs.Changes.{IsFront}
 use Rattle.sat_prop.proofs.Fronts.{front_held, held_same}
-use Rattle.sat_learn.specs.Seen.{Refutes, IsRefuted, count_seen}
+use Rattle.sat_learn.specs.Seen.{Refutes, IsRefutedBySeen, count_seen}
 use Rattle.sat_learn.proofs.Refuting.{refutes_start}
 use Rattle.sat_learn.proofs.Reasoning.{known_held}
 use Rattle.sat_learn.proofs.Descending.{count_none}
@@ -44,7 +44,7 @@ false_on_trail literals c h = all_from (λ l. has_var l.var literals) c (λ x e.
 
 -- the first hint
 pub refuted_start : (all : List Clause) (literals : List Lit) (seen : List Bool) (back : List ℕ) (id : ℕ) (c : Clause) → IsFalse all literals id c → length seen ≡ length literals
-    → ((i : ℕ) → i < length literals → get_or seen i false ≡ has_var (get_or literals i no_literal).var c) → back ≡ id ∷ [] → IsRefuted all literals [] seen back
+    → ((i : ℕ) → i < length literals → get_or seen i false ≡ has_var (get_or literals i no_literal).var c) → back ≡ id ∷ [] → IsRefutedBySeen all literals [] seen back
 refuted_start all literals seen back id c f size each e = record {
   size = size;
   refutes = let q : reverse back ≡ id ∷ [] = rw e (grind (arith, common_steps)) in

@@ -14,7 +14,7 @@ use Rattle.sat_prop.specs.TrailState.{TrailState, IsJustified}
 use Rattle.sat_prop.specs.Changes.{IsFront}
 use Rattle.sat_prop.proofs.Justifying.{justified_once}
 use Rattle.sat_prop.proofs.Fronts.{front_held}
-use Rattle.sat_learn.specs.Seen.{IsRefuted, negated_seen, is_known_var, IsDecidedFrom}
+use Rattle.sat_learn.specs.Seen.{IsRefutedBySeen, negated_seen, is_known_var, IsDecidedFrom}
 use Rattle.sat_learn.specs.Learnt.{IsClosing, IsDecidedAt}
 use Rattle.sat_learn.proofs.Reasoning.{known_held}
 use Rattle.sat_learn.proofs.Finishing.{derives_from, negated_has, negated_is, negated_none, negated_once, negated_known}
@@ -33,7 +33,7 @@ negated_decided t seen s size x e =
     let b = i.1.below in
     (i.0, record { within = b; is = sym (ap negation i.1.is ∙ negation_twice (get_or t.literals i.0 no_literal)); decided = s i.0 (omega arith) (omega arith) i.1.seen_at })
 
-pub closing_from : (t : TrailState) (all : List Clause) (seen : List Bool) (back : List ℕ) → IsJustified t.clauses t.attached t.literals t.reasons t.vars → IsRefuted all t.literals [] seen back → IsDecidedFrom t.reasons seen 0
+pub closing_from : (t : TrailState) (all : List Clause) (seen : List Bool) (back : List ℕ) → IsJustified t.clauses t.attached t.literals t.reasons t.vars → IsRefutedBySeen all t.literals [] seen back → IsDecidedFrom t.reasons seen 0
     → IsClosing t all [] (negated_seen t.literals seen (length t.literals)) (reverse back)
 closing_from t all seen back tr h s =
     let once = justified_once t.clauses t.attached t.literals t.reasons t.vars tr in
@@ -58,7 +58,7 @@ false_stands literals t l p f b v =
 
 -- its place and the literal itself are never both true
 pub fail_start : (t : TrailState) (all : List Clause) (l : Lit) (p : ℕ) (seen : List Bool) (back : List ℕ) → IsFront t.clauses all → IsJustified t.clauses t.attached t.literals t.reasons t.vars → is_false t.literals l ≡ true → p < length t.literals → (get_or t.literals p no_literal).var ≡ l.var
-    → is_none (get_or t.reasons p None) ≡ false → length seen ≡ length t.literals → ((i : ℕ) → get_or seen i false ≡ false) → IsRefuted all t.literals (l ∷ []) (slice_set seen p true) back
+    → is_none (get_or t.reasons p None) ≡ false → length seen ≡ length t.literals → ((i : ℕ) → get_or seen i false ≡ false) → IsRefutedBySeen all t.literals (l ∷ []) (slice_set seen p true) back
 fail_start t all l p seen back front tr f b v why size cleared =
     let at = false_stands t.literals (justified_once t.clauses t.attached t.literals t.reasons t.vars tr) l p f b v in
     let on : get_or (slice_set seen p true) p false ≡ true = grind (arith, common_steps) in
@@ -82,7 +82,7 @@ fail_start t all l p seen back front tr f b v why size cleared =
     }
 
 pub fail_from : (t : TrailState) (all : List Clause) (l : Lit) (p : ℕ) (seen : List Bool) (back : List ℕ) → IsJustified t.clauses t.attached t.literals t.reasons t.vars → is_false t.literals l ≡ true → p < length t.literals → (get_or t.literals p no_literal).var ≡ l.var
-    → is_none (get_or t.reasons p None) ≡ false → is_known_var all l.var ≡ true → IsRefuted all t.literals (l ∷ []) seen back → IsDecidedFrom t.reasons seen 0 → IsClosing t all (l ∷ []) (negation l ∷ negated_seen t.literals seen (length t.literals)) (reverse back)
+    → is_none (get_or t.reasons p None) ≡ false → is_known_var all l.var ≡ true → IsRefutedBySeen all t.literals (l ∷ []) seen back → IsDecidedFrom t.reasons seen 0 → IsClosing t all (l ∷ []) (negation l ∷ negated_seen t.literals seen (length t.literals)) (reverse back)
 fail_from t all l p seen back tr f b v why var h s =
     let size = h.size in
     let once = justified_once t.clauses t.attached t.literals t.reasons t.vars tr in
@@ -107,7 +107,7 @@ closing_same t all also c d hs ks e f r = rw (e, f) r
 pub negated_same : (none all literals now : List Lit) (seen : List Bool) (n m : ℕ) → none ≡ [] → all ≡ none ++ negated_seen now seen n → now ≡ literals → n ≡ m → all ≡ negated_seen literals seen m
 negated_same none all literals now seen n m a b c d = b ∙ rw (a, c, d) refl
 
-pub fail_known : (t : TrailState) (all : List Clause) (l : Lit) (p : ℕ) (seen : List Bool) (back : List ℕ) → IsRefuted all t.literals (l ∷ []) (slice_set seen p true) back → length seen ≡ length t.literals → p < length t.literals → (get_or t.literals p no_literal).var ≡ l.var → is_known_var all l.var ≡ true
+pub fail_known : (t : TrailState) (all : List Clause) (l : Lit) (p : ℕ) (seen : List Bool) (back : List ℕ) → IsRefutedBySeen all t.literals (l ∷ []) (slice_set seen p true) back → length seen ≡ length t.literals → p < length t.literals → (get_or t.literals p no_literal).var ≡ l.var → is_known_var all l.var ≡ true
 fail_known t all l p seen back h size b v =
     let on : get_or (slice_set seen p true) p false ≡ true = grind (arith, common_steps) in
     subst (λ (n : ℕ). is_known_var all n ≡ true) v (h.known p b on)

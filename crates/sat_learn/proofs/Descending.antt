@@ -3,7 +3,7 @@ use Rattle.std.proofs.Common.{◌≡◌, ◌∙◌, ℕ, ◌+◌, ◌-◌, ◌<�
 use Rattle.std.specs.Prelude.{count_by, slice_set}
 use Rattle.std.proofs.lemmas.Grind.{common_steps}
 use Rattle.std.proofs.lemmas.Bool.{cases_Bool, cases_lt}
-use Rattle.sat_learn.specs.Seen.{count_seen, IsFound}
+use Rattle.sat_learn.specs.Seen.{count_seen, IsOnlySeen}
 use Rattle.sat_learn.proofs.Seeing.{count_off}
 
 -- a count is 0 where no place passes
@@ -46,11 +46,11 @@ first_set start bs c b above =
     later (suc i) e n = above (start + suc i) (omega arith) n
 
 -- one literal is left
-pub found_one : (start : ℕ) (bs : List Bool) (k : ℕ) → start ≤ k → k < length bs → get_or bs k false ≡ true → count_seen start bs ≡ 1 → IsFound start bs k
+pub found_one : (start : ℕ) (bs : List Bool) (k : ℕ) → start ≤ k → k < length bs → get_or bs k false ≡ true → count_seen start bs ≡ 1 → IsOnlySeen start bs k
 found_one start bs k h b s n = record { from = h; within = b; is = s; alone = alone_one start bs k h b s n }
 
 -- the last decision is reached
-pub found_first : (start : ℕ) (bs : List Bool) (k : ℕ) → start ≤ k → k ≤ start → k < length bs → 0 < count_seen start bs → ((i : ℕ) → k < i → i < length bs → get_or bs i false ≡ false) → IsFound start bs k
+pub found_first : (start : ℕ) (bs : List Bool) (k : ℕ) → start ≤ k → k ≤ start → k < length bs → 0 < count_seen start bs → ((i : ℕ) → k < i → i < length bs → get_or bs i false ≡ false) → IsOnlySeen start bs k
 found_first start bs k h g b n above =
     let e : k ≡ start = omega arith in
     record { from = h; within = b; is = rw e (first_set start bs n (omega arith) (λ i m. above i (omega arith))); alone = λ i m d w. above i (omega arith) w }

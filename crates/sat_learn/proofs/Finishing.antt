@@ -16,7 +16,7 @@ use Rattle.prop_core.proofs.Literals.{same_is, negation_twice, not_self, true_at
 use Rattle.sat_prop.specs.TrailState.{TrailState, IsJustified}
 use Rattle.sat_prop.specs.Levels.{level_at, IsLastDecision, IsGreatestLevel}
 use Rattle.sat_prop.proofs.Justifying.{justified_once}
-use Rattle.sat_learn.specs.Seen.{IsRefuted, negated_seen, level_seen, is_known_var, IsFound}
+use Rattle.sat_learn.specs.Seen.{IsRefutedBySeen, negated_seen, level_seen, is_known_var, IsOnlySeen}
 use Rattle.sat_learn.specs.Learnt.{IsLearnt}
 
 -- the literals that make a clause false
@@ -44,7 +44,7 @@ negations_consistent c n l e =
     (λ f. f) (cases_Bool (is_false (map negation c) l))
 
 -- a clause with the negations of what is seen derives
-pub derives_from : (clauses : List Clause) (literals also : List Lit) (seen : List Bool) (back : List ℕ) (c : List Lit) → IsRefuted clauses literals also seen back → HasVarsOnce c
+pub derives_from : (clauses : List Clause) (literals also : List Lit) (seen : List Bool) (back : List ℕ) (c : List Lit) → IsRefutedBySeen clauses literals also seen back → HasVarsOnce c
     → ((i : ℕ) → i < length literals → get_or seen i false ≡ true → is_true c (negation (get_or literals i no_literal)) ≡ true) → ((l : Lit) → is_true also l ≡ true → is_true c (negation l) ≡ true)
     → Derives (clause_numbered clauses) c (reverse back)
 derives_from clauses literals also seen back c h n f g = h.refutes (map negation c) 0 (negations_consistent c n) (record { each = λ i m s. true_negations c (get_or literals i no_literal) ∙ f i m s; more = λ l e. true_negations c l ∙ g l e })
@@ -108,7 +108,7 @@ negated_false literals seen k s h b = all_from (is_false (take s literals)) (neg
     let q : get_or (take s literals) i.0 no_literal ≡ negation x = g ∙ sym (ap negation i.1.is ∙ negation_twice (get_or literals i.0 no_literal)) in
     true_at (take s literals) (negation x) i.0 n q)
 
-pub negated_known : (clauses : List Clause) (literals also : List Lit) (seen : List Bool) (back : List ℕ) (k : ℕ) → IsRefuted clauses literals also seen back → k ≤ length literals → list_all (λ l. is_known_var clauses l.var) (negated_seen literals seen k) ≡ true
+pub negated_known : (clauses : List Clause) (literals also : List Lit) (seen : List Bool) (back : List ℕ) (k : ℕ) → IsRefutedBySeen clauses literals also seen back → k ≤ length literals → list_all (λ l. is_known_var clauses l.var) (negated_seen literals seen k) ≡ true
 negated_known clauses literals also seen back k h b = all_from (λ l. is_known_var clauses l.var) (negated_seen literals seen k) (λ x e.
     let i = negated_is literals seen k x e in
     let m = i.1.below in
@@ -139,7 +139,7 @@ negated_greatest literals reasons t seen (suc k) h =
 
 -- the clause of the first implication point
 pub learnt_from : (t : TrailState) (all : List Clause) (seen : List Bool) (back : List ℕ) (start k : ℕ) → IsJustified t.clauses t.attached t.literals t.reasons t.vars → IsLastDecision t.reasons start
-    → IsRefuted all t.literals [] seen back → IsFound start seen k → IsLearnt t all (negation (get_or t.literals k no_literal) ∷ negated_seen t.literals seen start) (reverse back) (level_seen t.reasons seen start)
+    → IsRefutedBySeen all t.literals [] seen back → IsOnlySeen start seen k → IsLearnt t all (negation (get_or t.literals k no_literal) ∷ negated_seen t.literals seen start) (reverse back) (level_seen t.reasons seen start)
 learnt_from t all seen back start k tr last h f =
     let l = get_or t.literals k no_literal in
     let once = justified_once t.clauses t.attached t.literals t.reasons t.vars tr in
@@ -178,7 +178,7 @@ pub learnt_same : (t : TrailState) (all : List Clause) (c d : List Lit) (hs ks :
 learnt_same t all c d hs ks m n e f g r = rw (e, f, g) r
 
 -- what is seen from a place on is as before
-pub found_kept : (literals : List Lit) (seen new : List Bool) (start k : ℕ) → length seen ≡ length literals → length new ≡ length seen → ((later : ℕ) → start ≤ later → later < length literals → get_or new later false ≡ get_or seen later false) → IsFound start seen k → IsFound start new k
+pub found_kept : (literals : List Lit) (seen new : List Bool) (start k : ℕ) → length seen ≡ length literals → length new ≡ length seen → ((later : ℕ) → start ≤ later → later < length literals → get_or new later false ≡ get_or seen later false) → IsOnlySeen start seen k → IsOnlySeen start new k
 found_kept literals seen new start k size same above f =
     let from = f.from in
     let within = f.within in

@@ -14,7 +14,7 @@ use Rattle.prop_core.proofs.Literals.{same_is, negation_twice, place_found, has_
 use Rattle.sat_prop.specs.TrailState.{IsReason}
 use Rattle.sat_prop.specs.Changes.{IsFront}
 use Rattle.sat_prop.proofs.Fronts.{front_held, held_same, number_of}
-use Rattle.sat_learn.specs.Seen.{Refutes, is_known_var, IsRefuted}
+use Rattle.sat_learn.specs.Seen.{Refutes, is_known_var, IsRefutedBySeen}
 use Rattle.sat_learn.proofs.Refuting.{refutes_step}
 
 -- where a literal of a reason stands
@@ -66,7 +66,7 @@ back_push back id = grind (arith, common_steps)
 -- a place is resolved
 pub refuted_step : (all : List Clause) (literals also : List Lit) (seen marked : List Bool) (back more : List ℕ) (p id : ℕ) (c : Clause) → p < length literals → clause_numbered all id ≡ Some c → is_forced_by (take p literals) (get_or literals p no_literal) c ≡ true
     → length marked ≡ length literals → ((i : ℕ) → i < length literals → get_or marked i false ≡ (get_or seen i false || has_var (get_or literals i no_literal).var c)) → more ≡ back ++ id ∷ []
-    → IsRefuted all literals also seen back → IsRefuted all literals also (slice_set marked p false) more
+    → IsRefutedBySeen all literals also seen back → IsRefutedBySeen all literals also (slice_set marked p false) more
 refuted_step all literals also seen marked back more p id c b k alone size each e h = record {
   size = grind (arith, common_steps);
   refutes = let q : reverse more ≡ id ∷ reverse back = ap (λ (xs : List ℕ). reverse xs) e ∙ back_push back id in

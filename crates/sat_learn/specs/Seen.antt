@@ -31,7 +31,7 @@ abbrev pub is_known_var : List Clause → ℕ → Bool
 is_known_var clauses var = list_any (has_var var) clauses
 
 -- The places that are seen refute by the hints, of which the last came first, and their variables stand in clauses.
-pub record IsRefuted (clauses : List Clause) (literals also : List Lit) (seen : List Bool) (hints : List ℕ) : Type 0 where
+pub record IsRefutedBySeen (clauses : List Clause) (literals also : List Lit) (seen : List Bool) (hints : List ℕ) : Type 0 where
   pub size : length seen ≡ length literals
   pub refutes : Refutes (clause_numbered clauses) literals also seen (reverse hints)
   pub known : (place : ℕ) → place < length literals → is_seen seen place ≡ true → is_known_var clauses (literal_at literals place).var ≡ true
@@ -64,10 +64,10 @@ pub record IsResolved (place : ℕ) (old new : List Bool) : Type 0 where
 
 -- where what was seen refutes by the hints so far, so does what is seen now by all hints, whatever is taken besides
 abbrev pub StillRefutes : List Clause → List Lit → List Bool → List Bool → List ℕ → List ℕ → Type 0
-StillRefutes clauses literals old new hints more = (also : List Lit) → IsRefuted clauses literals also old hints → IsRefuted clauses literals also new more
+StillRefutes clauses literals old new hints more = (also : List Lit) → IsRefutedBySeen clauses literals also old hints → IsRefutedBySeen clauses literals also new more
 
 -- from a place on, this one alone is seen
-pub record IsFound (start : ℕ) (seen : List Bool) (place : ℕ) : Type 0 where
+pub record IsOnlySeen (start : ℕ) (seen : List Bool) (place : ℕ) : Type 0 where
   pub from : start ≤ place
   pub within : place < length seen
   pub is : is_seen seen place ≡ true

@@ -7,7 +7,7 @@ ghost use Rattle.prop_core.specs.Trail.{has_var};
 ghost use Rattle.sat_prop.specs.TrailState.{literal_at};
 ghost use Rattle.sat_prop.specs.Levels.{IsLastDecision};
 ghost use Rattle.sat_prop.specs.Quiet.{IsConflict};
-ghost use Rattle.sat_learn.specs.Seen.{is_seen, count_seen, IsRefuted, IsAnalysed, IsResolvable, IsResolved, StillRefutes, IsFound, IsDecidedFrom};
+ghost use Rattle.sat_learn.specs.Seen.{is_seen, count_seen, IsRefutedBySeen, IsAnalysed, IsResolvable, IsResolved, StillRefutes, IsOnlySeen, IsDecidedFrom};
 
 use crate::analysed::Analysed;
 use des_base::Memory;
@@ -69,7 +69,7 @@ pub fn begin(
     requires conflict { IsConflict on.now.trail.now conflict }
     requires cleared { (place : ℕ) → is_seen seen.old place ≡ false }
     requires empty { hints.old.items ≡ [] }
-    ensures refuted { OnOk result (IsRefuted on.now.clauses.now.clauses on.now.trail.now.literals [] seen.new hints.new.items) }
+    ensures refuted { OnOk result (IsRefutedBySeen on.now.clauses.now.clauses on.now.trail.now.literals [] seen.new hints.new.items) }
     ensures each { OnOk result ((place : ℕ) (c : List Lit) → place < length on.now.trail.now.literals → clause_numbered on.now.clauses.now.clauses conflict ≡ Some c → is_seen seen.new place ≡ has_var (literal_at on.now.trail.now.literals place).var c) }
     ensures counted { IfOk result (λ more. more ≡ count_seen on.now.start seen.new) }
     ensures size { length seen.new ≡ length seen.old }
@@ -92,7 +92,7 @@ pub fn resolve_to_one(
     requires counted { first ≡ count_seen on.now.start seen.old }
     requires some { 0 < first }
     ensures refuted { OnOk result (StillRefutes on.now.clauses.now.clauses on.now.trail.now.literals seen.old seen.new hints.old.items hints.new.items) }
-    ensures found { IfOk result (λ place. IsFound on.now.start seen.new place) }
+    ensures found { IfOk result (λ place. IsOnlySeen on.now.start seen.new place) }
     ensures size { length seen.new ≡ length seen.old }
 {
     on.trail.is_sound();

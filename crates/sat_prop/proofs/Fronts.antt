@@ -6,7 +6,7 @@ use Rattle.std.proofs.lemmas.Bool.{cases_eq, eqb-false, ne_eqb}
 use Rattle.std.proofs.lemmas.Option.{slice_get_within, get_or_from_slice_get, slice_get-get_or}
 use Rattle.prop_core.specs.Clauses.{Clause, HasValues}
 use Rattle.prop_core.specs.Derivation.{clause_numbered}
-use Rattle.sat_prop.specs.TrailState.{IsKnownClause, AreKnown}
+use Rattle.sat_prop.specs.TrailState.{IsKnownClause, AreKnownClauses}
 use Rattle.sat_prop.specs.Changes.{IsFront}
 
 pub split_last : (k n : ℕ) → k < n + 1 → (k < n) ⊎ (k ≡ n)
@@ -81,7 +81,7 @@ some_inside a b e = cc
 pub held_same : (cs : List Clause) (n : ℕ) (c d : Clause) → clause_numbered cs n ≡ Some c → clause_numbered cs n ≡ Some d → c ≡ d
 held_same cs n c d e f = some_inside c d (sym e ∙ f)
 
-pub known_at : (cs : List Clause) (att : List ℕ) (vars number : ℕ) → AreKnown cs att vars → Contains att number → IsKnownClause cs vars number
+pub known_at : (cs : List Clause) (att : List ℕ) (vars number : ℕ) → AreKnownClauses cs att vars → Contains att number → IsKnownClause cs vars number
 known_at cs att vars number a h =
     let e : get_or att h.0 0 ≡ get_or att h.0 number = let n = h.1 in grind (arith, common_steps) in
     subst (λ (i : ℕ). IsKnownClause cs vars i) (e ∙ h.2) (a h.0 h.1)

@@ -12,9 +12,9 @@ use Rattle.prop_core.specs.Derivation.{unit, standing, clause_numbered}
 use Rattle.prop_core.specs.Trail.{is_quiet, no_literal, has_var, HasVarsOnce}
 use Rattle.prop_core.proofs.Literals.{differs, below_at, below_var, once_from_apart, once_consistent}
 use Rattle.prop_core.proofs.Forcing.{unit_forces}
-use Rattle.sat_prop.specs.TrailState.{TrailState, IsReason, IsJustified, IsKnownClause, AreKnown}
+use Rattle.sat_prop.specs.TrailState.{TrailState, IsReason, IsJustified, IsKnownClause, AreKnownClauses}
 use Rattle.sat_prop.specs.Quiet.{stands, AreQuiet, WasQuietBefore, JoinsQuietly}
-use Rattle.sat_prop.specs.Changes.{IsFront, Propagates, with_literal, with_clause}
+use Rattle.sat_prop.specs.Changes.{IsFront, Propagates, with_true_literal, with_attached_clause}
 use Rattle.sat_prop.specs.Kept.{IsTrailState}
 use Rattle.sat_prop.proofs.Fronts.{split_last, front_more, front_held, front_same, known_at, contains_more}
 
@@ -75,7 +75,7 @@ pub record IsForced (cs : List Clause) (att : List ℕ) (literals : List Lit) (v
   pub open_now : is_open literals l ≡ true
   pub known : l.var < vars
 
-pub forced_from : (cs all : List Clause) (att : List ℕ) (literals : List Lit) (vars : ℕ) (l : Lit) (number : ℕ) → IsFront cs all → AreKnown cs att vars → Contains att number → stands literals (clause_numbered all number) ≡ unit l → IsForced cs att literals vars l number
+pub forced_from : (cs all : List Clause) (att : List ℕ) (literals : List Lit) (vars : ℕ) (l : Lit) (number : ℕ) → IsFront cs all → AreKnownClauses cs att vars → Contains att number → stands literals (clause_numbered all number) ≡ unit l → IsForced cs att literals vars l number
 forced_from cs all att literals vars l number front a h e =
     let at = known_at cs att vars number a h in
     let v : standing literals at.clause ≡ unit l = sym (ap (stands literals) (front_same cs all vars number front at ∙ at.held)) ∙ e in
@@ -124,7 +124,7 @@ justified_attach cs all att new literals reasons vars f t = record {
 known_front : (cs all : List Clause) (vars number : ℕ) → IsFront cs all → IsKnownClause cs vars number → IsKnownClause all vars number
 known_front cs all vars number f a = record { clause = a.clause; held = front_held cs all number a.clause f a.held; known = a.known }
 
-known_more : (cs all : List Clause) (att : List ℕ) (new vars : ℕ) → IsFront cs all → AreKnown cs att vars → IsKnownClause all vars new → AreKnown all (att ++ new ∷ []) vars
+known_more : (cs all : List Clause) (att : List ℕ) (new vars : ℕ) → IsFront cs all → AreKnownClauses cs att vars → IsKnownClause all vars new → AreKnownClauses all (att ++ new ∷ []) vars
 known_more cs all att new vars f a b k h =
     let n : k < length att + 1 = grind (arith, common_steps) in
     ⊎_elim
@@ -156,7 +156,7 @@ quiet_take cs att literals reasons n same h q k b e =
     subst (λ (ls : List Lit). AreQuiet cs att ls) (sym a) (q k i (sym g ∙ e))
 
 -- and with one more clause
-quiet_attach : (cs all : List Clause) (att : List ℕ) (vars new : ℕ) (taken : List Lit) → IsFront cs all → AreKnown cs att vars → AreQuiet cs att taken → is_quiet (stands taken (clause_numbered all new)) ≡ true → AreQuiet all (att ++ new ∷ []) taken
+quiet_attach : (cs all : List Clause) (att : List ℕ) (vars new : ℕ) (taken : List Lit) → IsFront cs all → AreKnownClauses cs att vars → AreQuiet cs att taken → is_quiet (stands taken (clause_numbered all new)) ≡ true → AreQuiet all (att ++ new ∷ []) taken
 quiet_attach cs all att vars new taken f a q n k h =
     let b : k < length att + 1 = grind (arith, common_steps) in
     ⊎_elim
@@ -168,7 +168,7 @@ quiet_attach cs all att vars new taken f a q n k h =
 
 -- the state through its changes
 pub state_more : (t : TrailState) (l : Lit) (reason : Option ℕ) → IsTrailState t → is_open t.literals l ≡ true → l.var < t.vars → ((number : ℕ) → reason ≡ Some number → IsReason t.clauses t.attached t.literals l number) →
-    (reason ≡ None → AreQuiet t.clauses t.attached t.literals) → IsTrailState (with_literal t l reason)
+    (reason ≡ None → AreQuiet t.clauses t.attached t.literals) → IsTrailState (with_true_literal t l reason)
 state_more t l reason s o v r q = record {
   justified = justified_more t.clauses t.attached t.literals t.reasons t.vars l reason s.justified o v r;
   known = s.known;
@@ -178,10 +178,10 @@ state_more t l reason s o v r q = record {
 some_same : (number other : ℕ) → Some number ≡ Some other → number ≡ other
 some_same number other e = cc
 
-pub state_forced : (t : TrailState) (l : Lit) (number : ℕ) → IsTrailState t → IsForced t.clauses t.attached t.literals t.vars l number → IsTrailState (with_literal t l (Some number))
+pub state_forced : (t : TrailState) (l : Lit) (number : ℕ) → IsTrailState t → IsForced t.clauses t.attached t.literals t.vars l number → IsTrailState (with_true_literal t l (Some number))
 state_forced t l number s f = state_more t l (Some number) s f.open_now f.known (λ other e. subst (λ (i : ℕ). IsReason t.clauses t.attached t.literals l i) (some_same number other e) f.reason) (λ e. absurd (let q = e in cc))
 
-pub state_decided : (t : TrailState) (l : Lit) → IsTrailState t → is_open t.literals l ≡ true → l.var < t.vars → AreQuiet t.clauses t.attached t.literals → IsTrailState (with_literal t l None)
+pub state_decided : (t : TrailState) (l : Lit) → IsTrailState t → is_open t.literals l ≡ true → l.var < t.vars → AreQuiet t.clauses t.attached t.literals → IsTrailState (with_true_literal t l None)
 state_decided t l s o v q = state_more t l None s o v (λ number e. absurd (let z = e in cc)) (λ e. q)
 
 pub state_take : (t : TrailState) (n : ℕ) → IsTrailState t → n ≤ length t.reasons → IsTrailState (record t { literals = take n t.literals; reasons = take n t.reasons })
@@ -191,7 +191,7 @@ state_take t n s h = record {
   quiet = quiet_take t.clauses t.attached t.literals t.reasons n s.justified.same h s.quiet;
 }
 
-pub state_attach : (t : TrailState) (all : List Clause) (new : ℕ) → IsTrailState t → IsFront t.clauses all → IsKnownClause all t.vars new → JoinsQuietly t (clause_numbered all new) → IsTrailState (with_clause t all new)
+pub state_attach : (t : TrailState) (all : List Clause) (new : ℕ) → IsTrailState t → IsFront t.clauses all → IsKnownClause all t.vars new → JoinsQuietly t (clause_numbered all new) → IsTrailState (with_attached_clause t all new)
 state_attach t all new s f k q = record {
   justified = justified_attach t.clauses all t.attached new t.literals t.reasons t.vars f s.justified;
   known = known_more t.clauses all t.attached new t.vars f s.known k;
@@ -210,7 +210,7 @@ state_wider t vars s h = record {
     wider n m c h a = All-weaker (λ (l : Lit). l.var < n) (λ (l : Lit). l.var < m) (λ l b. omega arith) c a
 
 -- one more forced literal
-pub propagates_more : (old t new : TrailState) (l : Lit) (number : ℕ) → Propagates old t → new ≡ with_literal t l (Some number) → Propagates old new
+pub propagates_more : (old t new : TrailState) (l : Lit) (number : ℕ) → Propagates old t → new ≡ with_true_literal t l (Some number) → Propagates old new
 propagates_more old t new l number p e = rw e (record {
   clauses = p.clauses;
   attached = p.attached;

@@ -7,7 +7,7 @@ use Rattle.std.proofs.lemmas.List.Sums.{sum_by-take-drop, count_by_more_yes, cou
 use Rattle.prop_core.specs.declared.lit.Lit.{Lit}
 use Rattle.prop_core.specs.Clauses.{is_open}
 use Rattle.sat_prop.specs.TrailState.{TrailState, reason_at}
-use Rattle.sat_prop.specs.Levels.{level_of, level_at, IsCut, IsLastDecision}
+use Rattle.sat_prop.specs.Levels.{level_of, level_at, IsUpToLevel, IsLastDecision}
 use Rattle.sat_prop.specs.Kept.{AreLevels, AreStarts, IsTrailState}
 use Rattle.sat_prop.proofs.Fronts.{split_last}
 use Rattle.sat_prop.proofs.Justifying.{room_for}
@@ -57,7 +57,7 @@ levels_take reasons levels n a = let s = a.same in record {
       g ∙ a.each k b ∙ ap level_of (sym t);
 }
 
-cut_more : (reasons : List (Option ℕ)) (reason : Option ℕ) (level n : ℕ) → IsCut reasons level n → n < length reasons → IsCut (reasons ++ reason ∷ []) level n
+cut_more : (reasons : List (Option ℕ)) (reason : Option ℕ) (level n : ℕ) → IsUpToLevel reasons level n → n < length reasons → IsUpToLevel (reasons ++ reason ∷ []) level n
 cut_more reasons reason level n c h =
     let t : take n (reasons ++ reason ∷ []) ≡ take n reasons = grind (arith, common_steps) in
     let g : get_or (reasons ++ reason ∷ []) n None ≡ get_or reasons n None = grind (arith, common_steps) in
@@ -88,11 +88,11 @@ starts_decided reasons starts a = record {
       let b : level < length starts + 1 = grind (arith, common_steps) in
       ⊎_elim
       (λ m. let g : get_or (starts ++ length reasons ∷ []) level 0 ≡ get_or starts level 0 = grind (arith, common_steps) in
-      subst (λ (n : ℕ). IsCut (reasons ++ None ∷ []) level n) (sym g) (cut_more reasons None level (get_or starts level 0) (a.each level m) (a.within level m)))
+      subst (λ (n : ℕ). IsUpToLevel (reasons ++ None ∷ []) level n) (sym g) (cut_more reasons None level (get_or starts level 0) (a.each level m) (a.within level m)))
       (λ m. let g : get_or (starts ++ length reasons ∷ []) level 0 ≡ length reasons = rw m (grind (arith, common_steps)) in
       let t : take (length reasons) (reasons ++ None ∷ []) ≡ reasons = grind (arith, common_steps) in
       let e : get_or (reasons ++ None ∷ []) (length reasons) None ≡ None = grind (arith, common_steps) in
-      subst (λ (n : ℕ). IsCut (reasons ++ None ∷ []) level n) (sym g) (record { within = grind (arith, common_steps); decided = ap level_of t ∙ sym a.count ∙ sym m; next = λ k. e }))
+      subst (λ (n : ℕ). IsUpToLevel (reasons ++ None ∷ []) level n) (sym g) (record { within = grind (arith, common_steps); decided = ap level_of t ∙ sym a.count ∙ sym m; next = λ k. e }))
       (split_last level (length starts) b);
   within = λ level h.
       let b : level < length starts + 1 = grind (arith, common_steps) in
@@ -103,7 +103,7 @@ starts_decided reasons starts a = record {
 }
 
 -- the places up to a level
-pub starts_take : (reasons : List (Option ℕ)) (starts : List ℕ) (level kept : ℕ) → AreStarts reasons starts → IsCut reasons level kept → level ≤ level_of reasons → AreStarts (take kept reasons) (take level starts)
+pub starts_take : (reasons : List (Option ℕ)) (starts : List ℕ) (level kept : ℕ) → AreStarts reasons starts → IsUpToLevel reasons level kept → level ≤ level_of reasons → AreStarts (take kept reasons) (take level starts)
 starts_take reasons starts level kept a cut h = let n = a.count in record {
   count = let d = cut.decided in grind (arith, common_steps);
   each = λ j b.
@@ -115,7 +115,7 @@ starts_take reasons starts level kept a cut h = let n = a.count in record {
       let t : take (get_or starts j 0) (take kept reasons) ≡ take (get_or starts j 0) reasons = grind (arith, common_steps) in
       let w = cut.within in
       let e : get_or (take kept reasons) (get_or starts j 0) None ≡ get_or reasons (get_or starts j 0) None = grind (arith, common_steps) in
-      subst (λ (n : ℕ). IsCut (take kept reasons) j n) (sym g) (record { within = grind (arith, common_steps); decided = ap level_of t ∙ c.decided; next = λ q. e ∙ c.next (a.within j i) });
+      subst (λ (n : ℕ). IsUpToLevel (take kept reasons) j n) (sym g) (record { within = grind (arith, common_steps); decided = ap level_of t ∙ c.decided; next = λ q. e ∙ c.next (a.within j i) });
   within = λ j b.
       let m : j < level = grind (arith, common_steps) in
       let i : j < length starts = grind (arith, common_steps) in
@@ -131,7 +131,7 @@ starts_take reasons starts level kept a cut h = let n = a.count in record {
         (cases_lt (get_or starts j 0) kept)
 
 -- all places are those up to the present level
-pub cut_all : (reasons : List (Option ℕ)) (level : ℕ) → level ≡ level_of reasons → IsCut reasons level (length reasons)
+pub cut_all : (reasons : List (Option ℕ)) (level : ℕ) → level ≡ level_of reasons → IsUpToLevel reasons level (length reasons)
 cut_all reasons level e = record {
   within = omega arith;
   decided = let t : take (length reasons) reasons ≡ reasons = grind (arith, common_steps) in ap level_of t ∙ sym e;

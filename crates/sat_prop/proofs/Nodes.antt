@@ -10,7 +10,7 @@ use Rattle.sat_prop.specs.declared.watch_lists.Node.{Node}
 use Rattle.sat_prop.specs.declared.watch_lists.Starts.{Starts}
 use Rattle.sat_prop.specs.declared.watch_lists.TheConstants.{NO_WATCH}
 use Rattle.prop_core.specs.LiteralNumbers.{literal_number, numbered_literal}
-use Rattle.sat_prop.specs.Watches.{AreWatchLists, Puts, watches_from, watches_of, nexts_of, node_at, watch_at, watch_of, watching, as_link, begin_of, twin_of, with_start}
+use Rattle.sat_prop.specs.Watches.{AreWatchLists, PutsWatch, watches_from, watches_of, nexts_of, node_at, watch_at, watch_of, watching, as_link, begin_of, twin_number, with_start}
 use Rattle.sat_prop.proofs.WatchLists.{lists_pushed, lists_put}
 
 -- ---- numbers of watches
@@ -27,10 +27,10 @@ pub ends : (next : ℕ) → next ≡ NO_WATCH → as_link next ≡ None
 ends next e = rw e refl
 
 -- of a pair each has the number of the other
-pub twin_even : (number : ℕ) → number % 2 ≡ 0 → twin_of number ≡ suc number
+pub twin_even : (number : ℕ) → number % 2 ≡ 0 → twin_number number ≡ suc number
 twin_even number h = let e : number + 1 ≡ suc number = omega arith in rw h e
 
-pub twin_odd : (number : ℕ) → number % 2 ≡ 0 → twin_of (number + 1) ≡ number
+pub twin_odd : (number : ℕ) → number % 2 ≡ 0 → twin_number (number + 1) ≡ number
 twin_odd number h =
     let one : (number + 1) % 2 ≡ 1 = add-mod number 1 2 ∙ ap (λ (k : ℕ). (k + 1) % 2) h in
     let e : number + 1 - 1 ≡ number = omega arith in
@@ -103,7 +103,7 @@ at_front starts clause l = record { clause = clause; code = literal_number l; ne
 
 -- it keeps the watch of that literal
 abbrev pub watch_with : ℕ → ℕ → Lit → Watch
-watch_with number clause l = record { clause = clause; lit = l; twin = twin_of number }
+watch_with number clause l = record { clause = clause; lit = l; twin = twin_number number }
 
 pub front_keeps : (number : ℕ) (starts : List Starts) (clause : ℕ) (l : Lit) → watch_of number (at_front starts clause l) ≡ watch_with number clause l
 front_keeps number starts clause l = ap (λ (x : Lit). watch_with number clause x) (code_back l)
@@ -130,7 +130,7 @@ node_put nodes starts others number l a known within few =
 
 -- so it watches that literal, and waits no more
 pub node_puts : (nodes : List Node) (starts : List Starts) (others : List ℕ) (number : ℕ) (l : Lit) (vars spare : ℕ) → number < length nodes
-    → Puts (record { watches = watches_of nodes; waiting = others ++ number ∷ []; vars = vars; spare = spare })
+    → PutsWatch (record { watches = watches_of nodes; waiting = others ++ number ∷ []; vars = vars; spare = spare })
     (record { watches = watches_of (slice_set nodes number (moved nodes starts number l)); waiting = others; vars = vars; spare = spare }) l
 node_puts nodes starts others number l vars spare within before last e =
     let s = same_from_push others before number last e in
@@ -145,8 +145,8 @@ pub pair_pushed : (nodes one two : List Node) (starts between : List Starts) (cl
 pair_pushed nodes one two starts between clause first second even a b =
     let n = count_watches nodes in
     let size : length one ≡ length nodes + 1 = rw a (grind (arith, common_steps)) in
-    let t1 : twin_of (length nodes) ≡ suc (length (watches_of nodes)) = twin_even (length nodes) even ∙ ap suc (sym n) in
-    let t2 : twin_of (length one) ≡ length (watches_of nodes) = ap twin_of size ∙ twin_odd (length nodes) even ∙ sym n in
+    let t1 : twin_number (length nodes) ≡ suc (length (watches_of nodes)) = twin_even (length nodes) even ∙ ap suc (sym n) in
+    let t2 : twin_number (length one) ≡ length (watches_of nodes) = ap twin_number size ∙ twin_odd (length nodes) even ∙ sym n in
     let w1 = ap watches_of a ∙ watches_pushed nodes (at_front starts clause first) ∙ ap (λ (w : Watch). watches_of nodes ++ w ∷ []) (front_keeps (length nodes) starts clause first) in
     let w2 = ap watches_of b ∙ watches_pushed one (at_front between clause second) ∙ ap (λ (w : Watch). watches_of one ++ w ∷ []) (front_keeps (length one) between clause second) in
     w2 ∙ rw (w1, t1, t2) refl

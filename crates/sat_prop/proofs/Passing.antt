@@ -8,7 +8,7 @@ use Rattle.prop_core.specs.Derivation.{Standing, standing, clause_numbered}
 use Rattle.prop_core.specs.Trail.{is_quiet}
 use Rattle.sat_prop.specs.TrailState.{TrailState, IsKnownClause}
 use Rattle.sat_prop.specs.Quiet.{stands, AreQuietBelow}
-use Rattle.sat_prop.specs.Changes.{IsFront, Propagates, with_literal}
+use Rattle.sat_prop.specs.Changes.{IsFront, Propagates, with_true_literal}
 use Rattle.sat_prop.proofs.Fronts.{front_same, front_length, split_last}
 
 -- how the clause that is read stands, by the clauses of the trail
@@ -23,7 +23,7 @@ quiet_next cs att taken place number e h q k b = ⊎_elim (λ m. h k m)
     (λ m. subst (λ (n : ℕ). is_quiet (stands taken (clause_numbered cs (get_or att n 0))) ≡ true) (sym m) (subst (λ (n : ℕ). is_quiet (stands taken (clause_numbered cs n)) ≡ true) e q))
     (split_last k place b)
 
-pub longer_by_one : (old t : TrailState) (new : TrailState) (l : Lit) (number : ℕ) → Propagates old t → new ≡ with_literal t l (Some number) → length old.literals < length new.literals
+pub longer_by_one : (old t : TrailState) (new : TrailState) (l : Lit) (number : ℕ) → Propagates old t → new ≡ with_true_literal t l (Some number) → length old.literals < length new.literals
 longer_by_one old t new l number p e =
     let n = front_length old.literals t.literals p.literals in
     let m : length new.literals ≡ length t.literals + 1 = rw e (grind (arith, common_steps)) in

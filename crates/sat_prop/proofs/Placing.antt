@@ -7,7 +7,7 @@ use Rattle.prop_core.specs.declared.lit.Lit.{Lit}
 use Rattle.prop_core.specs.Clauses.{is_true, is_open, AreConsistent}
 use Rattle.prop_core.specs.Trail.{no_literal, has_var}
 use Rattle.prop_core.proofs.Literals.{literal_of, literal_is, differs, true_at, place_found, has_back}
-use Rattle.sat_prop.specs.TrailState.{literal_at, value_by, StandsAt}
+use Rattle.sat_prop.specs.TrailState.{literal_at, trail_value, StandsAt}
 use Rattle.sat_prop.specs.Kept.{ArePlaces}
 use Rattle.sat_prop.proofs.Fronts.{split_last}
 
@@ -58,10 +58,10 @@ pub stands_once : (literals : List Lit) (places : List ℕ) (vars var a b : ℕ)
 stands_once literals places vars var a b p h k = sym (subst (λ (n : ℕ). get_or places n 0 ≡ a) h.at (p.each a h.within)) ∙ subst (λ (n : ℕ). get_or places n 0 ≡ b) k.at (p.each b k.within)
 
 -- the value of a variable with a literal
-pub value_stands : (literals : List Lit) (var place : ℕ) → AreConsistent literals → StandsAt literals var place → value_by literals var ≡ Some (literal_at literals place).positive
+pub value_stands : (literals : List Lit) (var place : ℕ) → AreConsistent literals → StandsAt literals var place → trail_value literals var ≡ Some (literal_at literals place).positive
 value_stands literals var place c s = by (get_or literals place no_literal).positive refl
   where
-    by : (b : Bool) → (get_or literals place no_literal).positive ≡ b → value_by literals var ≡ Some b
+    by : (b : Bool) → (get_or literals place no_literal).positive ≡ b → trail_value literals var ≡ Some b
     by true e = let t = true_at literals (literal_of var true) place s.within (literal_is (get_or literals place no_literal) (literal_of var true) s.at e) in rw t refl
     by false e =
         let t = true_at literals (literal_of var false) place s.within (literal_is (get_or literals place no_literal) (literal_of var false) s.at e) in
@@ -69,7 +69,7 @@ value_stands literals var place c s = by (get_or literals place no_literal).posi
         rw (f, t) refl
 
 -- and of one with none
-pub value_open : (literals : List Lit) (var : ℕ) → ((place : ℕ) → StandsAt literals var place → ⊥) → value_by literals var ≡ None
+pub value_open : (literals : List Lit) (var : ℕ) → ((place : ℕ) → StandsAt literals var place → ⊥) → trail_value literals var ≡ None
 value_open literals var n =
     let no : (b : Bool) → is_true literals (literal_of var b) ≡ false = λ b. ⊎_elim
     (λ t. let k = place_found literals (literal_of var b) t in absurd (n k.0 (record { within = k.1.within; at = ap (λ (l : Lit). l.var) k.1.at })))
@@ -79,7 +79,7 @@ value_open literals var n =
     rw (t, f) refl
 
 -- what the value says of a literal
-pub value_some : (literals : List Lit) (var : ℕ) (b : Bool) → value_by literals var ≡ Some b → is_true literals (literal_of var b) ≡ true
+pub value_some : (literals : List Lit) (var : ℕ) (b : Bool) → trail_value literals var ≡ Some b → is_true literals (literal_of var b) ≡ true
 value_some literals var b e = by (is_true literals (literal_of var true)) refl (is_true literals (literal_of var false)) refl
   where
     by : (t : Bool) → is_true literals (literal_of var true) ≡ t → (f : Bool) → is_true literals (literal_of var false) ≡ f → is_true literals (literal_of var b) ≡ true
@@ -87,7 +87,7 @@ value_some literals var b e = by (is_true literals (literal_of var true)) refl (
     by false g true h = let q : Some false ≡ Some b = sym (rw (g, h) refl) ∙ e in let r : false ≡ b = cc in subst (λ (x : Bool). is_true literals (literal_of var x) ≡ true) r h
     by false g false h = let q : None ≡ Some b = sym (rw (g, h) refl) ∙ e in cc
 
-pub value_none : (literals : List Lit) (var : ℕ) → value_by literals var ≡ None → (is_true literals (literal_of var true) ≡ false) × (is_true literals (literal_of var false) ≡ false)
+pub value_none : (literals : List Lit) (var : ℕ) → trail_value literals var ≡ None → (is_true literals (literal_of var true) ≡ false) × (is_true literals (literal_of var false) ≡ false)
 value_none literals var e = by (is_true literals (literal_of var true)) refl (is_true literals (literal_of var false)) refl
   where
     by : (t : Bool) → is_true literals (literal_of var true) ≡ t → (f : Bool) → is_true literals (literal_of var false) ≡ f → (t ≡ false) × (f ≡ false)

@@ -12,12 +12,12 @@ use Rattle.prop_core.specs.Trail.{is_quiet, no_literal}
 use Rattle.prop_core.proofs.Entailed.{same_itself, beq_is}
 use Rattle.prop_core.proofs.Literals.{literal_of, literal_is, true_at, all_from, all_at, open_from}
 use Rattle.prop_core.proofs.Forcing.{forced_unit, quiet_true, quiet_two}
-use Rattle.sat_prop.specs.TrailState.{value_by}
+use Rattle.sat_prop.specs.TrailState.{trail_value}
 use Rattle.sat_prop.specs.Kept.{IsSeenUpTo}
 use Rattle.sat_prop.proofs.Placing.{value_some, value_none}
 
 -- what a value says of a literal
-pub value_agrees : (literals : List Lit) (l : Lit) (b : Bool) → value_by literals l.var ≡ Some b → beq b l.positive ≡ true → is_true literals l ≡ true
+pub value_agrees : (literals : List Lit) (l : Lit) (b : Bool) → trail_value literals l.var ≡ Some b → beq b l.positive ≡ true → is_true literals l ≡ true
 value_agrees literals l b e f = subst (λ (x : Lit). is_true literals x ≡ true) (literal_is (literal_of l.var b) l refl (beq_is b l.positive f)) (value_some literals l.var b e)
 
 other : (a b : Bool) → beq a b ≡ false → a ≡ not b
@@ -26,10 +26,10 @@ other true false e = refl
 other false true e = refl
 other false false e = cc
 
-pub value_denies : (literals : List Lit) (l : Lit) (b : Bool) → value_by literals l.var ≡ Some b → beq b l.positive ≡ false → is_false literals l ≡ true
+pub value_denies : (literals : List Lit) (l : Lit) (b : Bool) → trail_value literals l.var ≡ Some b → beq b l.positive ≡ false → is_false literals l ≡ true
 value_denies literals l b e f = subst (λ (x : Lit). is_true literals x ≡ true) (literal_is (literal_of l.var b) (negation l) refl (other b l.positive f)) (value_some literals l.var b e)
 
-pub value_lacks : (literals : List Lit) (l : Lit) → value_by literals l.var ≡ None → is_open literals l ≡ true
+pub value_lacks : (literals : List Lit) (l : Lit) → trail_value literals l.var ≡ None → is_open literals l ≡ true
 value_lacks literals l e = let n = value_none literals l.var e in by l.positive refl n
   where
     by : (p : Bool) → l.positive ≡ p → (is_true literals (literal_of l.var true) ≡ false) × (is_true literals (literal_of l.var false) ≡ false) → is_open literals l ≡ true

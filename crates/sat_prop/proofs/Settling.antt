@@ -13,11 +13,11 @@ use Rattle.prop_core.proofs.Forcing.{forced_stands, quiet_true, quiet_two}
 use Rattle.sat_prop.specs.TrailState.{TrailState, literal_at, reason_at}
 use Rattle.sat_prop.specs.Levels.{level_of}
 use Rattle.sat_prop.specs.Quiet.{AreQuiet, stands}
-use Rattle.sat_prop.specs.Changes.{IsKeptUpTo, with_literal}
+use Rattle.sat_prop.specs.Changes.{IsKeptUpTo, with_true_literal}
 use Rattle.sat_prop.specs.Kept.{IsTrailState}
 use Rattle.sat_prop.specs.declared.watch_lists.Watch.{Watch}
 use Rattle.sat_prop.specs.Watches.{watch_at}
-use Rattle.sat_prop.specs.Watching.{WatchedState, AreWatched, AreVisited, IsWatch, IsSettled, IsNarrow, MakesUp, other_of}
+use Rattle.sat_prop.specs.Watching.{WatchedState, AreWatched, AreVisited, IsWatch, IsSettled, IsNarrow, MakesUp, other_literal}
 use Rattle.sat_prop.proofs.Fronts.{split_last, held_same, contains_at}
 use Rattle.sat_prop.proofs.Links.{not_both}
 use Rattle.sat_prop.proofs.Justifying.{justified_consistent}
@@ -32,9 +32,9 @@ settled_more clauses literals seen watches n l b s place clause h e held =
     let i : place < length literals = omega arith in
     let g : get_or (literals ++ l ∷ []) place no_literal ≡ get_or literals place no_literal = grind (arith, common_steps) in
     let t : take (place + 1) (literals ++ l ∷ []) ≡ take (place + 1) literals = grind (arith, common_steps) in
-    subst (λ (first : List Lit). MakesUp (literals ++ l ∷ []) first clause (other_of watches n)) (sym t) (makes_up_more literals (take (place + 1) literals) clause (other_of watches n) l (s place clause h (sym g ∙ e) held))
+    subst (λ (first : List Lit). MakesUp (literals ++ l ∷ []) first clause (other_literal watches n)) (sym t) (makes_up_more literals (take (place + 1) literals) clause (other_literal watches n) l (s place clause h (sym g ∙ e) held))
 
-pub watched_more : (t : TrailState) (w : WatchedState) (l : Lit) (reason : Option ℕ) → AreWatched t w → AreWatched (with_literal t l reason) w
+pub watched_more : (t : TrailState) (w : WatchedState) (l : Lit) (reason : Option ℕ) → AreWatched t w → AreWatched (with_true_literal t l reason) w
 watched_more t w l reason a = record {
   front = let f = a.front in grind (arith, common_steps);
   vars = a.vars;
@@ -47,18 +47,18 @@ watched_more t w l reason a = record {
   settled = λ n h. settled_more t.clauses t.literals w.seen w.lists.watches n l a.front (a.settled n h);
 }
 
-pub visited_more : (t : TrailState) (w : WatchedState) (l : Lit) (reason : Option ℕ) → w.seen < length t.literals → AreVisited t w → AreVisited (with_literal t l reason) w
+pub visited_more : (t : TrailState) (w : WatchedState) (l : Lit) (reason : Option ℕ) → w.seen < length t.literals → AreVisited t w → AreVisited (with_true_literal t l reason) w
 visited_more t w l reason b a n h f = settled_more t.clauses t.literals (w.seen + 1) w.lists.watches n l (omega arith) (a n h f)
 
 -- ---- a watched literal that the next literal makes false
 
 -- what is settled by the literals that have been looked at is so by the next one too
 pub settled_next : (clauses : List Clause) (literals : List Lit) (seen : ℕ) (watches : List Watch) (n : ℕ) → IsSettled clauses literals seen watches n
-    → ((clause : Clause) → literal_at literals seen ≡ negation (watch_at watches n).lit → clause_numbered clauses (watch_at watches n).clause ≡ Some clause → MakesUp literals (take (seen + 1) literals) clause (other_of watches n))
+    → ((clause : Clause) → literal_at literals seen ≡ negation (watch_at watches n).lit → clause_numbered clauses (watch_at watches n).clause ≡ Some clause → MakesUp literals (take (seen + 1) literals) clause (other_literal watches n))
     → IsSettled clauses literals (seen + 1) watches n
 settled_next clauses literals seen watches n s f place clause h e held = ⊎_elim
     (λ b. s place clause b e held)
-    (λ b. subst (λ (p : ℕ). MakesUp literals (take (p + 1) literals) clause (other_of watches n)) (sym b) (f clause (subst (λ (p : ℕ). literal_at literals p ≡ negation (watch_at watches n).lit) b e) held))
+    (λ b. subst (λ (p : ℕ). MakesUp literals (take (p + 1) literals) clause (other_literal watches n)) (sym b) (f clause (subst (λ (p : ℕ). literal_at literals p ≡ negation (watch_at watches n).lit) b e) held))
     (split_last place seen h)
 
 pub negation_once : (a b : Lit) → negation a ≡ negation b → a ≡ b
@@ -69,25 +69,25 @@ pub settled_apart : (clauses : List Clause) (literals : List Lit) (seen : ℕ) (
 settled_apart clauses literals seen watches n l s falls d = settled_next clauses literals seen watches n s (λ clause e held. absurd (d (negation_once (watch_at watches n).lit l (sym e ∙ falls))))
 
 -- the other literal is among the first,
-pub settled_true : (clauses : List Clause) (literals : List Lit) (seen : ℕ) (watches : List Watch) (n : ℕ) → seen < length literals → IsSettled clauses literals seen watches n → is_true (take (seen + 1) literals) (other_of watches n) ≡ true → IsSettled clauses literals (seen + 1) watches n
+pub settled_true : (clauses : List Clause) (literals : List Lit) (seen : ℕ) (watches : List Watch) (n : ℕ) → seen < length literals → IsSettled clauses literals seen watches n → is_true (take (seen + 1) literals) (other_literal watches n) ≡ true → IsSettled clauses literals (seen + 1) watches n
 settled_true clauses literals seen watches n b s t = settled_next clauses literals seen watches n s (λ clause e held.
     let whole : take (length literals) literals ≡ literals = grind (arith, common_steps) in
-    record { early = inl t; now = subst (λ (ls : List Lit). is_true ls (other_of watches n) ≡ true) whole (true_longer literals (other_of watches n) (seen + 1) (length literals) (omega arith) t) })
+    record { early = inl t; now = subst (λ (ls : List Lit). is_true ls (other_literal watches n) ≡ true) whole (true_longer literals (other_literal watches n) (seen + 1) (length literals) (omega arith) t) })
 
 -- or the first make all others false, and the other one is true.
 pub settled_forced : (clauses : List Clause) (literals : List Lit) (seen : ℕ) (watches : List Watch) (n : ℕ) (clause : Clause) → IsSettled clauses literals seen watches n → clause_numbered clauses (watch_at watches n).clause ≡ Some clause
-    → is_forced_by (take (seen + 1) literals) (other_of watches n) clause ≡ true → is_true literals (other_of watches n) ≡ true → IsSettled clauses literals (seen + 1) watches n
+    → is_forced_by (take (seen + 1) literals) (other_literal watches n) clause ≡ true → is_true literals (other_literal watches n) ≡ true → IsSettled clauses literals (seen + 1) watches n
 settled_forced clauses literals seen watches n clause s held forced t = settled_next clauses literals seen watches n s (λ c e h.
     let q : clause ≡ c = held_same clauses (watch_at watches n).clause clause c held h in
-    record { early = inr (subst (λ (x : Clause). is_forced_by (take (seen + 1) literals) (other_of watches n) x ≡ true) q forced); now = t })
+    record { early = inr (subst (λ (x : Clause). is_forced_by (take (seen + 1) literals) (other_literal watches n) x ≡ true) q forced); now = t })
 
 -- ---- what the two literals of a clause tell
 
 -- the other watched literal is one of the clause
-pub other_among : (t : TrailState) (watches : List Watch) (n : ℕ) (a : IsWatch t.clauses t.attached watches n) → IsWatch t.clauses t.attached watches (watch_at watches n).twin → list_any (same_literal (other_of watches n)) a.clause ≡ true
+pub other_among : (t : TrailState) (watches : List Watch) (n : ℕ) (a : IsWatch t.clauses t.attached watches n) → IsWatch t.clauses t.attached watches (watch_at watches n).twin → list_any (same_literal (other_literal watches n)) a.clause ≡ true
 other_among t watches n a b =
     let q : b.clause ≡ a.clause = held_same t.clauses (watch_at watches n).clause b.clause a.clause (subst (λ (k : ℕ). clause_numbered t.clauses k ≡ Some b.clause) a.same b.held) a.held in
-    subst (λ (x : Clause). list_any (same_literal (other_of watches n)) x ≡ true) q b.among
+    subst (λ (x : Clause). list_any (same_literal (other_literal watches n)) x ≡ true) q b.among
 
 -- all that are false in the first literals are false
 pub false_longer : (literals : List Lit) (l : Lit) (k : ℕ) → k ≤ length literals → is_false (take k literals) l ≡ true → is_false literals l ≡ true
@@ -116,26 +116,26 @@ module _ (t : TrailState) (w : WatchedState) (consistent : AreConsistent t.liter
       let among = other_among t w.lists.watches n here twin in
       ap (λ (o : Option Clause). is_quiet (stands t.literals o)) here.held ∙ by here twin among
     where
-      made_up : (m : ℕ) (i : m < length w.lists.watches) → is_false t.literals (watch_at w.lists.watches m).lit ≡ true → is_true t.literals (other_of w.lists.watches m) ≡ true
+      made_up : (m : ℕ) (i : m < length w.lists.watches) → is_false t.literals (watch_at w.lists.watches m).lit ≡ true → is_true t.literals (other_literal w.lists.watches m) ≡ true
       made_up m i f =
           let p = place_found t.literals (negation (watch_at w.lists.watches m).lit) f in
           let within = p.1.within in
           (a.settled m i p.0 (a.each m i).clause (omega arith) p.1.at (a.each m i).held).now
 
-      by : (here : IsWatch t.clauses t.attached w.lists.watches n) → IsWatch t.clauses t.attached w.lists.watches (watch_at w.lists.watches n).twin → list_any (same_literal (other_of w.lists.watches n)) here.clause ≡ true → is_quiet (standing t.literals here.clause) ≡ true
+      by : (here : IsWatch t.clauses t.attached w.lists.watches n) → IsWatch t.clauses t.attached w.lists.watches (watch_at w.lists.watches n).twin → list_any (same_literal (other_literal w.lists.watches n)) here.clause ≡ true → is_quiet (standing t.literals here.clause) ≡ true
       by here twin among = ⊎_elim
-          (λ f. quiet_true t.literals here.clause (other_of w.lists.watches n) consistent among (made_up n h f))
+          (λ f. quiet_true t.literals here.clause (other_literal w.lists.watches n) consistent among (made_up n h f))
           (λ f. ⊎_elim
           (λ g. let m = made_up (watch_at w.lists.watches n).twin here.twin g in
           quiet_true t.literals here.clause (watch_at w.lists.watches n).lit consistent here.among (subst (λ (k : ℕ). is_true t.literals (watch_at w.lists.watches k).lit ≡ true) here.back m))
           (λ g. ⊎_elim
           (λ p. quiet_true t.literals here.clause (watch_at w.lists.watches n).lit consistent here.among p)
           (λ p. ⊎_elim
-          (λ q. quiet_true t.literals here.clause (other_of w.lists.watches n) consistent among q)
-          (λ q. quiet_two t.literals here.clause (watch_at w.lists.watches n).lit (other_of w.lists.watches n) here.among among (open_from t.literals (watch_at w.lists.watches n).lit p f) (open_from t.literals (other_of w.lists.watches n) q g) here.apart)
-          (cases_Bool (is_true t.literals (other_of w.lists.watches n))))
+          (λ q. quiet_true t.literals here.clause (other_literal w.lists.watches n) consistent among q)
+          (λ q. quiet_two t.literals here.clause (watch_at w.lists.watches n).lit (other_literal w.lists.watches n) here.among among (open_from t.literals (watch_at w.lists.watches n).lit p f) (open_from t.literals (other_literal w.lists.watches n) q g) here.apart)
+          (cases_Bool (is_true t.literals (other_literal w.lists.watches n))))
           (cases_Bool (is_true t.literals (watch_at w.lists.watches n).lit)))
-          (cases_Bool (is_false t.literals (other_of w.lists.watches n))))
+          (cases_Bool (is_false t.literals (other_literal w.lists.watches n))))
           (cases_Bool (is_false t.literals (watch_at w.lists.watches n).lit))
 
   pub watched_quiet : AreQuiet t.clauses w.short t.literals → AreQuiet t.clauses t.attached t.literals
@@ -231,15 +231,15 @@ watched_back t new w level s a k = record {
       let first : take (place + 1) new.literals ≡ take (place + 1) t.literals = rw l (grind (arith, common_steps)) in
       let held_before : clause_numbered t.clauses (watch_at w.lists.watches n).clause ≡ Some clause = subst (λ (cs : List Clause). clause_numbered cs (watch_at w.lists.watches n).clause ≡ Some clause) k.clauses held in
       let m = a.settled n h place clause i (sym g ∙ e) held_before in
-      let now : is_true new.literals (other_of w.lists.watches n) ≡ true = ⊎_elim
-      (λ q. rw l (true_longer t.literals (other_of w.lists.watches n) (place + 1) k.kept (omega arith) q))
+      let now : is_true new.literals (other_literal w.lists.watches n) ≡ true = ⊎_elim
+      (λ q. rw l (true_longer t.literals (other_literal w.lists.watches n) (place + 1) k.kept (omega arith) q))
       (λ q. ⊎_elim
-      (λ less. rw l (still_true t.literals clause (other_of w.lists.watches n) (place + 1) k.kept (omega arith) (justified_consistent _ _ _ _ _ s.justified) q
+      (λ less. rw l (still_true t.literals clause (other_literal w.lists.watches n) (place + 1) k.kept (omega arith) (justified_consistent _ _ _ _ _ s.justified) q
       (let quiet = s.quiet k.kept less (k.cut.next (let c = s.justified.same in omega arith)) in quiet_at t.clauses t.attached (take k.kept t.literals) (watch_at w.lists.watches n).clause clause quiet here.joined held_before)))
       (λ all. let whole : take k.kept t.literals ≡ t.literals = rw all (grind (arith, common_steps)) in rw (l, whole) m.now)
       (less_or_all k.kept (length t.literals) within))
       m.early in
-      record { early = subst (λ (ls : List Lit). (is_true ls (other_of w.lists.watches n) ≡ true) ⊎ (is_forced_by ls (other_of w.lists.watches n) clause ≡ true)) (sym first) m.early; now = now };
+      record { early = subst (λ (ls : List Lit). (is_true ls (other_literal w.lists.watches n) ≡ true) ⊎ (is_forced_by ls (other_literal w.lists.watches n) clause ≡ true)) (sym first) m.early; now = now };
 }
   where
     less_or_all : (k n : ℕ) → k ≤ n → (k < n) ⊎ (k ≡ n)

@@ -8,25 +8,25 @@ use Rattle.prop_core.specs.declared.lit.Lit.{Lit}
 use Rattle.prop_core.specs.Clauses.{negation, same_literal, is_true, is_open, HasValues}
 use Rattle.prop_core.specs.Trail.{no_literal}
 use Rattle.prop_core.proofs.Literals.{literal_of, literal_is, open_parts, open_var, true_at, true_more, not_self, below_at, below_from}
-use Rattle.sat_prop.specs.TrailState.{value_by}
+use Rattle.sat_prop.specs.TrailState.{trail_value}
 use Rattle.sat_prop.specs.Kept.{AreValues}
 use Rattle.sat_prop.proofs.Placing.{value_open}
 
 -- a variable whose literal is open has no value,
-open_value : (literals : List Lit) (l : Lit) → is_open literals l ≡ true → value_by literals l.var ≡ None
+open_value : (literals : List Lit) (l : Lit) → is_open literals l ≡ true → trail_value literals l.var ≡ None
 open_value literals l o =
     let t = (open_parts literals (literal_of l.var true) (open_var literals l (literal_of l.var true) refl o)).0 in
     let f = (open_parts literals (literal_of l.var false) (open_var literals l (literal_of l.var false) refl o)).0 in
     rw (t, f) refl
 
 -- and with the literal it has,
-more_value : (literals : List Lit) (l : Lit) → is_open literals l ≡ true → value_by (literals ++ l ∷ []) l.var ≡ Some l.positive
+more_value : (literals : List Lit) (l : Lit) → is_open literals l ≡ true → trail_value (literals ++ l ∷ []) l.var ≡ Some l.positive
 more_value literals l o = by l.positive refl
   where
     now : is_true (literals ++ l ∷ []) l ≡ true
     now = true_at (literals ++ l ∷ []) l (length literals) (grind (arith, common_steps)) (grind (arith, common_steps))
 
-    by : (p : Bool) → l.positive ≡ p → value_by (literals ++ l ∷ []) l.var ≡ Some p
+    by : (p : Bool) → l.positive ≡ p → trail_value (literals ++ l ∷ []) l.var ≡ Some p
     by true q =
         let t : is_true (literals ++ l ∷ []) (literal_of l.var true) ≡ true = subst (λ (x : Lit). is_true (literals ++ l ∷ []) x ≡ true) (literal_is l (literal_of l.var true) refl q) now in
         rw t refl
@@ -38,7 +38,7 @@ more_value literals l o = by l.positive refl
         rw (f, t) refl
 
 -- while the others stay as they are.
-apart_value : (literals : List Lit) (l : Lit) (var : ℕ) → (var ≡ l.var → ⊥) → value_by (literals ++ l ∷ []) var ≡ value_by literals var
+apart_value : (literals : List Lit) (l : Lit) (var : ℕ) → (var ≡ l.var → ⊥) → trail_value (literals ++ l ∷ []) var ≡ trail_value literals var
 apart_value literals l var d =
     let t = same true in
     let f = same false in
@@ -53,7 +53,7 @@ values_more vars literals values l a o h = let n = a.enough in record {
   enough = grind (arith, common_steps);
   each = λ var b. ⊎_elim
       (λ e. let g : get_or (slice_set values l.var (Some l.positive)) l.var None ≡ Some l.positive = grind (arith, common_steps) in
-      subst (λ (v : ℕ). get_or (slice_set values l.var (Some l.positive)) v None ≡ value_by (literals ++ l ∷ []) v) (sym e) (g ∙ sym (more_value literals l o)))
+      subst (λ (v : ℕ). get_or (slice_set values l.var (Some l.positive)) v None ≡ trail_value (literals ++ l ∷ []) v) (sym e) (g ∙ sym (more_value literals l o)))
       (λ d. let g : get_or (slice_set values l.var (Some l.positive)) var None ≡ get_or values var None = grind (arith, common_steps) in
       let k : var < length values = grind (arith, common_steps) in
       g ∙ a.each var k ∙ sym (apart_value literals l var d))
@@ -66,7 +66,7 @@ values_less vars literals values l a o h = let n = a.enough in record {
   enough = grind (arith, common_steps);
   each = λ var b. ⊎_elim
       (λ e. let g : get_or (slice_set values l.var None) l.var None ≡ None = grind (arith, common_steps) in
-      subst (λ (v : ℕ). get_or (slice_set values l.var None) v None ≡ value_by literals v) (sym e) (g ∙ sym (open_value literals l o)))
+      subst (λ (v : ℕ). get_or (slice_set values l.var None) v None ≡ trail_value literals v) (sym e) (g ∙ sym (open_value literals l o)))
       (λ d. let g : get_or (slice_set values l.var None) var None ≡ get_or values var None = grind (arith, common_steps) in
       let k : var < length values = grind (arith, common_steps) in
       g ∙ a.each var k ∙ apart_value literals l var d)

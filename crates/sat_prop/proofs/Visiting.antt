@@ -14,12 +14,12 @@ use Rattle.prop_core.proofs.Entailed.{same_itself}
 use Rattle.prop_core.proofs.Literals.{same_back, true_at, true_more, below_at, open_parts}
 use Rattle.prop_core.proofs.Forcing.{forced_stands}
 use Rattle.sat_prop.specs.TrailState.{TrailState, literal_at, IsKnownClause}
-use Rattle.sat_prop.specs.Changes.{IsFront, Propagates, with_literal, with_clause}
+use Rattle.sat_prop.specs.Changes.{IsFront, Propagates, with_true_literal, with_attached_clause}
 use Rattle.sat_prop.specs.declared.watch_lists.Watch.{Watch}
 use Rattle.sat_prop.specs.declared.watched.Judged.{Judged}
 use Rattle.sat_prop.specs.declared.watched.Judged.TheVariants.{Stays, Moves, False}
-use Rattle.sat_prop.specs.Watches.{WatchState, IsNext, Puts, watch_at, watching, is_among, with_pair}
-use Rattle.sat_prop.specs.Watching.{WatchedState, AreWatched, AreVisited, IsVisiting, Visits, IsWatch, IsSettled, MakesUp, IsJudged, IsReplaced, IsReplacement, IsShort, AreTwo, other_of}
+use Rattle.sat_prop.specs.Watches.{WatchState, IsLastWaiting, PutsWatch, watch_at, watching, is_among, with_watched_clause}
+use Rattle.sat_prop.specs.Watching.{WatchedState, AreWatched, AreVisited, IsVisiting, Visits, IsWatch, IsSettled, MakesUp, IsJudgedWatch, IsReplaced, IsReplacement, IsShort, AreTwo, other_literal}
 use Rattle.sat_prop.specs.Kept.{IsTrailState}
 use Rattle.sat_prop.proofs.Fronts.{split_last, front_trans, front_length, front_at, held_same, front_held, front_same, number_of, known_at, contains_more}
 use Rattle.sat_prop.proofs.Links.{not_both}
@@ -48,7 +48,7 @@ set_length : (watches : List Watch) (n : ℕ) (x : Watch) → length (slice_set 
 set_length watches n x = grind (arith, common_steps)
 
 module _ (t : TrailState) (w : WatchedState) (n : ℕ) (clause : Clause) (l : Lit) (consistent : AreConsistent t.literals) (a : AreWatched t w) (within : n < length w.lists.watches) (before : w.seen < length t.literals)
-    (held : clause_numbered t.clauses (watch_at w.lists.watches n).clause ≡ Some clause) (falls : literal_at t.literals w.seen ≡ negation (watch_at w.lists.watches n).lit) (r : IsReplacement t.literals clause (other_of w.lists.watches n) w.seen l) where
+    (held : clause_numbered t.clauses (watch_at w.lists.watches n).clause ≡ Some clause) (falls : literal_at t.literals w.seen ≡ negation (watch_at w.lists.watches n).lit) (r : IsReplacement t.literals clause (other_literal w.lists.watches n) w.seen l) where
   here : IsWatch t.clauses t.attached w.lists.watches n
   here = a.each n within
 
@@ -74,13 +74,13 @@ module _ (t : TrailState) (w : WatchedState) (n : ℕ) (clause : Clause) (l : Li
   twins_apart : (m : ℕ) → m < length w.lists.watches → (m ≡ twin → ⊥) → (watch_at w.lists.watches m).twin ≡ n → ⊥
   twins_apart m h d e = d (sym (a.each m h).back ∙ ap (λ (k : ℕ). (watch_at w.lists.watches k).twin) e)
 
-  other_here : other_of moved n ≡ other_of w.lists.watches n
+  other_here : other_literal moved n ≡ other_literal w.lists.watches n
   other_here = ap (λ (x : Watch). (watch_at moved x.twin).lit) moved_here ∙ ap (λ (x : Watch). x.lit) (moved_apart twin twin_apart)
 
-  other_there : other_of moved twin ≡ l
+  other_there : other_literal moved twin ≡ l
   other_there = ap (λ (x : Watch). (watch_at moved x.twin).lit) (moved_apart twin twin_apart) ∙ ap (λ (k : ℕ). (watch_at moved k).lit) here.back ∙ ap (λ (x : Watch). x.lit) moved_here
 
-  other_apart : (m : ℕ) → m < length w.lists.watches → (m ≡ n → ⊥) → (m ≡ twin → ⊥) → other_of moved m ≡ other_of w.lists.watches m
+  other_apart : (m : ℕ) → m < length w.lists.watches → (m ≡ n → ⊥) → (m ≡ twin → ⊥) → other_literal moved m ≡ other_literal w.lists.watches m
   other_apart m h d f = ap (λ (x : Watch). (watch_at moved x.twin).lit) (moved_apart m d) ∙ ap (λ (x : Watch). x.lit) (moved_apart (watch_at w.lists.watches m).twin (twins_apart m h f))
 
   same_length : length moved ≡ length w.lists.watches
@@ -100,7 +100,7 @@ module _ (t : TrailState) (w : WatchedState) (n : ℕ) (clause : Clause) (l : Li
         twin = rw (moved_here, same_length) here.twin;
         back = ap (λ (x : Watch). (watch_at moved x.twin).twin) moved_here ∙ ap (λ (x : Watch). x.twin) (moved_apart twin twin_apart) ∙ here.back;
         same = ap (λ (x : Watch). (watch_at moved x.twin).clause) moved_here ∙ ap (λ (x : Watch). x.clause) (moved_apart twin twin_apart) ∙ here.same ∙ ap (λ (x : Watch). x.clause) (sym moved_here);
-        apart = rw (moved_here, other_here) (same_back l (other_of w.lists.watches n) ∙ r.apart);
+        apart = rw (moved_here, other_here) (same_back l (other_literal w.lists.watches n) ∙ r.apart);
       })
       (record {
         joined = rw (moved_apart twin twin_apart) there.joined;
@@ -139,14 +139,14 @@ module _ (t : TrailState) (w : WatchedState) (n : ℕ) (clause : Clause) (l : Li
   -- the literal that moves away is false, so the other one needed none to make up for it
   settled_there : (seen : ℕ) → seen ≤ w.seen + 1 → IsSettled t.clauses t.literals seen moved twin
   settled_there seen b place c h e k =
-      let lit_there : literal_at t.literals place ≡ negation (other_of w.lists.watches n) = e ∙ ap (λ (x : Watch). negation x.lit) (moved_apart twin twin_apart) in
+      let lit_there : literal_at t.literals place ≡ negation (other_literal w.lists.watches n) = e ∙ ap (λ (x : Watch). negation x.lit) (moved_apart twin twin_apart) in
       let gone : is_false t.literals (watch_at w.lists.watches n).lit ≡ true = true_at t.literals (negation (watch_at w.lists.watches n).lit) w.seen before falls in
       ⊎_elim
       (λ i. let held_there : clause_numbered t.clauses (watch_at w.lists.watches twin).clause ≡ Some c = subst (λ (x : Watch). clause_numbered t.clauses x.clause ≡ Some c) (moved_apart twin twin_apart) k in
       let m = a.settled twin here.twin place c i lit_there held_there in
       let now : is_true t.literals (watch_at w.lists.watches n).lit ≡ true = subst (λ (k : ℕ). is_true t.literals (watch_at w.lists.watches k).lit ≡ true) here.back m.now in
       absurd (not_both _ gone (consistent (watch_at w.lists.watches n).lit now)))
-      (λ i. let q : (watch_at w.lists.watches n).lit ≡ other_of w.lists.watches n = negation_once _ _ (sym falls ∙ ap (literal_at t.literals) (sym i) ∙ lit_there) in
+      (λ i. let q : (watch_at w.lists.watches n).lit ≡ other_literal w.lists.watches n = negation_once _ _ (sym falls ∙ ap (literal_at t.literals) (sym i) ∙ lit_there) in
       absurd (not_both _ (subst (λ (x : Lit). same_literal (watch_at w.lists.watches n).lit x ≡ true) q (same_itself (watch_at w.lists.watches n).lit)) here.apart))
       (split_last place w.seen (omega arith))
 
@@ -197,7 +197,7 @@ contains_new att new = (length att, grind (arith, common_steps), grind (arith, c
 settled_front : (t : TrailState) (all : List Clause) (watches : List Watch) (seen fewer n : ℕ) → IsFront t.clauses all → fewer ≤ seen → IsWatch t.clauses t.attached watches n → IsSettled t.clauses t.literals seen watches n → IsSettled all t.literals fewer watches n
 settled_front t all watches seen fewer n f b here s place clause h e held =
     let q : here.clause ≡ clause = held_same all (watch_at watches n).clause here.clause clause (front_held t.clauses all (watch_at watches n).clause here.clause f here.held) held in
-    subst (λ (c : Clause). MakesUp t.literals (take (place + 1) t.literals) c (other_of watches n)) q (s place here.clause (omega arith) e here.held)
+    subst (λ (c : Clause). MakesUp t.literals (take (place + 1) t.literals) c (other_literal watches n)) q (s place here.clause (omega arith) e here.held)
 
 watch_front : (t : TrailState) (all : List Clause) (new : ℕ) (watches : List Watch) (n : ℕ) → IsFront t.clauses all → IsWatch t.clauses t.attached watches n → IsWatch all (t.attached ++ new ∷ []) watches n
 watch_front t all new watches n f k = record {
@@ -216,7 +216,7 @@ short_front : (cs all : List Clause) (n : ℕ) → IsFront cs all → IsShort cs
 short_front cs all n f s = record { clause = s.clause; held = front_held cs all n s.clause f s.held; narrow = s.narrow }
 
 -- one that is short
-pub short_attached : (t : TrailState) (w : WatchedState) (all : List Clause) (new : ℕ) → IsFront t.clauses all → 1 ≤ t.spare → AreWatched t w → IsShort all new → AreWatched (with_clause t all new) (record w { short = w.short ++ new ∷ []; spare = w.spare - 1 })
+pub short_attached : (t : TrailState) (w : WatchedState) (all : List Clause) (new : ℕ) → IsFront t.clauses all → 1 ≤ t.spare → AreWatched t w → IsShort all new → AreWatched (with_attached_clause t all new) (record w { short = w.short ++ new ∷ []; spare = w.spare - 1 })
 short_attached t w all new f room a narrow = record {
   front = a.front;
   vars = a.vars;
@@ -262,7 +262,7 @@ module _ (t : TrailState) (w : WatchedState) (all : List Clause) (new : ℕ) (cl
   second_watch = record { clause = new; lit = second; twin = count }
 
   abbrev pub paired : List Watch
-  paired = (with_pair w.lists new first second).watches
+  paired = (with_watched_clause w.lists new first second).watches
 
   one : watch_at paired count ≡ first_watch
   one = push_before (w.lists.watches ++ first_watch ∷ []) second_watch count (let e = push_length w.lists.watches first_watch in omega arith) ∙ push_here w.lists.watches first_watch
@@ -285,7 +285,7 @@ module _ (t : TrailState) (w : WatchedState) (all : List Clause) (new : ℕ) (cl
       plus_one : count + 1 ≡ suc count
       plus_one = omega arith
 
-  other_kept : (m : ℕ) → m < count → other_of paired m ≡ other_of w.lists.watches m
+  other_kept : (m : ℕ) → m < count → other_literal paired m ≡ other_literal w.lists.watches m
   other_kept m h = ap (λ (x : Watch). (watch_at paired x.twin).lit) (kept m h) ∙ ap (λ (x : Watch). x.lit) (kept (watch_at w.lists.watches m).twin (a.each m h).twin)
 
   watch_paired : (m : ℕ) → m < length paired → IsWatch all (t.attached ++ new ∷ []) paired m
@@ -325,10 +325,10 @@ module _ (t : TrailState) (w : WatchedState) (all : List Clause) (new : ℕ) (cl
         apart = rw (next, other_next) (same_back second first ∙ two.apart);
       })
     where
-      other_one : other_of paired count ≡ second
+      other_one : other_literal paired count ≡ second
       other_one = ap (λ (x : Watch). (watch_at paired x.twin).lit) one ∙ ap (λ (x : Watch). x.lit) next
 
-      other_next : other_of paired (suc count) ≡ first
+      other_next : other_literal paired (suc count) ≡ first
       other_next = ap (λ (x : Watch). (watch_at paired x.twin).lit) next ∙ ap (λ (x : Watch). x.lit) one
 
   settled_paired : (m : ℕ) → m < length paired → IsSettled all t.literals seen paired m
@@ -340,7 +340,7 @@ module _ (t : TrailState) (w : WatchedState) (all : List Clause) (new : ℕ) (cl
       (λ place c b e k. absurd (first_stands place b (e ∙ ap (λ (x : Watch). negation x.lit) one)))
       (λ place c b e k. absurd (second_stands place b (e ∙ ap (λ (x : Watch). negation x.lit) next)))
 
-  pub watch_attached : AreWatched (with_clause t all new) (record w { lists = with_pair w.lists new first second; seen = seen })
+  pub watch_attached : AreWatched (with_attached_clause t all new) (record w { lists = with_watched_clause w.lists new first second; seen = seen })
   watch_attached = record {
     front = let b = a.front in omega arith;
     vars = a.vars;
@@ -397,7 +397,7 @@ module _ (t : TrailState) (w : WatchedState) (all : List Clause) (new : ℕ) (cl
         not_before : (place : ℕ) → literal_at t.literals place ≡ negation second → seen ≤ place
         not_before place e = ⊎_elim (λ h. absurd (second_stands place h e)) (λ h. h) (cases_lt place seen)
 
-    pub watch_joined : AreWatched (with_literal (with_clause t all new) first (Some new)) (record w { lists = with_pair w.lists new first second })
+    pub watch_joined : AreWatched (with_true_literal (with_attached_clause t all new) first (Some new)) (record w { lists = with_watched_clause w.lists new first second })
     watch_joined = let u = watch_attached in record {
       front = let b = a.front in grind (arith, common_steps);
       vars = a.vars;
@@ -517,7 +517,7 @@ watched_roomier t w new spare a s n e v p q = record {
 -- ---- a literal is made true, where it wasn't
 
 abbrev pub IsKeptOr : TrailState → TrailState → Lit → ℕ → Type 0
-IsKeptOr old new l id = (new ≡ old) ⊎ (new ≡ with_literal old l (Some id))
+IsKeptOr old new l id = (new ≡ old) ⊎ (new ≡ with_true_literal old l (Some id))
 
 pub watched_kept : (old new : TrailState) (w : WatchedState) (l : Lit) (id : ℕ) → IsKeptOr old new l id → AreWatched old w → AreWatched new w
 watched_kept old new w l id k a = ⊎_elim (λ e. rw e a) (λ e. rw e (watched_more old w l (Some id) a)) k
@@ -527,15 +527,15 @@ visited_kept old new w l id k b a = ⊎_elim (λ e. rw e a) (λ e. rw e (visited
 
 -- where all literals of its clause but the other watched one are false by the first ones, a watch is settled once that one is true
 judged_forced : (old new : TrailState) (w : WatchedState) (n : ℕ) (clause : Clause) (l : Lit) (id : ℕ) → IsKeptOr old new l id → w.seen < length old.literals → AreWatched old w → n < length w.lists.watches
-    → clause_numbered old.clauses (watch_at w.lists.watches n).clause ≡ Some clause → is_forced_by (take (w.seen + 1) old.literals) (other_of w.lists.watches n) clause ≡ true
-    → is_true new.literals (other_of w.lists.watches n) ≡ true → IsSettled new.clauses new.literals (w.seen + 1) w.lists.watches n
+    → clause_numbered old.clauses (watch_at w.lists.watches n).clause ≡ Some clause → is_forced_by (take (w.seen + 1) old.literals) (other_literal w.lists.watches n) clause ≡ true
+    → is_true new.literals (other_literal w.lists.watches n) ≡ true → IsSettled new.clauses new.literals (w.seen + 1) w.lists.watches n
 judged_forced old new w n clause l id k b a h held forced t = ⊎_elim
-    (λ e. let t2 = subst (λ (s : TrailState). is_true s.literals (other_of w.lists.watches n) ≡ true) e t in
+    (λ e. let t2 = subst (λ (s : TrailState). is_true s.literals (other_literal w.lists.watches n) ≡ true) e t in
     subst (λ (s : TrailState). IsSettled s.clauses s.literals (w.seen + 1) w.lists.watches n) (sym e) (settled_forced old.clauses old.literals w.seen w.lists.watches n clause (a.settled n h) held forced t2))
-    (λ e. let t2 = subst (λ (s : TrailState). is_true s.literals (other_of w.lists.watches n) ≡ true) e t in
+    (λ e. let t2 = subst (λ (s : TrailState). is_true s.literals (other_literal w.lists.watches n) ≡ true) e t in
     let more = watched_more old w l (Some id) a in
     let first : take (w.seen + 1) (old.literals ++ l ∷ []) ≡ take (w.seen + 1) old.literals = take_more old.literals l (w.seen + 1) (omega arith) in
-    let f2 = subst (λ (ls : List Lit). is_forced_by ls (other_of w.lists.watches n) clause ≡ true) (sym first) forced in
+    let f2 = subst (λ (ls : List Lit). is_forced_by ls (other_literal w.lists.watches n) clause ≡ true) (sym first) forced in
     subst (λ (s : TrailState). IsSettled s.clauses s.literals (w.seen + 1) w.lists.watches n) (sym e) (settled_forced old.clauses (old.literals ++ l ∷ []) w.seen w.lists.watches n clause (more.settled n h) held f2 t2))
     k
   where
@@ -545,39 +545,39 @@ judged_forced old new w n clause l id k b a h held forced t = ⊎_elim
 -- ---- another literal was looked for, or the other one was made true
 
 -- the clause has the other literal
-pub other_has : (t : TrailState) (w : WatchedState) (n : ℕ) → AreWatched t w → n < length w.lists.watches → IfSome (clause_numbered t.clauses (watch_at w.lists.watches n).clause) (λ clause. list_any (same_literal (other_of w.lists.watches n)) clause ≡ true)
+pub other_has : (t : TrailState) (w : WatchedState) (n : ℕ) → AreWatched t w → n < length w.lists.watches → IfSome (clause_numbered t.clauses (watch_at w.lists.watches n).clause) (λ clause. list_any (same_literal (other_literal w.lists.watches n)) clause ≡ true)
 other_has t w n a h =
     let here = a.each n h in
     let there = a.each (watch_at w.lists.watches n).twin here.twin in
-    subst (λ (o : Option Clause). IfSome o (λ clause. list_any (same_literal (other_of w.lists.watches n)) clause ≡ true)) (sym here.held) (other_among t w.lists.watches n here there)
+    subst (λ (o : Option Clause). IfSome o (λ clause. list_any (same_literal (other_literal w.lists.watches n)) clause ≡ true)) (sym here.held) (other_among t w.lists.watches n here there)
 
-judged_replaced : (old new : TrailState) (w : WatchedState) (n : ℕ) (result : Judged) → IsKeptOr old new (other_of w.lists.watches n) (watch_at w.lists.watches n).clause → w.seen < length old.literals → AreWatched old w → n < length w.lists.watches
-    → literal_at old.literals w.seen ≡ negation (watch_at w.lists.watches n).lit → IsReplaced old new (watch_at w.lists.watches n).clause (other_of w.lists.watches n) w.seen result → IsJudged new w n result
+judged_replaced : (old new : TrailState) (w : WatchedState) (n : ℕ) (result : Judged) → IsKeptOr old new (other_literal w.lists.watches n) (watch_at w.lists.watches n).clause → w.seen < length old.literals → AreWatched old w → n < length w.lists.watches
+    → literal_at old.literals w.seen ≡ negation (watch_at w.lists.watches n).lit → IsReplaced old new (watch_at w.lists.watches n).clause (other_literal w.lists.watches n) w.seen result → IsJudgedWatch new w n result
 judged_replaced old new w n Stays k b a h falls r =
     let here = a.each n h in
-    let forced = subst (λ (o : Option Clause). IfSome o (λ clause. is_forced_by (take (w.seen + 1) old.literals) (other_of w.lists.watches n) clause ≡ true)) here.held r.0 in
-    judged_forced old new w n here.clause (other_of w.lists.watches n) (watch_at w.lists.watches n).clause k b a h here.held forced r.1
+    let forced = subst (λ (o : Option Clause). IfSome o (λ clause. is_forced_by (take (w.seen + 1) old.literals) (other_literal w.lists.watches n) clause ≡ true)) here.held r.0 in
+    judged_forced old new w n here.clause (other_literal w.lists.watches n) (watch_at w.lists.watches n).clause k b a h here.held forced r.1
 judged_replaced old new w n (Moves l) k b a h falls r =
     let here = a.each n h in
-    let found = subst (λ (o : Option Clause). IfSome o (λ clause. IsReplacement old.literals clause (other_of w.lists.watches n) w.seen l)) here.held r.1 in
-    subst (λ (t : TrailState). IsJudged t w n (Moves l)) (sym r.0) (falls, (here.clause, here.held, found))
+    let found = subst (λ (o : Option Clause). IfSome o (λ clause. IsReplacement old.literals clause (other_literal w.lists.watches n) w.seen l)) here.held r.1 in
+    subst (λ (t : TrailState). IsJudgedWatch t w n (Moves l)) (sym r.0) (falls, (here.clause, here.held, found))
 judged_replaced old new w n False k b a h falls r = r
 
 -- what becomes of a watch, as it and the other literal were read
-pub judged_read : (old new : TrailState) (w : WatchedState) (n : ℕ) (watch : Watch) (other : Lit) (result : Judged) → watch ≡ watch_at w.lists.watches n → other ≡ other_of w.lists.watches n → IsKeptOr old new other watch.clause → w.seen < length old.literals → AreWatched old w → n < length w.lists.watches
-    → literal_at old.literals w.seen ≡ negation watch.lit → IsReplaced old new watch.clause other w.seen result → IsJudged new w n result
+pub judged_read : (old new : TrailState) (w : WatchedState) (n : ℕ) (watch : Watch) (other : Lit) (result : Judged) → watch ≡ watch_at w.lists.watches n → other ≡ other_literal w.lists.watches n → IsKeptOr old new other watch.clause → w.seen < length old.literals → AreWatched old w → n < length w.lists.watches
+    → literal_at old.literals w.seen ≡ negation watch.lit → IsReplaced old new watch.clause other w.seen result → IsJudgedWatch new w n result
 judged_read old new w n watch other result e f k b a h falls r = judged_replaced old new w n result
     (subst (λ (l : Lit). IsKeptOr old new l (watch_at w.lists.watches n).clause) f (subst (λ (x : Watch). IsKeptOr old new other x.clause) e k)) b a h (falls ∙ ap (λ (x : Watch). negation x.lit) e)
     (subst (λ (l : Lit). IsReplaced old new (watch_at w.lists.watches n).clause l w.seen result) f (subst (λ (x : Watch). IsReplaced old new x.clause other w.seen result) e r))
 
 -- ---- what becomes of the next watch that waits
 
-pub look_stays : (t : TrailState) (w : WatchedState) (lists : WatchState) (n : ℕ) → IsNext w.lists n → AreWatched t w → Puts w.lists lists (watch_at w.lists.watches n).lit → AreWatched t (record w { lists = lists })
+pub look_stays : (t : TrailState) (w : WatchedState) (lists : WatchState) (n : ℕ) → IsLastWaiting w.lists n → AreWatched t w → PutsWatch w.lists lists (watch_at w.lists.watches n).lit → AreWatched t (record w { lists = lists })
 look_stays t w lists n x a p =
     let e = p x.others n x.last in
     watched_waits t w lists a (ap (λ (s : WatchState). s.watches) e ∙ put_same w.lists.watches n x.within) (ap (λ (s : WatchState). s.vars) e) (ap (λ (s : WatchState). s.spare) e)
 
-pub look_stays_visited : (t : TrailState) (w : WatchedState) (lists : WatchState) (n : ℕ) → IsNext w.lists n → Puts w.lists lists (watch_at w.lists.watches n).lit → AreVisited t w → IsSettled t.clauses t.literals (w.seen + 1) w.lists.watches n → AreVisited t (record w { lists = lists })
+pub look_stays_visited : (t : TrailState) (w : WatchedState) (lists : WatchState) (n : ℕ) → IsLastWaiting w.lists n → PutsWatch w.lists lists (watch_at w.lists.watches n).lit → AreVisited t w → IsSettled t.clauses t.literals (w.seen + 1) w.lists.watches n → AreVisited t (record w { lists = lists })
 look_stays_visited t w lists n x p v s =
     let e = p x.others n x.last in
     let same = ap (λ (s : WatchState). s.watches) e ∙ put_same w.lists.watches n x.within in
@@ -585,15 +585,15 @@ look_stays_visited t w lists n x p v s =
     λ m h f. subst (λ (ws : List Watch). IsSettled t.clauses t.literals (w.seen + 1) ws m) (sym same)
     (visited_stays t w x.others n x.last v s m (subst (λ (ws : List Watch). m < length ws) same h) (subst (λ (xs : List ℕ). is_among m xs ≡ false) rest f))
 
-pub look_moves : (t : TrailState) (w : WatchedState) (lists : WatchState) (n : ℕ) (clause : Clause) (l : Lit) → AreConsistent t.literals → IsNext w.lists n → AreWatched t w → w.seen < length t.literals
-    → clause_numbered t.clauses (watch_at w.lists.watches n).clause ≡ Some clause → literal_at t.literals w.seen ≡ negation (watch_at w.lists.watches n).lit → IsReplacement t.literals clause (other_of w.lists.watches n) w.seen l
-    → Puts w.lists lists l → AreWatched t (record w { lists = lists })
+pub look_moves : (t : TrailState) (w : WatchedState) (lists : WatchState) (n : ℕ) (clause : Clause) (l : Lit) → AreConsistent t.literals → IsLastWaiting w.lists n → AreWatched t w → w.seen < length t.literals
+    → clause_numbered t.clauses (watch_at w.lists.watches n).clause ≡ Some clause → literal_at t.literals w.seen ≡ negation (watch_at w.lists.watches n).lit → IsReplacement t.literals clause (other_literal w.lists.watches n) w.seen l
+    → PutsWatch w.lists lists l → AreWatched t (record w { lists = lists })
 look_moves t w lists n clause l c x a b held falls r p =
     subst (λ (s : WatchState). AreWatched t (record w { lists = s })) (sym (p x.others n x.last)) (watched_moves t w n clause l c a x.within b held falls r x.others)
 
-pub look_moves_visited : (t : TrailState) (w : WatchedState) (lists : WatchState) (n : ℕ) (clause : Clause) (l : Lit) → AreConsistent t.literals → IsNext w.lists n → AreWatched t w → w.seen < length t.literals
-    → clause_numbered t.clauses (watch_at w.lists.watches n).clause ≡ Some clause → literal_at t.literals w.seen ≡ negation (watch_at w.lists.watches n).lit → IsReplacement t.literals clause (other_of w.lists.watches n) w.seen l
-    → Puts w.lists lists l → AreVisited t w → AreVisited t (record w { lists = lists })
+pub look_moves_visited : (t : TrailState) (w : WatchedState) (lists : WatchState) (n : ℕ) (clause : Clause) (l : Lit) → AreConsistent t.literals → IsLastWaiting w.lists n → AreWatched t w → w.seen < length t.literals
+    → clause_numbered t.clauses (watch_at w.lists.watches n).clause ≡ Some clause → literal_at t.literals w.seen ≡ negation (watch_at w.lists.watches n).lit → IsReplacement t.literals clause (other_literal w.lists.watches n) w.seen l
+    → PutsWatch w.lists lists l → AreVisited t w → AreVisited t (record w { lists = lists })
 look_moves_visited t w lists n clause l c x a b held falls r p v =
     subst (λ (s : WatchState). AreVisited t (record w { lists = s })) (sym (p x.others n x.last)) (visited_moves t w n clause l c a x.within b held falls r x.others x.last v)
 

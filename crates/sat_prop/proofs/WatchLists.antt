@@ -16,7 +16,7 @@ use Rattle.prop_core.proofs.Literals.{same_is}
 use Rattle.sat_prop.specs.declared.watch_lists.Watch.{Watch}
 use Rattle.sat_prop.specs.declared.watch_lists.Starts.{Starts}
 use Rattle.sat_prop.specs.declared.watch_lists.TheConstants.{NO_WATCH}
-use Rattle.sat_prop.specs.Watches.{AreWatchLists, IsNext, Links, is_among, watch_at, no_watch, watching, as_link, start_of, with_start, empty, no_starts}
+use Rattle.sat_prop.specs.Watches.{AreWatchLists, IsLastWaiting, Links, is_among, watch_at, no_watch, watching, as_link, start_of, with_start, empty, no_starts}
 use Rattle.sat_prop.proofs.Links.{among_itself, among_later, among_last, among_others, among_more, not_both, links_apart, links_more, links_below, links_distinct, start_set, start_kept}
 
 no_number : (n : ℕ) → is_among n [] ≡ true → ⊥
@@ -383,7 +383,7 @@ waiting_few watches nexts starts waiting a = length-le_from_distinct_below waiti
 
 -- the last of those that wait is next
 pub next_is : (watches : List Watch) (nexts : List (Option ℕ)) (starts : List Starts) (waiting : List ℕ) (vars spare place : ℕ) → AreWatchLists watches nexts starts waiting → place + 1 ≡ length waiting
-    → IsNext (record { watches = watches; waiting = waiting; vars = vars; spare = spare }) (get_or waiting place 0)
+    → IsLastWaiting (record { watches = watches; waiting = waiting; vars = vars; spare = spare }) (get_or waiting place 0)
 next_is watches nexts starts waiting vars spare place a e =
     let b : place < length waiting = omega arith in
     let all : take (place + 1) waiting ≡ waiting = rw e (grind (arith, common_steps)) in

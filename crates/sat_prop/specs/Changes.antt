@@ -3,19 +3,19 @@ use Rattle.std.specs.Prelude.{◌≡◌, ℕ, ◌-◌, List, ◌++◌, ◌∷◌
 use Rattle.prop_core.specs.declared.lit.Lit.{Lit}
 use Rattle.prop_core.specs.Clauses.{Clause}
 use Rattle.sat_prop.specs.TrailState.{TrailState}
-use Rattle.sat_prop.specs.Levels.{level_of, IsCut}
+use Rattle.sat_prop.specs.Levels.{level_of, IsUpToLevel}
 
 -- one list is the front of another
 abbrev pub IsFront : List Clause → List Clause → Type 0
 IsFront front whole = take (length front) whole ≡ front
 
 -- a literal becomes true, by decision or by a clause
-abbrev pub with_literal : TrailState → Lit → Option ℕ → TrailState
-with_literal t l reason = record t { literals = t.literals ++ l ∷ []; reasons = t.reasons ++ reason ∷ [] }
+abbrev pub with_true_literal : TrailState → Lit → Option ℕ → TrailState
+with_true_literal t l reason = record t { literals = t.literals ++ l ∷ []; reasons = t.reasons ++ reason ∷ [] }
 
 -- a clause of the database, which has grown, is attached
-abbrev pub with_clause : TrailState → List Clause → ℕ → TrailState
-with_clause t clauses number = record t { clauses = clauses; attached = t.attached ++ number ∷ []; spare = t.spare - 1 }
+abbrev pub with_attached_clause : TrailState → List Clause → ℕ → TrailState
+with_attached_clause t clauses number = record t { clauses = clauses; attached = t.attached ++ number ∷ []; spare = t.spare - 1 }
 
 -- literals with reasons are added, and no decision
 pub record Propagates (old new : TrailState) : Type 0 where
@@ -30,7 +30,7 @@ pub record Propagates (old new : TrailState) : Type 0 where
 -- the literals up to a level are kept, in their order
 pub record IsKeptUpTo (old new : TrailState) (level : ℕ) : Type 0 where
   pub kept : ℕ
-  pub cut : IsCut old.reasons level kept
+  pub cut : IsUpToLevel old.reasons level kept
   pub literals : new.literals ≡ take kept old.literals
   pub reasons : new.reasons ≡ take kept old.reasons
   pub clauses : new.clauses ≡ old.clauses

@@ -7,8 +7,8 @@ use Rattle.prop_core.specs.Trail.{is_quiet, is_forced_by}
 use Rattle.std.specs.List.{list_all}
 use Rattle.sat_prop.specs.declared.standing.Stands.{Stands}
 use Rattle.sat_prop.specs.declared.standing.Stands.TheVariants.{False, Unit as Forced, Quiet}
-use Rattle.sat_prop.specs.TrailState.{TrailState, literal_at, value_by, IsJustified, AreKnown}
-use Rattle.sat_prop.specs.Levels.{level_of, level_at, IsCut}
+use Rattle.sat_prop.specs.TrailState.{TrailState, literal_at, trail_value, IsJustified, AreKnownClauses}
+use Rattle.sat_prop.specs.Levels.{level_of, level_at, IsUpToLevel}
 use Rattle.sat_prop.specs.Quiet.{IsQuietAtDecisions}
 
 -- The place of each literal's variable. What is kept of a variable that has no literal doesn't matter.
@@ -19,7 +19,7 @@ pub record ArePlaces (vars : ℕ) (literals : List Lit) (places : List ℕ) : Ty
 -- The value of each variable, and of some that there may be later, so that it is read at once.
 pub record AreValues (vars : ℕ) (literals : List Lit) (values : List (Option Bool)) : Type 0 where
   pub enough : vars ≤ length values
-  pub each : (var : ℕ) → var < length values → slice_index_or values var None ≡ value_by literals var
+  pub each : (var : ℕ) → var < length values → slice_index_or values var None ≡ trail_value literals var
 
 -- the level of each literal
 pub record AreLevels (reasons : List (Option ℕ)) (levels : List ℕ) : Type 0 where
@@ -29,13 +29,13 @@ pub record AreLevels (reasons : List (Option ℕ)) (levels : List ℕ) : Type 0 
 -- the place of each decision
 pub record AreStarts (reasons : List (Option ℕ)) (starts : List ℕ) : Type 0 where
   pub count : length starts ≡ level_of reasons
-  pub each : (level : ℕ) → level < length starts → IsCut reasons level (slice_index starts level)
+  pub each : (level : ℕ) → level < length starts → IsUpToLevel reasons level (slice_index starts level)
   pub within : (level : ℕ) → level < length starts → slice_index starts level < length reasons
 
 -- what holds of every trail
 pub record IsTrailState (t : TrailState) : Type 0 where
   pub justified : IsJustified t.clauses t.attached t.literals t.reasons t.vars
-  pub known : AreKnown t.clauses t.attached t.vars
+  pub known : AreKnownClauses t.clauses t.attached t.vars
   pub quiet : IsQuietAtDecisions t
 
 -- how a clause stands, as far as it matters

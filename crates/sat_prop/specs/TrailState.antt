@@ -45,12 +45,12 @@ pub record IsKnownClause (clauses : List Clause) (vars number : ℕ) : Type 0 wh
   pub known : HasValues vars clause
 
 -- each attached clause is held, and its variables are below `vars`
-abbrev pub AreKnown : List Clause → List ℕ → ℕ → Type 0
-AreKnown clauses attached vars = (place : ℕ) → place < length attached → IsKnownClause clauses vars (slice_index attached place)
+abbrev pub AreKnownClauses : List Clause → List ℕ → ℕ → Type 0
+AreKnownClauses clauses attached vars = (place : ℕ) → place < length attached → IsKnownClause clauses vars (slice_index attached place)
 
 -- the value that the literals give a variable: none where it is open
-abbrev pub value_by : List Lit → ℕ → Option Bool
-value_by literals var =
+abbrev pub trail_value : List Lit → ℕ → Option Bool
+trail_value literals var =
     if is_true literals (record { var = var; positive = true }) then Some true
     else (if is_true literals (record { var = var; positive = false }) then Some false else None)
 

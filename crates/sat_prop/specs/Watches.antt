@@ -25,12 +25,12 @@ abbrev pub watch_at : List Watch → ℕ → Watch
 watch_at watches number = slice_index_or watches number no_watch
 
 -- Two watches of a clause follow one another, of which the first has an even number. So each knows that of the other one.
-abbrev pub twin_of : ℕ → ℕ
-twin_of number = if number % 2 == 0 then number + 1 else number - 1
+abbrev pub twin_number : ℕ → ℕ
+twin_number number = if number % 2 == 0 then number + 1 else number - 1
 
 -- the watch that is kept in the node of a number
 abbrev pub watch_of : ℕ → Node → Watch
-watch_of number node = record { clause = node.clause; lit = numbered_literal node.code; twin = twin_of number }
+watch_of number node = record { clause = node.clause; lit = numbered_literal node.code; twin = twin_number number }
 
 -- the watches that are kept in nodes, of which the first has this number
 abbrev pub watches_from : ℕ → List Node → List Watch
@@ -115,8 +115,8 @@ pub record AreWatchLists (watches : List Watch) (nexts : List (Option ℕ)) (sta
 -- ---- what the calls do
 
 -- a clause that is watched at two literals
-abbrev pub with_pair : WatchState → ℕ → Lit → Lit → WatchState
-with_pair s clause first second = record s {
+abbrev pub with_watched_clause : WatchState → ℕ → Lit → Lit → WatchState
+with_watched_clause s clause first second = record s {
   watches = (s.watches ++ record { clause = clause; lit = first; twin = suc (length s.watches) } ∷ []) ++ record { clause = clause; lit = second; twin = length s.watches } ∷ [];
   spare = s.spare - 1;
 }
@@ -129,7 +129,7 @@ pub record IsOpened (old new : WatchState) (l : Lit) : Type 0 where
   pub waits : (number : ℕ) → number < length old.watches → (watch_at old.watches number).lit ≡ l → is_among number new.waiting ≡ true
 
 -- it is the last of those that wait
-pub record IsNext (s : WatchState) (number : ℕ) : Type 0 where
+pub record IsLastWaiting (s : WatchState) (number : ℕ) : Type 0 where
   pub others : List ℕ
   pub last : s.waiting ≡ others ++ number ∷ []
   pub once : is_among number others ≡ false
@@ -140,6 +140,6 @@ abbrev pub watching : Watch → Lit → Watch
 watching w l = record w { lit = l }
 
 -- the last of those that wait watches this literal, and waits no more
-abbrev pub Puts : WatchState → WatchState → Lit → Type 0
-Puts old new l = (others : List ℕ) (number : ℕ) → old.waiting ≡ others ++ number ∷ [] →
+abbrev pub PutsWatch : WatchState → WatchState → Lit → Type 0
+PutsWatch old new l = (others : List ℕ) (number : ℕ) → old.waiting ≡ others ++ number ∷ [] →
     new ≡ record old { watches = slice_set old.watches number (watching (watch_at old.watches number) l); waiting = others }

@@ -25,8 +25,8 @@ abbrev pub no_watched : WatchedState
 no_watched = record { short = []; spare = 0; lists = record { watches = []; waiting = []; vars = 0; spare = 0 }; seen = 0 }
 
 -- the literal that the clause is watched at beside this one
-abbrev pub other_of : List Watch → ℕ → Lit
-other_of watches number = (watch_at watches (watch_at watches number).twin).lit
+abbrev pub other_literal : List Watch → ℕ → Lit
+other_literal watches number = (watch_at watches (watch_at watches number).twin).lit
 
 -- The clause of a watch is attached. It is watched at two different literals.
 pub record IsWatch (clauses : List Clause) (attached : List ℕ) (watches : List Watch) (number : ℕ) : Type 0 where
@@ -37,7 +37,7 @@ pub record IsWatch (clauses : List Clause) (attached : List ℕ) (watches : List
   pub twin : (watch_at watches number).twin < length watches
   pub back : (watch_at watches (watch_at watches number).twin).twin ≡ number
   pub same : (watch_at watches (watch_at watches number).twin).clause ≡ (watch_at watches number).clause
-  pub apart : same_literal (watch_at watches number).lit (other_of watches number) ≡ false
+  pub apart : same_literal (watch_at watches number).lit (other_literal watches number) ≡ false
 
 -- The other literal makes up for one that became false by the first literals: these make it true, or make all others false; and it is true.
 pub record MakesUp (literals first : List Lit) (clause : Clause) (other : Lit) : Type 0 where
@@ -47,7 +47,7 @@ pub record MakesUp (literals first : List Lit) (clause : Clause) (other : Lit) :
 -- Where one of the first so many literals makes the watched one false, the other makes up for it.
 abbrev pub IsSettled : List Clause → List Lit → ℕ → List Watch → ℕ → Type 0
 IsSettled clauses literals seen watches number = (place : ℕ) (clause : Clause) → place < seen → literal_at literals place ≡ negation (watch_at watches number).lit →
-    clause_numbered clauses (watch_at watches number).clause ≡ Some clause → MakesUp literals (take (place + 1) literals) clause (other_of watches number)
+    clause_numbered clauses (watch_at watches number).clause ≡ Some clause → MakesUp literals (take (place + 1) literals) clause (other_literal watches number)
 
 -- a clause of this number is watched
 abbrev pub HasWatch : List Watch → ℕ → Type 0
@@ -116,12 +116,12 @@ pub record IsReplacement (literals : List Lit) (clause : Clause) (other : Lit) (
   pub not_false : is_false (take (place + 1) literals) l ≡ false
 
 -- what becomes of a watch: it is settled by the next literal too, another literal replaces it, or its clause is false
-abbrev pub IsJudged : TrailState → WatchedState → ℕ → Judged → Type 0
-IsJudged t w number Stays = IsSettled t.clauses t.literals (w.seen + 1) w.lists.watches number
-IsJudged t w number (Moves l) =
+abbrev pub IsJudgedWatch : TrailState → WatchedState → ℕ → Judged → Type 0
+IsJudgedWatch t w number Stays = IsSettled t.clauses t.literals (w.seen + 1) w.lists.watches number
+IsJudgedWatch t w number (Moves l) =
     (literal_at t.literals w.seen ≡ negation (watch_at w.lists.watches number).lit)
-    × ((clause : Clause) × (clause_numbered t.clauses (watch_at w.lists.watches number).clause ≡ Some clause) × IsReplacement t.literals clause (other_of w.lists.watches number) w.seen l)
-IsJudged t w number False = IsConflict t (watch_at w.lists.watches number).clause
+    × ((clause : Clause) × (clause_numbered t.clauses (watch_at w.lists.watches number).clause ≡ Some clause) × IsReplacement t.literals clause (other_literal w.lists.watches number) w.seen l)
+IsJudgedWatch t w number False = IsConflict t (watch_at w.lists.watches number).clause
 
 -- What comes of a watch whose literal is false, in a clause of this number that is watched at another one too: the literals up to a place force
 -- the other one, and it is true; or nothing changes, and another literal replaces it; or the clause is false.

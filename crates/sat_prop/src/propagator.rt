@@ -4,7 +4,7 @@ ghost use Rattle.prop_core.specs.Clauses.{is_open, HasValues};
 ghost use Rattle.sat_prop.specs.Levels.{level_of};
 ghost use Rattle.sat_prop.specs.Quiet.{AreQuiet, JoinsQuietly, IsPropagated};
 ghost use Rattle.sat_prop.specs.Kept.{IsTrailState};
-ghost use Rattle.sat_prop.specs.Changes.{IsFront, with_literal, with_clause, Propagates, IsKeptUpTo};
+ghost use Rattle.sat_prop.specs.Changes.{IsFront, with_true_literal, with_attached_clause, Propagates, IsKeptUpTo};
 
 use crate::trail::Trail;
 use crate::watched::Watched;
@@ -89,7 +89,7 @@ impl Propagator {
         requires in_range { id ≤ length db.now.clauses }
         requires known { IfSome (clause_numbered db.now.clauses id) (HasValues self.old.vars) }
         requires quiet { JoinsQuietly self.old (clause_numbered db.now.clauses id) }
-        ensures { self.new ≡ with_clause self.old db.now.clauses id }
+        ensures { self.new ≡ with_attached_clause self.old db.now.clauses id }
     {
         self.watched.attach(&self.trail, db, id);
         self.trail.attach(db, id);
@@ -103,8 +103,8 @@ impl Propagator {
         requires in_range { id ≤ length db.now.clauses }
         requires known { IfSome (clause_numbered db.now.clauses id) (HasValues self.old.vars) }
         requires quiet { JoinsQuietly self.old (clause_numbered db.now.clauses id) }
-        ensures state { IsTrailState (with_clause self.old db.now.clauses id) }
-        ensures grown { Propagates (with_clause self.old db.now.clauses id) self.new }
+        ensures state { IsTrailState (with_attached_clause self.old db.now.clauses id) }
+        ensures grown { Propagates (with_attached_clause self.old db.now.clauses id) self.new }
     {
         self.watched.join(&mut self.trail, db, id);
     }
@@ -123,7 +123,7 @@ impl Propagator {
         requires known { lit.var < self.old.vars }
         requires undecided { is_open self.old.literals lit ≡ true }
         requires quiet { AreQuiet self.old.clauses self.old.attached self.old.literals }
-        ensures { self.new ≡ with_literal self.old lit None }
+        ensures { self.new ≡ with_true_literal self.old lit None }
     {
         self.trail.decide(lit);
     }

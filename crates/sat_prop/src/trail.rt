@@ -3,10 +3,10 @@ ghost use Rattle.prop_core.specs.declared.lit.Lit.{Lit};
 ghost use Rattle.prop_core.specs.Derivation.{clause_numbered, unit};
 ghost use Rattle.prop_core.specs.Clauses.{is_open, is_true, negation, HasValues};
 ghost use Rattle.prop_core.specs.Trail.{has_var};
-ghost use Rattle.sat_prop.specs.TrailState.{literal_at, value_by, reason_at, StandsAt};
-ghost use Rattle.sat_prop.specs.Levels.{level_of, level_at, IsCut, IsLastDecision};
+ghost use Rattle.sat_prop.specs.TrailState.{literal_at, trail_value, reason_at, StandsAt};
+ghost use Rattle.sat_prop.specs.Levels.{level_of, level_at, IsUpToLevel, IsLastDecision};
 ghost use Rattle.sat_prop.specs.Quiet.{AreQuiet, JoinsQuietly, stands};
-ghost use Rattle.sat_prop.specs.Changes.{IsFront, with_literal, with_clause, IsKeptUpTo};
+ghost use Rattle.sat_prop.specs.Changes.{IsFront, with_true_literal, with_attached_clause, IsKeptUpTo};
 ghost use Rattle.sat_prop.specs.Kept.{IsTrailState, AreValues, IsSeen};
 
 use crate::standing::Stands;
@@ -112,7 +112,7 @@ impl Trail {
         requires in_range { id ≤ length db.now.clauses }
         requires known { IfSome (clause_numbered db.now.clauses id) (HasValues self.old.vars) }
         requires quiet { JoinsQuietly self.old (clause_numbered db.now.clauses id) }
-        ensures { self.new ≡ with_clause self.old db.now.clauses id }
+        ensures { self.new ≡ with_attached_clause self.old db.now.clauses id }
     {
         self.attached.push(db.number(id)).unwrap();
         self.spare -= 1;
@@ -124,7 +124,7 @@ impl Trail {
         requires known { lit.var < self.old.vars }
         requires undecided { is_open self.old.literals lit ≡ true }
         requires quiet { AreQuiet self.old.clauses self.old.attached self.old.literals }
-        ensures { self.new ≡ with_literal self.old lit None }
+        ensures { self.new ≡ with_true_literal self.old lit None }
     {
         self.starts.push(self.literals.len() as u32).unwrap();
         set(&mut self.values, lit.var, Some(lit.positive));
@@ -164,7 +164,7 @@ impl Trail {
 
     /// The value of a variable: none where it is open, or is no variable of the trail.
     pub fn value(&self, var: u32) -> Option<bool>
-        ensures { result ≡ value_by self.now.literals var }
+        ensures { result ≡ trail_value self.now.literals var }
     {
         if var as usize >= self.values.len() {
             return None;
@@ -269,7 +269,7 @@ impl Trail {
     // How many literals stand up to a level.
     fn count_up_to(&self, level: u32) -> usize
         requires { level ≤ level_of self.now.reasons }
-        ensures { IsCut self.now.reasons level result }
+        ensures { IsUpToLevel self.now.reasons level result }
     {
         if (level as usize) < self.starts.len() {
             self.starts[level as usize] as usize
@@ -312,7 +312,7 @@ impl Trail {
         requires grown { IsFront self.old.clauses db.now.clauses }
         requires attached { Contains self.old.attached id }
         requires forced { stands self.old.literals (clause_numbered db.now.clauses id) ≡ unit lit }
-        ensures { self.new ≡ with_literal self.old lit (Some id) }
+        ensures { self.new ≡ with_true_literal self.old lit (Some id) }
     {
         set(&mut self.values, lit.var, Some(lit.positive));
         set(&mut self.places, lit.var, self.literals.len() as u32);

@@ -1,6 +1,6 @@
 ghost use Rattle.std.specs.Prelude.{◌≡◌, ℕ, ◌+◌, ◌-◌, ◌<◌, ◌≤◌, List, ◌++◌, ◌∷◌, [], length, max, slice_set, vec_len, vec_capacity, OnOk, OnErr, IfSome, IfNone};
 ghost use Rattle.prop_core.specs.LiteralNumbers.{literal_number};
-ghost use Rattle.sat_prop.specs.Watches.{Links, Drains, IsNext, IsOpened, Puts, as_link, begin_of, no_starts, twin_of, with_start, node_at, nexts_of, watch_at, with_pair};
+ghost use Rattle.sat_prop.specs.Watches.{Links, Drains, IsLastWaiting, IsOpened, PutsWatch, as_link, begin_of, no_starts, twin_number, with_start, node_at, nexts_of, watch_at, with_watched_clause};
 
 use des_base::{Memory, VAR_LIMIT};
 use prop_core::Lit;
@@ -111,7 +111,7 @@ impl WatchLists {
         requires room { 1 ≤ self.old.spare }
         requires first { first.var < self.old.vars }
         requires second { second.var < self.old.vars }
-        ensures { self.new ≡ with_pair self.old clause first second }
+        ensures { self.new ≡ with_watched_clause self.old clause first second }
     {
         self.spare -= 1;
         push_node(&mut self.nodes, &mut self.starts, clause, first);
@@ -143,7 +143,7 @@ impl WatchLists {
 
     /// The next that waits, if one does.
     pub fn next(&self) -> Option<u32>
-        ensures some { IfSome result (IsNext self.now) }
+        ensures some { IfSome result (IsLastWaiting self.now) }
         ensures none { IfNone result (self.now.waiting ≡ []) }
     {
         let count = self.waiting.len();
@@ -157,7 +157,7 @@ impl WatchLists {
     pub fn put(&mut self, lit: Lit)
         requires waits { 0 < length self.old.waiting }
         requires known { lit.var < self.old.vars }
-        ensures { Puts self.old self.new lit }
+        ensures { PutsWatch self.old self.new lit }
     {
         let number = self.waiting.pop().unwrap();
         link(&mut self.nodes, &mut self.starts, number, lit);
@@ -178,7 +178,7 @@ fn code_of(lit: Lit) -> u32
 // The number of the other watch of a pair.
 fn twin(number: u32) -> u32
     requires { number < NO_WATCH }
-    ensures { result ≡ twin_of number }
+    ensures { result ≡ twin_number number }
 {
     if number % 2 == 0 {
         number + 1

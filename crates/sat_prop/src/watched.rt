@@ -6,9 +6,9 @@ ghost use Rattle.prop_core.specs.Derivation.{clause_numbered};
 ghost use Rattle.prop_core.specs.Trail.{is_forced_by};
 ghost use Rattle.sat_prop.specs.Quiet.{AreQuiet, IsConflict, IsPropagated, JoinsQuietly};
 ghost use Rattle.sat_prop.specs.Kept.{IsTrailState};
-ghost use Rattle.sat_prop.specs.Changes.{IsFront, Propagates, with_clause, with_literal};
-ghost use Rattle.sat_prop.specs.Watches.{IsNext, watch_at};
-ghost use Rattle.sat_prop.specs.Watching.{AreWatched, AreVisited, IsVisiting, Visits, AreTwo, IsForcing, IsJudged, IsReplacement, IsReplaced, IsNarrow, no_watched};
+ghost use Rattle.sat_prop.specs.Changes.{IsFront, Propagates, with_attached_clause, with_true_literal};
+ghost use Rattle.sat_prop.specs.Watches.{IsLastWaiting, watch_at};
+ghost use Rattle.sat_prop.specs.Watching.{AreWatched, AreVisited, IsVisiting, Visits, AreTwo, IsForcing, IsJudgedWatch, IsReplacement, IsReplaced, IsNarrow, no_watched};
 
 use crate::propagator::Propagated;
 use crate::standing::Stands;
@@ -86,7 +86,7 @@ impl Watched {
         requires from_one { 1 ≤ id }
         requires in_range { id ≤ length db.now.clauses }
         requires known { IfSome (clause_numbered db.now.clauses id) (HasValues trail.now.vars) }
-        ensures { AreWatched (with_clause trail.now db.now.clauses id) self.new }
+        ensures { AreWatched (with_attached_clause trail.now db.now.clauses id) self.new }
     {
         trail.is_sound();
         match two_literals(trail, db.clause(id)) {
@@ -113,8 +113,8 @@ impl Watched {
         requires known { IfSome (clause_numbered db.now.clauses id) (HasValues trail.old.vars) }
         requires quiet { JoinsQuietly trail.old (clause_numbered db.now.clauses id) }
         ensures watched { AreWatched trail.new self.new }
-        ensures state { IsTrailState (with_clause trail.old db.now.clauses id) }
-        ensures grown { Propagates (with_clause trail.old db.now.clauses id) trail.new }
+        ensures state { IsTrailState (with_attached_clause trail.old db.now.clauses id) }
+        ensures grown { Propagates (with_attached_clause trail.old db.now.clauses id) trail.new }
     {
         match forcing(trail, db.clause(id), self.seen) {
             Some((first, second)) => {
@@ -239,7 +239,7 @@ impl Watched {
 
     // Looks at the clause of the next watch that waits, and answers it where it is false.
     fn look(&mut self, trail: &mut Trail, db: &Clauses, number: u32, lit: Lit) -> Option<ClauseId>
-        requires next { IsNext self.old.lists number }
+        requires next { IsLastWaiting self.old.lists number }
         requires visiting { IsVisiting trail.old self.old db.now.clauses lit }
         requires visited { AreVisited trail.old self.old }
         ensures visits { Visits trail.old self.old trail.new self.new }
@@ -265,7 +265,7 @@ impl Watched {
         ensures watched { AreWatched trail.new self.now }
         ensures grown { Propagates trail.old trail.new }
         ensures visited { AreVisited trail.old self.now → AreVisited trail.new self.now }
-        ensures judged { IsJudged trail.new self.now number result }
+        ensures judged { IsJudgedWatch trail.new self.now number result }
     {
         let watch = self.lists.watch(number);
         let other = self.lists.watch(watch.twin).lit;
@@ -291,7 +291,7 @@ fn replace_or_force(trail: &mut Trail, db: &Clauses, id: ClauseId, other: Lit, p
     requires attached { Contains trail.old.attached id }
     requires among { IfSome (clause_numbered trail.old.clauses id) (λ clause. list_any (same_literal other) clause ≡ true) }
     requires place { place < length trail.old.literals }
-    ensures kept { (trail.new ≡ trail.old) ⊎ (trail.new ≡ with_literal trail.old other (Some id)) }
+    ensures kept { (trail.new ≡ trail.old) ⊎ (trail.new ≡ with_true_literal trail.old other (Some id)) }
     ensures replaced { IsReplaced trail.old trail.new id other place result }
 {
     trail.is_sound();
@@ -314,7 +314,7 @@ fn make_true(trail: &mut Trail, db: &Clauses, id: ClauseId, lit: Lit) -> bool
     requires forced { IfSome (clause_numbered db.now.clauses id) (λ clause. is_forced_by trail.old.literals lit clause ≡ true) }
     ensures holds { result ≡ true → is_true trail.new.literals lit ≡ true }
     ensures conflict { result ≡ false → IsConflict trail.new id }
-    ensures kept { (trail.new ≡ trail.old) ⊎ (trail.new ≡ with_literal trail.old lit (Some id)) }
+    ensures kept { (trail.new ≡ trail.old) ⊎ (trail.new ≡ with_true_literal trail.old lit (Some id)) }
 {
     trail.is_sound();
     match trail.value(lit.var) {

@@ -11,7 +11,7 @@ use Rattle.prop_core.specs.Derivation.{clause_numbered}
 use Rattle.proof_ledger.specs.Book.{BookEntry, axiomatic, clause_of, clauses_of}
 use Rattle.sat_prop.specs.TrailState.{TrailState}
 use Rattle.sat_prop.specs.Levels.{level_of}
-use Rattle.sat_prop.specs.Changes.{IsFront, with_clause}
+use Rattle.sat_prop.specs.Changes.{IsFront, with_attached_clause}
 use Rattle.sat_prop.proofs.Fronts.{split_last, contains_more}
 use Rattle.sat_solve.specs.Solving.{SolverState, AllJoined, AreAtRest}
 use Rattle.sat_solve.proofs.Learning.{contains_last, wider}
@@ -38,7 +38,7 @@ adopting_none t all count e f j = record {
   spare = omega arith;
 }
 
-pub adopting_more : (start t u : TrailState) (all : List Clause) (count id next : ℕ) → IsAdopting start t all count → id ≡ count + 1 → next ≡ count + 1 → 1 ≤ t.spare → u ≡ with_clause t all id → IsAdopting start u all next
+pub adopting_more : (start t u : TrailState) (all : List Clause) (count id next : ℕ) → IsAdopting start t all count → id ≡ count + 1 → next ≡ count + 1 → 1 ≤ t.spare → u ≡ with_attached_clause t all id → IsAdopting start u all next
 adopting_more start t u all count id next a i x h e =
     let c : u.clauses ≡ all = ap (λ (x : TrailState). x.clauses) e in
     let s : u.spare ≡ t.spare - 1 = ap (λ (x : TrailState). x.spare) e in

@@ -14,7 +14,7 @@ use Rattle.prop_core.proofs.Literals.{has_back, all_at}
 use Rattle.proof_ledger.specs.Book.{BookEntry, learnt, final, clause_of, clauses_of, axiom_of, axioms_of, EachAfter}
 use Rattle.proof_ledger.specs.Fresh.{is_learnt, IfLearnt, IsFreshClause}
 use Rattle.sat_learn.specs.Seen.{is_known_var}
-use Rattle.sat_solve.specs.Searching.{HasAxiomVars, is_derived, IsSearched}
+use Rattle.sat_solve.specs.Searching.{HasAxiomVars, is_learnt_or_final, IsSearched}
 use Rattle.sat_solve.specs.Solving.{LearnsOne, IsClosed}
 
 pub clauses_of-learnt : (book : List BookEntry) (c : Clause) (hs : List ℕ) → clauses_of (book ++ learnt c hs ∷ []) ≡ clauses_of book ++ c ∷ []
@@ -71,7 +71,7 @@ pub searched_learnt : (old book new : List BookEntry) (first left last : ℕ) �
 searched_learnt old book new first left last s p = record {
   since = s.since ++ learnt p.clause p.hints ∷ [];
   whole = whole_more old book new s.since (learnt p.clause p.hints) s.whole p.put;
-  derived = list_all-append is_derived s.since (learnt p.clause p.hints ∷ []) ∙ and_from _ _ s.derived refl;
+  derived = list_all-append is_learnt_or_final s.since (learnt p.clause p.hints ∷ []) ∙ and_from _ _ s.derived refl;
   count = s.count + 1;
   paid = let a = s.paid in let b = p.paid in omega arith;
   number = count_more is_learnt s.since (learnt p.clause p.hints) refl ∙ ap (λ (n : ℕ). n + 1) s.number;
@@ -89,7 +89,7 @@ pub searched_closed : (old book new : List BookEntry) (first left number : ℕ) 
 searched_closed old book new first left number assumed s p = record {
   since = s.since ++ final p.clause p.hints ∷ [];
   whole = whole_more old book new s.since (final p.clause p.hints) s.whole p.put;
-  derived = list_all-append is_derived s.since (final p.clause p.hints ∷ []) ∙ and_from _ _ s.derived refl;
+  derived = list_all-append is_learnt_or_final s.since (final p.clause p.hints ∷ []) ∙ and_from _ _ s.derived refl;
   count = s.count;
   paid = s.paid;
   number = count_same is_learnt s.since (final p.clause p.hints) refl ∙ s.number;
@@ -114,7 +114,7 @@ pub searched_both : (old book new : List BookEntry) (first left last : ℕ) → 
 searched_both old book new first left last s r = record {
   since = s.since ++ r.since;
   whole = r.whole ∙ ap (λ xs. xs ++ r.since) s.whole ∙ append_assoc old s.since r.since;
-  derived = list_all-append is_derived s.since r.since ∙ and_from _ _ s.derived r.derived;
+  derived = list_all-append is_learnt_or_final s.since r.since ∙ and_from _ _ s.derived r.derived;
   count = s.count + r.count;
   paid = let a = s.paid in let b = r.paid in omega arith;
   number = let a = s.number in let b = r.number in count_both is_learnt s.since r.since ∙ omega arith;

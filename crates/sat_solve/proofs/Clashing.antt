@@ -9,7 +9,7 @@ use Rattle.std.proofs.lemmas.Option.{get_or_from_slice_get}
 use Rattle.prop_core.specs.declared.lit.Lit.{Lit}
 use Rattle.prop_core.specs.Clauses.{Clause, negation, same_literal, is_true, is_false}
 use Rattle.prop_core.specs.Derivation.{clause_numbered}
-use Rattle.prop_core.specs.Trail.{no_literal, HasVarsOnce, Placed, literals_of, HasReason, EachPlaced, IsTrail, Clashes}
+use Rattle.prop_core.specs.Trail.{no_literal, HasVarsOnce, PlacedLiteral, literals_of, HasReason, EachPlaced, IsTrail, Clashes}
 use Rattle.prop_core.proofs.Literals.{same_is, all_from, all_at, true_longer}
 use Rattle.proof_ledger.specs.Book.{BookEntry, final, clauses_of}
 use Rattle.sat_prop.specs.TrailState.{TrailState}
@@ -21,7 +21,7 @@ use Rattle.sat_learn.specs.Learnt.{IsClosing}
 use Rattle.sat_learn.proofs.Beginning.{conflict_false}
 use Rattle.sat_learn.specs.Seen.{is_known_var}
 use Rattle.sat_solve.specs.Searching.{IsRefuted}
-use Rattle.sat_solve.specs.Solving.{AllJoined, IsUnder, IsFurther, AreAssumed, IsClosed}
+use Rattle.sat_solve.specs.Solving.{AllJoined, IsUnder, IsFurther, HasAssumedDecisions, IsClosed}
 use Rattle.sat_solve.proofs.Learning.{all_quiet_from}
 
 was_none : (o : Option ℕ) → is_none o ≡ true → o ≡ None
@@ -29,7 +29,7 @@ was_none None e = refl
 was_none (Some id) e = cc
 
 -- a closing clause has negated assumptions alone
-pub only_assumed : (t : TrailState) (all : List Clause) (also assumed : List Lit) (c : Clause) (hs : List ℕ) → IsClosing t all also c hs → AreAssumed t assumed (length t.literals) → ((l : Lit) → is_true also l ≡ true → is_true assumed l ≡ true) → list_all (λ l. is_true assumed (negation l)) c ≡ true
+pub only_assumed : (t : TrailState) (all : List Clause) (also assumed : List Lit) (c : Clause) (hs : List ℕ) → IsClosing t all also c hs → HasAssumedDecisions t assumed (length t.literals) → ((l : Lit) → is_true also l ≡ true → is_true assumed l ≡ true) → list_all (λ l. is_true assumed (negation l)) c ≡ true
 only_assumed t all also assumed c hs f d a = all_from (λ l. is_true assumed (negation l)) c (λ x e.
     ⊎_elim (λ h. a (negation x) h)
     (λ h. subst (λ (l : Lit). is_true assumed l ≡ true) h.1.is (d h.0 h.1.within (was_none (get_or t.reasons h.0 None) h.1.decided)))
@@ -41,11 +41,11 @@ one_of assumed l k h e =
     subst (λ (x : Lit). is_true assumed x ≡ true) (sym q) h
 
 -- the literals of a trail with the clauses that forced them
-abbrev placed_at : List Clause → Lit → Option ℕ → Placed
+abbrev placed_at : List Clause → Lit → Option ℕ → PlacedLiteral
 placed_at cs l None = record { literal = l; reason = None }
 placed_at cs l (Some number) = record { literal = l; reason = clause_numbered cs number }
 
-pub placed : List Clause → List Lit → List (Option ℕ) → List Placed
+pub placed : List Clause → List Lit → List (Option ℕ) → List PlacedLiteral
 placed cs [] ws = []
 placed cs (l ∷ ls) [] = []
 placed cs (l ∷ ls) (w ∷ ws) = placed_at cs l w ∷ placed cs ls ws
@@ -125,7 +125,7 @@ clash_from assumed vars t book number place s j u clauses k b = subst (λ (cs : 
     })
 
 -- what is put of a closing clause
-pub closed_from : (t : TrailState) (all : List Clause) (also assumed : List Lit) (clause read : Clause) (hints : List ℕ) (given : List ℕ) (book new : List BookEntry) (number : ℕ) → IsClosing t all also clause hints → all ≡ clauses_of book → AreAssumed t assumed (length t.literals) → ((l : Lit) → is_true also l ≡ true → is_true assumed l ≡ true) →
+pub closed_from : (t : TrailState) (all : List Clause) (also assumed : List Lit) (clause read : Clause) (hints : List ℕ) (given : List ℕ) (book new : List BookEntry) (number : ℕ) → IsClosing t all also clause hints → all ≡ clauses_of book → HasAssumedDecisions t assumed (length t.literals) → ((l : Lit) → is_true also l ≡ true → is_true assumed l ≡ true) →
     read ≡ clause → new ≡ book ++ final read given ∷ [] → number ≡ length (clauses_of new) → IsClosed assumed book new number
 closed_from t all also assumed clause read hints given book new number f e d a r put n = record {
   clause = read;
@@ -136,12 +136,12 @@ closed_from t all also assumed clause read hints given book new number f e d a r
   known = subst (λ (c : Clause). list_all (λ l. is_known_var (clauses_of book) l.var) c ≡ true) (sym r) (subst (λ (cs : List Clause). list_all (λ l. is_known_var cs l.var) clause ≡ true) e f.known);
 }
 
-pub closed_put : {E : Type 0} (r : Result ℕ E) (t : TrailState) (all : List Clause) (also assumed : List Lit) (clause read : Clause) (hints : List ℕ) (given : List ℕ) (book new : List BookEntry) → IsClosing t all also clause hints → all ≡ clauses_of book → AreAssumed t assumed (length t.literals) → ((l : Lit) → is_true also l ≡ true → is_true assumed l ≡ true) →
+pub closed_put : {E : Type 0} (r : Result ℕ E) (t : TrailState) (all : List Clause) (also assumed : List Lit) (clause read : Clause) (hints : List ℕ) (given : List ℕ) (book new : List BookEntry) → IsClosing t all also clause hints → all ≡ clauses_of book → HasAssumedDecisions t assumed (length t.literals) → ((l : Lit) → is_true also l ≡ true → is_true assumed l ≡ true) →
     read ≡ clause → OnOk r (new ≡ book ++ final read given ∷ []) → IfOk r (λ number. number ≡ length (clauses_of new)) → IfOk r (IsClosed assumed book new)
 closed_put (Ok number) t all also assumed clause read hints given book new f e d a r put n = closed_from t all also assumed clause read hints given book new number f e d a r put n
 closed_put (Err error) t all also assumed clause read hints given book new f e d a r put n = tt
 
-pub assumed_same : (t u : TrailState) (assumed : List Lit) → AreAssumed t assumed (length t.literals) → u.literals ≡ t.literals → u.reasons ≡ t.reasons → AreAssumed u assumed (length u.literals)
+pub assumed_same : (t u : TrailState) (assumed : List Lit) → HasAssumedDecisions t assumed (length t.literals) → u.literals ≡ t.literals → u.reasons ≡ t.reasons → HasAssumedDecisions u assumed (length u.literals)
 assumed_same t u assumed a e f = rw (e, f) a
 
 pub none_among : (assumed : List Lit) (l : Lit) → is_true [] l ≡ true → is_true assumed l ≡ true

@@ -8,7 +8,7 @@ use Rattle.proof_ledger.specs.Book.{BookEntry, clauses_of}
 use Rattle.proof_ledger.specs.Kept.{LedgerState}
 use Rattle.sat_prop.specs.TrailState.{TrailState, literal_at}
 use Rattle.sat_prop.specs.Levels.{level_at}
-use Rattle.sat_prop.specs.Changes.{IsKeptUpTo, with_clause}
+use Rattle.sat_prop.specs.Changes.{IsKeptUpTo, with_attached_clause}
 use Rattle.sat_prop.specs.Kept.{IsTrailState}
 use Rattle.sat_learn.specs.Seen.{is_known_var}
 use Rattle.sat_solve.specs.declared.answer.Answer.TheVariants.{Unsat}
@@ -72,7 +72,7 @@ under_way_kept assumed before_taken taken before waiting before_vars vars before
 }
 
 -- one more clause
-pub sound_attached : (waiting : List Bool) (vars spare : ℕ) (t u : TrailState) (all : List Clause) (c : Clause) (id : ℕ) → AreSound waiting vars spare t → spare + 1 ≤ t.spare → all ≡ t.clauses ++ c ∷ [] → id ≡ length all → list_all (λ l. is_known_var t.clauses l.var) c ≡ true → u ≡ with_clause t all id → AreSound waiting vars spare u
+pub sound_attached : (waiting : List Bool) (vars spare : ℕ) (t u : TrailState) (all : List Clause) (c : Clause) (id : ℕ) → AreSound waiting vars spare t → spare + 1 ≤ t.spare → all ≡ t.clauses ++ c ∷ [] → id ≡ length all → list_all (λ l. is_known_var t.clauses l.var) c ≡ true → u ≡ with_attached_clause t all id → AreSound waiting vars spare u
 sound_attached waiting vars spare t u all c id s room e f k g =
     let ls : u.literals ≡ t.literals = ap (λ (x : TrailState). x.literals) g in
     record {
@@ -83,7 +83,7 @@ sound_attached waiting vars spare t u all c id s room e f k g =
     }
 
 pub under_way_attached : (assumed : List Lit) (taken : ℕ) (waiting : List Bool) (vars spare : ℕ) (t u : TrailState) (book new : List BookEntry) (all : List Clause) (c : Clause) (id : ℕ) → AreUnderWay assumed taken waiting vars spare t book → spare + 1 ≤ t.spare → all ≡ t.clauses ++ c ∷ [] → id ≡ length all → list_all (λ l. is_known_var t.clauses l.var) c ≡ true
-    → all ≡ clauses_of new → u ≡ with_clause t all id → AreUnderWay assumed taken waiting vars spare u new
+    → all ≡ clauses_of new → u ≡ with_attached_clause t all id → AreUnderWay assumed taken waiting vars spare u new
 under_way_attached assumed taken waiting vars spare t u book new all c id w room e f k n g =
     let ls : u.literals ≡ t.literals = ap (λ (x : TrailState). x.literals) g in
     record {

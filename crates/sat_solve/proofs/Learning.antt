@@ -15,9 +15,9 @@ use Rattle.prop_core.proofs.Forcing.{quiet_two}
 use Rattle.proof_ledger.specs.Book.{BookEntry, learnt, clauses_of}
 use Rattle.proof_ledger.specs.Fresh.{occurs, IsFreshClause}
 use Rattle.sat_prop.specs.TrailState.{TrailState, reason_at, IsJustified}
-use Rattle.sat_prop.specs.Levels.{level_at, IsCut}
+use Rattle.sat_prop.specs.Levels.{level_at, IsUpToLevel}
 use Rattle.sat_prop.specs.Quiet.{stands, AreQuiet}
-use Rattle.sat_prop.specs.Changes.{IsFront, IsKeptUpTo, with_clause}
+use Rattle.sat_prop.specs.Changes.{IsFront, IsKeptUpTo, with_attached_clause}
 use Rattle.sat_prop.specs.Kept.{IsTrailState}
 use Rattle.sat_prop.proofs.Fronts.{split_last, contains_more}
 use Rattle.sat_prop.proofs.Justifying.{justified_once, justified_take}
@@ -34,7 +34,7 @@ none_is None e f = cc
 none_is (Some id) e f = cc
 
 -- a learnt clause is quiet just before each decision that is kept
-pub joins_quietly : (t : TrailState) (all : List Clause) (c : Clause) (hs : List ℕ) (level kept : ℕ) → IsJustified t.clauses t.attached t.literals t.reasons t.vars → IsLearnt t all c hs level → IsCut t.reasons level kept
+pub joins_quietly : (t : TrailState) (all : List Clause) (c : Clause) (hs : List ℕ) (level kept : ℕ) → IsJustified t.clauses t.attached t.literals t.reasons t.vars → IsLearnt t all c hs level → IsUpToLevel t.reasons level kept
     → (k : ℕ) → k < kept → reason_at t.reasons k ≡ None → is_quiet (standing (take k t.literals) c) ≡ true
 joins_quietly t all c hs level kept j l cut k h e =
     let same = j.same in
@@ -152,7 +152,7 @@ below_more vars [] c b h = (h, tt)
 below_more vars (d ∷ cs) c b h = (b.0, below_more vars cs c b.1 h)
 
 -- the trail serves on where one more clause is attached
-pub serving_attached : (vars spare : ℕ) (t u : TrailState) (all : List Clause) (c : Clause) (id : ℕ) → IsServing vars (spare + 1) t → all ≡ t.clauses ++ c ∷ [] → id ≡ length all → list_all (λ l. is_known_var t.clauses l.var) c ≡ true → u ≡ with_clause t all id → IsServing vars spare u
+pub serving_attached : (vars spare : ℕ) (t u : TrailState) (all : List Clause) (c : Clause) (id : ℕ) → IsServing vars (spare + 1) t → all ≡ t.clauses ++ c ∷ [] → id ≡ length all → list_all (λ l. is_known_var t.clauses l.var) c ≡ true → u ≡ with_attached_clause t all id → IsServing vars spare u
 serving_attached vars spare t u all c id s e f k g = rw (g, e) (record {
   joined = joined_more t.clauses t.attached c id s.joined (f ∙ ap length e);
   below = below_more vars t.clauses c s.below (below_known vars t.clauses c s.below k);
@@ -181,7 +181,7 @@ pub all_learnt : (book new : List BookEntry) (cs all : List Clause) (read clause
 all_learnt book new cs all read clause hints a put r e =
     a ∙ ap clauses_of put ∙ clauses_of-learnt book read hints ∙ ap (λ (c : Clause). clauses_of book ++ c ∷ []) r ∙ ap (λ (xs : List Clause). xs ++ clause ∷ []) (sym e)
 
-pub under_attached : (assumed : List Lit) (vars : ℕ) (t u : TrailState) (all : List Clause) (id : ℕ) → IsUnder assumed vars t → u ≡ with_clause t all id → IsUnder assumed vars u
+pub under_attached : (assumed : List Lit) (vars : ℕ) (t u : TrailState) (all : List Clause) (id : ℕ) → IsUnder assumed vars t → u ≡ with_attached_clause t all id → IsUnder assumed vars u
 under_attached assumed vars t u all id s e = rw e (record { first = s.first; below = s.below; compatible = s.compatible })
 
 pub under_same : (assumed : List Lit) (vars : ℕ) (t u : TrailState) → IsUnder assumed vars t → u.literals ≡ t.literals → u.reasons ≡ t.reasons → IsUnder assumed vars u

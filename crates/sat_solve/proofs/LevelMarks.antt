@@ -10,7 +10,7 @@ use Rattle.prop_core.specs.Trail.{has_var, no_literal}
 use Rattle.prop_core.proofs.Literals.{has_at}
 use Rattle.sat_prop.specs.TrailState.{TrailState, StandsAt}
 use Rattle.sat_prop.specs.Levels.{level_at}
-use Rattle.sat_solve.specs.LevelCount.{IsLevelOf, HasLevel, AreLevelsOf, is_marked, marked_of}
+use Rattle.sat_solve.specs.LevelCount.{IsLevelOf, HasLevel, AreLevelsOf, is_marked_level, marked_of}
 use Rattle.sat_solve.proofs.Places.{held_more}
 
 -- the variables of one literal more
@@ -56,18 +56,18 @@ levels_more t clause i level marks h a l single = record {
       (λ d. has_earlier t clause i other h (a.each other (sym (get_or-set_other marks level other true false d) ∙ on)))
       (cases_eq other level);
   all = λ other k has. ⊎_elim
-      (λ e. ap (λ (n : ℕ). is_marked (slice_set marks level true) n) e ∙ get_or-set_same marks level true false (subst (λ (n : ℕ). n < length marks) e (subst (λ (n : ℕ). other < n) (length-set marks level true) k)))
+      (λ e. ap (λ (n : ℕ). is_marked_level (slice_set marks level true) n) e ∙ get_or-set_same marks level true false (subst (λ (n : ℕ). n < length marks) e (subst (λ (n : ℕ). other < n) (length-set marks level true) k)))
       (λ d. get_or-set_other marks level other true false d ∙ earlier_marked other (subst (λ (n : ℕ). other < n) (length-set marks level true) k) has d)
       (cases_eq other level);
 }
   where
-    earlier_marked : (other : ℕ) → other < length marks → HasLevel t (take (i + 1) clause) other → (other ≡ level → ⊥) → is_marked marks other ≡ true
+    earlier_marked : (other : ℕ) → other < length marks → HasLevel t (take (i + 1) clause) other → (other ≡ level → ⊥) → is_marked_level marks other ≡ true
     earlier_marked other k has d = ⊎_elim (λ e. e)
         (λ e.
         let n : HasLevel t (take i clause) other → ⊥ = λ z. (let y = a.all other k z in let x : true ≡ false = sym y ∙ e in cc) in
         let o = last_or t clause i other h has n in
         absurd (d (sym (single o.place o.stands ∙ o.at))))
-        (cases_Bool (is_marked marks other))
+        (cases_Bool (is_marked_level marks other))
 
 -- a literal that has none
 pub levels_same : (t : TrailState) (clause : List Lit) (i : ℕ) (marks : List Bool) → i < length clause → AreLevelsOf t (take i clause) marks → ((place : ℕ) → StandsAt t.literals (get_or clause i no_literal).var place → ⊥) → AreLevelsOf t (take (i + 1) clause) marks
@@ -78,7 +78,7 @@ levels_same t clause i marks h a none = record {
       let n : HasLevel t (take i clause) other → ⊥ = λ z. (let y = a.all other k z in let x : true ≡ false = sym y ∙ e in cc) in
       let o = last_or t clause i other h has n in
       absurd (none o.place o.stands))
-      (cases_Bool (is_marked marks other));
+      (cases_Bool (is_marked_level marks other));
 }
 
 -- none is marked at first
@@ -91,7 +91,7 @@ levels_none t clause marks = record {
     past : (bs : List Bool) (n : ℕ) → length bs ≤ n → get_or bs n false ≡ false
     past bs n k = grind (arith, common_steps)
 
-    unmarked : (level : ℕ) → is_marked (map (λ (b : Bool). false) marks) level ≡ true → ⊥
+    unmarked : (level : ℕ) → is_marked_level (map (λ (b : Bool). false) marks) level ≡ true → ⊥
     unmarked level on = ⊎_elim
         (λ k. let e = get_or-map (λ (b : Bool). false) marks level false false k in let z : false ≡ true = sym e ∙ on in cc)
         (λ k. let e : get_or (map (λ (b : Bool). false) marks) level false ≡ false = past (map (λ (b : Bool). false) marks) level (rw (length-map marks (λ (b : Bool). false)) k) in let z : false ≡ true = sym e ∙ on in cc)

@@ -17,12 +17,12 @@ use Rattle.sat_prop.proofs.Justifying.{justified_consistent}
 use Rattle.sat_solve.specs.declared.answer.Answer.{Answer}
 use Rattle.sat_solve.specs.declared.answer.Answer.TheVariants.{Sat, Unsat, Spent}
 use Rattle.sat_solve.specs.Searching.{IsModel, IsAnswer}
-use Rattle.sat_solve.specs.Solving.{IsServing, IsComplete, IsFound, IsUnsettled, AreValues, IsEnded}
+use Rattle.sat_solve.specs.Solving.{IsServing, IsComplete, IsAnswerByTrail, IsUnsettled, AreTrailValues, IsEnded}
 use Rattle.sat_solve.specs.declared.search.Search.{Search}
 use Rattle.sat_solve.proofs.Learning.{all_quiet_from}
 
 -- a true literal is true by the values
-true_holds : (values : List Bool) (literals : List Lit) (vars : ℕ) (l : Lit) → AreConsistent literals → AreValues values literals vars → is_true literals l ≡ true → l.var < vars → literal_true (value_in values) l ≡ true
+true_holds : (values : List Bool) (literals : List Lit) (vars : ℕ) (l : Lit) → AreConsistent literals → AreTrailValues values literals vars → is_true literals l ≡ true → l.var < vars → literal_true (value_in values) l ≡ true
 true_holds values literals vars l c v e h = go l.positive refl (v l.var h)
   where
     go : (p : Bool) → l.positive ≡ p → value_in values l.var ≡ is_true literals (literal_of l.var true) → literal_true (value_in values) l ≡ true
@@ -66,7 +66,7 @@ some_fails p (y ∷ c) e =
     (λ a. let r = some_fails p c a in (r.0, record { among = or_right (same_literal r.0 y) _ r.1.among; fails = r.1.fails })) (and_cases (p y) (list_all p c) e)
 
 -- a quiet clause
-quiet_holds : (values : List Bool) (literals : List Lit) (vars : ℕ) (c : Clause) → AreConsistent literals → AreValues values literals vars → ((var : ℕ) → var < vars → is_open literals (literal_of var false) ≡ false) →
+quiet_holds : (values : List Bool) (literals : List Lit) (vars : ℕ) (c : Clause) → AreConsistent literals → AreTrailValues values literals vars → ((var : ℕ) → var < vars → is_open literals (literal_of var false) ≡ false) →
     is_quiet (standing literals c) ≡ true → HasValues vars c → clause_true (value_in values) c ≡ true
 quiet_holds values literals vars c k v o q h =
     let z : list_all (is_false literals) c ≡ false = ⊎_elim (λ e. let w = ap is_quiet (falsified_from literals c e) in absurd (let y : true ≡ false = sym q ∙ w in cc)) (λ e. e) (cases_Bool (list_all (is_false literals) c)) in
@@ -74,21 +74,21 @@ quiet_holds values literals vars c k v o q h =
     let b = below_at vars c r.0 h r.1.among in
     any_from (literal_true (value_in values)) c r.0 r.1.among (true_holds values literals vars r.0 k v (closed_true literals r.0 (o r.0.var b) r.1.fails) b)
 
-all_hold : (values : List Bool) (literals : List Lit) (vars : ℕ) (cs : List Clause) → AreConsistent literals → AreValues values literals vars → ((var : ℕ) → var < vars → is_open literals (literal_of var false) ≡ false) →
+all_hold : (values : List Bool) (literals : List Lit) (vars : ℕ) (cs : List Clause) → AreConsistent literals → AreTrailValues values literals vars → ((var : ℕ) → var < vars → is_open literals (literal_of var false) ≡ false) →
     list_all (λ c. is_quiet (standing literals c)) cs ≡ true → AllByRecursion (HasValues vars) cs → AllClausesTrue (value_in values) cs
 all_hold values literals vars [] k v o q h = tt
 all_hold values literals vars (c ∷ cs) k v o q h =
     let p = and_parts (is_quiet (standing literals c)) _ q in
     (quiet_holds values literals vars c k v o p.0 h.0, all_hold values literals vars cs k v o p.1 h.1)
 
-assumptions_hold : (values : List Bool) (literals : List Lit) (vars : ℕ) (whole assumed : List Lit) → AreConsistent literals → AreValues values literals vars → list_all (is_true literals) assumed ≡ true → ((l : Lit) → is_true assumed l ≡ true → l.var < vars) → AllLiteralsTrue (value_in values) assumed
+assumptions_hold : (values : List Bool) (literals : List Lit) (vars : ℕ) (whole assumed : List Lit) → AreConsistent literals → AreTrailValues values literals vars → list_all (is_true literals) assumed ≡ true → ((l : Lit) → is_true assumed l ≡ true → l.var < vars) → AllLiteralsTrue (value_in values) assumed
 assumptions_hold values literals vars whole [] k v a h = tt
 assumptions_hold values literals vars whole (l ∷ assumed) k v a h =
     let p = and_parts (is_true literals l) _ a in
     (true_holds values literals vars l k v p.0 (h l (let s = same_itself l in rw s refl)), assumptions_hold values literals vars whole assumed k v p.1 (λ x e. h x (or_right (same_literal x l) _ e)))
 
 -- the values make all true
-pub model_from : (values : List Bool) (assumed : List Lit) (t : TrailState) (book : List BookEntry) (vars spare : ℕ) → IsTrailState t → IsServing vars spare t → HasValues vars assumed → t.clauses ≡ clauses_of book → IsComplete assumed vars t → AreValues values t.literals vars → IsModel values book assumed
+pub model_from : (values : List Bool) (assumed : List Lit) (t : TrailState) (book : List BookEntry) (vars spare : ℕ) → IsTrailState t → IsServing vars spare t → HasValues vars assumed → t.clauses ≡ clauses_of book → IsComplete assumed vars t → AreTrailValues values t.literals vars → IsModel values book assumed
 model_from values assumed t book vars spare ts s below e c v =
     let k = justified_consistent t.clauses t.attached t.literals t.reasons t.vars ts.justified in
     record {
@@ -97,12 +97,12 @@ model_from values assumed t book vars spare ts s below e c v =
     }
 
 -- what was found is an answer
-pub answer_from : (values : List Bool) (assumed : List Lit) (t : TrailState) (book : List BookEntry) (vars spare budget : ℕ) (a : Answer) → IsTrailState t → IsServing vars spare t → HasValues vars assumed → IsUnsettled spare t book a → IsFound assumed vars t book budget a → (a ≡ Sat → AreValues values t.literals vars) → IsAnswer values book assumed budget a
+pub answer_from : (values : List Bool) (assumed : List Lit) (t : TrailState) (book : List BookEntry) (vars spare budget : ℕ) (a : Answer) → IsTrailState t → IsServing vars spare t → HasValues vars assumed → IsUnsettled spare t book a → IsAnswerByTrail assumed vars t book budget a → (a ≡ Sat → AreTrailValues values t.literals vars) → IsAnswer values book assumed budget a
 answer_from values assumed t book vars spare budget Sat ts s below u f v = model_from values assumed t book vars spare ts s below u f (v refl)
 answer_from values assumed t book vars spare budget (Unsat number) ts s below u f v = f
 answer_from values assumed t book vars spare budget Spent ts s below u f v = f
 
 -- what was found is an answer where the values of a model are kept
-pub answers_from : {R E : Type 0} (r : Result Answer E) (values : List Bool) (assumed : List Lit) (s : Search R) (old new : List BookEntry) (budget : ℕ) → IsTrailState s.propagator → HasValues s.vars assumed → IfOk r (IsEnded assumed s old new budget) → (r ≡ Ok Sat → AreValues values s.propagator.literals s.vars) → IfOk r (IsAnswer values new assumed budget)
+pub answers_from : {R E : Type 0} (r : Result Answer E) (values : List Bool) (assumed : List Lit) (s : Search R) (old new : List BookEntry) (budget : ℕ) → IsTrailState s.propagator → HasValues s.vars assumed → IfOk r (IsEnded assumed s old new budget) → (r ≡ Ok Sat → AreTrailValues values s.propagator.literals s.vars) → IfOk r (IsAnswer values new assumed budget)
 answers_from (Ok a) values assumed s old new budget ts below e v = answer_from values assumed s.propagator new s.vars s.spare budget a ts e.sound.serving below e.unsettled e.found (λ q. v (ap Ok q))
 answers_from (Err error) values assumed s old new budget ts below e v = tt

@@ -2,7 +2,7 @@
 use Rattle.std.proofs.Common.{◌≡◌, ℕ, ◌+◌, ◌-◌, ◌*◌, ◌/◌, ◌<◌, ◌≤◌, arith}
 use Rattle.std.proofs.lemmas.Grind.{common_steps}
 use Rattle.std.proofs.lemmas.Nat.{div_below, le-div, div-add-mod', mod_below, mul-le}
-use Rattle.sat_solve.specs.Restarts.{moved}
+use Rattle.sat_solve.specs.Restarts.{moved_mean}
 
 -- a part of a number grows with it,
 part_grows : (n most d : ℕ) → 0 < d → n ≤ most → n / d ≤ most / d
@@ -19,7 +19,7 @@ part_within n more d some =
     let z = div_below (n + more) d (n / d + more + 1) some k in
     omega arith
 
-pub moved_bound : (mean number part most : ℕ) → 0 < part → mean ≤ most → number ≤ most → moved mean number part ≤ most
+pub moved_bound : (mean number part most : ℕ) → 0 < part → mean ≤ most → number ≤ most → moved_mean mean number part ≤ most
 moved_bound mean number part most some a b =
     let p = part_grows number most part some b in
     let e : mean + (most - mean) ≡ most = omega arith in

@@ -13,12 +13,12 @@ use Rattle.prop_core.specs.Trail.{no_literal}
 use Rattle.prop_core.proofs.Literals.{below_at, place_found, true_at, all_at}
 use Rattle.sat_prop.specs.TrailState.{TrailState, literal_at, reason_at, IsJustified}
 use Rattle.sat_prop.specs.Levels.{level_of}
-use Rattle.sat_prop.specs.Changes.{Propagates, IsKeptUpTo, with_literal}
+use Rattle.sat_prop.specs.Changes.{Propagates, IsKeptUpTo, with_true_literal}
 use Rattle.sat_prop.specs.Kept.{IsTrailState}
 use Rattle.sat_prop.proofs.Fronts.{split_last, front_at, front_take, front_length, number_of}
 use Rattle.sat_prop.proofs.Justifying.{room_for, justified_once}
 use Rattle.sat_learn.proofs.Closing.{false_stands}
-use Rattle.sat_solve.specs.Solving.{AssumedFirst, IsServing, IsUnder, IsNext, AreAssumed}
+use Rattle.sat_solve.specs.Solving.{AssumedFirst, IsServing, IsUnder, IsAssumptionLeft, HasAssumedDecisions}
 use Rattle.sat_solve.proofs.Booking.{smaller_grown}
 
 abbrev no_reason : Option ℕ
@@ -94,7 +94,7 @@ under_grown assumed vars t u s p ts us = record {
 }
 
 -- a decision
-pub serving_decided : (vars spare : ℕ) (t u : TrailState) (l : Lit) → IsServing vars spare t → u ≡ with_literal t l None → l.var < vars → IsServing vars spare u
+pub serving_decided : (vars spare : ℕ) (t u : TrailState) (l : Lit) → IsServing vars spare t → u ≡ with_true_literal t l None → l.var < vars → IsServing vars spare u
 serving_decided vars spare t u l s e b = rw e (record {
   joined = s.joined;
   below = s.below;
@@ -103,7 +103,7 @@ serving_decided vars spare t u l s e b = rw e (record {
   room = s.room;
 })
 
-pub under_decided : (assumed : List Lit) (vars : ℕ) (t u : TrailState) (l : Lit) → IsUnder assumed vars t → length t.reasons ≡ length t.literals → u ≡ with_literal t l None → (is_true assumed l ≡ true) ⊎ (list_all (is_true t.literals) assumed ≡ true) → IsUnder assumed vars u
+pub under_decided : (assumed : List Lit) (vars : ℕ) (t u : TrailState) (l : Lit) → IsUnder assumed vars t → length t.reasons ≡ length t.literals → u ≡ with_true_literal t l None → (is_true assumed l ≡ true) ⊎ (list_all (is_true t.literals) assumed ≡ true) → IsUnder assumed vars u
 under_decided assumed vars t u l s same e o = rw e (record {
   first = λ k h n.
       let b : k < length t.literals + 1 = grind (arith, common_steps) in
@@ -151,7 +151,7 @@ pub under_none : (assumed : List Lit) (vars : ℕ) (t : TrailState) → level_of
 under_none assumed vars t e same b c = record { first = λ k h n. absurd (level_none t.reasons e k (omega arith) n); below = b; compatible = c }
 
 -- where an assumption is not true, each decision is an assumption
-pub next_assumed : (assumed : List Lit) (vars : ℕ) (t : TrailState) (l : Lit) → IsUnder assumed vars t → IsNext t.literals assumed l → AreAssumed t assumed (length t.literals)
+pub next_assumed : (assumed : List Lit) (vars : ℕ) (t : TrailState) (l : Lit) → IsUnder assumed vars t → IsAssumptionLeft t.literals assumed l → HasAssumedDecisions t assumed (length t.literals)
 next_assumed assumed vars t l s n k h e =
     ⊎_elim (λ a. a)
     (λ a. let b = all_at (is_true (take k t.literals)) assumed l a n.among in
@@ -165,7 +165,7 @@ next_assumed assumed vars t l s n k h e =
     (s.first k h e)
 
 -- and where it is false, its variable was forced
-pub next_forced : (assumed : List Lit) (vars : ℕ) (t : TrailState) (l : Lit) → IsUnder assumed vars t → IsJustified t.clauses t.attached t.literals t.reasons t.vars → IsNext t.literals assumed l → is_false t.literals l ≡ true
+pub next_forced : (assumed : List Lit) (vars : ℕ) (t : TrailState) (l : Lit) → IsUnder assumed vars t → IsJustified t.clauses t.attached t.literals t.reasons t.vars → IsAssumptionLeft t.literals assumed l → is_false t.literals l ≡ true
     → (i : ℕ) → i < length t.literals → (literal_at t.literals i).var ≡ l.var → is_none (reason_at t.reasons i) ≡ false
 next_forced assumed vars t l s j n f i b v =
     go (get_or t.reasons i None) (λ e.
@@ -181,7 +181,7 @@ next_forced assumed vars t l s j n f i b v =
 
 -- how the measure falls at a decision
 pub decided_smaller : (t u w : TrailState) (l : Lit) (vars left : ℕ) → IsJustified u.clauses u.attached u.literals u.reasons u.vars → is_open u.literals l ≡ true → l.var < u.vars → u.vars ≡ vars → take (length t.literals) u.literals ≡ t.literals
-    → w ≡ with_literal u l None → left * (vars + 1) + (vars - length w.literals) < left * (vars + 1) + (vars - length t.literals)
+    → w ≡ with_true_literal u l None → left * (vars + 1) + (vars - length w.literals) < left * (vars + 1) + (vars - length t.literals)
 decided_smaller t u w l vars left j o b e f g =
     let r = room_for u.clauses u.attached u.literals u.reasons u.vars l j o b in
     let n : length w.literals ≡ length u.literals + 1 = rw g (grind (arith, common_steps)) in

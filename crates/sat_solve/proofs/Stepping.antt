@@ -10,7 +10,7 @@ use Rattle.prop_core.proofs.Literals.{literal_of, all_from, all_at, true_more, t
 use Rattle.proof_ledger.specs.Book.{BookEntry}
 use Rattle.sat_order.specs.Waiting.{waits}
 use Rattle.sat_prop.specs.TrailState.{TrailState}
-use Rattle.sat_prop.specs.Changes.{Propagates, with_literal}
+use Rattle.sat_prop.specs.Changes.{Propagates, with_true_literal}
 use Rattle.sat_prop.specs.Kept.{IsTrailState}
 use Rattle.sat_prop.proofs.Fronts.{front_length, front_at}
 use Rattle.sat_prop.proofs.Justifying.{room_for}
@@ -50,7 +50,7 @@ under_way_grown assumed taken waiting vars spare t u book w p ts us =
     }
 
 -- a decision
-pub under_way_decided : (assumed : List Lit) (taken next : ℕ) (before waiting : List Bool) (vars spare : ℕ) (t u : TrailState) (book : List BookEntry) (l : Lit) → AreUnderWay assumed taken before vars spare t book → IsTrailState t → AreTaken t.literals assumed next → length waiting ≡ length before → u ≡ with_literal t l None → l.var < vars
+pub under_way_decided : (assumed : List Lit) (taken next : ℕ) (before waiting : List Bool) (vars spare : ℕ) (t u : TrailState) (book : List BookEntry) (l : Lit) → AreUnderWay assumed taken before vars spare t book → IsTrailState t → AreTaken t.literals assumed next → length waiting ≡ length before → u ≡ with_true_literal t l None → l.var < vars
     → (is_true assumed l ≡ true) ⊎ (list_all (is_true t.literals) assumed ≡ true) → ((other : ℕ) → other < vars → (other ≡ l.var → ⊥) → is_open t.literals (literal_of other false) ≡ true → waits waiting other ≡ true) → AreUnderWay assumed next waiting vars spare u book
 under_way_decided assumed taken next before waiting vars spare t u book l w ts k n e b o f =
     let s = w.over.sound in
@@ -69,7 +69,7 @@ under_way_decided assumed taken next before waiting vars spare t u book l w ts k
       taken_first = rw ls (taken_more t.literals l assumed next k);
     }
 
-pub longer_decided : (t u : TrailState) (l : Lit) (vars : ℕ) → IsTrailState t → is_open t.literals l ≡ true → l.var < vars → vars ≤ t.vars → u ≡ with_literal t l None → IsLonger t u
+pub longer_decided : (t u : TrailState) (l : Lit) (vars : ℕ) → IsTrailState t → is_open t.literals l ≡ true → l.var < vars → vars ≤ t.vars → u ≡ with_true_literal t l None → IsLonger t u
 longer_decided t u l vars s o b h e =
     let r = room_for t.clauses t.attached t.literals t.reasons t.vars l s.justified o (omega arith) in
     let n : length u.literals ≡ length t.literals + 1 = rw e (grind (arith, common_steps)) in

@@ -5,7 +5,7 @@ use Rattle.std.specs.Prelude.{Some, None}
 use Rattle.std.specs.List.{IsDistinct}
 use Rattle.prop_core.specs.declared.lit.Lit.{Lit}
 use Rattle.prop_core.specs.Clauses.{Clause}
-use Rattle.prop_core.specs.Trail.{Placed, IsTrail, Clashes}
+use Rattle.prop_core.specs.Trail.{PlacedLiteral, IsTrail, Clashes}
 use Rattle.proof_ledger.specs.Book.{BookEntry, axiomatic, learnt, final}
 use Rattle.proof_ledger.specs.Fresh.{AreFresh}
 use Rattle.sat_solve.specs.declared.answer.Answer.TheVariants.{Unsat}
@@ -20,10 +20,10 @@ yes var = record { var = var; positive = true }
 abbrev no : ℕ → Lit
 no var = record { var = var; positive = false }
 
-abbrev decided : Lit → Placed
+abbrev decided : Lit → PlacedLiteral
 decided l = record { literal = l; reason = None }
 
-abbrev forced : Lit → Clause → Placed
+abbrev forced : Lit → Clause → PlacedLiteral
 forced l c = record { literal = l; reason = Some c }
 
 -- the first variable implies the second, and its negation
@@ -31,7 +31,7 @@ abbrev two : List Clause
 two = (no 0 ∷ yes 1 ∷ []) ∷ (no 0 ∷ no 1 ∷ []) ∷ []
 
 -- the first variable is decided, and the first clause forces the second
-abbrev worked : List Placed
+abbrev worked : List PlacedLiteral
 worked = decided (yes 0) ∷ forced (yes 1) (no 0 ∷ yes 1 ∷ []) ∷ []
 
 worked_is_trail : IsTrail two worked

@@ -15,9 +15,9 @@ use Rattle.prop_core.specs.Trail.{no_literal, has_var}
 use Rattle.prop_core.proofs.Entailed.{same_itself}
 use Rattle.prop_core.proofs.Literals.{literal_of, open_parts, open_from, open_var, open_shorter, place_found, true_at, true_more, has_at, below_at}
 use Rattle.sat_order.specs.Waiting.{waits}
-use Rattle.sat_prop.specs.TrailState.{TrailState, literal_at, value_by, StandsAt}
-use Rattle.sat_prop.specs.Levels.{level_of, level_at, IsCut}
-use Rattle.sat_prop.specs.Changes.{IsKeptUpTo, Propagates, with_clause}
+use Rattle.sat_prop.specs.TrailState.{TrailState, literal_at, trail_value, StandsAt}
+use Rattle.sat_prop.specs.Levels.{level_of, level_at, IsUpToLevel}
+use Rattle.sat_prop.specs.Changes.{IsKeptUpTo, Propagates, with_attached_clause}
 use Rattle.sat_prop.proofs.Fronts.{front_length}
 use Rattle.sat_prop.proofs.Leveling.{level_front, level_step}
 use Rattle.sat_prop.proofs.Seeing.{value_agrees, value_denies, value_lacks}
@@ -40,18 +40,18 @@ pub read_below : (vars : ℕ) (literals : List Lit) (place : ℕ) (l : Lit) → 
 read_below vars literals place l h e = below_at vars literals l h (true_at literals l place (slice_get_within literals place l e) (read_at literals place l e))
 
 -- the value says whether a literal is true
-pub value_is : (literals : List Lit) (l : Lit) (b : Bool) → AreConsistent literals → value_by literals l.var ≡ Some b → beq b l.positive ≡ is_true literals l
+pub value_is : (literals : List Lit) (l : Lit) (b : Bool) → AreConsistent literals → trail_value literals l.var ≡ Some b → beq b l.positive ≡ is_true literals l
 value_is literals l b c e = by (beq b l.positive) refl
   where
     by : (t : Bool) → beq b l.positive ≡ t → t ≡ is_true literals l
     by true f = sym (value_agrees literals l b e f)
     by false f = ⊎_elim (λ t. absurd (let n = c l t in let d = value_denies literals l b e f in let z : true ≡ false = sym d ∙ n in cc)) (λ t. sym t) (cases_Bool (is_true literals l))
 
-pub value_not : (literals : List Lit) (l : Lit) → value_by literals l.var ≡ None → is_true literals l ≡ false
+pub value_not : (literals : List Lit) (l : Lit) → trail_value literals l.var ≡ None → is_true literals l ≡ false
 value_not literals l e = (open_parts literals l (value_lacks literals l e)).0
 
 -- the place is above the level
-above_cut : (reasons : List (Option ℕ)) (level kept place : ℕ) → IsCut reasons level kept → kept ≤ place → place < length reasons → level < level_at reasons place
+above_cut : (reasons : List (Option ℕ)) (level kept place : ℕ) → IsUpToLevel reasons level kept → kept ≤ place → place < length reasons → level < level_at reasons place
 above_cut reasons level kept place c h b =
     let n = level_step reasons kept (omega arith) (c.next (omega arith)) in
     let f = level_front reasons (kept + 1) (place + 1) (omega arith) in
@@ -145,7 +145,7 @@ pub room_given : (t u : TrailState) (n : ℕ) → u ≡ record t { spare = max t
 room_given t u n e = let s : u.spare ≡ max t.spare n = ap (λ (x : TrailState). x.spare) e in rw s (le-max_right t.spare n)
 
 -- at rest with one more clause attached
-pub rest_attached : (waiting : List Bool) (t u : TrailState) (values : List Bool) (vars spare : ℕ) (all : List Clause) (c : Clause) (id : ℕ) → AreAtRest waiting t values vars spare → spare + 1 ≤ t.spare → all ≡ t.clauses ++ c ∷ [] → id ≡ length all → list_all (λ l. is_known_var t.clauses l.var) c ≡ true → u ≡ with_clause t all id → AreAtRest waiting u values vars spare
+pub rest_attached : (waiting : List Bool) (t u : TrailState) (values : List Bool) (vars spare : ℕ) (all : List Clause) (c : Clause) (id : ℕ) → AreAtRest waiting t values vars spare → spare + 1 ≤ t.spare → all ≡ t.clauses ++ c ∷ [] → id ≡ length all → list_all (λ l. is_known_var t.clauses l.var) c ≡ true → u ≡ with_attached_clause t all id → AreAtRest waiting u values vars spare
 rest_attached waiting t u values vars spare all c id r room e f k g =
     let l : u.literals ≡ t.literals = ap (λ (x : TrailState). x.literals) g in
     record {

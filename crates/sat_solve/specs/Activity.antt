@@ -36,16 +36,16 @@ pub record KeepsActivity (old new : ActivityState) (vars : ℕ) : Type 0 where
   pub increment : new.increment ≡ old.increment
 
 -- it is kept of the variable whether it waits, so that it may take part in conflicts
-abbrev pub is_known : ActivityState → ℕ → Bool
-is_known s var = nat_lt var (length s.waiting)
+abbrev pub is_tracked : ActivityState → ℕ → Bool
+is_tracked s var = nat_lt var (length s.waiting)
 
 -- a known variable that was ever active waits again
 abbrev pub with_back : ActivityState → ℕ → ActivityState
-with_back s var = if is_known s var && nat_lt 0 (slice_index s.activities var) then record s { waiting = slice_set s.waiting var true } else s
+with_back s var = if is_tracked s var && nat_lt 0 (slice_index s.activities var) then record s { waiting = slice_set s.waiting var true } else s
 
 -- A known variable takes part in the present conflict: it grows more active, and waits. It counts once.
 abbrev pub with_part : ActivityState → ℕ → ActivityState
-with_part s var = if is_known s var && not (slice_index_or s.counted var true) then record s {
+with_part s var = if is_tracked s var && not (slice_index_or s.counted var true) then record s {
   activities = slice_set s.activities var (min (slice_index s.activities var + s.increment) MOST);
   counted = slice_set s.counted var true;
   waiting = slice_set s.waiting var true;

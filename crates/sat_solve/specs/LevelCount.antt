@@ -19,13 +19,13 @@ pub record HasLevel (t : TrailState) (clause : Clause) (level : ℕ) : Type 0 wh
   pub level_of : IsLevelOf t var level
 
 -- the level is marked; one that can not be marked is not
-abbrev pub is_marked : List Bool → ℕ → Bool
-is_marked marks level = slice_index_or marks level false
+abbrev pub is_marked_level : List Bool → ℕ → Bool
+is_marked_level marks level = slice_index_or marks level false
 
 -- of the levels that can be marked just those of the clause are marked
 pub record AreLevelsOf (t : TrailState) (clause : Clause) (marks : List Bool) : Type 0 where
-  pub each : (level : ℕ) → is_marked marks level ≡ true → HasLevel t clause level
-  pub all : (level : ℕ) → level < length marks → HasLevel t clause level → is_marked marks level ≡ true
+  pub each : (level : ℕ) → is_marked_level marks level ≡ true → HasLevel t clause level
+  pub all : (level : ℕ) → level < length marks → HasLevel t clause level → is_marked_level marks level ≡ true
 
 -- how many are marked
 abbrev pub marked_of : List Bool → ℕ

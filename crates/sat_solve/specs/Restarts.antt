@@ -16,18 +16,18 @@ abbrev pub no_means : Means
 no_means = record { late = 0; whole = 0; clauses = 0; since = 0 }
 
 -- a mean moves towards a number by a part of the way
-abbrev pub moved : ℕ → ℕ → ℕ → ℕ
-moved mean number part = mean - mean / part + number / part
+abbrev pub moved_mean : ℕ → ℕ → ℕ → ℕ
+moved_mean mean number part = mean - mean / part + number / part
 
 -- a number of levels in parts of one, where more than MOST_LEVELS count as so many
 abbrev pub in_parts : ℕ → ℕ
 in_parts levels = min levels MOST_LEVELS * LEVEL
 
 -- A clause of so many levels was learnt. The mean of all moves by the exact part as long as there are few.
-abbrev pub with_clause : Means → ℕ → Means
-with_clause m levels = record {
-  late = moved m.late (in_parts levels) LATE;
-  whole = moved m.whole (in_parts levels) (min (m.clauses + 1) WHOLE);
+abbrev pub with_learnt_clause : Means → ℕ → Means
+with_learnt_clause m levels = record {
+  late = moved_mean m.late (in_parts levels) LATE;
+  whole = moved_mean m.whole (in_parts levels) (min (m.clauses + 1) WHOLE);
   clauses = min (m.clauses + 1) WHOLE;
   since = min (m.since + 1) SHORTEST;
 }
@@ -37,9 +37,9 @@ abbrev pub is_due : Means → Bool
 is_due m = nat_le SHORTEST m.since && nat_lt (m.whole * 5) (m.late * 4)
 
 -- it begins anew
-abbrev pub begun : Means → Means
-begun m = record m { late = m.whole; since = 0 }
+abbrev pub begun_anew : Means → Means
+begun_anew m = record m { late = m.whole; since = 0 }
 
 -- once it was asked whether the search is to begin anew: where that was due, it has begun
 abbrev pub after_asking : Means → Means
-after_asking m = if is_due m then begun m else m
+after_asking m = if is_due m then begun_anew m else m

@@ -14,18 +14,18 @@ abbrev pub HasAxiomVars : List BookEntry → Type 0
 HasAxiomVars book = (var : ℕ) → list_any (has_var var) (clauses_of book) ≡ true → occurs var book ≡ true
 
 -- the entry is a learnt or a final clause, such as a search puts
-abbrev pub is_derived : BookEntry → Bool
-is_derived (axiomatic clause) = false
-is_derived (learnt clause hints) = true
-is_derived (final clause hints) = true
-is_derived (mark number) = false
+abbrev pub is_learnt_or_final : BookEntry → Bool
+is_learnt_or_final (axiomatic clause) = false
+is_learnt_or_final (learnt clause hints) = true
+is_learnt_or_final (final clause hints) = true
+is_learnt_or_final (mark number) = false
 
 -- Derived entries alone were put, and as many learnt ones as the budget was lowered by. Where all variables occurred in axioms, they
 -- still do, and each learnt clause was fresh.
 pub record IsSearched (old new : List BookEntry) (budget_old budget_new : ℕ) : Type 0 where
   pub since : List BookEntry
   pub whole : new ≡ old ++ since
-  pub derived : list_all is_derived since ≡ true
+  pub derived : list_all is_learnt_or_final since ≡ true
   pub count : ℕ
   pub paid : count + budget_new ≡ budget_old
   pub number : count_by is_learnt since ≡ count

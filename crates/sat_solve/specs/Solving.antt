@@ -145,8 +145,8 @@ abbrev pub KeepsWaiting : List Bool → List Bool → Type 0
 KeepsWaiting old new = (var : ℕ) → waits old var ≡ true → waits new var ≡ true
 
 -- the values of the variables below a number are those of the trail
-abbrev pub AreValues : List Bool → List Lit → ℕ → Type 0
-AreValues values literals vars = (var : ℕ) → var < vars → value_in values var ≡ is_true literals (record { var = var; positive = true })
+abbrev pub AreTrailValues : List Bool → List Lit → ℕ → Type 0
+AreTrailValues values literals vars = (var : ℕ) → var < vars → value_in values var ≡ is_true literals (record { var = var; positive = true })
 
 -- there is room for more clauses, and all else is as before
 pub record WithRoom (old new : TrailState) : Type 0 where
@@ -170,7 +170,7 @@ pub record IsComplete (assumed : List Lit) (vars : ℕ) (t : TrailState) : Type 
   pub closed : AreClosed t.literals vars
 
 -- an assumption that is not true
-pub record IsNext (taken assumed : List Lit) (l : Lit) : Type 0 where
+pub record IsAssumptionLeft (taken assumed : List Lit) (l : Lit) : Type 0 where
   pub among : is_true assumed l ≡ true
   pub not_yet : is_true taken l ≡ false
 
@@ -181,8 +181,8 @@ pub record IsFurther (t : TrailState) (assumed : List Lit) (place : ℕ) : Type 
   pub further : is_true assumed (literal_at t.literals place) ≡ false
 
 -- each decision of the first so many places is an assumption
-abbrev pub AreAssumed : TrailState → List Lit → ℕ → Type 0
-AreAssumed t assumed count = (place : ℕ) → place < count → reason_at t.reasons place ≡ None → is_true assumed (literal_at t.literals place) ≡ true
+abbrev pub HasAssumedDecisions : TrailState → List Lit → ℕ → Type 0
+HasAssumedDecisions t assumed count = (place : ℕ) → place < count → reason_at t.reasons place ≡ None → is_true assumed (literal_at t.literals place) ≡ true
 
 -- the literals that were decided, in their order
 abbrev pub decisions : List Lit → List (Option ℕ) → List Lit
@@ -221,10 +221,10 @@ pub record IsClosed (assumed : List Lit) (old new : List BookEntry) (number : �
   pub known : list_all (λ l. is_known_var (clauses_of old) l.var) clause ≡ true
 
 -- what a search has found, by the trail as it stands then
-abbrev pub IsFound : List Lit → ℕ → TrailState → List BookEntry → ℕ → Answer → Type 0
-IsFound assumed vars t book budget Sat = IsComplete assumed vars t
-IsFound assumed vars t book budget (Unsat number) = IsRefuted book assumed number
-IsFound assumed vars t book budget Spent = IsSpent book assumed budget
+abbrev pub IsAnswerByTrail : List Lit → ℕ → TrailState → List BookEntry → ℕ → Answer → Type 0
+IsAnswerByTrail assumed vars t book budget Sat = IsComplete assumed vars t
+IsAnswerByTrail assumed vars t book budget (Unsat number) = IsRefuted book assumed number
+IsAnswerByTrail assumed vars t book budget Spent = IsSpent book assumed budget
 
 -- a final clause was put that is not attached yet
 pub record IsUnattached (spare : ℕ) (t : TrailState) (book : List BookEntry) (number : ℕ) : Type 0 where
@@ -249,5 +249,5 @@ pub record GoesOn {R : Type 0} (assumed : List Lit) (s : Search R) (old new : Li
 pub record IsEnded {R : Type 0} (assumed : List Lit) (s : Search R) (old new : List BookEntry) (budget : ℕ) (answer : Answer) : Type 0 where
   pub sound : IsSound s
   pub put : HasPut old new answer
-  pub found : IsFound assumed s.vars s.propagator new budget answer
+  pub found : IsAnswerByTrail assumed s.vars s.propagator new budget answer
   pub unsettled : IsUnsettled s.spare s.propagator new answer

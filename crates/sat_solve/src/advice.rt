@@ -14,7 +14,7 @@ ghost use Rattle.sat_solve.specs.Activity.{after_conflict, with_clause_part, wit
 ghost use Rattle.sat_solve.specs.Advice.{no_advice, with_advice, KeepsAdvice, phase_of, with_released, with_hints_part, last_hints};
 ghost use Rattle.sat_solve.specs.Heap.{held_of, Takes};
 ghost use Rattle.sat_solve.specs.LevelCount.{AreLevelsOf, marked_of};
-ghost use Rattle.sat_solve.specs.Restarts.{with_clause, is_due, after_asking};
+ghost use Rattle.sat_solve.specs.Restarts.{with_learnt_clause, is_due, after_asking};
 
 use crate::activity::Activity;
 use crate::first_tries::FirstTries;
@@ -132,7 +132,7 @@ impl Advice {
         ensures phases { self.new.phases ≡ self.old.phases }
         ensures activity { self.new.activity ≡ after_conflict (with_hints_part self.old.activity clauses.now.clauses (last_hints learnt.now.hints learnt.now.from_conflict)) }
         ensures levels { AreLevelsOf trail.now learnt.now.clause self.new.levels }
-        ensures means { self.new.means ≡ with_clause self.old.means (marked_of self.new.levels) }
+        ensures means { self.new.means ≡ with_learnt_clause self.old.means (marked_of self.new.levels) }
     {
         let hints = learnt.hints.as_slice();
         let first = hints.len().saturating_sub(learnt.from_conflict);

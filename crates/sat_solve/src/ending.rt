@@ -8,7 +8,7 @@ ghost use Rattle.prop_core.specs.Clauses.{is_true, is_false};
 ghost use Rattle.sat_prop.specs.Quiet.{IsConflict};
 ghost use Rattle.sat_prop.specs.Kept.{IsTrailState};
 ghost use Rattle.sat_solve.specs.Searching.{IsSearched};
-ghost use Rattle.sat_solve.specs.Solving.{IsNext, IsFurther, AreAssumed, AreTaken, IsOver, IsUnderWay, KeepsVariables, IsEnded, assumed_level_of};
+ghost use Rattle.sat_solve.specs.Solving.{IsAssumptionLeft, IsFurther, HasAssumedDecisions, AreTaken, IsOver, IsUnderWay, KeepsVariables, IsEnded, assumed_level_of};
 
 use crate::answer::Answer;
 use crate::search::Search;
@@ -39,7 +39,7 @@ pub fn makes_true(trail: &Trail, lit: Lit) -> bool
 pub fn next_assumption(trail: &Trail, assumptions: &[Lit], taken: &mut usize) -> Option<Lit>
     requires taken { AreTaken trail.now.literals assumptions.now taken.old }
     ensures taken { AreTaken trail.now.literals assumptions.now taken.new }
-    ensures some { IfSome result (IsNext trail.now.literals assumptions.now) }
+    ensures some { IfSome result (IsAssumptionLeft trail.now.literals assumptions.now) }
     ensures none { IfNone result (list_all (is_true trail.now.literals) assumptions.now ≡ true) }
 {
     'next: while *taken < assumptions.len() {
@@ -55,7 +55,7 @@ pub fn next_assumption(trail: &Trail, assumptions: &[Lit], taken: &mut usize) ->
 // The place of a decision that is no assumption. The last one is nearly always one.
 pub fn further_decision(trail: &Trail, assumptions: &[Lit]) -> Option<usize>
     ensures some { IfSome result (IsFurther trail.now assumptions.now) }
-    ensures none { IfNone result (AreAssumed trail.now assumptions.now (length trail.now.literals)) }
+    ensures none { IfNone result (HasAssumedDecisions trail.now assumptions.now (length trail.now.literals)) }
 {
     if let Some(place) = last_if_further(trail, assumptions) {
         return Some(place);
@@ -82,7 +82,7 @@ fn last_if_further(trail: &Trail, assumptions: &[Lit]) -> Option<usize>
 // The place of the first decision that is no assumption.
 fn first_further(trail: &Trail, assumptions: &[Lit]) -> Option<usize>
     ensures some { IfSome result (IsFurther trail.now assumptions.now) }
-    ensures none { IfNone result (AreAssumed trail.now assumptions.now (length trail.now.literals)) }
+    ensures none { IfNone result (HasAssumedDecisions trail.now assumptions.now (length trail.now.literals)) }
 {
     trail.is_sound();
     let literals = trail.literals();
@@ -133,7 +133,7 @@ impl<R: Fn(u32) -> u64> Search<R> {
     ) -> Result<ClauseId, Memory>
         requires over { IsOver self.old book.old.entries }
         requires conflict { IsConflict self.old.propagator conflict }
-        requires assumed { AreAssumed self.old.propagator assumptions.now (length self.old.propagator.literals) }
+        requires assumed { HasAssumedDecisions self.old.propagator assumptions.now (length self.old.propagator.literals) }
         ensures kept { KeepsVariables self.old self.new }
         ensures searched { (budget : ℕ) → IsSearched book.old.entries book.new.entries budget budget }
         ensures ended { (budget : ℕ) → IfOk result (λ id. IsEnded assumptions.now self.new book.old.entries book.new.entries budget (Answer.Unsat id)) }
@@ -155,7 +155,7 @@ impl<R: Fn(u32) -> u64> Search<R> {
         assumptions: &[Lit],
     ) -> Result<ClauseId, Memory>
         requires under_way { IsUnderWay assumptions.now self.old book.old.entries }
-        requires next { IsNext self.old.propagator.literals assumptions.now lit }
+        requires next { IsAssumptionLeft self.old.propagator.literals assumptions.now lit }
         requires false_now { is_false self.old.propagator.literals lit ≡ true }
         ensures kept { KeepsVariables self.old self.new }
         ensures searched { (budget : ℕ) → IsSearched book.old.entries book.new.entries budget budget }

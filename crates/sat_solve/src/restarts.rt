@@ -4,7 +4,7 @@
 // Both means are whole numbers, in parts of one level. A mean moves towards each new number by a fixed part of the way, so that late
 // numbers weigh more; that of the whole search moves by the exact part as long as there are few.
 ghost use Rattle.std.specs.Prelude.{◌≡◌, ◌<◌, ◌≤◌};
-ghost use Rattle.sat_solve.specs.Restarts.{no_means, moved as moved_by, with_clause, is_due, after_asking};
+ghost use Rattle.sat_solve.specs.Restarts.{no_means, moved_mean, with_learnt_clause, is_due, after_asking};
 
 use std::marker::Model;
 
@@ -75,7 +75,7 @@ impl Restarts {
 
     // Takes note of a clause that was learnt, whose literals are of so many levels.
     pub fn note(&mut self, levels: u64)
-        ensures { self.new ≡ with_clause self.old levels }
+        ensures { self.new ≡ with_learnt_clause self.old levels }
     {
         let parts = levels.min(MOST_LEVELS) * LEVEL;
         self.clauses = (self.clauses + 1).min(WHOLE);
@@ -103,7 +103,7 @@ fn moved(mean: u64, number: u64, part: u64) -> u64
     requires part { 0 < part }
     requires mean { mean ≤ MOST }
     requires number { number ≤ MOST }
-    ensures value { result ≡ moved_by mean number part }
+    ensures value { result ≡ moved_mean mean number part }
     ensures bound { result ≤ MOST }
 {
     mean - mean / part + number / part

@@ -1,7 +1,7 @@
 // What is done once a search has an answer, so that the next one can begin.
 ghost use Rattle.std.specs.Prelude.{◌≡◌, ◌≤◌, length, MatchResult, Ok};
 ghost use Rattle.proof_ledger.specs.Book.{clauses_of};
-ghost use Rattle.sat_solve.specs.Solving.{IsSound, IsAtRest, IsUnsettled, KeepsVariables, AreValues};
+ghost use Rattle.sat_solve.specs.Solving.{IsSound, IsAtRest, IsUnsettled, KeepsVariables, AreTrailValues};
 
 use crate::answer::Answer;
 use crate::ending::makes_true;
@@ -25,7 +25,7 @@ impl<R: Fn(u32) -> u64> Search<R> {
         ensures rest { IsAtRest self.new assignment.new }
         ensures clauses { self.new.propagator.clauses ≡ clauses_of book.now.entries }
         ensures kept { KeepsVariables self.old self.new }
-        ensures values { found.now ≡ Ok Answer.Sat → AreValues assignment.new self.old.propagator.literals self.old.vars }
+        ensures values { found.now ≡ Ok Answer.Sat → AreTrailValues assignment.new self.old.propagator.literals self.old.vars }
     {
         match found {
             Ok(answer) => self.conclude(book, *answer, assignment),
@@ -40,7 +40,7 @@ impl<R: Fn(u32) -> u64> Search<R> {
         ensures rest { IsAtRest self.new assignment.new }
         ensures clauses { self.new.propagator.clauses ≡ clauses_of book.now.entries }
         ensures kept { KeepsVariables self.old self.new }
-        ensures values { answer ≡ Answer.Sat → AreValues assignment.new self.old.propagator.literals self.old.vars }
+        ensures values { answer ≡ Answer.Sat → AreTrailValues assignment.new self.old.propagator.literals self.old.vars }
     {
         match answer {
             Answer::Sat => {
@@ -61,7 +61,7 @@ fn keep_values(trail: &Trail, vars: u32, assignment: &mut Assignment)
     requires limit { vars ≤ VAR_LIMIT }
     requires room { vars ≤ length assignment.old }
     ensures room { length assignment.new ≡ length assignment.old }
-    ensures values { AreValues assignment.new trail.now.literals vars }
+    ensures values { AreTrailValues assignment.new trail.now.literals vars }
 {
     for var in 0..vars {
         assignment.set(var, makes_true(trail, Lit::new(var, true)));

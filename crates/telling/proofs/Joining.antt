@@ -2,19 +2,19 @@
 use Rattle.std.proofs.Common.{◌≡◌, ◌∙◌, ℕ, List, [], ◌∷◌, ◌++◌, Option, Some, None, Result, Ok, Err, IsErrAnd, refl, sym, ap, subst, append-nil, append_assoc}
 use Rattle.std.specs.Option.{option_to_list}
 use Rattle.des_base.specs.Outside.{Took, TookFront}
-use Rattle.telling.specs.Telling.{ComesTo, EachGoes, Tells}
+use Rattle.telling.specs.Telling.{ComesTo, EachGoes, TellsEach}
 use Rattle.telling.specs.declared.each.Broken.{Broken}
 use Rattle.telling.specs.declared.each.Broken.TheVariants.{Memory, Put}
 use Rattle.telling.proofs.Taking.{cut_first, nothing_taken, took_cut, took_texts}
 
 -- one item leads from stage to stage
-pub tells_one : {S I : Type 0} (goes : S → I → S → Option (List ℕ) → Type 0) (s : S) (item : I) (t : S) (text : Option (List ℕ)) → goes s item t text → Tells goes s (item ∷ []) t (option_to_list text)
+pub tells_one : {S I : Type 0} (goes : S → I → S → Option (List ℕ) → Type 0) (s : S) (item : I) (t : S) (text : Option (List ℕ)) → goes s item t text → TellsEach goes s (item ∷ []) t (option_to_list text)
 tells_one goes s item t text here = (t, text, [], here, (refl, refl), sym (append-nil (option_to_list text)))
 
-pub tells_more : {S I : Type 0} (goes : S → I → S → Option (List ℕ) → Type 0) (s m t : S) (items more : List I) (texts others : List (List ℕ)) → Tells goes s items m texts → Tells goes m more t others
-    → Tells goes s (items ++ more) t (texts ++ others)
+pub tells_more : {S I : Type 0} (goes : S → I → S → Option (List ℕ) → Type 0) (s m t : S) (items more : List I) (texts others : List (List ℕ)) → TellsEach goes s items m texts → TellsEach goes m more t others
+    → TellsEach goes s (items ++ more) t (texts ++ others)
 tells_more goes s m t [] more texts others first then =
-    subst (λ (ts : List (List ℕ)). Tells goes s more t (ts ++ others)) (sym first.1) (subst (λ (x : _). Tells goes x more t others) first.0 then)
+    subst (λ (ts : List (List ℕ)). TellsEach goes s more t (ts ++ others)) (sym first.1) (subst (λ (x : _). TellsEach goes x more t others) first.0 then)
 tells_more goes s m t (item ∷ items) more texts others (mid, text, rest, here, further, are) then =
     (mid, text, rest ++ others, here, tells_more goes mid m t items more rest others further then, ap (λ (ts : List (List ℕ)). ts ++ others) are ∙ append_assoc (option_to_list text) rest others)
 
@@ -26,7 +26,7 @@ split_more items more front others behind item split =
     ∙ ap (λ (is : List _). items ++ is) (append_assoc front (item ∷ others) behind)
     ∙ sym (append_assoc items front (item ∷ (others ++ behind)))
 
-comes_more : {S I : Type 0} (goes : S → I → S → Option (List ℕ) → Type 0) (s m t : S) (items more behind : List I) (item : I) (texts others : List (List ℕ)) → Tells goes s items m texts → ComesTo goes m more item t others
+comes_more : {S I : Type 0} (goes : S → I → S → Option (List ℕ) → Type 0) (s m t : S) (items more behind : List I) (item : I) (texts others : List (List ℕ)) → TellsEach goes s items m texts → ComesTo goes m more item t others
     → ComesTo goes s ((items ++ more) ++ behind) item t (texts ++ others)
 comes_more goes s m t items more behind item texts others first then = record {
   front = items ++ then.front;

@@ -2,9 +2,9 @@
 use Rattle.std.specs.Prelude.{ℕ, List, [], ◌∷◌, ◌++◌, decimal}
 
 -- words, a number and the end of the line
-abbrev pub numbered : List ℕ → ℕ → List ℕ
-numbered words n = words ++ decimal n ++ 10 ∷ []
+abbrev pub line_with_number : List ℕ → ℕ → List ℕ
+line_with_number words n = words ++ decimal n ++ 10 ∷ []
 
 -- words, two numbers and the end of the line
-abbrev pub placed : List ℕ → ℕ → ℕ → List ℕ
-placed words first second = words ++ decimal first ++ 32 ∷ decimal second ++ 10 ∷ []
+abbrev pub line_with_two_numbers : List ℕ → ℕ → ℕ → List ℕ
+line_with_two_numbers words first second = words ++ decimal first ++ 32 ∷ decimal second ++ 10 ∷ []

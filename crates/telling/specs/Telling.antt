@@ -9,17 +9,17 @@ use Rattle.telling.specs.declared.each.Broken.TheVariants.{Memory, Put}
 -- ---- what is said
 
 -- From stage s all items in turn lead to stage t, each from stage to stage with the text that it has, and these are the texts. An item may have none.
-abbrev pub Tells : {S I : Type 0} → (S → I → S → Option (List ℕ) → Type 0) → S → List I → S → List (List ℕ) → Type 0
-Tells goes s [] t texts = (t ≡ s) × (texts ≡ [])
-Tells goes s (item ∷ items) t texts =
-    (mid : _) × (first : Option (List ℕ)) × (rest : List (List ℕ)) × goes s item mid first × Tells goes mid items t rest × (texts ≡ option_to_list first ++ rest)
+abbrev pub TellsEach : {S I : Type 0} → (S → I → S → Option (List ℕ) → Type 0) → S → List I → S → List (List ℕ) → Type 0
+TellsEach goes s [] t texts = (t ≡ s) × (texts ≡ [])
+TellsEach goes s (item ∷ items) t texts =
+    (mid : _) × (first : Option (List ℕ)) × (rest : List (List ℕ)) × goes s item mid first × TellsEach goes mid items t rest × (texts ≡ option_to_list first ++ rest)
 
 -- The items before one of them led to this stage, with these texts.
 pub record ComesTo {S I : Type 0} (goes : S → I → S → Option (List ℕ) → Type 0) (s : S) (items : List I) (item : I) (t : S) (texts : List (List ℕ)) : Type 0 where
   pub front : List I
   pub others : List I
   pub split : items ≡ front ++ item ∷ others
-  pub told : Tells goes s front t texts
+  pub told : TellsEach goes s front t texts
 
 -- It ran out of memory at one of the items: these are the texts of those before it, and this one led to stage t without a text.
 pub record BreaksOff {S I : Type 0} (goes : S → I → S → Option (List ℕ) → Type 0) (undone : S → I → S → Type 0) (s : S) (items : List I) (t : S) (texts : List (List ℕ)) : Type 0 where
@@ -39,10 +39,10 @@ pub record IsCutShort {S I : Type 0} (goes : S → I → S → Option (List ℕ)
   pub are : texts ≡ earlier ++ last ∷ []
 
 -- what is said by the way that it ends: of all items, or of those that it came to
-abbrev pub Says : {S I : Type 0} → (S → I → S → Option (List ℕ) → Type 0) → (S → I → S → Type 0) → S → List I → S → List (List ℕ) → Result (Unit {0}) Broken → Type 0
-Says goes undone s items t texts (Ok done) = Tells goes s items t texts
-Says goes undone s items t texts (Err Memory) = BreaksOff goes undone s items t texts
-Says goes undone s items t texts (Err Put) = IsCutShort goes s items t texts
+abbrev pub TellsUpTo : {S I : Type 0} → (S → I → S → Option (List ℕ) → Type 0) → (S → I → S → Type 0) → S → List I → S → List (List ℕ) → Result (Unit {0}) Broken → Type 0
+TellsUpTo goes undone s items t texts (Ok done) = TellsEach goes s items t texts
+TellsUpTo goes undone s items t texts (Err Memory) = BreaksOff goes undone s items t texts
+TellsUpTo goes undone s items t texts (Err Put) = IsCutShort goes s items t texts
 
 -- ---- what is taken
 
@@ -64,7 +64,7 @@ TookTexts texts before now rose (Err Put) = rose × TookCut texts before now
 -- texts are said of the items, and taken, by the way that it ends
 pub record EachGoes {S I : Type 0} (goes : S → I → S → Option (List ℕ) → Type 0) (undone : S → I → S → Type 0) (s : S) (items : List I) (t : S) (before now : Option (List ℕ)) (rose : Type 0) (result : Result (Unit {0}) Broken) : Type 0 where
   pub texts : List (List ℕ)
-  pub says : Says goes undone s items t texts result
+  pub says : TellsUpTo goes undone s items t texts result
   pub put : TookTexts texts before now rose result
 
 -- ---- what fails

@@ -16,7 +16,7 @@ use Rattle.proof_ledger.specs.Book.{BookEntry, axiom_of, axioms_of, mark}
 use Rattle.proof_ledger.specs.Fresh.{AreFresh}
 use Rattle.prop_core.specs.Trail.{has_var}
 use Rattle.verdict_telling.proofs.Growing.{judged_grows}
-use Rattle.verdict_telling.specs.Deciding.{AreAmong, IsSmallFor, OpenIsSmall, leaves_open}
+use Rattle.verdict_telling.specs.Deciding.{IncludeVariablesOf, IsSmallFor, OpenIsSmall, leaves_open}
 use Rattle.verdict_telling.specs.Replied.{is_undecided}
 use Rattle.verdict_telling.specs.Whole.{FollowsFound, HaveReplies, matter_behind, told_of, events_behind}
 
@@ -26,15 +26,15 @@ or_left : (a b : Bool) → a ≡ true → a || b ≡ true
 or_left true b h = refl
 or_left false b h = cc
 
-among_front : (vars : List ℕ) (front back : List BookEntry) → AreAmong vars (front ++ back) → AreAmong vars front
+among_front : (vars : List ℕ) (front back : List BookEntry) → IncludeVariablesOf vars (front ++ back) → IncludeVariablesOf vars front
 among_front vars front back among var there =
     among var (ap (list_any (has_var var)) (filter_map-append axiom_of front back) ∙ list_any-append (has_var var) (axioms_of front) (axioms_of back)
     ∙ or_left (list_any (has_var var) (axioms_of front)) (list_any (has_var var) (axioms_of back)) there)
 
 -- what was learnt between two marks is fewer
-between_marks : (vars : List ℕ) (old since new : List BookEntry) (count : ℕ) → new ≡ old ++ mark 0 ∷ since ++ mark 1 ∷ [] → AreAmong vars new → AreFresh (old ++ mark 0 ∷ []) since count → count < 3 ^ length vars
+between_marks : (vars : List ℕ) (old since new : List BookEntry) (count : ℕ) → new ≡ old ++ mark 0 ∷ since ++ mark 1 ∷ [] → IncludeVariablesOf vars new → AreFresh (old ++ mark 0 ∷ []) since count → count < 3 ^ length vars
 between_marks vars old since new count whole among fresh =
-    fresh_below vars (old ++ mark 0 ∷ []) since count (subst (AreAmong vars) (sym (append_assoc old (mark 0 ∷ []) since)) (among_front vars (old ++ (mark 0 ∷ since)) (mark 1 ∷ []) (subst (AreAmong vars) whole among))) fresh
+    fresh_below vars (old ++ mark 0 ∷ []) since count (subst (IncludeVariablesOf vars) (sym (append_assoc old (mark 0 ∷ []) since)) (among_front vars (old ++ (mark 0 ∷ since)) (mark 1 ∷ []) (subst (IncludeVariablesOf vars) whole among))) fresh
 
 -- ---- the events
 
@@ -48,21 +48,21 @@ goes_on m (e ∷ events) old new (verdict ∷ verdicts) (mid, here, later) =
 goes_on m [] old new (verdict ∷ verdicts) judged = absurd judged
 goes_on m (e ∷ events) old new [] judged = absurd judged
 
-one_open : (m : Matter) (vars : List ℕ) (e : ℕ) (old new : List BookEntry) (verdict : Verdict) → AreAmong vars new → IsEventJudged m e old new verdict → is_undecided verdict ≡ true → m.budget < 3 ^ length vars
+one_open : (m : Matter) (vars : List ℕ) (e : ℕ) (old new : List BookEntry) (verdict : Verdict) → IncludeVariablesOf vars new → IsEventJudged m e old new verdict → is_undecided verdict ≡ true → m.budget < 3 ^ length vars
 one_open m vars e old new Certain among judged is = cc
 one_open m vars e old new Excluded among judged is = cc
 one_open m vars e old new (Possible run) among judged is = cc
 one_open m vars e old new Open among (inl asked) is = between_marks vars old asked.since new m.budget asked.whole among asked.found.fresh
 one_open m vars e old new Open among (inr shown) is = let other = shown.verdict_is in cc
 
-some_open : (m : Matter) (vars : List ℕ) (events : List ℕ) (old new : List BookEntry) (verdicts : List Verdict) → AreAmong vars new → AreJudged m events old new verdicts → list_any is_undecided verdicts ≡ true → m.budget < 3 ^ length vars
+some_open : (m : Matter) (vars : List ℕ) (events : List ℕ) (old new : List BookEntry) (verdicts : List Verdict) → IncludeVariablesOf vars new → AreJudged m events old new verdicts → list_any is_undecided verdicts ≡ true → m.budget < 3 ^ length vars
 some_open m vars [] old new [] among judged is = cc
 some_open m vars (e ∷ events) old new (verdict ∷ verdicts) among (mid, here, later) is = by (is_undecided verdict) refl (some_open m vars events mid new verdicts among later)
   where
     by : (b : Bool) → is_undecided verdict ≡ b → (list_any is_undecided verdicts ≡ true → m.budget < 3 ^ length vars) → m.budget < 3 ^ length vars
     by true e_is next =
         let others = goes_on m events mid new verdicts later in
-        one_open m vars e old mid verdict (among_front vars mid others.0 (subst (AreAmong vars) others.1 among)) here e_is
+        one_open m vars e old mid verdict (among_front vars mid others.0 (subst (IncludeVariablesOf vars) others.1 among)) here e_is
     by false e_is next = next (rw e_is at is)
 some_open m vars [] old new (verdict ∷ verdicts) among judged is = absurd judged
 some_open m vars (e ∷ events) old new [] among judged is = absurd judged
@@ -76,4 +76,4 @@ open_is_small net log n budget Absent verdicts book texts have is vars among = c
 open_is_small net log n budget (Many best) verdicts book texts have is vars among = cc
 open_is_small net log n budget (Undecided lo best) verdicts book texts have is vars among =
     let answered = have.diagnosed.answered in
-    subst (λ (count : ℕ). count < 3 ^ length vars) answered.found.spent (between_marks vars _ answered.since have.front _ answered.whole (subst (AreAmong vars) have.follows.book among) answered.fresh)
+    subst (λ (count : ℕ). count < 3 ^ length vars) answered.found.spent (between_marks vars _ answered.since have.front _ answered.whole (subst (IncludeVariablesOf vars) have.follows.book among) answered.fresh)

@@ -17,10 +17,10 @@ use Rattle.report.specs.VerdictTexts.{text_of_verdict}
 use Rattle.run_clauses.proofs.Lists.{from_numbers}
 use Rattle.step_encode.specs.FaultInputs.{fault_events}
 use Rattle.telling.proofs.Joining.{tells_more, tells_one}
-use Rattle.telling.specs.Telling.{EachGoes, Tells}
+use Rattle.telling.specs.Telling.{EachGoes, TellsEach}
 use Rattle.telling.specs.declared.each.Broken.{Broken}
 use Rattle.telling.specs.declared.each.Broken.TheVariants.{Memory, Put}
-use Rattle.verdict_telling.specs.Replied.{AreReplied, IsFront, TellsVerdicts, is_undecided}
+use Rattle.verdict_telling.specs.Replied.{AreReplied, AreFirstJudged, TellsVerdicts, is_undecided}
 use Rattle.verdict_telling.specs.Stages.{HasTold, IsNotTold, TellsOf, TellsOfAll}
 use Rattle.verdict_telling.specs.declared.teller.VerdictTeller.{VerdictTeller}
 
@@ -48,7 +48,7 @@ or_more : (a b c d e : Bool) → b ≡ a || c → d ≡ b || e → d ≡ a || (c
 or_more true b c d e first second = second ∙ ap (λ x. x || e) first
 or_more false b c d e first second = second ∙ ap (λ x. x || e) first
 
-have_told : {R : Type 0} (s t : VerdictTeller R) (events : List ℕ) (texts : List (List ℕ)) → AreFaults s.judge.matter.net events → Tells TellsOf s events t texts → HaveTold s t events texts
+have_told : {R : Type 0} (s t : VerdictTeller R) (events : List ℕ) (texts : List (List ℕ)) → AreFaults s.judge.matter.net events → TellsEach TellsOf s events t texts → HaveTold s t events texts
 have_told s t [] texts faults told = record {
   verdicts = [];
   replied = record { judged = ap (λ x. x.judge.book) told.0; are = told.1 };
@@ -86,8 +86,8 @@ module _ {R : Type 0} (s t : VerdictTeller R) (none_left : s.open_left ≡ false
   front_faults : (events others : List ℕ) → fault_events m.net ≡ events ++ others → AreFaults m.net events
   front_faults events others ordered e in' = all_faults m.net e (subst (λ es. Contains es e) (sym ordered) (append_left events others e in'))
 
-  front : (stage : VerdictTeller R) (events others : List ℕ) (texts : List (List ℕ)) (ordered : fault_events m.net ≡ events ++ others) (told : Tells TellsOf s events stage texts) →
-      IsFront m s.judge.book stage.judge.book events (have_told s stage events texts (front_faults events others ordered) told).verdicts texts
+  front : (stage : VerdictTeller R) (events others : List ℕ) (texts : List (List ℕ)) (ordered : fault_events m.net ≡ events ++ others) (told : TellsEach TellsOf s events stage texts) →
+      AreFirstJudged m s.judge.book stage.judge.book events (have_told s stage events texts (front_faults events others ordered) told).verdicts texts
   front stage events others texts ordered told = record { others = others; ordered = ordered; replied = (have_told s stage events texts (front_faults events others ordered) told).replied }
 
   pub each_told : (r : Result (Unit {0}) Broken) → EachGoes TellsOf (λ (x : VerdictTeller R) (e : ℕ) (y : VerdictTeller R). IsNotTold x y) s (fault_events m.net) t before now rose r → TellsOfAll s t before now rose r
@@ -116,7 +116,7 @@ module _ {R : Type 0} (s t : VerdictTeller R) (none_left : s.open_left ≡ false
       let comes = goes.says.comes in
       let events = comes.front ++ goes.says.item ∷ [] in
       let ordered : fault_events m.net ≡ events ++ comes.others = comes.split ∙ sym (append_assoc comes.front (goes.says.item ∷ []) comes.others) in
-      let all = subst (Tells TellsOf s events t) (sym goes.says.are) (tells_more TellsOf s goes.says.mid t comes.front (goes.says.item ∷ []) goes.says.earlier (goes.says.last ∷ []) comes.told (tells_one TellsOf goes.says.mid goes.says.item t (Some goes.says.last) goes.says.told)) in
+      let all = subst (TellsEach TellsOf s events t) (sym goes.says.are) (tells_more TellsOf s goes.says.mid t comes.front (goes.says.item ∷ []) goes.says.earlier (goes.says.last ∷ []) comes.told (tells_one TellsOf goes.says.mid goes.says.item t (Some goes.says.last) goes.says.told)) in
       let told = have_told s t events goes.texts (front_faults events comes.others ordered) all in
       subst (TellsVerdicts m s.judge.book t.judge.book before now rose) (sym is) (
         goes.put.0,

@@ -11,7 +11,7 @@ use Rattle.proof_ledger.specs.Book.{BookEntry, mark}
 use Rattle.proof_ledger.specs.Fresh.{is_learnt}
 use Rattle.run_decode.proofs.Faults.{count_append}
 use Rattle.step_encode.specs.FaultInputs.{fault_events}
-use Rattle.telling.specs.Telling.{EachGoes, Tells}
+use Rattle.telling.specs.Telling.{EachGoes, TellsEach}
 use Rattle.telling.specs.declared.each.Broken.{Broken}
 use Rattle.telling.specs.declared.each.Broken.TheVariants.{Memory, Put}
 use Rattle.verdict_telling.specs.Stages.{IsNotTold, TellsOf}
@@ -82,7 +82,7 @@ one_told s e t text (inl is) = (is.stays, judged_grows s.judge.matter e s.judge.
 one_told s e t text (inr passed) = (ap (λ x. x.judge.matter) passed.same, grown_still _ s.judge.book t.judge.book (ap (λ x. x.judge.book) passed.same))
 
 -- events in turn, and then what comes behind them
-told_then : {R : Type 0} (count : ℕ) (s mid t : VerdictTeller R) (events : List ℕ) (texts : List (List ℕ)) → Tells TellsOf s events mid texts → Grows count mid t → Grows (count + length events) s t
+told_then : {R : Type 0} (count : ℕ) (s mid t : VerdictTeller R) (events : List ℕ) (texts : List (List ℕ)) → TellsEach TellsOf s events mid texts → Grows count mid t → Grows (count + length events) s t
 told_then {R} count s mid t [] texts told later = more_grow count (count + length {A = ℕ} []) s t (omega arith) (subst (λ (x : VerdictTeller R). Grows count x t) told.0 later)
 told_then {R} count s mid t (e ∷ events) texts (next, first, rest, here, further, are) later =
     let one = one_told s e next first here in

@@ -18,12 +18,12 @@ leaves_open TooMany = false
 leaves_open NotDecided = true
 
 -- all variables of the book's axioms are among these
-abbrev pub AreAmong : List ℕ → List BookEntry → Type 0
-AreAmong variables book = (var : ℕ) → occurs var book ≡ true → Contains variables var
+abbrev pub IncludeVariablesOf : List ℕ → List BookEntry → Type 0
+IncludeVariablesOf variables book = (var : ℕ) → occurs var book ≡ true → Contains variables var
 
 -- the budget is below 3 to the number of the book's variables
 abbrev pub IsSmallFor : List BookEntry → ℕ → Type 0
-IsSmallFor book budget = (variables : List ℕ) → AreAmong variables book → budget < 3 ^ length variables
+IsSmallFor book budget = (variables : List ℕ) → IncludeVariablesOf variables book → budget < 3 ^ length variables
 
 -- Where all replies are given and something is left open, the budget is so small.
 abbrev pub OpenIsSmall : Type 0

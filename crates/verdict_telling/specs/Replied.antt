@@ -32,7 +32,7 @@ pub record AreReplied (m : Matter) (events : List ℕ) (old new : List BookEntry
   pub are : texts ≡ texts_of_verdicts m.net events verdicts
 
 -- the first of all fault events were judged so
-pub record IsFront (m : Matter) (old new : List BookEntry) (events : List ℕ) (verdicts : List Verdict) (texts : List (List ℕ)) : Type 0 where
+pub record AreFirstJudged (m : Matter) (old new : List BookEntry) (events : List ℕ) (verdicts : List Verdict) (texts : List (List ℕ)) : Type 0 where
   pub others : List ℕ
   pub ordered : fault_events m.net ≡ events ++ others
   pub replied : AreReplied m events old new verdicts texts
@@ -51,7 +51,7 @@ pub record IsOutOfMemory (m : Matter) (old new : List BookEntry) (before now : O
   pub verdicts : List Verdict
   pub texts : List (List ℕ)
   pub mid : List BookEntry
-  pub front : IsFront m old mid events verdicts texts
+  pub front : AreFirstJudged m old mid events verdicts texts
   pub grown : HasGrownWithin m.budget mid new
   pub put : Took before now (concat texts)
 
@@ -60,7 +60,7 @@ pub record IsCutThere (m : Matter) (old new : List BookEntry) (before now : Opti
   pub events : List ℕ
   pub verdicts : List Verdict
   pub texts : List (List ℕ)
-  pub front : IsFront m old new events verdicts texts
+  pub front : AreFirstJudged m old new events verdicts texts
   pub put : TookCut texts before now
 
 -- by how telling ends; rose says that the sink's count of faults rose

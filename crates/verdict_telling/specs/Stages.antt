@@ -18,14 +18,14 @@ pub record IsToldOf {R : Type 0} (s : VerdictTeller R) (e : ℕ) (t : VerdictTel
   pub is : text ≡ Some (text_of_verdict s.judge.matter.net e verdict)
 
 -- An event that is no fault has no text, and nothing is asked.
-pub record IsPassed {R : Type 0} (s : VerdictTeller R) (e : ℕ) (t : VerdictTeller R) (text : Option (List ℕ)) : Type 0 where
+pub record IsPassedOver {R : Type 0} (s : VerdictTeller R) (e : ℕ) (t : VerdictTeller R) (text : Option (List ℕ)) : Type 0 where
   pub no_fault : e < length s.judge.matter.net.events → is_fault s.judge.matter.net e ≡ true → ⊥
   pub same : t ≡ s
   pub none : text ≡ None
 
 -- what is told of an event
 abbrev pub TellsOf : {R : Type 0} → VerdictTeller R → ℕ → VerdictTeller R → Option (List ℕ) → Type 0
-TellsOf s e t text = IsToldOf s e t text ⊎ IsPassed s e t text
+TellsOf s e t text = IsToldOf s e t text ⊎ IsPassedOver s e t text
 
 -- It ran out of memory. The same is judged, and the book has at most what a question put.
 pub record IsNotTold {R : Type 0} (s t : VerdictTeller R) : Type 0 where

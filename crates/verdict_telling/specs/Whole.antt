@@ -17,7 +17,7 @@ use Rattle.step_encode.specs.FaultInputs.{fault_events}
 use Rattle.telling.specs.Telling.{TookCut}
 use Rattle.telling.specs.declared.each.Broken.{Broken}
 use Rattle.telling.specs.declared.each.Broken.TheVariants.{Memory, Put}
-use Rattle.verdict_telling.specs.Replied.{IsFront, is_undecided}
+use Rattle.verdict_telling.specs.Replied.{AreFirstJudged, is_undecided}
 use Rattle.verdict_telling.specs.declared.whole.Told.{Told}
 use Rattle.verdict_telling.specs.declared.whole.Told.TheVariants.{Judged, NotExplained, TooMany, NotDecided}
 
@@ -50,7 +50,7 @@ pub record AreNone (old new : List BookEntry) (events : List ℕ) (verdicts : Li
 
 -- behind what was found: these first of all fault events were judged where a least number of faults is told, and else none
 abbrev pub FollowsFound : Net → Log → ℕ → ℕ → Found → List BookEntry → List BookEntry → List ℕ → List Verdict → List (List ℕ) → Type 0
-FollowsFound net log n budget (Explained best) old new events verdicts texts = IsFront (matter_behind net log n budget best) old new events verdicts texts
+FollowsFound net log n budget (Explained best) old new events verdicts texts = AreFirstJudged (matter_behind net log n budget best) old new events verdicts texts
 FollowsFound net log n budget Absent old new events verdicts texts = AreNone old new events verdicts texts
 FollowsFound net log n budget (Many best) old new events verdicts texts = AreNone old new events verdicts texts
 FollowsFound net log n budget (Undecided lo best) old new events verdicts texts = AreNone old new events verdicts texts
@@ -100,7 +100,7 @@ pub record IsBrokenOff (net : Net) (log : Log) (n budget : ℕ) (book : List Boo
   pub put : Took before now (concat texts)
 
 -- The last reply couldn't be put whole: that about the log, or on the last of these events.
-pub record IsCutOff (net : Net) (log : Log) (n budget : ℕ) (book : List BookEntry) (before now : Option (List ℕ)) : Type 0 where
+pub record IsCutInReply (net : Net) (log : Log) (n budget : ℕ) (book : List BookEntry) (before now : Option (List ℕ)) : Type 0 where
   pub found : Found
   pub events : List ℕ
   pub verdicts : List Verdict
@@ -112,7 +112,7 @@ pub record IsCutOff (net : Net) (log : Log) (n budget : ℕ) (book : List BookEn
 abbrev pub TellsWhole : Net → Log → ℕ → ℕ → List BookEntry → Option (List ℕ) → Option (List ℕ) → Type 0 → Result Told Broken → Type 0
 TellsWhole net log n budget book before now rose (Ok told) = IsAllSaid net log n budget book before now told
 TellsWhole net log n budget book before now rose (Err Memory) = Took before now [] ⊎ IsBrokenOff net log n budget book before now
-TellsWhole net log n budget book before now rose (Err Put) = rose × IsCutOff net log n budget book before now
+TellsWhole net log n budget book before now rose (Err Put) = rose × IsCutInReply net log n budget book before now
 
 -- where all were judged that is told with whether some was left open
 abbrev pub HasJudged : Result Bool Broken → Result Told Broken → Type 0

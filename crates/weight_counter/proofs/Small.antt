@@ -16,7 +16,7 @@ use Rattle.weight_counter.proofs.Weights.{within}
 use Rattle.weight_counter.proofs.Written.{are_weight_clauses}
 use Rattle.weight_counter.specs.declared.scale.Scale.{Scale}
 use Rattle.weight_counter.specs.declared.weighted.Weighted.{Weighted}
-use Rattle.weight_counter.specs.Scales.{place_variable, kept_clause, alone_clause, raised_clause, kept_at, alone_at, raised_at, input_clauses, clauses_from, scale_clauses, ScalesAreSmall, IsSmall}
+use Rattle.weight_counter.specs.Scales.{place_variable, kept_clause, alone_clause, raised_clause, kept_before, alone_at, raised_at, weight_clauses, clauses_from, scale_clauses, ScalesAreSmall, IsSmall}
 use Rattle.weight_counter.specs.Weighing.{WeightClause, weighs_on, weighs_alone, weighs_up, weight_clause, IsWeightClause}
 
 -- ---- few and short
@@ -41,11 +41,11 @@ long_below : (f : ℕ → Clause) (k n : ℕ) → ((m : ℕ) → length (f m) �
 long_below f k n each = long f k (numbers_below n) each ∙ ap (λ m. k * m) (length-range_with_len 0 n)
 
 module _ (at : ℕ → ℕ → ℕ) (amounts : ℕ) where
-  kept_few : (i : ℕ) → length (kept_at at amounts i) ≤ amounts
+  kept_few : (i : ℕ) → length (kept_before at amounts i) ≤ amounts
   kept_few zero = omega arith
   kept_few (suc i) = omega (arith, size (kept_clause at i) amounts)
 
-  kept_short : (i : ℕ) → sum_by length (kept_at at amounts i) ≤ 2 * amounts
+  kept_short : (i : ℕ) → sum_by length (kept_before at amounts i) ≤ 2 * amounts
   kept_short zero = omega arith
   kept_short (suc i) = omega (arith, long_below (kept_clause at i) 2 amounts (λ j. refl))
 
@@ -57,16 +57,16 @@ module _ (at : ℕ → ℕ → ℕ) (amounts : ℕ) where
   raised_short zero x = omega arith
   raised_short (suc i) x = omega (arith, long_below (raised_clause at i x) 3 (amounts - x.weight) (λ j. refl))
 
-  input_few : (i : ℕ) (x : Weighted) → length (input_clauses at amounts i x) ≤ 2 * amounts
+  input_few : (i : ℕ) (x : Weighted) → length (weight_clauses at amounts i x) ≤ 2 * amounts
   input_few i x =
-      let one = length-append (kept_at at amounts i) (alone_at at amounts i x ++ raised_at at amounts i x) in
+      let one = length-append (kept_before at amounts i) (alone_at at amounts i x ++ raised_at at amounts i x) in
       let two = length-append (alone_at at amounts i x) (raised_at at amounts i x) in
       let alone = size (alone_clause at i x.input) (min x.weight amounts) in
       omega (arith, one, two, alone, kept_few i, raised_few i x)
 
-  input_short : (i : ℕ) (x : Weighted) → sum_by length (input_clauses at amounts i x) ≤ 5 * amounts
+  input_short : (i : ℕ) (x : Weighted) → sum_by length (weight_clauses at amounts i x) ≤ 5 * amounts
   input_short i x =
-      let one = sum_by-append length (kept_at at amounts i) (alone_at at amounts i x ++ raised_at at amounts i x) in
+      let one = sum_by-append length (kept_before at amounts i) (alone_at at amounts i x ++ raised_at at amounts i x) in
       let two = sum_by-append length (alone_at at amounts i x) (raised_at at amounts i x) in
       let alone = long_below (alone_clause at i x.input) 2 (min x.weight amounts) (λ j. refl) in
       omega (arith, one, two, alone, kept_short i, raised_short i x)
@@ -75,14 +75,14 @@ module _ (at : ℕ → ℕ → ℕ) (amounts : ℕ) where
   few_from b [] = omega arith
   few_from b (x ∷ xs) =
       let rest = few_from (suc b) xs in
-      let whole = length-append (input_clauses at amounts b x) (clauses_from at amounts (suc b) xs) in
+      let whole = length-append (weight_clauses at amounts b x) (clauses_from at amounts (suc b) xs) in
       omega (arith, rest, whole, input_few b x, suc-mul (length xs) amounts)
 
   short_from : (b : ℕ) (xs : List Weighted) → sum_by length (clauses_from at amounts b xs) ≤ 5 * (length xs * amounts)
   short_from b [] = omega arith
   short_from b (x ∷ xs) =
       let rest = short_from (suc b) xs in
-      let whole = sum_by-append length (input_clauses at amounts b x) (clauses_from at amounts (suc b) xs) in
+      let whole = sum_by-append length (weight_clauses at amounts b x) (clauses_from at amounts (suc b) xs) in
       omega (arith, rest, whole, input_short b x, suc-mul (length xs) amounts)
 
 -- ---- over known variables

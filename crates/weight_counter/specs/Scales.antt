@@ -28,7 +28,7 @@ abbrev pub IsWithinVars : Scale → Type 0
 IsWithinVars scale = scale.first + scale.inputs * scale.amounts ≤ VAR_LIMIT
 
 -- a place of the scale
-pub record IsPlace (scale : Scale) (i j : ℕ) : Type 0 where
+pub record IsScalePlace (scale : Scale) (i j : ℕ) : Type 0 where
   pub input : i < scale.inputs
   pub amount : j < scale.amounts
 
@@ -47,9 +47,9 @@ abbrev pub raised_clause : (ℕ → ℕ → ℕ) → ℕ → Weighted → ℕ �
 raised_clause at i x j = weight_clause at (weighs_up i j x.weight x.input)
 
 -- what input i keeps of those before it: before the first there are none
-abbrev pub kept_at : (ℕ → ℕ → ℕ) → ℕ → ℕ → List Clause
-kept_at at amounts zero = []
-kept_at at amounts (suc i) = map (kept_clause at i) (numbers_below amounts)
+abbrev pub kept_before : (ℕ → ℕ → ℕ) → ℕ → ℕ → List Clause
+kept_before at amounts zero = []
+kept_before at amounts (suc i) = map (kept_clause at i) (numbers_below amounts)
 
 -- what input i reaches by itself
 abbrev pub alone_at : (ℕ → ℕ → ℕ) → ℕ → ℕ → Weighted → List Clause
@@ -61,13 +61,13 @@ raised_at at amounts zero x = []
 raised_at at amounts (suc i) x = map (raised_clause at i x) (numbers_below (amounts - x.weight))
 
 -- the clauses of input i
-abbrev pub input_clauses : (ℕ → ℕ → ℕ) → ℕ → ℕ → Weighted → List Clause
-input_clauses at amounts i x = kept_at at amounts i ++ (alone_at at amounts i x ++ raised_at at amounts i x)
+abbrev pub weight_clauses : (ℕ → ℕ → ℕ) → ℕ → ℕ → Weighted → List Clause
+weight_clauses at amounts i x = kept_before at amounts i ++ (alone_at at amounts i x ++ raised_at at amounts i x)
 
 -- the clauses of inputs of which the first is input i
 abbrev pub clauses_from : (ℕ → ℕ → ℕ) → ℕ → ℕ → List Weighted → List Clause
 clauses_from at amounts i [] = []
-clauses_from at amounts i (x ∷ inputs) = input_clauses at amounts i x ++ clauses_from at amounts (suc i) inputs
+clauses_from at amounts i (x ∷ inputs) = weight_clauses at amounts i x ++ clauses_from at amounts (suc i) inputs
 
 -- the clauses of all inputs
 abbrev pub scale_clauses : (ℕ → ℕ → ℕ) → ℕ → List Weighted → List Clause
@@ -83,15 +83,15 @@ pub record AddsScale (inputs : List Weighted) (amounts first : ℕ) (written : L
 -- ---- what they are
 
 -- A scale's clauses are those of its inputs, and the place of a variable can be told from it.
-pub record IsExact (scale : Scale) (inputs : List Weighted) : Type 0 where
+pub record IsExactScale (scale : Scale) (inputs : List Weighted) : Type 0 where
   pub clauses : AreWeightClauses (place_variable scale) inputs scale.amounts (scale_clauses (place_variable scale) scale.amounts inputs)
-  pub input_back : (i j : ℕ) → IsPlace scale i j → input_of scale (place_variable scale i j) ≡ i
-  pub amount_back : (i j : ℕ) → IsPlace scale i j → amount_of scale (place_variable scale i j) ≡ j
-  pub own : (i j : ℕ) → IsPlace scale i j → (scale.first ≤ place_variable scale i j) × (place_variable scale i j < scale.first + scale.inputs * scale.amounts)
+  pub input_back : (i j : ℕ) → IsScalePlace scale i j → input_of scale (place_variable scale i j) ≡ i
+  pub amount_back : (i j : ℕ) → IsScalePlace scale i j → amount_of scale (place_variable scale i j) ≡ j
+  pub own : (i j : ℕ) → IsScalePlace scale i j → (scale.first ≤ place_variable scale i j) × (place_variable scale i j < scale.first + scale.inputs * scale.amounts)
 
 -- So it is for all scales and inputs.
 abbrev pub ScalesAreExact : Type 0
-ScalesAreExact = (scale : Scale) (inputs : List Weighted) → IsExact scale inputs
+ScalesAreExact = (scale : Scale) (inputs : List Weighted) → IsExactScale scale inputs
 
 -- ---- how large they are
 

@@ -4,7 +4,7 @@ ghost use Rattle.des_base.specs.Lists.{numbers_below};
 ghost use Rattle.des_base.specs.declared.TheConstants.{VAR_LIMIT};
 ghost use Rattle.card_counter.specs.CounterState.{negative};
 ghost use Rattle.card_counter.specs.Growing.{AddsWithin, HasRoom};
-ghost use Rattle.weight_counter.specs.Scales.{AddsScale, IsWithinVars, kept_at, alone_at, raised_at, kept_clause, alone_clause, raised_clause, input_clauses, scale_clauses, place_variable};
+ghost use Rattle.weight_counter.specs.Scales.{AddsScale, IsWithinVars, kept_before, alone_at, raised_at, kept_clause, alone_clause, raised_clause, weight_clauses, scale_clauses, place_variable};
 
 use crate::weighted::Weighted;
 use des_base::{Memory, VAR_LIMIT};
@@ -90,7 +90,7 @@ impl Scale {
         requires place { place < self.now.inputs }
         requires within { IsWithinVars self.now }
         requires room { HasRoom out.old (2 * self.now.amounts) (5 * self.now.amounts) }
-        ensures { AddsWithin out.old (input_clauses (place_variable self.now) self.now.amounts place x) (2 * self.now.amounts) (5 * self.now.amounts) out.new }
+        ensures { AddsWithin out.old (weight_clauses (place_variable self.now) self.now.amounts place x) (2 * self.now.amounts) (5 * self.now.amounts) out.new }
     {
         self.push_kept(place, out);
         self.push_alone(place, x, out);
@@ -102,7 +102,7 @@ impl Scale {
         requires place { place < self.now.inputs }
         requires within { IsWithinVars self.now }
         requires room { HasRoom out.old self.now.amounts (2 * self.now.amounts) }
-        ensures { AddsWithin out.old (kept_at (place_variable self.now) self.now.amounts place) self.now.amounts (2 * self.now.amounts) out.new }
+        ensures { AddsWithin out.old (kept_before (place_variable self.now) self.now.amounts place) self.now.amounts (2 * self.now.amounts) out.new }
     {
         if place > 0 {
             self.keep_each(place - 1, out);

@@ -1,6 +1,6 @@
 use Rattle.std.proofs.Common.{◌≤◌, ℕ, None, subst, sym}
 use Rattle.des_base.specs.declared.TheConstants.{MOST_STEPS}
-use Rattle.event_costs.specs.StoredCosts.{IsAnswered}
+use Rattle.event_costs.specs.StoredCosts.{GivesCosts}
 use Rattle.least_faults.proofs.Climbing.{searching_further}
 use Rattle.least_faults.proofs.Closing.{ok_weaker}
 use Rattle.least_faults.proofs.Putting.{learnt_no_final}
@@ -78,8 +78,8 @@ returns-in-Explained-clause-found g c =
     let mid = c.ask.new.book.entries in
     let new = c.halve.new.book.entries in
     ok_weaker c.halve.result
-    (λ cheap. (cost : ℕ → ℕ) → IsAnswered (goal.C-post g) c.args.costs.now.cost net cost → AreWeighed (goal.R-pre g) (goal.R-post g) cost now scale mid → HasFoundCost (asked_of net cost log last) c.ask.new.budget mid new cheap)
-    (λ cheap. (cost : ℕ → ℕ) → IsAnswered (goal.C-post g) c.args.costs.now.cost net cost → AreWeighed (goal.R-pre g) (goal.R-post g) cost old scale book → HasFoundCost (asked_of net cost log last) c.args.budget.now book new cheap)
+    (λ cheap. (cost : ℕ → ℕ) → GivesCosts (goal.C-post g) c.args.costs.now.cost net cost → AreWeighed (goal.R-pre g) (goal.R-post g) cost now scale mid → HasFoundCost (asked_of net cost log last) c.ask.new.budget mid new cheap)
+    (λ cheap. (cost : ℕ → ℕ) → GivesCosts (goal.C-post g) c.args.costs.now.cost net cost → AreWeighed (goal.R-pre g) (goal.R-post g) cost old scale book → HasFoundCost (asked_of net cost log last) c.args.budget.now book new cheap)
     (λ cheap found. λ cost answered weighed.
     let here = asked_back net cost log old now scale None book mid c.args.budget.now c.ask.new.budget c.in_ok-ask.field-0 (asked.Explained c.in-Explained.known) c.ask.ensures.kept c.in-Explained.is (c.in_ok-ask.ensures.asked cost answered weighed) in
     found_later (asked_of net cost log last) c.args.budget.now c.ask.new.budget book mid new here.since cheap here.whole here.unmarked (learnt_no_final here.since here.means.learnt) here.paid here.fresh (found cost answered (c.ask.ensures.still cost weighed)))

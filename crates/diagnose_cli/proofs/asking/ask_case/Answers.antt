@@ -5,7 +5,7 @@ use Rattle.inquiries.specs.Begun.{LeavesQuestion}
 use Rattle.log_order.specs.Log.{Log}
 use Rattle.diagnose_cli.specs.declared.command.Command.TheVariants.{One}
 use Rattle.diagnose_cli.specs.declared.command.Single.TheVariants.{Ask}
-use Rattle.diagnose_cli.specs.Due.{Answers, Closes}
+use Rattle.diagnose_cli.specs.Due.{MayAnswer, Closes}
 use Rattle.endings.specs.Files.{loads}
 use Rattle.endings.specs.Texts.{log}
 use Rattle.endings.specs.Transcripts.{once}
@@ -20,7 +20,7 @@ returns-in_err-case-clause-asked g c =
     let command = One (Ask c.args.steps (g.Q.Replying.question c.args.inquiry.now)) in
     let book = c.args.book.now.entries in
     record {
-      due = handed_after _ _ (Answers l words command book) c.from_residual.ensures.1 (λ never. stops_in_two l words log [] (Closes command words book) _ (c.in_err-case.ensures.stop never));
+      due = handed_after _ _ (MayAnswer l words command book) c.from_residual.ensures.1 (λ never. stops_in_two l words log [] (Closes command words book) _ (c.in_err-case.ensures.stop never));
       left = λ text alarms told. inl c.requires.empty;
     }
 

@@ -2,7 +2,7 @@
 use Rattle.std.proofs.Common.{ℕ, List, Option, [], ◌∷◌, inl, subst, sym}
 use Rattle.diagnose_cli.specs.declared.command.Command.TheVariants.{One}
 use Rattle.diagnose_cli.specs.declared.command.Single.TheVariants.{Cheapest}
-use Rattle.diagnose_cli.specs.Due.{Answers, Closes}
+use Rattle.diagnose_cli.specs.Due.{MayAnswer, Closes}
 use Rattle.endings.specs.Files.{loads}
 use Rattle.diagnose_cli.specs.Rows.{AreTold}
 use Rattle.endings.specs.Texts.{costs, log}
@@ -16,7 +16,7 @@ returns-in_err-case-clause-due g c =
     let words = c.args.words.now in
     let command = One (Cheapest c.args.limits.steps c.args.limits.budget) in
     let book = c.args.book.now.entries in
-    handed_after _ _ (Answers l words command book) c.from_residual.ensures.1 (λ never. stops_in_two l words log (costs ∷ []) (Closes command words book) _ (c.in_err-case.ensures.stop never))
+    handed_after _ _ (MayAnswer l words command book) c.from_residual.ensures.1 (λ never. stops_in_two l words log (costs ∷ []) (Closes command words book) _ (c.in_err-case.ensures.stop never))
 
 pub returns-clause-due : goal.returns-clause-due
 returns-clause-due g c =

@@ -4,7 +4,7 @@ use Rattle.des_base.specs.CommandWords.{word_at}
 use Rattle.model_text.specs.ModelFaults.{network_of}
 use Rattle.diagnose_cli.specs.declared.command.Command.TheVariants.{One}
 use Rattle.diagnose_cli.specs.declared.command.Single.TheVariants.{Twin}
-use Rattle.diagnose_cli.specs.Due.{Answers, Closes}
+use Rattle.diagnose_cli.specs.Due.{MayAnswer, Closes}
 use Rattle.endings.specs.Files.{loads}
 use Rattle.endings.specs.Texts.{model}
 use Rattle.endings.specs.Transcripts.{once}
@@ -19,7 +19,7 @@ returns-in_err-net-clause-due g c =
     let limits = c.args.limits in
     let command = One (Twin limits.steps limits.after limits.budget) in
     let book = c.args.book.now.entries in
-    handed_after _ _ (Answers l words command book) c.from_residual.ensures.1 (λ never. stops_here l words 1 model [] [] (Closes command words book) _ (c.in_err-net.ensures.stop never))
+    handed_after _ _ (MayAnswer l words command book) c.from_residual.ensures.1 (λ never. stops_here l words 1 model [] [] (Closes command words book) _ (c.in_err-net.ensures.stop never))
 
 pub returns-clause-due : goal.returns-clause-due
 returns-clause-due g c never =

@@ -4,7 +4,7 @@ use Rattle.fault_verdicts.proofs.Guarding.{guards_alone, guards_bound}
 use Rattle.fault_verdicts.proofs.Ready.{ready_with_columns}
 use Rattle.fault_verdicts.proofs.assuming.guards_within.Goals as goal
 use Rattle.fault_verdicts.proofs.assuming.guards_within.Goals.{then-inputs-gt0+in_ok-bound+in_ok-push, else-inputs-gt0}
-use Rattle.fault_verdicts.specs.Judging.{GoesOn, bound_for}
+use Rattle.fault_verdicts.specs.Judging.{KeepsStepsAndLog, bound_for}
 use Rattle.fault_verdicts.specs.Ready.{AreReadyWith}
 use Rattle.least_faults.proofs.AxiomLists.{adds_none}
 use Rattle.least_faults.specs.Asking.{AreAssumptions}
@@ -39,9 +39,9 @@ returns-clause-ready g c = λ made ready. elim c.if-inputs-gt0.branch [
 pub returns-clause-goes_on : goal.returns-clause-goes_on
 returns-clause-goes_on g c = elim c.if-inputs-gt0.branch [
   | then-inputs-gt0+in_ok-bound+in_ok-push w ↦
-      subst (λ (p : Parts g.row.R.Denot). GoesOn 0 c.args.parts.now p) (sym w.parts-is)
+      subst (λ (p : Parts g.row.R.Denot). KeepsStepsAndLog 0 c.args.parts.now p) (sym w.parts-is)
       (goes_with_columns c.args.parts.now w.bound.new.parts c.args.book.now.entries w.bound.new.book.entries w.bound.ensures.kept)
-  | else-inputs-gt0 w ↦ subst (λ (p : Parts g.row.R.Denot). GoesOn 0 c.args.parts.now p) (sym w.parts-is) (goes_nowhere 0 c.args.parts.now)
+  | else-inputs-gt0 w ↦ subst (λ (p : Parts g.row.R.Denot). KeepsStepsAndLog 0 c.args.parts.now p) (sym w.parts-is) (goes_nowhere 0 c.args.parts.now)
 ]
 
 pub returns-clause-axioms : goal.returns-clause-axioms

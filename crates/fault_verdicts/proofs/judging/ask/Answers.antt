@@ -6,7 +6,7 @@ use Rattle.fault_verdicts.proofs.Asking.{assumed_consistent, assumed_known, has_
 use Rattle.fault_verdicts.proofs.Going.{belong_on, goes_both, goes_by_solver, ready_after_search}
 use Rattle.fault_verdicts.proofs.judging.ask.Goals as goal
 use Rattle.fault_verdicts.specs.Judged.{IsBestRun}
-use Rattle.fault_verdicts.specs.Judging.{IsAsked}
+use Rattle.fault_verdicts.specs.Judging.{IsVerdictShown}
 use Rattle.least_faults.proofs.Asked.{begun_true, searching_axioms, searching_both}
 use Rattle.log_order.specs.Order.{least_order}
 use Rattle.proof_ledger.specs.Book.{BookEntry, axioms_of}
@@ -122,7 +122,7 @@ returns-in-Unsat-clause-asked g c =
     let belong = belong_on net log 1 c.args.parts.now mid c.assume.ensures.goes_on c.requires.belong in
     let has = has_posed _ _ mid c.assume.new.book.entries net log c.args.k c.args.event c.has_event-there.result c.in_ok-assumed.assumed.items are belong c.is_built.ensures.network c.is_whole.ensures.whole.valid c.requires.known in
     let best = subst (λ (s : CodedSteps). IsBestRun net log s.steps c.args.k c.args.first.now) (sym c.assume.ensures.goes_on.step) c.requires.best in
-    subst (IsAsked net log mid.step.steps c.args.k c.args.event c.args.first.now c.args.left.now c.solve.new.budget c.args.book.now.entries c.solve.new.book.entries) (sym c.refuted.ensures)
+    subst (IsVerdictShown net log mid.step.steps c.args.k c.args.event c.args.first.now c.args.left.now c.solve.new.budget c.args.book.now.entries c.solve.new.book.entries) (sym c.refuted.ensures)
     (asked_refuted net log mid.step.steps c.args.k c.args.event c.args.first.now c.has_event-there.result c.in_ok-assumed.assumed.items c.args.book.now.entries c.assume.new.book.entries c.solve.new.book.entries c.args.left.now c.solve.new.budget c.assume.ensures.axioms c.solve.ensures.searched are.ready.beside.known best c.has_event-there.ensures has c.in-Unsat.field-0
     (subst (HasPut c.assume.new.book.entries c.solve.new.book.entries) c.in-Unsat.is c.in_ok-answer.ensures.put)
     (subst (λ xs. IsAnswer c.solve.new.self.assignment c.solve.new.book.entries xs c.solve.new.budget (Answer.Unsat c.in-Unsat.field-0)) c.as_slice.ensures.value

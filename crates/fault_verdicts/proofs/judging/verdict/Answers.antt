@@ -3,7 +3,7 @@ use Rattle.fault_verdicts.proofs.Answered.{judged}
 use Rattle.fault_verdicts.proofs.Going.{goes_nowhere, ready_with_mark}
 use Rattle.fault_verdicts.proofs.judging.verdict.Goals as goal
 use Rattle.fault_verdicts.specs.Judged.{IsBestRun}
-use Rattle.fault_verdicts.specs.Judging.{IsAsked}
+use Rattle.fault_verdicts.specs.Judging.{IsVerdictShown}
 use Rattle.fault_verdicts.specs.Ready.{AreReadyForVerdicts}
 use Rattle.least_faults.proofs.Closing.{grown_closed, grown_not, grown_opened}
 use Rattle.least_faults.specs.Growing.{HasGrownWithin}
@@ -49,4 +49,4 @@ pub returns-clause-judged : goal.returns-clause-judged
 returns-clause-judged g c =
     judged c.args.net.now c.args.log.now c.ask.new.parts.step.steps c.args.k c.args.event c.args.budget c.ask.new.left c.args.first.now c.args.book.now.entries c.put_mark.new.self.entries c.ask.new.book.entries c.put_mark-2.new.self.entries c.in_ok-verdict.verdict
     (ap (λ (b : LedgerState). b.entries) c.in_ok-put_mark.ensures.added) (ap (λ (b : LedgerState). b.entries) c.in_ok-put_mark-2.ensures.added)
-    (subst (λ steps. IsAsked c.args.net.now c.args.log.now c.ask.new.parts.step.steps c.args.k c.args.event steps c.args.budget c.ask.new.left c.put_mark.new.self.entries c.ask.new.book.entries c.in_ok-verdict.verdict) c.steps.ensures.steps c.in_ok-verdict.ensures.asked)
+    (subst (λ steps. IsVerdictShown c.args.net.now c.args.log.now c.ask.new.parts.step.steps c.args.k c.args.event steps c.args.budget c.ask.new.left c.put_mark.new.self.entries c.ask.new.book.entries c.in_ok-verdict.verdict) c.steps.ensures.steps c.in_ok-verdict.ensures.asked)

@@ -5,7 +5,7 @@ use Rattle.proof_ledger.specs.declared.checker.ProofStep.{ProofStep}
 use Rattle.proof_ledger.specs.declared.checker.Checked.TheVariants.{Verified}
 use Rattle.proof_text.specs.Refutation.{EndsIn, front_to, refuted_formula, refutation_steps}
 use Rattle.prop_core.specs.declared.lit.Lit.{Lit}
-use Rattle.inquiries.specs.Refuted.{IsRefuted}
+use Rattle.inquiries.specs.Refuted.{IsVerifiedRefutation}
 use Rattle.inquiries.proofs.Refutations.{ends_in, has_column, is_refuted, ok_both, some_final}
 use Rattle.inquiries.proofs.refuting.refuting_proof.Goals as goal
 
@@ -34,7 +34,7 @@ returns-clause-refuted g c =
     c.is_built.ensures.network c.is_whole.ensures.whole.valid in
     ok_both c.refutation_proof.result (λ (steps : List ProofStep). steps ≡ refutation_steps (front_to last book) c.as_slice.result.now)
     (λ (steps : List ProofStep). check_proof (refuted_formula (front_to last book) c.as_slice.result.now) steps ≡ Verified)
-    (λ (steps : List ProofStep). IsRefuted net log c.args.parts.now.step.steps c.args.bound book steps)
+    (λ (steps : List ProofStep). IsVerifiedRefutation net log c.args.parts.now.step.steps c.args.bound book steps)
     (λ steps is verified. is_refuted (goal.R-pre g) (goal.R-post g) net log c.args.parts.now book c.args.bound c.requires.belong c.requires.ready c.requires.evidence assumed c.in_ok-assumed.ensures
     c.is_built.ensures.network c.is_whole.ensures.whole.valid last steps (c.last_final-last.ensures some) c.requires.built
     (subst (λ (xs : List Lit). steps ≡ refutation_steps (front_to last book) xs) c.as_slice.ensures.value is)

@@ -1,10 +1,10 @@
 use Rattle.std.proofs.Common.{◌≡◌, ◌∷◌, ◌++◌, append-nil, ap, sym, subst, ◌∙◌, Option, false}
 use Rattle.std.proofs.lemmas.Result.{err_from_is_err_and}
 use Rattle.proof_text.specs.declared.fault.TextFault.{TextFault}
-use Rattle.proof_text.specs.ClauseReading.{clauses_of}
+use Rattle.proof_text.specs.ClauseReading.{spelled_clauses}
 use Rattle.proof_text.specs.TextFaults.{IsDue}
 use Rattle.proof_text.specs.CnfText.{lined, some_open, fault_of_tokens}
-use Rattle.proof_text.proofs.PieceLemmas.{clauses_of-pieces}
+use Rattle.proof_text.proofs.PieceLemmas.{spelled_clauses-pieces}
 use Rattle.proof_text.proofs.clause_reader.read_clauses.Goals as goal
 
 -- The fault of a token is that of all tokens.
@@ -24,6 +24,6 @@ pub returns-clause-clauses : goal.returns-clause-clauses
 returns-clause-clauses c =
     let read = c.loop-token.reader.clauses.clauses in
     sym (append-nil read)
-    ∙ ap (λ ts. read ++ clauses_of c.loop-token.reader.front.items ts) (sym c.in_default.ensures)
+    ∙ ap (λ ts. read ++ spelled_clauses c.loop-token.reader.front.items ts) (sym c.in_default.ensures)
     ∙ c.loop-token.invariant.clauses
-    ∙ clauses_of-pieces c.args.tokens
+    ∙ spelled_clauses-pieces c.args.tokens

@@ -5,12 +5,12 @@ use Rattle.des_base.specs.CountedLines.{last_line}
 use Rattle.prop_core.specs.ClauseStore.{ClauseStore}
 use Rattle.prop_core.specs.declared.lit.Lit.{Lit}
 use Rattle.prop_core.specs.Clauses.{HasValues}
-use Rattle.proof_text.specs.ClauseReading.{clauses_of}
+use Rattle.proof_text.specs.ClauseReading.{spelled_clauses}
 use Rattle.proof_text.specs.declared.fault.TextFault.{TextFault}
 use Rattle.proof_text.specs.TextFaults.{fault_or, IsDue}
 use Rattle.proof_text.specs.CnfText.{fault_of_tokens}
 use Rattle.proof_text.proofs.CnfLemmas.{first_cnf_fault-tokens, clauses_known}
-use Rattle.proof_text.proofs.PieceLemmas.{clauses_of-pieces}
+use Rattle.proof_text.proofs.PieceLemmas.{spelled_clauses-pieces}
 use Rattle.proof_text.proofs.cnf_text.read_cnf.Goals as goal
 
 -- A fault of the clauses is that of the text.
@@ -25,5 +25,5 @@ returns-clause-known c =
     let end = last_line c.args.bytes.now in
     let header = c.in-Ok.header in
     let none : fault_of_tokens header.vars end header.clauses false c.new.result ≡ None = c.in_ok-reader.ensures.faults end ∙ ap (λ code. fault_or end code None) (sym c.in_default-end_code.ensures) in
-    let clauses : c.into_clauses.result.clauses ≡ clauses_of [] c.new.result = ap (λ (s : ClauseStore). s.clauses) c.into_clauses.ensures ∙ c.in_ok-reader.ensures.clauses ∙ sym (clauses_of-pieces c.new.result) in
+    let clauses : c.into_clauses.result.clauses ≡ spelled_clauses [] c.new.result = ap (λ (s : ClauseStore). s.clauses) c.into_clauses.ensures ∙ c.in_ok-reader.ensures.clauses ∙ sym (spelled_clauses-pieces c.new.result) in
     All-same (HasValues header.vars) _ _ clauses (clauses_known header.vars end header.clauses false [] c.new.result (All-nil (λ (l : Lit). l.var < header.vars)) none)

@@ -6,7 +6,7 @@ use Rattle.inquiries.specs.Refuted.{IsRefutedFor}
 use Rattle.inquiries.specs.declared.refutation.Refuted.{Refuted}
 use Rattle.least_faults.proofs.Closing.{ok_weaker}
 use Rattle.least_faults.specs.declared.answer.Found.{Found}
-use Rattle.proof_text.specs.PrintedText.{ReadsBack, steps_text}
+use Rattle.proof_text.specs.PrintedText.{ReadsBackAsProof, steps_text}
 use Rattle.report.specs.Replies.{EventsKnown}
 use Rattle.diagnose_cli.specs.declared.command.Question.TheVariants.{PrintProof}
 use Rattle.endings.specs.declared.ending.Kind.{Kind}
@@ -54,7 +54,7 @@ returns-in-Within c =
     let bound = c.in-Within.bound in
     let steps = c.in-Within.proof in
     let refuted = subst (λ (answer : Refuted). IsRefutedFor net log n book says.found answer) c.in-Within.is says.refuted in
-    ok_both c.reply_of_proof.result (λ (reply : Kind × List ℕ). reply ≡ reply_of_proof bound steps) (λ (reply : Kind × List ℕ). ReadsBack steps (steps_text steps)) (AnswersTo (PrintProof budget) net log n book)
+    ok_both c.reply_of_proof.result (λ (reply : Kind × List ℕ). reply ≡ reply_of_proof bound steps) (λ (reply : Kind × List ℕ). ReadsBackAsProof steps (steps_text steps)) (AnswersTo (PrintProof budget) net log n book)
     (λ reply is reads. answers_proof net log n budget book reply (record {
       found = says.found;
       holds = answers_question net log n budget book says.found c.is_built.ensures.network c.is_built.ensures.whole c.is_whole.ensures.whole c.requires.steps says.diagnosed;

@@ -3,7 +3,7 @@ use Rattle.std.proofs.Common.{◌≡◌, List, ◌++◌, refl, subst}
 use Rattle.least_faults.proofs.Closing.{ok_weaker}
 use Rattle.proof_ledger.specs.Book.{clauses_of}
 use Rattle.proof_text.specs.CnfText.{formula}
-use Rattle.proof_text.specs.Refutation.{units}
+use Rattle.proof_text.specs.Refutation.{unit_clauses}
 use Rattle.proof_text.specs.declared.cnf.Cnf.{Cnf}
 use Rattle.prop_core.specs.declared.lit.Lit.{Lit}
 use Rattle.run_decode.specs.QuestionAxioms.{question_axioms}
@@ -44,7 +44,7 @@ returns-clause-says g c =
       counts = c.counted-bound.ensures.bound;
       assumes = c.in_ok-assumed.ensures.assumed;
     } in
-    ok_weaker c.formula_under.result (λ (cnf : Cnf). formula cnf.vars cnf.clauses.clauses ≡ formula c.count.result (clauses_of book ++ units c.as_slice.result.now))
+    ok_weaker c.formula_under.result (λ (cnf : Cnf). formula cnf.vars cnf.clauses.clauses ≡ formula c.count.result (clauses_of book ++ unit_clauses c.as_slice.result.now))
     (λ (cnf : Cnf). IsFormulaOf net log n within book (formula cnf.vars cnf.clauses.clauses))
     (λ cnf is. is_formula _ _ _ _ _ _ _ _ _ _ _ _ asked c.count.result (formula cnf.vars cnf.clauses.clauses) c.count.ensures.count
-    (subst (λ (lits : List Lit). formula cnf.vars cnf.clauses.clauses ≡ formula c.count.result (clauses_of book ++ units lits)) c.as_slice.ensures.value is)) c.formula_under.ensures
+    (subst (λ (lits : List Lit). formula cnf.vars cnf.clauses.clauses ≡ formula c.count.result (clauses_of book ++ unit_clauses lits)) c.as_slice.ensures.value is)) c.formula_under.ensures

@@ -1,8 +1,8 @@
 use Rattle.std.proofs.Common.{◌≡◌, ◌∙◌, Some, sym, ap, subst, arith}
 use Rattle.log_encode.proofs.CallLemmas.{found_alarm, alarm_within, kept_count}
 use Rattle.log_encode.proofs.log_code.LogCode.done.Goals as goal
-use Rattle.log_encode.specs.AlarmVariables.{IsWithin, done_variable}
-use Rattle.log_encode.specs.CodedLog.{code_names}
+use Rattle.log_encode.specs.AlarmVariables.{AreWithinLimit, done_variable}
+use Rattle.log_encode.specs.CodedLog.{log_names}
 use Rattle.log_encode.specs.declared.alarm_vars.AlarmVars.{AlarmVars}
 use Rattle.prop_core.specs.VariableNames.{name_of, done}
 
@@ -14,7 +14,7 @@ vars_of-requires c =
 pub done-requires-clause-within : goal.done-requires-clause-within
 done-requires-clause-within c =
     let found = found_alarm c.self.inside c.args.self.now c.args.alarm c.index.result.now c.self.view_is c.self.invariant c.requires c.index.ensures in
-    subst IsWithin (sym c.vars_of.ensures) (alarm_within c.args.self.now.code c.args.alarm c.index.result.now found.1 found.0)
+    subst AreWithinLimit (sym c.vars_of.ensures) (alarm_within c.args.self.now.code c.args.alarm c.index.result.now found.1 found.0)
 
 pub returns-clause-within : goal.returns-clause-within
 returns-clause-within c =
@@ -30,4 +30,4 @@ pub returns-clause-names : goal.returns-clause-names
 returns-clause-names c =
     let found = found_alarm c.self.inside c.args.self.now c.args.alarm c.index.result.now c.self.view_is c.self.invariant c.requires c.index.ensures in
     let is = c.done.ensures ∙ ap (λ (v : AlarmVars). done_variable v 0) c.vars_of.ensures in
-    λ t within. subst (λ v. name_of (code_names c.args.self.now.code) v ≡ Some (done c.args.alarm t)) (omega (arith, is)) (found.0.being_done t within)
+    λ t within. subst (λ v. name_of (log_names c.args.self.now.code) v ≡ Some (done c.args.alarm t)) (omega (arith, is)) (found.0.being_done t within)

@@ -1,7 +1,7 @@
 use Rattle.std.proofs.Common.{◌+◌, ◌≤◌, length, sym, subst, arith}
 use Rattle.log_encode.proofs.CallLemmas.{found_alarm, alarm_within, first_is_step}
 use Rattle.log_encode.proofs.log_code.LogCode.step_of.Goals as goal
-use Rattle.log_encode.specs.AlarmVariables.{IsWithin, alarm_width}
+use Rattle.log_encode.specs.AlarmVariables.{AreWithinLimit, alarm_width}
 use Rattle.log_encode.specs.declared.alarm_vars.AlarmVars.{AlarmVars}
 use Rattle.prop_core.specs.Clauses.{value_in}
 
@@ -13,7 +13,7 @@ vars_of-requires c =
 pub first_done-requires-clause-within : goal.first_done-requires-clause-within
 first_done-requires-clause-within c =
     let found = found_alarm c.self.inside c.args.self.now c.args.alarm c.index.result.now c.self.view_is c.self.invariant c.requires.alarm c.index.ensures in
-    subst IsWithin (sym c.vars_of.ensures) (alarm_within c.args.self.now.code c.args.alarm c.index.result.now found.1 found.0)
+    subst AreWithinLimit (sym c.vars_of.ensures) (alarm_within c.args.self.now.code c.args.alarm c.index.result.now found.1 found.0)
 
 pub first_done-requires-clause-values : goal.first_done-requires-clause-values
 first_done-requires-clause-values c =

@@ -2,7 +2,7 @@
 use Rattle.std.proofs.Common.{◌≡◌, ◌∙◌, ◌<◌, ◌++◌, ◌∷◌, [], ℕ, false, List, length, ap, sym, subst, arith}
 use Rattle.log_order.specs.Log.{StandOnce, has_pair, reaches}
 use Rattle.log_order.specs.Precedence.{Precedence, is_marked, moved}
-use Rattle.log_order.proofs.KeptLemmas.{IsKept-with, IsKept-as, StandOnce-push, length-moved}
+use Rattle.log_order.proofs.KeptLemmas.{IsKeptOrder-with, IsKeptOrder-as, StandOnce-push, length-moved}
 use Rattle.log_order.proofs.precedence.Precedence.put.Goals as goal
 
 pairs_are : (c : goal.After-drop-self-inside) → c.push_reserved.new.self.items ≡ c.self.inside.pairs.items ++ (c.args.first, c.args.second) ∷ []
@@ -21,7 +21,7 @@ invariant_of-self-2 c =
     let marks : (i : ℕ) → is_marked c.args.marks.now i ≡ reaches c.self.inside.pairs.items c.args.second i = λ i. c.requires.marks i ∙ ap (λ (p : Precedence). reaches p.pairs c.args.second i) (sym c.self.view_is) in
     let apart : reaches c.self.inside.pairs.items c.args.second c.args.first ≡ false = ap (λ (p : Precedence). reaches p.pairs c.args.second c.args.first) c.self.view_is ∙ c.requires.apart in
     record {
-      kept = IsKept-as _ _ _ _ _ _ (pairs_are c) (order_is c) c.in_ok-push_follower.ensures.ok (IsKept-with c.self.inside.pairs.items c.self.inside.order.items c.self.inside.followers.items c.args.first c.args.second c.args.marks.now c.self.invariant.kept first second marks apart);
+      kept = IsKeptOrder-as _ _ _ _ _ _ (pairs_are c) (order_is c) c.in_ok-push_follower.ensures.ok (IsKeptOrder-with c.self.inside.pairs.items c.self.inside.order.items c.self.inside.followers.items c.args.first c.args.second c.args.marks.now c.self.invariant.kept first second marks apart);
       few = let few = c.self.invariant.few in omega (arith, long c);
       once = subst StandOnce (sym (pairs_are c)) (StandOnce-push c.self.inside.pairs.items c.args.first c.args.second c.self.invariant.once (ap (λ (p : Precedence). has_pair p.pairs c.args.first c.args.second) c.self.view_is ∙ c.requires.new));
     }

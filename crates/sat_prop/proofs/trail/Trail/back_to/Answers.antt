@@ -3,7 +3,7 @@ use Rattle.std.proofs.lemmas.Grind.{common_steps}
 use Rattle.prop_core.specs.declared.lit.Lit.{Lit}
 use Rattle.sat_prop.specs.TrailState.{TrailState}
 use Rattle.sat_prop.specs.Kept.{AreValues}
-use Rattle.sat_prop.specs.Levels.{level_of, IsCut}
+use Rattle.sat_prop.specs.Levels.{level_of, IsUpToLevel}
 use Rattle.sat_prop.proofs.Justifying.{state_take}
 use Rattle.sat_prop.proofs.Placing.{places_take}
 use Rattle.sat_prop.proofs.Values.{values_known, values_roomier}
@@ -12,7 +12,7 @@ use Rattle.sat_prop.proofs.trail.Trail.back_to.Goals as goal
 
 pub forget-requires-clause-kept : goal.forget-requires-clause-kept
 forget-requires-clause-kept c =
-    let cut = subst (λ (s : TrailState). IsCut s.reasons c.args.level c.count_up_to-kept.result) (sym c.self.view_is) c.count_up_to-kept.ensures in
+    let cut = subst (λ (s : TrailState). IsUpToLevel s.reasons c.args.level c.count_up_to-kept.result) (sym c.self.view_is) c.count_up_to-kept.ensures in
     let w = cut.within in
     let same = c.self.invariant.state.justified.same in
     grind (arith, common_steps)
@@ -28,7 +28,7 @@ forget-requires-clause-values c = let d = c.deref.ensures.value in rw d (values_
 
 pub invariant_of-self : goal.invariant_of-self
 invariant_of-self c =
-    let cut = subst (λ (s : TrailState). IsCut s.reasons c.args.level c.count_up_to-kept.result) (sym c.self.view_is) c.count_up_to-kept.ensures in
+    let cut = subst (λ (s : TrailState). IsUpToLevel s.reasons c.args.level c.count_up_to-kept.result) (sym c.self.view_is) c.count_up_to-kept.ensures in
     let level = subst (λ (s : TrailState). c.args.level ≤ level_of s.reasons) (sym c.self.view_is) c.requires in
     let l = c.truncate.ensures.items in
     let r = c.truncate-2.ensures.items in

@@ -1,7 +1,7 @@
 use Rattle.std.proofs.Common.{◌≡◌, ◌∙◌, ◌+◌, ◌-◌, ◌%◌, ◌<◌, ◌≤◌, refl, ap, sym, subst, length, arith}
 use Rattle.std.specs.Prelude.{vec_len}
 use Rattle.std.proofs.lemmas.Grind.{common_steps}
-use Rattle.sat_prop.specs.Watches.{WatchState, AreWatchLists, watches_of, nexts_of, with_pair}
+use Rattle.sat_prop.specs.Watches.{WatchState, AreWatchLists, watches_of, nexts_of, with_watched_clause}
 use Rattle.sat_prop.proofs.Nodes.{node_pushed, pair_more, pair_pushed}
 use Rattle.sat_prop.proofs.watch_lists.WatchLists.add.Goals as goal
 
@@ -36,5 +36,5 @@ returns c =
     let even = ap (λ k. k % 2) (sym c.self.inside.nodes.ok.0) ∙ c.self.invariant.pairs in
     let p = pair_pushed c.self.inside.nodes.items c.push_node.new.nodes.items c.push_node-2.new.nodes.items c.self.inside.starts.items c.push_node.new.starts.items c.args.clause c.args.first c.args.second even one.nodes two.nodes in
     let vars : length c.push_node-2.new.starts.items ≡ length c.self.inside.starts.items = rw (two.starts, one.starts) (grind (arith, common_steps)) in
-    subst (λ (s : WatchState). record { watches = watches_of c.push_node-2.new.nodes.items; waiting = c.self.inside.waiting.items; vars = length c.push_node-2.new.starts.items; spare = c.self.inside.spare - 1 } ≡ with_pair s c.args.clause c.args.first c.args.second) c.self.view_is
+    subst (λ (s : WatchState). record { watches = watches_of c.push_node-2.new.nodes.items; waiting = c.self.inside.waiting.items; vars = length c.push_node-2.new.starts.items; spare = c.self.inside.spare - 1 } ≡ with_watched_clause s c.args.clause c.args.first c.args.second) c.self.view_is
     (rw (p, vars) refl)

@@ -2,7 +2,7 @@ use Rattle.std.proofs.Common.{◌≡◌, ◌∙◌, ◌%◌, ◌<◌, ◌++◌, 
 use Rattle.std.specs.Prelude.{vec_len}
 use Rattle.std.proofs.lemmas.Grind.{common_steps}
 use Rattle.sat_prop.specs.declared.watch_lists.TheConstants.{NO_WATCH}
-use Rattle.sat_prop.specs.Watches.{WatchState, AreWatchLists, Puts, watches_of, nexts_of}
+use Rattle.sat_prop.specs.Watches.{WatchState, AreWatchLists, PutsWatch, watches_of, nexts_of}
 use Rattle.sat_prop.proofs.Links.{among_last}
 use Rattle.sat_prop.proofs.Nodes.{count_watches, node_put, node_puts}
 use Rattle.sat_prop.proofs.watch_lists.WatchLists.put.Goals as goal
@@ -44,4 +44,4 @@ returns c =
     let a = subst (λ (xs : List ℕ). AreWatchLists (watches_of c.self.inside.nodes.items) (nexts_of c.self.inside.nodes.items) c.self.inside.starts.items xs) e c.self.invariant.lists in
     let within : c.unwrap-number.result < length c.self.inside.nodes.items = let b = a.below c.unwrap-number.result (among_last c.unwrap-number.result c.pop.new.self.items) in let m = count_watches c.self.inside.nodes.items in omega arith in
     let p = node_puts c.self.inside.nodes.items c.self.inside.starts.items c.pop.new.self.items c.unwrap-number.result c.args.lit (length c.self.inside.starts.items) c.self.inside.spare within in
-    subst (λ (s : WatchState). Puts s (record { watches = watches_of c.link.new.nodes.items; waiting = c.pop.new.self.items; vars = length c.link.new.starts.items; spare = c.self.inside.spare }) c.args.lit) c.self.view_is (rw (e, l.nodes, n) p)
+    subst (λ (s : WatchState). PutsWatch s (record { watches = watches_of c.link.new.nodes.items; waiting = c.pop.new.self.items; vars = length c.link.new.starts.items; spare = c.self.inside.spare }) c.args.lit) c.self.view_is (rw (e, l.nodes, n) p)

@@ -4,8 +4,8 @@ use Rattle.std.proofs.lemmas.Grind.{common_steps}
 use Rattle.prop_core.specs.Clauses.{HasValues}
 use Rattle.prop_core.specs.Clauses.{Clause}
 use Rattle.prop_core.proofs.Literals.{below_at}
-use Rattle.sat_prop.specs.Changes.{with_clause}
-use Rattle.sat_prop.specs.Watches.{WatchState, with_pair}
+use Rattle.sat_prop.specs.Changes.{with_attached_clause}
+use Rattle.sat_prop.specs.Watches.{WatchState, with_watched_clause}
 use Rattle.sat_prop.specs.Watching.{WatchedState, AreWatched}
 use Rattle.sat_prop.proofs.Visiting.{short_attached, watch_attached}
 use Rattle.sat_prop.proofs.watched.Watched.attach.Goals as goal
@@ -36,7 +36,7 @@ returns-in-Some c =
     let fewer : c.min-self-inside.result ≤ c.self.inside.seen = grind (arith, common_steps) in
     let first : c.min-self-inside.result ≤ c.falls.result = grind (arith, common_steps) in
     let second : c.min-self-inside.result ≤ c.falls-in-Some.result = grind (arith, common_steps) in
-    subst (λ (s : WatchState). AreWatched (with_clause c.args.trail.now c.args.db.now.clauses c.args.id) (record w { lists = s; seen = c.min-self-inside.result })) (sym (c.add.ensures ∙ ap (λ (n : ℕ). with_pair w.lists n c.in-Some.first c.in-Some.second) c.number.ensures))
+    subst (λ (s : WatchState). AreWatched (with_attached_clause c.args.trail.now c.args.db.now.clauses c.args.id) (record w { lists = s; seen = c.min-self-inside.result })) (sym (c.add.ensures ∙ ap (λ (n : ℕ). with_watched_clause w.lists n c.in-Some.first c.in-Some.second) c.number.ensures))
     (watch_attached c.args.trail.now w c.args.db.now.clauses c.args.id c.clause.result.now c.in-Some.first c.in-Some.second c.min-self-inside.result c.requires.grown c.requires.room wa c.clause.ensures c.in-Some.ensures.two fewer
     (λ place h e. c.falls.ensures place (omega arith) (omega arith) e)
     (λ place h e. c.falls-in-Some.ensures place (omega arith) (omega arith) e))
@@ -47,5 +47,5 @@ returns-in-None c =
     let wa : AreWatched c.args.trail.now w = subst (λ (s : WatchedState). AreWatched c.args.trail.now s) (sym c.self.view_is) c.requires.watched in
     let u = c.unwrap.ensures in
     let e : c.push.new.self.items ≡ c.self.inside.short.items ++ c.args.id ∷ [] = let a = c.push.ensures.items in grind (arith, common_steps) in
-    subst (λ (xs : List ℕ). AreWatched (with_clause c.args.trail.now c.args.db.now.clauses c.args.id) (record w { short = xs; spare = c.self.inside.spare - 1 })) (sym e)
+    subst (λ (xs : List ℕ). AreWatched (with_attached_clause c.args.trail.now c.args.db.now.clauses c.args.id) (record w { short = xs; spare = c.self.inside.spare - 1 })) (sym e)
     (short_attached c.args.trail.now w c.args.db.now.clauses c.args.id c.requires.grown c.requires.room wa (record { clause = c.clause.result.now; held = c.clause.ensures; narrow = c.in-None.ensures.none }))

@@ -6,8 +6,8 @@ use Rattle.prop_core.proofs.Literals.{below_at, true_at, open_parts}
 use Rattle.prop_core.proofs.Forcing.{forced_unit}
 use Rattle.sat_prop.specs.TrailState.{TrailState, literal_at}
 use Rattle.sat_prop.specs.Quiet.{stands}
-use Rattle.sat_prop.specs.Changes.{with_clause, with_literal}
-use Rattle.sat_prop.specs.Watches.{WatchState, with_pair}
+use Rattle.sat_prop.specs.Changes.{with_attached_clause, with_true_literal}
+use Rattle.sat_prop.specs.Watches.{WatchState, with_watched_clause}
 use Rattle.sat_prop.specs.Watching.{WatchedState, AreWatched}
 use Rattle.sat_prop.proofs.Links.{not_both}
 use Rattle.sat_prop.proofs.Justifying.{justified_consistent}
@@ -58,7 +58,7 @@ returns-in-Some-clause-watched c =
     let front = wa.front in
     let apart = never_false t.literals c.in-Some.first two.first_open in
     rw (c.force.ensures, c.attach.ensures)
-    (subst (λ (s : WatchState). AreWatched (with_literal (with_clause t c.args.db.now.clauses c.args.id) c.in-Some.first (Some c.args.id)) (record w { lists = s })) (sym (c.add.ensures ∙ ap (λ (n : ℕ). with_pair w.lists n c.in-Some.first c.in-Some.second) c.number.ensures))
+    (subst (λ (s : WatchState). AreWatched (with_true_literal (with_attached_clause t c.args.db.now.clauses c.args.id) c.in-Some.first (Some c.args.id)) (record w { lists = s })) (sym (c.add.ensures ∙ ap (λ (n : ℕ). with_watched_clause w.lists n c.in-Some.first c.in-Some.second) c.number.ensures))
     (watch_joined t w c.args.db.now.clauses c.args.id c.clause.result.now c.in-Some.first c.in-Some.second two.place c.requires.grown c.requires.room wa c.clause.ensures two.two (omega arith)
     (λ place h e. apart place (omega arith) e)
     (λ place h e. two.before place h (omega arith) e)

@@ -10,7 +10,7 @@ use Rattle.prop_core.proofs.Literals.{same_is}
 use Rattle.sat_prop.specs.TrailState.{literal_at}
 use Rattle.sat_prop.specs.declared.watch_lists.Watch.{Watch}
 use Rattle.sat_prop.specs.Watches.{watch_at}
-use Rattle.sat_prop.specs.Watching.{WatchedState, AreWatched, IsSettled, IsReplaced, other_of}
+use Rattle.sat_prop.specs.Watching.{WatchedState, AreWatched, IsSettled, IsReplaced, other_literal}
 use Rattle.sat_prop.proofs.Links.{not_both}
 use Rattle.sat_prop.proofs.Settling.{settled_apart, settled_true}
 use Rattle.sat_prop.proofs.Visiting.{other_has, judged_read, watched_kept, visited_kept}
@@ -35,7 +35,7 @@ returns-then-ne-clause-judged c =
           settled_apart c.args.trail.now.clauses c.args.trail.now.literals c.self.inside.seen c.self.inside.lists.watches c.args.number c.args.lit (wa.settled c.args.number n) falls
           (λ e. not_both _ (subst (λ (x : Lit). same_literal x c.args.lit ≡ true) (sym (ap (λ (x : Watch). x.lit) c.watch-watch.ensures ∙ e)) (same_itself c.args.lit)) f)
       | then-ne-via-else-ne+then-holds_up_to w ↦
-          let q : c.watch.result.lit ≡ other_of c.self.inside.lists.watches c.args.number = ap (λ (x : Watch). x.lit) (c.watch.ensures ∙ ap (λ (x : Watch). watch_at c.self.inside.lists.watches x.twin) c.watch-watch.ensures) in
+          let q : c.watch.result.lit ≡ other_literal c.self.inside.lists.watches c.args.number = ap (λ (x : Watch). x.lit) (c.watch.ensures ∙ ap (λ (x : Watch). watch_at c.self.inside.lists.watches x.twin) c.watch-watch.ensures) in
           settled_true c.args.trail.now.clauses c.args.trail.now.literals c.self.inside.seen c.self.inside.lists.watches c.args.number within (wa.settled c.args.number n)
           (ap (is_true (take (c.self.inside.seen + 1) c.args.trail.now.literals)) (sym q) ∙ sym w.holds_up_to.ensures ∙ w.if-holds_up_to.true)
     ])
@@ -44,8 +44,8 @@ pub replace_or_force-requires : goal.replace_or_force-requires
 replace_or_force-requires c =
     let wa = c.requires.visiting.watched in
     let read : c.watch-watch.result ≡ watch_at c.args.self.now.lists.watches c.args.number = c.watch-watch.ensures ∙ ap (λ (s : WatchedState). watch_at s.lists.watches c.args.number) c.self.view_is in
-    let other : c.watch.result.lit ≡ other_of c.args.self.now.lists.watches c.args.number = ap (λ (x : Watch). x.lit) (c.watch.ensures ∙ ap (λ (x : Watch). watch_at c.self.inside.lists.watches x.twin) c.watch-watch.ensures) ∙ ap (λ (s : WatchedState). other_of s.lists.watches c.args.number) c.self.view_is in
-    let has = subst (λ (x : Watch). IfSome (clause_numbered c.args.trail.now.clauses x.clause) (λ clause. list_any (same_literal (other_of c.args.self.now.lists.watches c.args.number)) clause ≡ true)) (sym read) (other_has c.args.trail.now c.args.self.now c.args.number wa c.requires.number) in
+    let other : c.watch.result.lit ≡ other_literal c.args.self.now.lists.watches c.args.number = ap (λ (x : Watch). x.lit) (c.watch.ensures ∙ ap (λ (x : Watch). watch_at c.self.inside.lists.watches x.twin) c.watch-watch.ensures) ∙ ap (λ (s : WatchedState). other_literal s.lists.watches c.args.number) c.self.view_is in
+    let has = subst (λ (x : Watch). IfSome (clause_numbered c.args.trail.now.clauses x.clause) (λ clause. list_any (same_literal (other_literal c.args.self.now.lists.watches c.args.number)) clause ≡ true)) (sym read) (other_has c.args.trail.now c.args.self.now c.args.number wa c.requires.number) in
     record {
       grown = c.requires.visiting.grown;
       attached = subst (λ (x : Watch). Contains c.args.trail.now.attached x.clause) (sym read) (wa.each c.args.number c.requires.number).joined;
@@ -62,7 +62,7 @@ returns-clause-visited c v = visited_kept c.args.trail.now c.replace_or_force.ne
 pub returns-clause-judged : goal.returns-clause-judged
 returns-clause-judged c =
     let read : c.watch-watch.result ≡ watch_at c.args.self.now.lists.watches c.args.number = c.watch-watch.ensures ∙ ap (λ (s : WatchedState). watch_at s.lists.watches c.args.number) c.self.view_is in
-    let other : c.watch.result.lit ≡ other_of c.args.self.now.lists.watches c.args.number = ap (λ (x : Watch). x.lit) (c.watch.ensures ∙ ap (λ (x : Watch). watch_at c.self.inside.lists.watches x.twin) c.watch-watch.ensures) ∙ ap (λ (s : WatchedState). other_of s.lists.watches c.args.number) c.self.view_is in
+    let other : c.watch.result.lit ≡ other_literal c.args.self.now.lists.watches c.args.number = ap (λ (x : Watch). x.lit) (c.watch.ensures ∙ ap (λ (x : Watch). watch_at c.self.inside.lists.watches x.twin) c.watch-watch.ensures) ∙ ap (λ (s : WatchedState). other_literal s.lists.watches c.args.number) c.self.view_is in
     let at_lit : c.watch-watch.result.lit ≡ c.args.lit = same_is c.watch-watch.result.lit c.args.lit (not-false _ (sym c.ne.ensures ∙ c.if-ne.false)) in
     judged_read c.args.trail.now c.replace_or_force.new.trail c.args.self.now c.args.number c.watch-watch.result c.watch.result.lit c.replace_or_force.result read other c.replace_or_force.ensures.kept c.requires.visiting.within c.requires.visiting.watched c.requires.number
     (c.requires.visiting.falls ∙ ap negation (sym at_lit))

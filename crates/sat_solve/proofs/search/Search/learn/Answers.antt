@@ -3,7 +3,7 @@ use Rattle.std.specs.List.{list_all}
 use Rattle.prop_core.specs.Clauses.{Clause}
 use Rattle.proof_ledger.specs.Book.{learnt, clauses_of}
 use Rattle.sat_prop.specs.TrailState.{TrailState}
-use Rattle.sat_prop.specs.Changes.{with_clause}
+use Rattle.sat_prop.specs.Changes.{with_attached_clause}
 use Rattle.sat_learn.specs.Seen.{is_known_var}
 use Rattle.sat_solve.specs.Solving.{LearnsOne}
 use Rattle.sat_solve.proofs.WaitingVariables.{room_max, serving_roomier}
@@ -68,7 +68,7 @@ returns-clause-under_way g c =
     let kept = c.backtrack.ensures.kept in
     let w = under_way_roomier c.args.assumptions.now s.taken s.order.waiting s.vars s.spare s.propagator roomy c.args.book.now.entries c.requires.under_way (room_max s.propagator roomy (s.spare + 1) c.in_ok-reserve_clauses.ensures.ok) in
     let b = under_way_kept c.args.assumptions.now s.taken t.taken s.order.waiting t.order.waiting s.vars t.vars s.spare t.spare c.in_ok-learnt.learnt.level roomy t.propagator c.args.book.now.entries w j.state c.backtrack.ensures.trail c.backtrack.ensures.sound kept.vars c.backtrack.ensures.taken in
-    let attached : TrailState = with_clause t.propagator c.clauses-2.result.now.clauses c.in_ok-id.id in
+    let attached : TrailState = with_attached_clause t.propagator c.clauses-2.result.now.clauses c.in_ok-id.id in
     let a = under_way_attached c.args.assumptions.now t.taken t.order.waiting t.vars t.spare t.propagator attached c.args.book.now.entries c.put_learnt.new.self.entries c.clauses-2.result.now.clauses c.in_ok-learnt.learnt.clause c.in_ok-id.id b (let r = j.room in let n = kept.spare in omega arith) j.whole j.numbered j.known c.clauses-2.ensures.clauses refl in
     under_way_grown c.args.assumptions.now t.taken t.order.waiting t.vars t.spare attached c.join.new.self c.put_learnt.new.self.entries a c.join.ensures.grown c.join.ensures.state c.trail_state-2.ensures.state
 
