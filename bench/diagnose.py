@@ -2,15 +2,17 @@
 
     python3 bench/diagnose.py PROGRAM
 
-PROGRAM is the program as `rt run` builds it, crates/diagnose_cli/out/diagnose_cli. Where MiniSat or CaDiCaL is installed, it is timed on the
-same formula with one fault fewer than are needed, as `cnf` prints it, which it refutes. It's no part of the gate.
+PROGRAM is the program as `rt run` builds it, crates/diagnose_cli/out/diagnose_cli. Where MiniSat is installed, it is timed on the
+same formula with one fault fewer than are needed, as `cnf` prints it, which it refutes; and where CaDiCaL's library is, and a C++ compiler, it is timed on the
+formulas for all bounds up to the answer, one after another (`ascending.cpp`), unless more than 30 faults are needed. It's no part of the gate.
 
 The first plant is a bus and Z units, as the program's `generate` makes it. Each unit jams, which is a fault that nobody sees, then trips at the
 bus, and is fixed. Some units trip, one after the other, and the log has an alarm for each. So the least number of faults is the number of
 units that trip, and one step more than that is enough. The second are valves that jam and trip, all under one label, and alarms without
 an order. The third is a line of stations, each of which sends to the next; what was sent may be lost, and the sender tells that it is
 late. The fourth are meshes of a telecom network (`meshes.py`), and the fifth one device that tells the same alarm again and again, each
-time by a fault. The last are grids of 20 like components that reboot and tell their neighbours to reboot (`grids.py`), with logs of 1 to
+time by a fault. The sixth is a lamp that is lit and dimmed in turns, and its alarms come in their order, with as many steps as alarms, and half as many again: such chains
+are what a device that tells its states leaves in a log. The last are grids of 20 like components that reboot and tell their neighbours to reboot (`grids.py`), with logs of 1 to
 10 simulated faults, in their whole order and in that of each component alone, within the steps of the simulated run. So many faults are
 an upper bound of the answer.
 
@@ -50,6 +52,7 @@ grids nor these seconds were compared with other solvers.
 """
 import os
 import shutil
+import subprocess
 import sys
 import tempfile
 
@@ -58,6 +61,8 @@ from measure import timed
 from meshes import mesh
 
 UNITS = [12, 20, 40, 64, 100, 200]
+LAMPS = [50, 100, 200, 400]
+MOST_ASCENDED = 30
 START = 7
 BUDGET = 1_000_000
 SECONDS = 200
@@ -103,6 +108,14 @@ def repeats(alarms):
     return model, [f"alarm,a{a},A" for a in range(alarms)] + ["before,a0,a1", "before,a0,a2"]
 
 
+def lamp(alarms):
+    """A lamp that is lit and dimmed in turns, and so many alarms in their order."""
+    model = ["des 1", "component lamp", "state off init", "state on", "trans off light on", "trans on dim off"]
+    model += ["event lit alarm ON : lamp.light", "event dimmed alarm OFF : lamp.dim"]
+    log = [f"alarm,a{a},{'OFF' if a % 2 else 'ON'}" for a in range(alarms)]
+    return model, log + [f"before,a{a},a{a + 1}" for a in range(alarms - 1)]
+
+
 def questions(program):
     """Each with its name, the steps, model and log."""
     for units in UNITS:
@@ -119,6 +132,9 @@ def questions(program):
     yield "mesh of 30 nodes", 12, *mesh(30, 4, 4, 8, 10)
     for alarms in [4, 5, 6, 7]:
         yield f"{alarms} alarms of one device", alarms, *repeats(alarms)
+    for alarms in LAMPS:
+        yield f"lamp, {alarms} alarms in order", alarms, *lamp(alarms)
+    yield "lamp, 100 alarms in order", 150, *lamp(100)
     for faults in range(1, 11):
         for is_ordered, order in [(True, "whole order"), (False, "order of each component")]:
             yield f"grid of 20, {faults} faults, {order}", *question(4, 5, faults, START, is_ordered)
@@ -135,7 +151,7 @@ def written(folder, model, log):
 
 def refuted(program, solver, files, steps, faults):
     """Seconds of another solver on the formula with one fault fewer."""
-    if faults == 0 or not shutil.which(solver):
+    if faults == 0:
         return ""
     _, _, _, formula = timed(program, "cnf", *files, str(steps), str(faults - 1))
     with tempfile.NamedTemporaryFile("w", suffix=".cnf") as f:
@@ -145,17 +161,44 @@ def refuted(program, solver, files, steps, faults):
         return f"{seconds:.2f}" if status == 20 else f"status {status}"
 
 
+def library(folder):
+    """The program that asks CaDiCaL's library, where it can be compiled."""
+    path = os.path.join(folder, "ascending")
+    source = os.path.join(os.path.dirname(os.path.abspath(__file__)), "ascending.cpp")
+    command = ["c++", "-O2", "-o", path, source, "-lcadical"]
+    if shutil.which("c++") and subprocess.run(command, stderr=subprocess.DEVNULL, check=False).returncode == 0:
+        return path
+    return None
+
+
+def ascended(program, path, files, steps, faults):
+    """Seconds of the library on the formulas for `any` and for all bounds up to the answer."""
+    if faults > MOST_ASCENDED:
+        return ""
+    with tempfile.TemporaryDirectory() as room:
+        formulas = []
+        for bound in ["any"] + [str(bound) for bound in range(faults + 1)]:
+            formulas.append(os.path.join(room, bound))
+            with open(formulas[-1], "w", encoding="ascii") as f:
+                subprocess.run([program, "cnf", *files, str(steps), bound], stdout=f, check=True)
+        seconds, _, status, _ = timed("timeout", str(SECONDS), path, *formulas)
+    return f"{seconds:.2f}" if status == 0 else f"status {status}"
+
+
 def main(program, folder):
-    solvers = [solver for solver in ["minisat", "cadical"] if shutil.which(solver)]
-    print("| Plant | Steps | Seconds | Memory MiB | Answer |" + "".join(f" {solver}, one fault fewer |" for solver in solvers))
-    print("|---|---|---|---|---|" + "---|" * len(solvers))
+    minisat, cadical = shutil.which("minisat"), library(folder)
+    heads = ["Plant", "Steps", "Seconds", "Memory MiB", "Answer"]
+    heads += ["MiniSat, one fault fewer"] * bool(minisat) + ["CaDiCaL's library, all bounds"] * bool(cadical)
+    print("| " + " | ".join(heads) + " |")
+    print("|---" * len(heads) + "|")
     for name, steps, model, log in questions(program):
         files = written(folder, model, log)
         seconds, memory, status, out = timed("timeout", str(SECONDS), program, "diagnose", *files, str(steps), str(BUDGET))
         answer = out.split("\n")[0] if status != 124 else "none"
         cells = [name, str(steps), f"{seconds:.2f}", f"{memory:.0f}", answer]
         faults = int(answer.split()[1]) if answer.startswith("EXPLAINED") else 0
-        cells += [refuted(program, solver, files, steps, faults) for solver in solvers]
+        cells += [refuted(program, minisat, files, steps, faults)] * bool(minisat)
+        cells += [ascended(program, cadical, files, steps, faults)] * bool(cadical)
         print("| " + " | ".join(cells) + " |", flush=True)
 
 

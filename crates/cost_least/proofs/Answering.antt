@@ -23,7 +23,7 @@ use Rattle.run_decode.specs.Decided.{Entails}
 use Rattle.run_decode.specs.Decoding.{IsTrueRun}
 use Rattle.run_decode.specs.Faithful.{IsWithin}
 use Rattle.run_decode.specs.WholeNaming.{whole_names}
-use Rattle.sat_solve.specs.Searching.{HasAxiomVars, IsSearched, HasPut, IsRefuted, IsSpent}
+use Rattle.sat_solve.specs.Searching.{AreLearnt, HasAxiomVars, IsSearched, HasPut, IsRefuted, IsSpent}
 use Rattle.sat_solve.specs.declared.answer.Answer.TheVariants as solver
 use Rattle.step_encode.specs.Coded.{CodedSteps}
 use Rattle.weight_counter.proofs.Written.{scales_are_exact}
@@ -34,7 +34,7 @@ use Rattle.weight_counter.specs.declared.weighted.Weighted.{Weighted}
 use Rattle.cost_least.proofs.Asked.{told_at, costs_are_ruled_out, within_limit}
 use Rattle.cost_least.proofs.Asks.{asks_costs}
 use Rattle.cost_least.specs.Answers.{CostAsked, PoseCostQuestion, IsPriced}
-use Rattle.cost_least.specs.Asking.{AreLearnt, HasAskedCost}
+use Rattle.cost_least.specs.Asking.{HasAskedCost}
 use Rattle.cost_least.specs.Pricing.{PosesCosts, cost_limit}
 use Rattle.cost_least.specs.Searching.{MayBound}
 use Rattle.cost_least.specs.Weighed.{AreWeighedParts, log_guards, assumed_at}

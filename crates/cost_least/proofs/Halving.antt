@@ -22,12 +22,12 @@ use Rattle.replay.specs.Matching.{order_of}
 use Rattle.replay.specs.Traced.{word_of}
 use Rattle.run_decode.proofs.Faults.{count_append}
 use Rattle.run_decode.proofs.Tells.{told_is_refuted}
-use Rattle.sat_solve.specs.Searching.{IsClosedByFinal}
+use Rattle.sat_solve.specs.Searching.{AreLearnt, IsClosedByFinal}
 use Rattle.weight_counter.specs.Scales.{place_variable}
 use Rattle.weight_counter.specs.declared.scale.Scale.{Scale}
 use Rattle.cost_least.proofs.Asked.{ends_cheapest, ends_dear, needed}
 use Rattle.cost_least.specs.Answers.{CostAsked, PoseCostQuestion, IsPriced, Needs, IsBetween, IsCostEvidence}
-use Rattle.cost_least.specs.Asking.{AreLearnt, HasAskedCost}
+use Rattle.cost_least.specs.Asking.{HasAskedCost}
 use Rattle.cost_least.specs.Pricing.{ExplainsAt}
 use Rattle.cost_least.specs.Searching.{HasHalved, HasFoundCost, FinalsAreBelowTotal}
 use Rattle.cost_least.specs.Weighed.{log_guards, assumed_at}

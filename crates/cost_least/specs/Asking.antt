@@ -1,6 +1,5 @@
 -- One question of costs: what it leaves in the book, and what its answer means.
-use Rattle.std.specs.Prelude.{◌≡◌, ℕ, suc, ◌+◌, ◌<◌, true, List, [], ◌∷◌, ◌++◌, Option, Some, None, count_by, ⊤}
-use Rattle.std.specs.List.{list_all}
+use Rattle.std.specs.Prelude.{◌≡◌, ℕ, suc, ◌+◌, ◌<◌, List, [], ◌∷◌, ◌++◌, Option, Some, None, count_by, ⊤}
 use Rattle.least_faults.specs.Answers.{HaveLearntFresh}
 use Rattle.log_encode.specs.CodedLog.{CodedLog}
 use Rattle.proof_ledger.specs.Book.{BookEntry, final, clauses_of, is_mark}
@@ -10,6 +9,7 @@ use Rattle.prop_core.specs.Trail.{Clashes}
 use Rattle.prop_core.specs.declared.lit.Lit.{Lit}
 use Rattle.replay.specs.Explanation.{IsAbsent}
 use Rattle.run_decode.specs.Faithful.{IsWithin}
+use Rattle.sat_solve.specs.Searching.{AreLearnt}
 use Rattle.weight_counter.specs.declared.scale.Scale.{Scale}
 use Rattle.cost_least.specs.Answers.{CostAsked, IsPriced, Needs}
 use Rattle.cost_least.specs.Weighed.{assumed_at}
@@ -21,10 +21,6 @@ use Rattle.cost_least.specs.declared.asking.Asked.TheVariants.{Explained, Refute
 abbrev pub RulesOut : CostAsked → Option ℕ → Type 0
 RulesOut q None = IsAbsent q.net q.log q.steps
 RulesOut q (Some b) = Needs q (suc b)
-
--- the entries that were put are learnt ones
-abbrev pub AreLearnt : List BookEntry → Type 0
-AreLearnt since = list_all is_learnt since ≡ true
 
 -- learnt entries, and then a final one of negated assumptions
 pub record EndsByFinal (assumed : List Lit) (since : List BookEntry) : Type 0 where
