@@ -3,8 +3,8 @@
     python3 check/cost.py [--kept] [CRATE..]
 
 It clones the last commit into a temporary folder, where nothing is kept, and runs .ci/run there, which calls `rt ci --anew` in place of
-`rt ci`, so that nothing is taken from earlier runs on this machine. With crates it runs `rt ci --anew CRATE..` instead, which proves these and
-those below. The gate's own lines go to standard error and the table to standard output. With --kept it takes what earlier runs on this machine
+`rt ci`, so that nothing is taken from earlier runs on this machine; a kit whose `rt ci` always begins from nothing knows no such word, and gets none. With crates it
+runs `rt ci --anew CRATE..` instead, where the kit can, which proves these and those below. The gate's own lines go to standard error and the table to standard output. With --kept it takes what earlier runs on this machine
 kept, as the gate does: then the table has what a change costs.
 
 The command tells no seconds, so the processes are looked at ten times a second. A process counts for the crate and the kind that its words
@@ -123,9 +123,15 @@ def tell(crates, clock, whole, accounts):
     print(f"\n{whole:,.0f} seconds of the processor, and {clock / 60:.1f} minutes by the clock on {os.cpu_count()} processors")
 
 
+def knows_anew():
+    """Whether the kit's gate keeps proofs from run to run, so that it must be told to begin anew."""
+    said = subprocess.run(["rt", "help"], stdout=subprocess.PIPE, stderr=subprocess.STDOUT, check=False)
+    return b"--anew" in said.stdout
+
+
 def main(words):
     names = [word for word in words if word != "--kept"]
-    anew = [] if "--kept" in words else ["--anew"]
+    anew = [] if "--kept" in words or not knows_anew() else ["--anew"]
     with tempfile.TemporaryDirectory(prefix="cost-") as room:
         clone = os.path.join(room, "clone")
         subprocess.run(["git", "clone", "--quiet", "--local", TOP, clone], check=True)
