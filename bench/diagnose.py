@@ -181,8 +181,8 @@ def ascended(program, path, files, steps, faults):
             formulas.append(os.path.join(room, bound))
             with open(formulas[-1], "w", encoding="ascii") as f:
                 subprocess.run([program, "cnf", *files, str(steps), bound], stdout=f, check=True)
-        seconds, _, status, _ = timed("timeout", str(SECONDS), path, *formulas)
-    return f"{seconds:.2f}" if status == 0 else f"status {status}"
+        _, _, status, out = timed("timeout", str(SECONDS), path, *formulas)
+    return f"{float(out.split()[1]):.2f}" if status == 0 else f"status {status}"
 
 
 def main(program, folder):
