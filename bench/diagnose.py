@@ -16,39 +16,47 @@ are what a device that tells its states leaves in a log. The last are grids of 2
 10 simulated faults, in their whole order and in that of each component alone, within the steps of the simulated run. So many faults are
 an upper bound of the answer.
 
-On 28 November 2026, on four shared processors of an Intel Xeon under heavy load, seconds of the processor for the whole `diagnose`, the least of
-three runs, and MiB at the peak; "before" is commit 4fcbdf7, with nodes of 16 bytes, lists of clauses that are given back as they are, and ranks twice.
-MiniSat (2.2.1) was run anew for each bound up to the answer on the formulas that `cnf` prints, and CaDiCaL's library (1.5.3) once for all of them, with the
-guards and the bound as assumptions; on 100 units MiniSat ran once. All were run in turns. The programs are builds of the sources without proofs and
-without a compiler's checks, by the same means for both. Ratios below 1.3 can't be told from noise. What is kept of a clause is told in
-docs/DECISIONS.md. The geometric mean is 0.56 to MiniSat, 1.2 to CaDiCaL's library, and 0.95 of "now" to "before".
+On 30 November 2026, on four idle processors, seconds of the processor for the whole `diagnose` by the proved program, the least of two runs, and MiB at the peak; "before" is commit 92eb26f,
+which had no deadlines. CaDiCaL's library (1.5.3) was asked for all bounds on the formulas that `cnf` prints, and its seconds are those of the search alone. A single run may vary severalfold where
+anything changes, so the mesh of 30 and the grid with 5 faults say little. The geometric mean of "now" to CaDiCaL's library is 0.67 over these rows and the
+small ones that are left out (29), and was 1.0 before; of "now" to "before" 0.71.
 
-| Plant | Steps | before | now | MiB before | MiB now | MiniSat | CaDiCaL | now to MiniSat | now to CaDiCaL |
-|---|---|---|---|---|---|---|---|---|---|
-| 64 units | 16 | 0.06 | 0.05 | 13 | 10 | 1.98 | 0.06 | 0.03 | 0.9 |
-| 100 units | 26 | 0.31 | 0.29 | 44 | 31 | 15.6 | 0.31 | 0.02 | 1.0 |
-| 200 units, one step fewer than alarms | 48 | 0.75 | 0.75 | 116 | 100 | | | | |
-| 200 units | 50 | 3.65 | 3.45 | 270 | 193 | | | | |
-| 6 valves, 4 alarms | 5 | 0.20 | 0.20 | 10 | 10 | 0.19 | 0.30 | 1.07 | 0.7 |
-| 6 valves, 5 alarms | 4 | 0.79 | 0.66 | 10 | 10 | 0.39 | 0.28 | 1.69 | 2.4 |
-| 6 stations, 6 alarms | 8 | 0.27 | 0.25 | 10 | 10 | 0.12 | 0.21 | 2.09 | 1.2 |
-| 10 stations, 6 alarms | 6 | 0.14 | 0.15 | 10 | 10 | 0.14 | 0.17 | 1.14 | 0.9 |
-| mesh of 20 nodes | 10 | 0.11 | 0.09 | 10 | 10 | 0.44 | 0.05 | 0.21 | 2.0 |
-| mesh of 30 nodes | 12 | 1.36 | 1.18 | 29 | 24 | 1.61 | 2.81 | 0.73 | 0.4 |
-| 5 alarms of one device | 5 | 0.10 | 0.10 | 10 | 10 | 0.06 | 0.10 | 1.72 | 1.0 |
-| 6 alarms of one device | 6 | 2.19 | 2.13 | 12 | 12 | 0.41 | 0.35 | 5.15 | 6.0 |
+| Plant | Steps | Before | Now | MiB | CaDiCaL's library | Now to CaDiCaL |
+|---|---|---|---|---|---|---|
+| 64 units | 16 | 0.04 | 0.05 | 15 | 0.07 | 0.7 |
+| 64 units | 18 | 0.06 | 0.04 | 18 | 0.12 | 0.3 |
+| 100 units | 26 | 0.23 | 0.21 | 31 | 0.53 | 0.4 |
+| 100 units | 28 | 0.27 | 0.23 | 33 | 0.53 | 0.4 |
+| 200 units, one step fewer than alarms | 48 | 1.08 | 0.26 | 100 | 1.50 | 0.2 |
+| 200 units | 50 | 2.96 | 2.49 | 192 | | |
+| 200 units | 52 | 3.12 | 2.89 | 198 | | |
+| 300 units | 75 | 16.2 | 10.6 | 616 | | |
+| 6 valves, 4 alarms | 5 | 0.21 | 0.27 | | 0.35 | 0.8 |
+| 6 valves, 5 alarms | 4 | 0.43 | 0.45 | | 0.28 | 1.6 |
+| 6 stations, 6 alarms | 8 | 0.22 | 0.20 | | 0.13 | 1.5 |
+| 10 stations, 6 alarms | 6 | 0.22 | 0.22 | | 0.10 | 2.3 |
+| mesh of 20 nodes | 10 | 0.09 | 0.08 | | 0.05 | 1.6 |
+| mesh of 30 nodes | 12 | 1.63 | 0.76 | 31 | 2.45 | 0.3 |
+| 5 alarms of one device | 5 | 0.07 | 0.06 | | 0.05 | 1.2 |
+| 6 alarms of one device | 6 | 1.31 | 1.33 | | 0.29 | 4.6 |
+| grid of 20, 4 faults, whole order | 13 | 0.04 | 0.04 | | 0.06 | 0.7 |
+| grid of 20, 4 faults, order of each component | 13 | 0.32 | 0.31 | | 0.24 | 1.3 |
+| grid of 20, 5 faults, whole order | 16 | 0.19 | 0.18 | | 0.18 | 1.0 |
+| grid of 20, 5 faults, order of each component | 16 | 1.08 | 2.11 | 38 | 1.20 | 1.8 |
+| grid of 20, 8 faults, whole order | 20 | 4.35 | 4.17 | 64 | 1.83 | 2.3 |
+| lamp, 50 alarms in order | 50 | 0.04 | 0.01 | | 0.09 | 0.1 |
+| lamp, 100 alarms in order | 100 | 0.76 | 0.06 | | 0.71 | 0.1 |
+| lamp, 100 alarms in order | 150 | 0.26 | 0.27 | | 0.91 | 0.3 |
+| lamp, 200 alarms in order | 200 | 11.0 | 0.37 | 41 | 3.13 | 0.1 |
+| lamp, 400 alarms in order | 400 | | 3.02 | 161 | 34 | 0.1 |
 
-The proved program, under lighter load on the same day, in the order of these rows without the two of 200 units: 0.06, 0.24, 0.16, 0.59, 0.21, 0.14, 0.08, 0.84, 0.07 and 1.29
-seconds, where MiniSat took 1.86, (not run), 0.16, 0.35, 0.09, 0.12, 0.43, 1.36, 0.04 and 0.32 (the least of two). On 200 units it took 0.56 seconds and 100 MiB in 48 steps, and
-2.64 and 193 in 50. Six alarms of one device are the only row above 2.5 there too (4.1).
-
-The last row hangs on the load: in two other runs 1.27 seconds where MiniSat took 0.36 and CaDiCaL's library 0.30 (3.5 and 4.2), and 1.51, 0.35 and 0.30 (4.3 and
-5.1). Seven alarms of one device were answered in 144 seconds with 78 MiB, once; 50,000 conflicts of them took 10.6 seconds now and 12.7 before, once
-each. MiniSat takes 4.8 for all bounds, and CaDiCaL's library 3.4.
+Not answered within 150 seconds, before or now: the grid with 8 faults in the order of each component (before; not tried now), and 20 alarms of the device that tells one alarm by three faults in a known order within 20 steps (within 60 seconds now).
+Seven alarms of one device were answered in 144 seconds with 78 MiB, once, by an older build under load. MiniSat takes 4.8 for all bounds, and CaDiCaL's library 3.4.
+MiniSat (2.2.1), anew for each bound up to the answer, took 2.0, 15.6, 0.19, 0.39, 0.12, 0.14, 0.44, 1.61, 0.06 and 0.41 seconds on 64 and 100 units (16 and 26 steps), 6 valves with 4 and with 5 alarms, 6 and 10 stations, meshes of 20 and 30 nodes, and
+5 and 6 alarms, two days before and under load.
 
 Grids, one run each with an older search: in their whole order 1 to 7 faults at most 0.4 seconds, 8, 9 and 10 faults 4.3, 1.2 and 13.8; in the order of each
-component alone 1 to 4 faults at most 0.4, 5 faults 4.3, 6 and 7 no answer within 19. Each answer on a grid was the number of simulated faults. Neither the
-grids nor these seconds were compared with other solvers.
+component alone 1 to 4 faults at most 0.4, 5 faults 4.3, 6 and 7 no answer within 19. Each answer on a grid was the number of simulated faults.
 """
 import os
 import shutil
