@@ -10,7 +10,7 @@ use Rattle.diagnose_cli.specs.declared.command.Command.TheVariants.{One, Session
 use Rattle.diagnose_cli.specs.declared.command.Limits.{Limits}
 use Rattle.diagnose_cli.specs.declared.command.Question.{Question}
 use Rattle.diagnose_cli.specs.declared.command.Single.TheVariants.{Ask, GenerateModel, GenerateLog, Bench, Twin, Cheapest}
-use Rattle.diagnose_cli.specs.Commands.{ask_of, asked_by, bench_of, calls, command_of, generate_of, limits_of, most_budget, most_start, most_steps, other_of, question_named, read_words, twin_of, units_of, IsWithinBounds}
+use Rattle.diagnose_cli.specs.Commands.{ask_of, asked_by, bench_of, calls, command_of, generate_of, limits_of, most_number, most_steps, other_of, question_named, read_words, twin_of, units_of, IsWithinBounds}
 
 -- ---- what an option has, where it has something
 
@@ -51,8 +51,8 @@ few_units text z is = of_some (λ z. z ≤ most_units) (units_of text) z is (uni
 
 limits_within : (steps budget : List ℕ) → IfSome (limits_of steps budget) (λ l. l.steps ≤ most_steps)
 limits_within steps budget =
-    then_some (λ (l : Limits). l.steps ≤ most_steps) (λ n. option_map (λ b. record { steps = n; budget = b }) (number_up_to most_budget budget)) (number_up_to most_steps steps) (λ n is.
-    map_some (λ (l : Limits). l.steps ≤ most_steps) (λ b. record { steps = n; budget = b }) (number_up_to most_budget budget) (λ b is_budget. within most_steps steps n is))
+    then_some (λ (l : Limits). l.steps ≤ most_steps) (λ n. option_map (λ b. record { steps = n; budget = b }) (number_up_to most_number budget)) (number_up_to most_steps steps) (λ n is.
+    map_some (λ (l : Limits). l.steps ≤ most_steps) (λ b. record { steps = n; budget = b }) (number_up_to most_number budget) (λ b is_budget. within most_steps steps n is))
 
 few_steps : (steps budget : List ℕ) (l : Limits) → limits_of steps budget ≡ Some l → l.steps ≤ most_steps
 few_steps steps budget l is = of_some (λ (l : Limits). l.steps ≤ most_steps) (limits_of steps budget) l is (limits_within steps budget)
@@ -79,23 +79,23 @@ module _ (words : List (List ℕ)) where
   generated : (what units start : List ℕ) → 0 < length words → IfSome (generate_of what units start) Fits
   generated what units start there =
       if_some Fits (bytes_eq what (codes "model")) _ _
-      (λ model. then_some Fits (λ z. option_map (λ s. One (GenerateModel z s)) (number_up_to most_start start)) (units_of units) (λ z is. map_some Fits (λ s. One (GenerateModel z s)) (number_up_to most_start start) (λ s is_start. (there, (tt, few_units units z is)))))
+      (λ model. then_some Fits (λ z. option_map (λ s. One (GenerateModel z s)) (number_up_to most_number start)) (units_of units) (λ z is. map_some Fits (λ s. One (GenerateModel z s)) (number_up_to most_number start) (λ s is_start. (there, (tt, few_units units z is)))))
       (if_some Fits (bytes_eq what (codes "log")) _ _
-      (λ log. then_some Fits (λ z. option_map (λ s. One (GenerateLog z s)) (number_up_to most_start start)) (units_of units) (λ z is. map_some Fits (λ s. One (GenerateLog z s)) (number_up_to most_start start) (λ s is_start. (there, (tt, few_units units z is)))))
+      (λ log. then_some Fits (λ z. option_map (λ s. One (GenerateLog z s)) (number_up_to most_number start)) (units_of units) (λ z is. map_some Fits (λ s. One (GenerateLog z s)) (number_up_to most_number start) (λ s is_start. (there, (tt, few_units units z is)))))
       tt)
 
   benched : (units start steps budget : List ℕ) → 0 < length words → IfSome (bench_of units start steps budget) Fits
   benched units start steps budget there =
       then_some Fits _ (units_of units) (λ z is_units.
-      then_some Fits _ (number_up_to most_start start) (λ s is_start.
+      then_some Fits _ (number_up_to most_number start) (λ s is_start.
       then_some Fits _ (number_up_to most_steps steps) (λ n is_steps.
-      map_some Fits (λ b. One (Bench z s n b)) (number_up_to most_budget budget) (λ b is_budget. (there, (within most_steps steps n is_steps, few_units units z is_units))))))
+      map_some Fits (λ b. One (Bench z s n b)) (number_up_to most_number budget) (λ b is_budget. (there, (within most_steps steps n is_steps, few_units units z is_units))))))
 
   twinned : (steps after budget : List ℕ) → 2 < length words → IfSome (twin_of steps after budget) Fits
   twinned steps after budget there =
       then_some Fits _ (number_up_to most_steps steps) (λ n is_steps.
       then_some Fits _ (number_up_to most_steps after) (λ d is_after.
-      map_some Fits (λ b. One (Twin n d b)) (number_up_to most_budget budget) (λ b is_budget. (there, ((within most_steps steps n is_steps, within most_steps after d is_after), tt)))))
+      map_some Fits (λ b. One (Twin n d b)) (number_up_to most_number budget) (λ b is_budget. (there, ((within most_steps steps n is_steps, within most_steps after d is_after), tt)))))
 
   others_fit : IfSome (other_of words) Fits
   others_fit =

@@ -22,7 +22,7 @@ kind_of_cheap (NotWeighed lo best) = Undecided
 abbrev pub reply_of_cheap : Net → ℕ → Cheap → Kind × List ℕ
 reply_of_cheap net n answer = (kind_of_cheap answer, text_of_cheap net n answer)
 
--- the text of the run that is told, if one is, reads back as that run
+-- the text of the run that is printed, if one is, reads back as that run
 abbrev pub CheapRunReadsBack : Net → Cheap → Type 0
 CheapRunReadsBack net answer = IfSome (cheap_run answer) (λ run. IsRunText net run (text_of_run net run))
 

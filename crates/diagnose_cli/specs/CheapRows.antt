@@ -22,14 +22,14 @@ use Rattle.diagnose_cli.specs.Rows.{CallsWith, Row}
 abbrev pub cost_asked : List ℕ → List ℕ → List ℕ → ℕ → CostAsked
 cost_asked text alarms prices n = record { net = network_of text; cost = cost_of (network_of text) prices; log = log_of alarms; steps = n }
 
--- the run that is told explains the log, and nothing that explains it has a lower total
+-- the run that is printed explains the log, and nothing that explains it has a lower total
 pub record TellsCheapest (o : Outcome) (q : CostAsked) : Type 0 where
   pub priced : Priced
   pub given : IsPriced q priced
   pub cheapest : IsCheapest q.net q.cost q.log q.steps priced.cost
   pub put : Took o.before o.now (text_of_cheap q.net q.steps (Found priced))
 
--- the run that is told explains the log, and all that explains it has a total above 1,000
+-- the run that is printed explains the log, and all that explains it has a total above 1,000
 pub record TellsDear (o : Outcome) (q : CostAsked) : Type 0 where
   pub run : List RunStep
   pub total : ℕ
@@ -37,7 +37,7 @@ pub record TellsDear (o : Outcome) (q : CostAsked) : Type 0 where
   pub dear : IsDear q.net q.cost q.log q.steps
   pub put : Took o.before o.now (text_of_cheap q.net q.steps (Dear run))
 
--- As many clauses were learnt as the budget allows, each of them fresh, and there is a further conflict: without a bound where no run is told, and else within a total between both. All that explains the log has total lo at least, and a run that is told explains it with more.
+-- As many clauses were learnt as the budget allows, each of them fresh, and there is a further conflict: without a bound if no run is printed, and else within a total between both. All that explains the log has total lo at least, and a run that is printed explains it with more.
 pub record TellsUnpriced (o : Outcome) (q : CostAsked) (budget : ℕ) : Type 0 where
   pub lo : ℕ
   pub best : Option Priced

@@ -20,13 +20,13 @@ calls words name count = nat_eq (length words) count && bytes_eq (word_at words 
 abbrev pub most_steps : ℕ
 most_steps = 1000
 
--- the budget that a question may have
-abbrev pub most_budget : ℕ
-most_budget = 2 ^ 64 - 1
+-- a budget, or the start of a plant, is any number of 64 bits
+abbrev pub most_number : ℕ
+most_number = 2 ^ 64 - 1
 
 -- how many steps and which budget two words set
 abbrev pub limits_of : List ℕ → List ℕ → Option Limits
-limits_of steps budget = option_and_then (λ n. option_map (λ b. record { steps = n; budget = b }) (number_up_to most_budget budget)) (number_up_to most_steps steps)
+limits_of steps budget = option_and_then (λ n. option_map (λ b. record { steps = n; budget = b }) (number_up_to most_number budget)) (number_up_to most_steps steps)
 
 -- that question, within as many steps as a word says
 abbrev pub ask_of : List ℕ → Question → Option Command
@@ -44,15 +44,11 @@ bound_of text = if bytes_eq text (codes "any") then Some None else option_map (�
 abbrev pub units_of : List ℕ → Option ℕ
 units_of text = option_and_then (λ z. if nat_le 1 z then Some z else None) (number_up_to most_units text)
 
--- a start is any number of 64 bits
-abbrev pub most_start : ℕ
-most_start = 2 ^ 64 - 1
-
 -- what the words ask of `generate`
 abbrev pub generate_of : List ℕ → List ℕ → List ℕ → Option Command
 generate_of what units start =
-    if bytes_eq what (codes "model") then option_and_then (λ z. option_map (λ s. One (GenerateModel z s)) (number_up_to most_start start)) (units_of units)
-    else if bytes_eq what (codes "log") then option_and_then (λ z. option_map (λ s. One (GenerateLog z s)) (number_up_to most_start start)) (units_of units)
+    if bytes_eq what (codes "model") then option_and_then (λ z. option_map (λ s. One (GenerateModel z s)) (number_up_to most_number start)) (units_of units)
+    else if bytes_eq what (codes "log") then option_and_then (λ z. option_map (λ s. One (GenerateLog z s)) (number_up_to most_number start)) (units_of units)
     else None
 
 -- what they ask of `bench`
@@ -60,20 +56,20 @@ abbrev pub bench_of : List ℕ → List ℕ → List ℕ → List ℕ → Option
 bench_of units start steps budget =
     option_and_then (λ z.
     option_and_then (λ s.
-    option_and_then (λ n. option_map (λ b. One (Bench z s n b)) (number_up_to most_budget budget)) (number_up_to most_steps steps)) (number_up_to most_start start)) (units_of units)
+    option_and_then (λ n. option_map (λ b. One (Bench z s n b)) (number_up_to most_number budget)) (number_up_to most_steps steps)) (number_up_to most_number start)) (units_of units)
 
 -- what they ask of `twin`: its event is a word too, which stands behind the model
 abbrev pub twin_of : List ℕ → List ℕ → List ℕ → Option Command
 twin_of steps after budget =
     option_and_then (λ n.
-    option_and_then (λ d. option_map (λ b. One (Twin n d b)) (number_up_to most_budget budget)) (number_up_to most_steps after)) (number_up_to most_steps steps)
+    option_and_then (λ d. option_map (λ b. One (Twin n d b)) (number_up_to most_number budget)) (number_up_to most_steps after)) (number_up_to most_steps steps)
 
 -- the question of this name about a model and a log, by the last word
 abbrev pub question_named : List ℕ → List ℕ → Option Question
 question_named name last =
-    if bytes_eq name (codes "diagnose") then option_map (λ b. Diagnose b) (number_up_to most_budget last)
+    if bytes_eq name (codes "diagnose") then option_map (λ b. Diagnose b) (number_up_to most_number last)
     else if bytes_eq name (codes "cnf") then option_map (λ k. PrintCnf k) (bound_of last)
-    else if bytes_eq name (codes "proof") then option_map (λ b. PrintProof b) (number_up_to most_budget last)
+    else if bytes_eq name (codes "proof") then option_map (λ b. PrintProof b) (number_up_to most_number last)
     else None
 
 -- the question that the words ask: the name, the words of model, log and steps, and a last one

@@ -4,18 +4,17 @@ use Rattle.gen_plant.specs.Plant.{plant_net, plant_log}
 use Rattle.inquiries.specs.LeastCost.{cost_variables}
 use Rattle.log_csv.specs.LogText.{log_of}
 use Rattle.model_text.specs.ModelFaults.{network_of}
-use Rattle.replay.specs.QuestionSize.{variable_bound}
 use Rattle.diagnose_cli.specs.declared.command.Command.{Command}
 use Rattle.diagnose_cli.specs.declared.command.Command.TheVariants.{One}
 use Rattle.diagnose_cli.specs.declared.command.Single.TheVariants.{Ask, Bench, Cheapest}
 use Rattle.diagnose_cli.specs.Outcomes.{Outcome}
-use Rattle.diagnose_cli.specs.Replies.{HasEnough}
+use Rattle.diagnose_cli.specs.Replies.{HasEnough, IsEnough}
 use Rattle.diagnose_cli.specs.Rows.{CallsWith}
 
 -- the command asks one question with a budget, and this is at least 3 to the number of variables that network, log and steps allow
 abbrev pub Suffices : Command → List (List ℕ) → Type 0
 Suffices (One (Ask steps question)) (text ∷ alarms ∷ []) = HasEnough question (network_of text) (log_of alarms) steps
-Suffices (One (Bench units start steps budget)) [] = 3 ^ variable_bound (plant_net units) (plant_log units start) steps ≤ budget
+Suffices (One (Bench units start steps budget)) [] = IsEnough budget (plant_net units) (plant_log units start) steps
 Suffices (One (Cheapest steps budget)) (text ∷ alarms ∷ prices ∷ []) = 3 ^ cost_variables (network_of text) (log_of alarms) steps ≤ budget
 Suffices _ _ = ⊥
 

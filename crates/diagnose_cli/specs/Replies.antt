@@ -83,8 +83,8 @@ kind_of_replayed (TooWide pieces) = Rejected
 abbrev pub reply_of_replayed : List (List ℕ) → Replayed → Kind × List ℕ
 reply_of_replayed names replayed = (kind_of_replayed replayed, text_of_replayed names replayed)
 
--- The reply tells what replaying the run of the run text against the log of the log text tells, within so many parallel steps. The run is accepted exactly
--- where it is well matched and explains the log, with its number of faults.
+-- The reply tells what replaying the run of the run text against the log of the log text tells, within this many parallel steps. The run is accepted exactly
+-- if it is well matched and explains the log, with its number of faults.
 pub record SaysReplayed (steps : ℕ) (text alarms events : List ℕ) (reply : Kind × List ℕ) : Type 0 where
   pub replayed : Replayed
   pub holds : IsReplayed (network_of text) (log_of alarms) (run_of (network_of text) events) steps replayed
@@ -115,7 +115,7 @@ kind_of_found (NotDecided lo best) = Undecided
 abbrev pub reply_of_found : Net → ℕ → Found → Kind × List ℕ
 reply_of_found net n found = (kind_of_found found, text_of_found net n found)
 
--- The printed reply is a run text as it stands: `replay` can read it, and accepts its run with so many faults.
+-- The printed reply is a run text as it stands: `replay` can read it, and accepts its run with this many faults.
 pub record Replays (net : Net) (alarms : AlarmLog) (n : ℕ) (reply : List ℕ) (faults : ℕ) : Type 0 where
   pub fits : length reply ≤ limit_of run
   pub well : first_run_fault net reply ≡ None
@@ -125,7 +125,7 @@ pub record Replays (net : Net) (alarms : AlarmLog) (n : ℕ) (reply : List ℕ) 
 abbrev pub RunReplays : Net → AlarmLog → ℕ → Found → Type 0
 RunReplays net alarms n found = IfSome (told_run found) (λ best. Replays net alarms n (text_of_found net n found) best.faults)
 
--- what is found of a question holds, the book that is left shows it, and the run that is told replays
+-- what is found of a question holds, the book that is left shows it, and a run that is found replays
 pub record AnswersQuestion (net : Net) (alarms : AlarmLog) (n budget : ℕ) (book : List BookEntry) (found : Found) : Type 0 where
   pub diagnosed : IsDiagnosed net alarms n budget book found
   pub replays : RunReplays net alarms n found
@@ -191,9 +191,13 @@ terms_of (PrintProof budget) = record { budget = Some budget; says = λ net alar
 abbrev pub budget_of : Question → Option ℕ
 budget_of question = (terms_of question).budget
 
--- the question has a budget, and this is at least 3 to the number of variables that network, log and steps allow
+-- the budget is at least 3 to the number of variables that network, log and steps allow
+abbrev pub IsEnough : ℕ → Net → AlarmLog → ℕ → Type 0
+IsEnough budget net alarms n = 3 ^ variable_bound net alarms n ≤ budget
+
+-- the question has a budget, and this is large enough
 abbrev pub HasEnough : Question → Net → AlarmLog → ℕ → Type 0
-HasEnough question net alarms n = IsSomeAnd (budget_of question) (λ budget. 3 ^ variable_bound net alarms n ≤ budget)
+HasEnough question net alarms n = IsSomeAnd (budget_of question) (λ budget. IsEnough budget net alarms n)
 
 -- The reply says what the question asks about the network and the log within n steps, where this book is left. A budget that is large enough decides.
 pub record AnswersTo (question : Question) (net : Net) (alarms : AlarmLog) (n : ℕ) (book : List BookEntry) (reply : Kind × List ℕ) : Type 0 where
@@ -215,7 +219,7 @@ summary_of units net alarms n reply = (
   line_with_number (codes "units ") units ++ line_with_number (codes "alarms ") (length alarms.alarms) ++ line_with_number (codes "size ") (question_size net alarms n) ++ first_line reply.1,
 )
 
--- the reply sums up what is found of a log of so many units, of which the run isn't printed
+-- the reply sums up what is found of a plant with this many units, of which the run isn't printed
 pub record SaysSummary (units : ℕ) (net : Net) (alarms : AlarmLog) (n budget : ℕ) (book : List BookEntry) (reply : Kind × List ℕ) : Type 0 where
   pub found : Found
   pub holds : AnswersQuestion net alarms n budget book found

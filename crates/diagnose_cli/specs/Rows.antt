@@ -1,5 +1,5 @@
 -- What each command answers, by its words and the bytes that the shelf holds under the names of its files.
-use Rattle.std.specs.Prelude.{◌≡◌, ◌≢◌, ℕ, ◌+◌, ◌<◌, ◌≤◌, ◌^◌, ⊤, List, [], ◌∷◌, ◌++◌, length, Option, Some, None, IfSome}
+use Rattle.std.specs.Prelude.{◌≡◌, ◌≢◌, ℕ, ◌+◌, ◌<◌, ◌≤◌, ⊤, List, [], ◌∷◌, ◌++◌, length, Option, Some, None, IfSome}
 use Rattle.std.specs.List.{concat}
 use Rattle.alarm_session.specs.Session.{Stage}
 use Rattle.des_base.specs.CommandWords.{word_at}
@@ -34,7 +34,7 @@ use Rattle.diagnose_cli.specs.declared.command.Single.{Single}
 use Rattle.diagnose_cli.specs.declared.command.Single.TheVariants.{Trace, Show, Replay, Check, Ask, GenerateModel, GenerateLog, Bench, Twin, Cheapest}
 use Rattle.endings.specs.Texts.{FileKind, limit_of, fault_of_text}
 use Rattle.diagnose_cli.specs.Commands.{command_of, files_of}
-use Rattle.diagnose_cli.specs.Replies.{MayReply, budget_of}
+use Rattle.diagnose_cli.specs.Replies.{IsEnough, MayReply, budget_of}
 use Rattle.diagnose_cli.specs.SessionReplies.{HasReplies}
 use Rattle.diagnose_cli.specs.TwinReplies.{LeavesOfWord}
 use Rattle.diagnose_cli.specs.Due.{halts}
@@ -129,22 +129,22 @@ SessionRow o =
 
 -- ---- what each status of `diagnose` tells
 
--- the run that is told explains the log, and nothing that explains it has fewer faults
+-- the run that is printed explains the log, and nothing that explains it has fewer faults
 pub record TellsLeast (o : Outcome) (net : Net) (alarms : Log) (n : ℕ) : Type 0 where
   pub best : Best
   pub given : IsExplanation net alarms n best
   pub least : IsLeast net alarms n best.faults
   pub put : Took o.before o.now (text_of_found net n (Explained best))
 
--- the run that is told explains the log, and all that explains it has more than 255 faults
+-- the run that is printed explains the log, and all that explains it has more than 255 faults
 pub record TellsMany (o : Outcome) (net : Net) (alarms : Log) (n : ℕ) : Type 0 where
   pub best : Best
   pub given : IsExplanation net alarms n best
   pub many : IsMany net alarms n
   pub put : Took o.before o.now (text_of_found net n (Many best))
 
--- As many clauses were learnt as the budget allows, each of them fresh, and there is a further conflict: without a bound where no run is told, and else within lo. By the names of the
--- variables, which are no more than network, log and n allow, the book poses that question. All that explains the log has at least lo faults, and a run that is told explains it with more.
+-- As many clauses were learnt as the budget allows, each of them fresh, and there is a further conflict: without a bound if no run is printed, and else within lo. By the names of the
+-- variables, which are no more than network, log and n allow, the book poses that question. All that explains the log has at least lo faults, and a run that is printed explains it with more.
 pub record TellsUndecided (o : Outcome) (net : Net) (alarms : Log) (n budget : ℕ) : Type 0 where
   pub lo : ℕ
   pub best : Option Best
@@ -162,7 +162,7 @@ pub record DiagnoseRows (o : Outcome) : Type 0 where
   pub absent : (steps budget : ℕ) (text alarms : List ℕ) → CallsWith o (One (Ask steps (Diagnose budget))) (text ∷ alarms ∷ []) → o.status ≡ 10 → IsAbsent (network_of text) (log_of alarms) steps
   pub undecided : (steps budget : ℕ) (text alarms : List ℕ) → CallsWith o (One (Ask steps (Diagnose budget))) (text ∷ alarms ∷ []) → o.status ≡ 11 → TellsUndecided o (network_of text) (log_of alarms) steps budget
   pub many : (steps budget : ℕ) (text alarms : List ℕ) → CallsWith o (One (Ask steps (Diagnose budget))) (text ∷ alarms ∷ []) → o.status ≡ 12 → TellsMany o (network_of text) (log_of alarms) steps
-  pub decided : (steps budget : ℕ) (text alarms : List ℕ) → CallsWith o (One (Ask steps (Diagnose budget))) (text ∷ alarms ∷ []) → 3 ^ variable_bound (network_of text) (log_of alarms) steps ≤ budget → o.status ≢ 11
+  pub decided : (steps budget : ℕ) (text alarms : List ℕ) → CallsWith o (One (Ask steps (Diagnose budget))) (text ∷ alarms ∷ []) → IsEnough budget (network_of text) (log_of alarms) steps → o.status ≢ 11
 
 -- ---- what is left in the book
 

@@ -1,5 +1,5 @@
 -- What a session says: the replies to its rows, and how it ends.
-use Rattle.std.specs.Prelude.{◌≡◌, ◌⊎◌, ◌≤◌, ◌^◌, ℕ, ⊤, List, [], ◌∷◌, ◌++◌, flat_map}
+use Rattle.std.specs.Prelude.{◌≡◌, ◌⊎◌, ℕ, ⊤, List, [], ◌∷◌, ◌++◌, flat_map}
 use Rattle.alarm_session.specs.Rows.{HasCarriedOut, IsLeftUndone, IsRowTold, after_row}
 use Rattle.alarm_session.specs.Session.{Stage}
 use Rattle.alarm_session.specs.Refusals.{refusal_number}
@@ -11,11 +11,10 @@ use Rattle.least_faults.specs.declared.answer.Found.TheVariants.{Undecided}
 use Rattle.log_order.specs.Log.{Log as AlarmLog, no_log}
 use Rattle.log_csv.specs.declared.row.Row.{Row}
 use Rattle.proof_ledger.specs.Book.{BookEntry}
-use Rattle.replay.specs.QuestionSize.{variable_bound}
 use Rattle.report.specs.Replies.{text_of_found, text_of_refused}
 use Rattle.endings.specs.declared.ending.Kind.TheVariants.{Done}
 use Rattle.endings.specs.Transcripts.{End, said, cut, broken, Transcript}
-use Rattle.diagnose_cli.specs.Replies.{RunReplays}
+use Rattle.diagnose_cli.specs.Replies.{IsEnough, RunReplays}
 
 -- the replies to a row that told this: none where an addition was made
 abbrev pub replies_to : Net → ℕ → Told → List (List ℕ)
@@ -43,7 +42,7 @@ IsDecided _ = ⊤
 abbrev pub TellsDecided : Net → AlarmLog → ℕ → ℕ → Told → Type 0
 TellsDecided net alarms n budget Made = ⊤
 TellsDecided net alarms n budget (Refused refusal) = ⊤
-TellsDecided net alarms n budget (Answered found) = 3 ^ variable_bound net alarms n ≤ budget → IsDecided found
+TellsDecided net alarms n budget (Answered found) = IsEnough budget net alarms n → IsDecided found
 
 -- so it is with each row and the log of the rows before it
 abbrev pub AreDecided : Net → ℕ → ℕ → AlarmLog → List Row → List Told → Type 0

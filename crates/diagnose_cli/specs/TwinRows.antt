@@ -24,7 +24,7 @@ pub record AsksTwins (o : Outcome) (net : Net) (n d : ℕ) : Type 0 where
   pub named : fault_event_of net (word_at o.words 2) ≡ Some fault
   pub asks : AskTwins net fault n d (axioms_of o.book)
 
--- the two runs that are told are those of twins
+-- the two runs that are printed are those of twins
 pub record TellsTwins (o : Outcome) (net : Net) (n d : ℕ) : Type 0 where
   pub question : AsksTwins o net n d
   pub faulty : List RunStep

@@ -21,7 +21,7 @@ use proof_ledger::Ledger;
 use sizing::question_size;
 use std::alloc::Global;
 
-/// Says what is the least number of faults of a generated plant within so many parallel steps, and how large the question is.
+/// Finds the least number of faults of a generated plant within a number of parallel steps, and says how large the question is.
 pub fn bench_command(
     alloc: Global,
     units: u32,

@@ -26,7 +26,7 @@ use proof_ledger::Ledger;
 use report::print_cheap;
 use std::alloc::Global;
 
-/// Says what is the least total cost of what explains a log within so many parallel steps.
+/// Finds the least total cost of what explains a log within a number of parallel steps.
 pub fn cheapest_command<F: Shelf>(
     alloc: Global,
     words: &WordList,

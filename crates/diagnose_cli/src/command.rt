@@ -1,10 +1,11 @@
 // The commands, and which one the words of a command line call.
 ghost use Rattle.std.specs.Prelude.{◌≡◌, ◌<◌};
-ghost use Rattle.diagnose_cli.specs.Commands.{ask_of, asked_by, bench_of, bound_of, calls, command_of, generate_of, limits_of, other_of, question_named, twin_of, units_of};
+ghost use Rattle.des_base.specs.Numbers.{number_up_to};
+ghost use Rattle.diagnose_cli.specs.Commands.{ask_of, asked_by, bench_of, bound_of, calls, command_of, generate_of, limits_of, most_number, most_steps, other_of, question_named, twin_of, units_of};
 
 use des_base::{WordList, read_number};
 
-/// What is asked for: a run of so many parallel steps at most, found by a search that may learn as many clauses as the budget says.
+/// What is asked for: a run of at most this many parallel steps, found by a search that may learn as many clauses as the budget says.
 #[derive(Clone, Copy)]
 pub struct Limits {
     pub steps: u32,
@@ -41,7 +42,7 @@ pub enum Single {
         steps: u32,
         question: Question,
     },
-    /// `generate model Z START`: the model of the plant of so many units.
+    /// `generate model Z START`: the model of the plant with Z units.
     GenerateModel {
         units: u32,
         start: u64,
@@ -65,7 +66,7 @@ pub enum Single {
         budget: u64,
     },
     /// `twin MODEL EVENT N AFTER BUDGET`: whether a run with the fault event and a run without it look alike within this many
-    /// parallel steps, where after the fault something has to be seen in so many of them. The event is the word behind the model.
+    /// parallel steps, where after the fault something has to be seen in at least AFTER of them. The event is the word behind the model.
     Twin {
         steps: u32,
         after: u32,
@@ -125,17 +126,11 @@ fn asked_by(words: &WordList) -> Option<Command>
 fn question_named(name: &str, last: &str) -> Option<Question>
     ensures { result ≡ question_named name.now last.now }
 {
-    if name == "diagnose" {
-        let budget = read_number(last.as_bytes(), u64::MAX)?;
-        Some(Question::Diagnose { budget })
-    } else if name == "cnf" {
-        let bound = bound_of(last)?;
-        Some(Question::PrintCnf { bound })
-    } else if name == "proof" {
-        let budget = read_number(last.as_bytes(), u64::MAX)?;
-        Some(Question::PrintProof { budget })
-    } else {
-        None
+    match name {
+        "diagnose" => number_of(last).map(|budget| Question::Diagnose { budget }),
+        "cnf" => bound_of(last).map(|bound| Question::PrintCnf { bound }),
+        "proof" => number_of(last).map(|budget| Question::PrintProof { budget }),
+        _ => None,
     }
 }
 
@@ -148,8 +143,8 @@ fn other_of(words: &WordList) -> Option<Command>
     } else if is_call(words, "show", 2) {
         Some(Command::One(Single::Show))
     } else if is_call(words, "replay", 5) {
-        let steps = read_number(words.word(4).as_bytes(), STEP_LIMIT)?;
-        Some(Command::One(Single::Replay(steps as u32)))
+        let steps = steps_of(words.word(4))?;
+        Some(Command::One(Single::Replay(steps)))
     } else if is_call(words, "check", 3) {
         Some(Command::One(Single::Check))
     } else if is_call(words, "generate", 4) {
@@ -176,23 +171,32 @@ fn other_of(words: &WordList) -> Option<Command>
 fn ask_of(steps: &str, question: Question) -> Option<Command>
     ensures { result ≡ ask_of steps.now question }
 {
-    let steps = read_number(steps.as_bytes(), STEP_LIMIT)?;
-    Some(Command::One(Single::Ask {
-        steps: steps as u32,
-        question,
-    }))
+    let steps = steps_of(steps)?;
+    Some(Command::One(Single::Ask { steps, question }))
 }
 
 // How many steps and which budget two words ask for.
 fn limits_of(steps: &str, budget: &str) -> Option<Limits>
     ensures { result ≡ limits_of steps.now budget.now }
 {
-    let steps = read_number(steps.as_bytes(), STEP_LIMIT)?;
-    let budget = read_number(budget.as_bytes(), u64::MAX)?;
-    Some(Limits {
-        steps: steps as u32,
-        budget,
-    })
+    let steps = steps_of(steps)?;
+    let budget = number_of(budget)?;
+    Some(Limits { steps, budget })
+}
+
+// The steps that a word sets.
+fn steps_of(text: &str) -> Option<u32>
+    ensures { result ≡ number_up_to most_steps text.now }
+{
+    let steps = read_number(text.as_bytes(), STEP_LIMIT)?;
+    Some(steps as u32)
+}
+
+// The number of 64 bits that a word spells: a budget, or the start of a plant.
+fn number_of(text: &str) -> Option<u64>
+    ensures { result ≡ number_up_to most_number text.now }
+{
+    read_number(text.as_bytes(), u64::MAX)
 }
 
 // The bound on the faults that is asked for: `any` sets none.
@@ -219,11 +223,11 @@ fn generate_of(what: &str, units: &str, start: &str) -> Option<Command>
 {
     if what == "model" {
         let units = units_of(units)?;
-        let start = read_number(start.as_bytes(), u64::MAX)?;
+        let start = number_of(start)?;
         Some(Command::One(Single::GenerateModel { units, start }))
     } else if what == "log" {
         let units = units_of(units)?;
-        let start = read_number(start.as_bytes(), u64::MAX)?;
+        let start = number_of(start)?;
         Some(Command::One(Single::GenerateLog { units, start }))
     } else {
         None
@@ -234,13 +238,13 @@ fn bench_of(units: &str, start: &str, steps: &str, budget: &str) -> Option<Comma
     ensures { result ≡ bench_of units.now start.now steps.now budget.now }
 {
     let units = units_of(units)?;
-    let start = read_number(start.as_bytes(), u64::MAX)?;
-    let steps = read_number(steps.as_bytes(), STEP_LIMIT)?;
-    let budget = read_number(budget.as_bytes(), u64::MAX)?;
+    let start = number_of(start)?;
+    let steps = steps_of(steps)?;
+    let budget = number_of(budget)?;
     Some(Command::One(Single::Bench {
         units,
         start,
-        steps: steps as u32,
+        steps,
         budget,
     }))
 }
@@ -248,12 +252,12 @@ fn bench_of(units: &str, start: &str, steps: &str, budget: &str) -> Option<Comma
 fn twin_of(steps: &str, after: &str, budget: &str) -> Option<Command>
     ensures { result ≡ twin_of steps.now after.now budget.now }
 {
-    let steps = read_number(steps.as_bytes(), STEP_LIMIT)?;
-    let after = read_number(after.as_bytes(), STEP_LIMIT)?;
-    let budget = read_number(budget.as_bytes(), u64::MAX)?;
+    let steps = steps_of(steps)?;
+    let after = steps_of(after)?;
+    let budget = number_of(budget)?;
     Some(Command::One(Single::Twin {
-        steps: steps as u32,
-        after: after as u32,
+        steps,
+        after,
         budget,
     }))
 }

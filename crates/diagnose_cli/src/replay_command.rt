@@ -22,7 +22,7 @@ use replay::{Replayed, Run, replay};
 use report::print_replayed;
 use std::alloc::Global;
 
-/// Says whether a run explains a log within so many parallel steps.
+/// Says whether a run explains a log within a number of parallel steps.
 pub fn replay_command<F: Shelf>(
     alloc: Global,
     words: &WordList,

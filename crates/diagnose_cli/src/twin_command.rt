@@ -28,7 +28,7 @@ use std::alloc::Global;
 use step_encode::step_variables;
 use twin_test::{Twin, twin_size, twin_test};
 
-/// What is asked for: runs of so many parallel steps at most, in how many of them something is seen after the fault at least, and
+/// What is asked for: runs of at most this many parallel steps, in how many of them at least something is seen after the fault, and
 /// as many clauses learnt as the budget says.
 #[derive(Clone, Copy)]
 pub struct TwinLimits {
