@@ -2,9 +2,9 @@
 
     python3 tools/timeline.py MODEL RUN [--mermaid | --svg | --html]
 
-MODEL is a model text. RUN is a run text, or a reply of `diagnose` as it stands; with `-` it is read from standard input. Each event goes into
-the present parallel step if it touches none of the components that the step has touched, and otherwise begins a new one, so the steps are as
-few as can be. With --mermaid the lines are those of a Mermaid timeline; with --html a page is printed that has one SVG, and with --svg the SVG alone.
+MODEL is a model text. RUN is a run text, or a reply as it stands, of which the first run is taken; with `-` it is read from standard input. Each
+event goes into the present parallel step if it touches none of the components that the step has touched, and otherwise begins a new one, so the
+steps are as few as can be (those of `twin`, with one alarm a step at most, may be more). With --mermaid the lines are those of a Mermaid timeline; with --html a page is printed that has one SVG, and with --svg the SVG alone.
 The picture has a lane for each component with the states that it goes through, a column for each parallel step, and marks on faults and
 alarms. A state is named `a or b` if the run leaves it open. This script is no part of what is proved.
 """
@@ -60,12 +60,14 @@ def lines_of(path):
 
 
 def run_of(lines, model):
-    """The items of a run text or a reply, each with its parallel step."""
-    if lines and lines[0][0] in ("EXPLAINED", "MANY", "UNDECIDED"):
-        lines = lines[1:]
-    if not lines or lines[0][0] != "run":
+    """The items of the first run of a run text or a reply, each with its parallel step."""
+    at = next((at for at, words in enumerate(lines) if words[0] == "run" and words[1:] and words[1].isdigit()), None)
+    if at is None:
         sys.exit("there is no run in this text")
-    items, step, touched = [Item(words, model) for words in lines[1:]], 1, set()
+    end = at + 1 + int(lines[at][1])
+    if end > len(lines):
+        sys.exit("the run has fewer lines than it says")
+    items, step, touched = [Item(words, model) for words in lines[at + 1:end]], 1, set()
     for item in items:
         if touched & set(item.parts):
             step, touched = step + 1, set()
