@@ -6,9 +6,13 @@ pub mod Leveling
 pub mod Seeing
 mod Passing
 mod Links
+mod Covering
+mod Dropping
 mod WatchLists
 mod Nodes
 mod Settling
 mod Visiting
 mod Draining
 mod Falling
+mod Signatures
+mod Latest

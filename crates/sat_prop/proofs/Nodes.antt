@@ -1,5 +1,5 @@
 -- Watches and links stand together in nodes: what both lists are where a node is added or changed.
-use Rattle.std.proofs.Common.{◌≡◌, ◌∙◌, ℕ, zero, suc, ◌+◌, ◌-◌, ◌*◌, ◌/◌, ◌%◌, ◌<◌, Bool, true, false, ◌++◌, ◌∷◌, [], List, refl, ap, sym, subst, length, get_or, arith, add-zero, Some, None}
+use Rattle.std.proofs.Common.{◌≡◌, ◌∙◌, ℕ, zero, suc, ◌+◌, ◌-◌, ◌*◌, ◌/◌, ◌%◌, ◌<◌, Bool, true, false, ◌++◌, ◌∷◌, [], List, refl, ap, sym, subst, length, get_or, arith, add-zero, Option, Some, None}
 use Rattle.std.specs.Prelude.{slice_set}
 use Rattle.std.proofs.Math.Nat.{add-mod, add-mod_right}
 use Rattle.std.proofs.lemmas.Grind.{common_steps}
@@ -8,10 +8,10 @@ use Rattle.prop_core.specs.declared.lit.Lit.{Lit}
 use Rattle.sat_prop.specs.declared.watch_lists.Watch.{Watch}
 use Rattle.sat_prop.specs.declared.watch_lists.Node.{Node}
 use Rattle.sat_prop.specs.declared.watch_lists.Starts.{Starts}
-use Rattle.sat_prop.specs.declared.watch_lists.TheConstants.{NO_WATCH}
+use Rattle.sat_prop.specs.declared.watch_lists.TheConstants.{NO_WATCH, NO_CLAUSE}
 use Rattle.prop_core.specs.LiteralNumbers.{literal_number, numbered_literal}
-use Rattle.sat_prop.specs.Watches.{AreWatchLists, PutsWatch, watches_from, watches_of, nexts_of, node_at, watch_at, watch_of, watching, as_link, begin_of, twin_number, with_start}
-use Rattle.sat_prop.proofs.WatchLists.{lists_pushed, lists_put}
+use Rattle.sat_prop.specs.Watches.{AreWatchLists, PutsWatch, watches_from, watches_of, nexts_of, no_node, node_at, watch_at, watch_of, watching, dropped, with_dropped, as_link, begin_of, twin_number, with_start, cleared}
+use Rattle.sat_prop.proofs.WatchLists.{lists_pushed, lists_put, lists_dropped}
 
 -- ---- numbers of watches
 
@@ -138,6 +138,26 @@ node_puts nodes starts others number l vars spare within before last e =
     let g : watch_of number (moved nodes starts number l) ≡ watching (watch_at (watches_of nodes) number) l =
     front_keeps number starts (node_at nodes number).clause l ∙ sym (ap (λ (x : Watch). watching x l) (watch_of_node nodes number _ within)) in
     rw (w, ← s.0, ← s.1, g) refl
+
+-- a node whose watch is dropped
+abbrev cleared_node : List Node → ℕ → Node
+cleared_node nodes number = record (node_at nodes number) { clause = NO_CLAUSE }
+
+pub watches_cleared : (nodes : List Node) (number : ℕ) → number < length nodes → watches_of (cleared nodes number) ≡ with_dropped (watches_of nodes) number
+watches_cleared nodes number within = watches_set nodes number (cleared_node nodes number) ∙ ap (λ (w : Watch). slice_set (watches_of nodes) number (dropped w)) (sym (watch_of_node nodes number no_node within))
+
+pub nexts_cleared : (nodes : List Node) (number : ℕ) → number < length nodes → nexts_of (cleared nodes number) ≡ nexts_of nodes
+nexts_cleared nodes number within =
+    nexts_set nodes number (cleared_node nodes number) ∙ ap (λ (o : Option ℕ). slice_set (nexts_of nodes) number o) (sym (next_of_node nodes number no_node within)) ∙ set_same (nexts_of nodes) number (let e = count_nexts nodes in omega arith)
+  where
+    set_same : (nexts : List (Option ℕ)) (n : ℕ) → n < length nexts → slice_set nexts n (get_or nexts n None) ≡ nexts
+    set_same nexts n h = grind (arith, common_steps)
+
+-- so it watches no clause, in the list where it stands
+pub node_cleared : (nodes : List Node) (starts : List Starts) (waiting : List ℕ) (number : ℕ) → number < length nodes → AreWatchLists (watches_of nodes) (nexts_of nodes) starts waiting
+    → AreWatchLists (watches_of (cleared nodes number)) (nexts_of (cleared nodes number)) starts waiting
+node_cleared nodes starts waiting number within a =
+    rw (watches_cleared nodes number within, nexts_cleared nodes number within) (lists_dropped (watches_of nodes) (nexts_of nodes) starts waiting number (let e = count_watches nodes in omega arith) a)
 
 -- both watches of a clause are added
 pub pair_pushed : (nodes one two : List Node) (starts between : List Starts) (clause : ℕ) (first second : Lit) → length nodes % 2 ≡ 0 → one ≡ nodes ++ at_front starts clause first ∷ [] → two ≡ one ++ at_front between clause second ∷ []

@@ -16,16 +16,21 @@ use Rattle.sat_prop.specs.Quiet.{AreQuiet, stands}
 use Rattle.sat_prop.specs.Changes.{IsKeptUpTo, with_true_literal}
 use Rattle.sat_prop.specs.Kept.{IsTrailState}
 use Rattle.sat_prop.specs.declared.watch_lists.Watch.{Watch}
-use Rattle.sat_prop.specs.Watches.{watch_at}
-use Rattle.sat_prop.specs.Watching.{WatchedState, AreWatched, AreVisited, IsWatch, IsSettled, IsNarrow, MakesUp, other_literal}
+use Rattle.sat_prop.specs.Watches.{IsLive, watch_at, other_literal}
+use Rattle.sat_prop.specs.Watching.{WatchedState, AreWatched, AreVisited, IsWatch, IsSettled, IsNarrow, IsLookedAt, IsCovered, MakesUp}
 use Rattle.sat_prop.proofs.Fronts.{split_last, held_same, contains_at}
 use Rattle.sat_prop.proofs.Links.{not_both}
+use Rattle.sat_prop.proofs.Covering.{live_of, twin_live, quiet_part}
 use Rattle.sat_prop.proofs.Justifying.{justified_consistent}
 
 -- ---- one more literal
 
 pub makes_up_more : (literals first : List Lit) (clause : Clause) (other l : Lit) → MakesUp literals first clause other → MakesUp (literals ++ l ∷ []) first clause other
 makes_up_more literals first clause other l m = record { early = m.early; now = true_more literals l other ∙ or_left _ _ m.now }
+
+-- a watch that was dropped is settled, since it has no clause
+pub settled_live : (clauses : List Clause) (literals : List Lit) (seen : ℕ) (watches : List Watch) (n : ℕ) → (IsLive watches n → IsSettled clauses literals seen watches n) → IsSettled clauses literals seen watches n
+settled_live clauses literals seen watches n f place clause h e held = f (live_of clauses (watch_at watches n).clause clause held) place clause h e held
 
 pub settled_more : (clauses : List Clause) (literals : List Lit) (seen : ℕ) (watches : List Watch) (n : ℕ) (l : Lit) → seen ≤ length literals → IsSettled clauses literals seen watches n → IsSettled clauses (literals ++ l ∷ []) seen watches n
 settled_more clauses literals seen watches n l b s place clause h e held =
@@ -109,24 +114,27 @@ forced_whole literals clause l k b e =
 
 -- where all literals have been looked at, and the short clauses are quiet, all are
 module _ (t : TrailState) (w : WatchedState) (consistent : AreConsistent t.literals) (a : AreWatched t w) (all_seen : w.seen ≡ length t.literals) where
-  watched_clause_quiet : (n : ℕ) → n < length w.lists.watches → is_quiet (stands t.literals (clause_numbered t.clauses (watch_at w.lists.watches n).clause)) ≡ true
-  watched_clause_quiet n h =
-      let here = a.each n h in
-      let twin = a.each (watch_at w.lists.watches n).twin here.twin in
+  watched_clause_quiet : (n : ℕ) → n < length w.lists.watches → IsLive w.lists.watches n → is_quiet (stands t.literals (clause_numbered t.clauses (watch_at w.lists.watches n).clause)) ≡ true
+  watched_clause_quiet n h live =
+      let here = a.each n h live in
+      let twin = a.each (watch_at w.lists.watches n).twin here.twin (other_live here) in
       let among = other_among t w.lists.watches n here twin in
       ap (λ (o : Option Clause). is_quiet (stands t.literals o)) here.held ∙ by here twin among
     where
-      made_up : (m : ℕ) (i : m < length w.lists.watches) → is_false t.literals (watch_at w.lists.watches m).lit ≡ true → is_true t.literals (other_literal w.lists.watches m) ≡ true
-      made_up m i f =
+      other_live : IsWatch t.clauses t.attached w.lists.watches n → IsLive w.lists.watches (watch_at w.lists.watches n).twin
+      other_live here = twin_live t.clauses t.attached w.lists.watches n here live
+
+      made_up : (m : ℕ) (i : m < length w.lists.watches) → IsLive w.lists.watches m → is_false t.literals (watch_at w.lists.watches m).lit ≡ true → is_true t.literals (other_literal w.lists.watches m) ≡ true
+      made_up m i l f =
           let p = place_found t.literals (negation (watch_at w.lists.watches m).lit) f in
           let within = p.1.within in
-          (a.settled m i p.0 (a.each m i).clause (omega arith) p.1.at (a.each m i).held).now
+          (a.settled m i p.0 (a.each m i l).clause (omega arith) p.1.at (a.each m i l).held).now
 
       by : (here : IsWatch t.clauses t.attached w.lists.watches n) → IsWatch t.clauses t.attached w.lists.watches (watch_at w.lists.watches n).twin → list_any (same_literal (other_literal w.lists.watches n)) here.clause ≡ true → is_quiet (standing t.literals here.clause) ≡ true
       by here twin among = ⊎_elim
-          (λ f. quiet_true t.literals here.clause (other_literal w.lists.watches n) consistent among (made_up n h f))
+          (λ f. quiet_true t.literals here.clause (other_literal w.lists.watches n) consistent among (made_up n h live f))
           (λ f. ⊎_elim
-          (λ g. let m = made_up (watch_at w.lists.watches n).twin here.twin g in
+          (λ g. let m = made_up (watch_at w.lists.watches n).twin here.twin (other_live here) g in
           quiet_true t.literals here.clause (watch_at w.lists.watches n).lit consistent here.among (subst (λ (k : ℕ). is_true t.literals (watch_at w.lists.watches k).lit ≡ true) here.back m))
           (λ g. ⊎_elim
           (λ p. quiet_true t.literals here.clause (watch_at w.lists.watches n).lit consistent here.among p)
@@ -138,14 +146,26 @@ module _ (t : TrailState) (w : WatchedState) (consistent : AreConsistent t.liter
           (cases_Bool (is_false t.literals (other_literal w.lists.watches n))))
           (cases_Bool (is_false t.literals (watch_at w.lists.watches n).lit))
 
-  pub watched_quiet : AreQuiet t.clauses w.short t.literals → AreQuiet t.clauses t.attached t.literals
-  watched_quiet q place h = ⊎_elim
+  -- a clause that is looked at is quiet
+  looked_quiet : (number : ℕ) → 1 ≤ number → AreQuiet t.clauses w.short t.literals → IsLookedAt w.short w.lists.watches number → is_quiet (stands t.literals (clause_numbered t.clauses number)) ≡ true
+  looked_quiet number from_one q looked = ⊎_elim
       (λ s. subst (λ (n : ℕ). is_quiet (stands t.literals (clause_numbered t.clauses n)) ≡ true) (short_at s) (q s.0 s.1))
-      (λ s. subst (λ (n : ℕ). is_quiet (stands t.literals (clause_numbered t.clauses n)) ≡ true) s.2 (watched_clause_quiet s.0 s.1))
-      (a.all (slice_index t.attached place) (place, h, grind (arith, common_steps)))
+      (λ s. subst (λ (n : ℕ). is_quiet (stands t.literals (clause_numbered t.clauses n)) ≡ true) s.2 (watched_clause_quiet s.0 s.1 (subst (λ (n : ℕ). 1 ≤ n) (sym s.2) from_one)))
+      looked
     where
-      short_at : (s : Contains w.short (slice_index t.attached place)) → slice_index w.short s.0 ≡ slice_index t.attached place
-      short_at s = let b = s.1 in let e : get_or w.short s.0 0 ≡ get_or w.short s.0 (slice_index t.attached place) = grind (arith, common_steps) in e ∙ s.2
+      short_at : (s : Contains w.short number) → slice_index w.short s.0 ≡ number
+      short_at s = let b = s.1 in let e : get_or w.short s.0 0 ≡ get_or w.short s.0 number = grind (arith, common_steps) in e ∙ s.2
+
+  -- so is what it covers
+  covered_quiet : (number : ℕ) → AreQuiet t.clauses w.short t.literals → IsCovered t.clauses w.short w.lists.watches number → is_quiet (stands t.literals (clause_numbered t.clauses number)) ≡ true
+  covered_quiet number q c =
+      let s = c.subsumes in
+      let cover = looked_quiet c.cover (live_of t.clauses c.cover s.inner_clause s.inner_held) q c.looked in
+      let inner : is_quiet (standing t.literals s.inner_clause) ≡ true = sym (ap (λ (o : Option Clause). is_quiet (stands t.literals o)) s.inner_held) ∙ cover in
+      ap (λ (o : Option Clause). is_quiet (stands t.literals o)) s.outer_held ∙ quiet_part t.literals s.inner_clause s.outer_clause consistent s.part inner
+
+  pub watched_quiet : AreQuiet t.clauses w.short t.literals → AreQuiet t.clauses t.attached t.literals
+  watched_quiet q place h = covered_quiet (slice_index t.attached place) q (a.all (slice_index t.attached place) (place, h, grind (arith, common_steps)))
 
 -- an attached clause is quiet where all are
 pub quiet_at : (cs : List Clause) (att : List ℕ) (taken : List Lit) (number : ℕ) (clause : Clause) → AreQuiet cs att taken → Contains att number → clause_numbered cs number ≡ Some clause → is_quiet (standing taken clause) ≡ true
@@ -217,11 +237,9 @@ watched_back t new w level s a k = record {
   room_watches = rw k.spare a.room_watches;
   short = λ n c. rw k.attached (a.short n c);
   narrow = λ n c. rw k.clauses (a.narrow n c);
-  all = λ n c. a.all n (rw (← k.attached) c);
-  each = λ n h. rw (k.clauses, k.attached) (a.each n h);
+  all = λ n c. rw k.clauses (a.all n (rw (← k.attached) c));
+  each = λ n h live. rw (k.clauses, k.attached) (a.each n h live);
   settled = λ n h place clause b e held.
-      let here = a.each n h in
-      let twin = a.each (watch_at w.lists.watches n).twin here.twin in
       let within : k.kept ≤ length t.literals = let c = k.cut.within in let j = s.justified.same in omega arith in
       let l = k.literals in
       let len : length new.literals ≡ k.kept = rw l (grind (arith, common_steps)) in
@@ -230,6 +248,7 @@ watched_back t new w level s a k = record {
       let g : get_or new.literals place no_literal ≡ get_or t.literals place no_literal = rw l (grind (arith, common_steps)) in
       let first : take (place + 1) new.literals ≡ take (place + 1) t.literals = rw l (grind (arith, common_steps)) in
       let held_before : clause_numbered t.clauses (watch_at w.lists.watches n).clause ≡ Some clause = subst (λ (cs : List Clause). clause_numbered cs (watch_at w.lists.watches n).clause ≡ Some clause) k.clauses held in
+      let here = a.each n h (live_of t.clauses (watch_at w.lists.watches n).clause clause held_before) in
       let m = a.settled n h place clause i (sym g ∙ e) held_before in
       let now : is_true new.literals (other_literal w.lists.watches n) ≡ true = ⊎_elim
       (λ q. rw l (true_longer t.literals (other_literal w.lists.watches n) (place + 1) k.kept (omega arith) q))

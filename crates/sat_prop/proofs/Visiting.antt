@@ -1,5 +1,5 @@
 -- Watches that wait are looked at one by one, and clauses are attached.
-use Rattle.std.proofs.Common.{◌≡◌, ◌∙◌, ℕ, suc, ◌+◌, ◌-◌, ◌<◌, ◌≤◌, true, false, ◌++◌, ◌∷◌, [], List, refl, ap, sym, subst, length, take, get_or, max, arith, inl, inr, ⊎_elim, Some, Option}
+use Rattle.std.proofs.Common.{◌≡◌, ◌≢◌, ◌↔◌, ◌∙◌, Bool, IsTrue, ℕ, suc, ◌+◌, ◌-◌, ◌<◌, ◌≤◌, true, false, ◌++◌, ◌∷◌, [], List, refl, ap, sym, subst, length, take, get_or, max, arith, inl, inr, ⊎_elim, Some, Option}
 use Rattle.std.specs.Prelude.{◌⊎◌, Contains, IfSome, Result, Ok, Err, OnOk, OnErr, slice_set, nat_eq}
 use Rattle.des_base.specs.declared.memory.Memory.{Memory}
 use Rattle.std.specs.List.{list_any}
@@ -18,12 +18,14 @@ use Rattle.sat_prop.specs.Changes.{IsFront, Propagates, with_true_literal, with_
 use Rattle.sat_prop.specs.declared.watch_lists.Watch.{Watch}
 use Rattle.sat_prop.specs.declared.watched.Judged.{Judged}
 use Rattle.sat_prop.specs.declared.watched.Judged.TheVariants.{Stays, Moves, False}
-use Rattle.sat_prop.specs.Watches.{WatchState, IsLastWaiting, PutsWatch, watch_at, watching, is_among, with_watched_clause}
-use Rattle.sat_prop.specs.Watching.{WatchedState, AreWatched, AreVisited, IsVisiting, Visits, IsWatch, IsSettled, MakesUp, IsJudgedWatch, IsReplaced, IsReplacement, IsShort, AreTwo, other_literal}
+use Rattle.sat_prop.specs.Watches.{WatchState, ForgetsWatch, IsLastWaiting, IsLive, PutsWatch, watch_at, watching, is_among, with_dropped, with_watched_clause, without_clause, other_literal}
+use Rattle.sat_prop.specs.Watching.{WatchedState, AreWatched, AreVisited, IsVisiting, Visits, IsWatch, IsSettled, MakesUp, IsJudgedWatch, IsReplaced, IsReplacement, IsShort, IsLookedAt, IsCovered, Subsumes, AreTwo, is_part_of, IsSubsumed}
 use Rattle.sat_prop.specs.Kept.{IsTrailState}
-use Rattle.sat_prop.proofs.Fronts.{split_last, front_trans, front_length, front_at, held_same, front_held, front_same, number_of, known_at, contains_more}
+use Rattle.sat_prop.proofs.Fronts.{split_last, front_itself, front_trans, front_length, front_at, held_same, front_held, front_same, number_of, known_at, contains_more}
 use Rattle.sat_prop.proofs.Links.{not_both}
-use Rattle.sat_prop.proofs.Settling.{negation_once, other_among, settled_apart, settled_forced, settled_more, forced_longer, visited_more, watched_more}
+use Rattle.sat_prop.proofs.Covering.{covered_itself, covered_kept, live_of, subsumes_trans, twin_live}
+use Rattle.sat_prop.proofs.Dropping.{drop_apart, drop_length, drop_lit, drop_live, drop_other, drop_twin}
+use Rattle.sat_prop.proofs.Settling.{negation_once, other_among, settled_apart, settled_forced, settled_live, settled_more, forced_longer, visited_more, watched_more}
 
 -- ---- the next that waits stays where it is
 
@@ -49,14 +51,17 @@ set_length watches n x = grind (arith, common_steps)
 
 module _ (t : TrailState) (w : WatchedState) (n : ℕ) (clause : Clause) (l : Lit) (consistent : AreConsistent t.literals) (a : AreWatched t w) (within : n < length w.lists.watches) (before : w.seen < length t.literals)
     (held : clause_numbered t.clauses (watch_at w.lists.watches n).clause ≡ Some clause) (falls : literal_at t.literals w.seen ≡ negation (watch_at w.lists.watches n).lit) (r : IsReplacement t.literals clause (other_literal w.lists.watches n) w.seen l) where
+  here_live : IsLive w.lists.watches n
+  here_live = live_of t.clauses (watch_at w.lists.watches n).clause clause held
+
   here : IsWatch t.clauses t.attached w.lists.watches n
-  here = a.each n within
+  here = a.each n within here_live
 
   abbrev pub twin : ℕ
   twin = (watch_at w.lists.watches n).twin
 
   there : IsWatch t.clauses t.attached w.lists.watches twin
-  there = a.each twin here.twin
+  there = a.each twin here.twin (twin_live t.clauses t.attached w.lists.watches n here here_live)
 
   abbrev pub moved : List Watch
   moved = slice_set w.lists.watches n (watching (watch_at w.lists.watches n) l)
@@ -71,8 +76,8 @@ module _ (t : TrailState) (w : WatchedState) (n : ℕ) (clause : Clause) (l : Li
   twin_apart e = not_both _ (subst (λ (k : ℕ). same_literal (watch_at w.lists.watches n).lit (watch_at w.lists.watches k).lit ≡ true) (sym e) (same_itself (watch_at w.lists.watches n).lit)) here.apart
 
   -- of whom the other watch is
-  twins_apart : (m : ℕ) → m < length w.lists.watches → (m ≡ twin → ⊥) → (watch_at w.lists.watches m).twin ≡ n → ⊥
-  twins_apart m h d e = d (sym (a.each m h).back ∙ ap (λ (k : ℕ). (watch_at w.lists.watches k).twin) e)
+  twins_apart : (m : ℕ) → m < length w.lists.watches → IsLive w.lists.watches m → (m ≡ twin → ⊥) → (watch_at w.lists.watches m).twin ≡ n → ⊥
+  twins_apart m h live d e = d (sym (a.each m h live).back ∙ ap (λ (k : ℕ). (watch_at w.lists.watches k).twin) e)
 
   other_here : other_literal moved n ≡ other_literal w.lists.watches n
   other_here = ap (λ (x : Watch). (watch_at moved x.twin).lit) moved_here ∙ ap (λ (x : Watch). x.lit) (moved_apart twin twin_apart)
@@ -80,8 +85,8 @@ module _ (t : TrailState) (w : WatchedState) (n : ℕ) (clause : Clause) (l : Li
   other_there : other_literal moved twin ≡ l
   other_there = ap (λ (x : Watch). (watch_at moved x.twin).lit) (moved_apart twin twin_apart) ∙ ap (λ (k : ℕ). (watch_at moved k).lit) here.back ∙ ap (λ (x : Watch). x.lit) moved_here
 
-  other_apart : (m : ℕ) → m < length w.lists.watches → (m ≡ n → ⊥) → (m ≡ twin → ⊥) → other_literal moved m ≡ other_literal w.lists.watches m
-  other_apart m h d f = ap (λ (x : Watch). (watch_at moved x.twin).lit) (moved_apart m d) ∙ ap (λ (x : Watch). x.lit) (moved_apart (watch_at w.lists.watches m).twin (twins_apart m h f))
+  other_apart : (m : ℕ) → m < length w.lists.watches → IsLive w.lists.watches m → (m ≡ n → ⊥) → (m ≡ twin → ⊥) → other_literal moved m ≡ other_literal w.lists.watches m
+  other_apart m h live d f = ap (λ (x : Watch). (watch_at moved x.twin).lit) (moved_apart m d) ∙ ap (λ (x : Watch). x.lit) (moved_apart (watch_at w.lists.watches m).twin (twins_apart m h live f))
 
   same_length : length moved ≡ length w.lists.watches
   same_length = set_length w.lists.watches n (watching (watch_at w.lists.watches n) l)
@@ -90,9 +95,9 @@ module _ (t : TrailState) (w : WatchedState) (n : ℕ) (clause : Clause) (l : Li
   each_moved : (P : ℕ → Type 0) → P n → P twin → ((m : ℕ) → m < length w.lists.watches → (m ≡ n → ⊥) → (m ≡ twin → ⊥) → P m) → (m : ℕ) → m < length w.lists.watches → P m
   each_moved P p q f m h = ⊎_elim (λ e. subst P (sym e) p) (λ d. ⊎_elim (λ e. subst P (sym e) q) (λ g. f m h d g) (cases_eq m twin)) (cases_eq m n)
 
-  watch_moved : (m : ℕ) → m < length w.lists.watches → IsWatch t.clauses t.attached moved m
-  watch_moved = each_moved (λ m. IsWatch t.clauses t.attached moved m)
-      (record {
+  watch_moved : (m : ℕ) → m < length w.lists.watches → IsLive moved m → IsWatch t.clauses t.attached moved m
+  watch_moved = each_moved (λ m. IsLive moved m → IsWatch t.clauses t.attached moved m)
+      (λ live. record {
         joined = rw moved_here here.joined;
         clause = clause;
         held = rw moved_here held;
@@ -102,7 +107,7 @@ module _ (t : TrailState) (w : WatchedState) (n : ℕ) (clause : Clause) (l : Li
         same = ap (λ (x : Watch). (watch_at moved x.twin).clause) moved_here ∙ ap (λ (x : Watch). x.clause) (moved_apart twin twin_apart) ∙ here.same ∙ ap (λ (x : Watch). x.clause) (sym moved_here);
         apart = rw (moved_here, other_here) (same_back l (other_literal w.lists.watches n) ∙ r.apart);
       })
-      (record {
+      (λ live. record {
         joined = rw (moved_apart twin twin_apart) there.joined;
         clause = there.clause;
         held = rw (moved_apart twin twin_apart) there.held;
@@ -112,10 +117,11 @@ module _ (t : TrailState) (w : WatchedState) (n : ℕ) (clause : Clause) (l : Li
         same = ap (λ (x : Watch). (watch_at moved x.twin).clause) (moved_apart twin twin_apart) ∙ ap (λ (k : ℕ). (watch_at moved k).clause) here.back ∙ ap (λ (x : Watch). x.clause) moved_here ∙ sym here.same ∙ ap (λ (x : Watch). x.clause) (sym (moved_apart twin twin_apart));
         apart = rw (moved_apart twin twin_apart, other_there) r.apart;
       })
-      (λ m h d f.
-      let k = a.each m h in
+      (λ m h d f live.
       let e = moved_apart m d in
-      let g = moved_apart (watch_at w.lists.watches m).twin (twins_apart m h f) in
+      let before : 1 ≤ (watch_at w.lists.watches m).clause = subst (λ (x : Watch). 1 ≤ x.clause) e live in
+      let k = a.each m h before in
+      let g = moved_apart (watch_at w.lists.watches m).twin (twins_apart m h before f) in
       record {
         joined = rw e k.joined;
         clause = k.clause;
@@ -124,7 +130,7 @@ module _ (t : TrailState) (w : WatchedState) (n : ℕ) (clause : Clause) (l : Li
         twin = rw (e, same_length) k.twin;
         back = ap (λ (x : Watch). (watch_at moved x.twin).twin) e ∙ ap (λ (x : Watch). x.twin) g ∙ k.back;
         same = ap (λ (x : Watch). (watch_at moved x.twin).clause) e ∙ ap (λ (x : Watch). x.clause) g ∙ k.same ∙ ap (λ (x : Watch). x.clause) (sym e);
-        apart = rw (e, other_apart m h d f) k.apart;
+        apart = rw (e, other_apart m h before d f) k.apart;
       })
 
   -- the new literal isn't false by those that have been looked at and the next one
@@ -153,8 +159,18 @@ module _ (t : TrailState) (w : WatchedState) (n : ℕ) (clause : Clause) (l : Li
   settled_moved : (seen m : ℕ) → m < length w.lists.watches → (m ≡ n → ⊥) → (m ≡ twin → ⊥) → IsSettled t.clauses t.literals seen w.lists.watches m → IsSettled t.clauses t.literals seen moved m
   settled_moved seen m h d f s place c b e k =
       let g = moved_apart m d in
-      subst (λ (x : Lit). MakesUp t.literals (take (place + 1) t.literals) c x) (sym (other_apart m h d f))
-      (s place c b (e ∙ ap (λ (x : Watch). negation x.lit) g) (subst (λ (x : Watch). clause_numbered t.clauses x.clause ≡ Some c) g k))
+      let held_before = subst (λ (x : Watch). clause_numbered t.clauses x.clause ≡ Some c) g k in
+      subst (λ (x : Lit). MakesUp t.literals (take (place + 1) t.literals) c x) (sym (other_apart m h (live_of t.clauses (watch_at w.lists.watches m).clause c held_before) d f))
+      (s place c b (e ∙ ap (λ (x : Watch). negation x.lit) g) held_before)
+
+  -- what was looked at still is
+  looked_moved : (number : ℕ) → IsLookedAt w.short w.lists.watches number → IsLookedAt w.short moved number
+  looked_moved number looked = ⊎_elim (λ s. inl s) (λ s. inr (
+    s.0,
+    rw same_length s.1,
+    each_moved (λ m. (watch_at w.lists.watches m).clause ≡ number → (watch_at moved m).clause ≡ number)
+        (λ e. ap (λ (x : Watch). x.clause) moved_here ∙ e) (λ e. ap (λ (x : Watch). x.clause) (moved_apart twin twin_apart) ∙ e) (λ m h d f e. ap (λ (x : Watch). x.clause) (moved_apart m d) ∙ e) s.0 s.1 s.2,
+  )) looked
 
   pub watched_moves : (others : List ℕ) → AreWatched t (record w { lists = record w.lists { watches = moved; waiting = others } })
   watched_moves others = record {
@@ -164,13 +180,8 @@ module _ (t : TrailState) (w : WatchedState) (n : ℕ) (clause : Clause) (l : Li
     room_watches = a.room_watches;
     short = a.short;
     narrow = a.narrow;
-    all = λ number c. ⊎_elim (λ s. inl s) (λ s. inr (
-      s.0,
-      rw same_length s.1,
-      each_moved (λ m. (watch_at w.lists.watches m).clause ≡ number → (watch_at moved m).clause ≡ number)
-          (λ e. ap (λ (x : Watch). x.clause) moved_here ∙ e) (λ e. ap (λ (x : Watch). x.clause) (moved_apart twin twin_apart) ∙ e) (λ m h d f e. ap (λ (x : Watch). x.clause) (moved_apart m d) ∙ e) s.0 s.1 s.2,
-    )) (a.all number c);
-    each = λ m h. watch_moved m (rw (← same_length) h);
+    all = λ number c. covered_kept t.clauses t.clauses w.short w.short w.lists.watches moved number (front_itself t.clauses) (λ k looked. looked_moved k looked) (a.all number c);
+    each = λ m h live. watch_moved m (rw (← same_length) h) live;
     settled = λ m h. each_moved (λ m. IsSettled t.clauses t.literals w.seen moved m)
         (settled_here w.seen (omega arith)) (settled_there w.seen (omega arith)) (λ m h d f. settled_moved w.seen m h d f (a.settled m h)) m (rw (← same_length) h);
   }
@@ -194,8 +205,9 @@ pub contains_new : (att : List ℕ) (new : ℕ) → Contains (att ++ new ∷ [])
 contains_new att new = (length att, grind (arith, common_steps), grind (arith, common_steps))
 
 -- over a database that has grown, and fewer literals that have been looked at
-settled_front : (t : TrailState) (all : List Clause) (watches : List Watch) (seen fewer n : ℕ) → IsFront t.clauses all → fewer ≤ seen → IsWatch t.clauses t.attached watches n → IsSettled t.clauses t.literals seen watches n → IsSettled all t.literals fewer watches n
-settled_front t all watches seen fewer n f b here s place clause h e held =
+settled_front : (t : TrailState) (all : List Clause) (watches : List Watch) (seen fewer n : ℕ) → IsFront t.clauses all → fewer ≤ seen → (IsLive watches n → IsWatch t.clauses t.attached watches n) → IsSettled t.clauses t.literals seen watches n → IsSettled all t.literals fewer watches n
+settled_front t all watches seen fewer n f b watch s place clause h e held =
+    let here = watch (live_of all (watch_at watches n).clause clause held) in
     let q : here.clause ≡ clause = held_same all (watch_at watches n).clause here.clause clause (front_held t.clauses all (watch_at watches n).clause here.clause f here.held) held in
     subst (λ (c : Clause). MakesUp t.literals (take (place + 1) t.literals) c (other_literal watches n)) q (s place here.clause (omega arith) e here.held)
 
@@ -231,11 +243,11 @@ short_attached t w all new f room a narrow = record {
       (λ s. subst (λ (k : ℕ). IsShort all k) (sym s) narrow)
       (contains_split w.short new number c);
   all = λ number c. ⊎_elim
-      (λ s. ⊎_elim (λ q. inl (contains_more w.short new number q)) (λ q. inr q) (a.all number s))
-      (λ s. inl (subst (λ (k : ℕ). Contains (w.short ++ new ∷ []) k) (sym s) (contains_new w.short new)))
+      (λ s. covered_kept t.clauses all w.short (w.short ++ new ∷ []) w.lists.watches w.lists.watches number f (λ k looked. ⊎_elim (λ q. inl (contains_more w.short new k q)) (λ q. inr q) looked) (a.all number s))
+      (λ s. subst (λ (k : ℕ). IsCovered all (w.short ++ new ∷ []) w.lists.watches k) (sym s) (covered_itself all (w.short ++ new ∷ []) w.lists.watches new narrow.clause narrow.held (inl (contains_new w.short new))))
       (contains_split t.attached new number c);
-  each = λ n h. watch_front t all new w.lists.watches n f (a.each n h);
-  settled = λ n h. settled_front t all w.lists.watches w.seen w.seen n f (omega arith) (a.each n h) (a.settled n h);
+  each = λ n h live. watch_front t all new w.lists.watches n f (a.each n h live);
+  settled = λ n h. settled_front t all w.lists.watches w.seen w.seen n f (omega arith) (λ live. a.each n h live) (a.settled n h);
 }
 
 push_here : (watches : List Watch) (x : Watch) → watch_at (watches ++ x ∷ []) (length watches) ≡ x
@@ -285,15 +297,16 @@ module _ (t : TrailState) (w : WatchedState) (all : List Clause) (new : ℕ) (cl
       plus_one : count + 1 ≡ suc count
       plus_one = omega arith
 
-  other_kept : (m : ℕ) → m < count → other_literal paired m ≡ other_literal w.lists.watches m
-  other_kept m h = ap (λ (x : Watch). (watch_at paired x.twin).lit) (kept m h) ∙ ap (λ (x : Watch). x.lit) (kept (watch_at w.lists.watches m).twin (a.each m h).twin)
+  other_kept : (m : ℕ) → m < count → IsLive w.lists.watches m → other_literal paired m ≡ other_literal w.lists.watches m
+  other_kept m h live = ap (λ (x : Watch). (watch_at paired x.twin).lit) (kept m h) ∙ ap (λ (x : Watch). x.lit) (kept (watch_at w.lists.watches m).twin (a.each m h live).twin)
 
-  watch_paired : (m : ℕ) → m < length paired → IsWatch all (t.attached ++ new ∷ []) paired m
-  watch_paired = each_paired (λ m. IsWatch all (t.attached ++ new ∷ []) paired m)
-      (λ m h.
-      let k = watch_front t all new w.lists.watches m f (a.each m h) in
+  watch_paired : (m : ℕ) → m < length paired → IsLive paired m → IsWatch all (t.attached ++ new ∷ []) paired m
+  watch_paired = each_paired (λ m. IsLive paired m → IsWatch all (t.attached ++ new ∷ []) paired m)
+      (λ m h live.
       let e = kept m h in
-      let g = kept (watch_at w.lists.watches m).twin (a.each m h).twin in
+      let before : 1 ≤ (watch_at w.lists.watches m).clause = subst (λ (x : Watch). 1 ≤ x.clause) e live in
+      let k = watch_front t all new w.lists.watches m f (a.each m h before) in
+      let g = kept (watch_at w.lists.watches m).twin (a.each m h before).twin in
       record {
         joined = rw e k.joined;
         clause = k.clause;
@@ -302,9 +315,9 @@ module _ (t : TrailState) (w : WatchedState) (all : List Clause) (new : ℕ) (cl
         twin = let l = longer in let b = k.twin in rw e (omega arith);
         back = ap (λ (x : Watch). (watch_at paired x.twin).twin) e ∙ ap (λ (x : Watch). x.twin) g ∙ k.back;
         same = ap (λ (x : Watch). (watch_at paired x.twin).clause) e ∙ ap (λ (x : Watch). x.clause) g ∙ k.same ∙ ap (λ (x : Watch). x.clause) (sym e);
-        apart = rw (e, other_kept m h) k.apart;
+        apart = rw (e, other_kept m h before) k.apart;
       })
-      (record {
+      (λ live. record {
         joined = rw one (contains_new t.attached new);
         clause = clause;
         held = rw one held;
@@ -314,7 +327,7 @@ module _ (t : TrailState) (w : WatchedState) (all : List Clause) (new : ℕ) (cl
         same = ap (λ (x : Watch). (watch_at paired x.twin).clause) one ∙ ap (λ (x : Watch). x.clause) next ∙ ap (λ (x : Watch). x.clause) (sym one);
         apart = rw (one, other_one) two.apart;
       })
-      (record {
+      (λ live. record {
         joined = rw next (contains_new t.attached new);
         clause = clause;
         held = rw next held;
@@ -335,10 +348,18 @@ module _ (t : TrailState) (w : WatchedState) (all : List Clause) (new : ℕ) (cl
   settled_paired = each_paired (λ m. IsSettled all t.literals seen paired m)
       (λ m h place c b e k.
       let g = kept m h in
-      subst (λ (x : Lit). MakesUp t.literals (take (place + 1) t.literals) c x) (sym (other_kept m h))
-      (settled_front t all w.lists.watches w.seen seen m f fewer (a.each m h) (a.settled m h) place c b (e ∙ ap (λ (x : Watch). negation x.lit) g) (subst (λ (x : Watch). clause_numbered all x.clause ≡ Some c) g k)))
+      let held_before = subst (λ (x : Watch). clause_numbered all x.clause ≡ Some c) g k in
+      subst (λ (x : Lit). MakesUp t.literals (take (place + 1) t.literals) c x) (sym (other_kept m h (live_of all (watch_at w.lists.watches m).clause c held_before)))
+      (settled_front t all w.lists.watches w.seen seen m f fewer (λ live. a.each m h live) (a.settled m h) place c b (e ∙ ap (λ (x : Watch). negation x.lit) g) held_before))
       (λ place c b e k. absurd (first_stands place b (e ∙ ap (λ (x : Watch). negation x.lit) one)))
       (λ place c b e k. absurd (second_stands place b (e ∙ ap (λ (x : Watch). negation x.lit) next)))
+
+  -- what was looked at still is, and so is what is new
+  looked_paired : (number : ℕ) → IsLookedAt w.short w.lists.watches number → IsLookedAt w.short paired number
+  looked_paired number looked = ⊎_elim (λ q. inl q) (λ q. inr (q.0, let b = q.1 in let l = longer in omega arith, ap (λ (x : Watch). x.clause) (kept q.0 q.1) ∙ q.2)) looked
+
+  looked_new : IsLookedAt w.short paired new
+  looked_new = inr (count, let l = longer in omega arith, ap (λ (x : Watch). x.clause) one)
 
   pub watch_attached : AreWatched (with_attached_clause t all new) (record w { lists = with_watched_clause w.lists new first second; seen = seen })
   watch_attached = record {
@@ -349,8 +370,8 @@ module _ (t : TrailState) (w : WatchedState) (all : List Clause) (new : ℕ) (cl
     short = λ number c. contains_more t.attached new number (a.short number c);
     narrow = λ number c. short_front t.clauses all number f (a.narrow number c);
     all = λ number c. ⊎_elim
-        (λ s. ⊎_elim (λ q. inl q) (λ q. inr (q.0, let b = q.1 in let l = longer in omega arith, ap (λ (x : Watch). x.clause) (kept q.0 q.1) ∙ q.2)) (a.all number s))
-        (λ s. inr (count, let l = longer in omega arith, ap (λ (x : Watch). x.clause) one ∙ sym s))
+        (λ s. covered_kept t.clauses all w.short w.short w.lists.watches paired number f (λ k looked. looked_paired k looked) (a.all number s))
+        (λ s. subst (λ (k : ℕ). IsCovered all w.short paired k) (sym s) (covered_itself all w.short paired new clause held looked_new))
         (contains_split t.attached new number c);
     each = watch_paired;
     settled = settled_paired;
@@ -370,8 +391,9 @@ module _ (t : TrailState) (w : WatchedState) (all : List Clause) (new : ℕ) (cl
     settled_before : (m : ℕ) → m < count → IsSettled all t.literals w.seen paired m
     settled_before m h place c b e k =
         let g = kept m h in
-        subst (λ (x : Lit). MakesUp t.literals (take (place + 1) t.literals) c x) (sym (other_kept m h))
-        (settled_front t all w.lists.watches w.seen w.seen m f (omega arith) (a.each m h) (a.settled m h) place c b (e ∙ ap (λ (x : Watch). negation x.lit) g) (subst (λ (x : Watch). clause_numbered all x.clause ≡ Some c) g k))
+        let held_before = subst (λ (x : Watch). clause_numbered all x.clause ≡ Some c) g k in
+        subst (λ (x : Lit). MakesUp t.literals (take (place + 1) t.literals) c x) (sym (other_kept m h (live_of all (watch_at w.lists.watches m).clause c held_before)))
+        (settled_front t all w.lists.watches w.seen w.seen m f (omega arith) (λ live. a.each m h live) (a.settled m h) place c b (e ∙ ap (λ (x : Watch). negation x.lit) g) held_before)
 
     made_up : (place : ℕ) (c : Clause) → place < w.seen → seen ≤ place → clause ≡ c → MakesUp more (take (place + 1) more) c first
     made_up place c b after q =
@@ -430,14 +452,14 @@ found t all n s f c =
 -- a literal of a watched clause has a list
 pub among_known : (t : TrailState) (w : WatchedState) (n : ℕ) (clause : Clause) (l : Lit) → IsTrailState t → AreWatched t w → n < length w.lists.watches → clause_numbered t.clauses (watch_at w.lists.watches n).clause ≡ Some clause → list_any (same_literal l) clause ≡ true → l.var < w.lists.vars
 among_known t w n clause l s a h held among =
-    let k = known_at t.clauses t.attached t.vars (watch_at w.lists.watches n).clause s.known (a.each n h).joined in
+    let k = known_at t.clauses t.attached t.vars (watch_at w.lists.watches n).clause s.known (a.each n h (live_of t.clauses (watch_at w.lists.watches n).clause clause held)).joined in
     let e = held_same t.clauses (watch_at w.lists.watches n).clause k.clause clause k.held held in
     let b = below_at t.vars clause l (subst (λ (c : Clause). HasValues t.vars c) e k.known) among in
     let v = a.vars in
     omega arith
 
-pub lit_known : (t : TrailState) (w : WatchedState) (n : ℕ) → IsTrailState t → AreWatched t w → n < length w.lists.watches → (watch_at w.lists.watches n).lit.var < w.lists.vars
-lit_known t w n s a h = let k = a.each n h in among_known t w n k.clause (watch_at w.lists.watches n).lit s a h k.held k.among
+pub lit_known : (t : TrailState) (w : WatchedState) (n : ℕ) → IsTrailState t → AreWatched t w → n < length w.lists.watches → IsLive w.lists.watches n → (watch_at w.lists.watches n).lit.var < w.lists.vars
+lit_known t w n s a h live = let k = a.each n h live in among_known t w n k.clause (watch_at w.lists.watches n).lit s a h k.held k.among
 
 -- a forced literal that is false leaves the clause false
 pub forced_false : (literals : List Lit) (clause : Clause) (l : Lit) → AreConsistent literals → is_forced_by literals l clause ≡ true → is_false literals l ≡ true → standing literals clause ≡ falsified
@@ -464,9 +486,9 @@ watched_waits t w lists a e v s = record {
 pub put_same : (watches : List Watch) (n : ℕ) → n < length watches → slice_set watches n (watching (watch_at watches n) (watch_at watches n).lit) ≡ watches
 put_same watches n h = grind (arith, common_steps)
 
--- where all wait that watch the literal that becomes false, the others are settled by it
-pub visited_begins : (t : TrailState) (w : WatchedState) (l : Lit) → AreWatched t w → literal_at t.literals w.seen ≡ negation l → ((n : ℕ) → n < length w.lists.watches → (watch_at w.lists.watches n).lit ≡ l → is_among n w.lists.waiting ≡ true) → AreVisited t w
-visited_begins t w l a falls waits n h f = settled_apart t.clauses t.literals w.seen w.lists.watches n l (a.settled n h) falls (λ e. not_both _ (waits n h e) f)
+-- where all wait that watch the literal that becomes false and weren't dropped, the others are settled by it
+pub visited_begins : (t : TrailState) (w : WatchedState) (l : Lit) → AreWatched t w → literal_at t.literals w.seen ≡ negation l → ((n : ℕ) → n < length w.lists.watches → IsLive w.lists.watches n → (watch_at w.lists.watches n).lit ≡ l → is_among n w.lists.waiting ≡ true) → AreVisited t w
+visited_begins t w l a falls waits n h f = settled_live t.clauses t.literals (w.seen + 1) w.lists.watches n (λ live. settled_apart t.clauses t.literals w.seen w.lists.watches n l (a.settled n h) falls (λ e. not_both _ (waits n h live e) f))
 
 -- and where none waits any more, all are
 pub visited_ends : (t : TrailState) (w : WatchedState) → AreWatched t w → AreVisited t w → w.lists.waiting ≡ [] → w.seen < length t.literals → AreWatched t (record w { seen = w.seen + 1 })
@@ -545,29 +567,29 @@ judged_forced old new w n clause l id k b a h held forced t = ⊎_elim
 -- ---- another literal was looked for, or the other one was made true
 
 -- the clause has the other literal
-pub other_has : (t : TrailState) (w : WatchedState) (n : ℕ) → AreWatched t w → n < length w.lists.watches → IfSome (clause_numbered t.clauses (watch_at w.lists.watches n).clause) (λ clause. list_any (same_literal (other_literal w.lists.watches n)) clause ≡ true)
-other_has t w n a h =
-    let here = a.each n h in
-    let there = a.each (watch_at w.lists.watches n).twin here.twin in
+pub other_has : (t : TrailState) (w : WatchedState) (n : ℕ) → AreWatched t w → n < length w.lists.watches → IsLive w.lists.watches n → IfSome (clause_numbered t.clauses (watch_at w.lists.watches n).clause) (λ clause. list_any (same_literal (other_literal w.lists.watches n)) clause ≡ true)
+other_has t w n a h live =
+    let here = a.each n h live in
+    let there = a.each (watch_at w.lists.watches n).twin here.twin (twin_live t.clauses t.attached w.lists.watches n here live) in
     subst (λ (o : Option Clause). IfSome o (λ clause. list_any (same_literal (other_literal w.lists.watches n)) clause ≡ true)) (sym here.held) (other_among t w.lists.watches n here there)
 
-judged_replaced : (old new : TrailState) (w : WatchedState) (n : ℕ) (result : Judged) → IsKeptOr old new (other_literal w.lists.watches n) (watch_at w.lists.watches n).clause → w.seen < length old.literals → AreWatched old w → n < length w.lists.watches
+judged_replaced : (old new : TrailState) (w : WatchedState) (n : ℕ) (result : Judged) → IsKeptOr old new (other_literal w.lists.watches n) (watch_at w.lists.watches n).clause → w.seen < length old.literals → AreWatched old w → n < length w.lists.watches → IsLive w.lists.watches n
     → literal_at old.literals w.seen ≡ negation (watch_at w.lists.watches n).lit → IsReplaced old new (watch_at w.lists.watches n).clause (other_literal w.lists.watches n) w.seen result → IsJudgedWatch new w n result
-judged_replaced old new w n Stays k b a h falls r =
-    let here = a.each n h in
+judged_replaced old new w n Stays k b a h live falls r =
+    let here = a.each n h live in
     let forced = subst (λ (o : Option Clause). IfSome o (λ clause. is_forced_by (take (w.seen + 1) old.literals) (other_literal w.lists.watches n) clause ≡ true)) here.held r.0 in
     judged_forced old new w n here.clause (other_literal w.lists.watches n) (watch_at w.lists.watches n).clause k b a h here.held forced r.1
-judged_replaced old new w n (Moves l) k b a h falls r =
-    let here = a.each n h in
+judged_replaced old new w n (Moves l) k b a h live falls r =
+    let here = a.each n h live in
     let found = subst (λ (o : Option Clause). IfSome o (λ clause. IsReplacement old.literals clause (other_literal w.lists.watches n) w.seen l)) here.held r.1 in
     subst (λ (t : TrailState). IsJudgedWatch t w n (Moves l)) (sym r.0) (falls, (here.clause, here.held, found))
-judged_replaced old new w n False k b a h falls r = r
+judged_replaced old new w n False k b a h live falls r = r
 
 -- what becomes of a watch, as it and the other literal were read
-pub judged_read : (old new : TrailState) (w : WatchedState) (n : ℕ) (watch : Watch) (other : Lit) (result : Judged) → watch ≡ watch_at w.lists.watches n → other ≡ other_literal w.lists.watches n → IsKeptOr old new other watch.clause → w.seen < length old.literals → AreWatched old w → n < length w.lists.watches
+pub judged_read : (old new : TrailState) (w : WatchedState) (n : ℕ) (watch : Watch) (other : Lit) (result : Judged) → watch ≡ watch_at w.lists.watches n → other ≡ other_literal w.lists.watches n → IsKeptOr old new other watch.clause → w.seen < length old.literals → AreWatched old w → n < length w.lists.watches → IsLive w.lists.watches n
     → literal_at old.literals w.seen ≡ negation watch.lit → IsReplaced old new watch.clause other w.seen result → IsJudgedWatch new w n result
-judged_read old new w n watch other result e f k b a h falls r = judged_replaced old new w n result
-    (subst (λ (l : Lit). IsKeptOr old new l (watch_at w.lists.watches n).clause) f (subst (λ (x : Watch). IsKeptOr old new other x.clause) e k)) b a h (falls ∙ ap (λ (x : Watch). negation x.lit) e)
+judged_read old new w n watch other result e f k b a h live falls r = judged_replaced old new w n result
+    (subst (λ (l : Lit). IsKeptOr old new l (watch_at w.lists.watches n).clause) f (subst (λ (x : Watch). IsKeptOr old new other x.clause) e k)) b a h live (falls ∙ ap (λ (x : Watch). negation x.lit) e)
     (subst (λ (l : Lit). IsReplaced old new (watch_at w.lists.watches n).clause l w.seen result) f (subst (λ (x : Watch). IsReplaced old new x.clause other w.seen result) e r))
 
 -- ---- what becomes of the next watch that waits
@@ -650,3 +672,157 @@ visits_same t after old w now p e short seen a = record {
   short = short ∙ ap (λ (s : WatchedState). s.short) e;
   seen = seen ∙ ap (λ (s : WatchedState). s.seen) e;
 }
+
+-- ---- a watch that was dropped waits no more
+
+pub look_forgets : (t : TrailState) (w : WatchedState) (lists : WatchState) (n : ℕ) → IsLastWaiting w.lists n → AreWatched t w → ForgetsWatch w.lists lists → AreWatched t (record w { lists = lists })
+look_forgets t w lists n x a p =
+    let e = p x.others n x.last in
+    watched_waits t w lists a (ap (λ (s : WatchState). s.watches) e) (ap (λ (s : WatchState). s.vars) e) (ap (λ (s : WatchState). s.spare) e)
+
+pub look_forgets_visited : (t : TrailState) (w : WatchedState) (lists : WatchState) (n : ℕ) → IsLastWaiting w.lists n → (watch_at w.lists.watches n).clause ≡ 0 → ForgetsWatch w.lists lists → AreVisited t w → AreVisited t (record w { lists = lists })
+look_forgets_visited t w lists n x gone p v =
+    subst (λ (s : WatchState). AreVisited t (record w { lists = s })) (sym (p x.others n x.last))
+    (visited_stays t w x.others n x.last v (settled_live t.clauses t.literals (w.seen + 1) w.lists.watches n (λ live. let l : 1 ≤ (watch_at w.lists.watches n).clause = live in absurd (omega arith))))
+
+-- ---- a clause is no longer watched that another one subsumes which is
+
+module _ (t : TrailState) (w : WatchedState) (older newer : ℕ) (a : AreWatched t w) (older_within : older < length w.lists.watches) (older_live : IsLive w.lists.watches older) (newer_within : newer < length w.lists.watches)
+    (apart : (watch_at w.lists.watches newer).clause ≡ (watch_at w.lists.watches older).clause → ⊥) (s : Subsumes t.clauses (watch_at w.lists.watches newer).clause (watch_at w.lists.watches older).clause) where
+  gone : IsWatch t.clauses t.attached w.lists.watches older
+  gone = a.each older older_within older_live
+
+  abbrev pub gone_twin : ℕ
+  gone_twin = (watch_at w.lists.watches older).twin
+
+  abbrev pub one_left : List Watch
+  one_left = with_dropped w.lists.watches older
+
+  abbrev pub left : List Watch
+  left = without_clause w.lists.watches older
+
+  twin_within : gone_twin < length one_left
+  twin_within = subst (λ (k : ℕ). gone_twin < k) (sym (drop_length w.lists.watches older)) gone.twin
+
+  left_length : length left ≡ length w.lists.watches
+  left_length = drop_length one_left gone_twin ∙ drop_length w.lists.watches older
+
+  left_lit : (m : ℕ) → (watch_at left m).lit ≡ (watch_at w.lists.watches m).lit
+  left_lit m = drop_lit one_left gone_twin m twin_within ∙ drop_lit w.lists.watches older m older_within
+
+  left_twin : (m : ℕ) → (watch_at left m).twin ≡ (watch_at w.lists.watches m).twin
+  left_twin m = drop_twin one_left gone_twin m twin_within ∙ drop_twin w.lists.watches older m older_within
+
+  left_other : (m : ℕ) → other_literal left m ≡ other_literal w.lists.watches m
+  left_other m = left_lit (watch_at left m).twin ∙ ap (λ (k : ℕ). (watch_at w.lists.watches k).lit) (left_twin m)
+
+  -- those that are left
+  left_apart : (m : ℕ) → IsLive left m → m ≡ older → ⊥
+  left_apart m live = drop_other w.lists.watches older m older_within (drop_live one_left gone_twin m twin_within live)
+
+  left_twin_apart : (m : ℕ) → IsLive left m → m ≡ gone_twin → ⊥
+  left_twin_apart m live = drop_other one_left gone_twin m twin_within live
+
+  left_clause : (m : ℕ) → (m ≡ older → ⊥) → (m ≡ gone_twin → ⊥) → (watch_at left m).clause ≡ (watch_at w.lists.watches m).clause
+  left_clause m d f = ap (λ (x : Watch). x.clause) (drop_apart one_left gone_twin m f ∙ drop_apart w.lists.watches older m d)
+
+  live_before : (m : ℕ) → IsLive left m → IsLive w.lists.watches m
+  live_before m live = drop_live w.lists.watches older m older_within (drop_live one_left gone_twin m twin_within live)
+
+  watch_left : (m : ℕ) → m < length w.lists.watches → IsLive left m → IsWatch t.clauses t.attached left m
+  watch_left m h live =
+      let k = a.each m h (live_before m live) in
+      let d = left_apart m live in
+      let f = left_twin_apart m live in
+      let c = left_clause m d f in
+      let d2 : (watch_at w.lists.watches m).twin ≡ older → ⊥ = λ e. f (sym k.back ∙ ap (λ (x : ℕ). (watch_at w.lists.watches x).twin) e) in
+      let f2 : (watch_at w.lists.watches m).twin ≡ gone_twin → ⊥ = λ e. d (sym k.back ∙ ap (λ (x : ℕ). (watch_at w.lists.watches x).twin) e ∙ gone.back) in
+      record {
+        joined = subst (λ (x : ℕ). Contains t.attached x) (sym c) k.joined;
+        clause = k.clause;
+        held = subst (λ (x : ℕ). clause_numbered t.clauses x ≡ Some k.clause) (sym c) k.held;
+        among = subst (λ (x : Lit). list_any (same_literal x) k.clause ≡ true) (sym (left_lit m)) k.among;
+        twin = subst (λ (x : ℕ). x < length left) (sym (left_twin m)) (subst (λ (x : ℕ). (watch_at w.lists.watches m).twin < x) (sym left_length) k.twin);
+        back = left_twin (watch_at left m).twin ∙ ap (λ (x : ℕ). (watch_at w.lists.watches x).twin) (left_twin m) ∙ k.back;
+        same = ap (λ (x : ℕ). (watch_at left x).clause) (left_twin m) ∙ left_clause (watch_at w.lists.watches m).twin d2 f2 ∙ k.same ∙ sym c;
+        apart = subst (λ (x : Lit). same_literal x (other_literal left m) ≡ false) (sym (left_lit m)) (subst (λ (x : Lit). same_literal (watch_at w.lists.watches m).lit x ≡ false) (sym (left_other m)) k.apart);
+      }
+
+  settled_left : (m : ℕ) → m < length w.lists.watches → IsLive left m → IsSettled t.clauses t.literals w.seen left m
+  settled_left m h live place c b e held =
+      subst (λ (x : Lit). MakesUp t.literals (take (place + 1) t.literals) c x) (sym (left_other m))
+      (a.settled m h place c b (e ∙ ap negation (left_lit m)) (subst (λ (x : ℕ). clause_numbered t.clauses x ≡ Some c) (left_clause m (left_apart m live) (left_twin_apart m live)) held))
+
+  -- the newer clause takes the older one's place
+  newer_looked : IsLookedAt w.short left (watch_at w.lists.watches newer).clause
+  newer_looked = inr (
+    newer,
+    subst (λ (k : ℕ). newer < k) (sym left_length) newer_within,
+    left_clause newer (λ e. apart (ap (λ (k : ℕ). (watch_at w.lists.watches k).clause) e)) (λ e. apart (ap (λ (k : ℕ). (watch_at w.lists.watches k).clause) e ∙ gone.same)),
+  )
+
+  covered_anew : (cover number : ℕ) → Subsumes t.clauses cover number → (watch_at w.lists.watches older).clause ≡ cover → IsCovered t.clauses w.short left number
+  covered_anew cover number q e = record {
+    cover = (watch_at w.lists.watches newer).clause;
+    looked = newer_looked;
+    subsumes = subsumes_trans t.clauses (watch_at w.lists.watches newer).clause cover number (subst (λ (k : ℕ). Subsumes t.clauses (watch_at w.lists.watches newer).clause k) e s) q;
+  }
+
+  covered_still : (cover number : ℕ) → Subsumes t.clauses cover number → IsLookedAt w.short left cover → IsCovered t.clauses w.short left number
+  covered_still cover number q l = record { cover = cover; looked = l; subsumes = q }
+
+  covered_left : (number : ℕ) → IsCovered t.clauses w.short w.lists.watches number → IsCovered t.clauses w.short left number
+  covered_left number c = ⊎_elim
+      (λ q. covered_still c.cover number c.subsumes (inl q))
+      (λ q. ⊎_elim
+      (λ e. covered_anew c.cover number c.subsumes (ap (λ (k : ℕ). (watch_at w.lists.watches k).clause) (sym e) ∙ q.2))
+      (λ d. ⊎_elim
+      (λ e. covered_anew c.cover number c.subsumes (sym gone.same ∙ ap (λ (k : ℕ). (watch_at w.lists.watches k).clause) (sym e) ∙ q.2))
+      (λ f. covered_still c.cover number c.subsumes (inr (q.0, subst (λ (k : ℕ). q.0 < k) (sym left_length) q.1, left_clause q.0 d f ∙ q.2)))
+      (cases_eq q.0 gone_twin))
+      (cases_eq q.0 older))
+      c.looked
+
+  pub watched_without : AreWatched t (record w { lists = record w.lists { watches = left } })
+  watched_without = record {
+    front = a.front;
+    vars = a.vars;
+    room_short = a.room_short;
+    room_watches = a.room_watches;
+    short = a.short;
+    narrow = a.narrow;
+    all = λ number c. covered_left number (a.all number c);
+    each = λ m h live. watch_left m (subst (λ (k : ℕ). m < k) left_length h) live;
+    settled = λ m h. settled_live t.clauses t.literals w.seen left m (λ live. settled_left m (subst (λ (k : ℕ). m < k) left_length h) live);
+  }
+
+-- what the clauses of two numbers say, of which both are held
+read_both : (cs : List Clause) (x y : ℕ) (part whole : Clause) (P : Clause → Clause → Type 0) → clause_numbered cs x ≡ Some part → clause_numbered cs y ≡ Some whole →
+    IfSome (clause_numbered cs x) (λ p. IfSome (clause_numbered cs y) (λ q. P p q)) → P part whole
+read_both cs x y part whole P e f h = subst (λ (o : Option Clause). IfSome o (λ q. P part q)) f (subst (λ (o : Option Clause). IfSome o (λ p. IfSome (clause_numbered cs y) (λ q. P p q))) e h)
+
+-- whether the newer clause subsumes the older one, by what was read of them
+pub subsumed_read : (t : TrailState) (w : WatchedState) (all : List Clause) (older newer inner outer : ℕ) (b : Bool) → IsFront t.clauses all → AreWatched t w →
+    older < length w.lists.watches → IsLive w.lists.watches older → (watch_at w.lists.watches older).clause ≡ outer →
+    newer < length w.lists.watches → IsLive w.lists.watches newer → (watch_at w.lists.watches newer).clause ≡ inner →
+    (IsTrue b → inner ≢ outer) → (inner ≢ outer → IfSome (clause_numbered all inner) (λ part. IfSome (clause_numbered all outer) (λ whole. b ≡ is_part_of part whole))) →
+    IsTrue b ↔ IsSubsumed t.clauses w.lists.watches older newer
+subsumed_read t w all older newer inner outer b f a h l d k m e another part =
+    let one = a.each newer k m in
+    let two = a.each older h l in
+    let held1 : clause_numbered all inner ≡ Some one.clause = subst (λ (n : ℕ). clause_numbered all n ≡ Some one.clause) e (front_held t.clauses all (watch_at w.lists.watches newer).clause one.clause f one.held) in
+    let held2 : clause_numbered all outer ≡ Some two.clause = subst (λ (n : ℕ). clause_numbered all n ≡ Some two.clause) d (front_held t.clauses all (watch_at w.lists.watches older).clause two.clause f two.held) in
+    let says : inner ≢ outer → b ≡ is_part_of one.clause two.clause = λ n. read_both all inner outer one.clause two.clause (λ p q. b ≡ is_part_of p q) held1 held2 (part n) in (
+      (λ yes. record {
+        older_within = h;
+        newer_within = k;
+        older_live = l;
+        newer_live = m;
+        apart = λ q. another yes (sym e ∙ q ∙ d);
+        subsumes = record { inner_clause = one.clause; inner_held = one.held; outer_clause = two.clause; outer_held = two.held; part = sym (says (another yes)) ∙ yes };
+      }),
+      (λ s.
+          let p = held_same t.clauses (watch_at w.lists.watches newer).clause s.subsumes.inner_clause one.clause s.subsumes.inner_held one.held in
+          let q = held_same t.clauses (watch_at w.lists.watches older).clause s.subsumes.outer_clause two.clause s.subsumes.outer_held two.held in
+          says (λ n. s.apart (e ∙ n ∙ sym d)) ∙ subst (λ (c : Clause). is_part_of one.clause c ≡ true) q (subst (λ (c : Clause). is_part_of c s.subsumes.outer_clause ≡ true) p s.subsumes.part)),
+    )

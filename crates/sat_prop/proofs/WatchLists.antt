@@ -16,8 +16,9 @@ use Rattle.prop_core.proofs.Literals.{same_is}
 use Rattle.sat_prop.specs.declared.watch_lists.Watch.{Watch}
 use Rattle.sat_prop.specs.declared.watch_lists.Starts.{Starts}
 use Rattle.sat_prop.specs.declared.watch_lists.TheConstants.{NO_WATCH}
-use Rattle.sat_prop.specs.Watches.{AreWatchLists, IsLastWaiting, Links, is_among, watch_at, no_watch, watching, as_link, start_of, with_start, empty, no_starts}
+use Rattle.sat_prop.specs.Watches.{AreWatchLists, IsLastWaiting, IsLive, Links, is_among, watch_at, no_watch, watching, with_dropped, as_link, start_of, with_start, empty, no_starts}
 use Rattle.sat_prop.proofs.Links.{among_itself, among_later, among_last, among_others, among_more, not_both, links_apart, links_more, links_below, links_distinct, start_set, start_kept}
+use Rattle.sat_prop.proofs.Dropping.{drop_length, drop_lit, drop_live}
 
 no_number : (n : ℕ) → is_among n [] ≡ true → ⊥
 no_number n h = cc
@@ -30,7 +31,7 @@ no_lists = record {
   lists = λ l. [];
   linked = λ l h. absurd (omega (arith, h));
   own = λ l n h a. absurd (no_number n a);
-  placed = λ n h a. absurd (omega (arith, h));
+  placed = λ n h live a. absurd (omega (arith, h));
   known = λ n h. absurd (omega (arith, h));
   once = tt;
   below = λ n a. absurd (no_number n a);
@@ -49,6 +50,9 @@ each_list lists l numbers P k f g = ⊎_elim
     (cases_Bool (same_literal k l))
 
 -- ---- one that waits watches a literal
+
+not_last : (m n : ℕ) (others : List ℕ) → (m ≡ n → ⊥) → is_among m others ≡ false → is_among m (others ++ n ∷ []) ≡ false
+not_last m n others d f = let q = ne_eqb m n d in list_any-append (nat_eq m) others (n ∷ []) ∙ rw (f, q) refl
 
 apart_last : (x n : ℕ) (xs : List ℕ) → AllByRecursion (λ y. nat_eq x y ≡ false) (xs ++ n ∷ []) → eqb x n ≡ false
 apart_last x n [] h = h.0
@@ -110,10 +114,11 @@ module _ (watches : List Watch) (nexts : List (Option ℕ)) (starts : List Start
       let g : get_or put_watches n no_watch ≡ watching (watch_at watches n) l = grind (arith, common_steps) in
       ap (λ (w : Watch). w.lit) g
 
+  same_elsewhere : (m : ℕ) → (m ≡ n → ⊥) → watch_at put_watches m ≡ watch_at watches m
+  same_elsewhere m d = grind (arith, common_steps)
+
   lit_elsewhere : (m : ℕ) → (m ≡ n → ⊥) → (watch_at put_watches m).lit ≡ (watch_at watches m).lit
-  lit_elsewhere m d =
-      let g : get_or put_watches m no_watch ≡ get_or watches m no_watch = grind (arith, common_steps) in
-      ap (λ (w : Watch). w.lit) g
+  lit_elsewhere m d = ap (λ (w : Watch). w.lit) (same_elsewhere m d)
 
   own : (k : Lit) (m : ℕ) → k.var < length put_starts → is_among m (put_list k) ≡ true → ((watch_at put_watches m).lit ≡ k) × (is_among m others ≡ false)
   own k m h = each_list a.lists l (n ∷ a.lists l) (λ x numbers. is_among m numbers ≡ true → ((watch_at put_watches m).lit ≡ x) × (is_among m others ≡ false)) k
@@ -133,22 +138,19 @@ module _ (watches : List Watch) (nexts : List (Option ℕ)) (starts : List Start
           let f = among_others m n others o.1 in
           (lit_elsewhere m (eqb-false m n f.0) ∙ o.0, f.1)
 
-  placed : (m : ℕ) → m < length put_watches → is_among m others ≡ false → is_among m (put_list (watch_at put_watches m).lit) ≡ true
-  placed m h f = ⊎_elim
+  placed : (m : ℕ) → m < length put_watches → IsLive put_watches m → is_among m others ≡ false → is_among m (put_list (watch_at put_watches m).lit) ≡ true
+  placed m h live f = ⊎_elim
       (λ e. subst (λ (i : ℕ). is_among i (put_list (watch_at put_watches i).lit) ≡ true) (sym e)
       (subst (λ (x : Lit). is_among n (put_list x) ≡ true) (sym lit_here)
       (each_list a.lists l (n ∷ a.lists l) (λ x numbers. is_among n numbers ≡ true) l (λ e. among_itself n (a.lists l)) (λ d. absurd (not_both _ (same_itself l) d)))))
       (λ d. let w : m < length watches = grind (arith, common_steps) in
-      let g : is_among m (others ++ n ∷ []) ≡ false = not_waiting m d f in
-      let r = a.placed m w g in
+      let g : is_among m (others ++ n ∷ []) ≡ false = not_last m n others d f in
+      let r = a.placed m w (subst (λ (x : Watch). 1 ≤ x.clause) (same_elsewhere m d) live) g in
       subst (λ (x : Lit). is_among m (put_list x) ≡ true) (sym (lit_elsewhere m d))
       (each_list a.lists l (n ∷ a.lists l) (λ x numbers. is_among m numbers ≡ true) (watch_at watches m).lit
       (λ e. among_later m n (a.lists l) (subst (λ (x : Lit). is_among m (a.lists x) ≡ true) e r))
       (λ q. r)))
       (cases_eq m n)
-    where
-      not_waiting : (m : ℕ) → (m ≡ n → ⊥) → is_among m others ≡ false → is_among m (others ++ n ∷ []) ≡ false
-      not_waiting m d f = let q = ne_eqb m n d in list_any-append (nat_eq m) others (n ∷ []) ∙ rw (f, q) refl
 
   pub lists_put : AreWatchLists put_watches put_nexts put_starts others
   lists_put = record {
@@ -166,6 +168,40 @@ module _ (watches : List Watch) (nexts : List (Option ℕ)) (starts : List Start
     once = others_distinct others n a.once;
     below = λ m t. let b = a.below m (among_more m n others t) in grind (arith, common_steps);
   }
+
+-- ---- the last of those that wait was dropped, and is put nowhere
+
+pub lists_forgotten : (watches : List Watch) (nexts : List (Option ℕ)) (starts : List Starts) (others : List ℕ) (n : ℕ) → AreWatchLists watches nexts starts (others ++ n ∷ []) → (watch_at watches n).clause ≡ 0 → AreWatchLists watches nexts starts others
+lists_forgotten watches nexts starts others n a gone = record {
+  same = a.same;
+  lists = a.lists;
+  linked = a.linked;
+  own = λ k m h t. let o = a.own k m h t in (o.0, (among_others m n others o.1).1);
+  placed = λ m h live f. ⊎_elim
+      (λ e. let z : (watch_at watches m).clause ≡ 0 = ap (λ (k : ℕ). (watch_at watches k).clause) e ∙ gone in let l : 1 ≤ (watch_at watches m).clause = live in absurd (omega arith))
+      (λ d. a.placed m h live (not_last m n others d f))
+      (cases_eq m n);
+  known = a.known;
+  once = others_distinct others n a.once;
+  below = λ m t. a.below m (among_more m n others t);
+}
+
+-- ---- a watch is dropped
+
+pub lists_dropped : (watches : List Watch) (nexts : List (Option ℕ)) (starts : List Starts) (waiting : List ℕ) (n : ℕ) → n < length watches → AreWatchLists watches nexts starts waiting → AreWatchLists (with_dropped watches n) nexts starts waiting
+lists_dropped watches nexts starts waiting n w a = record {
+  same = a.same ∙ sym (drop_length watches n);
+  lists = a.lists;
+  linked = a.linked;
+  own = λ k m h t. let o = a.own k m h t in (drop_lit watches n m w ∙ o.0, o.1);
+  placed = λ m h live f. subst (λ (x : Lit). is_among m (a.lists x) ≡ true) (sym (drop_lit watches n m w)) (a.placed m (still m h) (drop_live watches n m w live) f);
+  known = λ m h. subst (λ (x : Lit). x.var < length starts) (sym (drop_lit watches n m w)) (a.known m (still m h));
+  once = a.once;
+  below = λ m t. subst (λ (k : ℕ). m < k) (sym (drop_length watches n)) (a.below m t);
+}
+  where
+    still : (m : ℕ) → m < length (with_dropped watches n) → m < length watches
+    still m h = subst (λ (k : ℕ). m < k) (drop_length watches n) h
 
 -- ---- a new watch
 
@@ -209,8 +245,11 @@ module _ (watches : List Watch) (nexts : List (Option ℕ)) (starts : List Start
   lit_added : (watch_at pushed_watches added).lit ≡ w.lit
   lit_added = let g : get_or pushed_watches added no_watch ≡ w = grind (arith, common_steps) in ap (λ (x : Watch). x.lit) g
 
+  same_before : (m : ℕ) → m < added → watch_at pushed_watches m ≡ watch_at watches m
+  same_before m h = grind (arith, common_steps)
+
   lit_before : (m : ℕ) → m < added → (watch_at pushed_watches m).lit ≡ (watch_at watches m).lit
-  lit_before m h = let g : get_or pushed_watches m no_watch ≡ get_or watches m no_watch = grind (arith, common_steps) in ap (λ (x : Watch). x.lit) g
+  lit_before m h = ap (λ (x : Watch). x.lit) (same_before m h)
 
   own_before : (x : Lit) (m : ℕ) → x.var < length starts → is_among m (a.lists x) ≡ true → ((watch_at pushed_watches m).lit ≡ x) × (is_among m waiting ≡ false)
   own_before x m h t =
@@ -228,13 +267,13 @@ module _ (watches : List Watch) (nexts : List (Option ℕ)) (starts : List Start
       (or_cases (nat_eq m added) (is_among m (a.lists w.lit)) t))
       (λ d t. own_before k m (known_before k h) t)
 
-  pushed_placed : (m : ℕ) → m < length pushed_watches → is_among m waiting ≡ false → is_among m (pushed_list (watch_at pushed_watches m).lit) ≡ true
-  pushed_placed m h f = ⊎_elim
+  pushed_placed : (m : ℕ) → m < length pushed_watches → IsLive pushed_watches m → is_among m waiting ≡ false → is_among m (pushed_list (watch_at pushed_watches m).lit) ≡ true
+  pushed_placed m h live f = ⊎_elim
       (λ e. subst (λ (i : ℕ). is_among i (pushed_list (watch_at pushed_watches i).lit) ≡ true) (sym e)
       (subst (λ (x : Lit). is_among added (pushed_list x) ≡ true) (sym lit_added)
       (each_list a.lists w.lit (added ∷ a.lists w.lit) (λ x numbers. is_among added numbers ≡ true) w.lit (λ e. among_itself added (a.lists w.lit)) (λ d. absurd (not_both _ (same_itself w.lit) d)))))
       (λ d. let b : m < added = let n : m < added + 1 = grind (arith, common_steps) in omega arith in
-      let r = a.placed m b f in
+      let r = a.placed m b (subst (λ (x : Watch). 1 ≤ x.clause) (same_before m b) live) f in
       subst (λ (x : Lit). is_among m (pushed_list x) ≡ true) (sym (lit_before m b))
       (each_list a.lists w.lit (added ∷ a.lists w.lit) (λ x numbers. is_among m numbers ≡ true) (watch_at watches m).lit
       (λ e. among_later m added (a.lists w.lit) (subst (λ (x : Lit). is_among m (a.lists x) ≡ true) e r))
@@ -307,10 +346,10 @@ module _ (watches : List Watch) (nexts : List (Option ℕ)) (starts : List Start
   pub all_few : length (waiting ++ a.lists l) ≤ length watches
   all_few = length-le_from_distinct_below (waiting ++ a.lists l) (length watches) all_distinct all_below
 
-  pub all_wait : (m : ℕ) → m < length watches → (watch_at watches m).lit ≡ l → is_among m (waiting ++ a.lists l) ≡ true
-  all_wait m h e = list_any-append (nat_eq m) waiting (a.lists l) ∙ ⊎_elim
+  pub all_wait : (m : ℕ) → m < length watches → IsLive watches m → (watch_at watches m).lit ≡ l → is_among m (waiting ++ a.lists l) ≡ true
+  all_wait m h live e = list_any-append (nat_eq m) waiting (a.lists l) ∙ ⊎_elim
       (λ t. or_left _ _ t)
-      (λ f. or_right (is_among m waiting) _ (subst (λ (x : Lit). is_among m (a.lists x) ≡ true) e (a.placed m h f)))
+      (λ f. or_right (is_among m waiting) _ (subst (λ (x : Lit). is_among m (a.lists x) ≡ true) e (a.placed m h live f)))
       (cases_Bool (is_among m waiting))
 
   pub lists_opened : AreWatchLists watches nexts opened_starts (waiting ++ a.lists l)
@@ -326,7 +365,7 @@ module _ (watches : List Watch) (nexts : List (Option ℕ)) (starts : List Start
         let n : is_among m (a.lists l) ≡ false = ⊎_elim (λ q. let e = a.own l m known q in absurd (not_both _ (subst (λ (x : Lit). same_literal k x ≡ true) (sym o.0 ∙ e.0) (same_itself k)) d)) (λ q. q) (cases_Bool (is_among m (a.lists l))) in
         let w = o.1 in
         (o.0, list_any-append (nat_eq m) waiting (a.lists l) ∙ rw (w, n) refl));
-    placed = λ m h f. let b = in_both m f in let r = a.placed m h b.0 in
+    placed = λ m h live f. let b = in_both m f in let r = a.placed m h live b.0 in
         each_list a.lists l [] (λ x numbers. is_among m numbers ≡ true) (watch_at watches m).lit
         (λ e. absurd (not_both _ (subst (λ (x : Lit). is_among m (a.lists x) ≡ true) e r) b.1))
         (λ d. r);
@@ -363,8 +402,8 @@ module _ (watches : List Watch) (nexts : List (Option ℕ)) (starts : List Start
     own = λ l m h. wide_or_not (λ numbers. is_among m numbers ≡ true → ((watch_at watches m).lit ≡ l) × (is_among m waiting ≡ false)) l
         (λ b t. a.own l m b t)
         (λ b t. absurd (no_number m t));
-    placed = λ m h f. wide_or_not (λ numbers. is_among m numbers ≡ true) (watch_at watches m).lit
-        (λ b. a.placed m h f)
+    placed = λ m h live f. wide_or_not (λ numbers. is_among m numbers ≡ true) (watch_at watches m).lit
+        (λ b. a.placed m h live f)
         (λ b. let k = a.known m h in absurd (omega arith));
     known = λ m h. let k = a.known m h in grind (arith, common_steps);
     once = a.once;

@@ -1,7 +1,8 @@
-pub mod TrailState
-pub mod Levels
-pub mod Quiet
-pub mod Watches
-pub mod Watching
 pub mod Changes
 pub mod Kept
+pub mod Levels
+pub mod Quiet
+pub mod Recent
+pub mod TrailState
+pub mod Watches
+pub mod Watching

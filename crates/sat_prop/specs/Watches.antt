@@ -1,5 +1,5 @@
 -- Clauses that are watched at literals (Moskewicz and others, "Chaff: engineering an efficient SAT solver", 2001): each watch stands in the list of its literal, linked by numbers, or waits.
-use Rattle.std.specs.Prelude.{◌≡◌, ℕ, ◌+◌, ◌-◌, ◌%◌, ◌<◌, ◌==◌, true, false, suc, Bool, List, [], ◌∷◌, ◌++◌, length, map, replicate, Option, Some, None, nat_eq, slice_index_or, slice_set, if◌then◌else◌}
+use Rattle.std.specs.Prelude.{◌≡◌, ℕ, ◌+◌, ◌-◌, ◌%◌, ◌<◌, ◌≤◌, ◌==◌, true, false, suc, Bool, List, [], ◌∷◌, ◌++◌, length, map, replicate, Option, Some, None, nat_eq, slice_index_or, slice_set, if◌then◌else◌}
 use Rattle.std.specs.List.{list_any, IsDistinct}
 use Rattle.prop_core.specs.declared.lit.Lit.{Lit}
 use Rattle.prop_core.specs.LiteralNumbers.{numbered_literal}
@@ -7,7 +7,7 @@ use Rattle.prop_core.specs.Trail.{no_literal}
 use Rattle.sat_prop.specs.declared.watch_lists.Watch.{Watch}
 use Rattle.sat_prop.specs.declared.watch_lists.Node.{Node}
 use Rattle.sat_prop.specs.declared.watch_lists.Starts.{Starts}
-use Rattle.sat_prop.specs.declared.watch_lists.TheConstants.{NO_WATCH}
+use Rattle.sat_prop.specs.declared.watch_lists.TheConstants.{NO_WATCH, NO_CLAUSE}
 
 -- the watches, the numbers of those that wait, for how many variables there are lists, and for how many more clauses there is room
 pub record WatchState : Type 0 where
@@ -23,6 +23,14 @@ no_watch = record { clause = 0; lit = no_literal; twin = 0 }
 -- the watch of a number, from 0; beyond the last it is `no_watch`
 abbrev pub watch_at : List Watch → ℕ → Watch
 watch_at watches number = slice_index_or watches number no_watch
+
+-- the literal that the clause is watched at beside this one
+abbrev pub other_literal : List Watch → ℕ → Lit
+other_literal watches number = (watch_at watches (watch_at watches number).twin).lit
+
+-- The watch is of a clause: clauses are numbered from 1. A watch that isn't was dropped.
+abbrev pub IsLive : List Watch → ℕ → Type 0
+IsLive watches number = 1 ≤ (watch_at watches number).clause
 
 -- Two watches of a clause follow one another, of which the first has an even number. So each knows that of the other one.
 abbrev pub twin_number : ℕ → ℕ
@@ -56,6 +64,10 @@ no_node = record { clause = 0; code = 0; next = NO_WATCH }
 -- the node of a number, from 0; beyond the last it is `no_node`
 abbrev pub node_at : List Node → ℕ → Node
 node_at nodes number = slice_index_or nodes number no_node
+
+-- the watch that is kept in the node of a number is dropped
+abbrev pub cleared : List Node → ℕ → List Node
+cleared nodes number = slice_set nodes number (record (node_at nodes number) { clause = NO_CLAUSE })
 
 -- the number is one of these
 abbrev pub is_among : ℕ → List ℕ → Bool
@@ -101,13 +113,13 @@ Links nexts first (number ∷ numbers) =
 abbrev pub Drains : List (Option ℕ) → Option ℕ → List ℕ → List ℕ → Type 0
 Drains nexts first old new = (numbers : List ℕ) × Links nexts first numbers × (new ≡ old ++ numbers)
 
--- Each watch stands in the list of its literal, or waits; in no list and among those that wait none stands twice.
+-- Each watch that wasn't dropped stands in the list of its literal, or waits; in no list and among those that wait none stands twice.
 pub record AreWatchLists (watches : List Watch) (nexts : List (Option ℕ)) (starts : List Starts) (waiting : List ℕ) : Type 0 where
   pub same : length nexts ≡ length watches
   pub lists : Lit → List ℕ
   pub linked : (l : Lit) → l.var < length starts → Links nexts (start_of starts l) (lists l)
   pub own : (l : Lit) (number : ℕ) → l.var < length starts → is_among number (lists l) ≡ true → ((watch_at watches number).lit ≡ l) × (is_among number waiting ≡ false)
-  pub placed : (number : ℕ) → number < length watches → is_among number waiting ≡ false → is_among number (lists (watch_at watches number).lit) ≡ true
+  pub placed : (number : ℕ) → number < length watches → IsLive watches number → is_among number waiting ≡ false → is_among number (lists (watch_at watches number).lit) ≡ true
   pub known : (number : ℕ) → number < length watches → (watch_at watches number).lit.var < length starts
   pub once : IsDistinct nat_eq waiting
   pub below : (number : ℕ) → is_among number waiting ≡ true → number < length watches
@@ -121,12 +133,12 @@ with_watched_clause s clause first second = record s {
   spare = s.spare - 1;
 }
 
--- all that watch the literal wait
+-- all that watch the literal and weren't dropped wait
 pub record IsOpened (old new : WatchState) (l : Lit) : Type 0 where
   pub watches : new.watches ≡ old.watches
   pub vars : new.vars ≡ old.vars
   pub spare : new.spare ≡ old.spare
-  pub waits : (number : ℕ) → number < length old.watches → (watch_at old.watches number).lit ≡ l → is_among number new.waiting ≡ true
+  pub waits : (number : ℕ) → number < length old.watches → IsLive old.watches number → (watch_at old.watches number).lit ≡ l → is_among number new.waiting ≡ true
 
 -- it is the last of those that wait
 pub record IsLastWaiting (s : WatchState) (number : ℕ) : Type 0 where
@@ -143,3 +155,23 @@ watching w l = record w { lit = l }
 abbrev pub PutsWatch : WatchState → WatchState → Lit → Type 0
 PutsWatch old new l = (others : List ℕ) (number : ℕ) → old.waiting ≡ others ++ number ∷ [] →
     new ≡ record old { watches = slice_set old.watches number (watching (watch_at old.watches number) l); waiting = others }
+
+-- the last of those that wait was dropped
+abbrev pub IsLastDropped : WatchState → Type 0
+IsLastDropped s = (number : ℕ) × IsLastWaiting s number × ((watch_at s.watches number).clause ≡ NO_CLAUSE)
+
+-- the last of those that wait waits no more, and is put nowhere
+abbrev pub ForgetsWatch : WatchState → WatchState → Type 0
+ForgetsWatch old new = (others : List ℕ) (number : ℕ) → old.waiting ≡ others ++ number ∷ [] → new ≡ record old { waiting = others }
+
+-- the watch, of no clause from now on
+abbrev pub dropped : Watch → Watch
+dropped w = record w { clause = NO_CLAUSE }
+
+-- the watch of a number is dropped
+abbrev pub with_dropped : List Watch → ℕ → List Watch
+with_dropped watches number = slice_set watches number (dropped (watch_at watches number))
+
+-- both watches of the clause are dropped that the one of this number watches
+abbrev pub without_clause : List Watch → ℕ → List Watch
+without_clause watches number = with_dropped (with_dropped watches number) (watch_at watches number).twin

@@ -1,12 +1,12 @@
 -- What holds of attached clauses and their watches, so that only those have to be looked at of which a watched literal became false.
-use Rattle.std.specs.Prelude.{◌≡◌, ℕ, ◌+◌, ◌<◌, ◌≤◌, ◌⊎◌, true, false, List, [], length, take, Some, Contains, IfSome}
+use Rattle.std.specs.Prelude.{◌≡◌, ◌≢◌, ℕ, ◌+◌, ◌<◌, ◌≤◌, ◌⊎◌, Bool, true, false, List, [], length, take, Some, Contains, IfSome}
 use Rattle.std.specs.List.{list_any, list_all}
 use Rattle.prop_core.specs.declared.lit.Lit.{Lit}
 use Rattle.prop_core.specs.Clauses.{Clause, negation, same_literal, is_true, is_false, is_open}
 use Rattle.prop_core.specs.Derivation.{clause_numbered}
 use Rattle.prop_core.specs.Trail.{is_forced_by}
 use Rattle.sat_prop.specs.TrailState.{TrailState, literal_at}
-use Rattle.sat_prop.specs.Watches.{WatchState, watch_at, is_among}
+use Rattle.sat_prop.specs.Watches.{WatchState, IsLive, watch_at, other_literal, is_among, dropped, without_clause}
 use Rattle.sat_prop.specs.Quiet.{IsConflict}
 use Rattle.sat_prop.specs.Changes.{IsFront, Propagates}
 use Rattle.sat_prop.specs.declared.watch_lists.Watch.{Watch}
@@ -23,10 +23,6 @@ pub record WatchedState : Type 0 where
 -- nothing is attached, there is no room, and no literal was looked at
 abbrev pub no_watched : WatchedState
 no_watched = record { short = []; spare = 0; lists = record { watches = []; waiting = []; vars = 0; spare = 0 }; seen = 0 }
-
--- the literal that the clause is watched at beside this one
-abbrev pub other_literal : List Watch → ℕ → Lit
-other_literal watches number = (watch_at watches (watch_at watches number).twin).lit
 
 -- The clause of a watch is attached. It is watched at two different literals.
 pub record IsWatch (clauses : List Clause) (attached : List ℕ) (watches : List Watch) (number : ℕ) : Type 0 where
@@ -63,7 +59,39 @@ pub record IsShort (clauses : List Clause) (number : ℕ) : Type 0 where
   pub held : clause_numbered clauses number ≡ Some clause
   pub narrow : IsNarrow clause
 
--- Each attached clause is short or watched, there is room for more, and each watch is settled by the literals that have been looked at.
+-- the clause of this number is short or watched
+abbrev pub IsLookedAt : List ℕ → List Watch → ℕ → Type 0
+IsLookedAt short watches clause = (Contains short clause) ⊎ (HasWatch watches clause)
+
+-- each literal of the first clause stands in the second
+abbrev pub is_part_of : Clause → Clause → Bool
+is_part_of inner outer = list_all (λ l. list_any (same_literal l) outer) inner
+
+-- the clauses of both numbers are held, and the first subsumes the second
+pub record Subsumes (clauses : List Clause) (inner outer : ℕ) : Type 0 where
+  pub inner_clause : Clause
+  pub inner_held : clause_numbered clauses inner ≡ Some inner_clause
+  pub outer_clause : Clause
+  pub outer_held : clause_numbered clauses outer ≡ Some outer_clause
+  pub part : is_part_of inner_clause outer_clause ≡ true
+
+-- The watches of both numbers weren't dropped, and the clause of the newer one subsumes that of the other, which is another clause.
+pub record IsSubsumed (clauses : List Clause) (watches : List Watch) (older newer : ℕ) : Type 0 where
+  pub older_within : older < length watches
+  pub newer_within : newer < length watches
+  pub older_live : IsLive watches older
+  pub newer_live : IsLive watches newer
+  pub apart : (watch_at watches newer).clause ≢ (watch_at watches older).clause
+  pub subsumes : Subsumes clauses (watch_at watches newer).clause (watch_at watches older).clause
+
+-- A clause that is short or watched, mostly itself, subsumes the one of this number, which so is quiet where that one is.
+pub record IsCovered (clauses : List Clause) (short : List ℕ) (watches : List Watch) (number : ℕ) : Type 0 where
+  pub cover : ℕ
+  pub looked : IsLookedAt short watches cover
+  pub subsumes : Subsumes clauses cover number
+
+-- Each attached clause is short or watched, or one that is subsumes it; there is room for more; and each watch is settled by the literals
+-- that have been looked at, as is one that was dropped, which has no clause.
 pub record AreWatched (t : TrailState) (w : WatchedState) : Type 0 where
   pub front : w.seen ≤ length t.literals
   pub vars : t.vars ≤ w.lists.vars
@@ -71,8 +99,8 @@ pub record AreWatched (t : TrailState) (w : WatchedState) : Type 0 where
   pub room_watches : t.spare ≤ w.lists.spare
   pub short : (number : ℕ) → Contains w.short number → Contains t.attached number
   pub narrow : (number : ℕ) → Contains w.short number → IsShort t.clauses number
-  pub all : (number : ℕ) → Contains t.attached number → (Contains w.short number) ⊎ (HasWatch w.lists.watches number)
-  pub each : (number : ℕ) → number < length w.lists.watches → IsWatch t.clauses t.attached w.lists.watches number
+  pub all : (number : ℕ) → Contains t.attached number → IsCovered t.clauses w.short w.lists.watches number
+  pub each : (number : ℕ) → number < length w.lists.watches → IsLive w.lists.watches number → IsWatch t.clauses t.attached w.lists.watches number
   pub settled : (number : ℕ) → number < length w.lists.watches → IsSettled t.clauses t.literals w.seen w.lists.watches number
 
 -- those that wait no more are settled by the next literal too
@@ -92,6 +120,15 @@ pub record Visits (t : TrailState) (w : WatchedState) (after : TrailState) (now 
   pub grown : Propagates t after
   pub short : now.short ≡ w.short
   pub seen : now.seen ≡ w.seen
+
+-- both watches of the clause are dropped that the one of this number watches, and nothing else changes
+abbrev pub unwatched : WatchedState → ℕ → WatchedState
+unwatched w number = record w { lists = record w.lists { watches = without_clause w.lists.watches number } }
+
+-- some watches are dropped, and nothing else changes
+pub record OnlyDrops (old new : WatchedState) : Type 0 where
+  pub others : new ≡ record old { lists = record old.lists { watches = new.lists.watches } }
+  pub each : (number : ℕ) → (watch_at new.lists.watches number ≡ watch_at old.lists.watches number) ⊎ (watch_at new.lists.watches number ≡ dropped (watch_at old.lists.watches number))
 
 -- two different literals of a clause
 pub record AreTwo (clause : Clause) (first second : Lit) : Type 0 where

@@ -7,9 +7,12 @@
 //! - Value, level and reason of a variable are found in constant time.
 //! - A clause with two different literals is *watched* at two of them, and looked at where one of these becomes false (Moskewicz
 //!   and others, "Chaff: engineering an efficient SAT solver", 2001). A clause without is *short*, and looked at at level 0 alone.
+//! - A clause of those learnt last is *dropped* where one that is learnt later subsumes it: it stays attached, and is watched no more, since it is
+//!   neither false nor unit where the later one isn't.
 #![tactic(auto)]
 
 mod propagator;
+mod recent;
 mod standing;
 mod trail;
 mod watch_lists;

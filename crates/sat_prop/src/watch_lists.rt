@@ -1,6 +1,7 @@
-ghost use Rattle.std.specs.Prelude.{◌≡◌, ℕ, ◌+◌, ◌-◌, ◌<◌, ◌≤◌, List, ◌++◌, ◌∷◌, [], length, max, slice_set, vec_len, vec_capacity, OnOk, OnErr, IfSome, IfNone};
+ghost use Rattle.std.specs.Prelude.{◌≡◌, ◌↔◌, ℕ, ◌+◌, ◌-◌, ◌<◌, ◌≤◌, List, ◌++◌, ◌∷◌, [], length, max, slice_set, vec_len, vec_capacity, OnOk, OnErr, IfSome, IfNone, IsTrue};
 ghost use Rattle.prop_core.specs.LiteralNumbers.{literal_number};
-ghost use Rattle.sat_prop.specs.Watches.{Links, Drains, IsLastWaiting, IsOpened, PutsWatch, as_link, begin_of, no_starts, twin_number, with_start, node_at, nexts_of, watch_at, with_watched_clause};
+ghost use Rattle.sat_prop.specs.declared.watch_lists.TheConstants.{NO_CLAUSE};
+ghost use Rattle.sat_prop.specs.Watches.{Links, Drains, ForgetsWatch, IsLastDropped, IsLastWaiting, IsLive, IsOpened, PutsWatch, as_link, begin_of, no_starts, twin_number, with_start, node_at, nexts_of, other_literal, watch_at, cleared, with_watched_clause, without_clause};
 
 use des_base::{Memory, VAR_LIMIT};
 use prop_core::Lit;
@@ -17,6 +18,9 @@ pub struct Watch {
 
 /// The number of no watch, where a list ends.
 pub const NO_WATCH: u32 = 4_294_967_295;
+
+/// The number of no clause, which a watch has that was dropped. Clauses are numbered from 1.
+pub const NO_CLAUSE: u32 = 0;
 
 /// A watch as it is kept, and the number of the one that comes next in its list. Watches come in pairs, so the number of the other one is
 /// known from its own. Its literal is kept as a number.
@@ -35,6 +39,7 @@ pub struct Starts {
 }
 
 /// Watches, numbered from 0, each in the list of the literal that it watches or among those that wait to be looked at.
+/// Those of a clause may be dropped: they keep their numbers and places, and are put nowhere when they have waited.
 ///
 /// Room for lists is taken by `grow` and room for watches by `reserve`; no other call takes memory.
 #[derive(Drop)]
@@ -118,6 +123,13 @@ impl WatchLists {
         push_node(&mut self.nodes, &mut self.starts, clause, second);
     }
 
+    /// How many watches there are, which is the number of the next one.
+    pub fn len(&self) -> u32
+        ensures { result ≡ length self.now.watches }
+    {
+        self.nodes.len() as u32
+    }
+
     /// The watch of this number.
     pub fn watch(&self, number: u32) -> Watch
         requires { number < length self.now.watches }
@@ -131,7 +143,46 @@ impl WatchLists {
         }
     }
 
-    /// Lets all that watch the literal wait.
+    /// The literal that the other watch of the same clause watches.
+    pub fn other_literal(&self, number: u32) -> Lit
+        requires number { number < length self.now.watches }
+        requires twin { (watch_at self.now.watches number).twin < length self.now.watches }
+        ensures { result ≡ other_literal self.now.watches number }
+    {
+        self.watch(self.watch(number).twin).lit
+    }
+
+    /// Whether the watch of this number was dropped.
+    pub fn is_dropped(&self, number: u32) -> bool
+        requires { number < length self.now.watches }
+        ensures { IsTrue result ↔ (watch_at self.now.watches number).clause ≡ NO_CLAUSE }
+    {
+        self.watch(number).clause == NO_CLAUSE
+    }
+
+    /// The clause of the watch of this number, where there is such a watch that wasn't dropped.
+    pub fn clause(&self, number: u32) -> Option<u32>
+        ensures within { IfSome result (λ clause. number < length self.now.watches) }
+        ensures live { IfSome result (λ clause. IsLive self.now.watches number) }
+        ensures clause { IfSome result (λ clause. (watch_at self.now.watches number).clause ≡ clause) }
+        ensures none { IfNone result (number < length self.now.watches → (watch_at self.now.watches number).clause ≡ NO_CLAUSE) }
+    {
+        if number >= self.len() || self.is_dropped(number) {
+            return None;
+        }
+        Some(self.watch(number).clause)
+    }
+
+    /// Drops both watches of the clause that the one of this number watches.
+    pub fn drop_clause(&mut self, number: u32)
+        requires number { number < length self.old.watches }
+        requires twin { (watch_at self.old.watches number).twin < length self.old.watches }
+        ensures { self.new ≡ record self.old { watches = without_clause self.old.watches number } }
+    {
+        clear_pair(&mut self.nodes, number);
+    }
+
+    /// Lets all wait that watch the literal and weren't dropped.
     pub fn open(&mut self, lit: Lit)
         requires { lit.var < self.old.vars }
         ensures { IsOpened self.old self.new lit }
@@ -161,6 +212,15 @@ impl WatchLists {
     {
         let number = self.waiting.pop().unwrap();
         link(&mut self.nodes, &mut self.starts, number, lit);
+    }
+
+    /// The next that waits was dropped, and waits no more.
+    pub fn forget(&mut self)
+        requires waits { 0 < length self.old.waiting }
+        requires dropped { IsLastDropped self.old }
+        ensures { ForgetsWatch self.old self.new }
+    {
+        self.waiting.pop().unwrap();
     }
 }
 
@@ -261,6 +321,27 @@ fn push_node(nodes: &mut Vec<Node>, starts: &mut Vec<Starts>, clause: u32, lit: 
         })
         .unwrap();
     set_start(starts, lit, number);
+}
+
+// Drops a watch and the other one of its pair.
+fn clear_pair(nodes: &mut Vec<Node>, number: u32)
+    requires few { number < NO_WATCH }
+    requires number { number < length nodes.old.items }
+    requires twin { twin_number number < length nodes.old.items }
+    ensures nodes { nodes.new.items ≡ cleared (cleared nodes.old.items number) (twin_number number) }
+    ensures room { vec_capacity nodes.new ≡ vec_capacity nodes.old }
+{
+    clear(nodes, number);
+    clear(nodes, twin(number));
+}
+
+// Drops a watch, which stays where it is.
+fn clear(nodes: &mut Vec<Node>, number: u32)
+    requires { number < length nodes.old.items }
+    ensures nodes { nodes.new.items ≡ cleared nodes.old.items number }
+    ensures room { vec_capacity nodes.new ≡ vec_capacity nodes.old }
+{
+    nodes[number as usize].clause = NO_CLAUSE;
 }
 
 // Puts a watch into the list of a literal, where it watches from now on.

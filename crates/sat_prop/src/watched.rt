@@ -1,16 +1,18 @@
-// Propagation by watched literals: a clause is looked at where one of the two that are watched becomes false.
-ghost use Rattle.std.specs.Prelude.{◌≡◌, ℕ, ◌+◌, ◌<◌, ◌≤◌, ◌||◌, ◌⊎◌, [], true, false, length, max, min, take, Some, Contains, OnOk, OnErr, IfSome, IfNone};
+// Propagation by watched literals: a clause is looked at where one of the two that are watched becomes false. What a later learnt clause
+// subsumes is no longer watched.
+ghost use Rattle.std.specs.Prelude.{◌≡◌, ◌≢◌, ◌↔◌, ◌+◌, ◌<◌, ◌≤◌, ◌||◌, ◌⊎◌, [], true, false, length, max, min, take, Some, Contains, OnOk, OnErr, IfSome, IfNone, IsTrue};
 ghost use Rattle.std.specs.List.{list_any, list_all};
-ghost use Rattle.prop_core.specs.Clauses.{negation, same_literal, is_false, is_true, HasValues};
+ghost use Rattle.prop_core.specs.Clauses.{same_literal, is_false, is_true, HasValues};
 ghost use Rattle.prop_core.specs.Derivation.{clause_numbered};
 ghost use Rattle.prop_core.specs.Trail.{is_forced_by};
 ghost use Rattle.sat_prop.specs.Quiet.{AreQuiet, IsConflict, IsPropagated, JoinsQuietly};
 ghost use Rattle.sat_prop.specs.Kept.{IsTrailState};
 ghost use Rattle.sat_prop.specs.Changes.{IsFront, Propagates, with_attached_clause, with_true_literal};
-ghost use Rattle.sat_prop.specs.Watches.{IsLastWaiting, watch_at};
-ghost use Rattle.sat_prop.specs.Watching.{AreWatched, AreVisited, IsVisiting, Visits, AreTwo, IsForcing, IsJudgedWatch, IsReplacement, IsReplaced, IsNarrow, no_watched};
+ghost use Rattle.sat_prop.specs.Watches.{IsLastWaiting, IsLive};
+ghost use Rattle.sat_prop.specs.Watching.{AreWatched, AreVisited, IsVisiting, Visits, AreTwo, IsForcing, IsJudgedWatch, IsSubsumed, OnlyDrops, IsReplacement, IsReplaced, IsNarrow, is_part_of, no_watched, unwatched};
 
 use crate::propagator::Propagated;
+use crate::recent::{Learnt, RECENT, Recent, may_be_part, signature};
 use crate::standing::Stands;
 use crate::trail::Trail;
 use crate::watch_lists::WatchLists;
@@ -27,6 +29,7 @@ pub struct Watched {
     spare: usize,
     lists: WatchLists,
     seen: u32,
+    recent: Recent,
 }
 
 impl Model for Watched {
@@ -50,6 +53,7 @@ impl Watched {
             spare: 0,
             lists: WatchLists::new(alloc),
             seen: 0,
+            recent: Recent::new(),
         }
     }
 
@@ -103,8 +107,30 @@ impl Watched {
     }
 
     /// Attaches a clause to the trail too. Where all its literals but an open one are false by those that have been looked at, that one is
-    /// made true, so that none has to be looked at again.
+    /// made true, so that none has to be looked at again. What it subsumes of the clauses that joined last is no longer watched.
     pub fn join(&mut self, trail: &mut Trail, db: &Clauses, id: ClauseId)
+        requires watched { AreWatched trail.old self.old }
+        requires room { 1 ≤ trail.old.spare }
+        requires grown { IsFront trail.old.clauses db.now.clauses }
+        requires from_one { 1 ≤ id }
+        requires in_range { id ≤ length db.now.clauses }
+        requires known { IfSome (clause_numbered db.now.clauses id) (HasValues trail.old.vars) }
+        requires quiet { JoinsQuietly trail.old (clause_numbered db.now.clauses id) }
+        ensures watched { AreWatched trail.new self.new }
+        ensures state { IsTrailState (with_attached_clause trail.old db.now.clauses id) }
+        ensures grown { Propagates (with_attached_clause trail.old db.now.clauses id) trail.new }
+    {
+        let learnt = Learnt {
+            watch: self.lists.len(),
+            signature: signature(db.clause(id)),
+        };
+        self.add_learnt(trail, db, id);
+        self.drop_each_subsumed(trail, db, learnt);
+        self.recent.put(learnt);
+    }
+
+    // Attaches a clause to the trail too, and makes true what it forces, as `join` says.
+    fn add_learnt(&mut self, trail: &mut Trail, db: &Clauses, id: ClauseId)
         requires watched { AreWatched trail.old self.old }
         requires room { 1 ≤ trail.old.spare }
         requires grown { IsFront trail.old.clauses db.now.clauses }
@@ -129,6 +155,51 @@ impl Watched {
                 trail.is_sound();
             }
         }
+    }
+
+    // Those of the clauses that joined last are no longer watched that the newer one subsumes.
+    fn drop_each_subsumed(&mut self, trail: &Trail, db: &Clauses, newer: Learnt)
+        requires watched { AreWatched trail.now self.old }
+        requires grown { IsFront trail.now.clauses db.now.clauses }
+        ensures watched { AreWatched trail.now self.new }
+        ensures drops { OnlyDrops self.old self.new }
+    {
+        for place in 0..RECENT {
+            let older = self.recent.at(place);
+            if may_be_part(newer.signature, older.signature) {
+                self.drop_subsumed(trail, db, older.watch, newer.watch);
+            }
+        }
+    }
+
+    // The clause of one watch is no longer watched where that of another watch subsumes it, and is another clause.
+    fn drop_subsumed(&mut self, trail: &Trail, db: &Clauses, older: u32, newer: u32)
+        requires watched { AreWatched trail.now self.old }
+        requires grown { IsFront trail.now.clauses db.now.clauses }
+        ensures watched { AreWatched trail.now self.new }
+        ensures kept { (self.new ≡ self.old) ⊎ (self.new ≡ unwatched self.old older) }
+        ensures dropped { IsSubsumed trail.now.clauses self.old.lists.watches older newer → self.new ≡ unwatched self.old older }
+    {
+        if !self.is_subsumed(trail, db, older, newer) {
+            return;
+        }
+        self.lists.drop_clause(older);
+    }
+
+    // Whether the clause of the newer watch subsumes that of the older one, and is another clause; both are watched.
+    fn is_subsumed(&self, trail: &Trail, db: &Clauses, older: u32, newer: u32) -> bool
+        requires watched { AreWatched trail.now self.now }
+        requires grown { IsFront trail.now.clauses db.now.clauses }
+        ensures { IsTrue result ↔ IsSubsumed trail.now.clauses self.now.lists.watches older newer }
+    {
+        let Some(outer) = self.lists.clause(older) else {
+            return false;
+        };
+        let Some(inner) = self.lists.clause(newer) else {
+            return false;
+        };
+        trail.is_sound();
+        subsumes_another(db, inner, outer)
     }
 
     /// Only so many literals are left.
@@ -237,9 +308,33 @@ impl Watched {
         None
     }
 
-    // Looks at the clause of the next watch that waits, and answers it where it is false.
+    // Looks at the clause of the next watch that waits, unless it was dropped, and answers it where it is false.
     fn look(&mut self, trail: &mut Trail, db: &Clauses, number: u32, lit: Lit) -> Option<ClauseId>
         requires next { IsLastWaiting self.old.lists number }
+        requires visiting { IsVisiting trail.old self.old db.now.clauses lit }
+        requires visited { AreVisited trail.old self.old }
+        ensures visits { Visits trail.old self.old trail.new self.new }
+        ensures conflict { IfSome result (IsConflict trail.new) }
+        ensures visited { IfNone result (AreVisited trail.new self.new) }
+        ensures fewer { IfNone result (length self.new.lists.waiting + 1 ≡ length self.old.lists.waiting) }
+    {
+        if self.lists.is_dropped(number) {
+            self.lists.forget();
+            return None;
+        }
+        self.look_at_clause(trail, db, number, lit)
+    }
+
+    // Looks at the clause of the next watch that waits, and answers it where it is false.
+    fn look_at_clause(
+        &mut self,
+        trail: &mut Trail,
+        db: &Clauses,
+        number: u32,
+        lit: Lit,
+    ) -> Option<ClauseId>
+        requires next { IsLastWaiting self.old.lists number }
+        requires live { IsLive self.old.lists.watches number }
         requires visiting { IsVisiting trail.old self.old db.now.clauses lit }
         requires visited { AreVisited trail.old self.old }
         ensures visits { Visits trail.old self.old trail.new self.new }
@@ -261,6 +356,7 @@ impl Watched {
     // What becomes of a watch. The other literal of its clause is made true where all others are false.
     fn judge(&self, trail: &mut Trail, db: &Clauses, number: u32, lit: Lit) -> Judged
         requires number { number < length self.now.lists.watches }
+        requires live { IsLive self.now.lists.watches number }
         requires visiting { IsVisiting trail.old self.now db.now.clauses lit }
         ensures watched { AreWatched trail.new self.now }
         ensures grown { Propagates trail.old trail.new }
@@ -268,7 +364,7 @@ impl Watched {
         ensures judged { IsJudgedWatch trail.new self.now number result }
     {
         let watch = self.lists.watch(number);
-        let other = self.lists.watch(watch.twin).lit;
+        let other = self.lists.other_literal(number);
         if watch.lit != lit || trail.holds_up_to(other, self.seen) {
             return Judged::Stays;
         }
@@ -324,6 +420,44 @@ fn make_true(trail: &mut Trail, db: &Clauses, id: ClauseId, lit: Lit) -> bool
             true
         }
     }
+}
+
+// Whether a clause subsumes another one, by their numbers.
+fn subsumes_another(db: &Clauses, inner: u32, outer: u32) -> bool
+    requires inner_from_one { 1 ≤ inner }
+    requires inner_in_range { inner ≤ length db.now.clauses }
+    requires outer_from_one { 1 ≤ outer }
+    requires outer_in_range { outer ≤ length db.now.clauses }
+    ensures another { IsTrue result → inner ≢ outer }
+    ensures part { inner ≢ outer → IfSome (clause_numbered db.now.clauses inner) (λ part. IfSome (clause_numbered db.now.clauses outer) (λ whole. result ≡ is_part_of part whole)) }
+{
+    let part = db.clause(ClauseId(inner as u64));
+    let whole = db.clause(ClauseId(outer as u64));
+    inner != outer && is_part(part, whole)
+}
+
+// Whether each literal of a clause stands in another one.
+fn is_part(inner: &[Lit], outer: &[Lit]) -> bool
+    ensures { result ≡ is_part_of inner.now outer.now }
+{
+    for lit in inner {
+        if !has_literal(outer, *lit) {
+            return false;
+        }
+    }
+    true
+}
+
+// Whether a literal stands in a clause.
+fn has_literal(clause: &[Lit], lit: Lit) -> bool
+    ensures { result ≡ list_any (same_literal lit) clause.now }
+{
+    for other in clause {
+        if lit == *other {
+            return true;
+        }
+    }
+    false
 }
 
 // A literal of the clause, not the other one that is watched, that no literal up to a place makes false.

@@ -1,7 +1,7 @@
 use Rattle.std.proofs.Common.{◌≡◌, ◌∙◌, ◌<◌, ◌++◌, ℕ, true, List, ap, sym, subst, length, arith, length-append}
 use Rattle.std.proofs.lemmas.Grind.{common_steps}
 use Rattle.sat_prop.specs.declared.watch_lists.Starts.{Starts}
-use Rattle.sat_prop.specs.Watches.{WatchState, as_link, begin_of, start_of, watch_at, is_among, watches_of, nexts_of}
+use Rattle.sat_prop.specs.Watches.{WatchState, IsLive, as_link, begin_of, start_of, watch_at, is_among, watches_of, nexts_of}
 use Rattle.sat_prop.proofs.Links.{links_once}
 use Rattle.sat_prop.proofs.WatchLists.{all_few, all_wait, lists_opened}
 use Rattle.sat_prop.proofs.Nodes.{count_watches}
@@ -47,5 +47,5 @@ returns c =
       watches = ap (λ (s : WatchState). s.watches) c.self.view_is;
       vars = let n : length c.set_start.new.starts.items ≡ length c.self.inside.starts.items = rw c.set_start.ensures (grind (arith, common_steps)) in n ∙ ap (λ (s : WatchState). s.vars) c.self.view_is;
       spare = ap (λ (s : WatchState). s.spare) c.self.view_is;
-      waits = λ n h e. subst (λ (xs : List ℕ). is_among n xs ≡ true) (sym all) (all_wait (watches_of c.self.inside.nodes.items) (nexts_of c.self.inside.nodes.items) c.self.inside.starts.items c.self.inside.waiting.items a c.args.lit known n (subst (λ (s : WatchState). n < length s.watches) (sym c.self.view_is) h) (subst (λ (s : WatchState). (watch_at s.watches n).lit ≡ c.args.lit) (sym c.self.view_is) e));
+      waits = λ n h live e. subst (λ (xs : List ℕ). is_among n xs ≡ true) (sym all) (all_wait (watches_of c.self.inside.nodes.items) (nexts_of c.self.inside.nodes.items) c.self.inside.starts.items c.self.inside.waiting.items a c.args.lit known n (subst (λ (s : WatchState). n < length s.watches) (sym c.self.view_is) h) (subst (λ (s : WatchState). IsLive s.watches n) (sym c.self.view_is) live) (subst (λ (s : WatchState). (watch_at s.watches n).lit ≡ c.args.lit) (sym c.self.view_is) e));
     }

@@ -3,7 +3,7 @@ use Rattle.prop_core.specs.declared.lit.Lit.{Lit}
 use Rattle.prop_core.specs.Clauses.{negation}
 use Rattle.sat_prop.specs.TrailState.{literal_at}
 use Rattle.sat_prop.specs.declared.watch_lists.Watch.{Watch}
-use Rattle.sat_prop.specs.Watches.{watch_at}
+use Rattle.sat_prop.specs.Watches.{IsLive, watch_at}
 use Rattle.sat_prop.specs.Watching.{WatchedState, AreWatched}
 use Rattle.sat_prop.proofs.Fronts.{front_itself}
 use Rattle.sat_prop.proofs.Visiting.{at_known, watched_waits, visited_begins, visited_ends, visiting_still}
@@ -34,7 +34,7 @@ more-init c =
         seen = ap (λ (s : WatchedState). s.seen) c.self.view_is;
       };
       visited = visited_begins c.args.trail.now (record w { lists = c.open.new.self }) c.args.lit a falls
-          (λ n h e. o.waits n (subst (λ (ws : List Watch). n < length ws) o.watches h) (ap (λ (ws : List Watch). (watch_at ws n).lit) (sym o.watches) ∙ e));
+          (λ n h live e. o.waits n (subst (λ (ws : List Watch). n < length ws) o.watches h) (subst (λ (ws : List Watch). IsLive ws n) o.watches live) (ap (λ (ws : List Watch). (watch_at ws n).lit) (sym o.watches) ∙ e));
     }
 
 pub look-requires-clause-visiting : goal.look-requires-clause-visiting
