@@ -16,3 +16,4 @@ mod LevelMarks
 mod Moving
 mod AssumedLevels
 mod Ordering
+mod Trying

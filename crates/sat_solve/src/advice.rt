@@ -7,11 +7,10 @@
 // - Literals that were given to be tried come before all suggestions, once so many clauses were learnt that the search is no short one.
 //
 // No contract says that the advice is good: whoever takes it tests it.
-ghost use Rattle.std.specs.Prelude.{◌≡◌, ◌<◌, true, false, IfSome, OnOk, OnErr};
-ghost use Rattle.prop_core.specs.Clauses.{is_open};
+ghost use Rattle.std.specs.Prelude.{◌≡◌, OnOk, OnErr};
 ghost use Rattle.prop_core.specs.Derivation.{clause_numbered};
 ghost use Rattle.sat_solve.specs.Activity.{after_conflict, with_clause_part, with_option_part};
-ghost use Rattle.sat_solve.specs.Advice.{no_advice, with_advice, KeepsAdvice, phase_of, with_released, with_hints_part, last_hints};
+ghost use Rattle.sat_solve.specs.Advice.{from_first, no_advice, with_advice, KeepsAdvice, next_try, after_next_try, phase_of, with_released, with_hints_part, last_hints};
 ghost use Rattle.sat_solve.specs.Heap.{held_of, Takes};
 ghost use Rattle.sat_solve.specs.LevelCount.{AreLevelsOf, marked_of};
 ghost use Rattle.sat_solve.specs.Restarts.{with_learnt_clause, is_due, after_asking};
@@ -44,7 +43,7 @@ impl Model for Advice {
 
     ghost Value = { AdviceState };
 
-    ghost view = { λ a. record { activity = a.activity; phases = a.phases.items; levels = a.levels; means = a.restarts } };
+    ghost view = { λ a. record { activity = a.activity; phases = a.phases.items; levels = a.levels; means = a.restarts; tries = a.tries } };
 }
 
 impl Advice {
@@ -63,16 +62,15 @@ impl Advice {
 
     // These literals are tried first from now on.
     pub fn try_first(&mut self, lits: Vec<Lit>)
-        ensures { self.new ≡ self.old }
+        ensures { self.new ≡ record self.old { tries = from_first lits.items } }
     {
         self.tries.replace(lits);
     }
 
     // The first literal to be tried that is known and open, where the search is no short one.
     pub fn first_try(&mut self, trail: &Trail, vars: u32) -> Option<Lit>
-        ensures known { IfSome result (λ lit. lit.var < vars) }
-        ensures undecided { IfSome result (λ lit. is_open trail.now.literals (record { var = lit.var; positive = false }) ≡ true) }
-        ensures same { self.new ≡ self.old }
+        ensures found { result ≡ next_try self.old trail.now.literals vars }
+        ensures passed { self.new ≡ after_next_try self.old trail.now.literals vars }
     {
         if self.restarts.learnt() < LONG {
             return None;
@@ -133,6 +131,7 @@ impl Advice {
         ensures activity { self.new.activity ≡ after_conflict (with_hints_part self.old.activity clauses.now.clauses (last_hints learnt.now.hints learnt.now.from_conflict)) }
         ensures levels { AreLevelsOf trail.now learnt.now.clause self.new.levels }
         ensures means { self.new.means ≡ with_learnt_clause self.old.means (marked_of self.new.levels) }
+        ensures tries { self.new.tries ≡ self.old.tries }
     {
         let hints = learnt.hints.as_slice();
         let first = hints.len().saturating_sub(learnt.from_conflict);
