@@ -237,11 +237,60 @@ fn looks(propagator: &mut Propagator, db: &mut Clauses) -> bool
     attach_all(propagator, db, 5, &THREE_AND_FOUR) && goes_all(propagator, db, 5, &LOOKS)
 }
 
+// Joins a clause where no literal is true yet.
+fn joins(propagator: &mut Propagator, db: &Clauses, vars: u32, id: ClauseId) -> bool
+    requires front { IsFront propagator.old.clauses db.now.clauses }
+    requires vars { propagator.old.vars ≡ vars }
+    requires from_one { 1 ≤ id }
+    requires in_range { id ≤ length db.now.clauses }
+    ensures front { IsFront propagator.new.clauses db.now.clauses }
+    ensures vars { propagator.new.vars ≡ vars }
+{
+    if !are_below(db.clause(id), vars) || propagator.trail().len() != 0 {
+        return false;
+    }
+    if propagator.reserve_clauses(1).is_err() {
+        return false;
+    }
+    propagator.join(db, id);
+    true
+}
+
+// Joins the first two clauses, if there are so many.
+fn joins_two(propagator: &mut Propagator, db: &Clauses, vars: u32) -> bool
+    requires front { IsFront propagator.old.clauses db.now.clauses }
+    requires vars { propagator.old.vars ≡ vars }
+    ensures front { IsFront propagator.new.clauses db.now.clauses }
+    ensures vars { propagator.new.vars ≡ vars }
+{
+    db.len() == 2
+        && joins(propagator, db, vars, ClauseId(1))
+        && joins(propagator, db, vars, ClauseId(2))
+}
+
+static WIDER_AND_PART: [&[Lit]; 2] = [&[YES_0, YES_1, YES_2], &[YES_2, YES_0]];
+
+// Both clauses force the last literal, and the first of them came to be watched there before the other: but it isn't watched any more.
+static BY_PART: [Step; 2] = [
+    (Some(NO_1), 0, 1, &[(0, None, 0), (2, None, 0)]),
+    (Some(NO_0), 0, 3, &[(2, Some(true), 2)]),
+];
+
+fn subsumes(propagator: &mut Propagator, db: &mut Clauses) -> bool
+    requires { propagator.old ≡ record { clauses = []; attached = []; literals = []; reasons = []; vars = 0; spare = 0 } }
+{
+    push_all(db, &WIDER_AND_PART)
+        && propagator.grow(3).is_ok()
+        && joins_two(propagator, db, 3)
+        && goes_all(propagator, db, 3, &BY_PART)
+}
+
 // What a new propagator is tried on.
 pub enum Case {
     Forced,
     Conflict,
     Looks,
+    Subsumes,
     Learns,
 }
 
@@ -252,6 +301,7 @@ fn passes(alloc: Global, case: &Case, propagator: &mut Propagator, db: &mut Clau
         Case::Forced => propagates(propagator, db),
         Case::Conflict => conflicts(propagator, db),
         Case::Looks => looks(propagator, db),
+        Case::Subsumes => subsumes(propagator, db),
         Case::Learns => learns_by_one(alloc, propagator, db),
     }
 }
@@ -274,4 +324,9 @@ fn propagates_and_goes_back(rt: HostRuntime) {
 #[test]
 fn finds_a_conflict(rt: HostRuntime) {
     assert!(rt; passes_new(rt.alloc(), &Case::Conflict));
+}
+
+#[test]
+fn takes_a_reason_that_subsumes(rt: HostRuntime) {
+    assert!(rt; passes_new(rt.alloc(), &Case::Subsumes));
 }
