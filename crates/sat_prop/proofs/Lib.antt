@@ -8,11 +8,13 @@ mod Passing
 mod Links
 mod Covering
 mod Dropping
+mod Linking
+mod Walking
 mod WatchLists
 mod Nodes
+mod Moving
 mod Settling
 mod Visiting
-mod Draining
 mod Falling
 mod Signatures
 mod Latest

@@ -1,30 +1,22 @@
 -- Watches and links stand together in nodes: what both lists are where a node is added or changed.
-use Rattle.std.proofs.Common.{◌≡◌, ◌∙◌, ℕ, zero, suc, ◌+◌, ◌-◌, ◌*◌, ◌/◌, ◌%◌, ◌<◌, Bool, true, false, ◌++◌, ◌∷◌, [], List, refl, ap, sym, subst, length, get_or, arith, add-zero, Option, Some, None}
+use Rattle.std.proofs.Common.{◌≡◌, ◌∙◌, ℕ, zero, suc, ◌+◌, ◌-◌, ◌*◌, ◌/◌, ◌%◌, ◌<◌, ◌≤◌, Bool, true, false, ◌++◌, ◌∷◌, [], List, refl, ap, sym, length, get_or, arith, add-zero, eqb, ⊎_elim, Option, Some, None}
 use Rattle.std.specs.Prelude.{slice_set}
 use Rattle.std.proofs.Math.Nat.{add-mod, add-mod_right}
 use Rattle.std.proofs.lemmas.Grind.{common_steps}
-use Rattle.std.proofs.lemmas.List.{map-append, map-set, length-map, get_or-map, same_from_push}
+use Rattle.std.proofs.lemmas.Bool.{cases_Bool, eqb-false}
+use Rattle.std.proofs.lemmas.List.{map-append, map-set, length-map, get_or-map}
 use Rattle.prop_core.specs.declared.lit.Lit.{Lit}
 use Rattle.sat_prop.specs.declared.watch_lists.Watch.{Watch}
 use Rattle.sat_prop.specs.declared.watch_lists.Node.{Node}
-use Rattle.sat_prop.specs.declared.watch_lists.Starts.{Starts}
+use Rattle.sat_prop.specs.declared.watch_lists.Lists.{Lists}
 use Rattle.sat_prop.specs.declared.watch_lists.TheConstants.{NO_WATCH, NO_CLAUSE}
 use Rattle.prop_core.specs.LiteralNumbers.{literal_number, numbered_literal}
-use Rattle.sat_prop.specs.Watches.{AreWatchLists, PutsWatch, watches_from, watches_of, nexts_of, no_node, node_at, watch_at, watch_of, watching, dropped, with_dropped, as_link, begin_of, twin_number, with_start, cleared}
-use Rattle.sat_prop.proofs.WatchLists.{lists_pushed, lists_put, lists_dropped}
+use Rattle.sat_prop.specs.Watches.{AreWatchLists, alone, appended, as_link, cleared, dropped, ends_of, literal_of, nexts_of, no_node, no_watch, node_at, twin_number, watch_at, watch_of, watches_from, watches_of, watching, with_dropped, with_ends, with_next}
+use Rattle.sat_prop.proofs.Links.{ends, linked_to, relinked, relinked_length}
+use Rattle.sat_prop.proofs.Linking.{last_link}
+use Rattle.sat_prop.proofs.WatchLists.{lists_pushed, lists_dropped}
 
 -- ---- numbers of watches
-
--- the number of a watch is a link to it
-pub linked_to : (number : ℕ) → number < NO_WATCH → as_link number ≡ Some number
-linked_to number h = grind (arith, common_steps)
-
--- a link that isn't the end is to a number
-pub goes_on : (next : ℕ) → (next ≡ NO_WATCH → ⊥) → as_link next ≡ Some next
-goes_on next h = grind (arith, common_steps)
-
-pub ends : (next : ℕ) → next ≡ NO_WATCH → as_link next ≡ None
-ends next e = rw e refl
 
 -- of a pair each has the number of the other
 pub twin_even : (number : ℕ) → number % 2 ≡ 0 → twin_number number ≡ suc number
@@ -97,47 +89,80 @@ nexts_set nodes i n = map-set (λ (m : Node). as_link m.next) nodes i n
 
 -- ---- nodes in lists
 
--- a node at the front of the list of its literal
-abbrev pub at_front : List Starts → ℕ → Lit → Node
-at_front starts clause l = record { clause = clause; code = literal_number l; next = begin_of starts l }
+pub more_by_one : (nodes : List Node) (n : Node) → length (nodes ++ n ∷ []) ≡ length nodes + 1
+more_by_one nodes n = grind (arith, common_steps)
 
--- it keeps the watch of that literal
-abbrev pub watch_with : ℕ → ℕ → Lit → Watch
-watch_with number clause l = record { clause = clause; lit = l; twin = twin_number number }
+-- the next one of the last node is none
+pub alone_keeps : (number clause : ℕ) (l : Lit) → watch_of number (alone clause l) ≡ record { clause = clause; lit = l; twin = twin_number number }
+alone_keeps number clause l = ap (λ (x : Lit). with_literal x) (code_back l)
+  where
+    with_literal : Lit → Watch
+    with_literal x = record { clause = clause; lit = x; twin = twin_number number }
 
-pub front_keeps : (number : ℕ) (starts : List Starts) (clause : ℕ) (l : Lit) → watch_of number (at_front starts clause l) ≡ watch_with number clause l
-front_keeps number starts clause l = ap (λ (x : Lit). watch_with number clause x) (code_back l)
+set_same : {X : Type 0} (xs : List X) (i : ℕ) (d : X) → i < length xs → slice_set xs i (get_or xs i d) ≡ xs
+set_same xs i d h = grind (arith, common_steps)
 
--- a node is added to the list of its literal
-pub node_pushed : (nodes : List Node) (starts : List Starts) (waiting : List ℕ) (clause : ℕ) (l : Lit) → AreWatchLists (watches_of nodes) (nexts_of nodes) starts waiting → l.var < length starts → length nodes < NO_WATCH
-    → AreWatchLists (watches_of (nodes ++ at_front starts clause l ∷ [])) (nexts_of (nodes ++ at_front starts clause l ∷ [])) (with_start starts l (length nodes)) waiting
-node_pushed nodes starts waiting clause l a known few =
+-- a node comes after another one
+pub nexts_linked : (nodes : List Node) (before after : ℕ) → nexts_of (with_next nodes before after) ≡ relinked (nexts_of nodes) before (as_link after)
+nexts_linked nodes before after = ⊎_elim
+    (λ q. rw q refl)
+    (λ q. rw q (nexts_set nodes before (record (node_at nodes before) { next = after })))
+    (cases_Bool (eqb before NO_WATCH))
+
+pub watches_linked : (nodes : List Node) (before after : ℕ) → ((before ≡ NO_WATCH → ⊥) → before < length nodes) → watches_of (with_next nodes before after) ≡ watches_of nodes
+watches_linked nodes before after within = ⊎_elim
+    (λ q. rw q refl)
+    (λ q. let b = within (eqb-false before NO_WATCH q) in
     let n = count_watches nodes in
-    let small : as_link (length (watches_of nodes)) ≡ Some (length (watches_of nodes)) = subst (λ (k : ℕ). as_link k ≡ Some k) (sym n) (linked_to (length nodes) few) in
-    rw (watches_pushed nodes (at_front starts clause l), nexts_pushed nodes (at_front starts clause l), front_keeps (length nodes) starts clause l, ← n) (lists_pushed (watches_of nodes) (nexts_of nodes) starts waiting a (watch_with (length (watches_of nodes)) clause l) known small)
+    rw q (watches_set nodes before (record (node_at nodes before) { next = after })
+    ∙ ap (λ (w : Watch). slice_set (watches_of nodes) before w) (sym (watch_of_node nodes before no_node b))
+    ∙ set_same (watches_of nodes) before no_watch (omega arith)))
+    (cases_Bool (eqb before NO_WATCH))
 
--- the node that a watch has at another literal
-abbrev pub moved : List Node → List Starts → ℕ → Lit → Node
-moved nodes starts number l = at_front starts (node_at nodes number).clause l
+pub linked_length : (nodes : List Node) (before after : ℕ) → length (with_next nodes before after) ≡ length nodes
+linked_length nodes before after = sym (count_nexts (with_next nodes before after)) ∙ ap length (nexts_linked nodes before after) ∙ relinked_length (nexts_of nodes) before (as_link after) ∙ count_nexts nodes
 
--- the last that waits is put into the list of a literal
-pub node_put : (nodes : List Node) (starts : List Starts) (others : List ℕ) (number : ℕ) (l : Lit) → AreWatchLists (watches_of nodes) (nexts_of nodes) starts (others ++ number ∷ []) → l.var < length starts → number < length nodes → number < NO_WATCH
-    → AreWatchLists (watches_of (slice_set nodes number (moved nodes starts number l))) (nexts_of (slice_set nodes number (moved nodes starts number l))) (with_start starts l number) others
-node_put nodes starts others number l a known within few =
-    let w : watching (watch_at (watches_of nodes) number) l ≡ watch_of number (moved nodes starts number l) =
-    ap (λ (x : Watch). watching x l) (watch_of_node nodes number _ within) ∙ sym (front_keeps number starts (node_at nodes number).clause l) in
-    rw (watches_set nodes number (moved nodes starts number l), nexts_set nodes number (moved nodes starts number l), ← w) (lists_put (watches_of nodes) (nexts_of nodes) starts others number a l known (linked_to number few))
+-- a node watches another literal, and comes before none
+pub nexts_turned : (nodes : List Node) (number clause : ℕ) (l : Lit) → nexts_of (slice_set nodes number (alone clause l)) ≡ slice_set (nexts_of nodes) number None
+nexts_turned nodes number clause l = nexts_set nodes number (alone clause l) ∙ ap (λ (o : Option ℕ). slice_set (nexts_of nodes) number o) (ends NO_WATCH refl)
 
--- so it watches that literal, and waits no more
-pub node_puts : (nodes : List Node) (starts : List Starts) (others : List ℕ) (number : ℕ) (l : Lit) (vars spare : ℕ) → number < length nodes
-    → PutsWatch (record { watches = watches_of nodes; waiting = others ++ number ∷ []; vars = vars; spare = spare })
-    (record { watches = watches_of (slice_set nodes number (moved nodes starts number l)); waiting = others; vars = vars; spare = spare }) l
-node_puts nodes starts others number l vars spare within before last e =
-    let s = same_from_push others before number last e in
-    let w = watches_set nodes number (moved nodes starts number l) in
-    let g : watch_of number (moved nodes starts number l) ≡ watching (watch_at (watches_of nodes) number) l =
-    front_keeps number starts (node_at nodes number).clause l ∙ sym (ap (λ (x : Watch). watching x l) (watch_of_node nodes number _ within)) in
-    rw (w, ← s.0, ← s.1, g) refl
+pub watches_turned : (nodes : List Node) (number : ℕ) (l : Lit) → number < length nodes → watches_of (slice_set nodes number (alone (node_at nodes number).clause l)) ≡ slice_set (watches_of nodes) number (watching (watch_at (watches_of nodes) number) l)
+watches_turned nodes number l h =
+    let w : watch_of number (alone (node_at nodes number).clause l) ≡ watching (watch_at (watches_of nodes) number) l =
+    alone_keeps number (node_at nodes number).clause l ∙ sym (ap (λ (x : Watch). watching x l) (watch_of_node nodes number no_node h)) in
+    watches_set nodes number (alone (node_at nodes number).clause l) ∙ ap (λ (x : Watch). slice_set (watches_of nodes) number x) w
+
+-- the last of a list is a node, or none
+pub ends_within : (nodes : List Node) (lists : List Lists) (l : Lit) → length nodes ≤ NO_WATCH → AreWatchLists (watches_of nodes) (nexts_of nodes) lists → l.var < length lists → ((ends_of lists l).last ≡ NO_WATCH → ⊥) → (ends_of lists l).last < length nodes
+ends_within nodes lists l few a known d =
+    let n = count_nexts nodes in
+    let b = last_link (literal_of (watches_of nodes)) (nexts_of nodes) lists a.numbers (omega arith) a.linked l known d in
+    omega arith
+
+-- a node is added: its watch
+pub node_watches : (nodes new : List Node) (lists : List Lists) (clause : ℕ) (l : Lit) → AreWatchLists (watches_of nodes) (nexts_of nodes) lists → l.var < length lists → length nodes < NO_WATCH → new ≡ with_next (nodes ++ alone clause l ∷ []) (ends_of lists l).last (length nodes)
+    → watches_of new ≡ watches_of nodes ++ record { clause = clause; lit = l; twin = twin_number (length nodes) } ∷ []
+node_watches nodes new lists clause l a known few e =
+    let more : length (nodes ++ alone clause l ∷ []) ≡ length nodes + 1 = grind (arith, common_steps) in
+    ap watches_of e
+    ∙ watches_linked (nodes ++ alone clause l ∷ []) (ends_of lists l).last (length nodes) (λ d. let b = ends_within nodes lists l (omega arith) a known d in omega arith)
+    ∙ watches_pushed nodes (alone clause l)
+    ∙ ap (λ (w : Watch). watches_of nodes ++ w ∷ []) (alone_keeps (length nodes) clause l)
+
+-- a node is added, and comes after the last one of its list
+pub node_pushed : (nodes new : List Node) (lists : List Lists) (clause : ℕ) (l : Lit) → AreWatchLists (watches_of nodes) (nexts_of nodes) lists → l.var < length lists → length nodes < NO_WATCH → new ≡ with_next (nodes ++ alone clause l ∷ []) (ends_of lists l).last (length nodes)
+    → AreWatchLists (watches_of new) (nexts_of new) (with_ends lists l (appended (ends_of lists l) (length nodes)))
+node_pushed nodes new lists clause l a known few e =
+    let n = count_watches nodes in
+    let m = count_nexts nodes in
+    let w : Watch = record { clause = clause; lit = l; twin = twin_number (length (watches_of nodes)) } in
+    let p = lists_pushed (watches_of nodes) (nexts_of nodes) lists a (omega arith) w known in
+    let ws : watches_of new ≡ watches_of nodes ++ w ∷ [] = node_watches nodes new lists clause l a known few e ∙ ap (λ (k : ℕ). watches_of nodes ++ record { clause = clause; lit = l; twin = twin_number k } ∷ []) (sym n) in
+    let ns : nexts_of new ≡ relinked (nexts_of nodes ++ None ∷ []) (ends_of lists l).last (Some (length (watches_of nodes))) =
+    ap nexts_of e ∙ nexts_linked (nodes ++ alone clause l ∷ []) (ends_of lists l).last (length nodes)
+    ∙ ap (λ (xs : List (Option ℕ)). relinked xs (ends_of lists l).last (as_link (length nodes))) (nexts_pushed nodes (alone clause l) ∙ ap (λ (o : Option ℕ). nexts_of nodes ++ o ∷ []) (ends NO_WATCH refl))
+    ∙ ap (λ (o : Option ℕ). relinked (nexts_of nodes ++ None ∷ []) (ends_of lists l).last o) (linked_to (length nodes) few ∙ ap (λ (k : ℕ). Some k) (sym n)) in
+    rw (ws, ns, ← n) p
 
 -- a node whose watch is dropped
 abbrev cleared_node : List Node → ℕ → Node
@@ -148,25 +173,20 @@ watches_cleared nodes number within = watches_set nodes number (cleared_node nod
 
 pub nexts_cleared : (nodes : List Node) (number : ℕ) → number < length nodes → nexts_of (cleared nodes number) ≡ nexts_of nodes
 nexts_cleared nodes number within =
-    nexts_set nodes number (cleared_node nodes number) ∙ ap (λ (o : Option ℕ). slice_set (nexts_of nodes) number o) (sym (next_of_node nodes number no_node within)) ∙ set_same (nexts_of nodes) number (let e = count_nexts nodes in omega arith)
-  where
-    set_same : (nexts : List (Option ℕ)) (n : ℕ) → n < length nexts → slice_set nexts n (get_or nexts n None) ≡ nexts
-    set_same nexts n h = grind (arith, common_steps)
+    nexts_set nodes number (cleared_node nodes number) ∙ ap (λ (o : Option ℕ). slice_set (nexts_of nodes) number o) (sym (next_of_node nodes number no_node within)) ∙ set_same (nexts_of nodes) number None (let e = count_nexts nodes in omega arith)
 
 -- so it watches no clause, in the list where it stands
-pub node_cleared : (nodes : List Node) (starts : List Starts) (waiting : List ℕ) (number : ℕ) → number < length nodes → AreWatchLists (watches_of nodes) (nexts_of nodes) starts waiting
-    → AreWatchLists (watches_of (cleared nodes number)) (nexts_of (cleared nodes number)) starts waiting
-node_cleared nodes starts waiting number within a =
-    rw (watches_cleared nodes number within, nexts_cleared nodes number within) (lists_dropped (watches_of nodes) (nexts_of nodes) starts waiting number (let e = count_watches nodes in omega arith) a)
+pub node_cleared : (nodes : List Node) (lists : List Lists) (number : ℕ) → number < length nodes → AreWatchLists (watches_of nodes) (nexts_of nodes) lists
+    → AreWatchLists (watches_of (cleared nodes number)) (nexts_of (cleared nodes number)) lists
+node_cleared nodes lists number within a =
+    rw (watches_cleared nodes number within, nexts_cleared nodes number within) (lists_dropped (watches_of nodes) (nexts_of nodes) lists number (let e = count_watches nodes in omega arith) a)
 
 -- both watches of a clause are added
-pub pair_pushed : (nodes one two : List Node) (starts between : List Starts) (clause : ℕ) (first second : Lit) → length nodes % 2 ≡ 0 → one ≡ nodes ++ at_front starts clause first ∷ [] → two ≡ one ++ at_front between clause second ∷ []
-    → watches_of two ≡ (watches_of nodes ++ record { clause = clause; lit = first; twin = suc (length (watches_of nodes)) } ∷ []) ++ record { clause = clause; lit = second; twin = length (watches_of nodes) } ∷ []
-pair_pushed nodes one two starts between clause first second even a b =
-    let n = count_watches nodes in
+pub pair_pushed : (nodes one two : List Watch) (clause : ℕ) (first second : Lit) → length nodes % 2 ≡ 0 → one ≡ nodes ++ record { clause = clause; lit = first; twin = twin_number (length nodes) } ∷ [] → two ≡ one ++ record { clause = clause; lit = second; twin = twin_number (length one) } ∷ []
+    → two ≡ (nodes ++ record { clause = clause; lit = first; twin = suc (length nodes) } ∷ []) ++ record { clause = clause; lit = second; twin = length nodes } ∷ []
+pair_pushed nodes one two clause first second even a b =
     let size : length one ≡ length nodes + 1 = rw a (grind (arith, common_steps)) in
-    let t1 : twin_number (length nodes) ≡ suc (length (watches_of nodes)) = twin_even (length nodes) even ∙ ap suc (sym n) in
-    let t2 : twin_number (length one) ≡ length (watches_of nodes) = ap twin_number size ∙ twin_odd (length nodes) even ∙ sym n in
-    let w1 = ap watches_of a ∙ watches_pushed nodes (at_front starts clause first) ∙ ap (λ (w : Watch). watches_of nodes ++ w ∷ []) (front_keeps (length nodes) starts clause first) in
-    let w2 = ap watches_of b ∙ watches_pushed one (at_front between clause second) ∙ ap (λ (w : Watch). watches_of one ++ w ∷ []) (front_keeps (length one) between clause second) in
-    w2 ∙ rw (w1, t1, t2) refl
+    let t1 : twin_number (length nodes) ≡ suc (length nodes) = twin_even (length nodes) even in
+    let t2 : twin_number (length one) ≡ length nodes = ap twin_number size ∙ twin_odd (length nodes) even in
+    let w1 : one ≡ nodes ++ record { clause = clause; lit = first; twin = suc (length nodes) } ∷ [] = a ∙ ap (λ (k : ℕ). nodes ++ record { clause = clause; lit = first; twin = k } ∷ []) t1 in
+    b ∙ ap (λ (k : ℕ). one ++ record { clause = clause; lit = second; twin = k } ∷ []) t2 ∙ ap (λ (ws : List Watch). ws ++ record { clause = clause; lit = second; twin = length nodes } ∷ []) w1

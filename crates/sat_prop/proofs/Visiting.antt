@@ -1,11 +1,10 @@
 -- Watches that wait are looked at one by one, and clauses are attached.
 use Rattle.std.proofs.Common.{◌≡◌, ◌≢◌, ◌↔◌, ◌∙◌, Bool, IsTrue, ℕ, suc, ◌+◌, ◌-◌, ◌<◌, ◌≤◌, true, false, ◌++◌, ◌∷◌, [], List, refl, ap, sym, subst, length, take, get_or, max, arith, inl, inr, ⊎_elim, Some, Option}
-use Rattle.std.specs.Prelude.{◌⊎◌, Contains, IfSome, Result, Ok, Err, OnOk, OnErr, slice_set, nat_eq}
+use Rattle.std.specs.Prelude.{◌⊎◌, Contains, IfSome, Result, Ok, Err, OnOk, OnErr, slice_set}
 use Rattle.des_base.specs.declared.memory.Memory.{Memory}
 use Rattle.std.specs.List.{list_any}
 use Rattle.std.proofs.lemmas.Grind.{common_steps}
 use Rattle.std.proofs.lemmas.Bool.{cases_eq, cases_lt, ne_eqb, or_right}
-use Rattle.std.proofs.lemmas.List.Folds.{list_any-append}
 use Rattle.prop_core.specs.declared.lit.Lit.{Lit}
 use Rattle.prop_core.specs.Clauses.{Clause, HasValues, negation, same_literal, is_true, is_false, AreConsistent}
 use Rattle.prop_core.specs.Derivation.{standing, falsified, clause_numbered}
@@ -18,21 +17,22 @@ use Rattle.sat_prop.specs.Changes.{IsFront, Propagates, with_true_literal, with_
 use Rattle.sat_prop.specs.declared.watch_lists.Watch.{Watch}
 use Rattle.sat_prop.specs.declared.watched.Judged.{Judged}
 use Rattle.sat_prop.specs.declared.watched.Judged.TheVariants.{Stays, Moves, False}
-use Rattle.sat_prop.specs.Watches.{WatchState, ForgetsWatch, IsLastWaiting, IsLive, PutsWatch, watch_at, watching, is_among, with_dropped, with_watched_clause, without_clause, other_literal}
+use Rattle.sat_prop.specs.Watches.{WatchState, IsFirstWaiting, IsLive, MovesWatch, PassesWatch, watch_at, watching, is_among, with_dropped, with_watched_clause, without_clause, other_literal}
 use Rattle.sat_prop.specs.Watching.{WatchedState, AreWatched, AreVisited, IsVisiting, Visits, IsWatch, IsSettled, MakesUp, IsJudgedWatch, IsReplaced, IsReplacement, IsShort, IsLookedAt, IsCovered, Subsumes, AreTwo, is_part_of, IsSubsumed}
 use Rattle.sat_prop.specs.Kept.{IsTrailState}
 use Rattle.sat_prop.proofs.Fronts.{split_last, front_itself, front_trans, front_length, front_at, held_same, front_held, front_same, number_of, known_at, contains_more}
 use Rattle.sat_prop.proofs.Links.{not_both}
+use Rattle.sat_prop.proofs.Moving.{first_same}
 use Rattle.sat_prop.proofs.Covering.{covered_itself, covered_kept, live_of, subsumes_trans, twin_live}
 use Rattle.sat_prop.proofs.Dropping.{drop_apart, drop_length, drop_lit, drop_live, drop_other, drop_twin}
 use Rattle.sat_prop.proofs.Settling.{negation_once, other_among, settled_apart, settled_forced, settled_live, settled_more, forced_longer, visited_more, watched_more}
 
 -- ---- the next that waits stays where it is
 
-pub not_among : (m n : ℕ) (others : List ℕ) → (m ≡ n → ⊥) → is_among m others ≡ false → is_among m (others ++ n ∷ []) ≡ false
-not_among m n others d f = let q = ne_eqb m n d in list_any-append (nat_eq m) others (n ∷ []) ∙ rw (f, q) refl
+pub not_among : (m n : ℕ) (others : List ℕ) → (m ≡ n → ⊥) → is_among m others ≡ false → is_among m (n ∷ others) ≡ false
+not_among m n others d f = let q = ne_eqb m n d in rw (q, f) refl
 
-pub visited_stays : (t : TrailState) (w : WatchedState) (others : List ℕ) (n : ℕ) → w.lists.waiting ≡ others ++ n ∷ [] → AreVisited t w → IsSettled t.clauses t.literals (w.seen + 1) w.lists.watches n → AreVisited t (record w { lists = record w.lists { waiting = others } })
+pub visited_stays : (t : TrailState) (w : WatchedState) (others : List ℕ) (n : ℕ) → w.lists.waiting ≡ n ∷ others → AreVisited t w → IsSettled t.clauses t.literals (w.seen + 1) w.lists.watches n → AreVisited t (record w { lists = record w.lists { waiting = others } })
 visited_stays t w others n e a s m h f = ⊎_elim
     (λ q. subst (λ (k : ℕ). IsSettled t.clauses t.literals (w.seen + 1) w.lists.watches k) (sym q) s)
     (λ d. a m h (subst (λ (xs : List ℕ). is_among m xs ≡ false) (sym e) (not_among m n others d f)))
@@ -186,7 +186,7 @@ module _ (t : TrailState) (w : WatchedState) (n : ℕ) (clause : Clause) (l : Li
         (settled_here w.seen (omega arith)) (settled_there w.seen (omega arith)) (λ m h d f. settled_moved w.seen m h d f (a.settled m h)) m (rw (← same_length) h);
   }
 
-  pub visited_moves : (others : List ℕ) → w.lists.waiting ≡ others ++ n ∷ [] → AreVisited t w → AreVisited t (record w { lists = record w.lists { watches = moved; waiting = others } })
+  pub visited_moves : (others : List ℕ) → w.lists.waiting ≡ n ∷ others → AreVisited t w → AreVisited t (record w { lists = record w.lists { watches = moved; waiting = others } })
   visited_moves others e v m h g = each_moved (λ m. is_among m others ≡ false → IsSettled t.clauses t.literals (w.seen + 1) moved m)
       (λ q. settled_here (w.seen + 1) (omega arith))
       (λ q. settled_there (w.seen + 1) (omega arith))
@@ -482,10 +482,6 @@ watched_waits t w lists a e v s = record {
   settled = rw e a.settled;
 }
 
--- with one of them put back where it was
-pub put_same : (watches : List Watch) (n : ℕ) → n < length watches → slice_set watches n (watching (watch_at watches n) (watch_at watches n).lit) ≡ watches
-put_same watches n h = grind (arith, common_steps)
-
 -- where all wait that watch the literal that becomes false and weren't dropped, the others are settled by it
 pub visited_begins : (t : TrailState) (w : WatchedState) (l : Lit) → AreWatched t w → literal_at t.literals w.seen ≡ negation l → ((n : ℕ) → n < length w.lists.watches → IsLive w.lists.watches n → (watch_at w.lists.watches n).lit ≡ l → is_among n w.lists.waiting ≡ true) → AreVisited t w
 visited_begins t w l a falls waits n h f = settled_live t.clauses t.literals (w.seen + 1) w.lists.watches n (λ live. settled_apart t.clauses t.literals w.seen w.lists.watches n l (a.settled n h) falls (λ e. not_both _ (waits n h live e) f))
@@ -594,30 +590,40 @@ judged_read old new w n watch other result e f k b a h live falls r = judged_rep
 
 -- ---- what becomes of the next watch that waits
 
-pub look_stays : (t : TrailState) (w : WatchedState) (lists : WatchState) (n : ℕ) → IsLastWaiting w.lists n → AreWatched t w → PutsWatch w.lists lists (watch_at w.lists.watches n).lit → AreWatched t (record w { lists = lists })
-look_stays t w lists n x a p =
-    let e = p x.others n x.last in
-    watched_waits t w lists a (ap (λ (s : WatchState). s.watches) e ∙ put_same w.lists.watches n x.within) (ap (λ (s : WatchState). s.vars) e) (ap (λ (s : WatchState). s.spare) e)
+pub look_passes : (t : TrailState) (w : WatchedState) (lists : WatchState) (n : ℕ) → IsFirstWaiting w.lists n → AreWatched t w → PassesWatch w.lists lists → AreWatched t (record w { lists = lists })
+look_passes t w lists n x a p =
+    let e = p x.others n x.first in
+    watched_waits t w lists a (ap (λ (s : WatchState). s.watches) e) (ap (λ (s : WatchState). s.vars) e) (ap (λ (s : WatchState). s.spare) e)
 
-pub look_stays_visited : (t : TrailState) (w : WatchedState) (lists : WatchState) (n : ℕ) → IsLastWaiting w.lists n → PutsWatch w.lists lists (watch_at w.lists.watches n).lit → AreVisited t w → IsSettled t.clauses t.literals (w.seen + 1) w.lists.watches n → AreVisited t (record w { lists = lists })
-look_stays_visited t w lists n x p v s =
-    let e = p x.others n x.last in
-    let same = ap (λ (s : WatchState). s.watches) e ∙ put_same w.lists.watches n x.within in
-    let rest = ap (λ (s : WatchState). s.waiting) e in
-    λ m h f. subst (λ (ws : List Watch). IsSettled t.clauses t.literals (w.seen + 1) ws m) (sym same)
-    (visited_stays t w x.others n x.last v s m (subst (λ (ws : List Watch). m < length ws) same h) (subst (λ (xs : List ℕ). is_among m xs ≡ false) rest f))
+pub look_passes_visited : (t : TrailState) (w : WatchedState) (lists : WatchState) (n : ℕ) → IsFirstWaiting w.lists n → PassesWatch w.lists lists → AreVisited t w → IsSettled t.clauses t.literals (w.seen + 1) w.lists.watches n → AreVisited t (record w { lists = lists })
+look_passes_visited t w lists n x p v s =
+    subst (λ (s : WatchState). AreVisited t (record w { lists = s })) (sym (p x.others n x.first)) (visited_stays t w x.others n x.first v s)
 
-pub look_moves : (t : TrailState) (w : WatchedState) (lists : WatchState) (n : ℕ) (clause : Clause) (l : Lit) → AreConsistent t.literals → IsLastWaiting w.lists n → AreWatched t w → w.seen < length t.literals
+-- then there is one less that waits
+pub one_less : (old new : List ℕ) (n : ℕ) (others : List ℕ) → old ≡ n ∷ others → new ≡ others → length new + 1 ≡ length old
+one_less old new n others e f = let q : length others + 1 ≡ suc (length others) = omega arith in ap (λ (xs : List ℕ). length xs + 1) f ∙ q ∙ sym (ap length e)
+
+-- it moves to another literal, since its own is false
+pub moves_apart : (t : TrailState) (w : WatchedState) (n : ℕ) (clause : Clause) (l : Lit) → w.seen < length t.literals → literal_at t.literals w.seen ≡ negation (watch_at w.lists.watches n).lit → IsReplacement t.literals clause (other_literal w.lists.watches n) w.seen l
+    → (m : ℕ) → IsFirstWaiting w.lists n → IsFirstWaiting w.lists m → (watch_at w.lists.watches m).lit ≡ l → ⊥
+moves_apart t w n clause l b falls r m x y e =
+    let j : w.seen < length (take (w.seen + 1) t.literals) = grind (arith, common_steps) in
+    let g : get_or (take (w.seen + 1) t.literals) w.seen no_literal ≡ get_or t.literals w.seen no_literal = grind (arith, common_steps) in
+    let f : is_false (take (w.seen + 1) t.literals) (watch_at w.lists.watches n).lit ≡ true = true_at (take (w.seen + 1) t.literals) (negation (watch_at w.lists.watches n).lit) w.seen j (g ∙ falls) in
+    let same : n ≡ m = first_same n m x.others y.others (sym x.first ∙ y.first) in
+    not_both _ (subst (λ (k : Lit). is_false (take (w.seen + 1) t.literals) k ≡ true) (ap (λ (k : ℕ). (watch_at w.lists.watches k).lit) same ∙ e) f) r.not_false
+
+pub look_moves : (t : TrailState) (w : WatchedState) (lists : WatchState) (n : ℕ) (clause : Clause) (l : Lit) → AreConsistent t.literals → IsFirstWaiting w.lists n → AreWatched t w → w.seen < length t.literals
     → clause_numbered t.clauses (watch_at w.lists.watches n).clause ≡ Some clause → literal_at t.literals w.seen ≡ negation (watch_at w.lists.watches n).lit → IsReplacement t.literals clause (other_literal w.lists.watches n) w.seen l
-    → PutsWatch w.lists lists l → AreWatched t (record w { lists = lists })
+    → MovesWatch w.lists lists l → AreWatched t (record w { lists = lists })
 look_moves t w lists n clause l c x a b held falls r p =
-    subst (λ (s : WatchState). AreWatched t (record w { lists = s })) (sym (p x.others n x.last)) (watched_moves t w n clause l c a x.within b held falls r x.others)
+    subst (λ (s : WatchState). AreWatched t (record w { lists = s })) (sym (p x.others n x.first)) (watched_moves t w n clause l c a x.within b held falls r x.others)
 
-pub look_moves_visited : (t : TrailState) (w : WatchedState) (lists : WatchState) (n : ℕ) (clause : Clause) (l : Lit) → AreConsistent t.literals → IsLastWaiting w.lists n → AreWatched t w → w.seen < length t.literals
+pub look_moves_visited : (t : TrailState) (w : WatchedState) (lists : WatchState) (n : ℕ) (clause : Clause) (l : Lit) → AreConsistent t.literals → IsFirstWaiting w.lists n → AreWatched t w → w.seen < length t.literals
     → clause_numbered t.clauses (watch_at w.lists.watches n).clause ≡ Some clause → literal_at t.literals w.seen ≡ negation (watch_at w.lists.watches n).lit → IsReplacement t.literals clause (other_literal w.lists.watches n) w.seen l
-    → PutsWatch w.lists lists l → AreVisited t w → AreVisited t (record w { lists = lists })
+    → MovesWatch w.lists lists l → AreVisited t w → AreVisited t (record w { lists = lists })
 look_moves_visited t w lists n clause l c x a b held falls r p v =
-    subst (λ (s : WatchState). AreVisited t (record w { lists = s })) (sym (p x.others n x.last)) (visited_moves t w n clause l c a x.within b held falls r x.others x.last v)
+    subst (λ (s : WatchState). AreVisited t (record w { lists = s })) (sym (p x.others n x.first)) (visited_moves t w n clause l c a x.within b held falls r x.others x.first v)
 
 -- a literal that is true has a variable
 pub at_known : (t : TrailState) (place : ℕ) → IsTrailState t → place < length t.literals → (literal_at t.literals place).var < t.vars
@@ -675,15 +681,9 @@ visits_same t after old w now p e short seen a = record {
 
 -- ---- a watch that was dropped waits no more
 
-pub look_forgets : (t : TrailState) (w : WatchedState) (lists : WatchState) (n : ℕ) → IsLastWaiting w.lists n → AreWatched t w → ForgetsWatch w.lists lists → AreWatched t (record w { lists = lists })
-look_forgets t w lists n x a p =
-    let e = p x.others n x.last in
-    watched_waits t w lists a (ap (λ (s : WatchState). s.watches) e) (ap (λ (s : WatchState). s.vars) e) (ap (λ (s : WatchState). s.spare) e)
-
-pub look_forgets_visited : (t : TrailState) (w : WatchedState) (lists : WatchState) (n : ℕ) → IsLastWaiting w.lists n → (watch_at w.lists.watches n).clause ≡ 0 → ForgetsWatch w.lists lists → AreVisited t w → AreVisited t (record w { lists = lists })
+pub look_forgets_visited : (t : TrailState) (w : WatchedState) (lists : WatchState) (n : ℕ) → IsFirstWaiting w.lists n → (watch_at w.lists.watches n).clause ≡ 0 → PassesWatch w.lists lists → AreVisited t w → AreVisited t (record w { lists = lists })
 look_forgets_visited t w lists n x gone p v =
-    subst (λ (s : WatchState). AreVisited t (record w { lists = s })) (sym (p x.others n x.last))
-    (visited_stays t w x.others n x.last v (settled_live t.clauses t.literals (w.seen + 1) w.lists.watches n (λ live. let l : 1 ≤ (watch_at w.lists.watches n).clause = live in absurd (omega arith))))
+    look_passes_visited t w lists n x p v (settled_live t.clauses t.literals (w.seen + 1) w.lists.watches n (λ live. let l : 1 ≤ (watch_at w.lists.watches n).clause = live in absurd (omega arith)))
 
 -- ---- a clause is no longer watched that another one subsumes which is
 

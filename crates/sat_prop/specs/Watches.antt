@@ -1,15 +1,17 @@
--- Clauses that are watched at literals (Moskewicz and others, "Chaff: engineering an efficient SAT solver", 2001): each watch stands in the list of its literal, linked by numbers, or waits.
-use Rattle.std.specs.Prelude.{◌≡◌, ℕ, ◌+◌, ◌-◌, ◌%◌, ◌<◌, ◌≤◌, ◌==◌, true, false, suc, Bool, List, [], ◌∷◌, ◌++◌, length, map, replicate, Option, Some, None, nat_eq, slice_index_or, slice_set, if◌then◌else◌}
-use Rattle.std.specs.List.{list_any, IsDistinct}
+-- Clauses that are watched at literals (Moskewicz and others, "Chaff: engineering an efficient SAT solver", 2001): each watch stands in the list of its literal, linked by numbers.
+use Rattle.std.specs.Prelude.{◌≡◌, ◌≢◌, ℕ, ◌+◌, ◌-◌, ◌%◌, ◌<◌, ◌≤◌, ◌==◌, true, false, zero, suc, Bool, List, [], ◌∷◌, ◌++◌, length, map, replicate, Option, Some, None, nat_eq, slice_index_or, slice_set, if◌then◌else◌}
+use Rattle.std.specs.List.{list_any}
 use Rattle.prop_core.specs.declared.lit.Lit.{Lit}
-use Rattle.prop_core.specs.LiteralNumbers.{numbered_literal}
+use Rattle.prop_core.specs.LiteralNumbers.{literal_number, numbered_literal}
 use Rattle.prop_core.specs.Trail.{no_literal}
 use Rattle.sat_prop.specs.declared.watch_lists.Watch.{Watch}
 use Rattle.sat_prop.specs.declared.watch_lists.Node.{Node}
-use Rattle.sat_prop.specs.declared.watch_lists.Starts.{Starts}
+use Rattle.sat_prop.specs.declared.watch_lists.Ends.{Ends}
+use Rattle.sat_prop.specs.declared.watch_lists.Lists.{Lists}
+use Rattle.sat_prop.specs.declared.watch_lists.Walk.{Walk}
 use Rattle.sat_prop.specs.declared.watch_lists.TheConstants.{NO_WATCH, NO_CLAUSE}
 
--- the watches, the numbers of those that wait, for how many variables there are lists, and for how many more clauses there is room
+-- the watches, the numbers of those that wait to be looked at in this order, for how many variables there are lists, and for how many more clauses there is room
 pub record WatchState : Type 0 where
   pub watches : List Watch
   pub waiting : List ℕ
@@ -65,6 +67,14 @@ no_node = record { clause = 0; code = 0; next = NO_WATCH }
 abbrev pub node_at : List Node → ℕ → Node
 node_at nodes number = slice_index_or nodes number no_node
 
+-- a watch of a literal in no list
+abbrev pub alone : ℕ → Lit → Node
+alone clause l = record { clause = clause; code = literal_number l; next = NO_WATCH }
+
+-- one watch comes after another one, if there is that one
+abbrev pub with_next : List Node → ℕ → ℕ → List Node
+with_next nodes before after = if before == NO_WATCH then nodes else slice_set nodes before (record (node_at nodes before) { next = after })
+
 -- the watch that is kept in the node of a number is dropped
 abbrev pub cleared : List Node → ℕ → List Node
 cleared nodes number = slice_set nodes number (record (node_at nodes number) { clause = NO_CLAUSE })
@@ -76,32 +86,40 @@ is_among number numbers = list_any (nat_eq number) numbers
 -- ---- lists
 
 -- both lists of a variable are empty
-abbrev pub empty : Starts
-empty = record { positive = NO_WATCH; negative = NO_WATCH }
+abbrev pub empty : Lists
+empty = record { positive = record { first = NO_WATCH; last = NO_WATCH }; negative = record { first = NO_WATCH; last = NO_WATCH } }
 
--- where the two lists of a variable begin; where there are none, both are empty
-abbrev pub starts_at : List Starts → ℕ → Starts
-starts_at starts var = slice_index_or starts var empty
+-- the two lists of a variable; where there are none, both are empty
+abbrev pub lists_at : List Lists → ℕ → Lists
+lists_at lists var = slice_index_or lists var empty
 
 -- the lists of so many variables, all empty
-abbrev pub no_starts : ℕ → List Starts
-no_starts count = replicate count empty
+abbrev pub no_lists : ℕ → List Lists
+no_lists count = replicate count empty
 
--- where the list of a literal begins
-abbrev pub begin_of : List Starts → Lit → ℕ
-begin_of starts l = if l.positive then (starts_at starts l.var).positive else (starts_at starts l.var).negative
+-- the ends of the list of this sign
+abbrev pub ends_in : Lists → Bool → Ends
+ends_in both positive = if positive then both.positive else both.negative
 
--- the number of the first watch in the list of a literal, or none where the list is empty
-abbrev pub start_of : List Starts → Lit → Option ℕ
-start_of starts l = as_link (begin_of starts l)
+-- the ends of the list of a literal
+abbrev pub ends_of : List Lists → Lit → Ends
+ends_of lists l = ends_in (lists_at lists l.var) l.positive
 
--- of the two lists of a variable, that of this sign begins with the watch of this number
-abbrev pub begun : Starts → Bool → ℕ → Starts
-begun starts positive first = if positive then record starts { positive = first } else record starts { negative = first }
+-- of the two lists of a variable, that of this sign has other ends
+abbrev pub ended : Lists → Bool → Ends → Lists
+ended both positive ends = if positive then record both { positive = ends } else record both { negative = ends }
 
--- the list of a literal begins elsewhere
-abbrev pub with_start : List Starts → Lit → ℕ → List Starts
-with_start starts l first = slice_set starts l.var (begun (starts_at starts l.var) l.positive first)
+-- the list of a literal has other ends
+abbrev pub with_ends : List Lists → Lit → Ends → List Lists
+with_ends lists l ends = slice_set lists l.var (ended (lists_at lists l.var) l.positive ends)
+
+-- the ends of a list to which a watch is appended
+abbrev pub appended : Ends → ℕ → Ends
+appended ends number = record { first = if ends.last == NO_WATCH then number else ends.first; last = number }
+
+-- the ends of a list that a watch leaves, where those before and after it are known
+abbrev pub unlinked : Ends → ℕ → ℕ → Ends
+unlinked ends before after = record { first = if before == NO_WATCH then after else ends.first; last = if after == NO_WATCH then before else ends.last }
 
 -- from a number on one passes these, none twice, and comes to an end
 abbrev pub Links : List (Option ℕ) → Option ℕ → List ℕ → Type 0
@@ -109,41 +127,86 @@ Links nexts first [] = first ≡ None
 Links nexts first (number ∷ numbers) =
     (first ≡ Some number) × (number < length nexts) × (is_among number numbers ≡ false) × Links nexts (slice_index_or nexts number None) numbers
 
--- the numbers that one passes are appended
-abbrev pub Drains : List (Option ℕ) → Option ℕ → List ℕ → List ℕ → Type 0
-Drains nexts first old new = (numbers : List ℕ) × Links nexts first numbers × (new ≡ old ++ numbers)
+-- the first of these, or none
+abbrev pub first_of : List ℕ → ℕ
+first_of [] = NO_WATCH
+first_of (number ∷ numbers) = number
 
--- Each watch that wasn't dropped stands in the list of its literal, or waits; in no list and among those that wait none stands twice.
-pub record AreWatchLists (watches : List Watch) (nexts : List (Option ℕ)) (starts : List Starts) (waiting : List ℕ) : Type 0 where
+-- the last of these, or none
+abbrev pub last_of : List ℕ → ℕ
+last_of [] = NO_WATCH
+last_of (number ∷ []) = number
+last_of (number ∷ other ∷ numbers) = last_of (other ∷ numbers)
+
+-- the list with these ends is of these watches
+pub record IsList (nexts : List (Option ℕ)) (ends : Ends) (numbers : List ℕ) : Type 0 where
+  pub links : Links nexts (as_link ends.first) numbers
+  pub last : ends.last ≡ last_of numbers
+
+-- Each literal has a list. All that stand in it are of that literal, as this says of each number.
+pub record AreLinked (of : ℕ → Lit) (nexts : List (Option ℕ)) (lists : List Lists) (numbers : Lit → List ℕ) : Type 0 where
+  pub each : (l : Lit) → l.var < length lists → IsList nexts (ends_of lists l) (numbers l)
+  pub own : (l : Lit) (number : ℕ) → l.var < length lists → is_among number (numbers l) ≡ true → of number ≡ l
+
+-- the literal that a watch watches
+abbrev pub literal_of : List Watch → ℕ → Lit
+literal_of watches number = (watch_at watches number).lit
+
+-- Each watch that wasn't dropped stands in the list of its literal; in no list one stands twice.
+pub record AreWatchLists (watches : List Watch) (nexts : List (Option ℕ)) (lists : List Lists) : Type 0 where
   pub same : length nexts ≡ length watches
-  pub lists : Lit → List ℕ
-  pub linked : (l : Lit) → l.var < length starts → Links nexts (start_of starts l) (lists l)
-  pub own : (l : Lit) (number : ℕ) → l.var < length starts → is_among number (lists l) ≡ true → ((watch_at watches number).lit ≡ l) × (is_among number waiting ≡ false)
-  pub placed : (number : ℕ) → number < length watches → IsLive watches number → is_among number waiting ≡ false → is_among number (lists (watch_at watches number).lit) ≡ true
-  pub known : (number : ℕ) → number < length watches → (watch_at watches number).lit.var < length starts
-  pub once : IsDistinct nat_eq waiting
-  pub below : (number : ℕ) → is_among number waiting ≡ true → number < length watches
+  pub numbers : Lit → List ℕ
+  pub linked : AreLinked (literal_of watches) nexts lists numbers
+  pub placed : (number : ℕ) → number < length watches → IsLive watches number → is_among number (numbers (literal_of watches number)) ≡ true
+  pub known : (number : ℕ) → number < length watches → (literal_of watches number).var < length lists
+
+-- ---- a walk along a list
+
+-- the numbers that one passes from a link on, but no more than so many
+abbrev pub passed_within : ℕ → List (Option ℕ) → Option ℕ → List ℕ
+passed_within zero nexts link = []
+passed_within (suc more) nexts None = []
+passed_within (suc more) nexts (Some number) = number ∷ passed_within more nexts (slice_index_or nexts number None)
+
+-- the numbers that one passes from a number on
+abbrev pub passed : List (Option ℕ) → ℕ → List ℕ
+passed nexts next = passed_within (length nexts) nexts (as_link next)
+
+-- the list of the literal has those that have been looked at and then the rest, of which the first is next
+pub record IsWithin (nexts : List (Option ℕ)) (lists : List Lists) (walk : Walk) : Type 0 where
+  pub known : walk.lit.var < length lists
+  pub done : List ℕ
+  pub rest : List ℕ
+  pub links : Links nexts (as_link (ends_of lists walk.lit).first) (done ++ rest)
+  pub before : walk.before ≡ last_of done
+  pub next : walk.next ≡ first_of rest
+
+-- one walks along a list, or no watch is next
+abbrev pub IsWalk : List (Option ℕ) → List Lists → Walk → Type 0
+IsWalk nexts lists walk = walk.next ≢ NO_WATCH → IsWithin nexts lists walk
 
 -- ---- what the calls do
 
--- a clause that is watched at two literals
+-- a clause that is watched at two literals, and none waits
 abbrev pub with_watched_clause : WatchState → ℕ → Lit → Lit → WatchState
 with_watched_clause s clause first second = record s {
   watches = (s.watches ++ record { clause = clause; lit = first; twin = suc (length s.watches) } ∷ []) ++ record { clause = clause; lit = second; twin = length s.watches } ∷ [];
+  waiting = [];
   spare = s.spare - 1;
 }
 
--- all that watch the literal and weren't dropped wait
+-- Those wait that stand in the list of the literal: all that watch it and weren't dropped; and each that waits watches it.
 pub record IsOpened (old new : WatchState) (l : Lit) : Type 0 where
   pub watches : new.watches ≡ old.watches
   pub vars : new.vars ≡ old.vars
   pub spare : new.spare ≡ old.spare
   pub waits : (number : ℕ) → number < length old.watches → IsLive old.watches number → (watch_at old.watches number).lit ≡ l → is_among number new.waiting ≡ true
+  pub only : (number : ℕ) → is_among number new.waiting ≡ true → (watch_at old.watches number).lit ≡ l
 
--- it is the last of those that wait
-pub record IsLastWaiting (s : WatchState) (number : ℕ) : Type 0 where
+-- it is the first of those that wait
+pub record IsFirstWaiting (s : WatchState) (number : ℕ) : Type 0 where
   pub others : List ℕ
-  pub last : s.waiting ≡ others ++ number ∷ []
+  pub first : s.waiting ≡ number ∷ others
   pub once : is_among number others ≡ false
   pub within : number < length s.watches
 
@@ -151,18 +214,18 @@ pub record IsLastWaiting (s : WatchState) (number : ℕ) : Type 0 where
 abbrev pub watching : Watch → Lit → Watch
 watching w l = record w { lit = l }
 
--- the last of those that wait watches this literal, and waits no more
-abbrev pub PutsWatch : WatchState → WatchState → Lit → Type 0
-PutsWatch old new l = (others : List ℕ) (number : ℕ) → old.waiting ≡ others ++ number ∷ [] →
+-- the first of those that wait watches this literal, and waits no more
+abbrev pub MovesWatch : WatchState → WatchState → Lit → Type 0
+MovesWatch old new l = (others : List ℕ) (number : ℕ) → old.waiting ≡ number ∷ others →
     new ≡ record old { watches = slice_set old.watches number (watching (watch_at old.watches number) l); waiting = others }
 
--- the last of those that wait was dropped
-abbrev pub IsLastDropped : WatchState → Type 0
-IsLastDropped s = (number : ℕ) × IsLastWaiting s number × ((watch_at s.watches number).clause ≡ NO_CLAUSE)
+-- the first of those that wait was dropped
+abbrev pub IsFirstDropped : WatchState → Type 0
+IsFirstDropped s = (number : ℕ) × IsFirstWaiting s number × ((watch_at s.watches number).clause ≡ NO_CLAUSE)
 
--- the last of those that wait waits no more, and is put nowhere
-abbrev pub ForgetsWatch : WatchState → WatchState → Type 0
-ForgetsWatch old new = (others : List ℕ) (number : ℕ) → old.waiting ≡ others ++ number ∷ [] → new ≡ record old { waiting = others }
+-- the first of those that wait waits no more
+abbrev pub PassesWatch : WatchState → WatchState → Type 0
+PassesWatch old new = (others : List ℕ) (number : ℕ) → old.waiting ≡ number ∷ others → new ≡ record old { waiting = others }
 
 -- the watch, of no clause from now on
 abbrev pub dropped : Watch → Watch

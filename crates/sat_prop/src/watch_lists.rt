@@ -1,7 +1,7 @@
-ghost use Rattle.std.specs.Prelude.{◌≡◌, ◌↔◌, ℕ, ◌+◌, ◌-◌, ◌<◌, ◌≤◌, List, ◌++◌, ◌∷◌, [], length, max, slice_set, vec_len, vec_capacity, OnOk, OnErr, IfSome, IfNone, IsTrue};
+ghost use Rattle.std.specs.Prelude.{◌≡◌, ◌≢◌, ◌↔◌, ℕ, ◌+◌, ◌-◌, ◌<◌, ◌≤◌, List, ◌++◌, ◌∷◌, [], length, max, slice_set, vec_len, vec_capacity, OnOk, OnErr, IfSome, IfNone, IsTrue};
 ghost use Rattle.prop_core.specs.LiteralNumbers.{literal_number};
 ghost use Rattle.sat_prop.specs.declared.watch_lists.TheConstants.{NO_CLAUSE};
-ghost use Rattle.sat_prop.specs.Watches.{Links, Drains, ForgetsWatch, IsLastDropped, IsLastWaiting, IsLive, IsOpened, PutsWatch, as_link, begin_of, no_starts, twin_number, with_start, node_at, nexts_of, other_literal, watch_at, cleared, with_watched_clause, without_clause};
+ghost use Rattle.sat_prop.specs.Watches.{IsFirstDropped, IsFirstWaiting, IsLive, IsOpened, MovesWatch, PassesWatch, alone, appended, ends_of, no_lists, twin_number, with_ends, with_next, node_at, other_literal, unlinked, watch_at, cleared, with_watched_clause, without_clause};
 
 use des_base::{Memory, VAR_LIMIT};
 use prop_core::Lit;
@@ -31,22 +31,37 @@ pub struct Node {
     pub next: u32,
 }
 
-/// Where the lists of a variable's two literals begin.
+/// The first and the last watch of a list, or none where it is empty.
 #[derive(Clone, Copy)]
-pub struct Starts {
-    pub positive: u32,
-    pub negative: u32,
+pub struct Ends {
+    pub first: u32,
+    pub last: u32,
 }
 
-/// Watches, numbered from 0, each in the list of the literal that it watches or among those that wait to be looked at.
-/// Those of a clause may be dropped: they keep their numbers and places, and are put nowhere when they have waited.
+/// The ends of the lists of a variable's two literals.
+#[derive(Clone, Copy)]
+pub struct Lists {
+    pub positive: Ends,
+    pub negative: Ends,
+}
+
+/// How far the list of a literal has been looked at: the watch that comes before the next one, and the next one, or none where all have been.
+#[derive(Clone, Copy)]
+pub struct Walk {
+    pub lit: Lit,
+    pub before: u32,
+    pub next: u32,
+}
+
+/// Watches, numbered from 0, each in the list of the literal that it watches, where those that came first are looked at first.
+/// Those of a clause may be dropped: they keep their numbers and places until they are looked at, and then leave their lists.
 ///
 /// Room for lists is taken by `grow` and room for watches by `reserve`; no other call takes memory.
 #[derive(Drop)]
 pub struct WatchLists {
     nodes: Vec<Node>,
-    starts: Vec<Starts>,
-    waiting: Vec<u32>,
+    lists: Vec<Lists>,
+    walk: Walk,
     spare: usize,
 }
 
@@ -54,19 +69,19 @@ impl Model for WatchLists {
     ghost use Rattle.std.specs.Prelude.{◌≡◌, ◌+◌, ◌*◌, ◌%◌, ◌≤◌, length, vec_len, vec_capacity};
     ghost use Rattle.des_base.specs.declared.TheConstants.{VAR_LIMIT};
     ghost use Rattle.sat_prop.specs.declared.watch_lists.TheConstants.{NO_WATCH};
-    ghost use Rattle.sat_prop.specs.Watches.{WatchState, AreWatchLists, watches_of, nexts_of};
+    ghost use Rattle.sat_prop.specs.Watches.{WatchState, AreWatchLists, IsWalk, passed, watches_of, nexts_of};
 
     ghost Value = { WatchState };
 
-    ghost view = { λ a. record { watches = watches_of a.nodes.items; waiting = a.waiting.items; vars = length a.starts.items; spare = a.spare } };
+    ghost view = { λ a. record { watches = watches_of a.nodes.items; waiting = passed (nexts_of a.nodes.items) a.walk.next; vars = length a.lists.items; spare = a.spare } };
 
     ghost invariant = { λ a. record {
-      lists : AreWatchLists (watches_of a.nodes.items) (nexts_of a.nodes.items) a.starts.items a.waiting.items;
-      limit : length a.starts.items ≤ VAR_LIMIT;
+      lists : AreWatchLists (watches_of a.nodes.items) (nexts_of a.nodes.items) a.lists.items;
+      walk : IsWalk (nexts_of a.nodes.items) a.lists.items a.walk;
+      limit : length a.lists.items ≤ VAR_LIMIT;
       pairs : vec_len a.nodes % 2 ≡ 0;
       few : vec_len a.nodes + a.spare * 2 ≤ NO_WATCH;
-      room_nodes : vec_len a.nodes + a.spare * 2 ≤ vec_capacity a.nodes;
-      room_waiting : vec_len a.nodes + a.spare * 2 ≤ vec_capacity a.waiting;
+      room : vec_len a.nodes + a.spare * 2 ≤ vec_capacity a.nodes;
     } };
 }
 
@@ -77,8 +92,8 @@ impl WatchLists {
     {
         WatchLists {
             nodes: Vec::new(alloc),
-            starts: Vec::new(alloc),
-            waiting: Vec::new(alloc),
+            lists: Vec::new(alloc),
+            walk: no_walk(),
             spare: 0,
         }
     }
@@ -89,9 +104,9 @@ impl WatchLists {
         ensures ok { OnOk result (self.new ≡ record self.old { vars = max self.old.vars vars }) }
         ensures err { OnErr result (self.new ≡ self.old) }
     {
-        let count = self.starts.len().max(vars as usize);
-        self.starts.reserve(count - self.starts.len())?;
-        fill(&mut self.starts, count);
+        let count = self.lists.len().max(vars as usize);
+        self.lists.reserve(count - self.lists.len())?;
+        fill(&mut self.lists, count);
         Ok(())
     }
 
@@ -105,13 +120,11 @@ impl WatchLists {
             return Err(Memory);
         }
         self.nodes.reserve(spare * 2)?;
-        self.waiting
-            .reserve(self.nodes.len() - self.waiting.len() + spare * 2)?;
         self.spare = spare;
         Ok(())
     }
 
-    /// Adds a clause that is watched at two literals.
+    /// Adds a clause that is watched at two literals. None waits after this.
     pub fn add(&mut self, clause: u32, first: Lit, second: Lit)
         requires room { 1 ≤ self.old.spare }
         requires first { first.var < self.old.vars }
@@ -119,8 +132,9 @@ impl WatchLists {
         ensures { self.new ≡ with_watched_clause self.old clause first second }
     {
         self.spare -= 1;
-        push_node(&mut self.nodes, &mut self.starts, clause, first);
-        push_node(&mut self.nodes, &mut self.starts, clause, second);
+        self.walk.next = NO_WATCH;
+        push_node(&mut self.nodes, &mut self.lists, clause, first);
+        push_node(&mut self.nodes, &mut self.lists, clause, second);
     }
 
     /// How many watches there are, which is the number of the next one.
@@ -182,45 +196,59 @@ impl WatchLists {
         clear_pair(&mut self.nodes, number);
     }
 
-    /// Lets all wait that watch the literal and weren't dropped.
+    /// Lets those wait that stand in the list of the literal, in their order. These are all that watch it and weren't dropped, and some that were.
     pub fn open(&mut self, lit: Lit)
         requires { lit.var < self.old.vars }
         ensures { IsOpened self.old self.new lit }
     {
-        let first = start(self.starts.as_slice(), lit);
-        set_start(&mut self.starts, lit, NO_WATCH);
-        drain(self.nodes.as_slice(), first, &mut self.waiting);
+        self.walk = Walk {
+            lit,
+            before: NO_WATCH,
+            next: ends_at(self.lists.as_slice(), lit).first,
+        };
     }
 
     /// The next that waits, if one does.
     pub fn next(&self) -> Option<u32>
-        ensures some { IfSome result (IsLastWaiting self.now) }
+        ensures some { IfSome result (IsFirstWaiting self.now) }
         ensures none { IfNone result (self.now.waiting ≡ []) }
     {
-        let count = self.waiting.len();
-        if count == 0 {
+        if self.walk.next == NO_WATCH {
             return None;
         }
-        Some(self.waiting[count - 1])
+        Some(self.walk.next)
     }
 
-    /// The next that waits watches this literal from now on, and waits no more.
+    /// The next that waits watches the same literal as before, and waits no more.
+    pub fn stay(&mut self)
+        requires { 0 < length self.old.waiting }
+        ensures { PassesWatch self.old self.new }
+    {
+        let number = self.walk.next;
+        self.walk.before = number;
+        self.walk.next = self.nodes[number as usize].next;
+    }
+
+    /// The next that waits watches another literal from now on, and waits no more.
     pub fn put(&mut self, lit: Lit)
         requires waits { 0 < length self.old.waiting }
         requires known { lit.var < self.old.vars }
-        ensures { PutsWatch self.old self.new lit }
+        requires other { (number : ℕ) → IsFirstWaiting self.old number → (watch_at self.old.watches number).lit ≢ lit }
+        ensures { MovesWatch self.old self.new lit }
     {
-        let number = self.waiting.pop().unwrap();
-        link(&mut self.nodes, &mut self.starts, number, lit);
+        let number = self.walk.next;
+        self.walk.next = unlink(&mut self.nodes, &mut self.lists, self.walk);
+        turn(&mut self.nodes, number, lit);
+        append(&mut self.nodes, &mut self.lists, number, lit);
     }
 
-    /// The next that waits was dropped, and waits no more.
+    /// The next that waits was dropped, leaves its list, and waits no more.
     pub fn forget(&mut self)
         requires waits { 0 < length self.old.waiting }
-        requires dropped { IsLastDropped self.old }
-        ensures { ForgetsWatch self.old self.new }
+        requires dropped { IsFirstDropped self.old }
+        ensures { PassesWatch self.old self.new }
     {
-        self.waiting.pop().unwrap();
+        self.walk.next = unlink(&mut self.nodes, &mut self.lists, self.walk);
     }
 }
 
@@ -247,80 +275,166 @@ fn twin(number: u32) -> u32
     }
 }
 
-// Adds empty lists until there are those of so many variables, where there is room.
-fn fill(starts: &mut Vec<Starts>, count: usize)
-    requires more { vec_len starts.old ≤ count }
-    requires room { count ≤ vec_capacity starts.old }
-    ensures { starts.new.items ≡ starts.old.items ++ no_starts (count - length starts.old.items) }
+// No list is looked at.
+fn no_walk() -> Walk
+    ensures { result.next ≡ NO_WATCH }
 {
-    'more: while starts.len() < count {
-        starts
-            .push(Starts {
-                positive: NO_WATCH,
-                negative: NO_WATCH,
+    Walk {
+        lit: Lit::numbered(0),
+        before: NO_WATCH,
+        next: NO_WATCH,
+    }
+}
+
+// Adds empty lists until there are those of so many variables, where there is room.
+fn fill(lists: &mut Vec<Lists>, count: usize)
+    requires more { vec_len lists.old ≤ count }
+    requires room { count ≤ vec_capacity lists.old }
+    ensures { lists.new.items ≡ lists.old.items ++ no_lists (count - length lists.old.items) }
+{
+    let empty = Ends {
+        first: NO_WATCH,
+        last: NO_WATCH,
+    };
+    'more: while lists.len() < count {
+        lists
+            .push(Lists {
+                positive: empty,
+                negative: empty,
             })
             .unwrap();
     }
 }
 
-// Where the list of a literal begins.
-fn start(starts: &[Starts], lit: Lit) -> u32
-    requires { lit.var < length starts.now }
-    ensures { result ≡ begin_of starts.now lit }
+// The ends of the list of a literal.
+fn ends_at(lists: &[Lists], lit: Lit) -> Ends
+    requires { lit.var < length lists.now }
+    ensures { result ≡ ends_of lists.now lit }
 {
-    let starts = starts[lit.var as usize];
+    let lists = lists[lit.var as usize];
     if lit.positive {
-        starts.positive
+        lists.positive
     } else {
-        starts.negative
+        lists.negative
     }
 }
 
-// Lets the list of a literal begin elsewhere.
-fn set_start(starts: &mut Vec<Starts>, lit: Lit, first: u32)
-    requires { lit.var < length starts.old.items }
-    ensures { starts.new.items ≡ with_start starts.old.items lit first }
+// Lets the list of a literal have other ends.
+fn set_ends(lists: &mut Vec<Lists>, lit: Lit, ends: Ends)
+    requires { lit.var < length lists.old.items }
+    ensures { lists.new.items ≡ with_ends lists.old.items lit ends }
 {
     if lit.positive {
-        starts[lit.var as usize].positive = first;
+        lists[lit.var as usize].positive = ends;
     } else {
-        starts[lit.var as usize].negative = first;
+        lists[lit.var as usize].negative = ends;
     }
 }
 
-// Appends the watches of a list.
-fn drain(nodes: &[Node], first: u32, into: &mut Vec<u32>)
-    requires { (rest : List ℕ) × Links (nexts_of nodes.now) (as_link first) rest × (vec_len into.old + length rest ≤ vec_capacity into.old) }
-    ensures drained { Drains (nexts_of nodes.now) (as_link first) into.old.items into.new.items }
-    ensures capacity { vec_capacity into.old ≤ vec_capacity into.new }
+// The ends of a list to which a watch is appended.
+fn longer(ends: Ends, number: u32) -> Ends
+    ensures { result ≡ appended ends number }
 {
-    let mut next = first;
-    'more: while next != NO_WATCH {
-        into.push(next).unwrap();
-        next = nodes[next as usize].next;
+    let first = if ends.last == NO_WATCH {
+        number
+    } else {
+        ends.first
+    };
+    Ends {
+        first,
+        last: number,
     }
 }
 
-// Adds a watch, in the list of its literal.
-fn push_node(nodes: &mut Vec<Node>, starts: &mut Vec<Starts>, clause: u32, lit: Lit)
-    requires known { lit.var < length starts.old.items }
-    requires limit { length starts.old.items ≤ VAR_LIMIT }
+// The ends of a list that a watch leaves, where those before and after it are known.
+fn shorter(ends: Ends, before: u32, after: u32) -> Ends
+    ensures { result ≡ unlinked ends before after }
+{
+    let first = if before == NO_WATCH {
+        after
+    } else {
+        ends.first
+    };
+    let last = if after == NO_WATCH { before } else { ends.last };
+    Ends { first, last }
+}
+
+// Lets one watch come after another one, if there is that one.
+fn link(nodes: &mut Vec<Node>, before: u32, after: u32)
+    requires { before ≢ NO_WATCH → before < length nodes.old.items }
+    ensures nodes { nodes.new.items ≡ with_next nodes.old.items before after }
+    ensures room { vec_capacity nodes.new ≡ vec_capacity nodes.old }
+{
+    if before != NO_WATCH {
+        nodes[before as usize].next = after;
+    }
+}
+
+// Takes the watch that is next in a walk out of its list. Answers the one that comes after it.
+fn unlink(nodes: &mut Vec<Node>, lists: &mut Vec<Lists>, walk: Walk) -> u32
+    requires known { walk.lit.var < length lists.old.items }
+    requires next { walk.next < length nodes.old.items }
+    requires before { walk.before ≢ NO_WATCH → walk.before < length nodes.old.items }
+    ensures after { result ≡ (node_at nodes.old.items walk.next).next }
+    ensures nodes { nodes.new.items ≡ with_next nodes.old.items walk.before result }
+    ensures lists { lists.new.items ≡ with_ends lists.old.items walk.lit (unlinked (ends_of lists.old.items walk.lit) walk.before result) }
+    ensures room { vec_capacity nodes.new ≡ vec_capacity nodes.old }
+{
+    let after = nodes[walk.next as usize].next;
+    let ends = ends_at(lists.as_slice(), walk.lit);
+    link(nodes, walk.before, after);
+    set_ends(lists, walk.lit, shorter(ends, walk.before, after));
+    after
+}
+
+// Appends a watch to the list of a literal.
+fn append(nodes: &mut Vec<Node>, lists: &mut Vec<Lists>, number: u32, lit: Lit)
+    requires known { lit.var < length lists.old.items }
+    requires last { (ends_of lists.old.items lit).last ≢ NO_WATCH → (ends_of lists.old.items lit).last < length nodes.old.items }
+    ensures nodes { nodes.new.items ≡ with_next nodes.old.items (ends_of lists.old.items lit).last number }
+    ensures lists { lists.new.items ≡ with_ends lists.old.items lit (appended (ends_of lists.old.items lit) number) }
+    ensures room { vec_capacity nodes.new ≡ vec_capacity nodes.old }
+{
+    let ends = ends_at(lists.as_slice(), lit);
+    link(nodes, ends.last, number);
+    set_ends(lists, lit, longer(ends, number));
+}
+
+// Lets a watch that is in no list watch a literal.
+fn turn(nodes: &mut Vec<Node>, number: u32, lit: Lit)
+    requires known { lit.var < VAR_LIMIT }
+    requires number { number < length nodes.old.items }
+    ensures nodes { nodes.new.items ≡ slice_set nodes.old.items number (alone (node_at nodes.old.items number).clause lit) }
+    ensures room { vec_capacity nodes.new ≡ vec_capacity nodes.old }
+{
+    let clause = nodes[number as usize].clause;
+    nodes[number as usize] = Node {
+        clause,
+        code: code_of(lit),
+        next: NO_WATCH,
+    };
+}
+
+// Adds a watch, at the end of the list of its literal.
+fn push_node(nodes: &mut Vec<Node>, lists: &mut Vec<Lists>, clause: u32, lit: Lit)
+    requires known { lit.var < length lists.old.items }
+    requires limit { length lists.old.items ≤ VAR_LIMIT }
+    requires last { (ends_of lists.old.items lit).last ≢ NO_WATCH → (ends_of lists.old.items lit).last < length nodes.old.items }
     requires few { vec_len nodes.old < NO_WATCH }
     requires room { vec_len nodes.old < vec_capacity nodes.old }
-    ensures nodes { nodes.new.items ≡ nodes.old.items ++ record { clause = clause; code = literal_number lit; next = begin_of starts.old.items lit } ∷ [] }
-    ensures starts { starts.new.items ≡ with_start starts.old.items lit (length nodes.old.items) }
+    ensures nodes { nodes.new.items ≡ with_next (nodes.old.items ++ alone clause lit ∷ []) (ends_of lists.old.items lit).last (length nodes.old.items) }
+    ensures lists { lists.new.items ≡ with_ends lists.old.items lit (appended (ends_of lists.old.items lit) (length nodes.old.items)) }
     ensures room { vec_capacity nodes.old ≤ vec_capacity nodes.new }
 {
     let number = nodes.len() as u32;
-    let next = start(starts.as_slice(), lit);
     nodes
         .push(Node {
             clause,
             code: code_of(lit),
-            next,
+            next: NO_WATCH,
         })
         .unwrap();
-    set_start(starts, lit, number);
+    append(nodes, lists, number, lit);
 }
 
 // Drops a watch and the other one of its pair.
@@ -342,18 +456,4 @@ fn clear(nodes: &mut Vec<Node>, number: u32)
     ensures room { vec_capacity nodes.new ≡ vec_capacity nodes.old }
 {
     nodes[number as usize].clause = NO_CLAUSE;
-}
-
-// Puts a watch into the list of a literal, where it watches from now on.
-fn link(nodes: &mut Vec<Node>, starts: &mut Vec<Starts>, number: u32, lit: Lit)
-    requires known { lit.var < length starts.old.items }
-    requires limit { length starts.old.items ≤ VAR_LIMIT }
-    requires number { number < length nodes.old.items }
-    ensures nodes { nodes.new.items ≡ slice_set nodes.old.items number (record { clause = (node_at nodes.old.items number).clause; code = literal_number lit; next = begin_of starts.old.items lit }) }
-    ensures starts { starts.new.items ≡ with_start starts.old.items lit number }
-    ensures room { vec_capacity nodes.new ≡ vec_capacity nodes.old }
-{
-    nodes[number as usize].code = code_of(lit);
-    nodes[number as usize].next = start(starts.as_slice(), lit);
-    set_start(starts, lit, number);
 }

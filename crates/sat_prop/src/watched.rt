@@ -8,7 +8,7 @@ ghost use Rattle.prop_core.specs.Trail.{is_forced_by};
 ghost use Rattle.sat_prop.specs.Quiet.{AreQuiet, IsConflict, IsPropagated, JoinsQuietly};
 ghost use Rattle.sat_prop.specs.Kept.{IsTrailState};
 ghost use Rattle.sat_prop.specs.Changes.{IsFront, Propagates, with_attached_clause, with_true_literal};
-ghost use Rattle.sat_prop.specs.Watches.{IsLastWaiting, IsLive};
+ghost use Rattle.sat_prop.specs.Watches.{IsFirstWaiting, IsLive};
 ghost use Rattle.sat_prop.specs.Watching.{AreWatched, AreVisited, IsVisiting, Visits, AreTwo, IsForcing, IsJudgedWatch, IsSubsumed, OnlyDrops, IsReplacement, IsReplaced, IsNarrow, is_part_of, no_watched, unwatched};
 
 use crate::propagator::Propagated;
@@ -310,7 +310,7 @@ impl Watched {
 
     // Looks at the clause of the next watch that waits, unless it was dropped, and answers it where it is false.
     fn look(&mut self, trail: &mut Trail, db: &Clauses, number: u32, lit: Lit) -> Option<ClauseId>
-        requires next { IsLastWaiting self.old.lists number }
+        requires next { IsFirstWaiting self.old.lists number }
         requires visiting { IsVisiting trail.old self.old db.now.clauses lit }
         requires visited { AreVisited trail.old self.old }
         ensures visits { Visits trail.old self.old trail.new self.new }
@@ -333,7 +333,7 @@ impl Watched {
         number: u32,
         lit: Lit,
     ) -> Option<ClauseId>
-        requires next { IsLastWaiting self.old.lists number }
+        requires next { IsFirstWaiting self.old.lists number }
         requires live { IsLive self.old.lists.watches number }
         requires visiting { IsVisiting trail.old self.old db.now.clauses lit }
         requires visited { AreVisited trail.old self.old }
@@ -346,7 +346,7 @@ impl Watched {
         let judged = self.judge(trail, db, number, lit);
         trail.is_sound();
         match judged {
-            Judged::Stays => self.lists.put(watch.lit),
+            Judged::Stays => self.lists.stay(),
             Judged::Moves(found) => self.lists.put(found),
             Judged::False => return Some(ClauseId(watch.clause as u64)),
         }

@@ -1,14 +1,14 @@
 use Rattle.std.specs.Prelude.{◌≡◌, ◌≤◌, ◌-◌, ◌++◌, vec_len, vec_capacity}
-use Rattle.sat_prop.specs.Watches.{no_starts}
+use Rattle.sat_prop.specs.Watches.{no_lists}
 use Rattle.sat_prop.proofs.watch_lists.fill.Given as goal
 
 abbrev pub invariant-more : goal.invariant-more
 invariant-more l = record {
-  items : l.starts.items ≡ l.fn.starts.items ++ no_starts (vec_len l.starts - vec_len l.fn.starts);
-  longer : vec_len l.fn.starts ≤ vec_len l.starts;
-  within : vec_len l.starts ≤ l.count;
-  room : l.count ≤ vec_capacity l.starts;
+  items : l.lists.items ≡ l.fn.lists.items ++ no_lists (vec_len l.lists - vec_len l.fn.lists);
+  longer : vec_len l.fn.lists ≤ vec_len l.lists;
+  within : vec_len l.lists ≤ l.count;
+  room : l.count ≤ vec_capacity l.lists;
 }
 
 abbrev pub decreases-more : goal.decreases-more
-decreases-more l = l.count - vec_len l.starts
+decreases-more l = l.count - vec_len l.lists

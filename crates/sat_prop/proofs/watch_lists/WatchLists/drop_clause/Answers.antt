@@ -1,10 +1,10 @@
-use Rattle.std.proofs.Common.{◌≡◌, ◌∙◌, ◌%◌, ◌<◌, List, ap, sym, subst, length, arith}
+use Rattle.std.proofs.Common.{◌≡◌, ◌∙◌, ◌%◌, ◌<◌, ℕ, List, Option, ap, sym, subst, length, arith}
 use Rattle.std.specs.Prelude.{vec_len}
 use Rattle.std.proofs.lemmas.Grind.{common_steps}
 use Rattle.sat_prop.specs.declared.watch_lists.Node.{Node}
 use Rattle.sat_prop.specs.declared.watch_lists.Watch.{Watch}
-use Rattle.sat_prop.specs.Watches.{WatchState, watches_of, watch_at, no_node, twin_number, cleared, with_dropped, without_clause}
-use Rattle.sat_prop.proofs.Nodes.{count_watches, watch_of_node, watches_cleared, node_cleared}
+use Rattle.sat_prop.specs.Watches.{WatchState, IsWalk, nexts_of, passed, watches_of, watch_at, no_node, twin_number, cleared, with_dropped, without_clause}
+use Rattle.sat_prop.proofs.Nodes.{count_watches, watch_of_node, watches_cleared, nexts_cleared, node_cleared}
 use Rattle.sat_prop.proofs.watch_lists.WatchLists.drop_clause.Goals as goal
 
 abbrev with_watches : WatchState → List Watch → WatchState
@@ -31,15 +31,16 @@ invariant_of-self c =
     let both = c.clear_pair.ensures in
     let long : length (cleared nodes c.args.number) ≡ length nodes = grind (arith, common_steps) in
     let twin_within : twin_number c.args.number < length (cleared nodes c.args.number) = omega arith in
+    let links : nexts_of c.clear_pair.new.nodes.items ≡ nexts_of nodes = ap nexts_of both.nodes ∙ nexts_cleared (cleared nodes c.args.number) (twin_number c.args.number) twin_within ∙ nexts_cleared nodes c.args.number within in
     let v : vec_len c.clear_pair.new.nodes ≡ vec_len c.self.inside.nodes = let x = both.nodes in grind (arith, common_steps) in
     record {
-      lists = rw both.nodes (node_cleared (cleared nodes c.args.number) c.self.inside.starts.items c.self.inside.waiting.items (twin_number c.args.number) twin_within
-          (node_cleared nodes c.self.inside.starts.items c.self.inside.waiting.items c.args.number within c.self.invariant.lists));
+      lists = rw both.nodes (node_cleared (cleared nodes c.args.number) c.self.inside.lists.items (twin_number c.args.number) twin_within
+          (node_cleared nodes c.self.inside.lists.items c.args.number within c.self.invariant.lists));
+      walk = subst (λ (ns : List (Option ℕ)). IsWalk ns c.self.inside.lists.items c.self.inside.walk) (sym links) c.self.invariant.walk;
       limit = c.self.invariant.limit;
       pairs = ap (λ k. k % 2) v ∙ c.self.invariant.pairs;
       few = let r = c.self.invariant.few in omega arith;
-      room_nodes = let r = c.self.invariant.room_nodes in let k = both.room in omega arith;
-      room_waiting = let r = c.self.invariant.room_waiting in omega arith;
+      room = let r = c.self.invariant.room in let k = both.room in omega arith;
     }
 
 pub returns : goal.returns
@@ -55,5 +56,6 @@ returns c =
     let both : watches_of c.clear_pair.new.nodes.items ≡ without_clause (watches_of nodes) c.args.number =
     ap watches_of c.clear_pair.ensures.nodes ∙ watches_cleared (cleared nodes c.args.number) (twin_number c.args.number) twin_within ∙ ap (with_dropped (watches_of (cleared nodes c.args.number))) twin
     ∙ ap (λ (ws : List Watch). with_dropped ws (watch_at (watches_of nodes) c.args.number).twin) (watches_cleared nodes c.args.number within) in
-    let view : WatchState = record { watches = watches_of nodes; waiting = c.self.inside.waiting.items; vars = length c.self.inside.starts.items; spare = c.self.inside.spare } in
-    subst (λ (s : WatchState). with_watches view (watches_of c.clear_pair.new.nodes.items) ≡ with_watches s (without_clause s.watches c.args.number)) c.self.view_is (ap (with_watches view) both)
+    let links : nexts_of c.clear_pair.new.nodes.items ≡ nexts_of nodes = ap nexts_of c.clear_pair.ensures.nodes ∙ nexts_cleared (cleared nodes c.args.number) (twin_number c.args.number) twin_within ∙ nexts_cleared nodes c.args.number within in
+    let view : WatchState = record { watches = watches_of nodes; waiting = passed (nexts_of nodes) c.self.inside.walk.next; vars = length c.self.inside.lists.items; spare = c.self.inside.spare } in
+    subst (λ (s : WatchState). record view { watches = watches_of c.clear_pair.new.nodes.items; waiting = passed (nexts_of c.clear_pair.new.nodes.items) c.self.inside.walk.next } ≡ with_watches s (without_clause s.watches c.args.number)) c.self.view_is (rw links (ap (with_watches view) both))

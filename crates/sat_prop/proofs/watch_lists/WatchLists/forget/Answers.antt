@@ -1,34 +1,59 @@
-use Rattle.std.proofs.Common.{◌≡◌, ◌∙◌, ◌++◌, ◌∷◌, [], ℕ, List, length, ap, sym, subst, arith}
-use Rattle.std.proofs.lemmas.Grind.{common_steps}
-use Rattle.std.proofs.lemmas.List.{same_from_push}
-use Rattle.sat_prop.specs.Watches.{WatchState, AreWatchLists, ForgetsWatch, IsLastDropped, watches_of, nexts_of, watch_at}
-use Rattle.sat_prop.proofs.WatchLists.{lists_forgotten}
+use Rattle.std.proofs.Common.{◌≡◌, ◌∙◌, ◌%◌, ◌<◌, ◌≤◌, ℕ, ap, sym, subst, length, arith}
+use Rattle.std.specs.Prelude.{vec_len}
+use Rattle.sat_prop.specs.declared.watch_lists.TheConstants.{NO_WATCH}
+use Rattle.sat_prop.specs.Watches.{WatchState, IsFirstDropped, PassesWatch, nexts_of, passed, watch_at, watches_of}
+use Rattle.sat_prop.proofs.Linking.{ends_length}
+use Rattle.sat_prop.proofs.Walking.{some_next}
+use Rattle.sat_prop.proofs.Nodes.{count_nexts}
+use Rattle.sat_prop.proofs.Moving.{before_node, first_same, new_length, node_forgets, node_forgotten, node_leaves}
 use Rattle.sat_prop.proofs.watch_lists.WatchLists.forget.Goals as goal
 
-abbrev with_waiting : WatchState → List ℕ → WatchState
-with_waiting s waiting = record s { waiting = waiting }
+pub unlink-self-inside-requires-clause-before : goal.unlink-self-inside-requires-clause-before
+unlink-self-inside-requires-clause-before c d =
+    let n = count_nexts c.self.inside.nodes.items in
+    let r = c.self.invariant.few in
+    let k = c.self.inside.nodes.ok.0 in
+    let links : length (nexts_of c.self.inside.nodes.items) ≤ NO_WATCH = omega arith in
+    let few : length c.self.inside.nodes.items ≤ NO_WATCH = omega arith in
+    let x = some_next (nexts_of c.self.inside.nodes.items) c.self.inside.lists.items c.self.inside.walk links c.self.invariant.walk (subst (λ (s : WatchState). 0 < length s.waiting) (sym c.self.view_is) c.requires.waits) in
+    let a = c.self.invariant.lists in
+    before_node c.self.inside.nodes.items c.self.inside.lists.items a few c.self.inside.walk x d
 
 pub invariant_of-self : goal.invariant_of-self
 invariant_of-self c =
-    let u = c.unwrap.ensures in
-    let e : c.self.inside.waiting.items ≡ c.pop.new.self.items ++ c.unwrap.result ∷ [] = let i = c.pop.ensures.items in grind (arith, common_steps) in
-    let d = subst (λ (s : WatchState). IsLastDropped s) (sym c.self.view_is) c.requires.dropped in
-    let s = same_from_push d.1.others c.pop.new.self.items d.0 c.unwrap.result (sym d.1.last ∙ e) in
+    let n = count_nexts c.self.inside.nodes.items in
+    let r = c.self.invariant.few in
+    let k = c.self.inside.nodes.ok.0 in
+    let links : length (nexts_of c.self.inside.nodes.items) ≤ NO_WATCH = omega arith in
+    let few : length c.self.inside.nodes.items ≤ NO_WATCH = omega arith in
+    let x = some_next (nexts_of c.self.inside.nodes.items) c.self.inside.lists.items c.self.inside.walk links c.self.invariant.walk (subst (λ (s : WatchState). 0 < length s.waiting) (sym c.self.view_is) c.requires.waits) in
+    let a = c.self.invariant.lists in
+    let u = c.unlink-self-inside.ensures in
+    let d = subst (λ (s : WatchState). IsFirstDropped s) (sym c.self.view_is) c.requires.dropped in
+    let z : (watch_at (watches_of c.self.inside.nodes.items) c.self.inside.walk.next).clause ≡ 0 = ap (λ (i : ℕ). (watch_at (watches_of c.self.inside.nodes.items) i).clause) (first_same c.self.inside.walk.next d.0 x.others d.1.others (sym x.waits ∙ d.1.first)) ∙ d.2 in
+    let m = new_length c.self.inside.nodes.items c.self.inside.lists.items a few c.self.inside.walk x c.unlink-self-inside.result c.unlink-self-inside.new.nodes.items c.unlink-self-inside.new.lists.items u.after u.nodes u.lists in
+    let v : vec_len c.unlink-self-inside.new.nodes ≡ vec_len c.self.inside.nodes = let q = c.unlink-self-inside.new.nodes.ok.0 in omega arith in
+    let s : length c.unlink-self-inside.new.lists.items ≡ length c.self.inside.lists.items = ap length u.lists ∙ ends_length c.self.inside.lists.items c.self.inside.walk.lit _ in
     record {
-      lists = lists_forgotten (watches_of c.self.inside.nodes.items) (nexts_of c.self.inside.nodes.items) c.self.inside.starts.items c.pop.new.self.items c.unwrap.result
-          (subst (λ (xs : List ℕ). AreWatchLists (watches_of c.self.inside.nodes.items) (nexts_of c.self.inside.nodes.items) c.self.inside.starts.items xs) e c.self.invariant.lists)
-          (ap (λ (k : ℕ). (watch_at (watches_of c.self.inside.nodes.items) k).clause) (sym s.1) ∙ d.2);
-      limit = c.self.invariant.limit;
-      pairs = c.self.invariant.pairs;
-      few = c.self.invariant.few;
-      room_nodes = c.self.invariant.room_nodes;
-      room_waiting = let r = c.self.invariant.room_waiting in let k = c.pop.ensures.capacity in omega arith;
+      lists = node_forgotten c.self.inside.nodes.items c.self.inside.lists.items a few c.self.inside.walk x c.unlink-self-inside.result c.unlink-self-inside.new.nodes.items c.unlink-self-inside.new.lists.items u.after u.nodes u.lists z;
+      walk = (node_leaves c.self.inside.nodes.items c.self.inside.lists.items a few c.self.inside.walk x c.unlink-self-inside.result c.unlink-self-inside.new.nodes.items c.unlink-self-inside.new.lists.items u.after u.nodes u.lists).walks;
+      limit = let q = c.self.invariant.limit in omega arith;
+      pairs = ap (λ i. i % 2) v ∙ c.self.invariant.pairs;
+      few = omega arith;
+      room = let q = c.self.invariant.room in let p = u.room in omega arith;
     }
 
 pub returns : goal.returns
 returns c =
-    let u = c.unwrap.ensures in
-    let e : c.self.inside.waiting.items ≡ c.pop.new.self.items ++ c.unwrap.result ∷ [] = let i = c.pop.ensures.items in grind (arith, common_steps) in
-    let view : WatchState = record { watches = watches_of c.self.inside.nodes.items; waiting = c.self.inside.waiting.items; vars = length c.self.inside.starts.items; spare = c.self.inside.spare } in
-    subst (λ (s : WatchState). ForgetsWatch s (with_waiting view c.pop.new.self.items)) c.self.view_is
-    (λ others number last. ap (with_waiting view) (same_from_push c.pop.new.self.items others c.unwrap.result number (sym e ∙ last)).0)
+    let n = count_nexts c.self.inside.nodes.items in
+    let r = c.self.invariant.few in
+    let k = c.self.inside.nodes.ok.0 in
+    let links : length (nexts_of c.self.inside.nodes.items) ≤ NO_WATCH = omega arith in
+    let few : length c.self.inside.nodes.items ≤ NO_WATCH = omega arith in
+    let x = some_next (nexts_of c.self.inside.nodes.items) c.self.inside.lists.items c.self.inside.walk links c.self.invariant.walk (subst (λ (s : WatchState). 0 < length s.waiting) (sym c.self.view_is) c.requires.waits) in
+    let a = c.self.invariant.lists in
+    let u = c.unlink-self-inside.ensures in
+    let s : length c.unlink-self-inside.new.lists.items ≡ length c.self.inside.lists.items = ap length u.lists ∙ ends_length c.self.inside.lists.items c.self.inside.walk.lit _ in
+    subst (λ (i : ℕ). PassesWatch c.args.self.now (record { watches = watches_of c.unlink-self-inside.new.nodes.items; waiting = passed (nexts_of c.unlink-self-inside.new.nodes.items) c.unlink-self-inside.result; vars = i; spare = c.self.inside.spare })) (sym s)
+    (subst (λ (s : WatchState). PassesWatch s (record { watches = watches_of c.unlink-self-inside.new.nodes.items; waiting = passed (nexts_of c.unlink-self-inside.new.nodes.items) c.unlink-self-inside.result; vars = length c.self.inside.lists.items; spare = c.self.inside.spare })) c.self.view_is
+    (node_forgets c.self.inside.nodes.items c.self.inside.lists.items a few c.self.inside.walk x c.unlink-self-inside.result c.unlink-self-inside.new.nodes.items c.unlink-self-inside.new.lists.items u.after u.nodes u.lists (length c.self.inside.lists.items) c.self.inside.spare))
