@@ -7,7 +7,7 @@ use Rattle.least_faults.proofs.AxiomLists.{axioms_added}
 use Rattle.least_faults.proofs.Roomless.{answered_roomless, columns_roomless}
 use Rattle.least_faults.specs.Answers.{IsAnswered}
 use Rattle.least_faults.specs.Growing.{AddsAxioms, HasGrownWithin, KeepsQuestion}
-use Rattle.least_faults.specs.Parts.{IsBuilt, built_of, names_of_parts}
+use Rattle.least_faults.specs.Parts.{IsBuilt, built_of, meanings_of_parts}
 use Rattle.least_faults.specs.declared.answer.Found.{Found}
 use Rattle.log_order.specs.Log.{no_log}
 use Rattle.proof_ledger.specs.Book.{BookEntry, axiomatic, axioms_of, IsValidBook}
@@ -38,13 +38,13 @@ module _ {R : Type 0} (budget : ℕ) (old new : Kept R) (keeps : KeepsQuestion o
   }
 
   pub question_told_by : (net : Net) (n : ℕ) (found : Found) → old.parts.step.steps ≡ n →
-      IsAnswered (names_of_parts new.parts) (built_of old.parts old.book.entries) net old.log new.parts.step.steps budget old.book.entries new.book.entries found → IsValidBook new.book.entries → IsToldBy net n budget (stage_of old) (stage_of new) found
+      IsAnswered (meanings_of_parts new.parts) (built_of old.parts old.book.entries) net old.log new.parts.step.steps budget old.book.entries new.book.entries found → IsValidBook new.book.entries → IsToldBy net n budget (stage_of old) (stage_of new) found
   question_told_by net n found time answered valid =
       let first = built_of old.parts old.book.entries in
       let steps = ap (λ (s : CodedSteps). s.steps) keeps.step ∙ time in
       record {
-        names = names_of_parts new.parts;
-        answered = answered_roomless (names_of_parts new.parts) first net old.log n budget old.book.entries new.book.entries found
-            (subst (λ k. IsAnswered (names_of_parts new.parts) first net old.log k budget old.book.entries new.book.entries found) steps answered);
+        names = meanings_of_parts new.parts;
+        answered = answered_roomless (meanings_of_parts new.parts) first net old.log n budget old.book.entries new.book.entries found
+            (subst (λ k. IsAnswered (meanings_of_parts new.parts) first net old.log k budget old.book.entries new.book.entries found) steps answered);
         valid = valid;
       }

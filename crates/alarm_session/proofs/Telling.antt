@@ -9,10 +9,10 @@ use Rattle.des_net.specs.QuestionSize.{component_sizes, fault_event_count}
 use Rattle.least_faults.proofs.Posing.{poses}
 use Rattle.least_faults.specs.Bounds.{coded_clauses}
 use Rattle.least_faults.specs.Evidence.{IsPosed}
-use Rattle.least_faults.specs.Parts.{names_of_parts}
+use Rattle.least_faults.specs.Parts.{meanings_of_parts}
 use Rattle.log_clauses.specs.LogClauses.{guard_literals}
 use Rattle.log_encode.proofs.WrittenLemmas.{count_same}
-use Rattle.log_encode.specs.CodedLog.{read_names, without_names}
+use Rattle.log_encode.specs.CodedLog.{read_meanings, without_names}
 use Rattle.log_order.specs.Log.{IsValidLog}
 use Rattle.proof_ledger.specs.Book.{axioms_of}
 use Rattle.prop_core.specs.VariableNames.{ReadsAs}
@@ -51,12 +51,12 @@ module _ {R : Type 0} (net : Net) (n : ℕ) (kept : Kept R) (is : IsKept net n k
       turn : (f k d : ℕ) → 256 * (f * k + d) ≡ 256 * k * f + 256 * d
       turn f k d = grind arith
 
-  pub book_poses : IsNetwork net → IsValidLog kept.log → (guards : List Lit) → ReadsAs (read_names kept.parts.code.code) guards (guard_literals kept.parts.code.code.net kept.parts.code.code.log) → Poses net kept.log n kept.book.entries
+  pub book_poses : IsNetwork net → IsValidLog kept.log → (guards : List Lit) → ReadsAs (read_meanings kept.parts.code.code) guards (guard_literals kept.parts.code.code.net kept.parts.code.code.log) → Poses net kept.log n kept.book.entries
   book_poses network valid guards read = record {
-    names = names_of_parts kept.parts;
+    names = meanings_of_parts kept.parts;
     assumed = guards;
-    posed = subst (λ k. IsPosed (names_of_parts kept.parts) (axioms_of kept.book.entries) guards net kept.log k None) is.of_log.time
-        (subst (λ (m : Net). IsPosed (names_of_parts kept.parts) (axioms_of kept.book.entries) guards m kept.log kept.parts.step.steps None) is.of_log.belong.of_steps
+    posed = subst (λ k. IsPosed (meanings_of_parts kept.parts) (axioms_of kept.book.entries) guards net kept.log k None) is.of_log.time
+        (subst (λ (m : Net). IsPosed (meanings_of_parts kept.parts) (axioms_of kept.book.entries) guards m kept.log kept.parts.step.steps None) is.of_log.belong.of_steps
         (poses kept.parts.step kept.parts.code.code kept.parts.counter kept.parts.vars (axioms_of kept.book.entries) None guards is.coded (record { guards = guards; read = read; whole = sym (append-nil guards); column = tt })
         kept.log (subst IsNetwork (sym is.of_log.belong.of_steps) network) valid is.of_log.belong.same_log));
   }

@@ -18,7 +18,7 @@ use Rattle.log_clauses.specs.Additions.{Addition, with_addition}
 use Rattle.log_encode.specs.Drafted.{IsDraftOf}
 use Rattle.log_order.specs.Log.{Log, no_log}
 use Rattle.proof_ledger.specs.Book.{BookEntry, axiomatic, axioms_of, clauses_of, IsValidBook}
-use Rattle.prop_core.specs.VariableNames.{Name}
+use Rattle.prop_core.specs.VariableNames.{Meaning}
 use Rattle.prop_core.specs.declared.lit.Lit.{Lit}
 use Rattle.replay.specs.QuestionSize.{question_size}
 use Rattle.run_decode.specs.QuestionAxioms.{BuiltQuestion, question_axioms, question_built, roomless}
@@ -110,7 +110,7 @@ pub record KeepsLog (budget : ℕ) (old new : Stage) : Type 0 where
 
 -- The answer of the log so far, with what shows it in the valid book: entries that were put since the question was opened, as it was built so far.
 pub record IsToldBy (net : Net) (n budget : ℕ) (old new : Stage) (found : Found) : Type 0 where
-  pub names : List (ℕ × Name)
+  pub names : List (ℕ × Meaning)
   pub answered : IsAnswered names old.built net old.log n budget old.book new.book found
   pub valid : IsValidBook new.book
 
@@ -118,7 +118,7 @@ pub record IsToldBy (net : Net) (n budget : ℕ) (old new : Stage) (found : Foun
 
 -- By some names, and with some assumptions, the axioms ask what explains the log: they are faithful and drawn.
 pub record Poses (net : Net) (log : Log) (n : ℕ) (book : List BookEntry) : Type 0 where
-  pub names : List (ℕ × Name)
+  pub names : List (ℕ × Meaning)
   pub assumed : List Lit
   pub posed : IsPosed names (axioms_of book) assumed net log n None
 

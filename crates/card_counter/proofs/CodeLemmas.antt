@@ -7,18 +7,18 @@ use Rattle.prop_core.proofs.NameLemmas.{found_more, literal_more}
 use Rattle.prop_core.specs.declared.lit.Lit.{Lit}
 use Rattle.prop_core.specs.Clauses.{Clause, negation}
 use Rattle.prop_core.specs.NamedClauses.{IsCode}
-use Rattle.prop_core.specs.VariableNames.{HasEachOnce, Name, NamedLiteral, yes, no, reaches, name_of, named_literal, with_literal, named_clause}
+use Rattle.prop_core.specs.VariableNames.{HasEachOnce, Meaning, NamedLiteral, yes, no, reaches, meaning_of, named_literal, with_literal, named_clause}
 use Rattle.prop_core.proofs.FamilyLemmas.{Alone, Either, EachBelow, code_none, code_one, code_append, code_same, code_each_none, code_each_more, reads_whole}
 use Rattle.std.proofs.lemmas.List.Elements.{Contains-append_right}
 use Rattle.card_counter.proofs.NameLemmas.{named_by_entry}
 use Rattle.card_counter.proofs.ListLemmas.{map_of, map_contains, pairs_put, pairs_map, flat_next}
 use Rattle.card_counter.proofs.States.{place_cases, variable_before, variable_last, before_front, at_end, one_more_column}
 use Rattle.card_counter.specs.CounterClauses.{counts_on, counts_up, opposite, count_clause, IsNamedColumn, IsNamedCount}
-use Rattle.card_counter.specs.CounterState.{next_names, CounterState, IsPlace, variable, column_at, column_before, positive, negative, reached_in, reached_before, under, place_clauses, input_at, column_clauses, counter_clauses, with_column}
-use Rattle.card_counter.specs.Counting.{NamesGrow, NamedColumnsGrow, IsNamedBy, CounterIsCode, ColumnIsCode}
+use Rattle.card_counter.specs.CounterState.{next_meanings, CounterState, IsPlace, variable, column_at, column_before, positive, negative, reached_in, reached_before, under, place_clauses, input_at, column_clauses, counter_clauses, with_column}
+use Rattle.card_counter.specs.Counting.{CounterMeaningsGrow, NamedColumnsGrow, IsNamedBy, CounterIsCode, ColumnIsCode}
 
 -- a list for each number is a family for each
-pub code_flat : (names : List (ℕ × Name)) (F : ℕ → List NamedLiteral → Type 0) (f : ℕ → List Clause) (n : ℕ) → ((i : ℕ) → i < n → IsCode names (F i) (f i)) → IsCode names (EachBelow n F) (flat_map f (range_with_len 0 n))
+pub code_flat : (names : List (ℕ × Meaning)) (F : ℕ → List NamedLiteral → Type 0) (f : ℕ → List Clause) (n : ℕ) → ((i : ℕ) → i < n → IsCode names (F i) (f i)) → IsCode names (EachBelow n F) (flat_map f (range_with_len 0 n))
 code_flat names F f zero each = code_each_none names F
 code_flat names F f (suc n) each =
     let before = code_flat names F f n (λ i h. each i (omega arith)) in
@@ -30,7 +30,7 @@ code_flat names F f (suc n) each =
 -- ---- reading
 
 -- an input, as it is read
-pub record IsRead (names : List (ℕ × Name)) (input : Lit) (read : List NamedLiteral) (i : ℕ) : Type 0 where
+pub record IsRead (names : List (ℕ × Meaning)) (input : Lit) (read : List NamedLiteral) (i : ℕ) : Type 0 where
   pub literal : NamedLiteral
   pub at : slice_get read i ≡ Some literal
   pub as_read : named_literal names input ≡ Some literal
@@ -40,7 +40,7 @@ first_read None r read h = cc
 first_read (Some x) None read h = cc
 first_read (Some x) (Some xs) read h = let same : read ≡ x ∷ xs = cc in (x, xs, refl, refl, same)
 
-pub read_at : (names : List (ℕ × Name)) (inputs : List Lit) (read : List NamedLiteral) → named_clause names inputs ≡ Some read → (i : ℕ) → i < length inputs → IsRead names (input_at inputs i) read i
+pub read_at : (names : List (ℕ × Meaning)) (inputs : List Lit) (read : List NamedLiteral) → named_clause names inputs ≡ Some read → (i : ℕ) → i < length inputs → IsRead names (input_at inputs i) read i
 read_at names [] read h i inside = absurd (omega arith)
 read_at names (l ∷ inputs) read h zero inside =
     let first = first_read (named_literal names l) (named_clause names inputs) read h in
@@ -50,33 +50,33 @@ read_at names (l ∷ inputs) read h (suc i) inside =
     let rest = read_at names inputs first.1 first.3 i (omega arith) in
     record { literal = rest.literal; at = ap (λ xs. slice_get xs (suc i)) first.4 ∙ rest.at; as_read = rest.as_read }
 
-pub read_length : (names : List (ℕ × Name)) (inputs : List Lit) (read : List NamedLiteral) → named_clause names inputs ≡ Some read → length read ≡ length inputs
+pub read_length : (names : List (ℕ × Meaning)) (inputs : List Lit) (read : List NamedLiteral) → named_clause names inputs ≡ Some read → length read ≡ length inputs
 read_length names [] read h = let same : read ≡ [] = cc in ap length same
 read_length names (l ∷ inputs) read h =
     let first = first_read (named_literal names l) (named_clause names inputs) read h in
     ap length first.4 ∙ ap suc (read_length names inputs first.1 first.3)
 
-pub read_negation : (names : List (ℕ × Name)) (l : Lit) (x : NamedLiteral) → named_literal names l ≡ Some x → named_literal names (negation l) ≡ Some (opposite x)
-read_negation names l x h = by (name_of names l.var) h
+pub read_negation : (names : List (ℕ × Meaning)) (l : Lit) (x : NamedLiteral) → named_literal names l ≡ Some x → named_literal names (negation l) ≡ Some (opposite x)
+read_negation names l x h = by (meaning_of names l.var) h
   where
-    by : (o : Option Name) → option_map (λ (name : Name). record { name = name; positive = l.positive }) o ≡ Some x → option_map (λ (name : Name). record { name = name; positive = not l.positive }) o ≡ Some (opposite x)
+    by : (o : Option Meaning) → option_map (λ (meaning : Meaning). record { meaning = meaning; positive = l.positive }) o ≡ Some x → option_map (λ (meaning : Meaning). record { meaning = meaning; positive = not l.positive }) o ≡ Some (opposite x)
     by None e = cc
-    by (Some name) e = let same : record { name = name; positive = l.positive } ≡ x = cc in ap (λ y. Some (opposite y)) same
+    by (Some meaning) e = let same : record { meaning = meaning; positive = l.positive } ≡ x = cc in ap (λ y. Some (opposite y)) same
 
-pub read_two : (names : List (ℕ × Name)) (a b : Lit) (x y : NamedLiteral) → named_literal names a ≡ Some x → named_literal names b ≡ Some y → named_clause names (a ∷ b ∷ []) ≡ Some (x ∷ y ∷ [])
+pub read_two : (names : List (ℕ × Meaning)) (a b : Lit) (x y : NamedLiteral) → named_literal names a ≡ Some x → named_literal names b ≡ Some y → named_clause names (a ∷ b ∷ []) ≡ Some (x ∷ y ∷ [])
 read_two names a b x y first second = ap (λ o. with_literal o (with_literal (named_literal names b) (Some []))) first ∙ ap (λ o. with_literal (Some x) (with_literal o (Some []))) second
 
-read_three : (names : List (ℕ × Name)) (a b c : Lit) (x y z : NamedLiteral) → named_literal names a ≡ Some x → named_literal names b ≡ Some y → named_literal names c ≡ Some z → named_clause names (a ∷ b ∷ c ∷ []) ≡ Some (x ∷ y ∷ z ∷ [])
+read_three : (names : List (ℕ × Meaning)) (a b c : Lit) (x y z : NamedLiteral) → named_literal names a ≡ Some x → named_literal names b ≡ Some y → named_literal names c ≡ Some z → named_clause names (a ∷ b ∷ c ∷ []) ≡ Some (x ∷ y ∷ z ∷ [])
 read_three names a b c x y z first second third = ap (λ o. with_literal o (named_clause names (b ∷ c ∷ []))) first ∙ ap (λ r. with_literal (Some x) r) (read_two names b c y z second third)
 
 -- ---- one column
 
-module _ (names : List (ℕ × Name)) (read : List NamedLiteral) (state : CounterState) (named : IsNamedBy names read state) where
+module _ (names : List (ℕ × Meaning)) (read : List NamedLiteral) (state : CounterState) (named : IsNamedBy names read state) where
   yes_read : (i j : ℕ) → IsPlace state i j → named_literal names (positive (variable state i j)) ≡ Some (yes (reaches (suc i) (suc j)))
-  yes_read i j place = ap (option_map (λ (name : Name). yes name)) (named.called i j place)
+  yes_read i j place = ap (option_map (λ (meaning : Meaning). yes meaning)) (named.called i j place)
 
   no_read : (i j : ℕ) → IsPlace state i j → named_literal names (negative (variable state i j)) ≡ Some (no (reaches (suc i) (suc j)))
-  no_read i j place = ap (option_map (λ (name : Name). no name)) (named.called i j place)
+  no_read i j place = ap (option_map (λ (meaning : Meaning). no meaning)) (named.called i j place)
 
   -- what is written of input i in column j
   abbrev Kept : ℕ → ℕ → List NamedLiteral → Type 0
@@ -204,7 +204,7 @@ named_columns_grow inputs = record {
 
 -- ---- further names
 
-read_more : (names more : List (ℕ × Name)) (inputs : List Lit) (read : List NamedLiteral) → named_clause names inputs ≡ Some read → named_clause (names ++ more) inputs ≡ Some read
+read_more : (names more : List (ℕ × Meaning)) (inputs : List Lit) (read : List NamedLiteral) → named_clause names inputs ≡ Some read → named_clause (names ++ more) inputs ≡ Some read
 read_more names more [] read h = h
 read_more names more (l ∷ inputs) read h =
     let first = first_read (named_literal names l) (named_clause names inputs) read h in
@@ -212,38 +212,38 @@ read_more names more (l ∷ inputs) read h =
     ∙ ap (with_literal (Some first.0)) (read_more names more inputs first.1 first.3)
     ∙ ap Some (sym first.4)
 
-abbrev Differ : ℕ × Name → ℕ × Name → Type 0
+abbrev Differ : ℕ × Meaning → ℕ × Meaning → Type 0
 Differ a b = (a.0 ≢ b.0) × (a.1 ≢ b.1)
 
-pub names_grow : NamesGrow
+pub names_grow : CounterMeaningsGrow
 names_grow names read state first once below none named = (all_once, record { inputs_read = read_more names more state.inputs read named.inputs_read; called = called })
   where
-    more : List (ℕ × Name)
-    more = next_names state first
+    more : List (ℕ × Meaning)
+    more = next_meanings state first
 
-    entry : ℕ → ℕ × Name
+    entry : ℕ → ℕ × Meaning
     entry i = (first + i, reaches (suc i) (suc (length state.columns)))
 
-    across : (a b : ℕ × Name) → Contains names a → Contains more b → Differ a b
+    across : (a b : ℕ × Meaning) → Contains names a → Contains more b → Differ a b
     across a b here there =
         let at = map_of entry (length state.inputs) b there in
-        let made : a.0 < first = all_at (λ (e : ℕ × Name). e.0 < first) names a below here in
-        let other = all_at (λ (e : ℕ × Name). (i : ℕ) → e.1 ≢ reaches i (suc (length state.columns))) names a none here in
-        let var : first + at.0 ≡ b.0 = ap (λ (e : ℕ × Name). e.0) at.2 in
-        let name : reaches (suc at.0) (suc (length state.columns)) ≡ b.1 = ap (λ (e : ℕ × Name). e.1) at.2 in
-        ((λ same. omega (arith, made, var, same)), (λ same. other (suc at.0) (same ∙ sym name)))
+        let made : a.0 < first = all_at (λ (e : ℕ × Meaning). e.0 < first) names a below here in
+        let other = all_at (λ (e : ℕ × Meaning). (i : ℕ) → e.1 ≢ reaches i (suc (length state.columns))) names a none here in
+        let var : first + at.0 ≡ b.0 = ap (λ (e : ℕ × Meaning). e.0) at.2 in
+        let meaning : reaches (suc at.0) (suc (length state.columns)) ≡ b.1 = ap (λ (e : ℕ × Meaning). e.1) at.2 in
+        ((λ same. omega (arith, made, var, same)), (λ same. other (suc at.0) (same ∙ sym meaning)))
 
     all_once : HasEachOnce (names ++ more)
     all_once = pairs_put Differ names more once
         (pairs_map Differ entry (length state.inputs) (λ i k less inside. ((λ same. omega arith), (λ same. let e : i ≡ k = cc in omega arith)))) across
 
-    called : (i j : ℕ) → IsPlace (with_column state first) i j → name_of (names ++ more) (variable (with_column state first) i j) ≡ Some (reaches (suc i) (suc j))
+    called : (i j : ℕ) → IsPlace (with_column state first) i j → meaning_of (names ++ more) (variable (with_column state first) i j) ≡ Some (reaches (suc i) (suc j))
     called i j place = by (place_cases state first i j place)
       where
-        by : IsPlace state i j ⊎ ((i < length state.inputs) × (j ≡ length state.columns)) → name_of (names ++ more) (variable (with_column state first) i j) ≡ Some (reaches (suc i) (suc j))
-        by (inl before) = ap (name_of (names ++ more)) (variable_before state first i j before) ∙ found_more names more (variable state i j) (reaches (suc i) (suc j)) (named.called i j before)
+        by : IsPlace state i j ⊎ ((i < length state.inputs) × (j ≡ length state.columns)) → meaning_of (names ++ more) (variable (with_column state first) i j) ≡ Some (reaches (suc i) (suc j))
+        by (inl before) = ap (meaning_of (names ++ more)) (variable_before state first i j before) ∙ found_more names more (variable state i j) (reaches (suc i) (suc j)) (named.called i j before)
         by (inr (inside, last)) =
             let is : variable (with_column state first) i j ≡ first + i = ap (variable (with_column state first) i) last ∙ variable_last state first i inside in
-            ap (name_of (names ++ more)) is
+            ap (meaning_of (names ++ more)) is
             ∙ named_by_entry (names ++ more) all_once (first + i) (reaches (suc i) (suc (length state.columns))) (Contains-append_right names more (entry i) (map_contains entry (length state.inputs) i inside))
             ∙ ap (λ k. Some (reaches (suc i) (suc k))) (sym last)

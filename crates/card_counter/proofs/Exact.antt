@@ -8,12 +8,12 @@ use Rattle.prop_core.proofs.Premises.{implied, implies, from_premise, one_premis
 use Rattle.prop_core.specs.declared.lit.Lit.{Lit}
 use Rattle.prop_core.specs.Clauses.{Clause, negation, literal_true, clause_true, AllClausesTrue}
 use Rattle.prop_core.specs.NamedClauses.{same_sign, named_true, named_clause_true, assignment_by, AllHold}
-use Rattle.prop_core.specs.VariableNames.{Name, in_state, happens, asked, matches, done, unmatched, closed, dropped, reaches, some_of_first, NamedLiteral}
+use Rattle.prop_core.specs.VariableNames.{Meaning, in_state, happens, asked, matches, done, unmatched, closed, dropped, reaches, some_of_first, NamedLiteral}
 use Rattle.card_counter.proofs.ListLemmas.{flat_each, flat_from}
 use Rattle.card_counter.proofs.Counts.{count_cons, Reaches, reached, counting}
 use Rattle.card_counter.proofs.NameLemmas.{no_name, counter_names_stand}
 use Rattle.card_counter.specs.CounterClauses.{CountClause, counts_on, counts_up, opposite, count_clause, IsCountClause, IsOfColumns, IsNamedCount}
-use Rattle.card_counter.specs.CounterState.{CounterState, IsPlace, IsCounter, variable, column_at, column_before, positive, Reached, always, never, told_by, reached_in, reached_before, under, place_clauses, input_at, column_clauses, counter_clauses, bound_literal, counter_names}
+use Rattle.card_counter.specs.CounterState.{CounterState, IsPlace, IsCounter, variable, column_at, column_before, positive, Reached, always, never, told_by, reached_in, reached_before, under, place_clauses, input_at, column_clauses, counter_clauses, bound_literal, counter_meanings}
 use Rattle.card_counter.specs.Counting.{true_count, AgreeOutside, ExtendsOverCounter, CounterIsExact, is_count, counted, NamedCountIsExact}
 use Rattle.prop_core.specs.Trail.{no_literal}
 
@@ -159,12 +159,12 @@ module _ (state : CounterState) (value : ℕ → Bool) where
 -- ---- the assignment that counts
 
 -- so many of the first inputs are true
-abbrev truth_of : CounterState → (ℕ → Bool) → Name → Bool
+abbrev truth_of : CounterState → (ℕ → Bool) → Meaning → Bool
 truth_of state given (reaches i j) = nat_le j (count_by (literal_true given) (take i state.inputs))
-truth_of state given name = false
+truth_of state given meaning = false
 
 abbrev counting_by : CounterState → (ℕ → Bool) → ℕ → Bool
-counting_by state given = assignment_by (counter_names state) (truth_of state given) given
+counting_by state given = assignment_by (counter_meanings state) (truth_of state given) given
 
 count_same : (p q : Lit → Bool) (xs : List Lit) → ((x : Lit) → Contains xs x → p x ≡ q x) → count_by p xs ≡ count_by q xs
 count_same p q [] same = refl
@@ -190,15 +190,15 @@ module _ (state : CounterState) (counter : IsCounter state) where
 
   outside : (given : ℕ → Bool) → AgreeOutside state given (counting_by state given)
   outside given var other =
-      let none = no_name (counter_names state) var (all_from (λ entry. entry.0 ≢ var) (counter_names state) (λ entry here same.
+      let none = no_name (counter_meanings state) var (all_from (λ entry. entry.0 ≢ var) (counter_meanings state) (λ entry here same.
       let at = (counter_names_stand state counter).only entry here in
-      other at.0 at.1 at.2 (sym same ∙ ap (λ (e : ℕ × Name). e.0) at.3))) in
+      other at.0 at.1 at.2 (sym same ∙ ap (λ (e : ℕ × Meaning). e.0) at.3))) in
       ap (λ o. unwrap_or (option_map (truth_of state given) o) (given var)) none
 
   inside : (given : ℕ → Bool) (i j : ℕ) → IsPlace state i j → counting_by state given (variable state i j) ≡ nat_le (suc j) (count_by (literal_true given) (take (suc i) state.inputs))
   inside given i j place =
       let stand = counter_names_stand state counter in
-      ap (λ o. unwrap_or (option_map (truth_of state given) o) (given (variable state i j))) (stand.called (counter_names state) stand.once (λ entry here. here) i j place)
+      ap (λ o. unwrap_or (option_map (truth_of state given) o) (given (variable state i j))) (stand.called (counter_meanings state) stand.once (λ entry here. here) i j place)
 
   counts_itself : (given : ℕ → Bool) (i j : ℕ) → IsPlace state i j → counting_by state given (variable state i j) ≡ nat_le (suc j) (count_by (literal_true (counting_by state given)) (take (suc i) state.inputs))
   counts_itself given i j place = inside given i j place ∙ ap (nat_le (suc j)) (sym (counts_agree given (counting_by state given) (outside given) (suc i)))
@@ -275,7 +275,7 @@ or_nothing_back : (b : Bool) → b ≡ true → b || false ≡ true
 or_nothing_back true h = refl
 or_nothing_back false h = cc
 
-module _ (inputs : List NamedLiteral) (value : Name → Bool) where
+module _ (inputs : List NamedLiteral) (value : Meaning → Bool) where
   named_rules : (columns : ℕ) → AllHold (IsNamedCount inputs columns) value → Reaches (named_true value) inputs columns (λ i j. value (reaches i j))
   named_rules columns all = record {
     kept = λ i j inside h is. implied (value (reaches (suc i) (suc j))) (value (reaches (suc (suc i)) (suc j)))
@@ -285,10 +285,10 @@ module _ (inputs : List NamedLiteral) (value : Name → Bool) where
     where
       up : (i j : ℕ) (x : NamedLiteral) → slice_get inputs i ≡ Some x → j < columns → named_true value x ≡ true → (j ≡ 0) ⊎ ((1 ≤ i) × (value (reaches i j) ≡ true)) → value (reaches (suc i) (suc j)) ≡ true
       up i zero x at h is premise =
-          or_nothing (value (reaches (suc i) 1)) (input_unless (value x.name) x.positive (value (reaches (suc i) 1) || false) (all (count_clause (counts_up i 0 x)) (counts_up i 0 x, (at, inl refl), h, refl)) is)
+          or_nothing (value (reaches (suc i) 1)) (input_unless (value x.meaning) x.positive (value (reaches (suc i) 1) || false) (all (count_clause (counts_up i 0 x)) (counts_up i 0 x, (at, inl refl), h, refl)) is)
       up i (suc j) x at h is (inl none) = absurd (omega arith)
       up i (suc j) x at h is (inr some) =
-          or_nothing (value (reaches (suc i) (suc (suc j)))) (input_unless (value x.name) x.positive (value (reaches (suc i) (suc (suc j))) || false)
+          or_nothing (value (reaches (suc i) (suc (suc j)))) (input_unless (value x.meaning) x.positive (value (reaches (suc i) (suc (suc j))) || false)
           (from_premise (value (reaches i (suc j))) (named_true value (opposite x) || (value (reaches (suc i) (suc (suc j))) || false)) (all (count_clause (counts_up i (suc j) x)) (counts_up i (suc j) x, (at, inr some.0), h, refl)) some.1) is)
 
   named_few : (columns k : ℕ) → AllHold (IsNamedCount inputs columns) value → k < columns → value (reaches (length inputs) (suc k)) ≡ false → count_by (named_true value) inputs ≤ k
@@ -303,7 +303,7 @@ module _ (inputs : List NamedLiteral) (value : Name → Bool) where
           absurd (let clash : true ≡ false = sym many ∙ none in cc)
       by (inr few) = few
 
-  others_stay : (name : Name) → is_count name ≡ false → counted inputs value name ≡ value name
+  others_stay : (meaning : Meaning) → is_count meaning ≡ false → counted inputs value meaning ≡ value meaning
   others_stay (in_state c q t) h = refl
   others_stay (happens e t) h = refl
   others_stay asked h = refl
@@ -315,9 +315,9 @@ module _ (inputs : List NamedLiteral) (value : Name → Bool) where
   others_stay (reaches i j) h = cc
   others_stay (some_of_first family i) h = refl
 
-  module _ (plain : (x : NamedLiteral) → Contains inputs x → is_count x.name ≡ false) where
+  module _ (plain : (x : NamedLiteral) → Contains inputs x → is_count x.meaning ≡ false) where
     same_input : (x : NamedLiteral) → Contains inputs x → named_true (counted inputs value) x ≡ named_true value x
-    same_input x here = ap (same_sign x.positive) (others_stay x.name (plain x here))
+    same_input x here = ap (same_sign x.positive) (others_stay x.meaning (plain x here))
 
     holds_by_name : (columns : ℕ) (which : CountClause) → IsCountClause inputs which → IsOfColumns columns which → IsTrue (named_clause_true (counted inputs value) (count_clause which))
     holds_by_name columns (counts_on zero j) is of = absurd (let low = is.0 in omega arith)
@@ -325,11 +325,11 @@ module _ (inputs : List NamedLiteral) (value : Name → Bool) where
     holds_by_name columns (counts_on (suc i) (suc j)) is of =
         implies (counted inputs value (reaches (suc i) (suc j))) (counted inputs value (reaches (suc (suc i)) (suc j))) (λ h. (counting (named_true value) inputs columns).kept i j is.1 of h)
     holds_by_name columns (counts_up i zero x) is of =
-        input_unless_back (counted inputs value x.name) x.positive (counted inputs value (reaches (suc i) 1) || false) (λ h.
+        input_unless_back (counted inputs value x.meaning) x.positive (counted inputs value (reaches (suc i) 1) || false) (λ h.
         or_nothing_back (counted inputs value (reaches (suc i) 1)) ((counting (named_true value) inputs columns).counted i 0 x is.0 of (sym (same_input x (contains_at inputs i x is.0)) ∙ h) (inl refl)))
     holds_by_name columns (counts_up i (suc j) x) is of =
         one_premise (counted inputs value (reaches i (suc j))) (named_true (counted inputs value) (opposite x) || (counted inputs value (reaches (suc i) (suc (suc j))) || false)) (λ r.
-        input_unless_back (counted inputs value x.name) x.positive (counted inputs value (reaches (suc i) (suc (suc j))) || false) (λ h.
+        input_unless_back (counted inputs value x.meaning) x.positive (counted inputs value (reaches (suc i) (suc (suc j))) || false) (λ h.
         or_nothing_back (counted inputs value (reaches (suc i) (suc (suc j)))) ((counting (named_true value) inputs columns).counted i (suc j) x is.0 of
         (sym (same_input x (contains_at inputs i x is.0)) ∙ h) (inr (low is.1, r)))))
       where

@@ -8,7 +8,7 @@ use Rattle.std.proofs.lemmas.Option.{slice_get_within, slice_get-get_or, get_or_
 use Rattle.des_base.proofs.Elements.{some_at, zip_append, take_whole}
 use Rattle.prop_core.specs.declared.lit.Lit.{Lit}
 use Rattle.prop_core.specs.Clauses.{Clause, negation}
-use Rattle.prop_core.specs.VariableNames.{Name, Exclusion, asked, some_of_first, NamedLiteral, yes, no, named_literal, named_clause}
+use Rattle.prop_core.specs.VariableNames.{Meaning, Exclusion, asked, some_of_first, NamedLiteral, yes, no, named_literal, named_clause}
 use Rattle.prop_core.proofs.FamilyLemmas.{code_same}
 use Rattle.card_counter.proofs.CodeLemmas.{read_negation, read_two}
 use Rattle.card_counter.proofs.Exclusions.{count as called_count, input_reads, open_reads}
@@ -16,7 +16,7 @@ use Rattle.card_counter.proofs.ListLemmas.{take_more, map_as_flat, flat_next, fl
 use Rattle.card_counter.proofs.PairLemmas.{pairs_take}
 use Rattle.card_counter.specs.AtMostOne.{not_both, excluded_pairs, link_clauses, chain_clauses, exclusion_clauses, IsNamedChain, ExclusionIsCode, ExclusionIsListed}
 use Rattle.card_counter.specs.CounterState.{positive, negative, input_at}
-use Rattle.card_counter.specs.Exclusions.{ExclusionClause, exclusion_clause, IsExclusionClause, two, opens, goes_on, shuts_out, input_name, pairs_with, link_at, ExclusionsAreListed, named_exclusion, IsNamedExclusion, exclusion_list}
+use Rattle.card_counter.specs.Exclusions.{ExclusionClause, exclusion_clause, IsExclusionClause, two, opens, goes_on, shuts_out, input_meaning, pairs_with, link_at, ExclusionsAreListed, named_exclusion, IsNamedExclusion, exclusion_list}
 use Rattle.std.proofs.lemmas.List.{map-append}
 use Rattle.prop_core.proofs.Listed.{Has, has_map, listed_are_code, listed_from}
 
@@ -28,28 +28,28 @@ few_inputs n e = search (arith, tests)
 many_inputs : (n : ℕ) → nat_le n 4 ≡ false → 5 ≤ n
 many_inputs n e = search (arith, tests)
 
-input_at_place : (inputs : List Name) (i : ℕ) → i < length inputs → slice_get inputs i ≡ Some (input_name inputs i)
+input_at_place : (inputs : List Meaning) (i : ℕ) → i < length inputs → slice_get inputs i ≡ Some (input_meaning inputs i)
 input_at_place inputs i h = slice_get-get_or inputs i asked h
 
-input_is : (inputs : List Name) (i : ℕ) (x : Name) → slice_get inputs i ≡ Some x → input_name inputs i ≡ x
+input_is : (inputs : List Meaning) (i : ℕ) (x : Meaning) → slice_get inputs i ≡ Some x → input_meaning inputs i ≡ x
 input_is inputs i x at = get_or_from_slice_get inputs i x asked at
 
-pairs_to : (inputs : List Name) (which : ExclusionClause) → length inputs ≤ 4 → Contains (flat_map (pairs_with inputs) (range_with_len 0 (length inputs))) which → IsExclusionClause inputs which
+pairs_to : (inputs : List Meaning) (which : ExclusionClause) → length inputs ≤ 4 → Contains (flat_map (pairs_with inputs) (range_with_len 0 (length inputs))) which → IsExclusionClause inputs which
 pairs_to inputs which short in' =
     let row = flat_of (pairs_with inputs) (length inputs) which in' in
-    let pair = map_of (λ i. two i row.0 (input_name inputs i) (input_name inputs row.0)) row.0 which row.2 in
+    let pair = map_of (λ i. two i row.0 (input_meaning inputs i) (input_meaning inputs row.0)) row.0 which row.2 in
     subst (IsExclusionClause inputs) pair.2 (short, pair.1, input_at_place inputs pair.0 (omega (arith, row.1, pair.1)), input_at_place inputs row.0 row.1)
 
-pairs_back : (inputs : List Name) (which : ExclusionClause) → length inputs ≤ 4 → IsExclusionClause inputs which → Contains (flat_map (pairs_with inputs) (range_with_len 0 (length inputs))) which
+pairs_back : (inputs : List Meaning) (which : ExclusionClause) → length inputs ≤ 4 → IsExclusionClause inputs which → Contains (flat_map (pairs_with inputs) (range_with_len 0 (length inputs))) which
 pairs_back inputs (two i j x y) short (few, less, at_i, at_j) =
-    let here = map_contains (λ k. two k j (input_name inputs k) (input_name inputs j)) j i less in
+    let here = map_contains (λ k. two k j (input_meaning inputs k) (input_meaning inputs j)) j i less in
     flat_contains (pairs_with inputs) (length inputs) j (two i j x y) (slice_get_within inputs j y at_j)
-    (subst (λ a. Contains (pairs_with inputs j) (two i j a y)) (input_is inputs i x at_i) (subst (λ b. Contains (pairs_with inputs j) (two i j (input_name inputs i) b)) (input_is inputs j y at_j) here))
+    (subst (λ a. Contains (pairs_with inputs j) (two i j a y)) (input_is inputs i x at_i) (subst (λ b. Contains (pairs_with inputs j) (two i j (input_meaning inputs i) b)) (input_is inputs j y at_j) here))
 pairs_back inputs (opens i x) short (long, below, at) = absurd (omega (arith, short, long))
 pairs_back inputs (goes_on i) short (long, below) = absurd (omega (arith, short, long))
 pairs_back inputs (shuts_out i x) short (long, at) = absurd (omega (arith, short, long))
 
-link_to : (inputs : List Name) (which : ExclusionClause) (i : ℕ) → 5 ≤ length inputs → i < length inputs - 1 → Contains (link_at inputs i) which → IsExclusionClause inputs which
+link_to : (inputs : List Meaning) (which : ExclusionClause) (i : ℕ) → 5 ≤ length inputs → i < length inputs - 1 → Contains (link_at inputs i) which → IsExclusionClause inputs which
 link_to inputs which i long below (zero, inside, is) = subst (IsExclusionClause inputs) is (long, omega (arith, below), input_at_place inputs i (omega (arith, below)))
 link_to inputs which i long below (suc zero, inside, is) = subst (IsExclusionClause inputs) is (long, input_at_place inputs (suc i) (omega (arith, below)))
 link_to inputs which i long below (suc (suc k), inside, is) = by (nat_lt (suc i) (length inputs - 1)) refl k inside is
@@ -62,10 +62,10 @@ link_to inputs which i long below (suc (suc k), inside, is) = by (nat_lt (suc i)
     by true e p h at = let less = ltb-true (suc i) (length inputs - 1) e in subst (IsExclusionClause inputs) (last p (omega (arith, h)) at) (long, omega (arith, less))
     by false e p h at = absurd (omega (arith, h))
 
-chain_to : (inputs : List Name) (which : ExclusionClause) → 5 ≤ length inputs → Contains (flat_map (link_at inputs) (range_with_len 0 (length inputs - 1))) which → IsExclusionClause inputs which
+chain_to : (inputs : List Meaning) (which : ExclusionClause) → 5 ≤ length inputs → Contains (flat_map (link_at inputs) (range_with_len 0 (length inputs - 1))) which → IsExclusionClause inputs which
 chain_to inputs which long in' = let link = flat_of (link_at inputs) (length inputs - 1) which in' in link_to inputs which link.0 long link.1 link.2
 
-chain_back : (inputs : List Name) (which : ExclusionClause) → 5 ≤ length inputs → IsExclusionClause inputs which → Contains (flat_map (link_at inputs) (range_with_len 0 (length inputs - 1))) which
+chain_back : (inputs : List Meaning) (which : ExclusionClause) → 5 ≤ length inputs → IsExclusionClause inputs which → Contains (flat_map (link_at inputs) (range_with_len 0 (length inputs - 1))) which
 chain_back inputs (two i j x y) long (few, less, at_i, at_j) = absurd (omega (arith, long, few))
 chain_back inputs (opens i x) long (many, below, at) =
     flat_contains (link_at inputs) (length inputs - 1) i (opens i x) (omega (arith, below))
@@ -73,7 +73,7 @@ chain_back inputs (opens i x) long (many, below, at) =
 chain_back inputs (goes_on i) long (many, below) =
     let less = lt-ltb (suc i) (length inputs - 1) (omega (arith, below)) in
     flat_contains (link_at inputs) (length inputs - 1) i (goes_on i) (omega (arith, below))
-    (subst (λ b. Contains (opens i (input_name inputs i) ∷ shuts_out i (input_name inputs (suc i)) ∷ cond b (goes_on i ∷ []) []) (goes_on i)) (sym less) (2, omega arith, refl))
+    (subst (λ b. Contains (opens i (input_meaning inputs i) ∷ shuts_out i (input_meaning inputs (suc i)) ∷ cond b (goes_on i ∷ []) []) (goes_on i)) (sym less) (2, omega arith, refl))
 chain_back inputs (shuts_out i x) long (many, at) =
     let within = slice_get_within inputs (suc i) x at in
     flat_contains (link_at inputs) (length inputs - 1) i (shuts_out i x) (omega (arith, within))
@@ -81,13 +81,13 @@ chain_back inputs (shuts_out i x) long (many, at) =
 
 -- ---- how many they are
 
-pairs_size : (inputs : List Name) (m : ℕ) → 2 * length (flat_map (pairs_with inputs) (range_with_len 0 m)) + m ≡ m * m
+pairs_size : (inputs : List Meaning) (m : ℕ) → 2 * length (flat_map (pairs_with inputs) (range_with_len 0 m)) + m ≡ m * m
 pairs_size inputs zero = refl
 pairs_size inputs (suc m) =
     let rest = pairs_size inputs m in
     let whole = ap length (flat_next (pairs_with inputs) m) in
     let both = length-append (flat_map (pairs_with inputs) (range_with_len 0 m)) (pairs_with inputs m) in
-    let row = length-map-range_with_len (λ i. two i m (input_name inputs i) (input_name inputs m)) 0 m in
+    let row = length-map-range_with_len (λ i. two i m (input_meaning inputs i) (input_meaning inputs m)) 0 m in
     let square = next_square m in
     omega (arith, rest, whole, both, row, square)
   where
@@ -102,20 +102,20 @@ few_pairs l (suc (suc (suc zero))) h few = omega (arith, h)
 few_pairs l (suc (suc (suc (suc zero)))) h few = omega (arith, h)
 few_pairs l (suc (suc (suc (suc (suc m))))) h few = absurd (omega (arith, few))
 
-link_size : (inputs : List Name) (i : ℕ) → length (link_at inputs i) ≤ 3
+link_size : (inputs : List Meaning) (i : ℕ) → length (link_at inputs i) ≤ 3
 link_size inputs i = by (nat_lt (suc i) (length inputs - 1))
   where
     by : (b : Bool) → suc (suc (length (cond b (goes_on i ∷ []) []))) ≤ 3
     by true = omega arith
     by false = omega arith
 
-chain_size : (inputs : List Name) (m : ℕ) → length (flat_map (link_at inputs) (range_with_len 0 m)) ≤ 3 * m
+chain_size : (inputs : List Meaning) (m : ℕ) → length (flat_map (link_at inputs) (range_with_len 0 m)) ≤ 3 * m
 chain_size inputs zero = omega arith
 chain_size inputs (suc m) =
     omega (arith, chain_size inputs m, ap length (flat_next (link_at inputs) m), length-append (flat_map (link_at inputs) (range_with_len 0 m)) (link_at inputs m), link_size inputs m)
 
 -- with one clause more they are still at most as many as pairs of inputs, in either order or with itself
-pub fewer_than_square : (inputs : List Name) → 1 ≤ length inputs → length (exclusion_list inputs) + 1 ≤ length inputs * length inputs
+pub fewer_than_square : (inputs : List Meaning) → 1 ≤ length inputs → length (exclusion_list inputs) + 1 ≤ length inputs * length inputs
 fewer_than_square inputs some = by (nat_le (length inputs) 4) refl
   where
     pairs : List ExclusionClause
@@ -167,31 +167,31 @@ zip_flat R f g (suc n) each =
 map_next : {X : Type 0} (f : ℕ → X) (n : ℕ) → map f (range_with_len 0 (suc n)) ≡ map f (range_with_len 0 n) ++ f n ∷ []
 map_next f n = map_as_flat f (range_with_len 0 (suc n)) ∙ flat_next (λ i. f i ∷ []) n ∙ ap (λ xs. xs ++ f n ∷ []) (sym (map_as_flat f (range_with_len 0 n)))
 
-module _ (names : List (ℕ × Name)) (family : Exclusion) (called : List Name) (inputs : List Lit) (first : ℕ) (reads : named_clause names inputs ≡ Some (map (λ name. yes name) called)) where
+module _ (names : List (ℕ × Meaning)) (family : Exclusion) (called : List Meaning) (inputs : List Lit) (first : ℕ) (reads : named_clause names inputs ≡ Some (map (λ meaning. yes meaning) called)) where
   abbrev Reads : Clause → ExclusionClause → Type 0
   Reads clause which = named_clause names clause ≡ Some (exclusion_clause family which)
 
-  lit_reads : (q : ℕ) (l : Lit) → slice_get inputs q ≡ Some l → named_literal names l ≡ Some (yes (input_name called q))
+  lit_reads : (q : ℕ) (l : Lit) → slice_get inputs q ≡ Some l → named_literal names l ≡ Some (yes (input_meaning called q))
   lit_reads q l at =
       let same : input_at inputs q ≡ l = get_or_from_slice_get inputs q l (record { var = 0; positive = false }) at in
-      subst (λ (x : Lit). named_literal names x ≡ Some (yes (input_name called q))) same (input_reads names family called inputs first reads q (slice_get_within inputs q l at))
+      subst (λ (x : Lit). named_literal names x ≡ Some (yes (input_meaning called q))) same (input_reads names family called inputs first reads q (slice_get_within inputs q l at))
 
   both_read : (a b : Lit) (x y : NamedLiteral) → named_literal names a ≡ Some x → named_literal names b ≡ Some y → named_clause names (a ∷ b ∷ []) ≡ Some (x ∷ y ∷ [])
   both_read a b x y h k = read_two names a b x y h k
 
-  pair_reads : (q r : ℕ) (y x : Lit) → slice_get inputs q ≡ Some y → slice_get inputs r ≡ Some x → Reads (not_both x y) (two q r (input_name called q) (input_name called r))
+  pair_reads : (q r : ℕ) (y x : Lit) → slice_get inputs q ≡ Some y → slice_get inputs r ≡ Some x → Reads (not_both x y) (two q r (input_meaning called q) (input_meaning called r))
   pair_reads q r y x at_q at_r =
-      both_read (negation y) (negation x) (no (input_name called q)) (no (input_name called r)) (read_negation names y (yes (input_name called q)) (lit_reads q y at_q)) (read_negation names x (yes (input_name called r)) (lit_reads r x at_r))
+      both_read (negation y) (negation x) (no (input_meaning called q)) (no (input_meaning called r)) (read_negation names y (yes (input_meaning called q)) (lit_reads q y at_q)) (read_negation names x (yes (input_meaning called r)) (lit_reads r x at_r))
 
-  row_reads : (r : ℕ) (x : Lit) → slice_get inputs r ≡ Some x → (k : ℕ) → k ≤ length inputs → AllZip Reads (map (not_both x) (take k inputs)) (map (λ i. two i r (input_name called i) (input_name called r)) (range_with_len 0 k))
+  row_reads : (r : ℕ) (x : Lit) → slice_get inputs r ≡ Some x → (k : ℕ) → k ≤ length inputs → AllZip Reads (map (not_both x) (take k inputs)) (map (λ i. two i r (input_meaning called i) (input_meaning called r)) (range_with_len 0 k))
   row_reads r x at_r zero inside = tt
   row_reads r x at_r (suc k) inside =
       let at = some_at inputs k (omega (arith, inside)) in
       let left : map (not_both x) (take (suc k) inputs) ≡ map (not_both x) (take k inputs) ++ not_both x at.0 ∷ [] = ap (map (not_both x)) (take_more inputs k at.0 at.1) ∙ map-append (not_both x) (take k inputs) (at.0 ∷ []) in
-      let right = map_next (λ i. two i r (input_name called i) (input_name called r)) k in
-      subst (λ cs. AllZip Reads cs (map (λ i. two i r (input_name called i) (input_name called r)) (range_with_len 0 (suc k)))) (sym left)
+      let right = map_next (λ i. two i r (input_meaning called i) (input_meaning called r)) k in
+      subst (λ cs. AllZip Reads cs (map (λ i. two i r (input_meaning called i) (input_meaning called r)) (range_with_len 0 (suc k)))) (sym left)
       (subst (λ ws. AllZip Reads (map (not_both x) (take k inputs) ++ not_both x at.0 ∷ []) ws) (sym right)
-      (zip_append Reads (map (not_both x) (take k inputs)) (map (λ i. two i r (input_name called i) (input_name called r)) (range_with_len 0 k)) (not_both x at.0 ∷ []) (two k r (input_name called k) (input_name called r) ∷ [])
+      (zip_append Reads (map (not_both x) (take k inputs)) (map (λ i. two i r (input_meaning called i) (input_meaning called r)) (range_with_len 0 k)) (not_both x at.0 ∷ []) (two k r (input_meaning called k) (input_meaning called r) ∷ [])
       (row_reads r x at_r k (omega (arith, inside))) (pair_reads k r at.0 x at.1 at_r, tt)))
 
   rows_read : (k : ℕ) → k ≤ length inputs → AllZip Reads (excluded_pairs (take k inputs)) (flat_map (pairs_with called) (range_with_len 0 k))
@@ -220,11 +220,11 @@ module _ (names : List (ℕ × Name)) (family : Exclusion) (called : List Name) 
     link_reads i h =
         let count = called_count names family called inputs first reads in
         let same : nat_lt (suc i) (length inputs - 1) ≡ nat_lt (suc i) (length called - 1) = ap (λ m. nat_lt (suc i) (m - 1)) (sym count) in (
-          both_read (negation (input_at inputs i)) (positive (first + i)) (no (input_name called i)) (yes (some_of_first family (suc i)))
-              (read_negation names (input_at inputs i) (yes (input_name called i)) (input_reads names family called inputs first reads i (omega (arith, h)))) (open_reads names family called inputs first reads chain i h).0,
+          both_read (negation (input_at inputs i)) (positive (first + i)) (no (input_meaning called i)) (yes (some_of_first family (suc i)))
+              (read_negation names (input_at inputs i) (yes (input_meaning called i)) (input_reads names family called inputs first reads i (omega (arith, h)))) (open_reads names family called inputs first reads chain i h).0,
           (
-            both_read (negation (input_at inputs (suc i))) (negative (first + i)) (no (input_name called (suc i))) (no (some_of_first family (suc i)))
-                (read_negation names (input_at inputs (suc i)) (yes (input_name called (suc i))) (input_reads names family called inputs first reads (suc i) (omega (arith, h)))) (open_reads names family called inputs first reads chain i h).1,
+            both_read (negation (input_at inputs (suc i))) (negative (first + i)) (no (input_meaning called (suc i))) (no (some_of_first family (suc i)))
+                (read_negation names (input_at inputs (suc i)) (yes (input_meaning called (suc i))) (input_reads names family called inputs first reads (suc i) (omega (arith, h)))) (open_reads names family called inputs first reads chain i h).1,
             subst (λ b. AllZip Reads (cond (nat_lt (suc i) (length inputs - 1)) ((negative (first + i) ∷ positive (first + suc i) ∷ []) ∷ []) []) (cond b (goes_on i ∷ []) [])) same
                 (goes_on_reads i h (nat_lt (suc i) (length inputs - 1)) refl),
           ),
@@ -233,7 +233,7 @@ module _ (names : List (ℕ × Name)) (family : Exclusion) (called : List Name) 
     pub chain_reads : AllZip Reads (chain_clauses inputs first) (flat_map (link_at called) (range_with_len 0 (length inputs - 1)))
     chain_reads = zip_flat Reads (link_clauses inputs first) (link_at called) (length inputs - 1) link_reads
 
-pub exclusions_read : (names : List (ℕ × Name)) (family : Exclusion) (called : List Name) (inputs : List Lit) (first : ℕ) → named_clause names inputs ≡ Some (map yes called) →
+pub exclusions_read : (names : List (ℕ × Meaning)) (family : Exclusion) (called : List Meaning) (inputs : List Lit) (first : ℕ) → named_clause names inputs ≡ Some (map yes called) →
     IsNamedChain names family first (chain_count (length inputs)) → AllZip (λ clause which. named_clause names clause ≡ Some (exclusion_clause family which)) (exclusion_clauses inputs first) (exclusion_list called)
 exclusions_read names family called inputs first reads chain =
     subst (λ m. AllZip (λ clause which. named_clause names clause ≡ Some (exclusion_clause family which)) (exclusion_clauses inputs first)
@@ -251,7 +251,7 @@ exclusion_is_listed names family called inputs first reads chain =
 
 -- ---- as a set
 
-pub has_exclusion : (family : Exclusion) (called : List Name) (named : List NamedLiteral) → Has named (named_exclusion family called) (IsNamedExclusion family called)
+pub has_exclusion : (family : Exclusion) (called : List Meaning) (named : List NamedLiteral) → Has named (named_exclusion family called) (IsNamedExclusion family called)
 has_exclusion family called named =
     let all = has_map named (exclusion_clause family) (exclusion_list called) in (
       (λ there. let found = all.0 there in (found.0, ((exclusions_are_listed called).same found.0).0 found.1, found.2)),

@@ -3,45 +3,45 @@ use Rattle.std.proofs.Common.{◌≡◌, ◌≢◌, ℕ, zero, suc, List, [], �
 use Rattle.std.specs.List.{AllByRecursion}
 use Rattle.std.proofs.lemmas.Bool.{ne_eqb, eq-eqb}
 use Rattle.des_base.proofs.Elements.{all_at}
-use Rattle.prop_core.specs.VariableNames.{Name, reaches, HasEachOnce, name_of}
+use Rattle.prop_core.specs.VariableNames.{Meaning, reaches, HasEachOnce, meaning_of}
 use Rattle.card_counter.proofs.ListLemmas.{flat_contains, flat_of, map_contains, map_of, pairs_flat, pairs_map}
-use Rattle.card_counter.specs.CounterState.{CounterState, IsPlace, IsCounter, variable, counter_names}
-use Rattle.card_counter.specs.Counting.{CounterNamesStand}
+use Rattle.card_counter.specs.CounterState.{CounterState, IsPlace, IsCounter, variable, counter_meanings}
+use Rattle.card_counter.specs.Counting.{CounterMeaningsStand}
 use Rattle.des_base.specs.Lists.{numbers_below}
 
 -- the name of a variable that stands among the names
-pub named_by_entry : (names : List (ℕ × Name)) → HasEachOnce names → (var : ℕ) (name : Name) → Contains names (var, name) → name_of names var ≡ Some name
-named_by_entry [] once var name (k, below, is) = absurd (omega arith)
-named_by_entry (entry ∷ names) once var name (zero, below, is) =
-    let v : entry.0 ≡ var = ap (λ (e : ℕ × Name). e.0) is in
-    let n : entry.1 ≡ name = ap (λ (e : ℕ × Name). e.1) is in
+pub named_by_entry : (names : List (ℕ × Meaning)) → HasEachOnce names → (var : ℕ) (meaning : Meaning) → Contains names (var, meaning) → meaning_of names var ≡ Some meaning
+named_by_entry [] once var meaning (k, below, is) = absurd (omega arith)
+named_by_entry (entry ∷ names) once var meaning (zero, below, is) =
+    let v : entry.0 ≡ var = ap (λ (e : ℕ × Meaning). e.0) is in
+    let n : entry.1 ≡ meaning = ap (λ (e : ℕ × Meaning). e.1) is in
     rw (eq-eqb entry.0 var v) (ap Some n)
-named_by_entry (entry ∷ names) once var name (suc k, below, is) =
-    let there : Contains names (var, name) = (k, omega arith, is) in
-    let other = all_at (λ b. (entry.0 ≢ b.0) × (entry.1 ≢ b.1)) names (var, name) once.0 there in
-    rw (ne_eqb entry.0 var other.0) (named_by_entry names once.1 var name there)
+named_by_entry (entry ∷ names) once var meaning (suc k, below, is) =
+    let there : Contains names (var, meaning) = (k, omega arith, is) in
+    let other = all_at (λ b. (entry.0 ≢ b.0) × (entry.1 ≢ b.1)) names (var, meaning) once.0 there in
+    rw (ne_eqb entry.0 var other.0) (named_by_entry names once.1 var meaning there)
 
-pub no_name : (names : List (ℕ × Name)) (var : ℕ) → AllByRecursion (λ entry. entry.0 ≢ var) names → name_of names var ≡ None
+pub no_name : (names : List (ℕ × Meaning)) (var : ℕ) → AllByRecursion (λ entry. entry.0 ≢ var) names → meaning_of names var ≡ None
 no_name [] var other = refl
 no_name (entry ∷ names) var other = rw (ne_eqb entry.0 var other.0) (no_name names var other.1)
 
 module _ (state : CounterState) where
-  abbrev entry : ℕ → ℕ → ℕ × Name
+  abbrev entry : ℕ → ℕ → ℕ × Meaning
   entry j i = (variable state i j, reaches (suc i) (suc j))
 
-  abbrev row : ℕ → List (ℕ × Name)
+  abbrev row : ℕ → List (ℕ × Meaning)
   row j = map (entry j) (numbers_below (length state.inputs))
 
-  pub entry_there : (i j : ℕ) → IsPlace state i j → Contains (counter_names state) (variable state i j, reaches (suc i) (suc j))
+  pub entry_there : (i j : ℕ) → IsPlace state i j → Contains (counter_meanings state) (variable state i j, reaches (suc i) (suc j))
   entry_there i j place = flat_contains row (length state.columns) j (entry j i) place.column (map_contains (entry j) (length state.inputs) i place.input)
 
-  pub entry_only : (e : ℕ × Name) → Contains (counter_names state) e → (i : ℕ) × (j : ℕ) × IsPlace state i j × (e ≡ (variable state i j, reaches (suc i) (suc j)))
+  pub entry_only : (e : ℕ × Meaning) → Contains (counter_meanings state) e → (i : ℕ) × (j : ℕ) × IsPlace state i j × (e ≡ (variable state i j, reaches (suc i) (suc j)))
   entry_only e here =
       let column = flat_of row (length state.columns) e here in
       let input = map_of (entry column.0) (length state.inputs) e column.2 in
       (input.0, column.0, record { input = input.1; column = column.1 }, sym input.2)
 
-  abbrev Differ : ℕ × Name → ℕ × Name → Type 0
+  abbrev Differ : ℕ × Meaning → ℕ × Meaning → Type 0
   Differ a b = (a.0 ≢ b.0) × (a.1 ≢ b.1)
 
   entries_differ : IsCounter state → (i j k l : ℕ) → IsPlace state i j → IsPlace state k l → ((i ≡ k) × (j ≡ l) → ⊥) → Differ (entry j i) (entry l k)
@@ -56,7 +56,7 @@ module _ (state : CounterState) where
       column_same : (i j k l : ℕ) → reaches (suc i) (suc j) ≡ reaches (suc k) (suc l) → j ≡ l
       column_same i j k l same = cc
 
-  entries_once : IsCounter state → HasEachOnce (counter_names state)
+  entries_once : IsCounter state → HasEachOnce (counter_meanings state)
   entries_once counter = pairs_flat Differ row (length state.columns)
       (λ j h. pairs_map Differ (entry j) (length state.inputs) (λ i k less inside.
       entries_differ counter i j k j (record { input = omega arith; column = h }) (record { input = inside; column = h }) (λ same. let e = same.0 in omega arith)))
@@ -66,7 +66,7 @@ module _ (state : CounterState) where
       let differ = entries_differ counter first.0 j second.0 l (record { input = first.1; column = omega arith }) (record { input = second.1; column = h }) (λ same. let e = same.1 in omega arith) in
       subst (λ x. Differ x b) first.2 (subst (Differ (entry j first.0)) second.2 differ))
 
-pub counter_names_stand : CounterNamesStand
+pub counter_names_stand : CounterMeaningsStand
 counter_names_stand state counter = record {
   once = entries_once state counter;
   there = entry_there state;

@@ -8,9 +8,9 @@ use Rattle.std.proofs.lemmas.List.Elements.{All-contains, All-weaker}
 use Rattle.std.proofs.lemmas.List.FromFn.{get_or-range_with_len, length-range_with_len}
 use Rattle.prop_core.specs.declared.lit.Lit.{Lit}
 use Rattle.prop_core.specs.Clauses.{Clause, HasValues}
-use Rattle.prop_core.specs.VariableNames.{Name, reaches}
+use Rattle.prop_core.specs.VariableNames.{Meaning, reaches}
 use Rattle.card_counter.proofs.ListLemmas.{flat_same, flat_next, map_same}
-use Rattle.card_counter.specs.CounterState.{CounterState, IsPlace, IsCounter, IsMade, variable, var_at, column_at, column_before, column_clauses, without_columns, with_column, next_clauses, ColumnsAddClauses, next_names, ColumnsAddNames, with_room}
+use Rattle.card_counter.specs.CounterState.{CounterState, IsPlace, IsCounter, IsMade, variable, var_at, column_at, column_before, column_clauses, without_columns, with_column, next_clauses, ColumnsAddClauses, next_meanings, ColumnsAddMeanings, with_room}
 use Rattle.card_counter.specs.Growing.{MayCount}
 use Rattle.des_base.specs.Lists.{numbers_below}
 
@@ -118,7 +118,7 @@ grown_is_counter state first counter made some = record {
         let here : variable (with_column state first) i j ≡ first + i = ap (variable (with_column state first) i) last ∙ variable_last state first i inside in
         omega (arith, below, here, same)
 
-pub columns_add_names : ColumnsAddNames
+pub columns_add_names : ColumnsAddMeanings
 columns_add_names state first =
     ap (λ n. flat_map after (numbers_below n)) (one_more_column state.columns column)
     ∙ flat_next after (length state.columns)
@@ -128,16 +128,16 @@ columns_add_names state first =
     column : List ℕ
     column = range_with_len first (length state.inputs)
 
-    after : ℕ → List (ℕ × Name)
+    after : ℕ → List (ℕ × Meaning)
     after j = map (λ i. (variable (with_column state first) i j, reaches (suc i) (suc j))) (numbers_below (length state.inputs))
 
-    before : ℕ → List (ℕ × Name)
+    before : ℕ → List (ℕ × Meaning)
     before j = map (λ i. (variable state i j, reaches (suc i) (suc j))) (numbers_below (length state.inputs))
 
     same : (j : ℕ) → j < length state.columns → after j ≡ before j
     same j h = ap (λ c. map (λ i. (var_at c i, reaches (suc i) (suc j))) (numbers_below (length state.inputs))) (at_front state.columns column j h)
 
-    last : after (length state.columns) ≡ next_names state first
+    last : after (length state.columns) ≡ next_meanings state first
     last = map_same (λ i. (variable (with_column state first) i (length state.columns), reaches (suc i) (suc (length state.columns))))
         (λ i. (first + i, reaches (suc i) (suc (length state.columns)))) (length state.inputs)
         (λ i h. ap (λ v. (v, reaches (suc i) (suc (length state.columns)))) (variable_last state first i h))

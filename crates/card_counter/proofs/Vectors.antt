@@ -4,7 +4,7 @@ use Rattle.prop_core.specs.declared.lit.Lit.{Lit}
 use Rattle.prop_core.specs.VariableNames.{reaches, happens, yes, no}
 use Rattle.card_counter.specs.AtMostOne.{excluded_pairs}
 use Rattle.card_counter.specs.CounterClauses.{counts_on, counts_up, count_clause}
-use Rattle.card_counter.specs.CounterState.{CounterState, positive, negative, counter_clauses, counter_names, bound_literal, without_columns, with_column, next_clauses, next_names, with_input, with_inputs, inputs_clauses}
+use Rattle.card_counter.specs.CounterState.{CounterState, positive, negative, counter_clauses, counter_meanings, bound_literal, without_columns, with_column, next_clauses, next_meanings, with_input, with_inputs, inputs_clauses}
 use Rattle.card_counter.specs.Counting.{true_count, counted}
 use Rattle.card_counter.specs.Rows.{counter_of}
 
@@ -45,11 +45,11 @@ bounds : map (bound_literal (with_column (with_column start 5) 7)) (0 ∷ 1 ∷ 
 unfolding start two_inputs
 bounds = refl
 
-names : counter_names (with_column (with_column start 5) 7) ≡ (5, reaches 1 1) ∷ (6, reaches 2 1) ∷ (7, reaches 1 2) ∷ (8, reaches 2 2) ∷ []
+names : counter_meanings (with_column (with_column start 5) 7) ≡ (5, reaches 1 1) ∷ (6, reaches 2 1) ∷ (7, reaches 1 2) ∷ (8, reaches 2 2) ∷ []
 unfolding start two_inputs
 names = refl
 
-more_names : next_names (with_column start 5) 7 ≡ (7, reaches 1 2) ∷ (8, reaches 2 2) ∷ []
+more_names : next_meanings (with_column start 5) 7 ≡ (7, reaches 1 2) ∷ (8, reaches 2 2) ∷ []
 unfolding start two_inputs
 more_names = refl
 

@@ -5,7 +5,7 @@ use Rattle.des_base.specs.Lists.{EachPair, numbers_below}
 use Rattle.prop_core.specs.declared.lit.Lit.{Lit}
 use Rattle.prop_core.specs.Clauses.{Clause, negation, literal_true, AllClausesTrue, HasValues}
 use Rattle.prop_core.specs.NamedClauses.{IsCode}
-use Rattle.prop_core.specs.VariableNames.{Name, Exclusion, some_of_first, yes, name_of, named_clause}
+use Rattle.prop_core.specs.VariableNames.{Meaning, Exclusion, some_of_first, yes, meaning_of, named_clause}
 use Rattle.card_counter.specs.CounterState.{positive, negative, input_at}
 use Rattle.card_counter.specs.Exclusions.{IsNamedExclusion, named_exclusion}
 use Rattle.prop_core.specs.Listings.{IsListed}
@@ -74,15 +74,15 @@ ExclusionIsExact = (inputs : List Lit) (first : ℕ) → AllowsAtMostOne inputs 
 -- ---- by name
 
 -- The variables of the chain are called by what they say.
-abbrev pub IsNamedChain : List (ℕ × Name) → Exclusion → ℕ → ℕ → Type 0
-IsNamedChain names family first count = (i : ℕ) → i < count → name_of names (first + i) ≡ Some (some_of_first family (suc i))
+abbrev pub IsNamedChain : List (ℕ × Meaning) → Exclusion → ℕ → ℕ → Type 0
+IsNamedChain names family first count = (i : ℕ) → i < count → meaning_of names (first + i) ≡ Some (some_of_first family (suc i))
 
 -- The clauses are, by name, those of an "at most one" of what the inputs read as.
 abbrev pub ExclusionIsCode : Type 0
-ExclusionIsCode = (names : List (ℕ × Name)) (family : Exclusion) (called : List Name) (inputs : List Lit) (first : ℕ) → named_clause names inputs ≡ Some (map yes called) →
+ExclusionIsCode = (names : List (ℕ × Meaning)) (family : Exclusion) (called : List Meaning) (inputs : List Lit) (first : ℕ) → named_clause names inputs ≡ Some (map yes called) →
     IsNamedChain names family first (chain_count (length inputs)) → IsCode names (IsNamedExclusion family called) (exclusion_clauses inputs first)
 
 -- One after another they are listed so, literal by literal.
 abbrev pub ExclusionIsListed : Type 0
-ExclusionIsListed = (names : List (ℕ × Name)) (family : Exclusion) (called : List Name) (inputs : List Lit) (first : ℕ) → named_clause names inputs ≡ Some (map yes called) →
+ExclusionIsListed = (names : List (ℕ × Meaning)) (family : Exclusion) (called : List Meaning) (inputs : List Lit) (first : ℕ) → named_clause names inputs ≡ Some (map yes called) →
     IsNamedChain names family first (chain_count (length inputs)) → IsListed names (named_exclusion family called) (exclusion_clauses inputs first)

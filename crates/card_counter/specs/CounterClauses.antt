@@ -12,7 +12,7 @@ pub data CountClause : Type 0 where
 
 -- the negation of a literal by name
 abbrev pub opposite : NamedLiteral → NamedLiteral
-opposite x = record { name = x.name; positive = not x.positive }
+opposite x = record { meaning = x.meaning; positive = not x.positive }
 
 -- the premise that the first i inputs reach j
 abbrev pub unless_reached : ℕ → ℕ → List NamedLiteral

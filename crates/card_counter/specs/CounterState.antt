@@ -5,7 +5,7 @@ use Rattle.des_base.specs.Lists.{numbers_below}
 use Rattle.prop_core.specs.declared.lit.Lit.{Lit}
 use Rattle.prop_core.specs.Clauses.{Clause, negation, HasValues}
 use Rattle.prop_core.specs.Trail.{no_literal}
-use Rattle.prop_core.specs.VariableNames.{Name, reaches}
+use Rattle.prop_core.specs.VariableNames.{Meaning, reaches}
 
 -- the inputs, for each column its variables, one for each input, and for how many more inputs there is room
 pub record CounterState : Type 0 where
@@ -220,14 +220,14 @@ ManyInputsAdd = (state : CounterState) (more : List Lit) (first : ℕ) → IsFul
 -- ---- names
 
 -- the variables of the counter, each with its name
-abbrev pub counter_names : CounterState → List (ℕ × Name)
-counter_names state =
+abbrev pub counter_meanings : CounterState → List (ℕ × Meaning)
+counter_meanings state =
     flat_map (λ j. map (λ i. (variable state i j, reaches (suc i) (suc j))) (numbers_below (length state.inputs))) (numbers_below (length state.columns))
 
 -- the variables of a column more, each with its name
-abbrev pub next_names : CounterState → ℕ → List (ℕ × Name)
-next_names state first = map (λ i. (first + i, reaches (suc i) (suc (length state.columns)))) (numbers_below (length state.inputs))
+abbrev pub next_meanings : CounterState → ℕ → List (ℕ × Meaning)
+next_meanings state first = map (λ i. (first + i, reaches (suc i) (suc (length state.columns)))) (numbers_below (length state.inputs))
 
 -- A column more has its names behind those of the others.
-abbrev pub ColumnsAddNames : Type 0
-ColumnsAddNames = (state : CounterState) (first : ℕ) → counter_names (with_column state first) ≡ counter_names state ++ next_names state first
+abbrev pub ColumnsAddMeanings : Type 0
+ColumnsAddMeanings = (state : CounterState) (first : ℕ) → counter_meanings (with_column state first) ≡ counter_meanings state ++ next_meanings state first

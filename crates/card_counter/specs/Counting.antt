@@ -4,9 +4,9 @@ use Rattle.std.specs.List.{AllByRecursion}
 use Rattle.prop_core.specs.declared.lit.Lit.{Lit}
 use Rattle.prop_core.specs.Clauses.{literal_true, AllClausesTrue}
 use Rattle.prop_core.specs.NamedClauses.{named_true, AllHold, IsCode}
-use Rattle.prop_core.specs.VariableNames.{Name, in_state, happens, asked, matches, done, unmatched, closed, dropped, reaches, some_of_first, NamedLiteral, HasEachOnce, name_of, named_clause}
+use Rattle.prop_core.specs.VariableNames.{Meaning, in_state, happens, asked, matches, done, unmatched, closed, dropped, reaches, some_of_first, NamedLiteral, HasEachOnce, meaning_of, named_clause}
 use Rattle.card_counter.specs.CounterClauses.{IsNamedColumn, IsNamedCount}
-use Rattle.card_counter.specs.CounterState.{next_names, CounterState, IsPlace, IsCounter, variable, counter_clauses, bound_literal, with_column, next_clauses, counter_names}
+use Rattle.card_counter.specs.CounterState.{next_meanings, CounterState, IsPlace, IsCounter, variable, counter_clauses, bound_literal, with_column, next_clauses, counter_meanings}
 
 -- how many of the inputs are true
 abbrev pub true_count : (ℕ → Bool) → List Lit → ℕ
@@ -39,7 +39,7 @@ CounterIsExact = (state : CounterState) → IsCounter state → Counts state
 -- ---- by name
 
 -- the name stands for a variable of a counter
-abbrev pub is_count : Name → Bool
+abbrev pub is_count : Meaning → Bool
 is_count (in_state c q t) = false
 is_count (happens e t) = false
 is_count asked = false
@@ -52,7 +52,7 @@ is_count (reaches i j) = true
 is_count (some_of_first family i) = false
 
 -- the truth of names where the first i inputs reach j just where at least j of them are true
-abbrev pub counted : List NamedLiteral → (Name → Bool) → Name → Bool
+abbrev pub counted : List NamedLiteral → (Meaning → Bool) → Meaning → Bool
 counted inputs value (in_state c q t) = value (in_state c q t)
 counted inputs value (happens e t) = value (happens e t)
 counted inputs value asked = value asked
@@ -65,15 +65,15 @@ counted inputs value (reaches i j) = nat_le j (count_by (named_true value) (take
 counted inputs value (some_of_first family i) = value (some_of_first family i)
 
 -- Whatever the truth of the inputs, of which none is a name of a counter, the count makes the clauses true, with at most k where at most k inputs are true; and where the clauses are true, at most k says so.
-pub record CountsByName (inputs : List NamedLiteral) (value : Name → Bool) : Type 0 where
-  pub others : (name : Name) → is_count name ≡ false → counted inputs value name ≡ value name
-  pub free : ((x : NamedLiteral) → Contains inputs x → is_count x.name ≡ false) → (columns : ℕ) → AllHold (IsNamedCount inputs columns) (counted inputs value)
+pub record CountsByName (inputs : List NamedLiteral) (value : Meaning → Bool) : Type 0 where
+  pub others : (meaning : Meaning) → is_count meaning ≡ false → counted inputs value meaning ≡ value meaning
+  pub free : ((x : NamedLiteral) → Contains inputs x → is_count x.meaning ≡ false) → (columns : ℕ) → AllHold (IsNamedCount inputs columns) (counted inputs value)
   pub bound : (k : ℕ) → count_by (named_true value) inputs ≤ k → counted inputs value (reaches (length inputs) (suc k)) ≡ false
   pub few : (columns k : ℕ) → AllHold (IsNamedCount inputs columns) value → k < columns → value (reaches (length inputs) (suc k)) ≡ false → count_by (named_true value) inputs ≤ k
 
 -- So it is of whatever inputs, by each truth of names.
 abbrev pub NamedCountIsExact : Type 0
-NamedCountIsExact = (inputs : List NamedLiteral) (value : Name → Bool) → CountsByName inputs value
+NamedCountIsExact = (inputs : List NamedLiteral) (value : Meaning → Bool) → CountsByName inputs value
 
 -- ---- column by column
 
@@ -89,38 +89,38 @@ NamedColumnsGrow = (inputs : List NamedLiteral) → ColumnsGrow inputs
 -- ---- from variables to names
 
 -- By these names the inputs read as those, and each variable of a column is called by what it counts.
-pub record IsNamedBy (names : List (ℕ × Name)) (inputs : List NamedLiteral) (state : CounterState) : Type 0 where
+pub record IsNamedBy (names : List (ℕ × Meaning)) (inputs : List NamedLiteral) (state : CounterState) : Type 0 where
   pub inputs_read : named_clause names state.inputs ≡ Some inputs
-  pub called : (i j : ℕ) → IsPlace state i j → name_of names (variable state i j) ≡ Some (reaches (suc i) (suc j))
+  pub called : (i j : ℕ) → IsPlace state i j → meaning_of names (variable state i j) ≡ Some (reaches (suc i) (suc j))
 
 -- The clauses of a counter are, by name, those of its columns.
 abbrev pub CounterIsCode : Type 0
-CounterIsCode = (names : List (ℕ × Name)) (inputs : List NamedLiteral) (state : CounterState) → IsNamedBy names inputs state →
+CounterIsCode = (names : List (ℕ × Meaning)) (inputs : List NamedLiteral) (state : CounterState) → IsNamedBy names inputs state →
     IsCode names (IsNamedCount inputs (length state.columns)) (counter_clauses state)
 
 -- The clauses that a column more brings are those of this column.
 abbrev pub ColumnIsCode : Type 0
-ColumnIsCode = (names : List (ℕ × Name)) (inputs : List NamedLiteral) (state : CounterState) (first : ℕ) → IsNamedBy names inputs (with_column state first) →
+ColumnIsCode = (names : List (ℕ × Meaning)) (inputs : List NamedLiteral) (state : CounterState) (first : ℕ) → IsNamedBy names inputs (with_column state first) →
     IsCode names (IsNamedColumn inputs (length state.columns)) (next_clauses state first)
 
 -- The names of a counter have each variable and each name once; and by names that have them all its variables are called so.
-pub record AreCounterNames (state : CounterState) : Type 0 where
-  pub once : HasEachOnce (counter_names state)
-  pub there : (i j : ℕ) → IsPlace state i j → Contains (counter_names state) (variable state i j, reaches (suc i) (suc j))
-  pub only : (entry : ℕ × Name) → Contains (counter_names state) entry → (i : ℕ) × (j : ℕ) × IsPlace state i j × (entry ≡ (variable state i j, reaches (suc i) (suc j)))
-  pub called : (names : List (ℕ × Name)) → HasEachOnce names → ((entry : ℕ × Name) → Contains (counter_names state) entry → Contains names entry) →
-      (i j : ℕ) → IsPlace state i j → name_of names (variable state i j) ≡ Some (reaches (suc i) (suc j))
+pub record AreCounterMeanings (state : CounterState) : Type 0 where
+  pub once : HasEachOnce (counter_meanings state)
+  pub there : (i j : ℕ) → IsPlace state i j → Contains (counter_meanings state) (variable state i j, reaches (suc i) (suc j))
+  pub only : (entry : ℕ × Meaning) → Contains (counter_meanings state) entry → (i : ℕ) × (j : ℕ) × IsPlace state i j × (entry ≡ (variable state i j, reaches (suc i) (suc j)))
+  pub called : (names : List (ℕ × Meaning)) → HasEachOnce names → ((entry : ℕ × Meaning) → Contains (counter_meanings state) entry → Contains names entry) →
+      (i j : ℕ) → IsPlace state i j → meaning_of names (variable state i j) ≡ Some (reaches (suc i) (suc j))
 
 -- So it is of the names of each counter.
-abbrev pub CounterNamesStand : Type 0
-CounterNamesStand = (state : CounterState) → IsCounter state → AreCounterNames state
+abbrev pub CounterMeaningsStand : Type 0
+CounterMeaningsStand = (state : CounterState) → IsCounter state → AreCounterMeanings state
 
 -- the names have none of this column
-abbrev pub HasNoneOf : List (ℕ × Name) → ℕ → Type 0
+abbrev pub HasNoneOf : List (ℕ × Meaning) → ℕ → Type 0
 HasNoneOf names column = AllByRecursion (λ entry. (i : ℕ) → entry.1 ≢ reaches i (suc column)) names
 
 -- Names that stand for a counter, all of variables that were made before, stand with those of a column more for the counter with it.
-abbrev pub NamesGrow : Type 0
-NamesGrow = (names : List (ℕ × Name)) (inputs : List NamedLiteral) (state : CounterState) (first : ℕ) → HasEachOnce names → AllByRecursion (λ entry. entry.0 < first) names →
+abbrev pub CounterMeaningsGrow : Type 0
+CounterMeaningsGrow = (names : List (ℕ × Meaning)) (inputs : List NamedLiteral) (state : CounterState) (first : ℕ) → HasEachOnce names → AllByRecursion (λ entry. entry.0 < first) names →
     HasNoneOf names (length state.columns) → IsNamedBy names inputs state →
-    HasEachOnce (names ++ next_names state first) × IsNamedBy (names ++ next_names state first) inputs (with_column state first)
+    HasEachOnce (names ++ next_meanings state first) × IsNamedBy (names ++ next_meanings state first) inputs (with_column state first)

@@ -1,6 +1,6 @@
 ghost use Rattle.card_counter.specs.AtMostOne.{ExclusionIsExact, ExclusionIsCode, ExclusionIsListed};
-ghost use Rattle.card_counter.specs.CounterState.{ColumnsAddClauses, ColumnsAddNames, InputsAddClauses, InputsGrow, ManyInputsAdd};
-ghost use Rattle.card_counter.specs.Counting.{NamesGrow, CounterIsExact, NamedCountIsExact, NamedColumnsGrow, CounterIsCode, ColumnIsCode, CounterNamesStand};
+ghost use Rattle.card_counter.specs.CounterState.{ColumnsAddClauses, ColumnsAddMeanings, InputsAddClauses, InputsGrow, ManyInputsAdd};
+ghost use Rattle.card_counter.specs.Counting.{CounterMeaningsGrow, CounterIsExact, NamedCountIsExact, NamedColumnsGrow, CounterIsCode, ColumnIsCode, CounterMeaningsStand};
 ghost use Rattle.card_counter.specs.Exclusions.{ExclusionsAreListed, ExclusionIsSound, ExclusionIsComplete};
 
 /// A law: an assignment of the inputs extends to the clauses of an "at most one" exactly where at most one input is true.
@@ -66,12 +66,12 @@ pub fn column_is_code()
 
 /// A law: a counter's variables have their names, each once.
 pub fn counter_names_stand()
-    ensures { CounterNamesStand }
+    ensures { CounterMeaningsStand }
 {}
 
 /// A law: a column more has its names behind those of the others.
 pub fn columns_add_names()
-    ensures { ColumnsAddNames }
+    ensures { ColumnsAddMeanings }
 {}
 
 /// A law: by name, the clauses of no columns are none, and a column more has its own and those before.
@@ -81,7 +81,7 @@ pub fn named_columns_grow()
 
 /// A law: names that stand for a counter stand, with those of a column more, for the counter with it.
 pub fn names_grow()
-    ensures { NamesGrow }
+    ensures { CounterMeaningsGrow }
 {}
 
 /// A law: an input more has its clauses beside those of the others.

@@ -12,7 +12,7 @@ use Rattle.least_faults.proofs.Entailing.{final_entailed}
 use Rattle.least_faults.proofs.Putting.{derived_unmarked, same_axioms, same_last}
 use Rattle.least_faults.specs.Answers.{HaveLearntFresh}
 use Rattle.log_clauses.specs.LogClauses.{guard_literals}
-use Rattle.log_encode.specs.CodedLog.{CodedLog, read_names, without_names}
+use Rattle.log_encode.specs.CodedLog.{CodedLog, read_meanings, without_names}
 use Rattle.log_order.specs.Log.{Log, IsValidLog}
 use Rattle.proof_ledger.specs.Book.{BookEntry, final, axioms_of, is_mark, IsValidBook}
 use Rattle.proof_ledger.specs.Fresh.{is_learnt}
@@ -22,7 +22,7 @@ use Rattle.prop_core.specs.declared.lit.Lit.{Lit}
 use Rattle.run_decode.specs.Decided.{Entails}
 use Rattle.run_decode.specs.Decoding.{IsTrueRun}
 use Rattle.run_decode.specs.Faithful.{IsWithin}
-use Rattle.run_decode.specs.WholeNaming.{whole_names}
+use Rattle.run_decode.specs.WholeNaming.{whole_meanings}
 use Rattle.sat_solve.specs.Searching.{AreLearnt, HasAxiomVars, IsSearched, HasPut, IsRefuted, IsSpent}
 use Rattle.sat_solve.specs.declared.answer.Answer.TheVariants as solver
 use Rattle.step_encode.specs.Coded.{CodedSteps}
@@ -44,7 +44,7 @@ use Rattle.cost_least.specs.declared.asking.Asked.TheVariants.{Explained, Refute
 -- ---- what is assumed
 
 module _ (cost : ℕ → ℕ) (steps : CodedSteps) (code : CodedLog) (counter : CounterState) (vars : ℕ) (axioms : List Clause) (scale : Scale) (parts : AreWeighedParts cost steps code counter vars axioms scale) (net : Net) (log : Log) (of_net : steps.net ≡ net)
-    (network : IsNetwork net) (valid : IsValidLog log) (same : code.log ≡ without_names log) (read : ReadsAs (read_names code) (log_guards code) (guard_literals code.net code.log)) where
+    (network : IsNetwork net) (valid : IsValidLog log) (same : code.log ≡ without_names log) (read : ReadsAs (read_meanings code) (log_guards code) (guard_literals code.net code.log)) where
   -- within each bound that may be asked for
   pub told : (bound : Option ℕ) → IfSome bound (MayBound scale) → PoseCostQuestion (record { net = net; cost = cost; log = log; steps = steps.steps }) bound axioms (assumed_at code scale bound)
   told bound may =
@@ -61,7 +61,7 @@ module _ (cost : ℕ → ℕ) (steps : CodedSteps) (code : CodedLog) (counter : 
   pub guards_before : HasValues scale.first (log_guards code)
   guards_before =
       let assumes = (asks_costs cost steps code counter vars axioms scale parts log same read).asks.assumes in
-      read_below scale.first (whole_names steps code counter) (log_guards code) assumes.read (names_below steps code counter scale.first parts.own parts.coded) assumes.by_name
+      read_below scale.first (whole_meanings steps code counter) (log_guards code) assumes.read (names_below steps code counter scale.first parts.own parts.coded) assumes.by_name
 
   guards_below : HasValues vars (log_guards code)
   guards_below = below_more scale.first vars (log_guards code) first_within guards_before

@@ -3,25 +3,25 @@ use Rattle.std.proofs.Common.{◌≡◌, ◌∙◌, ◌⊎◌, inl, inr, ℕ, �
 use Rattle.std.specs.List.{AllZip}
 use Rattle.std.proofs.lemmas.List.{length-map}
 use Rattle.std.proofs.lemmas.List.Elements.{Contains-append_left, Contains-append_right, Contains-append_cases}
-use Rattle.card_counter.specs.CounterState.{CounterState, counter_names}
+use Rattle.card_counter.specs.CounterState.{CounterState, counter_meanings}
 use Rattle.des_net.specs.Network.{IsNetwork}
 use Rattle.least_faults.proofs.Below.{AreBelow, names_below}
 use Rattle.log_clauses.specs.LogClauses.{guard_literals, doubtful_alarms}
-use Rattle.log_encode.specs.CodedLog.{CodedLog, read_names, without_names, log_names}
+use Rattle.log_encode.specs.CodedLog.{CodedLog, read_meanings, without_names, log_meanings}
 use Rattle.log_clauses.specs.LogCodes.{AreAmong}
 use Rattle.log_order.specs.Log.{Log, IsValidLog}
 use Rattle.log_clauses.proofs.Codes.{named_entry}
 use Rattle.prop_core.specs.Clauses.{Clause}
-use Rattle.prop_core.specs.VariableNames.{Name, dropped, name_of, ReadsAs, named_clause, yes}
+use Rattle.prop_core.specs.VariableNames.{Meaning, dropped, meaning_of, ReadsAs, named_clause, yes}
 use Rattle.run_decode.proofs.Nameless.{alarm_names_dont_matter, nameless_inputs}
 use Rattle.run_decode.proofs.RunNames.{inputs_read}
 use Rattle.run_decode.proofs.WholeNames.{together_one_naming, together_ask}
 use Rattle.run_decode.specs.Drawn.{fault_inputs}
 use Rattle.run_decode.specs.Question.{Asks}
 use Rattle.run_decode.specs.Tells.{AreBoth}
-use Rattle.run_decode.specs.WholeNaming.{whole_names}
-use Rattle.step_encode.specs.Coded.{CodedSteps, code_grid, code_names as step_names}
-use Rattle.step_encode.specs.FaultInputs.{fault_names}
+use Rattle.run_decode.specs.WholeNaming.{whole_meanings}
+use Rattle.step_encode.specs.Coded.{CodedSteps, code_grid, code_meanings}
+use Rattle.step_encode.specs.FaultInputs.{fault_meanings}
 use Rattle.weight_counter.proofs.Written.{scales_are_exact}
 use Rattle.weight_counter.specs.Scales.{place_variable, scale_clauses}
 use Rattle.weight_counter.specs.declared.scale.Scale.{Scale}
@@ -32,12 +32,12 @@ use Rattle.cost_least.specs.Pricing.{named_weights, IsInput, AsksCosts, TellsCos
 use Rattle.cost_least.specs.Weighed.{ScaledPartsTell, AreWeighedParts, fault_weights, weighs_one, log_guards}
 
 -- variables from a number on have no name, where names are below it
-pub nameless_above : (vars : ℕ) (names : List (ℕ × Name)) → AreBelow vars names → (var : ℕ) → vars ≤ var → name_of names var ≡ None
-nameless_above vars names below var above = by (name_of names var) (λ name is. below (var, name) (named_entry names var name is))
+pub nameless_above : (vars : ℕ) (names : List (ℕ × Meaning)) → AreBelow vars names → (var : ℕ) → vars ≤ var → meaning_of names var ≡ None
+nameless_above vars names below var above = by (meaning_of names var) (λ meaning is. below (var, meaning) (named_entry names var meaning is))
   where
-    by : (o : Option Name) → ((name : Name) → o ≡ Some name → var < vars) → o ≡ None
+    by : (o : Option Meaning) → ((meaning : Meaning) → o ≡ Some meaning → var < vars) → o ≡ None
     by None known = refl
-    by (Some name) known = let low = known name refl in absurd (omega (arith, low, above))
+    by (Some meaning) known = let low = known meaning refl in absurd (omega (arith, low, above))
 
 both_lists : (first second : List Clause) → AreBoth (first ++ second) first second
 both_lists first second clause = (λ in'. Contains-append_cases first second clause in', λ either. by either)
@@ -47,7 +47,7 @@ both_lists first second clause = (λ in'. Contains-append_cases first second cla
     by (inr here) = Contains-append_right first second clause here
 
 module _ (cost : ℕ → ℕ) (steps : CodedSteps) (code : CodedLog) (counter : CounterState) (vars : ℕ) (axioms : List Clause) (scale : Scale) (parts : AreWeighedParts cost steps code counter vars axioms scale) where
-  below : AreBelow scale.first (whole_names steps code counter)
+  below : AreBelow scale.first (whole_meanings steps code counter)
   below = names_below steps code counter scale.first parts.own parts.coded
 
   -- as many alarms of the log are doubtful as of the one that is coded
@@ -59,32 +59,32 @@ module _ (cost : ℕ → ℕ) (steps : CodedSteps) (code : CodedLog) (counter : 
       let moved = ap (λ l. length (doubtful_alarms l)) same in
       omega (arith, whole, one, other, moved)
     where
-      inputs_count : (l : Log) → length (fault_inputs steps.net l steps.steps) ≡ length (fault_names steps.net steps.steps) + length (doubtful_alarms l)
+      inputs_count : (l : Log) → length (fault_inputs steps.net l steps.steps) ≡ length (fault_meanings steps.net steps.steps) + length (doubtful_alarms l)
       inputs_count l =
-          length-map (fault_names steps.net steps.steps ++ map (λ i. dropped i) (doubtful_alarms l)) yes
-          ∙ length-append (fault_names steps.net steps.steps) (map (λ i. dropped i) (doubtful_alarms l))
-          ∙ ap (λ k. length (fault_names steps.net steps.steps) + k) (length-map (doubtful_alarms l) (λ i. dropped i))
+          length-map (fault_meanings steps.net steps.steps ++ map (λ i. dropped i) (doubtful_alarms l)) yes
+          ∙ length-append (fault_meanings steps.net steps.steps) (map (λ i. dropped i) (doubtful_alarms l))
+          ∙ ap (λ k. length (fault_meanings steps.net steps.steps) + k) (length-map (doubtful_alarms l) (λ i. dropped i))
 
-  log_among : AreAmong (log_names code) (whole_names steps code counter)
-  log_among entry in' = Contains-append_right (step_names steps) (log_names code ++ counter_names counter) entry (Contains-append_left (log_names code) (counter_names counter) entry in')
+  log_among : AreAmong (log_meanings code) (whole_meanings steps code counter)
+  log_among entry in' = Contains-append_right (code_meanings steps) (log_meanings code ++ counter_meanings counter) entry (Contains-append_left (log_meanings code) (counter_meanings counter) entry in')
 
-  inputs_named : (log : Log) → code.log ≡ without_names log → AllZip (IsInput (whole_names steps code counter)) parts.inputs (named_weights steps.net cost log steps.steps)
+  inputs_named : (log : Log) → code.log ≡ without_names log → AllZip (IsInput (whole_meanings steps code counter)) parts.inputs (named_weights steps.net cost log steps.steps)
   inputs_named log same =
       let weighted = parts.weighted in
-      let names = whole_names steps code counter in
+      let names = whole_meanings steps code counter in
       let naming = together_one_naming steps code counter parts.coded.together in
       let read = inputs_read steps code names weighted.false_lits naming.once naming.of_steps log_among weighted.read in
       subst (λ (xs : List Weighted). AllZip (IsInput names) xs (named_weights steps.net cost log steps.steps)) (sym weighted.whole)
       (zip_inputs names (fault_weights steps.net (code_grid steps) cost ++ map weighs_one weighted.false_lits) (named_weights steps.net cost log steps.steps)
       (ap (named_clause names) (literals_are steps.net cost (code_grid steps) weighted.false_lits) ∙ read
       ∙ ap Some (ap (λ l. fault_inputs steps.net l steps.steps) same ∙ sym (nameless_inputs steps.net log steps.steps) ∙ sym (names_are steps.net cost log steps.steps)))
-      (weights_are steps.net cost log steps.steps (code_grid steps) weighted.false_lits refl (false_count_is code.log (log_names code) weighted.false_lits weighted.read ∙ doubtful_same log same)))
+      (weights_are steps.net cost log steps.steps (code_grid steps) weighted.false_lits refl (false_count_is code.log (log_meanings code) weighted.false_lits weighted.read ∙ doubtful_same log same)))
 
   -- they ask of a log whose alarms have names
-  pub asks_costs : (log : Log) → code.log ≡ without_names log → ReadsAs (read_names code) (log_guards code) (guard_literals code.net code.log) →
-      AsksCosts steps.net cost log steps.steps (whole_names steps code counter) scale axioms (log_guards code)
+  pub asks_costs : (log : Log) → code.log ≡ without_names log → ReadsAs (read_meanings code) (log_guards code) (guard_literals code.net code.log) →
+      AsksCosts steps.net cost log steps.steps (whole_meanings steps code counter) scale axioms (log_guards code)
   asks_costs log same read =
-      let names = whole_names steps code counter in
+      let names = whole_meanings steps code counter in
       let ask = together_ask steps code counter parts.own (log_guards code) parts.coded.together parts.coded.clauses read in record {
         clauses = parts.own;
         asks = ((alarm_names_dont_matter steps.net log steps.steps).asks None names parts.own (log_guards code)).1 (subst (λ l. Asks steps.net l steps.steps None names parts.own (log_guards code)) same ask.unbounded);
@@ -99,9 +99,9 @@ module _ (cost : ℕ → ℕ) (steps : CodedSteps) (code : CodedLog) (counter : 
       }
 
   -- so they tell what explains the log, within each total
-  pub tells_costs : (log : Log) → IsNetwork steps.net → IsValidLog log → code.log ≡ without_names log → ReadsAs (read_names code) (log_guards code) (guard_literals code.net code.log) →
+  pub tells_costs : (log : Log) → IsNetwork steps.net → IsValidLog log → code.log ≡ without_names log → ReadsAs (read_meanings code) (log_guards code) (guard_literals code.net code.log) →
       TellsCosts steps.net cost log steps.steps scale axioms (log_guards code)
-  tells_costs log network valid same read = costs_are_told steps.net cost log steps.steps (whole_names steps code counter) scale axioms (log_guards code) network valid (asks_costs log same read)
+  tells_costs log network valid same read = costs_are_told steps.net cost log steps.steps (whole_meanings steps code counter) scale axioms (log_guards code) network valid (asks_costs log same read)
 
 pub scaled_parts_tell : ScaledPartsTell
 scaled_parts_tell cost steps code counter vars axioms scale log parts network valid same read = tells_costs cost steps code counter vars axioms scale parts log network valid same read

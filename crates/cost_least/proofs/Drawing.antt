@@ -13,8 +13,8 @@ use Rattle.log_clauses.proofs.Lists.{all_at}
 use Rattle.log_clauses.specs.LogClauses.{guard_literals}
 use Rattle.log_order.specs.Log.{Log}
 use Rattle.prop_core.specs.Clauses.{Clause, negation}
-use Rattle.prop_core.specs.FurtherNames.{LiteralOf, holds, fails, lifted, lifted_names, AreOnce, IsCalled, ReadsBy, AreDrawnBy}
-use Rattle.prop_core.specs.VariableNames.{Name, NamedLiteral, ReadsAs, name_of}
+use Rattle.prop_core.specs.FurtherNames.{LiteralOf, holds, fails, lifted, lifted_meanings, AreOnce, IsCalled, ReadsBy, AreDrawnBy}
+use Rattle.prop_core.specs.VariableNames.{Meaning, NamedLiteral, ReadsAs, meaning_of}
 use Rattle.prop_core.specs.declared.lit.Lit.{Lit}
 use Rattle.run_decode.proofs.FurtherNames.{lifted_reads, once_further}
 use Rattle.run_decode.proofs.Questions.{instances_of}
@@ -25,7 +25,7 @@ use Rattle.weight_counter.specs.Weighing.{WeightClause, weighs_on, weighs_alone,
 use Rattle.weight_counter.specs.declared.scale.Scale.{Scale}
 use Rattle.weight_counter.specs.declared.weighted.Weighted.{Weighted}
 use Rattle.cost_least.proofs.Inputs.{same_length, named_at}
-use Rattle.cost_least.specs.Drawn.{CostName, of_question, weighs, NamedWeighing, keeps_weight, has_weight, adds_weight, weighing_clause, IsNamedWeighing, IsCostClause, weighs_at_most, limit_literals, cost_literals, BoundsAreNotStated}
+use Rattle.cost_least.specs.Drawn.{CostMeaning, of_question, weighs, NamedWeighing, keeps_weight, has_weight, adds_weight, weighing_clause, IsNamedWeighing, IsCostClause, weighs_at_most, limit_literals, cost_literals, BoundsAreNotStated}
 use Rattle.cost_least.specs.Pricing.{named_weights, IsInput, AsksCosts, cost_limit}
 
 -- ---- lists that read as others
@@ -62,34 +62,34 @@ reads_both {X} names first second named other one two = record {
 -- ---- the names
 
 -- the variable of a place
-abbrev place_name : Scale → ℕ → ℕ → ℕ × CostName
+abbrev place_name : Scale → ℕ → ℕ → ℕ × CostMeaning
 place_name scale i j = (place_variable scale i j, weighs i j)
 
 -- those of all places
-abbrev place_names : Scale → List (ℕ × CostName)
+abbrev place_names : Scale → List (ℕ × CostMeaning)
 place_names scale = flat_map (λ i. map (place_name scale i) (numbers_below scale.amounts)) (numbers_below scale.inputs)
 
 -- those of a question, and of the places
-abbrev pub cost_names : List (ℕ × Name) → Scale → List (ℕ × CostName)
-cost_names names scale = lifted_names of_question names ++ place_names scale
+abbrev pub cost_names : List (ℕ × Meaning) → Scale → List (ℕ × CostMeaning)
+cost_names names scale = lifted_meanings of_question names ++ place_names scale
 
 -- which name it is, where it is one of a question
-question_name : CostName → Name → Name
-question_name (of_question name) other = name
+question_name : CostMeaning → Meaning → Meaning
+question_name (of_question meaning) other = meaning
 question_name (weighs i j) other = other
 
-question_injective : (a b : Name) → of_question a ≡ of_question b → a ≡ b
+question_injective : (a b : Meaning) → of_question a ≡ of_question b → a ≡ b
 unfolding question_name
-question_injective a b same = ap (λ name. question_name name a) same
+question_injective a b same = ap (λ meaning. question_name meaning a) same
 
 same_place : (i j k l : ℕ) → weighs i j ≡ weighs k l → (i ≡ k) × (j ≡ l)
 same_place i j k l same = (cc, cc)
 
-other_kind : (name : Name) (i j : ℕ) → of_question name ≡ weighs i j → ⊥
-other_kind name i j same = cc
+other_kind : (meaning : Meaning) (i j : ℕ) → of_question meaning ≡ weighs i j → ⊥
+other_kind meaning i j same = cc
 
-some_not_none : (name : Name) → Some name ≡ None → ⊥
-some_not_none name h = cc
+some_not_none : (meaning : Meaning) → Some meaning ≡ None → ⊥
+some_not_none meaning h = cc
 
 -- no variable of two places is the same
 same_variable : (scale : Scale) (i j k l : ℕ) → j < scale.amounts → l < scale.amounts → place_variable scale i j ≡ place_variable scale k l → (i ≡ k) × (j ≡ l)
@@ -98,7 +98,7 @@ same_variable scale i j k l few less same = (
   sym (amount_back scale i j few) ∙ ap (amount_of scale) same ∙ amount_back scale k l less,
 )
 
-abbrev Differ : ℕ × CostName → ℕ × CostName → Type 0
+abbrev Differ : ℕ × CostMeaning → ℕ × CostMeaning → Type 0
 Differ a b = (a.0 ≢ b.0) × (a.1 ≢ b.1)
 
 places_once : (scale : Scale) → AreOnce (place_names scale)
@@ -110,13 +110,13 @@ places_once scale = pairs_flat Differ (λ i. map (place_name scale i) (numbers_b
     (λ i k a b less inside here there.
     let one = map_of (place_name scale i) scale.amounts a here in
     let other = map_of (place_name scale k) scale.amounts b there in
-    subst (λ (x : ℕ × CostName). Differ x b) one.2
+    subst (λ (x : ℕ × CostMeaning). Differ x b) one.2
     (subst (Differ (place_name scale i one.0)) other.2 (
       λ same. let is = (same_variable scale i one.0 k other.0 one.1 other.1 same).0 in omega (arith, is, less),
       λ same. let is = (same_place i one.0 k other.0 same).0 in omega (arith, is, less),
     )))
 
-module _ (net : Net) (cost : ℕ → ℕ) (log : Log) (n : ℕ) (names : List (ℕ × Name)) (scale : Scale) (whole : List Clause) (assumed : List Lit) (asks : AsksCosts net cost log n names scale whole assumed) where
+module _ (net : Net) (cost : ℕ → ℕ) (log : Log) (n : ℕ) (names : List (ℕ × Meaning)) (scale : Scale) (whole : List Clause) (assumed : List Lit) (asks : AsksCosts net cost log n names scale whole assumed) where
   inputs_are : length asks.inputs ≡ length (named_weights net cost log n)
   inputs_are = same_length names asks.inputs (named_weights net cost log n) asks.input_names
 
@@ -124,14 +124,14 @@ module _ (net : Net) (cost : ℕ → ℕ) (log : Log) (n : ℕ) (names : List (�
   names_once = once_further of_question question_injective names (place_names scale) asks.asks.question.once (places_once scale) (λ a b in' there.
       let from = flat_of (λ i. map (place_name scale i) (numbers_below scale.amounts)) scale.inputs b there in
       let of' = map_of (place_name scale from.0) scale.amounts b from.2 in
-      let none : name_of names (place_variable scale from.0 of'.0) ≡ None = asks.nameless (place_variable scale from.0 of'.0) (omega arith) in
+      let none : meaning_of names (place_variable scale from.0 of'.0) ≡ None = asks.nameless (place_variable scale from.0 of'.0) (omega arith) in
       let has = has_name names a asks.asks.question.once in' in
-      subst (λ (x : ℕ × CostName). (a.0 ≢ x.0) × (of_question a.1 ≢ x.1)) of'.2
-      (λ same. some_not_none a.1 (sym has ∙ ap (name_of names) same ∙ none), λ same. other_kind a.1 from.0 of'.0 same))
+      subst (λ (x : ℕ × CostMeaning). (a.0 ≢ x.0) × (of_question a.1 ≢ x.1)) of'.2
+      (λ same. some_not_none a.1 (sym has ∙ ap (meaning_of names) same ∙ none), λ same. other_kind a.1 from.0 of'.0 same))
 
   of_place : (i j : ℕ) → i < scale.inputs → j < scale.amounts → Contains (cost_names names scale) (place_variable scale i j, weighs i j)
   of_place i j inside few =
-      append_right (lifted_names of_question names) (place_names scale) (place_name scale i j)
+      append_right (lifted_meanings of_question names) (place_names scale) (place_name scale i j)
       (flat_contains (λ k. map (place_name scale k) (numbers_below scale.amounts)) scale.inputs i (place_name scale i j) inside (map_contains (place_name scale i) scale.amounts j few))
 
   off_place : (i j : ℕ) → i < scale.inputs → j < scale.amounts → IsCalled (cost_names names scale) (negative (place_variable scale i j)) (fails (weighs i j))
@@ -140,9 +140,9 @@ module _ (net : Net) (cost : ℕ → ℕ) (log : Log) (n : ℕ) (names : List (�
   on_place : (i j : ℕ) → i < scale.inputs → j < scale.amounts → IsCalled (cost_names names scale) (positive (place_variable scale i j)) (holds (weighs i j))
   on_place i j inside few = record { named = of_place i j inside few; sign = refl }
 
-  off_input : (x : Weighted) (m : Name × ℕ) → IsInput names x m → IsCalled (cost_names names scale) (negation x.input) (fails (of_question m.0))
+  off_input : (x : Weighted) (m : Meaning × ℕ) → IsInput names x m → IsCalled (cost_names names scale) (negation x.input) (fails (of_question m.0))
   off_input x m is = record {
-    named = append_left (lifted_names of_question names) (place_names scale) (x.input.var, of_question m.0) (map_has (λ (entry : ℕ × Name). (entry.0, of_question entry.1)) names (x.input.var, m.0) (named_entry names x.input.var m.0 is.called));
+    named = append_left (lifted_meanings of_question names) (place_names scale) (x.input.var, of_question m.0) (map_has (λ (entry : ℕ × Meaning). (entry.0, of_question entry.1)) names (x.input.var, m.0) (named_entry names x.input.var m.0 is.called));
     sign = ap not is.positive;
   }
 
@@ -151,7 +151,7 @@ module _ (net : Net) (cost : ℕ → ℕ) (log : Log) (n : ℕ) (names : List (�
 
   -- ---- the clauses
 
-  abbrev IsFamily : List (LiteralOf CostName) → Type 0
+  abbrev IsFamily : List (LiteralOf CostMeaning) → Type 0
   IsFamily named = IsCostClause net log n (named_weights net cost log n) (1 + MOST_COST) named
 
   -- a clause of the counter, by names
@@ -200,7 +200,7 @@ module _ (net : Net) (cost : ℕ → ℕ) (log : Log) (n : ℕ) (names : List (�
       })
 
   abbrev IsOneOf : Clause → Type 0
-  IsOneOf clause = (named : List (LiteralOf CostName)) × IsFamily named × ReadsBy (cost_names names scale) clause named
+  IsOneOf clause = (named : List (LiteralOf CostMeaning)) × IsFamily named × ReadsBy (cost_names names scale) clause named
 
   instance_of : (clause : Clause) → Contains asks.clauses clause ⊎ Contains asks.weighing clause → IsOneOf clause
   instance_of clause (inl here) =
@@ -257,19 +257,19 @@ one_name {X} (entry ∷ names) each_once var x y first second = by (cons_cases e
     by (inr a) (inl b) later = absurd (differs (var, x) a (ap (λ (p : ℕ × X). p.0) b))
     by (inr a) (inr b) later = later a b
 
-module _ (names : List (ℕ × CostName)) (l : Lit) (i j : ℕ) (each_once : AreOnce names) (here : Contains names (l.var, weighs i j)) where
+module _ (names : List (ℕ × CostMeaning)) (l : Lit) (i j : ℕ) (each_once : AreOnce names) (here : Contains names (l.var, weighs i j)) where
   -- a clause of one literal reads as one whose literals all have its name
-  each_named : (named : List (LiteralOf CostName)) → ReadsBy names (l ∷ []) named → (m : LiteralOf CostName) → Contains named m → m.name ≡ weighs i j
+  each_named : (named : List (LiteralOf CostMeaning)) → ReadsBy names (l ∷ []) named → (m : LiteralOf CostMeaning) → Contains named m → m.meaning ≡ weighs i j
   each_named named reads m in' =
       let of' = all_at (λ o. (k : Lit) × Contains (l ∷ []) k × IsCalled names k o) named reads.all m in' in
-      one_name names each_once l.var m.name (weighs i j) (subst (λ (k : Lit). Contains names (k.var, m.name)) (only of'.0 (cons_cases l [] of'.0 of'.1)) of'.2.named) here
+      one_name names each_once l.var m.meaning (weighs i j) (subst (λ (k : Lit). Contains names (k.var, m.meaning)) (only of'.0 (cons_cases l [] of'.0 of'.1)) of'.2.named) here
     where
       only : (k : Lit) → (l ≡ k) ⊎ Contains [] k → k ≡ l
       only k (inl is) = sym is
       only k (inr none) = absurd (none_in_nil k none)
 
   -- no clause of the counter is like that
-  not_weighing : (which : NamedWeighing) → ((m : LiteralOf CostName) → Contains (weighing_clause which) m → m.name ≡ weighs i j) → ⊥
+  not_weighing : (which : NamedWeighing) → ((m : LiteralOf CostMeaning) → Contains (weighing_clause which) m → m.meaning ≡ weighs i j) → ⊥
   not_weighing (keeps_weight a b) each =
       let one = (same_place a b i j (each (fails (weighs a b)) (here_first (fails (weighs a b)) (holds (weighs (suc a) b) ∷ []) (fails (weighs a b)) refl))).0 in
       let other = (same_place (suc a) b i j (each (holds (weighs (suc a) b)) (here_later (fails (weighs a b)) (holds (weighs (suc a) b) ∷ []) (holds (weighs (suc a) b)) (here_first (holds (weighs (suc a) b)) [] (holds (weighs (suc a) b)) refl)))).0 in
@@ -285,5 +285,5 @@ bounds_are_not_stated net log n inputs amounts names l named i j each_once famil
     by (inl (of_family, is, same)) =
         let some = reads.only.0 in
         let from = map_from (lifted of_question) of_family some.0 (subst (λ ms. Contains ms some.0) same some.1) in
-        other_kind from.0.name i j (ap (λ (m : LiteralOf CostName). m.name) from.2 ∙ each_named names l i j each_once here named reads some.0 some.1)
+        other_kind from.0.meaning i j (ap (λ (m : LiteralOf CostMeaning). m.meaning) from.2 ∙ each_named names l i j each_once here named reads some.0 some.1)
     by (inr (which, written, same)) = not_weighing names l i j each_once here which (λ m in'. each_named names l i j each_once here named reads m (subst (λ ms. Contains ms m) same in'))

@@ -3,7 +3,7 @@ use Rattle.std.proofs.Common.{◌≡◌, ◌∙◌, ℕ, ◌+◌, ◌*◌, ◌<�
 use Rattle.std.specs.List.{AllByRecursion}
 use Rattle.std.proofs.lemmas.List.{length-map}
 use Rattle.std.proofs.lemmas.List.Elements.{Contains-append_left, Contains-append_right, All-head, All-tail}
-use Rattle.card_counter.specs.CounterState.{CounterState, counter_names}
+use Rattle.card_counter.specs.CounterState.{CounterState, counter_meanings}
 use Rattle.des_base.specs.declared.TheConstants.{VAR_LIMIT, MOST_STEPS}
 use Rattle.des_net.specs.Building.{IsDraft}
 use Rattle.des_net.specs.Network.{Net}
@@ -15,7 +15,7 @@ use Rattle.least_faults.specs.Bounds.{question_variables}
 use Rattle.least_faults.specs.Parts.{AreParts}
 use Rattle.least_faults.specs.declared.TheConstants.{MOST_SIZE}
 use Rattle.log_clauses.specs.LogCodes.{AreAmong}
-use Rattle.log_encode.specs.CodedLog.{CodedLog, log_names}
+use Rattle.log_encode.specs.CodedLog.{CodedLog, log_meanings}
 use Rattle.log_order.specs.Log.{Log}
 use Rattle.prop_core.specs.Clauses.{Clause, HasValues}
 use Rattle.prop_core.specs.declared.lit.Lit.{Lit}
@@ -26,8 +26,8 @@ use Rattle.run_decode.proofs.RunNames.{inputs_read}
 use Rattle.run_decode.proofs.WholeNames.{together_one_naming}
 use Rattle.run_decode.specs.Decoding.{BelongTogether}
 use Rattle.run_decode.specs.Drawn.{fault_inputs}
-use Rattle.run_decode.specs.WholeNaming.{AreInputs, whole_names}
-use Rattle.step_encode.specs.Coded.{CodedSteps, code_grid, code_names as step_names}
+use Rattle.run_decode.specs.WholeNaming.{AreInputs, whole_meanings}
+use Rattle.step_encode.specs.Coded.{CodedSteps, code_grid, code_meanings}
 use Rattle.step_encode.specs.FaultInputs.{fault_literals}
 use Rattle.weight_counter.specs.declared.weighted.Weighted.{Weighted}
 use Rattle.cost_least.proofs.Inputs.{literals_are}
@@ -73,15 +73,15 @@ each_below : (vars : ℕ) (xs : List Weighted) → HasValues vars (map (λ (x : 
 each_below vars [] all = tt
 each_below vars (x ∷ xs) all = (All-head (λ (l : Lit). l.var < vars) x.input (map (λ (y : Weighted). y.input) xs) all, each_below vars xs (All-tail (λ (l : Lit). l.var < vars) x.input (map (λ (y : Weighted). y.input) xs) all))
 
-log_among : (steps : CodedSteps) (code : CodedLog) (counter : CounterState) → AreAmong (log_names code) (whole_names steps code counter)
-log_among steps code counter entry in' = Contains-append_right (step_names steps) (log_names code ++ counter_names counter) entry (Contains-append_left (log_names code) (counter_names counter) entry in')
+log_among : (steps : CodedSteps) (code : CodedLog) (counter : CounterState) → AreAmong (log_meanings code) (whole_meanings steps code counter)
+log_among steps code counter entry in' = Contains-append_right (code_meanings steps) (log_meanings code ++ counter_meanings counter) entry (Contains-append_left (log_meanings code) (counter_meanings counter) entry in')
 
 -- each input is a variable that was made
 pub inputs_below : (cost : ℕ → ℕ) (steps : CodedSteps) (code : CodedLog) (counter : CounterState) (vars : ℕ) (axioms : List Clause) (inputs : List Weighted) → AreParts steps code counter vars axioms → AreWeightedInputs steps code cost inputs →
     AllByRecursion (λ (x : Weighted). x.input.var < vars) inputs
 unfolding bare
 inputs_below cost steps code counter vars axioms inputs parts weighted =
-    let names = whole_names steps code counter in
+    let names = whole_meanings steps code counter in
     let own = bare cost steps code inputs weighted in
     let naming = together_one_naming steps code counter parts.together in
     let read = inputs_read steps code names weighted.false_lits naming.once naming.of_steps (log_among steps code counter) weighted.read in

@@ -10,13 +10,13 @@ use Rattle.des_net.specs.Network.{Net, IsNetwork}
 use Rattle.des_net.specs.Width.{joined}
 use Rattle.log_clauses.specs.Decoded.{decoded, decoded_order}
 use Rattle.log_clauses.specs.LogCodes.{AreAmong}
-use Rattle.log_encode.specs.CodedLog.{CodedLog, without_names, log_names}
+use Rattle.log_encode.specs.CodedLog.{CodedLog, without_names, log_meanings}
 use Rattle.log_order.proofs.LeastOrder.{least_order-is}
 use Rattle.log_order.specs.Log.{Log, IsValidLog, ListsOnce}
 use Rattle.log_order.specs.Adding.{names_of}
 use Rattle.log_order.specs.Order.{least_order}
 use Rattle.prop_core.proofs.NameLemmas.{values_match}
-use Rattle.prop_core.specs.VariableNames.{Name, HasEachOnce, named_clause}
+use Rattle.prop_core.specs.VariableNames.{Meaning, HasEachOnce, named_clause}
 use Rattle.replay.proofs.AcceptLemmas.{false_steps}
 use Rattle.replay.specs.declared.run.RunStep.{RunStep}
 use Rattle.replay.specs.declared.run.RunStep.TheVariants.{Happens, Dropped}
@@ -28,8 +28,8 @@ use Rattle.run_decode.proofs.DecodeRuns.{are_settled, run_word}
 use Rattle.run_decode.proofs.RunNames.{beside_one_naming, inputs_read}
 use Rattle.run_decode.proofs.RunsGiven.{decoded_by_name}
 use Rattle.run_decode.specs.Decoding.{BelongTogether, IsTrueRun, RunClausesHold, decoded_run}
-use Rattle.run_decode.specs.RunNaming.{run_names, truth_of}
-use Rattle.step_encode.specs.Coded.{CodedSteps, code_grid, code_names as step_names}
+use Rattle.run_decode.specs.RunNaming.{run_meanings, truth_of}
+use Rattle.step_encode.specs.Coded.{CodedSteps, code_grid, code_meanings}
 use Rattle.weight_counter.specs.Weighing.{weight_true}
 use Rattle.weight_counter.specs.declared.weighted.Weighted.{Weighted}
 use Rattle.cost_least.proofs.Inputs.{zip_inputs, names_are, weights_are, literals_are, false_count_is}
@@ -62,13 +62,13 @@ costs_counted net cost log run matched = omega (arith, costs_apart net cost run,
 
 -- ---- by the names of the run
 
-named_by : (cost : ℕ → ℕ) (steps : CodedSteps) (code : CodedLog) (names : List (ℕ × Name)) (inputs : List Weighted) → HasEachOnce names → AreAmong (step_names steps) names → AreAmong (log_names code) names → AreWeightedInputs steps code cost inputs →
+named_by : (cost : ℕ → ℕ) (steps : CodedSteps) (code : CodedLog) (names : List (ℕ × Meaning)) (inputs : List Weighted) → HasEachOnce names → AreAmong (code_meanings steps) names → AreAmong (log_meanings code) names → AreWeightedInputs steps code cost inputs →
     AllZip (IsInput names) inputs (named_weights steps.net cost code.log steps.steps)
 named_by cost steps code names inputs once of_steps of_log weighted =
     subst (λ (xs : List Weighted). AllZip (IsInput names) xs (named_weights steps.net cost code.log steps.steps)) (sym weighted.whole)
     (zip_inputs names (fault_weights steps.net (code_grid steps) cost ++ map weighs_one weighted.false_lits) (named_weights steps.net cost code.log steps.steps)
     (ap (named_clause names) (literals_are steps.net cost (code_grid steps) weighted.false_lits) ∙ inputs_read steps code names weighted.false_lits once of_steps of_log weighted.read ∙ ap Some (sym (names_are steps.net cost code.log steps.steps)))
-    (weights_are steps.net cost code.log steps.steps (code_grid steps) weighted.false_lits refl (false_count_is code.log (log_names code) weighted.false_lits weighted.read)))
+    (weights_are steps.net cost code.log steps.steps (code_grid steps) weighted.false_lits refl (false_count_is code.log (log_meanings code) weighted.false_lits weighted.read)))
 
 pub found_total : (net : Net) (cost : ℕ → ℕ) (log : Log) (steps : CodedSteps) (code : CodedLog) (value : ℕ → Bool) (run : List RunStep) (inputs : List Weighted) → IsNetwork net → IsValidLog log → AreDistinct (names_of log.alarms) →
     BelongTogether net log steps code → IsTrueRun steps code value → run ≡ decoded_run net log (truth_of steps code value) (least_order (length log.alarms) log.pairs) steps.steps → AreWeightedInputs steps code cost inputs →
@@ -86,8 +86,8 @@ found_total net cost log steps code value run inputs network valid once together
     let word = ap word_of is ∙ run_word net log truth order n settled listed.below in
     let alarms = ap (order_of log) is ∙ run_order net log truth order n settled once ordered.listed.below in
     let naming = beside_one_naming steps code together.beside in
-    let named = named_by cost steps code (run_names steps code) inputs naming.once naming.of_steps (log_among steps code) weighted in
-    let weights = weigh_alike (run_names steps code) value truth (values_match (run_names steps code) naming.once value) inputs (named_weights steps.net cost code.log n) named in
+    let named = named_by cost steps code (run_meanings steps code) inputs naming.once naming.of_steps (log_among steps code) weighted in
+    let weights = weigh_alike (run_meanings steps code) value truth (values_match (run_meanings steps code) naming.once value) inputs (named_weights steps.net cost code.log n) named in
     ap (λ w. total net cost w (order_of log run)) word ∙ ap (λ o. total net cost (joined (decoded net bare truth order n)) o) alarms
     ∙ costs_are_weights net cost bare n truth (decoded net bare truth order n) (decoded_order net bare truth order n) given.steps given.false_alarms
     ∙ ap (λ m. weight_named truth (named_weights m cost bare n)) (sym together.of_steps) ∙ ap (λ l. weight_named truth (named_weights steps.net cost l n)) (sym together.same_log) ∙ sym weights
@@ -95,5 +95,5 @@ found_total net cost log steps code value run inputs network valid once together
     count_bare : (l : Log) → length (without_names l).alarms ≡ length l.alarms
     count_bare l = length-map l.alarms _
 
-    log_among : (s : CodedSteps) (c : CodedLog) → AreAmong (log_names c) (run_names s c)
-    log_among s c entry in' = Contains-append_right (step_names s) (log_names c) entry in'
+    log_among : (s : CodedSteps) (c : CodedLog) → AreAmong (log_meanings c) (run_meanings s c)
+    log_among s c entry in' = Contains-append_right (code_meanings s) (log_meanings c) entry in'

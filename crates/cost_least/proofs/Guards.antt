@@ -2,11 +2,11 @@
 use Rattle.std.proofs.Common.{◌≡◌, List, Some}
 use Rattle.log_clauses.specs.LogClauses.{guard_literals}
 use Rattle.log_encode.proofs.CodeLemmas.{beside}
-use Rattle.log_encode.specs.CodedLog.{CodedLog, IsCodedLog, read_names}
+use Rattle.log_encode.specs.CodedLog.{CodedLog, IsCodedLog, read_meanings}
 use Rattle.prop_core.proofs.Listed.{clause_written}
 use Rattle.prop_core.specs.VariableNames.{named_clause}
 use Rattle.prop_core.specs.declared.lit.Lit.{Lit}
 use Rattle.cost_least.specs.Weighed.{log_guards}
 
-pub guards_listed : (code : CodedLog) (guards : List Lit) → IsCodedLog code → named_clause (read_names code) guards ≡ Some (guard_literals code.net code.log) → guards ≡ log_guards code
-guards_listed code guards whole listed = clause_written (read_names code) (beside code whole).once guards (guard_literals code.net code.log) listed
+pub guards_listed : (code : CodedLog) (guards : List Lit) → IsCodedLog code → named_clause (read_meanings code) guards ≡ Some (guard_literals code.net code.log) → guards ≡ log_guards code
+guards_listed code guards whole listed = clause_written (read_meanings code) (beside code whole).once guards (guard_literals code.net code.log) listed

@@ -11,7 +11,7 @@ use Rattle.log_order.specs.Log.{Log, IsValidLog}
 use Rattle.prop_core.proofs.NameLemmas.{values_match, assignments_match}
 use Rattle.prop_core.specs.Clauses.{Clause, literal_true, AllClausesTrue}
 use Rattle.prop_core.specs.NamedClauses.{Match, value_by, assignment_by}
-use Rattle.prop_core.specs.VariableNames.{Name, name_of, HasEachOnce}
+use Rattle.prop_core.specs.VariableNames.{Meaning, meaning_of, HasEachOnce}
 use Rattle.prop_core.specs.declared.lit.Lit.{Lit}
 use Rattle.run_decode.proofs.Assumptions.{is_guard}
 use Rattle.run_decode.proofs.Tells.{ridden_tells, same_property_told, consistent_by, unnamed, guards_true}
@@ -49,11 +49,11 @@ low false h k = cc
 
 -- ---- weights by variable and by name
 
-input_is : (names : List (ℕ × Name)) (assignment : ℕ → Bool) (value : Name → Bool) → Match names assignment value → (x : Weighted) (named : Name × ℕ) → IsInput names x named → literal_true assignment x.input ≡ value named.0
+input_is : (names : List (ℕ × Meaning)) (assignment : ℕ → Bool) (value : Meaning → Bool) → Match names assignment value → (x : Weighted) (named : Meaning × ℕ) → IsInput names x named → literal_true assignment x.input ≡ value named.0
 input_is names assignment value match x named is =
     ap (beq (assignment x.input.var)) is.positive ∙ beq_true (assignment x.input.var) ∙ match x.input.var named.0 is.called
 
-pub weights_are : (names : List (ℕ × Name)) (assignment : ℕ → Bool) (value : Name → Bool) → Match names assignment value → (inputs : List Weighted) (named : List (Name × ℕ)) → AllZip (IsInput names) inputs named →
+pub weights_are : (names : List (ℕ × Meaning)) (assignment : ℕ → Bool) (value : Meaning → Bool) → Match names assignment value → (inputs : List Weighted) (named : List (Meaning × ℕ)) → AllZip (IsInput names) inputs named →
     weight_true assignment inputs ≡ weight_named value named
 weights_are names assignment value match [] [] are = refl
 weights_are names assignment value match [] (m ∷ named) are = absurd are
@@ -61,13 +61,13 @@ weights_are names assignment value match (x ∷ inputs) [] are = absurd are
 weights_are names assignment value match (x ∷ inputs) (m ∷ named) are =
     let rest = weights_are names assignment value match inputs named are.1 in
     let a = sum_by-cons (λ (y : Weighted). cond (literal_true assignment y.input) y.weight 0) x inputs in
-    let b = sum_by-cons (λ (y : Name × ℕ). cond (value y.0) y.1 0) m named in
+    let b = sum_by-cons (λ (y : Meaning × ℕ). cond (value y.0) y.1 0) m named in
     let sign : cond (literal_true assignment x.input) x.weight 0 ≡ cond (value m.0) x.weight 0 = ap (λ c. cond c x.weight 0) (input_is names assignment value match x m are.0) in
     let size : cond (value m.0) x.weight 0 ≡ cond (value m.0) m.1 0 = ap (λ w. cond (value m.0) w 0) are.0.weight in
     omega (arith, rest, a, b, sign, size)
 
 -- two assignments that match one truth of names weigh alike
-same_weight : (names : List (ℕ × Name)) (one other : ℕ → Bool) (value : Name → Bool) → Match names one value → Match names other value → (inputs : List Weighted) (named : List (Name × ℕ)) → AllZip (IsInput names) inputs named →
+same_weight : (names : List (ℕ × Meaning)) (one other : ℕ → Bool) (value : Meaning → Bool) → Match names one value → Match names other value → (inputs : List Weighted) (named : List (Meaning × ℕ)) → AllZip (IsInput names) inputs named →
     (k : ℕ) → weight_true one (take k inputs) ≡ weight_true other (take k inputs)
 same_weight names one other value match also inputs named are zero = refl
 same_weight names one other value match also [] [] are (suc k) = refl
@@ -80,13 +80,13 @@ same_weight names one other value match also (x ∷ inputs) (m ∷ named) are (s
     let sign = ap (λ c. cond c x.weight 0) (input_is names one value match x m are.0 ∙ sym (input_is names other value also x m are.0)) in
     omega (arith, rest, a, b, sign)
 
-module _ (names : List (ℕ × Name)) (once : HasEachOnce names) (scale : Scale) (inputs : List Weighted) (named : List (Name × ℕ)) (are : AllZip (IsInput names) inputs named)
-    (nameless : (var : ℕ) → scale.first ≤ var → name_of names var ≡ None) (weighing : List Clause) (weights : AreWeightClauses (place_variable scale) inputs scale.amounts weighing) where
+module _ (names : List (ℕ × Meaning)) (once : HasEachOnce names) (scale : Scale) (inputs : List Weighted) (named : List (Meaning × ℕ)) (are : AllZip (IsInput names) inputs named)
+    (nameless : (var : ℕ) → scale.first ≤ var → meaning_of names var ≡ None) (weighing : List Clause) (weights : AreWeightClauses (place_variable scale) inputs scale.amounts weighing) where
   -- the variables of places say what the inputs weigh
-  given_for : (Name → Bool) → ℕ → Bool
+  given_for : (Meaning → Bool) → ℕ → Bool
   given_for value var = nat_le (suc (amount_of scale var)) (weight_true (assignment_by names value (λ v. false)) (take (suc (input_of scale var)) inputs))
 
-  at_is : (value : Name → Bool) (i j : ℕ) → i < length inputs → j < scale.amounts → assignment_by names value (given_for value) (place_variable scale i j) ≡ nat_le (suc j) (weight_true (assignment_by names value (given_for value)) (take (suc i) inputs))
+  at_is : (value : Meaning → Bool) (i j : ℕ) → i < length inputs → j < scale.amounts → assignment_by names value (given_for value) (place_variable scale i j) ≡ nat_le (suc j) (weight_true (assignment_by names value (given_for value)) (take (suc i) inputs))
   unfolding given_for
   at_is value i j inside few =
       unnamed names value (given_for value) (place_variable scale i j) (nameless (place_variable scale i j) (omega arith))
@@ -94,16 +94,16 @@ module _ (names : List (ℕ × Name)) (once : HasEachOnce names) (scale : Scale)
       ∙ ap (λ k. nat_le (suc j) (weight_true (assignment_by names value (λ v. false)) (take (suc k) inputs))) (input_back scale i j few)
       ∙ ap (nat_le (suc j)) (same_weight names (assignment_by names value (λ v. false)) (assignment_by names value (given_for value)) value (assignments_match names value (λ v. false)) (assignments_match names value (given_for value)) inputs named are (suc i))
 
-  tells_at : (value : Name → Bool) → TellsWeights (place_variable scale) inputs scale.amounts (assignment_by names value (given_for value))
+  tells_at : (value : Meaning → Bool) → TellsWeights (place_variable scale) inputs scale.amounts (assignment_by names value (given_for value))
   tells_at value i j inside few = (
     λ is. leb-true (suc j) (weight_true (assignment_by names value (given_for value)) (take (suc i) inputs)) (sym (at_is value i j inside few) ∙ is),
     λ less. at_is value i j inside few ∙ le-leb (suc j) (weight_true (assignment_by names value (given_for value)) (take (suc i) inputs)) less,
   )
 
-  free : (value : Name → Bool) → AllClausesTrue (assignment_by names value (given_for value)) weighing
+  free : (value : Meaning → Bool) → AllClausesTrue (assignment_by names value (given_for value)) weighing
   free value = weights_are_true (place_variable scale) inputs scale.amounts weighing (assignment_by names value (given_for value)) weights (tells_at value)
 
-  whole_weight : (assignment : ℕ → Bool) (value : Name → Bool) → Match names assignment value → 0 < length inputs → weight_true assignment (take (suc (length inputs - 1)) inputs) ≡ weight_named value named
+  whole_weight : (assignment : ℕ → Bool) (value : Meaning → Bool) → Match names assignment value → 0 < length inputs → weight_true assignment (take (suc (length inputs - 1)) inputs) ≡ weight_named value named
   whole_weight assignment value match some =
       let last : suc (length inputs - 1) ≡ length inputs = omega (arith, some) in
       ap (λ k. weight_true assignment (take k inputs)) last ∙ ap (weight_true assignment) (take_all (length inputs) inputs (omega arith)) ∙ weights_are names assignment value match inputs named are
@@ -115,7 +115,7 @@ module _ (names : List (ℕ × Name)) (once : HasEachOnce names) (scale : Scale)
     free = λ value. (given_for value, free value);
   }
     where
-      off : (value : Name → Bool) → weight_named value named ≤ b → beq (assignment_by names value (given_for value) (place_variable scale (length inputs - 1) b)) false ≡ true
+      off : (value : Meaning → Bool) → weight_named value named ≤ b → beq (assignment_by names value (given_for value) (place_variable scale (length inputs - 1) b)) false ≡ true
       off value less =
           let is = at_is value (length inputs - 1) b (omega (arith, some)) few in
           let whole = whole_weight (assignment_by names value (given_for value)) value (assignments_match names value (given_for value)) some in
@@ -140,7 +140,7 @@ module _ (names : List (ℕ × Name)) (once : HasEachOnce names) (scale : Scale)
 
 -- ---- what a question with a counter tells
 
-module _ (net : Net) (cost : ℕ → ℕ) (log : Log) (n : ℕ) (names : List (ℕ × Name)) (scale : Scale) (whole : List Clause) (assumed : List Lit) (network : IsNetwork net) (valid : IsValidLog log)
+module _ (net : Net) (cost : ℕ → ℕ) (log : Log) (n : ℕ) (names : List (ℕ × Meaning)) (scale : Scale) (whole : List Clause) (assumed : List Lit) (network : IsNetwork net) (valid : IsValidLog log)
     (asks : AsksCosts net cost log n names scale whole assumed) where
   once : HasEachOnce names
   once = asks.asks.question.once

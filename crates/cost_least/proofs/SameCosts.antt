@@ -12,7 +12,7 @@ use Rattle.log_order.specs.Log.{Log}
 use Rattle.proof_ledger.specs.Book.{BookEntry}
 use Rattle.prop_core.specs.Clauses.{Clause}
 use Rattle.prop_core.specs.FurtherNames.{AreDrawnBy}
-use Rattle.prop_core.specs.VariableNames.{Name, dropped, happens}
+use Rattle.prop_core.specs.VariableNames.{Meaning, dropped, happens}
 use Rattle.prop_core.specs.declared.grid.Grid.{Grid}
 use Rattle.prop_core.specs.declared.lit.Lit.{Lit}
 use Rattle.replay.specs.Explanation.{Entry}
@@ -86,13 +86,13 @@ module _ (net : Net) (a b : ℕ → ℕ) (agree : (e : ℕ) → is_fault net e �
     -- ---- what clauses tell
 
     -- the names that are weighed, each with its weight
-    abbrev of_weight : ℕ → ℕ → List (Name × ℕ)
+    abbrev of_weight : ℕ → ℕ → List (Meaning × ℕ)
     of_weight w e = map (λ t. (happens e (suc t), w)) (numbers_below n)
 
-    abbrev of_event : (ℕ → ℕ) → ℕ → List (Name × ℕ)
+    abbrev of_event : (ℕ → ℕ) → ℕ → List (Meaning × ℕ)
     of_event cost e = of_weight (cost e) e
 
-    abbrev of_alarms : List (Name × ℕ)
+    abbrev of_alarms : List (Meaning × ℕ)
     of_alarms = map (λ i. (dropped i, 1)) (doubtful_alarms log)
 
     of_faults : (events : List ℕ) → flat_map (of_event a) (filter (is_fault net) events) ≡ flat_map (of_event b) (filter (is_fault net) events)
@@ -103,11 +103,11 @@ module _ (net : Net) (a b : ℕ → ℕ) (agree : (e : ℕ) → is_fault net e �
             → flat_map (of_event a) (filter (is_fault net) (e ∷ events)) ≡ flat_map (of_event b) (filter (is_fault net) (e ∷ events))
         by true is rest =
             rw is (ap (λ (w : ℕ). of_weight w e ++ flat_map (of_event a) (filter (is_fault net) events)) (agree e is)
-            ∙ ap (λ (ws : List (Name × ℕ)). of_event b e ++ ws) rest)
+            ∙ ap (λ (ws : List (Meaning × ℕ)). of_event b e ++ ws) rest)
         by false is rest = rw is rest
 
     same_named : named_weights net a log n ≡ named_weights net b log n
-    same_named = ap (λ (named : List (Name × ℕ)). named ++ of_alarms) (of_faults (numbers_below (length net.events)))
+    same_named = ap (λ (named : List (Meaning × ℕ)). named ++ of_alarms) (of_faults (numbers_below (length net.events)))
 
     same_within : (bound : Option ℕ) (word : List ℕ) (order : List Entry) → ExplainsAt net a log n bound word order ↔ ExplainsAt net b log n bound word order
     same_within None word order = (λ h. h, λ h. h)
@@ -117,7 +117,7 @@ module _ (net : Net) (a b : ℕ → ℕ) (agree : (e : ℕ) → is_fault net e �
     same_told bound clauses assumed h = record {
       tells = same_property_told (ExplainsAt net a log n bound) (ExplainsAt net b log n bound) clauses assumed (same_within bound) h.tells;
       names = h.names;
-      drawn = subst (λ (inputs : List (Name × ℕ)). AreDrawnBy h.names clauses assumed (IsCostClause net log n inputs (1 + MOST_COST)) (cost_literals net log (length inputs) bound)) same_named h.drawn;
+      drawn = subst (λ (inputs : List (Meaning × ℕ)). AreDrawnBy h.names clauses assumed (IsCostClause net log n inputs (1 + MOST_COST)) (cost_literals net log (length inputs) bound)) same_named h.drawn;
     }
 
     same_evidence : (bound : Option ℕ) (axioms : List Clause) (since : List BookEntry) → IsCostEvidence first bound axioms since → IsCostEvidence second bound axioms since

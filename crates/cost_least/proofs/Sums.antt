@@ -14,7 +14,7 @@ use Rattle.log_clauses.proofs.Pieces.{IsStepSet, AreFrom, pieces_are_steps}
 use Rattle.log_clauses.specs.Decoded.{is_false_alarm}
 use Rattle.log_order.specs.Log.{Log, is_doubtful}
 use Rattle.card_counter.proofs.Counts.{count_cons}
-use Rattle.prop_core.specs.VariableNames.{Name, happens, dropped}
+use Rattle.prop_core.specs.VariableNames.{Meaning, happens, dropped}
 use Rattle.run_clauses.proofs.Lists.{in_numbers, from_numbers}
 use Rattle.des_base.specs.Lists.{numbers_below}
 use Rattle.step_encode.specs.FaultInputs.{fault_events}
@@ -116,7 +116,7 @@ sum_kept p f (x ∷ xs) = by (p x) refl (sum_kept p f xs)
 
 -- ---- one step
 
-piece_costs : (net : Net) (cost : ℕ → ℕ) (value : Name → Bool) (t : ℕ) (piece : List ℕ) → IsStepSet net value t piece →
+piece_costs : (net : Net) (cost : ℕ → ℕ) (value : Meaning → Bool) (t : ℕ) (piece : List ℕ) → IsStepSet net value t piece →
     sum_by (event_cost net cost) piece ≡ sum_by (λ e. cond (value (happens e (suc t))) (cost e) 0) (fault_events net)
 piece_costs net cost value t piece is =
     sum_kept (is_fault net) cost piece
@@ -141,10 +141,10 @@ piece_costs net cost value t piece is =
 
 -- ---- all steps
 
-abbrev weights_from : (ℕ → ℕ) → ℕ → ℕ → List ℕ → List (Name × ℕ)
+abbrev weights_from : (ℕ → ℕ) → ℕ → ℕ → List ℕ → List (Meaning × ℕ)
 weights_from cost t n es = flat_map (λ e. map (λ s. (happens e (suc s), cost e)) (range_with_len t n)) es
 
-one_step : (cost : ℕ → ℕ) (value : Name → Bool) (t n : ℕ) (es : List ℕ) →
+one_step : (cost : ℕ → ℕ) (value : Meaning → Bool) (t n : ℕ) (es : List ℕ) →
     sum_by (weight_by value) (weights_from cost t (suc n) es) ≡ sum_by (λ e. cond (value (happens e (suc t))) (cost e) 0) es + sum_by (weight_by value) (weights_from cost (t + 1) n es)
 one_step cost value t n [] = refl
 one_step cost value t n (e ∷ es) =
@@ -155,11 +155,11 @@ one_step cost value t n (e ∷ es) =
     let right = sum_by-append (weight_by value) (map (λ s. (happens e (suc s), cost e)) (range_with_len (t + 1) n)) (weights_from cost (t + 1) n es) in
     omega (arith, rest, cons, first, left, right)
 
-no_steps : (cost : ℕ → ℕ) (value : Name → Bool) (t : ℕ) (es : List ℕ) → sum_by (weight_by value) (weights_from cost t 0 es) ≡ 0
+no_steps : (cost : ℕ → ℕ) (value : Meaning → Bool) (t : ℕ) (es : List ℕ) → sum_by (weight_by value) (weights_from cost t 0 es) ≡ 0
 no_steps cost value t [] = refl
 no_steps cost value t (e ∷ es) = no_steps cost value t es
 
-costs_from : (net : Net) (cost : ℕ → ℕ) (value : Name → Bool) (t : ℕ) (pieces : List (List ℕ)) → AreFrom net value t pieces →
+costs_from : (net : Net) (cost : ℕ → ℕ) (value : Meaning → Bool) (t : ℕ) (pieces : List (List ℕ)) → AreFrom net value t pieces →
     sum_by (event_cost net cost) (joined pieces) ≡ sum_by (weight_by value) (weights_from cost t (length pieces) (fault_events net))
 costs_from net cost value t [] are = sym (no_steps cost value t (fault_events net))
 costs_from net cost value t (piece ∷ pieces) are =
@@ -174,7 +174,7 @@ costs_from net cost value t (piece ∷ pieces) are =
 -- ---- false alarms
 
 -- a false alarm weighs 1, of doubtful alarms alone
-dropped_weigh : (log : Log) (value : Name → Bool) (xs : List ℕ) → sum_by (weight_by value) (map (λ i. (dropped i, 1)) (filter (is_doubtful log) xs)) ≡ count_by (is_false_alarm log value) xs
+dropped_weigh : (log : Log) (value : Meaning → Bool) (xs : List ℕ) → sum_by (weight_by value) (map (λ i. (dropped i, 1)) (filter (is_doubtful log) xs)) ≡ count_by (is_false_alarm log value) xs
 dropped_weigh log value [] = refl
 dropped_weigh log value (x ∷ xs) = by (is_doubtful log x) refl (dropped_weigh log value xs)
   where

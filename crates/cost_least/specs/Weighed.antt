@@ -8,7 +8,7 @@ use Rattle.event_costs.specs.declared.TheConstants.{MOST_COST}
 use Rattle.least_faults.specs.Parts.{AreParts}
 use Rattle.least_faults.specs.declared.parts.Parts.{Parts}
 use Rattle.log_clauses.specs.LogClauses.{guard_literals}
-use Rattle.log_encode.specs.CodedLog.{CodedLog, read_names, without_names}
+use Rattle.log_encode.specs.CodedLog.{CodedLog, read_meanings, without_names}
 use Rattle.log_order.specs.Log.{Log, IsValidLog}
 use Rattle.prop_core.specs.VariableNames.{ReadsAs}
 use Rattle.proof_ledger.specs.Book.{BookEntry, axioms_of, clauses_of}
@@ -91,7 +91,7 @@ pub record KeepsCode {R : Type 0} (old new : Parts R) : Type 0 where
 
 -- the guards of the log, as literals in their order
 abbrev pub log_guards : CodedLog → List Lit
-log_guards code = map (literal_by (read_names code)) (guard_literals code.net code.log)
+log_guards code = map (literal_by (read_meanings code)) (guard_literals code.net code.log)
 
 -- the guards, and the literal that the total is at most the bound
 abbrev pub assumed_at : CodedLog → Scale → Option ℕ → List Lit
@@ -102,4 +102,4 @@ assumed_at code scale bound = log_guards code ++ cost_limit scale bound
 -- Parts with a scale pose, with the guards of the log, what explains the log within each total, whatever the names of its alarms.
 abbrev pub ScaledPartsTell : Type 0
 ScaledPartsTell = (cost : ℕ → ℕ) (steps : CodedSteps) (code : CodedLog) (counter : CounterState) (vars : ℕ) (axioms : List Clause) (scale : Scale) (log : Log) → AreWeighedParts cost steps code counter vars axioms scale →
-    IsNetwork steps.net → IsValidLog log → code.log ≡ without_names log → ReadsAs (read_names code) (log_guards code) (guard_literals code.net code.log) → TellsCosts steps.net cost log steps.steps scale axioms (log_guards code)
+    IsNetwork steps.net → IsValidLog log → code.log ≡ without_names log → ReadsAs (read_meanings code) (log_guards code) (guard_literals code.net code.log) → TellsCosts steps.net cost log steps.steps scale axioms (log_guards code)

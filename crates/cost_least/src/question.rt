@@ -1,6 +1,6 @@
 // What is asked about, and what its readers tell.
 ghost use Rattle.log_clauses.specs.LogClauses.{guard_literals};
-ghost use Rattle.log_encode.specs.CodedLog.{read_names};
+ghost use Rattle.log_encode.specs.CodedLog.{read_meanings};
 ghost use Rattle.prop_core.specs.VariableNames.{ReadsAs};
 ghost use Rattle.cost_least.specs.Weighed.{log_guards};
 
@@ -21,7 +21,7 @@ pub struct CostQuestion<'a> {
 
 // The guards of the log, in their order, are literals of its names, as the reader of its code tells.
 pub fn has_guards(code: &LogCode)
-    ensures { ReadsAs (read_names code.now.code) (log_guards code.now.code) (guard_literals code.now.code.net code.now.code.log) }
+    ensures { ReadsAs (read_meanings code.now.code) (log_guards code.now.code) (guard_literals code.now.code.net code.now.code.log) }
 {
     let _guards = code.guards();
 }

@@ -7,13 +7,13 @@ use Rattle.least_faults.specs.Answers.{IsFound}
 use Rattle.least_faults.proofs.KnownEvents.{run_known}
 use Rattle.log_order.specs.Log.{Log}
 use Rattle.proof_ledger.specs.Book.{BookEntry}
-use Rattle.prop_core.specs.VariableNames.{Name}
+use Rattle.prop_core.specs.VariableNames.{Meaning}
 use Rattle.replay.specs.Traced.{word_of}
 use Rattle.report.specs.Replies.{EventsKnown}
 use Rattle.run_decode.specs.QuestionAxioms.{BuiltQuestion}
 use Rattle.inquiries.specs.Diagnosed.{IsDiagnosed}
 
-pub known : (names : List (ℕ × Name)) (first : BuiltQuestion) (since : List BookEntry) (net : Net) (log : Log) (n budget : ℕ) (found : Found) → IsFound names first since net log n budget found → EventsKnown net found
+pub known : (names : List (ℕ × Meaning)) (first : BuiltQuestion) (since : List BookEntry) (net : Net) (log : Log) (n budget : ℕ) (found : Found) → IsFound names first since net log n budget found → EventsKnown net found
 known names first since net log n budget (Explained best) h = run_known net (word_of best.run) h.given.explains.run
 known names first since net log n budget Absent h = tt
 known names first since net log n budget (Many best) h = run_known net (word_of best.run) h.given.explains.run

@@ -11,7 +11,7 @@ use Rattle.least_faults.proofs.KnownEvents.{run_known}
 use Rattle.log_order.specs.Adding.{IsLog}
 use Rattle.log_order.specs.Log.{Log}
 use Rattle.proof_ledger.specs.Book.{BookEntry}
-use Rattle.prop_core.specs.VariableNames.{Name}
+use Rattle.prop_core.specs.VariableNames.{Meaning}
 use Rattle.replay.specs.Replayed.{IsAccepted}
 use Rattle.replay.specs.Traced.{word_of}
 use Rattle.replay.specs.declared.run.RunStep.{RunStep}
@@ -45,7 +45,7 @@ replays net log n best reply given read short = record {
   accepted = subst (λ (steps : List RunStep). IsAccepted net log steps n best.faults) (sym read.value) (accepted net log n best given);
 }
 
-module _ (names : List (ℕ × Name)) (first : BuiltQuestion) (since : List BookEntry) (net : Net) (log : Log) (n budget : ℕ) where
+module _ (names : List (ℕ × Meaning)) (first : BuiltQuestion) (since : List BookEntry) (net : Net) (log : Log) (n budget : ℕ) where
   found_replays : (found : Found) → IsNetwork net → IsDraft net → IsLog log → n ≤ 1000 → IsFound names first since net log n budget found → RunReplays net log n found
   found_replays (Explained best) network whole log_whole few h =
       let fine = printable_run net log n best network whole log_whole few h.given in

@@ -18,7 +18,7 @@ use Rattle.log_csv.specs.declared.row.Row.{Row}
 use Rattle.log_order.specs.Adding.{IsLog}
 use Rattle.log_order.specs.Log.{Log}
 use Rattle.proof_ledger.specs.Book.{BookEntry}
-use Rattle.prop_core.specs.VariableNames.{Name}
+use Rattle.prop_core.specs.VariableNames.{Meaning}
 use Rattle.replay.specs.QuestionSize.{variable_bound}
 use Rattle.run_decode.specs.QuestionAxioms.{BuiltQuestion}
 use Rattle.telling.specs.Telling.{TellsEach}
@@ -63,7 +63,7 @@ module _ (net : Net) (n budget : ℕ) (old : Stage) (row : Row) (new : Stage) wh
 -- ---- what a budget decides
 
 module _ (net : Net) (n budget : ℕ) where
-  found_decided : (found : Found) (names : List (ℕ × Name)) (built : BuiltQuestion) (alarms : Log) (before after : List BookEntry) → IsAnswered names built net alarms n budget before after found → 3 ^ variable_bound net alarms n ≤ budget → IsDecided found
+  found_decided : (found : Found) (names : List (ℕ × Meaning)) (built : BuiltQuestion) (alarms : Log) (before after : List BookEntry) → IsAnswered names built net alarms n budget before after found → 3 ^ variable_bound net alarms n ≤ budget → IsDecided found
   found_decided (Explained best) names built alarms before after answered enough = tt
   found_decided Absent names built alarms before after answered enough = tt
   found_decided (Many best) names built alarms before after answered enough = tt

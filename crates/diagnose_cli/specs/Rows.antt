@@ -21,7 +21,7 @@ use Rattle.proof_ledger.specs.Book.{BookEntry}
 use Rattle.proof_ledger.specs.Checking.{IsUnsatisfiable}
 use Rattle.proof_ledger.specs.Fresh.{AreFresh}
 use Rattle.proof_text.specs.CnfText.{formula_of}
-use Rattle.prop_core.specs.VariableNames.{Name}
+use Rattle.prop_core.specs.VariableNames.{Meaning}
 use Rattle.replay.specs.Explanation.{NeedsFaults, IsLeast, IsAbsent, IsMany}
 use Rattle.replay.specs.QuestionSize.{variable_bound}
 use Rattle.report.specs.Replies.{text_of_found}
@@ -149,7 +149,7 @@ pub record TellsUndecided (o : Outcome) (net : Net) (alarms : Log) (n budget : �
   pub lo : ℕ
   pub best : Option Best
   pub spent : AreFresh [] o.book budget
-  pub names : List (ℕ × Name)
+  pub names : List (ℕ × Meaning)
   pub few : length names ≤ variable_bound net alarms n
   pub conflict : HasConflict names o.book net alarms n (asked_last lo best)
   pub above : NeedsFaults net alarms n lo

@@ -11,7 +11,7 @@ use Rattle.des_net.specs.Network.{Net, label_of}
 use Rattle.log_clauses.specs.Additions.{alarm_added, with_addition}
 use Rattle.log_clauses.specs.Drafts.{taken_events}
 use Rattle.log_clauses.specs.LogClauses.{observable_events}
-use Rattle.log_clauses.specs.LogNames.{first_names}
+use Rattle.log_clauses.specs.LogNames.{first_meanings}
 use Rattle.log_encode.proofs.TakenLemmas.{width_is, map_count, false_is_small}
 use Rattle.log_encode.specs.CodedLog.{CodedLog, addition_width, nameless}
 use Rattle.log_encode.specs.declared.taken.Taken.{Taken}
@@ -42,7 +42,7 @@ alarm_fits code labels maybe first events steps few =
     let chains = mul-le code.grid.steps (chain_count (length (map unlinked taken))) 8 8 (omega (arith, steps)) (omega (arith, chain, count, links, events)) in
     omega (arith, width, product, chains, few, steps, false_is_small maybe)
 
-pub first_names_fit : (net : Net) (first : ℕ) → length net.events ≤ 8 → first ≤ 1000 → first + length (first_names net) ≤ VAR_LIMIT
+pub first_names_fit : (net : Net) (first : ℕ) → length net.events ≤ 8 → first ≤ 1000 → first + length (first_meanings net) ≤ VAR_LIMIT
 first_names_fit net first events few =
     let names = map_count (λ e. closed e 0) (observable_events net) in
     let seen = among_numbers (λ e. is_some (label_of net e)) (length net.events) in

@@ -15,7 +15,7 @@ use Rattle.least_faults.proofs.Assuming.{compatible}
 use Rattle.least_faults.proofs.Below.{read_below, room_names_below}
 use Rattle.least_faults.proofs.Posing.{clauses_ask}
 use Rattle.least_faults.specs.Asking.{AreAssumptions}
-use Rattle.least_faults.specs.Parts.{BelongTo, names_of_parts}
+use Rattle.least_faults.specs.Parts.{BelongTo, meanings_of_parts}
 use Rattle.least_faults.specs.declared.parts.Parts.{Parts}
 use Rattle.log_clauses.proofs.Lists.{all_at}
 use Rattle.log_clauses.specs.LogClauses.{guard_literals}
@@ -30,32 +30,32 @@ use Rattle.run_decode.proofs.Nameless.{alarm_names_dont_matter}
 use Rattle.run_decode.proofs.WholeNames.{together_one_naming}
 use Rattle.run_decode.specs.Drawn.{at_most, fault_inputs}
 use Rattle.run_decode.specs.Question.{Asks}
-use Rattle.run_decode.specs.WholeNaming.{AreClausesOf, AreCodedTogether, whole_names}
+use Rattle.run_decode.specs.WholeNaming.{AreClausesOf, AreCodedTogether, whole_meanings}
 use Rattle.step_encode.specs.Coded.{CodedSteps, code_grid}
 use Rattle.step_encode.specs.FaultInputs.{event_literal}
 
 -- ---- within k faults, also where there is nothing to count
 
 asks_by_number : (steps : CodedSteps) (code : CodedLog) (counter : CounterState) (own : List Clause) (k m : ℕ) (guards : List Lit) → length counter.inputs ≡ m → AreCodedTogether steps code counter → AreClausesOf steps code counter own →
-    AreAssumptions code counter (at_most_of m k) guards → Asks steps.net code.log steps.steps (Some k) (whole_names steps code counter) own guards
+    AreAssumptions code counter (at_most_of m k) guards → Asks steps.net code.log steps.steps (Some k) (whole_meanings steps code counter) own guards
 asks_by_number steps code counter own k zero guards none together clauses assumptions =
     let asks = clauses_ask steps code counter own None guards together clauses assumptions in
     let naming = together_one_naming steps code counter together in
-    let inputs : length (fault_inputs steps.net code.log steps.steps) ≡ 0 = read_length (whole_names steps code counter) counter.inputs (fault_inputs steps.net code.log steps.steps) naming.of_faults ∙ none in record {
+    let inputs : length (fault_inputs steps.net code.log steps.steps) ≡ 0 = read_length (whole_meanings steps code counter) counter.inputs (fault_inputs steps.net code.log steps.steps) naming.of_faults ∙ none in record {
       columns = asks.columns;
       question = asks.question;
       column = λ some. absurd (omega (arith, some, inputs));
-      assumes = subst (ReadsAs (whole_names steps code counter) guards) (ap (λ m. guard_literals steps.net code.log ++ at_most m k) (sym inputs)) asks.assumes;
+      assumes = subst (ReadsAs (whole_meanings steps code counter) guards) (ap (λ m. guard_literals steps.net code.log ++ at_most m k) (sym inputs)) asks.assumes;
     }
 asks_by_number steps code counter own k (suc m) guards some together clauses assumptions = clauses_ask steps code counter own (Some k) guards together clauses assumptions
 
 asks_beside : {R : Type 0} (may : R → ℕ → Type 0) (gives : R → ℕ → ℕ → Type 0) (parts : Parts R) (book : List BookEntry) (made : List (ℕ × ℕ)) (net : Net) (log : Log) (k : ℕ) (guards : List Lit) → AreReadyWith may gives parts book made → BelongTo net log parts →
-    AreAssumptions parts.code.code parts.counter (bound_for parts.counter k) guards → AsksBeside net log parts.step.steps k (names_of_parts parts) (code_grid parts.step) made (axioms_of book) guards
+    AreAssumptions parts.code.code parts.counter (bound_for parts.counter k) guards → AsksBeside net log parts.step.steps k (meanings_of_parts parts) (code_grid parts.step) made (axioms_of book) guards
 asks_beside may gives parts book made net log k guards ready belong assumptions =
-    subst (λ (net' : Net). AsksBeside net' log parts.step.steps k (names_of_parts parts) (code_grid parts.step) made (axioms_of book) guards) belong.of_steps (record {
+    subst (λ (net' : Net). AsksBeside net' log parts.step.steps k (meanings_of_parts parts) (code_grid parts.step) made (axioms_of book) guards) belong.of_steps (record {
       clauses = ready.own;
-      asks = ((alarm_names_dont_matter parts.step.net log parts.step.steps).asks (Some k) (names_of_parts parts) ready.own guards).1
-          (subst (λ l. Asks parts.step.net l parts.step.steps (Some k) (names_of_parts parts) ready.own guards) belong.same_log
+      asks = ((alarm_names_dont_matter parts.step.net log parts.step.steps).asks (Some k) (meanings_of_parts parts) ready.own guards).1
+          (subst (λ l. Asks parts.step.net l parts.step.steps (Some k) (meanings_of_parts parts) ready.own guards) belong.same_log
           (asks_by_number parts.step parts.code.code parts.counter ready.own k (length parts.counter.inputs) guards refl ready.beside.coded.together ready.clauses assumptions));
       gridded = gridded parts.step parts.code.code parts.counter parts.vars ready.beside.coded;
       made_new = ready.made_new;
@@ -80,7 +80,7 @@ has_posed may gives parts book net log k e there assumed are belong network vali
     subst (λ ls. HasPosed (axioms_of book) ls net log parts.step.steps k e there) (sym are.whole) (by there are.about)
   where
     posed : PosesEvents net log parts.step.steps k (code_grid parts.step) are.made (axioms_of book) are.guards
-    posed = events_are_posed net log parts.step.steps k (names_of_parts parts) (code_grid parts.step) are.made (axioms_of book) are.guards network valid
+    posed = events_are_posed net log parts.step.steps k (meanings_of_parts parts) (code_grid parts.step) are.made (axioms_of book) are.guards network valid
         (asks_beside may gives parts book are.made net log k are.guards are.ready belong are.within)
 
     by : (b : Bool) → IsAbout b are.made (code_grid parts.step) e are.further → HasPosed (axioms_of book) (are.guards ++ are.further) net log parts.step.steps k e b
@@ -102,11 +102,11 @@ pub assumed_known : {R : Type 0} (may : R → ℕ → Type 0) (gives : R → ℕ
 assumed_known may gives parts book net log k e values there assumed are belong known more =
     subst (HasValues values) (sym are.whole) (All-append (λ (l : Lit). l.var < values) are.guards are.further guards (by there are.about))
   where
-    asks : Asks parts.step.net parts.code.code.log parts.step.steps (Some k) (names_of_parts parts) are.ready.own are.guards
+    asks : Asks parts.step.net parts.code.code.log parts.step.steps (Some k) (meanings_of_parts parts) are.ready.own are.guards
     asks = asks_by_number parts.step parts.code.code parts.counter are.ready.own k (length parts.counter.inputs) are.guards refl are.ready.beside.coded.together are.ready.clauses are.within
 
     guards : HasValues values are.guards
-    guards = read_below values (names_of_parts parts) are.guards asks.assumes.read (λ entry in'. let low = room_names_below parts.step parts.code.code parts.counter parts.vars are.ready.beside.coded entry in' in omega (arith, low, more)) asks.assumes.by_name
+    guards = read_below values (meanings_of_parts parts) are.guards asks.assumes.read (λ entry in'. let low = room_names_below parts.step parts.code.code parts.counter parts.vars are.ready.beside.coded entry in' in omega (arith, low, more)) asks.assumes.by_name
 
     by : (b : Bool) → IsAbout b are.made (code_grid parts.step) e are.further → HasValues values are.further
     by true about = subst (HasValues values) (sym (about ∙ none_signed (code_grid parts.step) e)) (signed_below parts.step parts.code.code parts.counter parts.vars values are.ready.beside.coded false e known more)

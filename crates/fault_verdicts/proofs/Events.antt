@@ -19,7 +19,7 @@ use Rattle.log_order.specs.Log.{Keeps, ListsOnce, Log, IsValidLog}
 use Rattle.log_order.specs.Order.{least_order}
 use Rattle.prop_core.specs.Clauses.{Clause, clause_true, literal_true, AllClausesTrue, AllLiteralsTrue}
 use Rattle.prop_core.specs.Grids.{grid_variable}
-use Rattle.prop_core.specs.VariableNames.{Name, happens}
+use Rattle.prop_core.specs.VariableNames.{Meaning, happens}
 use Rattle.prop_core.specs.declared.lit.Lit.{Lit}
 use Rattle.replay.specs.Traced.{word_of}
 use Rattle.replay.specs.declared.run.RunStep.{RunStep}
@@ -46,7 +46,7 @@ run_has net log steps code value run network valid together is_true is e known =
     n : ℕ
     n = steps.steps
 
-    truth : Name → Bool
+    truth : Meaning → Bool
     truth = truth_of steps code value
 
     order : List ℕ

@@ -5,7 +5,7 @@ use Rattle.std.proofs.Math.Nat.{mul-le-mul_right}
 use Rattle.std.proofs.lemmas.List.Elements.{All-cons, All-from_recursion, All-map, Contains-append_cases as append_cases, Contains-append_left as append_left, Contains-append_right as append_right}
 use Rattle.card_counter.proofs.NameLemmas.{no_name}
 use Rattle.card_counter.proofs.States.{columns_add_names, made_later}
-use Rattle.card_counter.specs.CounterState.{CounterState, with_column, counter_names, next_names, positive}
+use Rattle.card_counter.specs.CounterState.{CounterState, with_column, counter_meanings, next_meanings, positive}
 use Rattle.des_base.proofs.Elements.{all_append, all_change, all_from, cons_cases, map_from, none_in_nil}
 use Rattle.des_base.specs.Lists.{numbers_below}
 use Rattle.des_base.specs.declared.TheConstants.{MOST_COLUMNS}
@@ -21,17 +21,17 @@ use Rattle.least_faults.proofs.Beside.{beside, clauses_still}
 use Rattle.least_faults.proofs.ColumnsBuilt.{vars_grow}
 use Rattle.least_faults.specs.Columns.{columns_built}
 use Rattle.least_faults.specs.Growing.{AddsAxioms, KeepsQuestion}
-use Rattle.least_faults.specs.Parts.{AreReady, AreReadyBeside, BelongTo, HaveRoom, built_of, names_of_parts}
+use Rattle.least_faults.specs.Parts.{AreReady, AreReadyBeside, BelongTo, HaveRoom, built_of, meanings_of_parts}
 use Rattle.least_faults.specs.declared.TheConstants.{MOST_SIZE}
 use Rattle.least_faults.specs.declared.parts.Parts.{Parts}
 use Rattle.log_clauses.proofs.Codes.{has_name, named_entry}
 use Rattle.log_clauses.proofs.Lists.{all_at, pairs_append}
-use Rattle.log_encode.specs.CodedLog.{CodedLog, log_names}
+use Rattle.log_encode.specs.CodedLog.{CodedLog, log_meanings}
 use Rattle.log_order.specs.Log.{Log}
 use Rattle.proof_ledger.specs.Book.{BookEntry, axiomatic, axioms_of, clauses_of}
 use Rattle.prop_core.specs.Clauses.{Clause, HasValues, negation}
 use Rattle.prop_core.specs.Grids.{grid_variable}
-use Rattle.prop_core.specs.VariableNames.{Name, happens, reaches, name_of}
+use Rattle.prop_core.specs.VariableNames.{Meaning, happens, reaches, meaning_of}
 use Rattle.prop_core.specs.declared.grid.Grid.{Grid}
 use Rattle.prop_core.specs.declared.lit.Lit.{Lit}
 use Rattle.replay.specs.QuestionSize.{doubtful_count, question_size}
@@ -41,70 +41,70 @@ use Rattle.run_decode.proofs.Nameless.{nameless_doubtful}
 use Rattle.run_decode.proofs.WholeNames.{together_one_naming}
 use Rattle.run_decode.specs.QuestionAxioms.{BuiltQuestion}
 use Rattle.run_decode.specs.Tells.{AreBoth}
-use Rattle.run_decode.specs.WholeNaming.{whole_names}
+use Rattle.run_decode.specs.WholeNaming.{whole_meanings}
 use Rattle.sat_order.specs.Rank.{IsRanked}
 use Rattle.sat_solve.specs.Searching.{HasAxiomVars}
 use Rattle.sat_solve.specs.Solving.{SolverState}
 use Rattle.step_encode.proofs.Codes.{event_named}
-use Rattle.step_encode.specs.Coded.{CodedSteps, code_names as step_names, code_grid}
+use Rattle.step_encode.specs.Coded.{CodedSteps, code_meanings, code_grid}
 use Rattle.step_encode.specs.FaultInputs.{event_literals}
 
 -- ---- variables without a name
 
 -- what has no name in two lists has none in both
-none_in_both : (xs ys : List (ℕ × Name)) (var : ℕ) → name_of xs var ≡ None → name_of ys var ≡ None → name_of (xs ++ ys) var ≡ None
+none_in_both : (xs ys : List (ℕ × Meaning)) (var : ℕ) → meaning_of xs var ≡ None → meaning_of ys var ≡ None → meaning_of (xs ++ ys) var ≡ None
 none_in_both [] ys var one two = two
 none_in_both (entry ∷ xs) ys var one two = by (entry.0 == var) refl (none_in_both xs ys var)
   where
-    by : (b : Bool) → (entry.0 == var) ≡ b → (name_of xs var ≡ None → name_of ys var ≡ None → name_of (xs ++ ys) var ≡ None) → name_of ((entry ∷ xs) ++ ys) var ≡ None
+    by : (b : Bool) → (entry.0 == var) ≡ b → (meaning_of xs var ≡ None → meaning_of ys var ≡ None → meaning_of (xs ++ ys) var ≡ None) → meaning_of ((entry ∷ xs) ++ ys) var ≡ None
     by true e later = let some : Some entry.1 ≡ None = rw e at one in cc
     by false e later = rw e (later (rw e at one) two)
 
 -- a column's variables are the next ones
-none_next : (counter : CounterState) (first var : ℕ) → var < first → name_of (next_names counter first) var ≡ None
-none_next counter first var less = no_name (next_names counter first) var (all_from (λ (entry : ℕ × Name). entry.0 ≢ var) (next_names counter first) (λ entry in' same.
+none_next : (counter : CounterState) (first var : ℕ) → var < first → meaning_of (next_meanings counter first) var ≡ None
+none_next counter first var less = no_name (next_meanings counter first) var (all_from (λ (entry : ℕ × Meaning). entry.0 ≢ var) (next_meanings counter first) (λ entry in' same.
     let of' = map_from (λ i. (first + i, reaches (suc i) (suc (length counter.columns)))) (numbers_below (length counter.inputs)) entry in' in
-    let is : first + of'.0 ≡ entry.0 = ap (λ (e : ℕ × Name). e.0) of'.2 in
+    let is : first + of'.0 ≡ entry.0 = ap (λ (e : ℕ × Meaning). e.0) of'.2 in
     omega (arith, is, same, less)))
 
-names_by_column : (steps : CodedSteps) (code : CodedLog) (counter : CounterState) (first : ℕ) → whole_names steps code (with_column counter first) ≡ whole_names steps code counter ++ next_names counter first
+names_by_column : (steps : CodedSteps) (code : CodedLog) (counter : CounterState) (first : ℕ) → whole_meanings steps code (with_column counter first) ≡ whole_meanings steps code counter ++ next_meanings counter first
 names_by_column steps code counter first =
-    ap (λ names. step_names steps ++ (log_names code ++ names)) (columns_add_names counter first)
-    ∙ ap (λ names. step_names steps ++ names) (sym (append_assoc (log_names code) (counter_names counter) (next_names counter first)))
-    ∙ sym (append_assoc (step_names steps) (log_names code ++ counter_names counter) (next_names counter first))
+    ap (λ names. code_meanings steps ++ (log_meanings code ++ names)) (columns_add_names counter first)
+    ∙ ap (λ names. code_meanings steps ++ names) (sym (append_assoc (log_meanings code) (counter_meanings counter) (next_meanings counter first)))
+    ∙ sym (append_assoc (code_meanings steps) (log_meanings code ++ counter_meanings counter) (next_meanings counter first))
 
-abbrev names_in : BuiltQuestion → List (ℕ × Name)
-names_in question = whole_names question.steps question.code question.counter
+abbrev names_in : BuiltQuestion → List (ℕ × Meaning)
+names_in question = whole_meanings question.steps question.code question.counter
 
-none_by_columns : (question : BuiltQuestion) (columns var : ℕ) → var < question.vars → name_of (names_in question) var ≡ None → name_of (names_in (columns_built question columns)) var ≡ None
+none_by_columns : (question : BuiltQuestion) (columns var : ℕ) → var < question.vars → meaning_of (names_in question) var ≡ None → meaning_of (names_in (columns_built question columns)) var ≡ None
 none_by_columns question zero var less none = none
 none_by_columns question (suc columns) var less none =
     let before = columns_built question columns in
     let more = vars_grow question columns in
-    subst (λ names. name_of names var ≡ None) (sym (names_by_column before.steps before.code before.counter before.vars))
-    (none_in_both (names_in before) (next_names before.counter before.vars) var (none_by_columns question columns var less none) (none_next before.counter before.vars var (omega (arith, less, more))))
+    subst (λ names. meaning_of names var ≡ None) (sym (names_by_column before.steps before.code before.counter before.vars))
+    (none_in_both (names_in before) (next_meanings before.counter before.vars) var (none_by_columns question columns var less none) (none_next before.counter before.vars var (omega (arith, less, more))))
 
 -- what is above all names has none
-none_above : (steps : CodedSteps) (code : CodedLog) (counter : CounterState) (vars : ℕ) → HaveRoom steps code counter vars → name_of (whole_names steps code counter) vars ≡ None
-none_above steps code counter vars room = no_name (whole_names steps code counter) vars (all_from (λ (entry : ℕ × Name). entry.0 ≢ vars) (whole_names steps code counter) (λ entry in' same.
+none_above : (steps : CodedSteps) (code : CodedLog) (counter : CounterState) (vars : ℕ) → HaveRoom steps code counter vars → meaning_of (whole_meanings steps code counter) vars ≡ None
+none_above steps code counter vars room = no_name (whole_meanings steps code counter) vars (all_from (λ (entry : ℕ × Meaning). entry.0 ≢ vars) (whole_meanings steps code counter) (λ entry in' same.
     let below = room_names_below steps code counter vars room entry in' in omega (arith, below, same)))
 
 -- ---- the events
 
 -- by the names of the parts the grid's variables are those of the events
-pub gridded : (steps : CodedSteps) (code : CodedLog) (counter : CounterState) (vars : ℕ) → HaveRoom steps code counter vars → IsEventGrid (whole_names steps code counter) steps.net steps.steps (code_grid steps)
+pub gridded : (steps : CodedSteps) (code : CodedLog) (counter : CounterState) (vars : ℕ) → HaveRoom steps code counter vars → IsEventGrid (whole_meanings steps code counter) steps.net steps.steps (code_grid steps)
 gridded steps code counter vars room =
     let naming = together_one_naming steps code counter room.together in (
       refl,
       λ e t known less.
           let var = grid_variable (code_grid steps) e (suc t) in
-          has_name (whole_names steps code counter) (var, happens e (suc t)) naming.once (naming.of_steps (var, happens e (suc t)) (named_entry (step_names steps) var (happens e (suc t)) (event_named steps e t known less))),
+          has_name (whole_meanings steps code counter) (var, happens e (suc t)) naming.once (naming.of_steps (var, happens e (suc t)) (named_entry (code_meanings steps) var (happens e (suc t)) (event_named steps e t known less))),
     )
 
 pub event_below : (steps : CodedSteps) (code : CodedLog) (counter : CounterState) (vars : ℕ) → HaveRoom steps code counter vars → (e t : ℕ) → e < length steps.net.events → t < steps.steps → grid_variable (code_grid steps) e (suc t) < vars
 event_below steps code counter vars room e t known less =
     let var = grid_variable (code_grid steps) e (suc t) in
-    room_names_below steps code counter vars room (var, happens e (suc t)) (named_entry (whole_names steps code counter) var (happens e (suc t)) ((gridded steps code counter vars room).1 e t known less))
+    room_names_below steps code counter vars room (var, happens e (suc t)) (named_entry (whole_meanings steps code counter) var (happens e (suc t)) ((gridded steps code counter vars room).1 e t known less))
 
 -- literals of an event in all steps, of whichever sign, are below as many variables
 pub signed_below : (steps : CodedSteps) (code : CodedLog) (counter : CounterState) (vars values : ℕ) → HaveRoom steps code counter vars → (sign : Bool) (e : ℕ) → e < length steps.net.events → vars ≤ values → HasValues values (event_signed (code_grid steps) sign e)
@@ -209,11 +209,11 @@ ready_with_columns may gives old new book entries made some ready keeps adds wit
   both = subst (λ axioms. AreBoth axioms (with'.own ++ adds.axioms) (some_step_clauses (code_grid new.step) made)) (sym (ap axioms_of adds.more ∙ axioms_added book adds.axioms))
       (subst (λ (s : CodedSteps). AreBoth (axioms_of book ++ adds.axioms) (with'.own ++ adds.axioms) (some_step_clauses (code_grid s) made)) (sym keeps.step)
       (both_more (axioms_of book) with'.own (some_step_clauses (code_grid old.step) made) adds.axioms with'.both));
-  made_new = subst (λ (s : CodedSteps). AreMade (names_of_parts new) s.net made) (sym keeps.step) (record {
+  made_new = subst (λ (s : CodedSteps). AreMade (meanings_of_parts new) s.net made) (sym keeps.step) (record {
     once = with'.made_new.once;
-    new = all_from (λ (entry : ℕ × ℕ). name_of (names_of_parts new) entry.0 ≡ None) made (λ entry in'.
-        subst (λ (q : BuiltQuestion). name_of (names_in q) entry.0 ≡ None) (sym keeps.built)
-        (none_by_columns (built_of old book) (length keeps.counter.columns) entry.0 (all_at (λ (e : ℕ × ℕ). e.0 < old.vars) made with'.below entry in') (all_at (λ (e : ℕ × ℕ). name_of (names_of_parts old) e.0 ≡ None) made with'.made_new.new entry in')));
+    new = all_from (λ (entry : ℕ × ℕ). meaning_of (meanings_of_parts new) entry.0 ≡ None) made (λ entry in'.
+        subst (λ (q : BuiltQuestion). meaning_of (names_in q) entry.0 ≡ None) (sym keeps.built)
+        (none_by_columns (built_of old book) (length keeps.counter.columns) entry.0 (all_at (λ (e : ℕ × ℕ). e.0 < old.vars) made with'.below entry in') (all_at (λ (e : ℕ × ℕ). meaning_of (meanings_of_parts old) e.0 ≡ None) made with'.made_new.new entry in')));
     events = with'.made_new.events;
     faults = with'.made_new.faults;
   });
@@ -270,7 +270,7 @@ ready_with_literal may gives parts solver vars book entries made e with' known f
         let low = all_at (λ (x : ℕ × ℕ). x.0 < parts.vars) made with'.below a in' in
         let last = ap (λ (x : ℕ × ℕ). x.0) (only (parts.vars, e) b there) in
         omega (arith, low, last, same));
-    new = all_append (λ (x : ℕ × ℕ). name_of (names_of_parts parts) x.0 ≡ None) made ((parts.vars, e) ∷ []) with'.made_new.new (none_above parts.step parts.code.code parts.counter parts.vars with'.beside.coded, tt);
+    new = all_append (λ (x : ℕ × ℕ). meaning_of (meanings_of_parts parts) x.0 ≡ None) made ((parts.vars, e) ∷ []) with'.made_new.new (none_above parts.step parts.code.code parts.counter parts.vars with'.beside.coded, tt);
     events = all_append (λ (x : ℕ × ℕ). x.1 < length parts.step.net.events) made ((parts.vars, e) ∷ []) with'.made_new.events (known, tt);
     faults = all_append (λ (x : ℕ × ℕ). is_fault parts.step.net x.1 ≡ true) made ((parts.vars, e) ∷ []) with'.made_new.faults (fault, tt);
   };

@@ -13,7 +13,7 @@ use Rattle.log_order.specs.Log.{Log, IsValidLog}
 use Rattle.prop_core.proofs.NameLemmas.{values_match, assignments_match}
 use Rattle.prop_core.specs.Clauses.{Clause, negation, literal_true, clause_true, AllClausesTrue, AllLiteralsTrue}
 use Rattle.prop_core.specs.NamedClauses.{value_by, assignment_by}
-use Rattle.prop_core.specs.VariableNames.{Name, happens, name_of, HasEachOnce}
+use Rattle.prop_core.specs.VariableNames.{Meaning, happens, meaning_of, HasEachOnce}
 use Rattle.prop_core.specs.declared.grid.Grid.{Grid}
 use Rattle.prop_core.specs.declared.lit.Lit.{Lit}
 use Rattle.run_clauses.proofs.Lists.{in_numbers, from_numbers}
@@ -27,10 +27,10 @@ use Rattle.fault_verdicts.specs.Asked.{asked_for, without, with_event, some_step
 use Rattle.fault_verdicts.specs.Telling.{IsEventGrid, AreMade, AsksBeside}
 
 -- the event happens in no step, and in some
-abbrev Nowhere : ℕ → ℕ → (Name → Bool) → Type 0
+abbrev Nowhere : ℕ → ℕ → (Meaning → Bool) → Type 0
 Nowhere n e value = (t : ℕ) → t < n → value (happens e (suc t)) ≡ false
 
-abbrev Somewhere : ℕ → ℕ → (Name → Bool) → Type 0
+abbrev Somewhere : ℕ → ℕ → (Meaning → Bool) → Type 0
 Somewhere n e value = (t : ℕ) × (t < n) × (value (happens e (suc t)) ≡ true)
 
 nowhere_says : (net : Net) (log : Log) (n e : ℕ) → e < length net.events → SaysOfWords net log n (Nowhere n e) (λ word order. Contains word e → ⊥)
@@ -86,7 +86,7 @@ one_event (entry ∷ made) once var e f first second = by (cons_cases entry made
     by (inr a) (inl b) later = absurd (all_at (λ (p : ℕ × ℕ). entry.0 ≢ p.0) made once.0 (var, e) a (ap (λ (p : ℕ × ℕ). p.0) b))
     by (inr a) (inr b) later = later a b
 
-no_step_off : (net : Net) (n : ℕ) (names : List (ℕ × Name)) (grid : Grid) → IsEventGrid names net n grid → (e : ℕ) → e < length net.events → (value : Name → Bool) (given : ℕ → Bool) → Nowhere n e value →
+no_step_off : (net : Net) (n : ℕ) (names : List (ℕ × Meaning)) (grid : Grid) → IsEventGrid names net n grid → (e : ℕ) → e < length net.events → (value : Meaning → Bool) (given : ℕ → Bool) → Nowhere n e value →
     (l : Lit) → Contains (no_step_literals grid e) l → IsTrue (literal_true (assignment_by names value given) l)
 no_step_off net n names grid gridded e known value given none l in' =
     let assignment = assignment_by names value given in
@@ -98,11 +98,11 @@ no_step_off net n names grid gridded e known value given none l in' =
     subst (λ (m : Lit). IsTrue (literal_true assignment m)) outer.2 (subst (λ (m : Lit). IsTrue (literal_true assignment (negation m))) inner.2
     (beq_false (assignment (event_literal grid e inner.0).var) ∙ ap not low))
 
-module _ (net : Net) (n : ℕ) (names : List (ℕ × Name)) (once : HasEachOnce names) (grid : Grid) (gridded : IsEventGrid names net n grid) (made : List (ℕ × ℕ)) (are : AreMade names net made) where
+module _ (net : Net) (n : ℕ) (names : List (ℕ × Meaning)) (once : HasEachOnce names) (grid : Grid) (gridded : IsEventGrid names net n grid) (made : List (ℕ × ℕ)) (are : AreMade names net made) where
   -- all made variables false
-  free : (value : Name → Bool) → AllClausesTrue (assignment_by names value (λ var. false)) (some_step_clauses grid made)
+  free : (value : Meaning → Bool) → AllClausesTrue (assignment_by names value (λ var. false)) (some_step_clauses grid made)
   free value = clauses_of_made (assignment_by names value (λ var. false)) grid made (λ entry in'.
-      false_variable (assignment_by names value (λ var. false)) grid entry (unnamed names value (λ var. false) entry.0 (all_at (λ (p : ℕ × ℕ). name_of names p.0 ≡ None) made are.new entry in')))
+      false_variable (assignment_by names value (λ var. false)) grid entry (unnamed names value (λ var. false) entry.0 (all_at (λ (p : ℕ × ℕ). meaning_of names p.0 ≡ None) made are.new entry in')))
 
   nowhere_rides : (e : ℕ) → e < length net.events → Rides names (some_step_clauses grid made) (no_step_literals grid e) (Nowhere n e)
   nowhere_rides e known = record {
@@ -141,10 +141,10 @@ module _ (net : Net) (n : ℕ) (names : List (ℕ × Name)) (once : HasEachOnce 
       known : e < length net.events
       known = all_at (λ (p : ℕ × ℕ). p.1 < length net.events) made are.events (var, e) in'
 
-      chosen : (value : Name → Bool) → beq (assignment_by names value (λ v. v == var) var) true ≡ true
-      chosen value = beq_true (assignment_by names value (λ v. v == var) var) ∙ unnamed names value (λ v. v == var) var (all_at (λ (p : ℕ × ℕ). name_of names p.0 ≡ None) made are.new (var, e) in') ∙ eq-eqb var var refl
+      chosen : (value : Meaning → Bool) → beq (assignment_by names value (λ v. v == var) var) true ≡ true
+      chosen value = beq_true (assignment_by names value (λ v. v == var) var) ∙ unnamed names value (λ v. v == var) var (all_at (λ (p : ℕ × ℕ). meaning_of names p.0 ≡ None) made are.new (var, e) in') ∙ eq-eqb var var refl
 
-      each : (value : Name → Bool) → Somewhere n e value → (entry : ℕ × ℕ) → Contains made entry → clause_true (assignment_by names value (λ v. v == var)) (some_step_clause grid entry) ≡ true
+      each : (value : Meaning → Bool) → Somewhere n e value → (entry : ℕ × ℕ) → Contains made entry → clause_true (assignment_by names value (λ v. v == var)) (some_step_clause grid entry) ≡ true
       each value some entry there = by (entry.0 == var) refl
         where
           by : (b : Bool) → entry.0 == var ≡ b → clause_true (assignment_by names value (λ v. v == var)) (some_step_clause grid entry) ≡ true
@@ -154,11 +154,11 @@ module _ (net : Net) (n : ℕ) (names : List (ℕ × Name)) (once : HasEachOnce 
               true_event (assignment_by names value (λ v. v == var)) grid entry (subst (λ f. list_any (literal_true (assignment_by names value (λ v. v == var))) (event_literals grid f) ≡ true) (sym event)
               (some_true net n names grid gridded (assignment_by names value (λ v. v == var)) value (assignments_match names value (λ v. v == var)) e some.0 known some.1 some.2))
           by false is = false_variable (assignment_by names value (λ v. v == var)) grid entry
-              (unnamed names value (λ v. v == var) entry.0 (all_at (λ (p : ℕ × ℕ). name_of names p.0 ≡ None) made are.new entry there) ∙ is)
+              (unnamed names value (λ v. v == var) entry.0 (all_at (λ (p : ℕ × ℕ). meaning_of names p.0 ≡ None) made are.new entry there) ∙ is)
 
 -- ---- what is told
 
-module _ (net : Net) (log : Log) (n k : ℕ) (names : List (ℕ × Name)) (grid : Grid) (made : List (ℕ × ℕ)) (whole : List Clause) (assumed : List Lit) (network : IsNetwork net) (valid : IsValidLog log)
+module _ (net : Net) (log : Log) (n k : ℕ) (names : List (ℕ × Meaning)) (grid : Grid) (made : List (ℕ × ℕ)) (whole : List Clause) (assumed : List Lit) (network : IsNetwork net) (valid : IsValidLog log)
     (beside : AsksBeside net log n k names grid made whole assumed) where
   -- no event is a guard
   all_off : (e : ℕ) → e < length net.events → AllLiteralsTrue (assignment_by names is_guard (λ var. false)) (no_step_literals grid e)
@@ -181,4 +181,4 @@ module _ (net : Net) (log : Log) (n k : ℕ) (names : List (ℕ × Name)) (grid 
       (consistent_by (assignment_by names is_guard (λ v. true)) (assumed ++ positive var ∷ [])
       (all_append (λ l. IsTrue (literal_true (assignment_by names is_guard (λ v. true)) l)) assumed (positive var ∷ [])
       (guards_true names net log n (Some k) (λ v. true) assumed beside.asks.assumes)
-      (beq_true (assignment_by names is_guard (λ v. true) var) ∙ unnamed names is_guard (λ v. true) var (all_at (λ (p : ℕ × ℕ). name_of names p.0 ≡ None) made beside.made_new.new (var, e) in'), tt)))
+      (beq_true (assignment_by names is_guard (λ v. true) var) ∙ unnamed names is_guard (λ v. true) var (all_at (λ (p : ℕ × ℕ). meaning_of names p.0 ≡ None) made beside.made_new.new (var, e) in'), tt)))

@@ -10,7 +10,7 @@ use Rattle.log_clauses.proofs.Fronts.{any_has, has_any}
 use Rattle.log_clauses.proofs.Pieces.{AreFrom, pieces_are_steps}
 use Rattle.prop_core.specs.Clauses.{literal_true}
 use Rattle.prop_core.specs.NamedClauses.{Match}
-use Rattle.prop_core.specs.VariableNames.{Name, happens}
+use Rattle.prop_core.specs.VariableNames.{Meaning, happens}
 use Rattle.prop_core.specs.declared.grid.Grid.{Grid}
 use Rattle.run_clauses.specs.Steps.{AreSteps}
 use Rattle.step_encode.specs.FaultInputs.{event_literal, event_literals}
@@ -31,7 +31,7 @@ beq_false false = refl
 -- ---- in the steps
 
 -- the events of the pieces are those that happen in some step
-from_has : (net : Net) (value : Name → Bool) (s : ℕ) (pieces : List (List ℕ)) → AreFrom net value s pieces → (e : ℕ) → Contains (joined pieces) e → (t : ℕ) × (t < length pieces) × (value (happens e (suc (s + t))) ≡ true)
+from_has : (net : Net) (value : Meaning → Bool) (s : ℕ) (pieces : List (List ℕ)) → AreFrom net value s pieces → (e : ℕ) → Contains (joined pieces) e → (t : ℕ) × (t < length pieces) × (value (happens e (suc (s + t))) ≡ true)
 from_has net value s [] are e in' = absurd (none_in_nil e in')
 from_has net value s (piece ∷ pieces) are e in' = by (append_cases piece (joined pieces) e in') (from_has net value (suc s) pieces are.1 e)
   where
@@ -43,7 +43,7 @@ from_has net value s (piece ∷ pieces) are e in' = by (append_cases piece (join
         let same : suc s + found.0 ≡ s + suc found.0 = omega arith in
         (suc found.0, omega (arith, found.1), subst (λ r. value (happens e (suc r)) ≡ true) same found.2)
 
-has_from : (net : Net) (value : Name → Bool) (s : ℕ) (pieces : List (List ℕ)) → AreFrom net value s pieces → (e t : ℕ) → e < length net.events → t < length pieces → value (happens e (suc (s + t))) ≡ true → Contains (joined pieces) e
+has_from : (net : Net) (value : Meaning → Bool) (s : ℕ) (pieces : List (List ℕ)) → AreFrom net value s pieces → (e t : ℕ) → e < length net.events → t < length pieces → value (happens e (suc (s + t))) ≡ true → Contains (joined pieces) e
 has_from net value s [] are e t known less is = absurd (omega arith)
 has_from net value s (piece ∷ pieces) are e zero known less is =
     let same : s + 0 ≡ s = omega arith in
@@ -52,14 +52,14 @@ has_from net value s (piece ∷ pieces) are e (suc t) known less is =
     let same : s + suc t ≡ suc s + t = omega arith in
     append_right piece (joined pieces) e (has_from net value (suc s) pieces are.1 e t known (omega arith) (subst (λ r. value (happens e (suc r)) ≡ true) same is))
 
-pub happened : (net : Net) (n : ℕ) (value : Name → Bool) (pieces : List (List ℕ)) → AreSteps net n value pieces → (e : ℕ) → Contains (joined pieces) e → (t : ℕ) × (t < n) × (value (happens e (suc t)) ≡ true)
+pub happened : (net : Net) (n : ℕ) (value : Meaning → Bool) (pieces : List (List ℕ)) → AreSteps net n value pieces → (e : ℕ) → Contains (joined pieces) e → (t : ℕ) × (t < n) × (value (happens e (suc t)) ≡ true)
 happened net n value pieces are e in' =
     let from = (pieces_are_steps net n value pieces).0 are in
     let found = from_has net value 0 pieces from.1 e in' in
     let same : 0 + found.0 ≡ found.0 = omega arith in
     (found.0, subst (λ m. found.0 < m) from.0 found.1, subst (λ r. value (happens e (suc r)) ≡ true) same found.2)
 
-pub happening : (net : Net) (n : ℕ) (value : Name → Bool) (pieces : List (List ℕ)) → AreSteps net n value pieces → (e t : ℕ) → e < length net.events → t < n → value (happens e (suc t)) ≡ true → Contains (joined pieces) e
+pub happening : (net : Net) (n : ℕ) (value : Meaning → Bool) (pieces : List (List ℕ)) → AreSteps net n value pieces → (e t : ℕ) → e < length net.events → t < n → value (happens e (suc t)) ≡ true → Contains (joined pieces) e
 happening net n value pieces are e t known less is =
     let from = (pieces_are_steps net n value pieces).0 are in
     let same : t ≡ 0 + t = omega arith in
@@ -67,7 +67,7 @@ happening net n value pieces are e t known less is =
 
 -- ---- by variable
 
-module _ (net : Net) (n : ℕ) (names : List (ℕ × Name)) (grid : Grid) (gridded : IsEventGrid names net n grid) (assignment : ℕ → Bool) (value : Name → Bool) (match : Match names assignment value) where
+module _ (net : Net) (n : ℕ) (names : List (ℕ × Meaning)) (grid : Grid) (gridded : IsEventGrid names net n grid) (assignment : ℕ → Bool) (value : Meaning → Bool) (match : Match names assignment value) where
   pub event_is : (e t : ℕ) → e < length net.events → t < n → literal_true assignment (event_literal grid e t) ≡ value (happens e (suc t))
   event_is e t known less = beq_true (assignment (event_literal grid e t).var) ∙ match (event_literal grid e t).var (happens e (suc t)) (gridded.1 e t known less)
 

@@ -7,9 +7,9 @@ use Rattle.log_order.specs.Log.{Log}
 use Rattle.prop_core.specs.Clauses.{Clause, negation}
 use Rattle.prop_core.specs.declared.grid.Grid.{Grid}
 use Rattle.prop_core.specs.declared.lit.Lit.{Lit}
-use Rattle.prop_core.specs.VariableNames.{Name, happens, NamedLiteral}
+use Rattle.prop_core.specs.VariableNames.{Meaning, happens, NamedLiteral}
 use Rattle.run_decode.specs.Drawn.{IsNamedClause, assumption_literals}
-use Rattle.prop_core.specs.FurtherNames.{LiteralOf, holds, fails, lifted, lifted_names, AreDrawnBy, IsLifted}
+use Rattle.prop_core.specs.FurtherNames.{LiteralOf, holds, fails, lifted, lifted_meanings, AreDrawnBy, IsLifted}
 use Rattle.run_decode.specs.Tells.{Property, Tells, ExplainsWithin}
 use Rattle.step_encode.specs.FaultInputs.{event_literals}
 
@@ -26,39 +26,39 @@ asked_for net log n k e (with_event literal) word order = ExplainsWithin net log
 -- ---- names
 
 -- A name of a question, or that the event happens in some step: for each literal that was made for this, which the number tells from others.
-pub data VerdictName : Type 0 where
-  of_question : Name → VerdictName
-  occurs : (event literal : ℕ) → VerdictName
+pub data VerdictMeaning : Type 0 where
+  of_question : Meaning → VerdictMeaning
+  occurs : (event literal : ℕ) → VerdictMeaning
 
 -- a literal of a question among these
-abbrev pub in_question : NamedLiteral → LiteralOf VerdictName
+abbrev pub in_question : NamedLiteral → LiteralOf VerdictMeaning
 in_question l = lifted of_question l
 
 -- if the literal holds, the event happens in some step
-abbrev pub some_step : ℕ → ℕ → ℕ → List (LiteralOf VerdictName)
+abbrev pub some_step : ℕ → ℕ → ℕ → List (LiteralOf VerdictMeaning)
 some_step n e literal = fails (occurs e literal) ∷ map (λ t. holds (of_question (happens e (suc t)))) (numbers_below n)
 
 -- the event happens in none
-abbrev pub no_step : ℕ → ℕ → List (LiteralOf VerdictName)
+abbrev pub no_step : ℕ → ℕ → List (LiteralOf VerdictMeaning)
 no_step n e = map (λ t. fails (of_question (happens e (suc t)))) (numbers_below n)
 
 -- a clause of a question, or the one that gives a fault event in some step
-abbrev pub IsVerdictClause : Net → Log → ℕ → List (LiteralOf VerdictName) → Type 0
+abbrev pub IsVerdictClause : Net → Log → ℕ → List (LiteralOf VerdictMeaning) → Type 0
 IsVerdictClause net log n clause = IsLifted of_question (IsNamedClause net log n) clause ⊎ ((e : ℕ) × (literal : ℕ) × (is_fault net e ≡ true) × (clause ≡ some_step n e literal))
 
 -- what is assumed of the event
-abbrev pub assumed_of : ℕ → ℕ → Question → List (LiteralOf VerdictName)
+abbrev pub assumed_of : ℕ → ℕ → Question → List (LiteralOf VerdictMeaning)
 assumed_of n e without = no_step n e
 assumed_of n e (with_event literal) = holds (occurs e literal) ∷ []
 
 -- the guards, the bound, and what is assumed of the event
-abbrev pub verdict_literals : Net → Log → ℕ → ℕ → ℕ → Question → List (LiteralOf VerdictName)
+abbrev pub verdict_literals : Net → Log → ℕ → ℕ → ℕ → Question → List (LiteralOf VerdictMeaning)
 verdict_literals net log n k e question = map in_question (assumption_literals net log n (Some k)) ++ assumed_of n e question
 
 -- Clauses and assumptions ask this: they tell it, and by some names each clause is one of a question or gives a fault event in some step, and what is assumed are, as a set, the guards, the bound and what is assumed of the event.
 pub record IsPosedOf (clauses : List Clause) (assumed : List Lit) (net : Net) (log : Log) (n k e : ℕ) (question : Question) : Type 0 where
   pub tells : Tells clauses assumed (asked_for net log n k e question)
-  pub names : List (ℕ × VerdictName)
+  pub names : List (ℕ × VerdictMeaning)
   pub drawn : AreDrawnBy names clauses assumed (IsVerdictClause net log n) (verdict_literals net log n k e question)
 
 -- ---- by variable
@@ -76,9 +76,9 @@ abbrev pub no_step_literals : Grid → ℕ → List Lit
 no_step_literals grid e = map negation (event_literals grid e)
 
 -- the names of variables that were made for events
-abbrev pub made_names : List (ℕ × ℕ) → List (ℕ × VerdictName)
-made_names made = map (λ entry. (entry.0, occurs entry.1 entry.0)) made
+abbrev pub made_meanings : List (ℕ × ℕ) → List (ℕ × VerdictMeaning)
+made_meanings made = map (λ entry. (entry.0, occurs entry.1 entry.0)) made
 
 -- those of a question, and of variables that were made beside it
-abbrev pub verdict_names : List (ℕ × Name) → List (ℕ × ℕ) → List (ℕ × VerdictName)
-verdict_names names made = lifted_names of_question names ++ made_names made
+abbrev pub verdict_meanings : List (ℕ × Meaning) → List (ℕ × ℕ) → List (ℕ × VerdictMeaning)
+verdict_meanings names made = lifted_meanings of_question names ++ made_meanings made

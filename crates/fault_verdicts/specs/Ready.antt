@@ -4,7 +4,7 @@ use Rattle.std.specs.List.{AllByRecursion}
 use Rattle.des_base.specs.declared.TheConstants.{MOST_COLUMNS}
 use Rattle.fault_verdicts.specs.Asked.{some_step_clauses}
 use Rattle.fault_verdicts.specs.Telling.{AreMade}
-use Rattle.least_faults.specs.Parts.{AreReadyBeside, names_of_parts}
+use Rattle.least_faults.specs.Parts.{AreReadyBeside, meanings_of_parts}
 use Rattle.least_faults.specs.declared.TheConstants.{MOST_SIZE}
 use Rattle.least_faults.specs.declared.parts.Parts.{Parts}
 use Rattle.proof_ledger.specs.Book.{BookEntry, axioms_of}
@@ -19,7 +19,7 @@ pub record AreReadyWith {R : Type 0} (may : R → ℕ → Type 0) (gives : R →
   pub own : List Clause
   pub clauses : AreClausesOf parts.step parts.code.code parts.counter own
   pub both : AreBoth (axioms_of book) own (some_step_clauses (code_grid parts.step) made)
-  pub made_new : AreMade (names_of_parts parts) parts.step.net made
+  pub made_new : AreMade (meanings_of_parts parts) parts.step.net made
   pub below : AllByRecursion (λ entry. entry.0 < parts.vars) made
   pub small : MOST_COLUMNS * length parts.counter.inputs ≤ MOST_SIZE
 

@@ -12,12 +12,12 @@ use Rattle.least_faults.specs.Answers.{HaveLearntFresh, IsAnswered}
 use Rattle.least_faults.proofs.Staying.{built_still}
 use Rattle.least_faults.specs.Building.{AreBuilt}
 use Rattle.least_faults.specs.Growing.{AddsAxioms, HasGrownWithin, KeepsQuestion}
-use Rattle.least_faults.specs.Parts.{IsBuilt, built_of, names_of_parts}
+use Rattle.least_faults.specs.Parts.{IsBuilt, built_of, meanings_of_parts}
 use Rattle.log_order.specs.Log.{Log}
 use Rattle.proof_ledger.specs.Book.{BookEntry, axiomatic, axioms_of, IsValidBook}
 use Rattle.proof_ledger.specs.Fresh.{is_learnt}
 use Rattle.prop_core.specs.Clauses.{Clause}
-use Rattle.prop_core.specs.VariableNames.{Name}
+use Rattle.prop_core.specs.VariableNames.{Meaning}
 use Rattle.run_decode.proofs.Faults.{count_append}
 use Rattle.run_decode.specs.QuestionAxioms.{BuiltQuestion, question_axioms, question_built}
 use Rattle.sat_solve.specs.Solving.{SolverState}
@@ -46,7 +46,7 @@ pub question_begins : {R : Type 0} (net : Net) (log : Log) (n : ℕ) (parts : Pa
 question_begins net log n parts book none built = built.determined ∙ ap (λ (columns : List (List ℕ)). question_built net log n (length columns)) none
 
 -- what was found then, by parts that are still those that were built
-pub diagnosed_by : {R : Type 0} (names : List (ℕ × Name)) (first : BuiltQuestion) (net : Net) (log : Log) (n steps budget : ℕ) (parts : Parts R) (built new : List BookEntry) (found : Found) → first ≡ question_built net log n 0 → built ≡ map axiomatic (question_axioms net log n 0) → IsBuilt net log n parts new → steps ≡ n
+pub diagnosed_by : {R : Type 0} (names : List (ℕ × Meaning)) (first : BuiltQuestion) (net : Net) (log : Log) (n steps budget : ℕ) (parts : Parts R) (built new : List BookEntry) (found : Found) → first ≡ question_built net log n 0 → built ≡ map axiomatic (question_axioms net log n 0) → IsBuilt net log n parts new → steps ≡ n
     → IsAnswered names first net log steps budget built new found → IsValidBook new → IsDiagnosed net log n budget new found
 diagnosed_by names first net log n steps budget parts built new found is_first begun determined same answered valid = record {
   names = names;
@@ -105,6 +105,6 @@ module _ {R : Type 0} (may : R → ℕ → Type 0) (gives : R → ℕ → ℕ �
   pub axioms_left : AddsAxioms old book → HasQuestion net log parts.step.steps HasAxiomsAlone book
   axioms_left adds = question_left HasAxiomsAlone (axioms_alone book (adds_both [] old book (record { axioms = question_axioms net log parts.step.steps 0; more = begun.axioms }) adds))
 
-  pub diagnosed_begun : (budget : ℕ) (found : Found) → IsValidBook book → IsAnswered (names_of_parts later) (built_of parts old) net log later.step.steps budget old book found → IsDiagnosed net log parts.step.steps budget book found
+  pub diagnosed_begun : (budget : ℕ) (found : Found) → IsValidBook book → IsAnswered (meanings_of_parts later) (built_of parts old) net log later.step.steps budget old book found → IsDiagnosed net log parts.step.steps budget book found
   diagnosed_begun budget found valid answered =
-      diagnosed_by (names_of_parts later) (built_of parts old) net log parts.step.steps later.step.steps budget later old book found first_built begun.axioms stays_built steps_stay answered valid
+      diagnosed_by (meanings_of_parts later) (built_of parts old) net log parts.step.steps later.step.steps budget later old book found first_built begun.axioms stays_built steps_stay answered valid

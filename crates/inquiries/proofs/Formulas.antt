@@ -17,7 +17,7 @@ use Rattle.least_faults.specs.Asking.{AreAssumed, AreAssumptions, assumed_by}
 use Rattle.least_faults.specs.Columns.{columns_for}
 use Rattle.least_faults.specs.Evidence.{IsPosed}
 use Rattle.least_faults.specs.Growing.{AddsAxioms, KeepsQuestion}
-use Rattle.least_faults.specs.Parts.{AreParts, AreReady, BelongTo, IsBuilt, built_of, names_of_parts}
+use Rattle.least_faults.specs.Parts.{AreParts, AreReady, BelongTo, IsBuilt, built_of, meanings_of_parts}
 use Rattle.log_clauses.specs.LogClauses.{guard_literals}
 use Rattle.log_encode.specs.CodedLog.{CodedLog, without_names}
 use Rattle.log_order.specs.Log.{Log, IsValidLog}
@@ -25,7 +25,7 @@ use Rattle.proof_ledger.specs.Book.{BookEntry, axiomatic, axioms_of, clauses_of}
 use Rattle.proof_text.specs.CnfText.{Formula, formula}
 use Rattle.proof_text.specs.Refutation.{unit_clauses}
 use Rattle.prop_core.specs.Clauses.{Clause, HasValues, literal_true, clause_true, AllClausesTrue, AllLiteralsTrue}
-use Rattle.prop_core.specs.VariableNames.{Name, NamedLiteral, ReadsAs, named_clause}
+use Rattle.prop_core.specs.VariableNames.{Meaning, NamedLiteral, ReadsAs, named_clause}
 use Rattle.prop_core.specs.declared.lit.Lit.{Lit}
 use Rattle.run_decode.proofs.Nameless.{alarm_names_dont_matter}
 use Rattle.run_decode.proofs.WholeNames.{together_ask, together_one_naming}
@@ -33,7 +33,7 @@ use Rattle.run_decode.specs.Drawn.{bound_literals, fault_inputs, at_most}
 use Rattle.run_decode.specs.Faithful.{IsFaithful, IsExplainedWithin}
 use Rattle.run_decode.specs.Question.{Asks, HasColumn}
 use Rattle.run_decode.specs.QuestionAxioms.{BuiltQuestion, question_built}
-use Rattle.run_decode.specs.WholeNaming.{whole_names}
+use Rattle.run_decode.specs.WholeNaming.{whole_meanings}
 use Rattle.step_encode.specs.Coded.{CodedSteps}
 use Rattle.inquiries.proofs.Diagnosing.{axioms_alone}
 use Rattle.inquiries.specs.Formula.{IsFormulaOf, IsSatisfiable, bound_within, counted_bound, question_assumed, question_formula, question_within}
@@ -86,7 +86,7 @@ clauses_below vars clauses assumed below h =
 
 -- ---- what it asks
 
-no_inputs_read : (names : List (ℕ × Name)) (inputs : List Lit) (named : List NamedLiteral) → length inputs ≡ 0 → named_clause names inputs ≡ Some named → named ≡ []
+no_inputs_read : (names : List (ℕ × Meaning)) (inputs : List Lit) (named : List NamedLiteral) → length inputs ≡ 0 → named_clause names inputs ≡ Some named → named ≡ []
 no_inputs_read names [] named none read = cc
 no_inputs_read names (l ∷ inputs) named none read = absurd (omega (arith, none))
 
@@ -96,7 +96,7 @@ bound_of_none net log n None none = refl
 bound_of_none net log n (Some k) none = ap (λ (inputs : List NamedLiteral). at_most (length inputs) k) none
 
 -- so a question without a bound is that of each bound
-asks_within : (net : Net) (log : Log) (n : ℕ) (bound : Option ℕ) (names : List (ℕ × Name)) (clauses : List Clause) (guards : List Lit) → fault_inputs net log n ≡ [] → Asks net log n None names clauses guards → Asks net log n bound names clauses guards
+asks_within : (net : Net) (log : Log) (n : ℕ) (bound : Option ℕ) (names : List (ℕ × Meaning)) (clauses : List Clause) (guards : List Lit) → fault_inputs net log n ≡ [] → Asks net log n None names clauses guards → Asks net log n bound names clauses guards
 asks_within net log n bound names clauses guards none asks = record {
   columns = asks.columns;
   question = asks.question;
@@ -111,21 +111,21 @@ asks_within net log n bound names clauses guards none asks = record {
 module _ (steps : CodedSteps) (code : CodedLog) (counter : CounterState) (vars : ℕ) (axioms : List Clause) (parts : AreParts steps code counter vars axioms) (bound : Option ℕ) (assumed : List Lit) (log : Log)
     (network : IsNetwork steps.net) (valid : IsValidLog log) (same : code.log ≡ without_names log) where
   -- the counter counts nothing
-  uncounted : length counter.inputs ≡ 0 → AreAssumptions code counter None assumed → IsPosed (whole_names steps code counter) axioms assumed steps.net log steps.steps bound
+  uncounted : length counter.inputs ≡ 0 → AreAssumptions code counter None assumed → IsPosed (whole_meanings steps code counter) axioms assumed steps.net log steps.steps bound
   uncounted none assumptions =
-      let named = no_inputs_read (whole_names steps code counter) counter.inputs (fault_inputs steps.net code.log steps.steps) none (together_one_naming steps code counter parts.together).of_faults in
+      let named = no_inputs_read (whole_meanings steps code counter) counter.inputs (fault_inputs steps.net code.log steps.steps) none (together_one_naming steps code counter parts.together).of_faults in
       let guards : assumptions.guards ≡ assumed = sym (assumptions.whole ∙ append-nil assumptions.guards) in
-      let asks = subst (Asks steps.net code.log steps.steps None (whole_names steps code counter) axioms) guards
+      let asks = subst (Asks steps.net code.log steps.steps None (whole_meanings steps code counter) axioms) guards
       (together_ask steps code counter axioms assumptions.guards parts.together parts.clauses assumptions.read).unbounded in
-      let within = asks_within steps.net code.log steps.steps bound (whole_names steps code counter) axioms assumed named asks in
-      asks_poses steps.net log steps.steps bound (whole_names steps code counter) axioms assumed network valid
-      (((alarm_names_dont_matter steps.net log steps.steps).asks bound (whole_names steps code counter) axioms assumed).1
-      (subst (λ l. Asks steps.net l steps.steps bound (whole_names steps code counter) axioms assumed) same within))
+      let within = asks_within steps.net code.log steps.steps bound (whole_meanings steps code counter) axioms assumed named asks in
+      asks_poses steps.net log steps.steps bound (whole_meanings steps code counter) axioms assumed network valid
+      (((alarm_names_dont_matter steps.net log steps.steps).asks bound (whole_meanings steps code counter) axioms assumed).1
+      (subst (λ l. Asks steps.net l steps.steps bound (whole_meanings steps code counter) axioms assumed) same within))
 
-  pub posed_by : AreAssumptions code counter (counted_bound counter bound) assumed → IsPosed (whole_names steps code counter) axioms assumed steps.net log steps.steps bound
+  pub posed_by : AreAssumptions code counter (counted_bound counter bound) assumed → IsPosed (whole_meanings steps code counter) axioms assumed steps.net log steps.steps bound
   posed_by = by (nat_eq (length counter.inputs) 0) refl
     where
-      by : (none : Bool) → nat_eq (length counter.inputs) 0 ≡ none → AreAssumptions code counter (if none then None else bound) assumed → IsPosed (whole_names steps code counter) axioms assumed steps.net log steps.steps bound
+      by : (none : Bool) → nat_eq (length counter.inputs) 0 ≡ none → AreAssumptions code counter (if none then None else bound) assumed → IsPosed (whole_meanings steps code counter) axioms assumed steps.net log steps.steps bound
       by true none assumptions = uncounted (grind (arith, nat_tests)) assumptions
       by false some assumptions = poses steps code counter vars axioms bound assumed parts assumptions log network valid same
 
@@ -168,14 +168,14 @@ module _ {R : Type 0} (may : R → ℕ → Type 0) (gives : R → ℕ → ℕ �
   assumed_is : assumed ≡ question_assumed net log n bound
   assumed_is = a.assumes.listed ∙ ap (assumed_by parts.code.code parts.counter) counted_is ∙ ap (λ (q : BuiltQuestion). assumed_by q.code q.counter (bound_within net log n bound)) question_is
 
-  posed : IsPosed (names_of_parts parts) (axioms_of book) assumed net log n bound
+  posed : IsPosed (meanings_of_parts parts) (axioms_of book) assumed net log n bound
   posed =
       let here = belong_still net log old parts a.keeps a.belong in
       let same = a.counts ∙ ap (λ (inputs : List Lit). if nat_eq (length inputs) 0 then None else bound) (sym a.keeps.counter.inputs) in
       let assumptions = subst (λ b. AreAssumptions parts.code.code parts.counter b assumed) same a.assumes.assumptions in
       let by_parts = posed_by parts.step parts.code.code parts.counter parts.vars (axioms_of book) a.ready.coded bound assumed log (subst IsNetwork (sym here.of_steps) a.network) a.valid here.same_log assumptions in
-      let of_net = subst (λ net'. IsPosed (names_of_parts parts) (axioms_of book) assumed net' log parts.step.steps bound) here.of_steps by_parts in
-      subst (λ k. IsPosed (names_of_parts parts) (axioms_of book) assumed net log k bound) (ap (λ (s : CodedSteps). s.steps) a.keeps.step ∙ a.steps) of_net
+      let of_net = subst (λ net'. IsPosed (meanings_of_parts parts) (axioms_of book) assumed net' log parts.step.steps bound) here.of_steps by_parts in
+      subst (λ k. IsPosed (meanings_of_parts parts) (axioms_of book) assumed net log k bound) (ap (λ (s : CodedSteps). s.steps) a.keeps.step ∙ a.steps) of_net
 
   pub is_formula : (vars : ℕ) (f : Formula) → vars ≡ parts.vars → f ≡ formula vars (clauses_of book ++ unit_clauses assumed) → IsFormulaOf net log n bound book f
   is_formula vars f count is = record {
@@ -183,8 +183,8 @@ module _ {R : Type 0} (may : R → ℕ → Type 0) (gives : R → ℕ → ℕ �
     known = known;
     exact = exact;
     alone = axioms_alone book whole ∙ ap (λ (q : BuiltQuestion). map axiomatic q.axioms) question_is;
-    names = names_of_parts parts;
-    posed = subst (λ (lits : List Lit). IsPosed (names_of_parts parts) (axioms_of book) lits net log n bound) assumed_is posed;
+    names = meanings_of_parts parts;
+    posed = subst (λ (lits : List Lit). IsPosed (meanings_of_parts parts) (axioms_of book) lits net log n bound) assumed_is posed;
   }
     where
       clauses : f ≡ formula parts.vars (axioms_of book ++ unit_clauses assumed)

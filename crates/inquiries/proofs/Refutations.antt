@@ -6,7 +6,7 @@ use Rattle.std.proofs.lemmas.Bool.Decides.{nat_tests}
 use Rattle.std.proofs.lemmas.List.Elements.{All-contains, All-from_recursion, filter_map-append, Contains-append_cases, Contains-append_right}
 use Rattle.std.proofs.lemmas.List.Folds.{list_any-append}
 use Rattle.card_counter.proofs.NameLemmas.{counter_names_stand}
-use Rattle.card_counter.specs.CounterState.{CounterState, bound_literal, column_before, counter_names, input_at, negative, next_clauses, place_clauses, var_at, with_column}
+use Rattle.card_counter.specs.CounterState.{CounterState, bound_literal, column_before, counter_meanings, input_at, negative, next_clauses, place_clauses, var_at, with_column}
 use Rattle.des_base.proofs.Elements.{all_at, all_from, cons_cases, here_first, map_from, map_has, none_in_nil, take_whole}
 use Rattle.des_base.specs.Lists.{numbers_below}
 use Rattle.des_net.specs.Network.{Net, IsNetwork}
@@ -19,9 +19,9 @@ use Rattle.least_faults.specs.Answers.{IsAnswered}
 use Rattle.least_faults.specs.Asking.{AreAssumed, assumed_by, bound_part}
 use Rattle.least_faults.specs.Columns.{built_within, columns_for}
 use Rattle.least_faults.specs.Evidence.{HasLastFinal, IsEvidence, IsPosed, is_final}
-use Rattle.least_faults.specs.Parts.{AreReady, BelongTo, IsBuilt, names_of_parts}
+use Rattle.least_faults.specs.Parts.{AreReady, BelongTo, IsBuilt, meanings_of_parts}
 use Rattle.log_clauses.proofs.Codes.{IsReadOf, named_entry, read_of}
-use Rattle.log_encode.specs.CodedLog.{CodedLog, log_names, read_names, without_names}
+use Rattle.log_encode.specs.CodedLog.{CodedLog, log_meanings, read_meanings, without_names}
 use Rattle.log_order.specs.Log.{Log, IsValidLog}
 use Rattle.proof_ledger.specs.Book.{BookEntry, axiomatic, final, mark, axiom_of, axioms_of, clause_of, clauses_of}
 use Rattle.proof_ledger.specs.Checking.{check_proof}
@@ -33,7 +33,7 @@ use Rattle.proof_text.specs.Refutation.{EndsIn, front_to, refuted_formula, refut
 use Rattle.prop_core.proofs.Listed.{clause_written}
 use Rattle.prop_core.specs.Clauses.{Clause, HasValues, NegatesOnly, negation, literal_true, AllLiteralsTrue}
 use Rattle.prop_core.specs.Listings.{literal_by}
-use Rattle.prop_core.specs.VariableNames.{Name, NamedLiteral, HasEachOnce, ReadsAs, name_of, named_clause, named_literal, no, reaches}
+use Rattle.prop_core.specs.VariableNames.{Meaning, NamedLiteral, HasEachOnce, ReadsAs, meaning_of, named_clause, named_literal, no, reaches}
 use Rattle.prop_core.specs.declared.lit.Lit.{Lit}
 use Rattle.run_decode.proofs.Built.{columns_are_counted}
 use Rattle.run_decode.proofs.Nameless.{nameless_inputs}
@@ -41,9 +41,9 @@ use Rattle.run_decode.proofs.RunNames.{is_step, log_entry, step_entry}
 use Rattle.run_decode.proofs.WholeNames.{together_one_naming}
 use Rattle.run_decode.specs.Drawn.{assumption_literals, at_most, fault_inputs}
 use Rattle.run_decode.specs.QuestionAxioms.{BuiltQuestion, question_axioms, question_built}
-use Rattle.run_decode.specs.WholeNaming.{AreCodedTogether, whole_names}
+use Rattle.run_decode.specs.WholeNaming.{AreCodedTogether, whole_meanings}
 use Rattle.log_clauses.specs.LogClauses.{guard_literals}
-use Rattle.step_encode.specs.Coded.{CodedSteps, code_names as step_names}
+use Rattle.step_encode.specs.Coded.{CodedSteps, code_meanings}
 use Rattle.inquiries.specs.Formula.{bound_within, counted_bound, question_assumed, question_within}
 use Rattle.inquiries.specs.Refuted.{HasBoundColumn, HasEvidence, HasEvidenceFor, IsLastFinal, IsVerifiedRefutation}
 use Rattle.inquiries.proofs.Formulas.{posed_by}
@@ -53,7 +53,7 @@ use Rattle.std.proofs.Math.ListN.{get_or-append}
 -- ---- what reads as the same literals is the same
 
 -- by one naming, what is read of one list is read of the other
-same_literals : (names : List (ℕ × Name)) (xs ys : List Lit) (named : List NamedLiteral) → HasEachOnce names → ReadsAs names xs named → ReadsAs names ys named → (l : Lit) → Contains xs l → Contains ys l
+same_literals : (names : List (ℕ × Meaning)) (xs ys : List Lit) (named : List NamedLiteral) → HasEachOnce names → ReadsAs names xs named → ReadsAs names ys named → (l : Lit) → Contains xs l → Contains ys l
 same_literals names xs ys named once first second l in' =
     let here = subst (λ (zs : List Lit). Contains zs l) (clause_written names once xs first.read first.by_name) in' in
     let found = map_from (literal_by names) first.read l here in
@@ -72,7 +72,7 @@ known_alike : (n : ℕ) (xs ys : List Lit) → ((l : Lit) → Contains ys l → 
 known_alike n xs ys alike h = All-from_recursion (λ (l : Lit). l.var < n) ys (all_from (λ (l : Lit). l.var < n) ys (λ l in'. All-contains (λ (l' : Lit). l'.var < n) xs l h (alike l in')))
 
 -- what one list poses, the other does
-posed_alike : (names : List (ℕ × Name)) (clauses all : List Clause) (xs ys : List Lit) (net : Net) (log : Log) (n : ℕ) (bound : Option ℕ) → IsPosed names clauses xs net log n bound → IsPosed names all ys net log n bound → IsPosed names clauses ys net log n bound
+posed_alike : (names : List (ℕ × Meaning)) (clauses all : List Clause) (xs ys : List Lit) (net : Net) (log : Log) (n : ℕ) (bound : Option ℕ) → IsPosed names clauses xs net log n bound → IsPosed names all ys net log n bound → IsPosed names clauses ys net log n bound
 posed_alike names clauses all xs ys net log n bound posed others = record {
   faithful = record {
     complete = λ word order explains within. (let found = posed.faithful.complete word order explains within in (found.0, record { clauses_true = found.1.clauses_true; assumed_true = true_alike found.0 xs ys back found.1.assumed_true }));
@@ -94,11 +94,11 @@ posed_alike names clauses all xs ys net log n bound posed others = record {
 -- ---- the counter's column for a bound that is assumed
 
 -- what is read is read of a literal
-record IsReadHere (names : List (ℕ × Name)) (m : NamedLiteral) : Type 0 where
+record IsReadHere (names : List (ℕ × Meaning)) (m : NamedLiteral) : Type 0 where
   l : Lit
   is : named_literal names l ≡ Some m
 
-read_here : (names : List (ℕ × Name)) (clause : Clause) (read : List NamedLiteral) (m : NamedLiteral) → named_clause names clause ≡ Some read → Contains read m → IsReadHere names m
+read_here : (names : List (ℕ × Meaning)) (clause : Clause) (read : List NamedLiteral) (m : NamedLiteral) → named_clause names clause ≡ Some read → Contains read m → IsReadHere names m
 read_here names [] read m h in' = absurd (nothing read h in')
   where
     nothing : (r : List NamedLiteral) → Some [] ≡ Some r → Contains r m → ⊥
@@ -117,42 +117,42 @@ read_here names (l ∷ clause) read m h in' = by (cons (subst (λ r. Contains r 
     by (inr rest) later = later rest
 
 -- its variable has that name
-named_var : (names : List (ℕ × Name)) (l : Lit) (m : NamedLiteral) → named_literal names l ≡ Some m → name_of names l.var ≡ Some m.name
-named_var names l m h = by (name_of names l.var) h
+named_var : (names : List (ℕ × Meaning)) (l : Lit) (m : NamedLiteral) → named_literal names l ≡ Some m → meaning_of names l.var ≡ Some m.meaning
+named_var names l m h = by (meaning_of names l.var) h
   where
-    by : (o : Option Name) → option_map (λ (name : Name). let x : NamedLiteral = record { name = name; positive = l.positive } in x) o ≡ Some m → o ≡ Some m.name
+    by : (o : Option Meaning) → option_map (λ (meaning : Meaning). let x : NamedLiteral = record { meaning = meaning; positive = l.positive } in x) o ≡ Some m → o ≡ Some m.meaning
     by None e = cc
-    by (Some name) e = ap Some (ap (λ (x : NamedLiteral). x.name) (same (record { name = name; positive = l.positive }) m e))
+    by (Some meaning) e = ap Some (ap (λ (x : NamedLiteral). x.meaning) (same (record { meaning = meaning; positive = l.positive }) m e))
       where
         same : (a b : NamedLiteral) → Some a ≡ Some b → a ≡ b
         same a b q = cc
 
-reach_in_counter : (steps : CodedSteps) (code : CodedLog) (counter : CounterState) → AreCodedTogether steps code counter → (var i j : ℕ) → Contains (whole_names steps code counter) (var, reaches i (suc j)) → j < length counter.columns
-reach_in_counter steps code counter together var i j in' = by (Contains-append_cases (step_names steps) (log_names code ++ counter_names counter) (var, reaches i (suc j)) in')
+reach_in_counter : (steps : CodedSteps) (code : CodedLog) (counter : CounterState) → AreCodedTogether steps code counter → (var i j : ℕ) → Contains (whole_meanings steps code counter) (var, reaches i (suc j)) → j < length counter.columns
+reach_in_counter steps code counter together var i j in' = by (Contains-append_cases (code_meanings steps) (log_meanings code ++ counter_meanings counter) (var, reaches i (suc j)) in')
   where
-    no_step : (name : Name) → is_step name ≡ false → is_step name ≡ true → ⊥
-    no_step name h k = cc
+    no_step : (meaning : Meaning) → is_step meaning ≡ false → is_step meaning ≡ true → ⊥
+    no_step meaning h k = cc
 
-    of_counter : Contains (counter_names counter) (var, reaches i (suc j)) → j < length counter.columns
+    of_counter : Contains (counter_meanings counter) (var, reaches i (suc j)) → j < length counter.columns
     of_counter here =
         let found = (counter_names_stand counter together.counted).only (var, reaches i (suc j)) here in
-        let same = ap (λ (e : ℕ × Name). number_of e.1) found.3 in
+        let same = ap (λ (e : ℕ × Meaning). number_of e.1) found.3 in
         let place = found.2 in
         omega (arith, same, place.column)
       where
-        number_of : Name → ℕ
+        number_of : Meaning → ℕ
         number_of (reaches a k) = k
         number_of other = 0
 
-    of_others : Contains (log_names code) (var, reaches i (suc j)) ⊎ Contains (counter_names counter) (var, reaches i (suc j)) → j < length counter.columns
+    of_others : Contains (log_meanings code) (var, reaches i (suc j)) ⊎ Contains (counter_meanings counter) (var, reaches i (suc j)) → j < length counter.columns
     of_others (inl of_log) = absurd (log_entry steps code together.beside (var, reaches i (suc j)) of_log).0
     of_others (inr here) = of_counter here
 
-    by : Contains (step_names steps) (var, reaches i (suc j)) ⊎ Contains (log_names code ++ counter_names counter) (var, reaches i (suc j)) → j < length counter.columns
+    by : Contains (code_meanings steps) (var, reaches i (suc j)) ⊎ Contains (log_meanings code ++ counter_meanings counter) (var, reaches i (suc j)) → j < length counter.columns
     by (inl of_steps) = absurd (no_step (reaches i (suc j)) refl (step_entry steps code together.beside (var, reaches i (suc j)) of_steps).0)
-    by (inr rest) = of_others (Contains-append_cases (log_names code) (counter_names counter) (var, reaches i (suc j)) rest)
+    by (inr rest) = of_others (Contains-append_cases (log_meanings code) (counter_meanings counter) (var, reaches i (suc j)) rest)
 
-read_length : (names : List (ℕ × Name)) (clause : Clause) (read : List NamedLiteral) → named_clause names clause ≡ Some read → length clause ≡ length read
+read_length : (names : List (ℕ × Meaning)) (clause : Clause) (read : List NamedLiteral) → named_clause names clause ≡ Some read → length clause ≡ length read
 read_length names [] read h = none read h
   where
     none : (r : List NamedLiteral) → Some [] ≡ Some r → 0 ≡ length r
@@ -165,12 +165,12 @@ read_length names (l ∷ clause) read h =
     omega (arith, rest, all)
 
 column_there : (steps : CodedSteps) (code : CodedLog) (counter : CounterState) (log : Log) (b : ℕ) (assumed : List Lit) → AreCodedTogether steps code counter → code.log ≡ without_names log → 0 < length counter.inputs →
-    ReadsAs (whole_names steps code counter) assumed (assumption_literals steps.net log steps.steps (Some b)) → b < length counter.columns
+    ReadsAs (whole_meanings steps code counter) assumed (assumption_literals steps.net log steps.steps (Some b)) → b < length counter.columns
 column_there steps code counter log b assumed together same some reads = by (length (fault_inputs steps.net log steps.steps)) refl
   where
     count : length counter.inputs ≡ length (fault_inputs steps.net log steps.steps)
     count =
-        read_length (whole_names steps code counter) counter.inputs (fault_inputs steps.net code.log steps.steps) (together_one_naming steps code counter together).of_faults
+        read_length (whole_meanings steps code counter) counter.inputs (fault_inputs steps.net code.log steps.steps) (together_one_naming steps code counter together).of_faults
         ∙ ap (λ (l : Log). length (fault_inputs steps.net l steps.steps)) same ∙ ap length (sym (nameless_inputs steps.net log steps.steps))
 
     by : (m : ℕ) → length (fault_inputs steps.net log steps.steps) ≡ m → b < length counter.columns
@@ -180,9 +180,9 @@ column_there steps code counter log b assumed together same some reads = by (len
         let asked : Contains (assumption_literals steps.net log steps.steps (Some b)) literal =
         Contains-append_right (guard_literals steps.net log) (at_most (length (fault_inputs steps.net log steps.steps)) b) literal
         (subst (λ (k : ℕ). Contains (at_most k b) literal) (sym is) (here_first literal [] literal refl)) in
-        let found = read_here (whole_names steps code counter) assumed reads.read literal reads.by_name ((reads.same literal).1 asked) in
+        let found = read_here (whole_meanings steps code counter) assumed reads.read literal reads.by_name ((reads.same literal).1 asked) in
         reach_in_counter steps code counter together found.l.var (suc m) b
-        (named_entry (whole_names steps code counter) found.l.var (reaches (suc m) (suc b)) (named_var (whole_names steps code counter) found.l literal found.is))
+        (named_entry (whole_meanings steps code counter) found.l.var (reaches (suc m) (suc b)) (named_var (whole_meanings steps code counter) found.l literal found.is))
 
 -- ---- what is assumed is what network, log, n and the bound determine
 
@@ -239,7 +239,7 @@ assumed_same net log n bound parts book assumed built column listed = listed ∙
     all =
         ap (λ (c : CodedLog). assumed_by c parts.counter (bound_within net log n bound)) codes
         ∙ ap (λ (c : CounterState). assumed_by (question_within net log n bound).code c (bound_within net log n bound)) counter_is
-        ∙ ap (λ (ls : List Lit). map (literal_by (read_names (question_within net log n bound).code)) (guard_literals (question_within net log n bound).code.net (question_within net log n bound).code.log) ++ ls)
+        ∙ ap (λ (ls : List Lit). map (literal_by (read_meanings (question_within net log n bound).code)) (guard_literals (question_within net log n bound).code.net (question_within net log n bound).code.log) ++ ls)
         (bound_same net log n columns (bound_within net log n bound) there)
 
 -- ---- the axioms with the columns for a bound are those of the formula
@@ -278,8 +278,8 @@ vars_counted net log n bound = by (nat_eq (length (question_built net log n 0).c
 
 module _ {R : Type 0} (may : R → ℕ → Type 0) (gives : R → ℕ → ℕ → Type 0) (net : Net) (log : Log) (parts : Parts R) (book : List BookEntry) (bound : Option ℕ) (belong : BelongTo net log parts) (ready : AreReady may gives parts book)
     (e : HasEvidence net log parts book bound) where
-  abbrev names : List (ℕ × Name)
-  names = names_of_parts parts
+  abbrev names : List (ℕ × Meaning)
+  names = meanings_of_parts parts
 
   -- a bound that is counted has its column
   pub has_column : HasBoundColumn parts.counter bound
@@ -400,17 +400,17 @@ module _ {R : Type 0} (may : R → ℕ → Type 0) (gives : R → ℕ → ℕ �
 -- ---- what was found
 
 evidence_within : {R : Type 0} (net : Net) (log : Log) (parts : Parts R) (since book : List BookEntry) (bound : Option ℕ) → book ≡ map axiomatic (question_axioms net log parts.step.steps 0) ++ mark 0 ∷ since ++ mark 1 ∷ [] →
-    IsEvidence (names_of_parts parts) (question_built net log parts.step.steps 0) since net log parts.step.steps bound → HasEvidence net log parts book bound
+    IsEvidence (meanings_of_parts parts) (question_built net log parts.step.steps 0) since net log parts.step.steps bound → HasEvidence net log parts book bound
 evidence_within net log parts since book bound whole evidence = record { since = since; whole = whole; evidence = evidence }
 
 -- the book has evidence for the bound that it refutes
 pub evidence_for : {R : Type 0} (net : Net) (log : Log) (n : ℕ) (parts : Parts R) (budget : ℕ) (begun : BuiltQuestion) (old book : List BookEntry) (found : Found) → parts.step.steps ≡ n → begun ≡ question_built net log n 0 →
-    old ≡ map axiomatic (question_axioms net log n 0) → IsAnswered (names_of_parts parts) begun net log parts.step.steps budget old book found → HasEvidenceFor net log parts book found
+    old ≡ map axiomatic (question_axioms net log n 0) → IsAnswered (meanings_of_parts parts) begun net log parts.step.steps budget old book found → HasEvidenceFor net log parts book found
 evidence_for net log n parts budget begun old book found steps is_first is_old answered =
-    by found (subst (λ (q : BuiltQuestion). IsAnswered (names_of_parts parts) q net log parts.step.steps budget (map axiomatic (question_axioms net log parts.step.steps 0)) book found) (is_first ∙ ap (λ k. question_built net log k 0) (sym steps))
-    (subst (λ (o : List BookEntry). IsAnswered (names_of_parts parts) begun net log parts.step.steps budget o book found) (is_old ∙ ap (λ k. map axiomatic (question_axioms net log k 0)) (sym steps)) answered))
+    by found (subst (λ (q : BuiltQuestion). IsAnswered (meanings_of_parts parts) q net log parts.step.steps budget (map axiomatic (question_axioms net log parts.step.steps 0)) book found) (is_first ∙ ap (λ k. question_built net log k 0) (sym steps))
+    (subst (λ (o : List BookEntry). IsAnswered (meanings_of_parts parts) begun net log parts.step.steps budget o book found) (is_old ∙ ap (λ k. map axiomatic (question_axioms net log k 0)) (sym steps)) answered))
   where
-    by : (f : Found) → IsAnswered (names_of_parts parts) (question_built net log parts.step.steps 0) net log parts.step.steps budget (map axiomatic (question_axioms net log parts.step.steps 0)) book f → HasEvidenceFor net log parts book f
+    by : (f : Found) → IsAnswered (meanings_of_parts parts) (question_built net log parts.step.steps 0) net log parts.step.steps budget (map axiomatic (question_axioms net log parts.step.steps 0)) book f → HasEvidenceFor net log parts book f
     by (Explained best) a = (a.found.few, λ k is. evidence_within net log parts a.since book (Some k) a.whole (a.found.evidence k is))
     by Absent a = evidence_within net log parts a.since book None a.whole a.found.evidence
     by (Many best) a = evidence_within net log parts a.since book (Some 255) a.whole a.found.evidence

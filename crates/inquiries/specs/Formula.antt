@@ -10,7 +10,7 @@ use Rattle.proof_ledger.specs.Book.{BookEntry, axiomatic, axioms_of}
 use Rattle.proof_text.specs.CnfText.{Formula, formula}
 use Rattle.proof_text.specs.Refutation.{unit_clauses}
 use Rattle.prop_core.specs.Clauses.{Clause, HasValues, AllClausesTrue}
-use Rattle.prop_core.specs.VariableNames.{Name}
+use Rattle.prop_core.specs.VariableNames.{Meaning}
 use Rattle.prop_core.specs.declared.lit.Lit.{Lit}
 use Rattle.run_decode.specs.Faithful.{IsExplainedWithin}
 use Rattle.run_decode.specs.QuestionAxioms.{BuiltQuestion, question_built}
@@ -50,5 +50,5 @@ pub record IsFormulaOf (net : Net) (log : Log) (n : ℕ) (bound : Option ℕ) (b
   pub known : All (HasValues f.vars) f.clauses
   pub exact : IsSatisfiable f.clauses ↔ IsExplainedWithin net log n bound
   pub alone : book ≡ map axiomatic (question_within net log n bound).axioms
-  pub names : List (ℕ × Name)
+  pub names : List (ℕ × Meaning)
   pub posed : IsPosed names (axioms_of book) (question_assumed net log n bound) net log n bound

@@ -7,7 +7,7 @@ use Rattle.least_faults.specs.declared.answer.Found.{Found}
 use Rattle.least_faults.specs.declared.answer.Found.TheVariants.{Explained, Absent, Many, Undecided}
 use Rattle.least_faults.specs.declared.parts.Parts.{Parts}
 use Rattle.least_faults.specs.Evidence.{IsPosed, IsEvidence, is_final}
-use Rattle.least_faults.specs.Parts.{names_of_parts}
+use Rattle.least_faults.specs.Parts.{meanings_of_parts}
 use Rattle.log_order.specs.Log.{Log}
 use Rattle.proof_ledger.specs.Book.{BookEntry, axiomatic, final, mark, axioms_of, clauses_of}
 use Rattle.proof_ledger.specs.Checking.{check_proof}
@@ -16,7 +16,7 @@ use Rattle.proof_ledger.specs.declared.checker.Checked.TheVariants.{Verified}
 use Rattle.proof_text.specs.ProofNumbers.{NumbersAscend, HasNoZero}
 use Rattle.proof_text.specs.Refutation.{CanBePrinted, EndsIn, front_to, refutation_steps}
 use Rattle.prop_core.specs.Clauses.{Clause}
-use Rattle.prop_core.specs.VariableNames.{Name}
+use Rattle.prop_core.specs.VariableNames.{Meaning}
 use Rattle.run_decode.specs.QuestionAxioms.{question_axioms, question_built}
 use Rattle.inquiries.specs.declared.refutation.Refuted.{Refuted}
 use Rattle.inquiries.specs.declared.refutation.Refuted.TheVariants.{Within, Nothing, Undecided as NotRefuted}
@@ -28,7 +28,7 @@ use Rattle.inquiries.specs.Formula.{counted_bound, question_assumed, question_fo
 pub record IsVerifiedRefutation (net : Net) (log : Log) (n : ℕ) (bound : Option ℕ) (book : List BookEntry) (steps : List ProofStep) : Type 0 where
   pub last : ℕ
   pub ends : EndsIn book (question_assumed net log n bound) last
-  pub names : List (ℕ × Name)
+  pub names : List (ℕ × Meaning)
   pub posed : IsPosed names (axioms_of (front_to last book)) (question_assumed net log n bound) net log n bound
   pub listed : axioms_of (front_to last book) ≡ (question_within net log n bound).axioms
   pub steps_are : steps ≡ refutation_steps (front_to last book) (question_assumed net log n bound)
@@ -83,7 +83,7 @@ HasBoundColumn counter bound = IfSome (counted_bound counter bound) (λ k. k < l
 pub record HasEvidence {R : Type 0} (net : Net) (log : Log) (parts : Parts R) (book : List BookEntry) (bound : Option ℕ) : Type 0 where
   pub since : List BookEntry
   pub whole : book ≡ map axiomatic (question_axioms net log parts.step.steps 0) ++ mark 0 ∷ since ++ mark 1 ∷ []
-  pub evidence : IsEvidence (names_of_parts parts) (question_built net log parts.step.steps 0) since net log parts.step.steps bound
+  pub evidence : IsEvidence (meanings_of_parts parts) (question_built net log parts.step.steps 0) since net log parts.step.steps bound
 
 -- for the bound that what was found refutes: one less than the least number, none where nothing explains, and 255 where more are needed
 abbrev pub HasEvidenceFor : {R : Type 0} → Net → Log → Parts R → List BookEntry → Found → Type 0

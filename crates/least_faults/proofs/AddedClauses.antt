@@ -13,11 +13,11 @@ use Rattle.log_clauses.specs.Additions.{Addition, alarm_added, pair_added, with_
 use Rattle.log_clauses.specs.Drafts.{added_clauses, added_list, first_clauses, first_list}
 use Rattle.log_clauses.specs.LogClauses.{log_clause, before_if_asked}
 use Rattle.log_encode.specs.BuiltLog.{BuiltLog, added_written, additions_of, built_empty, built_log, built_with}
-use Rattle.log_encode.specs.CodedLog.{CodedLog, code_after, empty_code, read_names}
+use Rattle.log_encode.specs.CodedLog.{CodedLog, code_after, empty_code, read_meanings}
 use Rattle.log_order.specs.Log.{Log, Alarm, no_log}
 use Rattle.prop_core.specs.Clauses.{Clause}
 use Rattle.prop_core.specs.Listings.{literal_by, written_by, Listing}
-use Rattle.prop_core.specs.VariableNames.{Name}
+use Rattle.prop_core.specs.VariableNames.{Meaning}
 use Rattle.prop_core.specs.declared.grid.Grid.{Grid}
 use Rattle.replay.specs.QuestionSize.{alarm_sizes, doubtful_count, matching_count, question_size}
 
@@ -73,12 +73,12 @@ size_grows net log n (pair_added i j) =
 
 -- ---- a log
 
-written_size : (names : List (ℕ × Name)) (list : Listing) → length (written_by names list) ≡ length list
+written_size : (names : List (ℕ × Meaning)) (list : Listing) → length (written_by names list) ≡ length list
 written_size names list = length-map list (λ named. map (literal_by names) named)
 
 added_size : (code : CodedLog) (addition : Addition) → length (added_written code addition) ≡ length (added_clauses code.net code.log code.grid.steps addition)
 added_size code addition =
-    written_size (read_names (code_after code addition code.vars)) (added_list code.net code.log code.grid.steps addition)
+    written_size (read_meanings (code_after code addition code.vars)) (added_list code.net code.log code.grid.steps addition)
     ∙ length-map (added_clauses code.net code.log code.grid.steps addition) (log_clause code.net (with_addition code.log addition) code.grid.steps)
 
 -- addition by addition
@@ -99,7 +99,7 @@ pub log_lean : (net : Net) (grid : Grid) (first : ℕ) (log : Log) (code : Coded
     length clauses + coded_clauses net no_log grid.steps ≤ observable_count net * grid.steps + coded_clauses net code.log grid.steps
 log_lean net grid first log code clauses is =
     let all = all_grow (additions_of log) (built_empty net grid first) in
-    let begun = written_size (read_names (empty_code net grid first)) (first_list net grid.steps) ∙ length-map (first_clauses net grid.steps) (log_clause net no_log grid.steps) ∙ first_clauses_are_few net grid.steps in
+    let begun = written_size (read_meanings (empty_code net grid first)) (first_list net grid.steps) ∙ length-map (first_clauses net grid.steps) (log_clause net no_log grid.steps) ∙ first_clauses_are_few net grid.steps in
     let whole = ap (λ (built : BuiltLog). length built.clauses) is in
     let same = ap (λ (built : BuiltLog). coded_clauses net built.code.log grid.steps) is in
     omega (arith, all, begun, whole, same)

@@ -45,7 +45,7 @@ use Rattle.sat_solve.specs.Solving.{SolverState}
 use Rattle.sat_solve.specs.declared.answer.Answer.TheVariants as solver
 use Rattle.std.proofs.lemmas.List.Elements.{Contains-append_cases as append_cases, Contains-append_left as append_left, Contains-append_right as append_right}
 use Rattle.run_decode.proofs.Faults.{count_append}
-use Rattle.run_decode.specs.WholeNaming.{whole_names}
+use Rattle.run_decode.specs.WholeNaming.{whole_meanings}
 use Rattle.step_encode.specs.Coded.{CodedSteps}
 
 -- ---- what is put
@@ -284,7 +284,7 @@ module _ (steps : CodedSteps) (code : CodedLog) (counter : CounterState) (vars :
       before_it : begun.axioms ++ axioms_of (map axiomatic adds.axioms ++ put.put.before) ≡ axioms_of mid
       before_it = ap (λ cs. cs ++ axioms_of (map axiomatic adds.axioms ++ put.put.before)) at_first ∙ axioms_with_learnt old mid (map axiomatic adds.axioms) put.put.before adds.more put.put.all_learnt
 
-      posed : IsPosed (whole_names steps code counter) (axioms_of mid) assumed steps.net log steps.steps bound
+      posed : IsPosed (whole_meanings steps code counter) (axioms_of mid) assumed steps.net log steps.steps bound
       posed = poses steps code counter vars (axioms_of mid) bound assumed parts assumptions log (subst IsNetwork (sym of_net) network) valid same
 
       faithful : IsFaithful (axioms_of mid) assumed net log steps.steps bound

@@ -15,7 +15,7 @@ use Rattle.des_net.specs.Network.{Net}
 use Rattle.log_clauses.proofs.Lists.{all_at}
 use Rattle.log_clauses.specs.LogClauses.{guard_literals}
 use Rattle.log_encode.proofs.CodeLemmas.{beside}
-use Rattle.log_encode.specs.CodedLog.{CodedLog, IsCodedLog, read_names}
+use Rattle.log_encode.specs.CodedLog.{CodedLog, IsCodedLog, read_meanings}
 use Rattle.log_encode.specs.Drafted.{LogCodeState}
 use Rattle.log_order.specs.Log.{Log}
 use Rattle.prop_core.proofs.FamilyLemmas.{reads_whole}
@@ -25,14 +25,14 @@ use Rattle.prop_core.specs.Clauses.{Clause, HasValues, is_true, is_false, negati
 use Rattle.prop_core.specs.Listings.{literal_by}
 use Rattle.prop_core.specs.VariableNames.{ReadsAs, named_clause}
 use Rattle.prop_core.specs.declared.lit.Lit.{Lit}
-use Rattle.run_decode.specs.WholeNaming.{whole_names}
+use Rattle.run_decode.specs.WholeNaming.{whole_meanings}
 use Rattle.std.proofs.Math.ListN.{get_or-append}
 use Rattle.step_encode.specs.Coded.{CodedSteps}
 
 pub assumed_below : (steps : CodedSteps) (code : CodedLog) (counter : CounterState) (vars : ℕ) (axioms clauses : List Clause) (assumed : List Lit) (net : Net) (log : Log) (n : ℕ) (bound : Option ℕ) →
-    AreParts steps code counter vars axioms → IsPosed (whole_names steps code counter) clauses assumed net log n bound → HasValues vars assumed
+    AreParts steps code counter vars axioms → IsPosed (whole_meanings steps code counter) clauses assumed net log n bound → HasValues vars assumed
 assumed_below steps code counter vars axioms clauses assumed net log n bound parts posed =
-    read_below vars (whole_names steps code counter) assumed posed.assumes.read (names_below steps code counter vars axioms parts) posed.assumes.by_name
+    read_below vars (whole_meanings steps code counter) assumed posed.assumes.read (names_below steps code counter vars axioms parts) posed.assumes.by_name
 
 -- a literal that is true under a list is in it
 pub true_there : (taken : List Lit) (l : Lit) → is_true taken l ≡ true → Contains taken l
@@ -75,37 +75,37 @@ compatible assumed apart l h = as_false (is_false assumed l) (λ k. opposites as
 
 -- ---- the guards, and then the literal for the bound
 
-pub without_bound : (code : CodedLog) (counter : CounterState) (guards assumed : List Lit) → ReadsAs (read_names code) guards (guard_literals code.net code.log) → assumed ≡ guards → AreAssumptions code counter None assumed
+pub without_bound : (code : CodedLog) (counter : CounterState) (guards assumed : List Lit) → ReadsAs (read_meanings code) guards (guard_literals code.net code.log) → assumed ≡ guards → AreAssumptions code counter None assumed
 without_bound code counter guards assumed read whole = record { guards = guards; read = read; whole = whole ∙ sym (append-nil guards); column = tt }
 
-pub with_bound : (code : CodedLog) (counter : CounterState) (k columns : ℕ) (guards : List Lit) (literal : Lit) (assumed : List Lit) → ReadsAs (read_names code) guards (guard_literals code.net code.log) →
+pub with_bound : (code : CodedLog) (counter : CounterState) (k columns : ℕ) (guards : List Lit) (literal : Lit) (assumed : List Lit) → ReadsAs (read_meanings code) guards (guard_literals code.net code.log) →
     length counter.columns ≡ max columns (k + 1) → literal ≡ bound_literal counter k → assumed ≡ guards ++ literal ∷ [] → AreAssumptions code counter (Some k) assumed
 with_bound code counter k columns guards literal assumed read there is whole =
     record { guards = guards; read = read; whole = whole ∙ ap (λ l. guards ++ l ∷ []) is; column = omega (arith, there) }
 
 -- ---- both in their order
 
-guards_listed : (code : CodedLog) (guards : List Lit) → IsCodedLog code → named_clause (read_names code) guards ≡ Some (guard_literals code.net code.log) → guards ≡ map (literal_by (read_names code)) (guard_literals code.net code.log)
-guards_listed code guards whole listed = clause_written (read_names code) (beside code whole).once guards (guard_literals code.net code.log) listed
+guards_listed : (code : CodedLog) (guards : List Lit) → IsCodedLog code → named_clause (read_meanings code) guards ≡ Some (guard_literals code.net code.log) → guards ≡ map (literal_by (read_meanings code)) (guard_literals code.net code.log)
+guards_listed code guards whole listed = clause_written (read_meanings code) (beside code whole).once guards (guard_literals code.net code.log) listed
 
-pub assumed_alone : {R : Type 0} (parts : Parts R) (guards assumed : List Lit) → IsCodedLog parts.code.code → named_clause (read_names parts.code.code) guards ≡ Some (guard_literals parts.code.code.net parts.code.code.log) → assumed ≡ guards →
+pub assumed_alone : {R : Type 0} (parts : Parts R) (guards assumed : List Lit) → IsCodedLog parts.code.code → named_clause (read_meanings parts.code.code) guards ≡ Some (guard_literals parts.code.code.net parts.code.code.log) → assumed ≡ guards →
     AreAssumed parts.counter parts None assumed
 assumed_alone parts guards assumed whole listed is = record {
-  listed = is ∙ guards_listed parts.code.code guards whole listed ∙ sym (append-nil (map (literal_by (read_names parts.code.code)) (guard_literals parts.code.code.net parts.code.code.log)));
-  assumptions = without_bound parts.code.code parts.counter guards assumed (reads_whole (read_names parts.code.code) guards (guard_literals parts.code.code.net parts.code.code.log) listed) is;
+  listed = is ∙ guards_listed parts.code.code guards whole listed ∙ sym (append-nil (map (literal_by (read_meanings parts.code.code)) (guard_literals parts.code.code.net parts.code.code.log)));
+  assumptions = without_bound parts.code.code parts.counter guards assumed (reads_whole (read_meanings parts.code.code) guards (guard_literals parts.code.code.net parts.code.code.log) listed) is;
   columns = omega arith;
 }
 
-pub assumed_bound : {R : Type 0} (old new : Parts R) (k : ℕ) (guards : List Lit) (literal : Lit) (assumed : List Lit) → IsCodedLog old.code.code → named_clause (read_names old.code.code) guards ≡ Some (guard_literals old.code.code.net old.code.code.log) →
+pub assumed_bound : {R : Type 0} (old new : Parts R) (k : ℕ) (guards : List Lit) (literal : Lit) (assumed : List Lit) → IsCodedLog old.code.code → named_clause (read_meanings old.code.code) guards ≡ Some (guard_literals old.code.code.net old.code.code.log) →
     new.code ≡ old.code → length new.counter.columns ≡ max (length old.counter.columns) (k + 1) → literal ≡ bound_literal new.counter k → assumed ≡ guards ++ literal ∷ [] → AreAssumed old.counter new (Some k) assumed
 assumed_bound old new k guards literal assumed whole listed same columns literal_is is = record {
   listed = is ∙ ap (λ (l : Lit). guards ++ l ∷ []) literal_is ∙ ap (λ (gs : List Lit). gs ++ bound_literal new.counter k ∷ []) (guards_listed new.code.code guards (subst (λ (c : LogCodeState). IsCodedLog c.code) (sym same) whole) here);
-  assumptions = with_bound new.code.code new.counter k (length old.counter.columns) guards literal assumed (reads_whole (read_names new.code.code) guards (guard_literals new.code.code.net new.code.code.log) here) columns literal_is is;
+  assumptions = with_bound new.code.code new.counter k (length old.counter.columns) guards literal assumed (reads_whole (read_meanings new.code.code) guards (guard_literals new.code.code.net new.code.code.log) here) columns literal_is is;
   columns = columns;
 }
   where
-    here : named_clause (read_names new.code.code) guards ≡ Some (guard_literals new.code.code.net new.code.code.log)
-    here = subst (λ (c : LogCodeState). named_clause (read_names c.code) guards ≡ Some (guard_literals c.code.net c.code.log)) (sym same) listed
+    here : named_clause (read_meanings new.code.code) guards ≡ Some (guard_literals new.code.code.net new.code.code.log)
+    here = subst (λ (c : LogCodeState). named_clause (read_meanings c.code) guards ≡ Some (guard_literals c.code.net c.code.log)) (sym same) listed
 
 -- ---- where the counter gets a column
 

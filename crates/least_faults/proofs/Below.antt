@@ -4,46 +4,46 @@ use Rattle.std.specs.List.{AllByRecursion}
 use Rattle.std.proofs.lemmas.List.Elements.{All-nil, All-cons, Contains-append_cases as append_cases}
 use Rattle.card_counter.proofs.CodeLemmas.{counter_is_code}
 use Rattle.card_counter.proofs.NameLemmas.{counter_names_stand}
-use Rattle.card_counter.specs.CounterState.{CounterState, counter_names, counter_clauses}
+use Rattle.card_counter.specs.CounterState.{CounterState, counter_meanings, counter_clauses}
 use Rattle.des_base.proofs.Elements.{all_from as all_of}
 use Rattle.least_faults.specs.Parts.{AreParts, HaveRoom}
 use Rattle.log_clauses.proofs.Codes.{read_of, named_entry}
 use Rattle.log_clauses.proofs.Lists.{all_at}
 use Rattle.log_encode.proofs.CodeLemmas.{asked_below}
-use Rattle.log_encode.specs.CodedLog.{CodedLog, log_names, read_names}
+use Rattle.log_encode.specs.CodedLog.{CodedLog, log_meanings, read_meanings}
 use Rattle.prop_core.specs.Clauses.{Clause, HasValues}
 use Rattle.prop_core.specs.NamedClauses.{IsCode}
-use Rattle.prop_core.specs.VariableNames.{Name, NamedLiteral, name_of, named_literal, named_clause, ReadsAs}
+use Rattle.prop_core.specs.VariableNames.{Meaning, NamedLiteral, meaning_of, named_literal, named_clause, ReadsAs}
 use Rattle.prop_core.specs.declared.grid.Grid.{Grid}
 use Rattle.prop_core.specs.declared.lit.Lit.{Lit}
 use Rattle.run_decode.proofs.RunNames.{step_entry}
 use Rattle.run_decode.proofs.WholeNames.{together_one_naming}
 use Rattle.run_decode.specs.Drawn.{fault_inputs}
-use Rattle.run_decode.specs.WholeNaming.{AreClausesOf, whole_names, HaveOneNaming}
+use Rattle.run_decode.specs.WholeNaming.{AreClausesOf, whole_meanings, HaveOneNaming}
 use Rattle.step_encode.proofs.Codes.{grid_ends}
-use Rattle.step_encode.specs.Coded.{CodedSteps, code_names as step_names, variable_count}
+use Rattle.step_encode.specs.Coded.{CodedSteps, code_meanings, variable_count}
 
 -- ---- by names of variables below a number
 
 -- each of the variables that have a name is below this number
-abbrev pub AreBelow : ℕ → List (ℕ × Name) → Type 0
-AreBelow vars names = (entry : ℕ × Name) → Contains names entry → entry.0 < vars
+abbrev pub AreBelow : ℕ → List (ℕ × Meaning) → Type 0
+AreBelow vars names = (entry : ℕ × Meaning) → Contains names entry → entry.0 < vars
 
-literal_below : (vars : ℕ) (names : List (ℕ × Name)) (l : Lit) (read : NamedLiteral) → AreBelow vars names → named_literal names l ≡ Some read → l.var < vars
-literal_below vars names l read below h = by (name_of names l.var) (λ name is. below (l.var, name) (named_entry names l.var name is)) h
+literal_below : (vars : ℕ) (names : List (ℕ × Meaning)) (l : Lit) (read : NamedLiteral) → AreBelow vars names → named_literal names l ≡ Some read → l.var < vars
+literal_below vars names l read below h = by (meaning_of names l.var) (λ meaning is. below (l.var, meaning) (named_entry names l.var meaning is)) h
   where
-    by : (o : Option Name) → ((name : Name) → o ≡ Some name → l.var < vars) → option_map (λ (name : Name). let m : NamedLiteral = record { name = name; positive = l.positive } in m) o ≡ Some read → l.var < vars
+    by : (o : Option Meaning) → ((meaning : Meaning) → o ≡ Some meaning → l.var < vars) → option_map (λ (meaning : Meaning). let m : NamedLiteral = record { meaning = meaning; positive = l.positive } in m) o ≡ Some read → l.var < vars
     by None known is = cc
-    by (Some name) known is = known name refl
+    by (Some meaning) known is = known meaning refl
 
-pub read_below : (vars : ℕ) (names : List (ℕ × Name)) (clause : Clause) (read : List NamedLiteral) → AreBelow vars names → named_clause names clause ≡ Some read → HasValues vars clause
+pub read_below : (vars : ℕ) (names : List (ℕ × Meaning)) (clause : Clause) (read : List NamedLiteral) → AreBelow vars names → named_clause names clause ≡ Some read → HasValues vars clause
 read_below vars names [] read below h = All-nil (λ (l : Lit). l.var < vars)
 read_below vars names (l ∷ clause) read below h =
     let of' = read_of names l clause read h in
     All-cons (λ (x : Lit). x.var < vars) l clause (literal_below vars names l of'.first below of'.literal) (read_below vars names clause of'.rest below of'.later)
 
 -- so is each clause of a code by these names
-code_below : (vars : ℕ) (names : List (ℕ × Name)) (family : List NamedLiteral → Type 0) (clauses : List Clause) (clause : Clause) → AreBelow vars names → IsCode names family clauses → Contains clauses clause → HasValues vars clause
+code_below : (vars : ℕ) (names : List (ℕ × Meaning)) (family : List NamedLiteral → Type 0) (clauses : List Clause) (clause : Clause) → AreBelow vars names → IsCode names family clauses → Contains clauses clause → HasValues vars clause
 code_below vars names family clauses clause below code in' =
     let found = all_at (λ (c : Clause). (named : List NamedLiteral) × family named × ReadsAs names c named) clauses code.only clause in' in
     let reads = found.2 in
@@ -73,26 +73,26 @@ module _ (steps : CodedSteps) (code : CodedLog) (counter : CounterState) (vars :
       let above = room.above in
       omega (arith, made, ends, asked, above)
 
-  pub room_names_below : AreBelow vars (whole_names steps code counter)
-  room_names_below entry in' = by (append_cases (step_names steps) (log_names code ++ counter_names counter) entry in')
+  pub room_names_below : AreBelow vars (whole_meanings steps code counter)
+  room_names_below entry in' = by (append_cases (code_meanings steps) (log_meanings code ++ counter_meanings counter) entry in')
     where
-      of_counter : Contains (counter_names counter) entry → entry.0 < vars
+      of_counter : Contains (counter_meanings counter) entry → entry.0 < vars
       of_counter here =
           let found = (counter_names_stand counter room.together.counted).only entry here in
           let below = room.made.columns found.0 found.1 found.2 in
-          let same = ap (λ (e : ℕ × Name). e.0) found.3 in
+          let same = ap (λ (e : ℕ × Meaning). e.0) found.3 in
           omega (arith, below, same)
 
-      of_others : Contains (log_names code) entry ⊎ Contains (counter_names counter) entry → entry.0 < vars
+      of_others : Contains (log_meanings code) entry ⊎ Contains (counter_meanings counter) entry → entry.0 < vars
       of_others (inl here) =
-          let low = all_at (λ (e : ℕ × Name). e.0 < code.vars) (log_names code) room.together.beside.logged.names.below entry here in
+          let low = all_at (λ (e : ℕ × Meaning). e.0 < code.vars) (log_meanings code) room.together.beside.logged.names.below entry here in
           let above = room.above in
           omega (arith, low, above)
       of_others (inr here) = of_counter here
 
-      by : Contains (step_names steps) entry ⊎ Contains (log_names code ++ counter_names counter) entry → entry.0 < vars
+      by : Contains (code_meanings steps) entry ⊎ Contains (log_meanings code ++ counter_meanings counter) entry → entry.0 < vars
       by (inl here) = let low = (step_entry steps code room.together.beside entry here).1 in let end = steps_end in omega (arith, low, end)
-      by (inr here) = of_others (append_cases (log_names code) (counter_names counter) entry here)
+      by (inr here) = of_others (append_cases (log_meanings code) (counter_meanings counter) entry here)
 
   naming : HaveOneNaming steps code counter
   naming = together_one_naming steps code counter room.together
@@ -100,15 +100,15 @@ module _ (steps : CodedSteps) (code : CodedLog) (counter : CounterState) (vars :
   -- so are those of the counter
   pub counter_below : (clause : Clause) → Contains (counter_clauses counter) clause → HasValues vars clause
   counter_below clause here =
-      code_below vars (whole_names steps code counter) _ (counter_clauses counter) clause room_names_below (counter_is_code (whole_names steps code counter) (fault_inputs steps.net code.log steps.steps) counter naming.of_counter) here
+      code_below vars (whole_meanings steps code counter) _ (counter_clauses counter) clause room_names_below (counter_is_code (whole_meanings steps code counter) (fault_inputs steps.net code.log steps.steps) counter naming.of_counter) here
 
   -- and all clauses of the parts
   pub clause_below : (axioms : List Clause) (are : AreClausesOf steps code counter axioms) (clause : Clause) → Contains are.stepped clause ⊎ (Contains are.written clause ⊎ Contains (counter_clauses counter) clause) → HasValues vars clause
-  clause_below axioms are clause (inl here) = code_below vars (step_names steps) _ are.stepped clause (λ entry in'. room_names_below entry (naming.of_steps entry in')) are.step_code here
-  clause_below axioms are clause (inr (inl here)) = code_below vars (read_names code) _ are.written clause (λ entry in'. room_names_below entry (naming.of_log entry in')) are.log_code.clauses here
+  clause_below axioms are clause (inl here) = code_below vars (code_meanings steps) _ are.stepped clause (λ entry in'. room_names_below entry (naming.of_steps entry in')) are.step_code here
+  clause_below axioms are clause (inr (inl here)) = code_below vars (read_meanings code) _ are.written clause (λ entry in'. room_names_below entry (naming.of_log entry in')) are.log_code.clauses here
   clause_below axioms are clause (inr (inr here)) = counter_below clause here
 
-pub names_below : (steps : CodedSteps) (code : CodedLog) (counter : CounterState) (vars : ℕ) (axioms : List Clause) → AreParts steps code counter vars axioms → AreBelow vars (whole_names steps code counter)
+pub names_below : (steps : CodedSteps) (code : CodedLog) (counter : CounterState) (vars : ℕ) (axioms : List Clause) → AreParts steps code counter vars axioms → AreBelow vars (whole_meanings steps code counter)
 names_below steps code counter vars axioms parts = room_names_below steps code counter vars (room_of steps code counter vars axioms parts)
 
 pub axioms_below : (steps : CodedSteps) (code : CodedLog) (counter : CounterState) (vars : ℕ) (axioms : List Clause) → AreParts steps code counter vars axioms → AllByRecursion (HasValues vars) axioms

@@ -15,7 +15,7 @@ use Rattle.log_clauses.proofs.Drafts.{doubtful_more}
 use Rattle.log_clauses.proofs.NewNames.{names_leave_room}
 use Rattle.log_clauses.specs.Additions.{Addition, alarm_added, pair_added, with_addition}
 use Rattle.log_clauses.specs.Drafts.{added_clauses}
-use Rattle.log_clauses.specs.LogNames.{added_names}
+use Rattle.log_clauses.specs.LogNames.{added_meanings}
 use Rattle.log_encode.specs.AlarmVariables.{false_width}
 use Rattle.log_encode.specs.CodedLog.{CodedLog, addition_width, without_names}
 use Rattle.log_order.specs.Log.{Log, is_doubtful, no_log}
@@ -45,7 +45,7 @@ nameless_variables net log n = omega (arith, log_variables_are net log n, log_va
 
 -- An addition, and what the counter may get with it, take no more than the question gets.
 pub addition_fits : (net : Net) (log : Log) (n : ℕ) (addition : Addition) →
-    length (added_names net log n addition) + 256 * cond (is_doubted addition) 1 0 + question_variables net log n ≤ question_variables net (with_addition log addition) n
+    length (added_meanings net log n addition) + 256 * cond (is_doubted addition) 1 0 + question_variables net log n ≤ question_variables net (with_addition log addition) n
 addition_fits net log n (alarm_added new) =
     omega (
       arith,
@@ -121,7 +121,7 @@ module _ (steps : CodedSteps) (code : CodedLog) (counter : CounterState) (vars :
       vars + addition_width code addition + cond (is_doubted addition) 1 0 * length counter.columns ≤ VAR_LIMIT
   width_fits addition same time fits =
       let more = addition_fits steps.net code.log steps.steps addition in
-      let width = ap (λ (m : Net). length (added_names m code.log code.grid.steps addition)) same ∙ ap (λ k. length (added_names steps.net code.log k addition)) time in
+      let width = ap (λ (m : Net). length (added_meanings m code.log code.grid.steps addition)) same ∙ ap (λ k. length (added_meanings steps.net code.log k addition)) time in
       let variables = bounded.variables in
       let columns = bounded.columns in
       let cells = few_cells (is_doubted addition) (length counter.columns) columns in
@@ -137,7 +137,7 @@ module _ (steps : CodedSteps) (code : CodedLog) (counter : CounterState) (vars :
       length more ≤ size + 2 * (cond (is_doubted addition) 1 0 * length counter.columns) → question_variables steps.net (with_addition code.log addition) steps.steps ≤ VAR_LIMIT → AreBounded steps longer now then (axioms ++ more)
   bounded_with addition longer now then more size same time is columns inputs count sized short fits =
       let names = addition_fits steps.net code.log steps.steps addition in
-      let width = ap (λ (m : Net). length (added_names m code.log code.grid.steps addition)) same ∙ ap (λ k. length (added_names steps.net code.log k addition)) time in
+      let width = ap (λ (m : Net). length (added_meanings m code.log code.grid.steps addition)) same ∙ ap (λ k. length (added_meanings steps.net code.log k addition)) time in
       let clauses = addition_grows steps.net code.log steps.steps addition in
       let written = ap (λ (m : Net). length (added_clauses m code.log code.grid.steps addition)) same ∙ ap (λ k. length (added_clauses steps.net code.log k addition)) time in
       let variables = bounded.variables in

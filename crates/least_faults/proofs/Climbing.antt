@@ -29,12 +29,12 @@ use Rattle.log_order.specs.Log.{Log, IsValidLog}
 use Rattle.proof_ledger.specs.Book.{BookEntry, final, axiom_of, axioms_of, clauses_of, is_mark, IsValidBook}
 use Rattle.proof_ledger.specs.Fresh.{is_learnt}
 use Rattle.prop_core.specs.Clauses.{Clause, HasValues, NegatesOnly}
-use Rattle.prop_core.specs.VariableNames.{Name}
+use Rattle.prop_core.specs.VariableNames.{Meaning}
 use Rattle.prop_core.specs.declared.lit.Lit.{Lit}
 use Rattle.replay.specs.Explanation.{IsExplained, NeedsFaults}
 use Rattle.run_decode.specs.Drawn.{IsInstance}
 use Rattle.run_decode.specs.QuestionAxioms.{BuiltQuestion}
-use Rattle.run_decode.specs.WholeNaming.{whole_names}
+use Rattle.run_decode.specs.WholeNaming.{whole_meanings}
 use Rattle.std.proofs.lemmas.List.Elements.{Contains-append_cases as append_cases, Contains-append_right as append_right}
 use Rattle.run_decode.proofs.Faults.{count_append}
 use Rattle.step_encode.specs.Coded.{CodedSteps}
@@ -148,7 +148,7 @@ module _ (steps : CodedSteps) (code : CodedLog) (counter : CounterState) (vars :
       ap axioms_of (is ∙ ap (λ b. first ++ b) whole ∙ sym (append_assoc first earlier later)) ∙ filter_map-append axiom_of (first ++ earlier) later ∙ ap (λ cs. cs ++ axioms_of later) (filter_map-append axiom_of first earlier ∙ ap (λ cs. cs ++ axioms_of earlier) (sym at_first))
 
   evidence : (bound : Option ℕ) (assumed : List Lit) → AreAssumptions code counter bound assumed → IsRefutation begun since steps.net log steps.steps bound assumed →
-      IsEvidence (whole_names steps code counter) begun since steps.net log steps.steps bound
+      IsEvidence (whole_meanings steps code counter) begun since steps.net log steps.steps bound
   evidence bound assumed assumptions refutation = record {
     assumed = assumed;
     refuted = refutation.refuted;
@@ -165,8 +165,8 @@ module _ (steps : CodedSteps) (code : CodedLog) (counter : CounterState) (vars :
     posed = subst (λ cs. IsPosed names cs assumed steps.net log steps.steps bound) (ap axioms_of is ∙ filter_map-append axiom_of first since ∙ ap (λ cs. cs ++ axioms_of since) (sym at_first)) posed;
   }
     where
-      names : List (ℕ × Name)
-      names = whole_names steps code counter
+      names : List (ℕ × Meaning)
+      names = whole_meanings steps code counter
 
       later : List BookEntry
       later = final refutation.refuted.clause refutation.refuted.hints ∷ refutation.refuted.later
@@ -176,7 +176,7 @@ module _ (steps : CodedSteps) (code : CodedLog) (counter : CounterState) (vars :
 
   -- with evidence below k, an explanation within k is least
   pub least_found : (k : ℕ) (best : Best) → k ≤ 255 → ((j : ℕ) → k ≡ suc j → IsRefutedAt code counter steps.net log steps.steps j begun since) → NeedsFaults steps.net log steps.steps k → IsExplanation steps.net log steps.steps best → best.faults ≤ k →
-      IsLeastFound (whole_names steps code counter) begun since steps.net log steps.steps best
+      IsLeastFound (whole_meanings steps code counter) begun since steps.net log steps.steps best
   least_found k best small below needs given within =
       let more = at_least steps.net log steps.steps k best needs given in
       let is : k ≡ best.faults = omega (arith, more, within) in record {
@@ -187,7 +187,7 @@ module _ (steps : CodedSteps) (code : CodedLog) (counter : CounterState) (vars :
       }
 
   pub many_found : (best : Best) → ((j : ℕ) → 256 ≡ suc j → IsRefutedAt code counter steps.net log steps.steps j begun since) → NeedsFaults steps.net log steps.steps 256 → IsExplanation steps.net log steps.steps best →
-      IsManyFound (whole_names steps code counter) begun since steps.net log steps.steps best
+      IsManyFound (whole_meanings steps code counter) begun since steps.net log steps.steps best
   many_found best below needs given = record {
     given = given;
     above = (let more = at_least steps.net log steps.steps 256 best needs given in omega (arith, more));
@@ -197,7 +197,7 @@ module _ (steps : CodedSteps) (code : CodedLog) (counter : CounterState) (vars :
 
   pub undecided_found : (k budget : ℕ) (best : Best) → IsValidBook book → count_by is_learnt since ≡ budget → FinalsAreBelow code counter k since →
       ((j : ℕ) → k ≡ suc j → IsRefutedAt code counter steps.net log steps.steps j begun since) → NeedsFaults steps.net log steps.steps k → IsExplanation steps.net log steps.steps best → k < best.faults →
-      IsUndecidedFound (whole_names steps code counter) begun since steps.net log steps.steps budget k (Some best)
+      IsUndecidedFound (whole_meanings steps code counter) begun since steps.net log steps.steps budget k (Some best)
   undecided_found k budget best whole spent finals below needs given more = record {
     spent = spent;
     above = needs;
@@ -212,12 +212,12 @@ module _ (steps : CodedSteps) (code : CodedLog) (counter : CounterState) (vars :
     unknown = tt;
   }
 
-  pub absent_found : IsRefusal code counter steps.net log steps.steps None begun since → IsAbsentFound (whole_names steps code counter) begun since steps.net log steps.steps
+  pub absent_found : IsRefusal code counter steps.net log steps.steps None begun since → IsAbsentFound (whole_meanings steps code counter) begun since steps.net log steps.steps
   absent_found refusal = record { absent = refusal.decided; evidence = evidence None refusal.assumed refusal.assumptions refusal.refuted }
 
   -- where nothing is known, and learnt entries alone were put
   pub nothing_found : (budget : ℕ) → count_by is_learnt since ≡ budget → list_all is_learnt since ≡ true →
-      IsUndecidedFound (whole_names steps code counter) begun since steps.net log steps.steps budget 0 None
+      IsUndecidedFound (whole_meanings steps code counter) begun since steps.net log steps.steps budget 0 None
   nothing_found budget spent all_learnt = record {
     spent = spent;
     above = λ word order explains. omega arith;
@@ -234,8 +234,8 @@ module _ (steps : CodedSteps) (code : CodedLog) (counter : CounterState) (vars :
   own : IsNetwork steps.net
   own = subst IsNetwork (sym of_net) network
 
-  found_as : (answer : Found) → HasFound (whole_names steps code counter) begun steps.net log steps.steps budget first book answer → HasFound (whole_names steps code counter) begun net log steps.steps budget first book answer
-  found_as answer = subst (λ net'. HasFound (whole_names steps code counter) begun net' log steps.steps budget first book answer) of_net
+  found_as : (answer : Found) → HasFound (whole_meanings steps code counter) begun steps.net log steps.steps budget first book answer → HasFound (whole_meanings steps code counter) begun net log steps.steps budget first book answer
+  found_as answer = subst (λ net'. HasFound (whole_meanings steps code counter) begun net' log steps.steps budget first book answer) of_net
 
   back : (k left : ℕ) → HasComeToBy code counter begun net log steps.steps k first book budget left → HasComeToBy code counter begun steps.net log steps.steps k first book budget left
   back k left = subst (λ net'. HasComeToBy code counter begun net' log steps.steps k first book budget left) (sym of_net)
@@ -244,7 +244,7 @@ module _ (steps : CodedSteps) (code : CodedLog) (counter : CounterState) (vars :
   given_back best = subst (λ net'. IsExplanation net' log steps.steps best) (sym of_net)
 
   -- what is assumed at a conflict poses the question
-  at_conflict : (bound : Option ℕ) (left : ℕ) → IsStopped code counter bound book left → HasConflict (whole_names steps code counter) book steps.net log steps.steps bound
+  at_conflict : (bound : Option ℕ) (left : ℕ) → IsStopped code counter bound book left → HasConflict (whole_meanings steps code counter) book steps.net log steps.steps bound
   at_conflict bound left stopped = record {
     assumed = stopped.assumed;
     posed = poses steps code counter vars (axioms_of book) bound stopped.assumed parts stopped.assumptions log own valid same;
@@ -252,7 +252,7 @@ module _ (steps : CodedSteps) (code : CodedLog) (counter : CounterState) (vars :
   }
 
   -- what is assumed reads as the guards and the bound
-  negates_assumed : (bound : Option ℕ) (assumed : List Lit) (clause : Clause) → AreAssumptions code counter bound assumed → NegatesOnly assumed clause → NegatesAssumed (whole_names steps code counter) steps.net log steps.steps clause
+  negates_assumed : (bound : Option ℕ) (assumed : List Lit) (clause : Clause) → AreAssumptions code counter bound assumed → NegatesOnly assumed clause → NegatesAssumed (whole_meanings steps code counter) steps.net log steps.steps clause
   negates_assumed bound assumed clause assumptions negates = record {
     bound = bound;
     assumed = assumed;
@@ -260,17 +260,17 @@ module _ (steps : CodedSteps) (code : CodedLog) (counter : CounterState) (vars :
     negates = negates;
   }
 
-  finals_below : (k : ℕ) (since : List BookEntry) → FinalsAreBelow code counter k since → FinalsNegate (whole_names steps code counter) since steps.net log steps.steps
+  finals_below : (k : ℕ) (since : List BookEntry) → FinalsAreBelow code counter k since → FinalsNegate (whole_meanings steps code counter) since steps.net log steps.steps
   finals_below k since finals clause hints there = let found = finals clause hints there in negates_assumed (Some found.0) found.2 clause found.3 found.4
 
-  finals_put : (bound : Option ℕ) (since : List BookEntry) (what : Asked) → ArePut code counter bound since what → FinalsNegate (whole_names steps code counter) since steps.net log steps.steps
+  finals_put : (bound : Option ℕ) (since : List BookEntry) (what : Asked) → ArePut code counter bound since what → FinalsNegate (whole_meanings steps code counter) since steps.net log steps.steps
   finals_put bound since what put clause hints there = let found = put.finals clause hints there in negates_assumed bound found.0 clause found.1 found.2
 
   nothing_left : (count left : ℕ) → count + left ≡ budget → left ≡ 0 → count ≡ budget
   nothing_left count left paid none = omega (arith, paid, none)
 
   pub answers_least : (k left : ℕ) (best : Best) → k ≤ 255 → HasComeToBy code counter begun net log steps.steps k first book budget left → IsExplanation net log steps.steps best → best.faults ≤ k →
-      HasFound (whole_names steps code counter) begun net log steps.steps budget first book (Explained best)
+      HasFound (whole_meanings steps code counter) begun net log steps.steps budget first book (Explained best)
   answers_least k left best small come given within =
       let here = back k left come in
       found_as (Explained best) (record {
@@ -285,7 +285,7 @@ module _ (steps : CodedSteps) (code : CodedLog) (counter : CounterState) (vars :
       })
 
   pub answers_many : (left : ℕ) (best : Best) → HasComeToBy code counter begun net log steps.steps 256 first book budget left → IsExplanation net log steps.steps best →
-      HasFound (whole_names steps code counter) begun net log steps.steps budget first book (Many best)
+      HasFound (whole_meanings steps code counter) begun net log steps.steps budget first book (Many best)
   answers_many left best come given =
       let here = back 256 left come in
       found_as (Many best) (record {
@@ -300,7 +300,7 @@ module _ (steps : CodedSteps) (code : CodedLog) (counter : CounterState) (vars :
       })
 
   pub answers_undecided : (k : ℕ) (best : Best) → IsValidBook book → HasComeToBy code counter begun net log steps.steps k first book budget 0 → IsStopped code counter (Some k) book 0 → IsExplanation net log steps.steps best → k < best.faults →
-      HasFound (whole_names steps code counter) begun net log steps.steps budget first book (Undecided k (Some best))
+      HasFound (whole_meanings steps code counter) begun net log steps.steps budget first book (Undecided k (Some best))
   answers_undecided k best whole come stopped given more =
       let here = back k 0 come in
       found_as (Undecided k (Some best)) (record {
@@ -314,7 +314,7 @@ module _ (steps : CodedSteps) (code : CodedLog) (counter : CounterState) (vars :
         found = undecided_found steps code counter vars log first book here.since here.whole parts own valid same begun at_first k budget best whole (omega (arith, here.paid)) here.finals here.below here.needs (given_back best given) more;
       })
 
-  pub answers_absent : (left : ℕ) → HasAskedBy code counter begun net log steps.steps None first book budget left asked.Refuted → HasFound (whole_names steps code counter) begun net log steps.steps budget first book Absent
+  pub answers_absent : (left : ℕ) → HasAskedBy code counter begun net log steps.steps None first book budget left asked.Refuted → HasFound (whole_meanings steps code counter) begun net log steps.steps budget first book Absent
   answers_absent left asked' =
       let here = subst (λ net'. HasAskedBy code counter begun net' log steps.steps None first book budget left asked.Refuted) (sym of_net) asked' in
       found_as Absent (record {
@@ -328,7 +328,7 @@ module _ (steps : CodedSteps) (code : CodedLog) (counter : CounterState) (vars :
         found = absent_found steps code counter vars log first book here.since here.whole parts own valid same begun at_first here.means;
       })
 
-  pub answers_nothing : (left : ℕ) → HasAskedBy code counter begun net log steps.steps None first book budget left asked.Spent → HasFound (whole_names steps code counter) begun net log steps.steps budget first book (Undecided 0 None)
+  pub answers_nothing : (left : ℕ) → HasAskedBy code counter begun net log steps.steps None first book budget left asked.Spent → HasFound (whole_meanings steps code counter) begun net log steps.steps budget first book (Undecided 0 None)
   answers_nothing left asked' =
       found_as (Undecided 0 None) (record {
         since = asked'.since;

@@ -26,7 +26,7 @@ use Rattle.prop_core.specs.Clauses.{Clause, HasValues}
 use Rattle.prop_core.specs.Trail.{Clashes}
 use Rattle.replay.specs.QuestionSize.{variable_bound}
 use Rattle.run_decode.specs.QuestionAxioms.{BuiltQuestion}
-use Rattle.prop_core.specs.VariableNames.{Name}
+use Rattle.prop_core.specs.VariableNames.{Meaning}
 use Rattle.prop_core.specs.declared.lit.Lit.{Lit}
 use Rattle.least_faults.specs.declared.parts.Parts.{Parts}
 use Rattle.least_faults.specs.Asking.{IsSearching}
@@ -37,7 +37,7 @@ use Rattle.run_decode.proofs.Faults.{count_append}
 same_front : (first : List Clause) (front entries : List BookEntry) → list_all is_learnt front ≡ true → first ++ axioms_of entries ≡ first ++ axioms_of (front ++ entries)
 same_front first front entries all_learnt = ap (λ cs. first ++ cs) (sym (filter_map-append axiom_of front entries ∙ ap (λ cs. cs ++ axioms_of entries) (learnt_no_axioms front all_learnt)))
 
-evidence_later : (names : List (ℕ × Name)) (first : BuiltQuestion) (front since : List BookEntry) (net : Net) (log : Log) (n : ℕ) (bound : Option ℕ) → list_all is_learnt front ≡ true → AllByRecursion (HasValues first.vars) (clauses_of front) → IsEvidence names first since net log n bound →
+evidence_later : (names : List (ℕ × Meaning)) (first : BuiltQuestion) (front since : List BookEntry) (net : Net) (log : Log) (n : ℕ) (bound : Option ℕ) → list_all is_learnt front ≡ true → AllByRecursion (HasValues first.vars) (clauses_of front) → IsEvidence names first since net log n bound →
     IsEvidence names first (front ++ since) net log n bound
 evidence_later names first front since net log n bound all_learnt front_known shown = record {
   assumed = shown.assumed;
@@ -78,7 +78,7 @@ final_later front since assumed all_learnt has = record { clause = has.clause; h
     by (inr here) = here
 
 -- learnt entries are no final ones
-finals_later : (names : List (ℕ × Name)) (front since : List BookEntry) (net : Net) (log : Log) (n : ℕ) → list_all is_learnt front ≡ true → FinalsNegate names since net log n → FinalsNegate names (front ++ since) net log n
+finals_later : (names : List (ℕ × Meaning)) (front since : List BookEntry) (net : Net) (log : Log) (n : ℕ) → list_all is_learnt front ≡ true → FinalsNegate names since net log n → FinalsNegate names (front ++ since) net log n
 finals_later names front since net log n all_learnt finals clause hints there = by (append_cases front since (final clause hints) there)
   where
     by : Contains front (final clause hints) ⊎ Contains since (final clause hints) → NegatesAssumed names net log n clause
@@ -86,7 +86,7 @@ finals_later names front since net log n all_learnt finals clause hints there = 
     by (inr here) = finals clause hints here
 
 -- what was found holds too where learnt entries came before
-is_found_later : (names : List (ℕ × Name)) (first : BuiltQuestion) (front since : List BookEntry) (net : Net) (log : Log) (n budget left : ℕ) (answer : Found) → list_all is_learnt front ≡ true → AllByRecursion (HasValues first.vars) (clauses_of front) → count_by is_learnt front + left ≡ budget →
+is_found_later : (names : List (ℕ × Meaning)) (first : BuiltQuestion) (front since : List BookEntry) (net : Net) (log : Log) (n budget left : ℕ) (answer : Found) → list_all is_learnt front ≡ true → AllByRecursion (HasValues first.vars) (clauses_of front) → count_by is_learnt front + left ≡ budget →
     IsFound names first since net log n left answer → IsFound names first (front ++ since) net log n budget answer
 is_found_later names first front since net log n budget left (Explained best) all_learnt known paid is =
     record { given = is.given; few = is.few; least = is.least; evidence = λ b faults. evidence_later names first front since net log n (Some b) all_learnt known (is.evidence b faults) }
@@ -106,7 +106,7 @@ is_found_later names first front since net log n budget left (Undecided lo best)
     none None alone = (alone.0, list_all-append is_learnt front since ∙ ap (λ b. b && list_all is_learnt since) all_learnt ∙ alone.1)
     none (Some run) alone = tt
 
-pub found_later : (names : List (ℕ × Name)) (begun now : BuiltQuestion) (net : Net) (log : Log) (n budget left : ℕ) (old mid new front : List BookEntry) (answer : Found) → now ≡ begun → AllByRecursion (HasValues (built_within begun None).vars) (clauses_of mid) → mid ≡ old ++ front → ((number : ℕ) → count_by (is_mark number) front ≡ 0) → list_all is_learnt front ≡ true →
+pub found_later : (names : List (ℕ × Meaning)) (begun now : BuiltQuestion) (net : Net) (log : Log) (n budget left : ℕ) (old mid new front : List BookEntry) (answer : Found) → now ≡ begun → AllByRecursion (HasValues (built_within begun None).vars) (clauses_of mid) → mid ≡ old ++ front → ((number : ℕ) → count_by (is_mark number) front ≡ 0) → list_all is_learnt front ≡ true →
     count_by is_learnt front + left ≡ budget → HasFound names now net log n left mid new answer → HaveLearntFresh old front → HasFound names begun net log n budget old new answer
 found_later names begun now net log n budget left old mid new front answer same mid_known whole unmarked all_learnt paid found fresh = record {
   since = front ++ found.since;
@@ -179,7 +179,7 @@ grown_closed budget old searched new ends grown = record {
 }
 
 -- a conflict stays one
-conflict_closed : (names : List (ℕ × Name)) (book new : List BookEntry) (number : ℕ) (net : Net) (log : Log) (n : ℕ) (answer : Found) → new ≡ book ++ mark number ∷ [] → HasConflictFor names book net log n answer → HasConflictFor names new net log n answer
+conflict_closed : (names : List (ℕ × Meaning)) (book new : List BookEntry) (number : ℕ) (net : Net) (log : Log) (n : ℕ) (answer : Found) → new ≡ book ++ mark number ∷ [] → HasConflictFor names book net log n answer → HasConflictFor names new net log n answer
 conflict_closed names book new number net log n (Explained best) is has = tt
 conflict_closed names book new number net log n Absent is has = tt
 conflict_closed names book new number net log n (Many best) is has = tt
@@ -190,7 +190,7 @@ conflict_closed names book new number net log n (Undecided lo best) is has = rec
 }
 
 -- a search between marks is an answer
-pub answered : (names : List (ℕ × Name)) (begun now : BuiltQuestion) (net : Net) (log : Log) (n budget : ℕ) (old opened searched new : List BookEntry) (answer : Found) → begun.axioms ≡ axioms_of old → now ≡ begun → opened ≡ old ++ mark 0 ∷ [] → new ≡ searched ++ mark 1 ∷ [] →
+pub answered : (names : List (ℕ × Meaning)) (begun now : BuiltQuestion) (net : Net) (log : Log) (n budget : ℕ) (old opened searched new : List BookEntry) (answer : Found) → begun.axioms ≡ axioms_of old → now ≡ begun → opened ≡ old ++ mark 0 ∷ [] → new ≡ searched ++ mark 1 ∷ [] →
     length names ≤ variable_bound net log n → ((assumed : List Lit) × IsPosed names (axioms_of searched) assumed net log n None) → HasFound names now net log n budget opened searched answer → IsAnswered names begun net log n budget old new answer
 answered names begun now net log n budget old opened searched new answer at_first same begins ends few asks found = record {
   begun = at_first;

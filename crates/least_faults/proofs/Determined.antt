@@ -12,7 +12,7 @@ use Rattle.least_faults.specs.LogCoding.{AreBuiltBy, alarms_added, pairs_added, 
 use Rattle.log_clauses.specs.Additions.{Addition, alarm_added, pair_added}
 use Rattle.log_encode.proofs.WrittenLemmas.{draft_is_built, first_is_built}
 use Rattle.log_encode.specs.BuiltLog.{added_written, built_empty, built_log, built_with, first_written}
-use Rattle.log_encode.specs.CodedLog.{CodedLog, IsCodedLog, code_after, empty_code, nameless, read_names, without_names}
+use Rattle.log_encode.specs.CodedLog.{CodedLog, IsCodedLog, code_after, empty_code, nameless, read_meanings, without_names}
 use Rattle.log_encode.specs.Drafted.{DraftState, IsDraftOf}
 use Rattle.log_encode.specs.WrittenLog.{AppendsFirst}
 use Rattle.log_order.specs.Log.{Log, Alarm}
@@ -23,7 +23,7 @@ use Rattle.prop_core.specs.declared.lit.Lit.{Lit}
 use Rattle.run_decode.proofs.Built.{question_begins}
 use Rattle.run_decode.specs.QuestionAxioms.{column_built, question_built, steps_built}
 use Rattle.run_decode.specs.WholeNaming.{AreInputs}
-use Rattle.step_encode.specs.Coded.{CodedSteps, code_names as step_names, code_grid, variable_count, AppendsSteps}
+use Rattle.step_encode.specs.Coded.{CodedSteps, code_meanings, code_grid, variable_count, AppendsSteps}
 
 -- ---- a log
 
@@ -84,7 +84,7 @@ pair_built pairs i first one second draft old mid new old_clauses mid_clauses ne
 
 -- the whole log
 pub log_is_built : (net : Net) (grid : Grid) (vars : ℕ) (log : Log) (code with_alarms with_pairs : CodedLog) (none first alarms_clauses clauses : List Clause) → code ≡ empty_code net grid vars → IsCodedLog code → none ≡ [] →
-    AppendsFirst net grid.steps (read_names (empty_code net grid vars)) none first → AreBuiltBy (alarms_added (without_names log).alarms) code first with_alarms alarms_clauses → AreBuiltBy (pairs_added log.pairs) with_alarms alarms_clauses with_pairs clauses →
+    AppendsFirst net grid.steps (read_meanings (empty_code net grid vars)) none first → AreBuiltBy (alarms_added (without_names log).alarms) code first with_alarms alarms_clauses → AreBuiltBy (pairs_added log.pairs) with_alarms alarms_clauses with_pairs clauses →
     written_of with_pairs clauses ≡ built_log net grid vars (without_names log)
 log_is_built net grid vars log code with_alarms with_pairs none first alarms_clauses clauses is coded empty appended alarms pairs =
     built_further (alarms_added (without_names log).alarms) (pairs_added log.pairs) code with_alarms with_pairs first alarms_clauses clauses alarms pairs
@@ -100,13 +100,13 @@ log_is_built net grid vars log code with_alarms with_pairs none first alarms_cla
 
 -- steps and log, and a counter without columns
 pub question_begun : (net : Net) (log : Log) (n : ℕ) (steps : CodedSteps) (code : CodedLog) (grid : Grid) (made vars : ℕ) (none stepped written : List Clause) (inputs : List Lit) (counter : CounterState) →
-    steps ≡ steps_built net n → grid ≡ code_grid steps → made ≡ variable_count net n → none ≡ [] → AppendsSteps net n (step_names steps) none stepped → IsCodedLog code → written_of code written ≡ built_log net grid made (without_names log) →
+    steps ≡ steps_built net n → grid ≡ code_grid steps → made ≡ variable_count net n → none ≡ [] → AppendsSteps net n (code_meanings steps) none stepped → IsCodedLog code → written_of code written ≡ built_log net grid made (without_names log) →
     AreInputs steps code inputs → counter ≡ without_columns inputs → code.vars ≡ vars →
     record { steps = steps; code = code; counter = counter; vars = vars; axioms = stepped ++ written } ≡ question_built net log n 0
 question_begun net log n steps code grid made vars none stepped written inputs counter is beside count empty appended coded built are counts same =
     (λ i. record { steps = is i; code = code; counter = counts i; vars = sym same i; axioms = stepped ++ written })
     ∙ question_begins net log n code stepped written inputs
-    (subst (λ (s : CodedSteps). AppendsSteps net n (step_names s) [] stepped) is (subst (λ cs. AppendsSteps net n (step_names steps) cs stepped) empty appended)) coded
+    (subst (λ (s : CodedSteps). AppendsSteps net n (code_meanings s) [] stepped) is (subst (λ cs. AppendsSteps net n (code_meanings steps) cs stepped) empty appended)) coded
     (built ∙ ap (λ (g : Grid). built_log net g made (without_names log)) (beside ∙ ap code_grid is) ∙ ap (λ first. built_log net (code_grid (steps_built net n)) first (without_names log)) count)
     (subst (λ (s : CodedSteps). AreInputs s code inputs) is are)
 

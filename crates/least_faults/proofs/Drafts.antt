@@ -24,10 +24,10 @@ use Rattle.least_faults.specs.Parts.{AreParts}
 use Rattle.log_clauses.specs.Additions.{Addition, alarm_added, pair_added, with_addition}
 use Rattle.log_clauses.specs.Drafts.{added_clauses, added_list}
 use Rattle.log_clauses.specs.LogClauses.{log_clause}
-use Rattle.log_clauses.specs.LogNames.{alarm_names, false_names, match_chains}
+use Rattle.log_clauses.specs.LogNames.{alarm_meanings, false_meanings, match_chains}
 use Rattle.log_clauses.specs.Drafts.{taken_events}
 use Rattle.log_encode.proofs.CodeLemmas.{beside}
-use Rattle.log_encode.specs.CodedLog.{CodedLog, addition_width, code_after, read_names}
+use Rattle.log_encode.specs.CodedLog.{CodedLog, addition_width, code_after, read_meanings}
 use Rattle.log_encode.specs.Drafted.{DraftState, IsDraftOf}
 use Rattle.log_order.specs.Log.{Alarm}
 use Rattle.proof_ledger.specs.Book.{BookEntry, axiomatic, axioms_of, clauses_of}
@@ -52,9 +52,9 @@ one_wide : (code : CodedLog) (new : Alarm) → new.doubtful ≡ true → 1 ≤ a
 one_wide code new h =
     let i = length code.log.alarms in
     let chains = match_chains code.grid.steps i (length (taken_events code.net code.log new)) in
-    let whole = length-append (alarm_names code.net code.log code.grid.steps new) (chains ++ false_names new.doubtful i) in
-    let both = length-append chains (false_names new.doubtful i) in
-    let one : length (false_names new.doubtful i) ≡ 1 = ap (λ b. length (false_names b i)) h in
+    let whole = length-append (alarm_meanings code.net code.log code.grid.steps new) (chains ++ false_meanings new.doubtful i) in
+    let both = length-append chains (false_meanings new.doubtful i) in
+    let one : length (false_meanings new.doubtful i) ≡ 1 = ap (λ b. length (false_meanings b i)) h in
     omega (arith, whole, both, one)
 
 -- as the addition says, on the variables after its own
@@ -142,17 +142,17 @@ module _ (steps : CodedSteps) (code : CodedLog) (counter : CounterState) (vars :
       omega (arith, width, few)
 
   -- its clauses are those of the listing
-  pub draft_written : draft.clauses ≡ written_by (read_names (code_after code draft.addition vars)) (added_list code.net code.log code.grid.steps draft.addition)
+  pub draft_written : draft.clauses ≡ written_by (read_meanings (code_after code draft.addition vars)) (added_list code.net code.log code.grid.steps draft.addition)
   draft_written =
       let fit = variables_fit in
       let width = is.width in
       let grown = (together_grow steps code counter vars parts.together parts.above parts.made).by_addition draft.addition (omega (arith, fit, width)) in
-      listed_are_written (read_names (code_after code draft.addition vars)) (added_list code.net code.log code.grid.steps draft.addition) draft.clauses (beside (code_after code draft.addition vars) grown.beside.logged).once is.listed
+      listed_are_written (read_meanings (code_after code draft.addition vars)) (added_list code.net code.log code.grid.steps draft.addition) draft.clauses (beside (code_after code draft.addition vars) grown.beside.logged).once is.listed
 
   -- as many clauses as are listed
   pub draft_size : length draft.clauses ≡ length (added_clauses code.net code.log code.grid.steps draft.addition)
   draft_size =
-      sym (length-map draft.clauses (named_clause (read_names (code_after code draft.addition vars))))
+      sym (length-map draft.clauses (named_clause (read_meanings (code_after code draft.addition vars))))
       ∙ ap length is.listed
       ∙ length-map (added_list code.net code.log code.grid.steps draft.addition) (λ named. Some named)
       ∙ length-map (added_clauses code.net code.log code.grid.steps draft.addition) (log_clause code.net (with_addition code.log draft.addition) code.grid.steps)

@@ -16,7 +16,7 @@ use Rattle.log_encode.specs.CodedLog.{addition_width}
 use Rattle.log_order.specs.Log.{Log}
 use Rattle.proof_ledger.specs.Book.{BookEntry, final, axioms_of, clauses_of}
 use Rattle.prop_core.specs.Clauses.{HasValues}
-use Rattle.prop_core.specs.VariableNames.{Name}
+use Rattle.prop_core.specs.VariableNames.{Meaning}
 use Rattle.prop_core.specs.declared.lit.Lit.{Lit}
 use Rattle.run_decode.specs.QuestionAxioms.{BuiltQuestion, added_built, column_built, roomless}
 use Rattle.run_decode.specs.WholeNaming.{false_input}
@@ -58,7 +58,7 @@ room_roomless old new old_book new_book kept =
 within_roomless : (question : BuiltQuestion) (bound : Option ℕ) → roomless (built_within question bound) ≡ built_within (roomless question) bound
 within_roomless question bound = columns_roomless question (columns_for bound - length question.counter.columns)
 
-module _ (names : List (ℕ × Name)) (first : BuiltQuestion) (since : List BookEntry) (net : Net) (log : Log) (n : ℕ) where
+module _ (names : List (ℕ × Meaning)) (first : BuiltQuestion) (since : List BookEntry) (net : Net) (log : Log) (n : ℕ) where
   evidence_roomless : (bound : Option ℕ) → IsEvidence names first since net log n bound → IsEvidence names (roomless first) since net log n bound
   evidence_roomless bound is =
       let same = within_roomless first bound in
@@ -85,7 +85,7 @@ module _ (names : List (ℕ × Name)) (first : BuiltQuestion) (since : List Book
     unknown = is.unknown;
   }
 
-pub answered_roomless : (names : List (ℕ × Name)) (first : BuiltQuestion) (net : Net) (log : Log) (n budget : ℕ) (old new : List BookEntry) (answer : Found) → IsAnswered names first net log n budget old new answer →
+pub answered_roomless : (names : List (ℕ × Meaning)) (first : BuiltQuestion) (net : Net) (log : Log) (n budget : ℕ) (old new : List BookEntry) (answer : Found) → IsAnswered names first net log n budget old new answer →
     IsAnswered names (roomless first) net log n budget old new answer
 answered_roomless names first net log n budget old new answer is = record {
   begun = is.begun;

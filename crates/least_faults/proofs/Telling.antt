@@ -13,14 +13,14 @@ use Rattle.log_clauses.specs.LogClauses.{guard_literals, chain, observable_event
 use Rattle.log_encode.specs.CodedLog.{CodedLog, without_names}
 use Rattle.log_order.specs.Log.{Log, IsValidLog}
 use Rattle.prop_core.specs.Clauses.{Clause, negation, NegatesOnly}
-use Rattle.prop_core.specs.VariableNames.{Name, reaches, closed, NamedLiteral, yes, no, named_literal, named_clause, ReadsAs}
+use Rattle.prop_core.specs.VariableNames.{Meaning, reaches, closed, NamedLiteral, yes, no, named_literal, named_clause, ReadsAs}
 use Rattle.prop_core.specs.declared.lit.Lit.{Lit}
 use Rattle.replay.specs.Explanation.{IsExplained}
 use Rattle.run_decode.proofs.Decided.{refuted_is_decided}
 use Rattle.run_decode.proofs.WholeNames.{together_one_naming}
 use Rattle.run_decode.specs.Decided.{Entails}
 use Rattle.run_decode.specs.Drawn.{at_most, bound_literals, assumption_literals, fault_inputs}
-use Rattle.run_decode.specs.WholeNaming.{whole_names}
+use Rattle.run_decode.specs.WholeNaming.{whole_meanings}
 use Rattle.std.proofs.lemmas.List.Elements.{Contains-append_cases as append_cases}
 use Rattle.step_encode.specs.Coded.{CodedSteps}
 
@@ -49,12 +49,12 @@ split_negates assumed x (l ∷ clause) negates = by (append_cases assumed (x ∷
 
 -- ---- a literal that is assumed, by name
 
-record IsNamedIn (names : List (ℕ × Name)) (read : List NamedLiteral) (l : Lit) : Type 0 where
+record IsNamedIn (names : List (ℕ × Meaning)) (read : List NamedLiteral) (l : Lit) : Type 0 where
   m : NamedLiteral
   literal : named_literal names l ≡ Some m
   there : Contains read m
 
-named_in : (names : List (ℕ × Name)) (clause : Clause) (read : List NamedLiteral) (l : Lit) → named_clause names clause ≡ Some read → Contains clause l → IsNamedIn names read l
+named_in : (names : List (ℕ × Meaning)) (clause : Clause) (read : List NamedLiteral) (l : Lit) → named_clause names clause ≡ Some read → Contains clause l → IsNamedIn names read l
 named_in names [] read l h in' = absurd (none_in_nil l in')
 named_in names (x ∷ clause) read l h in' = by (cons_cases x clause l in') (λ later. named_in names clause parts.rest l parts.later later)
   where
@@ -79,10 +79,10 @@ bound_among net log n i j b in' = by (append_cases (guard_literals net log) (bou
     positive_not : (m : NamedLiteral) → m.positive ≡ true → m ≡ no (reaches i (suc j)) → ⊥
     positive_not m sign is = let other : m.positive ≡ false = ap (λ (x : NamedLiteral). x.positive) is in cc
 
-    same_reach : (x y : Name) → no x ≡ no y → x ≡ y
-    same_reach x y h = ap (λ (m : NamedLiteral). m.name) h
+    same_reach : (x y : Meaning) → no x ≡ no y → x ≡ y
+    same_reach x y h = ap (λ (m : NamedLiteral). m.meaning) h
 
-    number_of : Name → ℕ
+    number_of : Meaning → ℕ
     number_of (reaches a k) = k
     number_of other = 0
 
@@ -101,14 +101,14 @@ bound_among net log n i j b in' = by (append_cases (guard_literals net log) (bou
 -- ---- the bound that a final clause refutes
 
 module _ (steps : CodedSteps) (code : CodedLog) (counter : CounterState) (vars : ℕ) (axioms : List Clause) (parts : AreParts steps code counter vars axioms) where
-  called : (j : ℕ) → j < length counter.columns → named_literal (whole_names steps code counter) (bound_literal counter j) ≡ Some (no (reaches (suc (length counter.inputs - 1)) (suc j)))
+  called : (j : ℕ) → j < length counter.columns → named_literal (whole_meanings steps code counter) (bound_literal counter j) ≡ Some (no (reaches (suc (length counter.inputs - 1)) (suc j)))
   called j less =
       let some = parts.together.counted.filled (omega (arith, less)) in
-      let name = (together_one_naming steps code counter parts.together).of_counter.called (length counter.inputs - 1) j (record { input = omega (arith, some); column = less }) in
-      ap (λ o. option_map (λ (name' : Name). let m : NamedLiteral = record { name = name'; positive = false } in m) o) name
+      let meaning = (together_one_naming steps code counter parts.together).of_counter.called (length counter.inputs - 1) j (record { input = omega (arith, some); column = less }) in
+      ap (λ o. option_map (λ (meaning' : Meaning). let m : NamedLiteral = record { meaning = meaning'; positive = false } in m) o) meaning
 
   pub tells_bound : (log : Log) (j b faults : ℕ) (first second : List Lit) (clause : Clause) → IsNetwork steps.net → IsValidLog log → code.log ≡ without_names log →
-      AreAssumptions code counter (Some j) first → NegatesOnly first clause → ReadsAs (whole_names steps code counter) second (assumption_literals steps.net log steps.steps (Some b)) → NegatesOnly second clause →
+      AreAssumptions code counter (Some j) first → NegatesOnly first clause → ReadsAs (whole_meanings steps code counter) second (assumption_literals steps.net log steps.steps (Some b)) → NegatesOnly second clause →
       Entails axioms clause → IsExplained steps.net log steps.steps faults → j ≡ b
   tells_bound log j b faults first second clause network valid same assumptions negates reads others entails explained =
       by (split_negates assumptions.guards (bound_literal counter j) clause (subst (λ xs. NegatesOnly xs clause) assumptions.whole negates))
@@ -122,6 +122,6 @@ module _ (steps : CodedSteps) (code : CodedLog) (counter : CounterState) (vars :
           absurd (refuted_is_decided steps.net log steps.steps None axioms assumptions.guards clause posed.faithful entails guards explained.word explained.order explained.explains)
       by (inr found) =
           let in' = subst (λ x. Contains second x) found.is (all_at (λ l. Contains second (negation l)) clause others found.l found.there) in
-          let named = named_in (whole_names steps code counter) second reads.read (bound_literal counter j) reads.by_name in' in
+          let named = named_in (whole_meanings steps code counter) second reads.read (bound_literal counter j) reads.by_name in' in
           let is = some_same named.m (no (reaches (suc (length counter.inputs - 1)) (suc j))) (sym named.literal ∙ called j assumptions.column) in
           bound_among steps.net log steps.steps (suc (length counter.inputs - 1)) j b ((reads.same (no (reaches (suc (length counter.inputs - 1)) (suc j)))).0 (subst (λ m. Contains reads.read m) is named.there))

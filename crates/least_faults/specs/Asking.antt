@@ -11,7 +11,7 @@ use Rattle.least_faults.specs.Answers.{HaveLearntFresh, IsExplanation}
 use Rattle.least_faults.specs.Columns.{built_within, columns_for}
 use Rattle.least_faults.specs.Evidence.{IsPosed, is_final, IsRefutation}
 use Rattle.log_clauses.specs.LogClauses.{guard_literals}
-use Rattle.log_encode.specs.CodedLog.{CodedLog, read_names, without_names}
+use Rattle.log_encode.specs.CodedLog.{CodedLog, read_meanings, without_names}
 use Rattle.log_order.specs.Log.{Log, IsValidLog}
 use Rattle.proof_ledger.specs.Book.{BookEntry, final, clauses_of, is_mark}
 use Rattle.proof_ledger.specs.Fresh.{is_learnt}
@@ -23,7 +23,7 @@ use Rattle.prop_core.specs.declared.lit.Lit.{Lit}
 use Rattle.run_decode.specs.Decided.{Decides}
 use Rattle.run_decode.specs.Faithful.{IsWithin}
 use Rattle.run_decode.specs.QuestionAxioms.{BuiltQuestion}
-use Rattle.run_decode.specs.WholeNaming.{AreClausesOf, whole_names}
+use Rattle.run_decode.specs.WholeNaming.{AreClausesOf, whole_meanings}
 use Rattle.step_encode.specs.Coded.{CodedSteps}
 
 -- ---- what is assumed
@@ -36,13 +36,13 @@ bound_part counter (Some k) = bound_literal counter k ∷ []
 -- the guards of the log, and the counter's literal for the bound
 pub record AreAssumptions (code : CodedLog) (counter : CounterState) (bound : Option ℕ) (assumed : List Lit) : Type 0 where
   pub guards : List Lit
-  pub read : ReadsAs (read_names code) guards (guard_literals code.net code.log)
+  pub read : ReadsAs (read_meanings code) guards (guard_literals code.net code.log)
   pub whole : assumed ≡ guards ++ bound_part counter bound
   pub column : IfSome bound (λ k. k < length counter.columns)
 
 -- guards and bound as literals, in their order
 abbrev pub assumed_by : CodedLog → CounterState → Option ℕ → List Lit
-assumed_by code counter bound = map (literal_by (read_names code)) (guard_literals code.net code.log) ++ bound_part counter bound
+assumed_by code counter bound = map (literal_by (read_meanings code)) (guard_literals code.net code.log) ++ bound_part counter bound
 
 -- What is assumed is this list, and the counter has got the columns that the bound needs.
 pub record AreAssumed {R : Type 0} (before : CounterState) (parts : Parts R) (bound : Option ℕ) (assumed : List Lit) : Type 0 where
@@ -58,14 +58,14 @@ pub record IsBoundable (counter : CounterState) (k : ℕ) : Type 0 where
 -- Together with the axioms they ask which explanations there are within the bound, whatever the names of the log's alarms.
 abbrev pub Pose : CodedSteps → CodedLog → CounterState → List Clause → Option ℕ → List Lit → Type 0
 Pose steps code counter axioms bound assumed = (log : Log) → IsNetwork steps.net → IsValidLog log → code.log ≡ without_names log →
-    IsPosed (whole_names steps code counter) axioms assumed steps.net log steps.steps bound
+    IsPosed (whole_meanings steps code counter) axioms assumed steps.net log steps.steps bound
 
 -- The counter has a column for the bound, and keeps those that it had. The literal is the counter's for it, and together with the guards it poses the question within the bound, with whatever list has the clauses of the parts.
 pub record IsBoundLiteral {R : Type 0} (before : CounterState) (parts : Parts R) (k : ℕ) (literal : Lit) : Type 0 where
   pub columns : length parts.counter.columns ≡ max (length before.columns) (k + 1)
   pub literal_is : literal ≡ bound_literal parts.counter k
   pub posed : (own : List Clause) → AreClausesOf parts.step parts.code.code parts.counter own →
-      (guards : List Lit) → ReadsAs (read_names parts.code.code) guards (guard_literals parts.code.code.net parts.code.code.log) →
+      (guards : List Lit) → ReadsAs (read_meanings parts.code.code) guards (guard_literals parts.code.code.net parts.code.code.log) →
       Pose parts.step parts.code.code parts.counter own (Some k) (guards ++ literal ∷ [])
 
 -- ---- what is put down

@@ -6,10 +6,10 @@ use Rattle.least_faults.specs.declared.answer.Best.{Best}
 use Rattle.least_faults.specs.declared.answer.Found.TheVariants.{Undecided}
 use Rattle.log_order.specs.Log.{Log}
 use Rattle.proof_ledger.specs.Book.{BookEntry}
-use Rattle.prop_core.specs.VariableNames.{Name}
+use Rattle.prop_core.specs.VariableNames.{Meaning}
 use Rattle.replay.specs.QuestionSize.{variable_bound}
 use Rattle.run_decode.specs.QuestionAxioms.{BuiltQuestion}
 
 -- Where it is undecided, the budget is below 3 to the bound on the question's variables.
 abbrev pub UndecidedIsSmall : Type 0
-UndecidedIsSmall = (names : List (ℕ × Name)) (first : BuiltQuestion) (net : Net) (log : Log) (n budget lo : ℕ) (best : Option Best) (old new : List BookEntry) → IsAnswered names first net log n budget old new (Undecided lo best) → budget < 3 ^ variable_bound net log n
+UndecidedIsSmall = (names : List (ℕ × Meaning)) (first : BuiltQuestion) (net : Net) (log : Log) (n budget lo : ℕ) (best : Option Best) (old new : List BookEntry) → IsAnswered names first net log n budget old new (Undecided lo best) → budget < 3 ^ variable_bound net log n

@@ -6,14 +6,14 @@ use Rattle.least_faults.specs.Columns.{built_within}
 use Rattle.log_order.specs.Log.{Log}
 use Rattle.proof_ledger.specs.Book.{BookEntry, axiomatic, learnt, final, mark, axioms_of, clauses_of}
 use Rattle.prop_core.specs.Clauses.{Clause, HasValues, NegatesOnly}
-use Rattle.prop_core.specs.VariableNames.{Name, HasEachOnce, ReadsAs}
+use Rattle.prop_core.specs.VariableNames.{Meaning, HasEachOnce, ReadsAs}
 use Rattle.prop_core.specs.declared.lit.Lit.{Lit}
 use Rattle.run_decode.specs.Drawn.{IsInstance, assumption_literals}
 use Rattle.run_decode.specs.Faithful.{IsFaithful}
 use Rattle.run_decode.specs.QuestionAxioms.{BuiltQuestion}
 
 -- By these names clauses and assumptions ask which explanations there are within the bound: they are faithful, each clause is of a family, and what is assumed are, as a set, the guards and the bound.
-pub record IsPosed (names : List (ℕ × Name)) (clauses : List Clause) (assumed : List Lit) (net : Net) (log : Log) (n : ℕ) (bound : Option ℕ) : Type 0 where
+pub record IsPosed (names : List (ℕ × Meaning)) (clauses : List Clause) (assumed : List Lit) (net : Net) (log : Log) (n : ℕ) (bound : Option ℕ) : Type 0 where
   pub faithful : IsFaithful clauses assumed net log n bound
   pub once : HasEachOnce names
   pub instances : AllByRecursion (IsInstance net log n names) clauses
@@ -34,14 +34,14 @@ pub record HasFinal (entries : List BookEntry) (assumed : List Lit) : Type 0 whe
   pub negates : NegatesOnly assumed clause
 
 -- the clause has no literals but negations of what is assumed by these names: of the guards, and of some bound
-pub record NegatesAssumed (names : List (ℕ × Name)) (net : Net) (log : Log) (n : ℕ) (clause : Clause) : Type 0 where
+pub record NegatesAssumed (names : List (ℕ × Meaning)) (net : Net) (log : Log) (n : ℕ) (clause : Clause) : Type 0 where
   pub bound : Option ℕ
   pub assumed : List Lit
   pub assumes : ReadsAs names assumed (assumption_literals net log n bound)
   pub negates : NegatesOnly assumed clause
 
 -- so it is with each final entry
-abbrev pub FinalsNegate : List (ℕ × Name) → List BookEntry → Net → Log → ℕ → Type 0
+abbrev pub FinalsNegate : List (ℕ × Meaning) → List BookEntry → Net → Log → ℕ → Type 0
 FinalsNegate names entries net log n = (clause : Clause) (hints : List ℕ) → Contains entries (final clause hints) → NegatesAssumed names net log n clause
 
 -- the last final entry has no literals but negations of assumptions
@@ -64,7 +64,7 @@ pub record IsRefutation (first : BuiltQuestion) (entries : List BookEntry) (net 
 
 -- The last of these final entries refutes the question within the bound. The axioms before it pose that question: those that the book had first, and those of these entries. So do all.
 -- As a list they are those of the question that was built first, with the columns that the bound needs, and what is assumed and all clauses up to that one are over the variables of that question.
-pub record IsEvidence (names : List (ℕ × Name)) (first : BuiltQuestion) (entries : List BookEntry) (net : Net) (log : Log) (n : ℕ) (bound : Option ℕ) : Type 0 where
+pub record IsEvidence (names : List (ℕ × Meaning)) (first : BuiltQuestion) (entries : List BookEntry) (net : Net) (log : Log) (n : ℕ) (bound : Option ℕ) : Type 0 where
   pub assumed : List Lit
   pub refuted : HasLastFinal entries assumed
   pub listed : first.axioms ++ axioms_of refuted.earlier ≡ (built_within first bound).axioms

@@ -10,11 +10,11 @@ use Rattle.log_encode.specs.CodedLog.{CodedLog}
 use Rattle.log_order.specs.Log.{Log}
 use Rattle.proof_ledger.specs.Book.{BookEntry, axioms_of, clauses_of}
 use Rattle.prop_core.specs.Clauses.{Clause}
-use Rattle.prop_core.specs.VariableNames.{Name}
+use Rattle.prop_core.specs.VariableNames.{Meaning}
 use Rattle.replay.specs.QuestionSize.{question_size}
 use Rattle.run_decode.specs.Decoding.{BelongTogether}
 use Rattle.run_decode.specs.QuestionAxioms.{BuiltQuestion, question_built}
-use Rattle.run_decode.specs.WholeNaming.{AreCodedTogether, AreClausesOf, whole_names}
+use Rattle.run_decode.specs.WholeNaming.{AreCodedTogether, AreClausesOf, whole_meanings}
 use Rattle.sat_order.specs.Rank.{IsRanked}
 use Rattle.sat_solve.specs.Searching.{HasAxiomVars}
 use Rattle.step_encode.specs.Coded.{CodedSteps}
@@ -73,5 +73,5 @@ pub record IsBuilt {R : Type 0} (net : Net) (log : Log) (n : ℕ) (parts : Parts
   pub determined : built_of parts book ≡ question_built net log n (length parts.counter.columns)
 
 -- the names of all variables
-abbrev pub names_of_parts : {R : Type 0} → Parts R → List (ℕ × Name)
-names_of_parts parts = whole_names parts.step parts.code.code parts.counter
+abbrev pub meanings_of_parts : {R : Type 0} → Parts R → List (ℕ × Meaning)
+meanings_of_parts parts = whole_meanings parts.step parts.code.code parts.counter

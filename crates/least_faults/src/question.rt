@@ -1,7 +1,7 @@
 // What is asked about: which runs of a network explain a log.
 ghost use Rattle.std.specs.Prelude.{◌≤◌, List, length};
 ghost use Rattle.log_clauses.specs.LogClauses.{guard_literals};
-ghost use Rattle.log_encode.specs.CodedLog.{read_names};
+ghost use Rattle.log_encode.specs.CodedLog.{read_meanings};
 ghost use Rattle.prop_core.specs.VariableNames.{ReadsAs};
 ghost use Rattle.prop_core.specs.declared.lit.Lit.{Lit};
 
@@ -28,7 +28,7 @@ pub fn has_few_columns(counter: &Counter)
 
 // The guards of the log are literals, as the reader of its code tells.
 pub fn has_guards(code: &LogCode)
-    ensures { (guards : List Lit) × ReadsAs (read_names code.now.code) guards (guard_literals code.now.code.net code.now.code.log) }
+    ensures { (guards : List Lit) × ReadsAs (read_meanings code.now.code) guards (guard_literals code.now.code.net code.now.code.log) }
 {
     let _guards = code.guards();
 }

@@ -10,18 +10,18 @@ use Rattle.log_clauses.specs.BesideEvents.{with_events, HasLogCode}
 use Rattle.log_clauses.specs.Drafts.{added_clauses, first_clauses}
 use Rattle.log_clauses.specs.LogClauses.{log_clause, guard_literals}
 use Rattle.log_clauses.specs.LogCodeLaws.{IsLogCode}
-use Rattle.log_clauses.specs.LogNames.{first_names, with_added, ReadsInOrder}
+use Rattle.log_clauses.specs.LogNames.{first_meanings, with_added, ReadsInOrder}
 use Rattle.prop_core.specs.Clauses.{Clause, clause_true, literal_true}
 use Rattle.prop_core.proofs.Listed.{listed_from}
-use Rattle.prop_core.specs.VariableNames.{Name, happens, asked, matches, done, unmatched, closed, NamedLiteral, yes, no, named_clause}
+use Rattle.prop_core.specs.VariableNames.{Meaning, happens, asked, matches, done, unmatched, closed, NamedLiteral, yes, no, named_clause}
 use Rattle.prop_core.specs.declared.lit.Lit.{Lit}
 use Rattle.run_clauses.specs.LaidOut.{laid_out}
 use Rattle.log_clauses.proofs.Vectors.{x}
 
 -- ---- that of the empty log, on 2 to 4
 
-abbrev names : List (ℕ × Name)
-names = with_events apart 1 0 (laid_out 2 (first_names apart))
+abbrev names : List (ℕ × Meaning)
+names = with_events apart 1 0 (laid_out 2 (first_meanings apart))
 
 abbrev yes_variable : ℕ → Lit
 yes_variable var = record { var = var; positive = true }
@@ -32,7 +32,7 @@ no_variable var = record { var = var; positive = false }
 abbrev written : List Clause
 written = (no_variable 3 ∷ no_variable 0 ∷ []) ∷ (no_variable 4 ∷ no_variable 1 ∷ []) ∷ []
 
-pub empty_code : HasLogCode apart no_log 1 0 5 (laid_out 2 (first_names apart)) written
+pub empty_code : HasLogCode apart no_log 1 0 5 (laid_out 2 (first_meanings apart)) written
 empty_code = log_code_begins apart 1 0 2 written (omega arith) (listed_from names (log_clause apart no_log 1) written (first_clauses apart 1) (
   ordered_names names (no_variable 3 ∷ no_variable 0 ∷ []) (no (closed 0 0) ∷ no (happens 0 1) ∷ []) ((refl, refl), ((refl, refl), tt)),
   (ordered_names names (no_variable 4 ∷ no_variable 1 ∷ []) (no (closed 1 0) ∷ no (happens 1 1) ∷ []) ((refl, refl), ((refl, refl), tt)), tt),
@@ -43,10 +43,10 @@ empty_code = log_code_begins apart 1 0 2 written (omega arith) (listed_from name
 abbrev with_x : Log
 with_x = with_addition no_log (alarm_added x)
 
-abbrev x_names : List (ℕ × Name)
-x_names = with_added apart no_log 1 (alarm_added x) (laid_out 2 (first_names apart)) 5
+abbrev x_names : List (ℕ × Meaning)
+x_names = with_added apart no_log 1 (alarm_added x) (laid_out 2 (first_meanings apart)) 5
 
-abbrev all_names : List (ℕ × Name)
+abbrev all_names : List (ℕ × Meaning)
 all_names = with_events apart 1 0 x_names
 
 abbrev drafted : List Clause
@@ -62,7 +62,7 @@ three : (a b c : Lit) (l m n : NamedLiteral) → ReadsInOrder all_names (a ∷ [
 three a b c l m n first second third = ordered_names all_names (a ∷ b ∷ c ∷ []) (l ∷ m ∷ n ∷ []) (first.0, (second.0, third))
 
 pub code_of_x : HasLogCode apart with_x 1 0 10 x_names (written ++ drafted)
-code_of_x = log_code_grows apart no_log 1 0 5 5 (alarm_added x) (laid_out 2 (first_names apart)) written drafted empty_code (omega arith) (listed_from all_names (log_clause apart with_x 1) drafted (added_clauses apart no_log 1 (alarm_added x)) (
+code_of_x = log_code_grows apart no_log 1 0 5 5 (alarm_added x) (laid_out 2 (first_meanings apart)) written drafted empty_code (omega arith) (listed_from all_names (log_clause apart with_x 1) drafted (added_clauses apart no_log 1 (alarm_added x)) (
   two (no_variable 5) (no_variable 7) (no (closed 0 1)) (no (unmatched 0 1 1)) ((refl, refl), tt) ((refl, refl), tt),
   (
     two (no_variable 6) (yes_variable 0) (no (matches 0 0 1)) (yes (happens 0 1)) ((refl, refl), tt) ((refl, refl), tt),

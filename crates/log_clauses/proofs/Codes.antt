@@ -12,34 +12,34 @@ use Rattle.log_order.specs.Log.{no_log}
 use Rattle.prop_core.proofs.FamilyLemmas.{Either, code_append, code_same}
 use Rattle.prop_core.specs.Clauses.{Clause}
 use Rattle.prop_core.specs.NamedClauses.{IsCode}
-use Rattle.prop_core.specs.VariableNames.{Name, NamedLiteral, HasEachOnce, name_of, named_literal, named_clause, with_literal, ReadsAs}
+use Rattle.prop_core.specs.VariableNames.{Meaning, NamedLiteral, HasEachOnce, meaning_of, named_literal, named_clause, with_literal, ReadsAs}
 use Rattle.prop_core.specs.declared.lit.Lit.{Lit}
 use Rattle.run_clauses.specs.StepCodes.{IsNamedStep}
 
 -- the name of a variable that has one
-pub has_name : (names : List (ℕ × Name)) (entry : ℕ × Name) → HasEachOnce names → Contains names entry → name_of names entry.0 ≡ Some entry.1
+pub has_name : (names : List (ℕ × Meaning)) (entry : ℕ × Meaning) → HasEachOnce names → Contains names entry → meaning_of names entry.0 ≡ Some entry.1
 has_name [] entry once in' = absurd (none_in_nil entry in')
 has_name (x ∷ names) entry once in' = by (cons_cases x names entry in') (has_name names entry once.1)
   where
-    by : (x ≡ entry) ⊎ Contains names entry → (Contains names entry → name_of names entry.0 ≡ Some entry.1) → name_of (x ∷ names) entry.0 ≡ Some entry.1
-    by (inl is) later = subst (λ (y : ℕ × Name). name_of (x ∷ names) y.0 ≡ Some y.1) is here
+    by : (x ≡ entry) ⊎ Contains names entry → (Contains names entry → meaning_of names entry.0 ≡ Some entry.1) → meaning_of (x ∷ names) entry.0 ≡ Some entry.1
+    by (inl is) later = subst (λ (y : ℕ × Meaning). meaning_of (x ∷ names) y.0 ≡ Some y.1) is here
       where
-        here : name_of (x ∷ names) x.0 ≡ Some x.1
+        here : meaning_of (x ∷ names) x.0 ≡ Some x.1
         here = rw (eq-eqb x.0 x.0 refl) refl
     by (inr rest) later =
-        let differ = all_at (λ (y : ℕ × Name). (x.0 ≢ y.0) × (x.1 ≢ y.1)) names once.0 entry rest in
+        let differ = all_at (λ (y : ℕ × Meaning). (x.0 ≢ y.0) × (x.1 ≢ y.1)) names once.0 entry rest in
         let other = otherwise (x.0 == entry.0) (λ h. differ.0 (eqb-true x.0 entry.0 h)) in
         rw other (later rest)
 
 -- what a clause reads as, literal by literal
-pub record IsReadOf (names : List (ℕ × Name)) (l : Lit) (clause : Clause) (read : List NamedLiteral) : Type 0 where
+pub record IsReadOf (names : List (ℕ × Meaning)) (l : Lit) (clause : Clause) (read : List NamedLiteral) : Type 0 where
   pub first : NamedLiteral
   pub rest : List NamedLiteral
   pub whole : read ≡ first ∷ rest
   pub literal : named_literal names l ≡ Some first
   pub later : named_clause names clause ≡ Some rest
 
-pub read_of : (names : List (ℕ × Name)) (l : Lit) (clause : Clause) (read : List NamedLiteral) → named_clause names (l ∷ clause) ≡ Some read → IsReadOf names l clause read
+pub read_of : (names : List (ℕ × Meaning)) (l : Lit) (clause : Clause) (read : List NamedLiteral) → named_clause names (l ∷ clause) ≡ Some read → IsReadOf names l clause read
 read_of names l clause read h = by (named_literal names l) refl (named_clause names clause) refl h
   where
     by : (o : Option NamedLiteral) → named_literal names l ≡ o → (p : Option (List NamedLiteral)) → named_clause names clause ≡ p → with_literal o p ≡ Some read → IsReadOf names l clause read
@@ -50,31 +50,31 @@ read_of names l clause read h = by (named_literal names l) refl (named_clause na
         some_is : (a b : List NamedLiteral) → Some a ≡ Some b → a ≡ b
         some_is a b q = cc
 
-pub named_entry : (names : List (ℕ × Name)) (var : ℕ) (name : Name) → name_of names var ≡ Some name → Contains names (var, name)
-named_entry names var name h = by (find (λ (entry : ℕ × Name). entry.0 == var) names) refl h
+pub named_entry : (names : List (ℕ × Meaning)) (var : ℕ) (meaning : Meaning) → meaning_of names var ≡ Some meaning → Contains names (var, meaning)
+named_entry names var meaning h = by (find (λ (entry : ℕ × Meaning). entry.0 == var) names) refl h
   where
-    by : (o : Option (ℕ × Name)) → find (λ (entry : ℕ × Name). entry.0 == var) names ≡ o → option_map (λ (entry : ℕ × Name). entry.1) o ≡ Some name → Contains names (var, name)
+    by : (o : Option (ℕ × Meaning)) → find (λ (entry : ℕ × Meaning). entry.0 == var) names ≡ o → option_map (λ (entry : ℕ × Meaning). entry.1) o ≡ Some meaning → Contains names (var, meaning)
     by None e is = cc
     by (Some entry) e is =
-        let found = found_is (λ (x : ℕ × Name). x.0 == var) names entry e in
+        let found = found_is (λ (x : ℕ × Meaning). x.0 == var) names entry e in
         let first = eqb-true entry.0 var found.0 in
-        let second = some_is entry.1 name is in
-        let same : ◌≡◌ {A = ℕ × Name} entry (var, name) = λ i. (first i, second i) in
+        let second = some_is entry.1 meaning is in
+        let same : ◌≡◌ {A = ℕ × Meaning} entry (var, meaning) = λ i. (first i, second i) in
         subst (λ y. Contains names y) same found.1
       where
-        some_is : (a b : Name) → Some a ≡ Some b → a ≡ b
+        some_is : (a b : Meaning) → Some a ≡ Some b → a ≡ b
         some_is a b p = cc
 
-module _ (names more : List (ℕ × Name)) (once : HasEachOnce more) (inside : (entry : ℕ × Name) → Contains names entry → Contains more entry) where
-  name_stays : (var : ℕ) (name : Name) → name_of names var ≡ Some name → name_of more var ≡ Some name
-  name_stays var name h = has_name more (var, name) once (inside (var, name) (named_entry names var name h))
+module _ (names more : List (ℕ × Meaning)) (once : HasEachOnce more) (inside : (entry : ℕ × Meaning) → Contains names entry → Contains more entry) where
+  name_stays : (var : ℕ) (meaning : Meaning) → meaning_of names var ≡ Some meaning → meaning_of more var ≡ Some meaning
+  name_stays var meaning h = has_name more (var, meaning) once (inside (var, meaning) (named_entry names var meaning h))
 
   literal_stays : (l : Lit) (m : NamedLiteral) → named_literal names l ≡ Some m → named_literal more l ≡ Some m
-  literal_stays l m h = by (name_of names l.var) refl h
+  literal_stays l m h = by (meaning_of names l.var) refl h
     where
-      by : (o : Option Name) → name_of names l.var ≡ o → option_map (λ (name : Name). record { name = name; positive = l.positive }) o ≡ Some m → named_literal more l ≡ Some m
+      by : (o : Option Meaning) → meaning_of names l.var ≡ o → option_map (λ (meaning : Meaning). record { meaning = meaning; positive = l.positive }) o ≡ Some m → named_literal more l ≡ Some m
       by None e is = cc
-      by (Some name) e is = rw (name_stays l.var name e) is
+      by (Some meaning) e is = rw (name_stays l.var meaning e) is
 
   clause_stays : (clause : Clause) (read : List NamedLiteral) → named_clause names clause ≡ Some read → named_clause more clause ≡ Some read
   clause_stays [] read h = h
@@ -88,7 +88,7 @@ module _ (names more : List (ℕ × Name)) (once : HasEachOnce more) (inside : (
 pub readings_stay : ReadingsStay
 readings_stay names more clause named once inside reads = reading_stays names more once inside clause named reads
 
-pub code_stays : (names more : List (ℕ × Name)) (family : List NamedLiteral → Type 0) (clauses : List Clause) → HasEachOnce more → AreAmong names more → IsCode names family clauses → IsCode more family clauses
+pub code_stays : (names more : List (ℕ × Meaning)) (family : List NamedLiteral → Type 0) (clauses : List Clause) → HasEachOnce more → AreAmong names more → IsCode names family clauses → IsCode more family clauses
 code_stays names more family clauses once inside code = record {
   all = λ named is. let there = code.all named is in (there.0, there.1, reading_stays names more once inside there.0 named there.2);
   only = all_from (λ clause. (named : List NamedLiteral) × family named × ReadsAs more clause named) clauses (λ clause in'.

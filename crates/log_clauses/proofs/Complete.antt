@@ -23,7 +23,7 @@ use Rattle.log_clauses.specs.LogTruth.{LogClausesHold, GuardsHold, DifferInLog}
 use Rattle.log_order.specs.Log.{Log, is_doubtful, place_in}
 use Rattle.prop_core.proofs.Premises.{implies, two_negations}
 use Rattle.prop_core.specs.NamedClauses.{named_true, named_clause_true}
-use Rattle.prop_core.specs.VariableNames.{Name, yes, in_state, happens, asked, matches, done, unmatched, closed, dropped, reaches, some_of_first, of_states, of_events, of_matches, remaining}
+use Rattle.prop_core.specs.VariableNames.{Meaning, yes, in_state, happens, asked, matches, done, unmatched, closed, dropped, reaches, some_of_first, of_states, of_events, of_matches, remaining}
 use Rattle.replay.specs.Explanation.{Entry, alarms_of, real_alarms, may_stand, observables, Shows, Linearises, is_matching}
 use Rattle.run_clauses.proofs.StepLemmas.{found, among, mapped, or_right}
 use Rattle.log_clauses.proofs.Fronts.{any_has, has_any, take_has, take_grows, take_last, take_not, apart_append, once_left, block_once, next_front, front_and_rest, place_inside, inside_place}
@@ -57,13 +57,13 @@ c_either false b c h = refl
 pub chain_once : (net : Net) (log : Log) (e : ℕ) → EachPair (λ x y. x ≢ y) (chain net log e)
 chain_once net log e = pairs_filter (λ x y. x ≢ y) (is_matching net log e) (numbers_below (length log.alarms)) (range_once 0 (length log.alarms))
 
-module _ (net : Net) (log : Log) (value : Name → Bool) (pieces : List (List ℕ)) (are : AreFrom net value 0 pieces)
+module _ (net : Net) (log : Log) (value : Meaning → Bool) (pieces : List (List ℕ)) (are : AreFrom net value 0 pieces)
     (before : List Entry) (blocks : List (List Entry)) (none : real_alarms before ≡ [])
     (matched : AllZip (λ piece block. AllZip (Shows net log) (observables net piece) (real_alarms block)) pieces blocks)
     (doubted : (entry : Entry) → Contains (flat_map (λ block. block) (before ∷ blocks)) entry → may_stand log entry ≡ true)
     (once : EachPair (λ i j. i ≢ j) (joined (map alarms_of (before ∷ blocks)))) (each : (i : ℕ) → i < length log.alarms → Contains (joined (map alarms_of (before ∷ blocks))) i)
     (kept : (i j : ℕ) → Contains log.pairs (i, j) → place_in (joined (map alarms_of (before ∷ blocks))) i < place_in (joined (map alarms_of (before ∷ blocks))) j) where
-  abbrev truth : Name → Bool
+  abbrev truth : Meaning → Bool
   truth = coded_truth net log pieces (before ∷ blocks) value
 
   abbrev steps : List (List ℕ)
@@ -297,7 +297,7 @@ module _ (net : Net) (log : Log) (value : Name → Bool) (pieces : List (List �
       shut [] = tt
       shut (e ∷ es) = (eq-eqb (length (chain net log e)) (length (chain net log e)) refl, shut es)
 
-differs : (net : Net) (log : Log) (pieces : List (List ℕ)) (blocks : List (List Entry)) (given : Name → Bool) → DifferInLog given (coded_truth net log pieces blocks given)
+differs : (net : Net) (log : Log) (pieces : List (List ℕ)) (blocks : List (List Entry)) (given : Meaning → Bool) → DifferInLog given (coded_truth net log pieces blocks given)
 differs net log pieces blocks given (in_state c q t) h = refl
 differs net log pieces blocks given (happens e t) h = refl
 differs net log pieces blocks given asked h = cc
@@ -311,8 +311,8 @@ differs net log pieces blocks given (some_of_first (of_states c t) k) h = refl
 differs net log pieces blocks given (some_of_first (of_events t g) k) h = refl
 differs net log pieces blocks given (some_of_first (of_matches i t) k) h = cc
 
-complete_from : (net : Net) (log : Log) (given : Name → Bool) (pieces : List (List ℕ)) (order : List Entry) → AreFrom net given 0 pieces → Linearises net log (joined pieces) order →
-    (value : Name → Bool) × DifferInLog given value × LogClausesHold net log (length pieces) value × GuardsHold net log value × HasFalse log value order
+complete_from : (net : Net) (log : Log) (given : Meaning → Bool) (pieces : List (List ℕ)) (order : List Entry) → AreFrom net given 0 pieces → Linearises net log (joined pieces) order →
+    (value : Meaning → Bool) × DifferInLog given value × LogClausesHold net log (length pieces) value × GuardsHold net log value × HasFalse log value order
 complete_from net log given pieces order are linear =
     let cut = cut_order net log pieces order linear.shown in
     let same : alarms_of order ≡ joined (map alarms_of (cut.before ∷ cut.blocks)) = ap alarms_of cut.whole ∙ joined_alarms (cut.before ∷ cut.blocks) in
@@ -334,4 +334,4 @@ complete_from net log given pieces order are linear =
 pub log_is_complete : LogIsComplete
 log_is_complete net log n given pieces order are linear =
     let from = (pieces_are_steps net n given pieces).0 are in
-    subst (λ m. (value : Name → Bool) × DifferInLog given value × LogClausesHold net log m value × GuardsHold net log value × HasFalse log value order) from.0 (complete_from net log given pieces order from.1 linear)
+    subst (λ m. (value : Meaning → Bool) × DifferInLog given value × LogClausesHold net log m value × GuardsHold net log value × HasFalse log value order) from.0 (complete_from net log given pieces order from.1 linear)

@@ -20,7 +20,7 @@ use Rattle.log_clauses.specs.LogClauses.{chain, match_inputs, observable_events,
 use Rattle.log_order.specs.Log.{Log, Alarm, no_log, is_doubtful}
 use Rattle.prop_core.specs.Clauses.{Clause}
 use Rattle.prop_core.specs.NamedClauses.{IsCode}
-use Rattle.prop_core.specs.VariableNames.{Name, matches, NamedLiteral}
+use Rattle.prop_core.specs.VariableNames.{Meaning, matches, NamedLiteral}
 use Rattle.replay.specs.Explanation.{is_matching}
 use Rattle.replay.specs.QuestionSize.{question_size, matching_count, doubtful_count}
 use Rattle.run_clauses.proofs.Lists.{from_numbers, in_numbers}
@@ -30,7 +30,7 @@ use Rattle.prop_core.proofs.Listed.{has_map, listed_are_code}
 use Rattle.prop_core.specs.Listings.{IsListed}
 
 -- Clauses that are listed as what is wanted are the code of it.
-listed : {W : Type 0} (names : List (ℕ × Name)) (wanted : W → Type 0) (literals : W → List NamedLiteral) (clauses : List Clause) (list : List W) →
+listed : {W : Type 0} (names : List (ℕ × Meaning)) (wanted : W → Type 0) (literals : W → List NamedLiteral) (clauses : List Clause) (list : List W) →
     ((w : W) → Contains list w ↔ wanted w) → IsListed names (map literals list) clauses → IsCode names (λ named. (w : W) × wanted w × (literals w ≡ named)) clauses
 listed {W} names wanted literals clauses list same are =
     code_same names (Contains (map literals list)) (λ named. (w : W) × wanted w × (literals w ≡ named)) clauses
@@ -40,7 +40,7 @@ listed {W} names wanted literals clauses list same are =
 
 module _ (net : Net) (log : Log) (n : ℕ) (new : Alarm) where
   -- that the alarm stands for one of the events in the step after t steps
-  abbrev inputs : ℕ → List Name
+  abbrev inputs : ℕ → List Meaning
   inputs t = map (λ e. matches (length log.alarms) e (suc t)) (taken_events net log new)
 
   pub taken_is : (e : ℕ) → Contains (taken_events net log new) e → IsTaken net log new e

@@ -16,7 +16,7 @@ use Rattle.log_clauses.specs.Coded.{is_dropped}
 use Rattle.log_clauses.specs.Decoded.{is_false_alarm, decoded_entry}
 use Rattle.log_clauses.specs.LogLaws.{HasFalse}
 use Rattle.log_order.specs.Log.{Log, ListsOnce, is_doubtful}
-use Rattle.prop_core.specs.VariableNames.{Name, dropped}
+use Rattle.prop_core.specs.VariableNames.{Meaning, dropped}
 use Rattle.replay.specs.Explanation.{Entry, alarms_of, real_alarms, false_count, may_stand}
 
 -- ---- orders one after another
@@ -100,7 +100,7 @@ dropped_from order i h =
 
 -- ---- as the truth of names says
 
-module _ (log : Log) (value : Name → Bool) where
+module _ (log : Log) (value : Meaning → Bool) where
   pub entries_alarms : (xs : List ℕ) → alarms_of (map (decoded_entry log value) xs) ≡ xs
   entries_alarms [] = refl
   entries_alarms (x ∷ xs) = ap (λ ys. x ∷ ys) (entries_alarms xs)
@@ -203,7 +203,7 @@ count_listed p m order lists =
         let below = (range_from 0 m x found.1).1 in
         filter_has p order x found.0 (lists.each x (omega (arith, below)))
 
-false_told : (log : Log) (value : Name → Bool) (order : List Entry) → AreTold log value order → false_count order ≡ count_by (is_false_alarm log value) (alarms_of order)
+false_told : (log : Log) (value : Meaning → Bool) (order : List Entry) → AreTold log value order → false_count order ≡ count_by (is_false_alarm log value) (alarms_of order)
 false_told log value [] told = refl
 false_told log value (entry ∷ order) told =
     let rest = false_told log value order told.1 in
@@ -217,5 +217,5 @@ false_told log value (entry ∷ order) told =
     twice false = refl
 
 -- An order of all alarms that tells which are false has as many of them as the names say.
-pub has_false : (log : Log) (value : Name → Bool) (order : List Entry) → ListsOnce (length log.alarms) (alarms_of order) → AreTold log value order → HasFalse log value order
+pub has_false : (log : Log) (value : Meaning → Bool) (order : List Entry) → ListsOnce (length log.alarms) (alarms_of order) → AreTold log value order → HasFalse log value order
 has_false log value order lists told = false_told log value order told ∙ count_listed (is_false_alarm log value) (length log.alarms) (alarms_of order) lists

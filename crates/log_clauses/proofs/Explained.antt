@@ -26,7 +26,7 @@ use Rattle.log_clauses.specs.LogLaws.{HasFalse}
 use Rattle.prop_core.proofs.NameLemmas.{values_match, assignments_match, code_holds}
 use Rattle.prop_core.specs.Clauses.{Clause, AllClausesTrue}
 use Rattle.prop_core.specs.NamedClauses.{named_clause_true, Match, value_by, assignment_by, IsCode, AllHold}
-use Rattle.prop_core.specs.VariableNames.{Name, in_state, happens, done, dropped, some_of_first, name_of, yes, no}
+use Rattle.prop_core.specs.VariableNames.{Meaning, in_state, happens, done, dropped, some_of_first, meaning_of, yes, no}
 use Rattle.prop_core.specs.declared.lit.Lit.{Lit}
 use Rattle.run_clauses.proofs.Exact.{runs_have_steps, only_steps_matter, sets_in_order, same_sets}
 use Rattle.run_clauses.proofs.Sound.{steps_are_sound}
@@ -35,10 +35,10 @@ use Rattle.run_clauses.specs.StepClauses.{StepClause, step_clause, moves}
 use Rattle.run_clauses.specs.StepCodes.{IsNamedStep}
 use Rattle.run_clauses.specs.Steps.{StepClausesHold, AreSteps, AgreeOnSteps, AgreeOnEvents, step_sets}
 
-log_from_all : (net : Net) (log : Log) (n : ℕ) (value : Name → Bool) → AllHold (IsNamedLog net log n) value → LogClausesHold net log n value
+log_from_all : (net : Net) (log : Log) (n : ℕ) (value : Meaning → Bool) → AllHold (IsNamedLog net log n) value → LogClausesHold net log n value
 log_from_all net log n value all which is = all (log_clause net log n which) (which, is, refl)
 
-all_from_log : (net : Net) (log : Log) (n : ℕ) (value : Name → Bool) → LogClausesHold net log n value → AllHold (IsNamedLog net log n) value
+all_from_log : (net : Net) (log : Log) (n : ℕ) (value : Meaning → Bool) → LogClausesHold net log n value → AllHold (IsNamedLog net log n) value
 all_from_log net log n value holds named (which, is, same) = subst (λ clause. IsTrue (named_clause_true value clause)) same (holds which is)
 
 pub doubtful_below : (log : Log) (i : ℕ) → is_doubtful log i ≡ true → i < length log.alarms
@@ -51,42 +51,42 @@ doubtful_below log i h = by (cases_lt i (length log.alarms))
     by (inl below) = below
     by (inr past) = absurd (nothing (subst (λ o. unwrap_or (option_map (λ (alarm : Alarm). alarm.doubtful) o) false ≡ true) (slice_get_past log.alarms i past) h))
 
-module _ (net : Net) (log : Log) (n : ℕ) (names : List (ℕ × Name)) (written : List Clause) (assumed : List Lit) (code : IsLogCode net log n names written assumed) where
+module _ (net : Net) (log : Log) (n : ℕ) (names : List (ℕ × Meaning)) (written : List Clause) (assumed : List Lit) (code : IsLogCode net log n names written assumed) where
   -- what is true by name is true by variable, and the other way round
-  written_true : (assignment : ℕ → Bool) (value : Name → Bool) → Match names assignment value → LogClausesHold net log n value → AllClausesTrue assignment written
+  written_true : (assignment : ℕ → Bool) (value : Meaning → Bool) → Match names assignment value → LogClausesHold net log n value → AllClausesTrue assignment written
   written_true assignment value match holds = (code_holds (IsNamedLog net log n) names written assignment value code.clauses match).1 (all_from_log net log n value holds)
 
-  pub log_true : (assignment : ℕ → Bool) (value : Name → Bool) → Match names assignment value → LogClausesHold net log n value → GuardsHold net log value → MakesLogTrue assignment written assumed
+  pub log_true : (assignment : ℕ → Bool) (value : Meaning → Bool) → Match names assignment value → LogClausesHold net log n value → GuardsHold net log value → MakesLogTrue assignment written assumed
   log_true assignment value match holds guards = record {
     clauses = written_true assignment value match holds;
     guards = (literals_by_name names assignment value match assumed (guard_literals net log) code.guards).1 guards;
   }
 
-  pub log_holds : (assignment : ℕ → Bool) (value : Name → Bool) → Match names assignment value → MakesLogTrue assignment written assumed → LogClausesHold net log n value × GuardsHold net log value
+  pub log_holds : (assignment : ℕ → Bool) (value : Meaning → Bool) → Match names assignment value → MakesLogTrue assignment written assumed → LogClausesHold net log n value × GuardsHold net log value
   log_holds assignment value match makes = (
     log_from_all net log n value ((code_holds (IsNamedLog net log n) names written assignment value code.clauses match).0 makes.clauses),
     (literals_by_name names assignment value match assumed (guard_literals net log) code.guards).0 makes.guards,
   )
 
   -- variables that aren't of the log keep their truth where their names do
-  kept : (given : ℕ → Bool) (value : Name → Bool) → DifferInLog (value_by names given) value → DifferInLogVariables names given (assignment_by names value given)
-  kept given value differ var h = by (name_of names var) refl
+  kept : (given : ℕ → Bool) (value : Meaning → Bool) → DifferInLog (value_by names given) value → DifferInLogVariables names given (assignment_by names value given)
+  kept given value differ var h = by (meaning_of names var) refl
     where
-      by : (o : Option Name) → name_of names var ≡ o → assignment_by names value given var ≡ given var
+      by : (o : Option Meaning) → meaning_of names var ≡ o → assignment_by names value given var ≡ given var
       by None e = ap (λ o. unwrap_or (option_map value o) (given var)) e
-      by (Some name) e =
-          let other : is_of_log name ≡ false = sym (ap (λ o. unwrap_or (option_map is_of_log o) false) e) ∙ h in
-          ap (λ o. unwrap_or (option_map value o) (given var)) e ∙ differ name other ∙ sym (values_match names code.once given var name e)
+      by (Some meaning) e =
+          let other : is_of_log meaning ≡ false = sym (ap (λ o. unwrap_or (option_map is_of_log o) false) e) ∙ h in
+          ap (λ o. unwrap_or (option_map value o) (given var)) e ∙ differ meaning other ∙ sym (values_match names code.once given var meaning e)
 
   -- a doubtful alarm has a variable, since its clauses are there
-  dropped_named : (i : ℕ) → is_doubtful log i ≡ true → (var : ℕ) × (name_of names var ≡ Some (dropped i))
+  dropped_named : (i : ℕ) → is_doubtful log i ≡ true → (var : ℕ) × (meaning_of names var ≡ Some (dropped i))
   dropped_named i h =
       let there = code.clauses.all (log_clause net log n (not_done_first i)) (not_done_first i, doubtful_below log i h, refl) in
       read_named names there.0 there.2.read (yes (dropped i)) there.2.by_name
       ((there.2.same (yes (dropped i))).1 (here_later (no (done i 0)) (or_false log i []) (yes (dropped i)) (subst (λ b. Contains (cond b (yes (dropped i) ∷ []) []) (yes (dropped i))) (sym h) (here_first (yes (dropped i)) [] (yes (dropped i)) refl))))
 
   -- so by variables the same alarms are false
-  pub false_kept : (assignment : ℕ → Bool) (value : Name → Bool) (order : List Entry) → Match names assignment value → HasFalse log value order → HasFalse log (value_by names assignment) order
+  pub false_kept : (assignment : ℕ → Bool) (value : Meaning → Bool) (order : List Entry) → Match names assignment value → HasFalse log value order → HasFalse log (value_by names assignment) order
   false_kept assignment value order match has = has ∙ ap (λ (p : ℕ → Bool). count_by p (numbers_below (length log.alarms))) (λ j i. same i j)
     where
       same : (i : ℕ) → is_false_alarm log value i ≡ is_false_alarm log (value_by names assignment) i
@@ -96,7 +96,7 @@ module _ (net : Net) (log : Log) (n : ℕ) (names : List (ℕ × Name)) (written
           by false e = rw e refl
           by true e = let named = dropped_named i e in rw e (sym (match named.0 (dropped i) named.1) ∙ values_match names code.once assignment named.0 (dropped i) named.1)
 
-  completed : (given : ℕ → Bool) (value : Name → Bool) (order : List Entry) → DifferInLog (value_by names given) value → LogClausesHold net log n value → GuardsHold net log value → HasFalse log value order →
+  completed : (given : ℕ → Bool) (value : Meaning → Bool) (order : List Entry) → DifferInLog (value_by names given) value → LogClausesHold net log n value → GuardsHold net log value → HasFalse log value order →
       (assignment : ℕ → Bool) × DifferInLogVariables names given assignment × MakesLogTrue assignment written assumed × HasFalse log (value_by names assignment) order
   completed given value order differ holds guards has = (
     assignment_by names value given,
@@ -128,10 +128,10 @@ log_code_is_exact net log n names written assumed code = record {
 }
 
 -- variables as their names say, and those without a name false
-by_variable : List (ℕ × Name) → (Name → Bool) → ℕ → Bool
+by_variable : List (ℕ × Meaning) → (Meaning → Bool) → ℕ → Bool
 by_variable names value = assignment_by names value (λ var. false)
 
-matched_by : (names : List (ℕ × Name)) (value : Name → Bool) → Match names (by_variable names value) value
+matched_by : (names : List (ℕ × Meaning)) (value : Meaning → Bool) → Match names (by_variable names value) value
 unfolding by_variable
 matched_by names value = assignments_match names value (λ var. false)
 
@@ -140,14 +140,14 @@ some_state : (marks : List Bool) → list_any (λ mark. mark) marks ≡ true →
 some_state [] h = cc
 some_state (mark ∷ marks) h = omega arith
 
-pub event_named : (net : Net) (n : ℕ) (names : List (ℕ × Name)) (stepped : List Clause) → IsNetwork net → IsCode names (IsNamedStep net n) stepped → (e t : ℕ) → e < length net.events → t < n →
-    (var : ℕ) × (name_of names var ≡ Some (happens e (suc t)))
+pub event_named : (net : Net) (n : ℕ) (names : List (ℕ × Meaning)) (stepped : List Clause) → IsNetwork net → IsCode names (IsNamedStep net n) stepped → (e t : ℕ) → e < length net.events → t < n →
+    (var : ℕ) × (meaning_of names var ≡ Some (happens e (suc t)))
 event_named net n names stepped network code e t known step = by (parts_of net e) refl is_event.moving
   where
     is_event : IsEvent net.components (event_at net e)
     is_event = all_at (IsEvent net.components) net.events network.events (event_at net e) (Contains-get_or net.events e no_event known)
 
-    by : (parts : List Part) → parts_of net e ≡ parts → 0 < length (parts_of net e) → (var : ℕ) × (name_of names var ≡ Some (happens e (suc t)))
+    by : (parts : List Part) → parts_of net e ≡ parts → 0 < length (parts_of net e) → (var : ℕ) × (meaning_of names var ≡ Some (happens e (suc t)))
     by [] is moving = absurd (omega (arith, ap length is))
     by (part ∷ parts) is moving =
         let inside : Contains (parts_of net e) part = subst (λ ps. Contains ps part) (sym is) (here_first part parts part refl) in
@@ -160,8 +160,8 @@ event_named net n names stepped network code e t known step = by (parts_of net e
         read_named names there.0 there.2.read (no (happens e (suc t))) there.2.by_name ((there.2.same (no (happens e (suc t)))).1 (0, omega arith, refl))
 
 -- The steps of a truth that a truth of the log goes on from: by variables they are as by name.
-stepped_from : (net : Net) (log : Log) (n : ℕ) (names : List (ℕ × Name)) (stepped written : List Clause) (assumed : List Lit) (pieces : List (List ℕ)) →
-    IsNetwork net → IsUnboundedQuestion net log n names stepped written assumed → (given value : Name → Bool) → StepClausesHold net n given → AreSteps net n given pieces → DifferInLog given value →
+stepped_from : (net : Net) (log : Log) (n : ℕ) (names : List (ℕ × Meaning)) (stepped written : List Clause) (assumed : List Lit) (pieces : List (List ℕ)) →
+    IsNetwork net → IsUnboundedQuestion net log n names stepped written assumed → (given value : Meaning → Bool) → StepClausesHold net n given → AreSteps net n given pieces → DifferInLog given value →
     AreSteps net n (value_by names (by_variable names value)) pieces × AllClausesTrue (by_variable names value) stepped
 stepped_from net log n names stepped written assumed pieces network question given value clauses steps differ = (
   same_sets net n given (value_by names (by_variable names value)) pieces agree steps,
@@ -179,7 +179,7 @@ stepped_from net log n names stepped written assumed pieces network question giv
 
 pub explanations_are_coded : ExplanationsAreCoded
 explanations_are_coded net log n names stepped written assumed word order pieces network question run count cut linear =
-    let given = runs_have_steps net word pieces (λ name. false) network run cut in
+    let given = runs_have_steps net word pieces (λ meaning. false) network run cut in
     let clauses = subst (λ m. StepClausesHold net m given.0) count given.1 in
     let steps = subst (λ m. AreSteps net m given.0 pieces) count given.2 in
     let made = log_is_complete net log n given.0 pieces order steps (subst (λ w. Linearises net log w order) cut.whole linear) in
@@ -192,7 +192,7 @@ explanations_are_coded net log n names stepped written assumed word order pieces
 
 pub runs_stay_open : RunsStayOpen
 runs_stay_open net log n names stepped written assumed word pieces network question run count cut =
-    let given = runs_have_steps net word pieces (λ name. false) network run cut in
+    let given = runs_have_steps net word pieces (λ meaning. false) network run cut in
     let clauses = subst (λ m. StepClausesHold net m given.0) count given.1 in
     let steps = subst (λ m. AreSteps net m given.0 pieces) count given.2 in
     let law = log_is_open given.0 in

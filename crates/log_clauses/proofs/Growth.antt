@@ -14,7 +14,7 @@ use Rattle.log_clauses.specs.LogClauses.{chain, LogClause, log_clause, IsLogClau
 use Rattle.log_clauses.specs.LogTruth.{LogClausesHold}
 use Rattle.log_order.specs.Log.{Log, Alarm, no_log, is_doubtful}
 use Rattle.prop_core.specs.NamedClauses.{named_clause_true}
-use Rattle.prop_core.specs.VariableNames.{Name}
+use Rattle.prop_core.specs.VariableNames.{Meaning}
 use Rattle.replay.specs.Explanation.{is_matching}
 
 -- a list with one more element where a test passes
@@ -259,16 +259,16 @@ additions_are_exact net log n (pair_added i j) which =
     back (inr b) = subst (λ w. IsLogClause net (with_pair log i j) n w) (sym b.2) (pair_added_known net log n i j b.0 b.1)
 
 -- Clauses of a longer log are those of the shorter one too.
-holds_before : (net : Net) (log : Log) (n : ℕ) (addition : Addition) (value : Name → Bool) → LogClausesHold net (with_addition log addition) n value → LogClausesHold net log n value
+holds_before : (net : Net) (log : Log) (n : ℕ) (addition : Addition) (value : Meaning → Bool) → LogClausesHold net (with_addition log addition) n value → LogClausesHold net log n value
 holds_before net log n addition value held which h =
     let exact = additions_are_exact net log n addition which in
     subst (λ clause. named_clause_true value clause ≡ true) (sym (exact.1 h)) (held which (exact.0.1 (inl h)))
 
-holds_all_before : (net : Net) (log : Log) (n : ℕ) (additions : List Addition) (value : Name → Bool) → LogClausesHold net (log_after log additions) n value → LogClausesHold net log n value
+holds_all_before : (net : Net) (log : Log) (n : ℕ) (additions : List Addition) (value : Meaning → Bool) → LogClausesHold net (log_after log additions) n value → LogClausesHold net log n value
 holds_all_before net log n [] value held = held
 holds_all_before net log n (addition ∷ additions) value held = holds_before net log n addition value (holds_all_before net (with_addition log addition) n additions value held)
 
-prefixes : (net : Net) (log : Log) (n : ℕ) (additions : List Addition) (value : Name → Bool) → LogClausesHold net (log_after log additions) n value → (k : ℕ) → LogClausesHold net (log_after log (take k additions)) n value
+prefixes : (net : Net) (log : Log) (n : ℕ) (additions : List Addition) (value : Meaning → Bool) → LogClausesHold net (log_after log additions) n value → (k : ℕ) → LogClausesHold net (log_after log (take k additions)) n value
 prefixes net log n additions value held zero = holds_all_before net log n additions value held
 prefixes net log n [] value held (suc k) = held
 prefixes net log n (addition ∷ additions) value held (suc k) = prefixes net (with_addition log addition) n additions value held k

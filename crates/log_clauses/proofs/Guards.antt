@@ -7,10 +7,10 @@ use Rattle.log_clauses.proofs.Lists.{all_at}
 use Rattle.prop_core.proofs.NameLemmas.{some_literal, literal_is}
 use Rattle.prop_core.specs.Clauses.{Clause, AllLiteralsTrue}
 use Rattle.prop_core.specs.NamedClauses.{named_true, Match}
-use Rattle.prop_core.specs.VariableNames.{Name, NamedLiteral, name_of, named_literal, named_clause, ReadsAs}
+use Rattle.prop_core.specs.VariableNames.{Meaning, NamedLiteral, meaning_of, named_literal, named_clause, ReadsAs}
 use Rattle.prop_core.specs.declared.lit.Lit.{Lit}
 
-literals_read : (names : List (ℕ × Name)) (assignment : ℕ → Bool) (value : Name → Bool) → Match names assignment value → (clause : Clause) (read : List NamedLiteral) → named_clause names clause ≡ Some read →
+literals_read : (names : List (ℕ × Meaning)) (assignment : ℕ → Bool) (value : Meaning → Bool) → Match names assignment value → (clause : Clause) (read : List NamedLiteral) → named_clause names clause ≡ Some read →
     (AllLiteralsTrue assignment clause → AllByRecursion (λ m. IsTrue (named_true value m)) read) × (AllByRecursion (λ m. IsTrue (named_true value m)) read → AllLiteralsTrue assignment clause)
 literals_read names assignment value match [] read h =
     let same : [] ≡ read = none_is read h in
@@ -27,7 +27,7 @@ literals_read names assignment value match (l ∷ clause) read h =
     )
 
 -- literals that read as others are true together with them
-pub literals_by_name : (names : List (ℕ × Name)) (assignment : ℕ → Bool) (value : Name → Bool) → Match names assignment value → (literals : List Lit) (named : List NamedLiteral) → ReadsAs names literals named →
+pub literals_by_name : (names : List (ℕ × Meaning)) (assignment : ℕ → Bool) (value : Meaning → Bool) → Match names assignment value → (literals : List Lit) (named : List NamedLiteral) → ReadsAs names literals named →
     (AllLiteralsTrue assignment literals → AllByRecursion (λ m. IsTrue (named_true value m)) named) × (AllByRecursion (λ m. IsTrue (named_true value m)) named → AllLiteralsTrue assignment literals)
 literals_by_name names assignment value match literals named reads =
     let read = literals_read names assignment value match literals reads.read reads.by_name in (
@@ -35,15 +35,15 @@ literals_by_name names assignment value match literals named reads =
       λ all. read.1 (all_from (λ m. IsTrue (named_true value m)) reads.read (λ x in'. all_at (λ m. IsTrue (named_true value m)) named all x ((reads.same x).0 in'))),
     )
 
-literal_named : (names : List (ℕ × Name)) (l : Lit) (m : NamedLiteral) → named_literal names l ≡ Some m → name_of names l.var ≡ Some m.name
-literal_named names l m h = by (name_of names l.var) refl h
+literal_named : (names : List (ℕ × Meaning)) (l : Lit) (m : NamedLiteral) → named_literal names l ≡ Some m → meaning_of names l.var ≡ Some m.meaning
+literal_named names l m h = by (meaning_of names l.var) refl h
   where
-    by : (o : Option Name) → name_of names l.var ≡ o → option_map (λ (name : Name). record { name = name; positive = l.positive }) o ≡ Some m → name_of names l.var ≡ Some m.name
+    by : (o : Option Meaning) → meaning_of names l.var ≡ o → option_map (λ (meaning : Meaning). record { meaning = meaning; positive = l.positive }) o ≡ Some m → meaning_of names l.var ≡ Some m.meaning
     by None e is = cc
-    by (Some name) e is = e ∙ ap (λ (x : NamedLiteral). Some x.name) (some_literal (record { name = name; positive = l.positive }) m is)
+    by (Some meaning) e is = e ∙ ap (λ (x : NamedLiteral). Some x.meaning) (some_literal (record { meaning = meaning; positive = l.positive }) m is)
 
 -- each name that is read is that of a variable
-pub read_named : (names : List (ℕ × Name)) (clause : Clause) (read : List NamedLiteral) (m : NamedLiteral) → named_clause names clause ≡ Some read → Contains read m → (var : ℕ) × (name_of names var ≡ Some m.name)
+pub read_named : (names : List (ℕ × Meaning)) (clause : Clause) (read : List NamedLiteral) (m : NamedLiteral) → named_clause names clause ≡ Some read → Contains read m → (var : ℕ) × (meaning_of names var ≡ Some m.meaning)
 read_named names [] read m h in' = absurd (none_in_nil m (subst (λ r. Contains r m) (sym (none_is read h)) in'))
   where
     none_is : (r : List NamedLiteral) → Some [] ≡ Some r → [] ≡ r
@@ -52,6 +52,6 @@ read_named names (l ∷ clause) read m h in' =
     let parts = read_of names l clause read h in
     by parts (cons_cases parts.first parts.rest m (subst (λ r. Contains r m) parts.whole in')) (read_named names clause parts.rest m parts.later)
   where
-    by : (parts : IsReadOf names l clause read) → (parts.first ≡ m) ⊎ Contains parts.rest m → (Contains parts.rest m → (var : ℕ) × (name_of names var ≡ Some m.name)) → (var : ℕ) × (name_of names var ≡ Some m.name)
+    by : (parts : IsReadOf names l clause read) → (parts.first ≡ m) ⊎ Contains parts.rest m → (Contains parts.rest m → (var : ℕ) × (meaning_of names var ≡ Some m.meaning)) → (var : ℕ) × (meaning_of names var ≡ Some m.meaning)
     by parts (inl is) later = (l.var, literal_named names l m (parts.literal ∙ ap Some is))
     by parts (inr rest) later = later rest

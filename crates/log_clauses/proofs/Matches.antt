@@ -10,10 +10,10 @@ use Rattle.log_clauses.specs.LogClauses.{chain, matching_events}
 use Rattle.log_clauses.specs.LogLaws.{EventsAndAlarms, MatchesAreExact, HasOneStep, HasOneMatch, HasOneAlarm}
 use Rattle.log_clauses.specs.LogTruth.{LogClausesHold, GuardsHold}
 use Rattle.log_order.specs.Log.{Log}
-use Rattle.prop_core.specs.VariableNames.{Name, happens, matches}
+use Rattle.prop_core.specs.VariableNames.{Meaning, happens, matches}
 use Rattle.replay.specs.Explanation.{is_matching}
 
-module _ (net : Net) (log : Log) (n : ℕ) (value : Name → Bool) (held : LogClausesHold net log n value) (guards : GuardsHold net log value) where
+module _ (net : Net) (log : Log) (n : ℕ) (value : Meaning → Bool) (held : LogClausesHold net log n value) (guards : GuardsHold net log value) where
   one_step_of : (i : ℕ) → i < length log.alarms → HasOneStep n value i
   one_step_of i known =
       let found = each_comes net log n value held guards i known in

@@ -8,7 +8,7 @@ use Rattle.log_clauses.specs.LogLaws.{LogIsOpen}
 use Rattle.log_clauses.specs.LogTruth.{DifferInLog}
 use Rattle.log_order.specs.Log.{Log}
 use Rattle.prop_core.specs.NamedClauses.{named_clause_true}
-use Rattle.prop_core.specs.VariableNames.{Name, in_state, happens, asked, matches, done, unmatched, closed, dropped, reaches, some_of_first, of_states, of_events, of_matches}
+use Rattle.prop_core.specs.VariableNames.{Meaning, in_state, happens, asked, matches, done, unmatched, closed, dropped, reaches, some_of_first, of_states, of_events, of_matches}
 
 itself : (b : Bool) → not b || (b || false) ≡ true
 itself true = refl
@@ -19,7 +19,7 @@ passed true = refl
 passed false = refl
 
 -- no match is so
-none_matched : (value : Name → Bool) (i t : ℕ) (es : List ℕ) (k : ℕ) (x : Name) → slice_get (map (λ e. matches i e t) es) k ≡ Some x → opened value x ≡ false
+none_matched : (value : Meaning → Bool) (i t : ℕ) (es : List ℕ) (k : ℕ) (x : Meaning) → slice_get (map (λ e. matches i e t) es) k ≡ Some x → opened value x ≡ false
 none_matched value i t [] k x at = cc
 none_matched value i t (e ∷ es) zero x at = let same : matches i e t ≡ x = cc in sym (ap (opened value) same)
 none_matched value i t (e ∷ es) (suc k) x at = none_matched value i t es k x at
@@ -28,7 +28,7 @@ first_fails : (a b : Bool) → a ≡ false → not a || b ≡ true
 first_fails false b h = refl
 first_fails true b h = cc
 
-all_open : (value : Name → Bool) (net : Net) (log : Log) (n : ℕ) (which : LogClause) → IsLogClause net log n which → named_clause_true (opened value) (log_clause net log n which) ≡ true
+all_open : (value : Meaning → Bool) (net : Net) (log : Log) (n : ℕ) (which : LogClause) → IsLogClause net log n which → named_clause_true (opened value) (log_clause net log n which) ≡ true
 all_open value net log n (chain_closed e k t) h = refl
 all_open value net log n (takes_rest i e k t) h = refl
 all_open value net log n (uses_up i e k t) h = refl
@@ -49,7 +49,7 @@ all_open value net log n (one_match i t (shuts_out a x)) (known, step, (long, at
 all_open value net log n (done_if_asked i) h = refl
 all_open value net log n (before_if_asked i j t) h = refl
 
-differs : (value : Name → Bool) → DifferInLog value (opened value)
+differs : (value : Meaning → Bool) → DifferInLog value (opened value)
 differs value (in_state c q t) h = refl
 differs value (happens e t) h = refl
 differs value asked h = cc

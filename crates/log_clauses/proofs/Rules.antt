@@ -19,7 +19,7 @@ use Rattle.log_clauses.specs.LogTruth.{LogClausesHold, GuardsHold}
 use Rattle.log_order.specs.Log.{Log, Alarm, labels_of, is_doubtful}
 use Rattle.prop_core.proofs.Premises.{implied, neither}
 use Rattle.prop_core.specs.NamedClauses.{named_true}
-use Rattle.prop_core.specs.VariableNames.{Name, NamedLiteral, yes, happens, asked, matches, done, closed, dropped, remaining, of_matches}
+use Rattle.prop_core.specs.VariableNames.{Meaning, NamedLiteral, yes, happens, asked, matches, done, closed, dropped, remaining, of_matches}
 use Rattle.replay.proofs.ListTests.{text_in, in_text}
 use Rattle.replay.specs.Explanation.{Shows, has_label, is_matching}
 
@@ -41,7 +41,7 @@ under_two true false c h k l = cc
 under_two false b c h k l = cc
 
 -- these literals, or that the alarm is false
-pub or_false_is : (log : Log) (value : Name → Bool) (i : ℕ) (literals : List NamedLiteral) → list_any (named_true value) (or_false log i literals) ≡ is_false_alarm log value i || list_any (named_true value) literals
+pub or_false_is : (log : Log) (value : Meaning → Bool) (i : ℕ) (literals : List NamedLiteral) → list_any (named_true value) (or_false log i literals) ≡ is_false_alarm log value i || list_any (named_true value) literals
 or_false_is log value i literals = by (is_doubtful log i)
   where
     by : (b : Bool) → list_any (named_true value) (cond b (yes (dropped i) ∷ literals) literals) ≡ (b && value (dropped i)) || list_any (named_true value) literals
@@ -49,12 +49,12 @@ or_false_is log value i literals = by (is_doubtful log i)
     by false = refl
 
 -- one of these names is true
-some_true : (value : Name → Bool) (name : ℕ → Name) (xs : List ℕ) → list_any (named_true value) (map (λ x. yes (name x)) xs) ≡ true → (x : ℕ) × Contains xs x × (value (name x) ≡ true)
-some_true value name [] h = cc
-some_true value name (y ∷ xs) h = by (either (value (name y)) (list_any (named_true value) (map (λ x. yes (name x)) xs)) h) (some_true value name xs)
+some_true : (value : Meaning → Bool) (meaning : ℕ → Meaning) (xs : List ℕ) → list_any (named_true value) (map (λ x. yes (meaning x)) xs) ≡ true → (x : ℕ) × Contains xs x × (value (meaning x) ≡ true)
+some_true value meaning [] h = cc
+some_true value meaning (y ∷ xs) h = by (either (value (meaning y)) (list_any (named_true value) (map (λ x. yes (meaning x)) xs)) h) (some_true value meaning xs)
   where
-    by : (value (name y) ≡ true) ⊎ (list_any (named_true value) (map (λ x. yes (name x)) xs) ≡ true) →
-        (list_any (named_true value) (map (λ x. yes (name x)) xs) ≡ true → (x : ℕ) × Contains xs x × (value (name x) ≡ true)) → (x : ℕ) × Contains (y ∷ xs) x × (value (name x) ≡ true)
+    by : (value (meaning y) ≡ true) ⊎ (list_any (named_true value) (map (λ x. yes (meaning x)) xs) ≡ true) →
+        (list_any (named_true value) (map (λ x. yes (meaning x)) xs) ≡ true → (x : ℕ) × Contains xs x × (value (meaning x) ≡ true)) → (x : ℕ) × Contains (y ∷ xs) x × (value (meaning x) ≡ true)
     by (inl e) later = (y, here_first y xs y refl, e)
     by (inr rest) later = let found = later rest in (found.0, here_later y xs found.0 found.1, found.2)
 
@@ -123,7 +123,7 @@ place_of f xs x in' = let got = at_place xs x in' in (got.0, got.1, slice_get-ma
 one_there : (xs : List ℕ) (j k x y : ℕ) → j ≡ k → slice_get xs j ≡ Some x → slice_get xs k ≡ Some y → x ≡ y
 one_there xs j k x y same at_j at_k = let both : Some x ≡ Some y = sym at_j ∙ ap (slice_get xs) same ∙ at_k in cc
 
-module _ (net : Net) (log : Log) (n : ℕ) (value : Name → Bool) (held : LogClausesHold net log n value) where
+module _ (net : Net) (log : Log) (n : ℕ) (value : Meaning → Bool) (held : LogClausesHold net log n value) where
   -- what holds further down a chain holds further up
   pub ascends : (e k m t : ℕ) → k ≤ m → m ≤ length (chain net log e) → t < n → value (remaining e m (suc t)) ≡ true → value (remaining e k (suc t)) ≡ true
   ascends e k zero t h inside step is = let same : k ≡ 0 = omega arith in rw same is

@@ -17,7 +17,7 @@ use Rattle.log_clauses.specs.LogClauses.{matching_events}
 use Rattle.log_clauses.specs.LogLaws.{IsArranged, LogIsSound}
 use Rattle.log_clauses.specs.LogTruth.{LogClausesHold, GuardsHold}
 use Rattle.log_order.specs.Log.{Log, ListsOnce, Keeps, IsValidLog, place_in}
-use Rattle.prop_core.specs.VariableNames.{Name, happens, matches, done}
+use Rattle.prop_core.specs.VariableNames.{Meaning, happens, matches, done}
 use Rattle.replay.specs.Explanation.{Entry, alarms_of, real_alarms, may_stand, observables, Shows, Linearises, is_matching}
 
 some_is : {X : Type 0} (a b : X) → Some a ≡ Some b → a ≡ b
@@ -76,7 +76,7 @@ zip_mapped R f (x ∷ xs) h = by (f x) refl (zip_mapped R f xs h)
     by None e rest = rw e rest
     by (Some y) e rest = rw e (h x y e, rest)
 
-module _ (net : Net) (log : Log) (n : ℕ) (value : Name → Bool) (held : LogClausesHold net log n value) (guards : GuardsHold net log value)
+module _ (net : Net) (log : Log) (n : ℕ) (value : Meaning → Bool) (held : LogClausesHold net log n value) (guards : GuardsHold net log value)
     (alarms : List ℕ) (complete : ListsOnce (length log.alarms) alarms) (kept : Keeps alarms log.pairs) where
   -- of two alarms in an order the first is another, and no pair wants it the other way round
   sorted : EachPair (λ a b. (a ≢ b) × (Contains log.pairs (b, a) → ⊥)) alarms
@@ -307,7 +307,7 @@ module _ (net : Net) (log : Log) (n : ℕ) (value : Name → Bool) (held : LogCl
   arranged_pieces t [] count are = tt
   arranged_pieces t (piece ∷ pieces) count are = (arranged_piece t piece (omega arith) are.0, arranged_pieces (suc t) pieces (omega arith) are.1)
 
-arranged_length : (net : Net) (log : Log) (value : Name → Bool) (alarms : List ℕ) (t : ℕ) (pieces : List (List ℕ)) → length (arranged net log value alarms t pieces) ≡ length pieces
+arranged_length : (net : Net) (log : Log) (value : Meaning → Bool) (alarms : List ℕ) (t : ℕ) (pieces : List (List ℕ)) → length (arranged net log value alarms t pieces) ≡ length pieces
 arranged_length net log value alarms t [] = refl
 arranged_length net log value alarms t (piece ∷ pieces) = ap suc (arranged_length net log value alarms (suc t) pieces)
 
@@ -316,29 +316,29 @@ weaken R S [] h each = tt
 weaken R S (x ∷ xs) h each = (all_from (S x) xs (λ y in'. h x y (all_at (R x) xs each.0 y in')), weaken R S xs h each.1)
 
 -- A false alarm is doubtful, and each entry tells what the names say.
-arranged_doubted : (log : Log) (value : Name → Bool) (alarms : List ℕ) (t : ℕ) (pieces : List (List ℕ)) → AllByRecursion (λ entry. may_stand log entry ≡ true) (arranged_order log value alarms t pieces)
+arranged_doubted : (log : Log) (value : Meaning → Bool) (alarms : List ℕ) (t : ℕ) (pieces : List (List ℕ)) → AllByRecursion (λ entry. may_stand log entry ≡ true) (arranged_order log value alarms t pieces)
 arranged_doubted log value alarms t [] = tt
 arranged_doubted log value alarms t (piece ∷ pieces) =
     all_append (λ entry. may_stand log entry ≡ true) (entries_at log value alarms (suc t)) (arranged_order log value alarms (suc t) pieces)
     (entries_doubted log value (filter (λ i. comes value i (suc t)) alarms)) (arranged_doubted log value alarms (suc t) pieces)
 
-whole_doubted : (log : Log) (value : Name → Bool) (alarms : List ℕ) (pieces : List (List ℕ)) → AllByRecursion (λ entry. may_stand log entry ≡ true) (whole_order log value alarms pieces)
+whole_doubted : (log : Log) (value : Meaning → Bool) (alarms : List ℕ) (pieces : List (List ℕ)) → AllByRecursion (λ entry. may_stand log entry ≡ true) (whole_order log value alarms pieces)
 whole_doubted log value alarms pieces =
     all_append (λ entry. may_stand log entry ≡ true) (entries_at log value alarms 0) (arranged_order log value alarms 0 pieces)
     (entries_doubted log value (filter (λ i. comes value i 0) alarms)) (arranged_doubted log value alarms 0 pieces)
 
-arranged_told : (log : Log) (value : Name → Bool) (alarms : List ℕ) (t : ℕ) (pieces : List (List ℕ)) → AreTold log value (arranged_order log value alarms t pieces)
+arranged_told : (log : Log) (value : Meaning → Bool) (alarms : List ℕ) (t : ℕ) (pieces : List (List ℕ)) → AreTold log value (arranged_order log value alarms t pieces)
 arranged_told log value alarms t [] = tt
 arranged_told log value alarms t (piece ∷ pieces) =
     all_append (λ (entry : Entry). entry.real ≡ not (is_false_alarm log value entry.alarm)) (entries_at log value alarms (suc t)) (arranged_order log value alarms (suc t) pieces)
     (entries_told log value (filter (λ i. comes value i (suc t)) alarms)) (arranged_told log value alarms (suc t) pieces)
 
-whole_told : (log : Log) (value : Name → Bool) (alarms : List ℕ) (pieces : List (List ℕ)) → AreTold log value (whole_order log value alarms pieces)
+whole_told : (log : Log) (value : Meaning → Bool) (alarms : List ℕ) (pieces : List (List ℕ)) → AreTold log value (whole_order log value alarms pieces)
 whole_told log value alarms pieces =
     all_append (λ (entry : Entry). entry.real ≡ not (is_false_alarm log value entry.alarm)) (entries_at log value alarms 0) (arranged_order log value alarms 0 pieces)
     (entries_told log value (filter (λ i. comes value i 0) alarms)) (arranged_told log value alarms 0 pieces)
 
-sound_from : (net : Net) (log : Log) (value : Name → Bool) (pieces : List (List ℕ)) (alarms : List ℕ) →
+sound_from : (net : Net) (log : Log) (value : Meaning → Bool) (pieces : List (List ℕ)) (alarms : List ℕ) →
     IsValidLog log → ListsOnce (length log.alarms) alarms → Keeps alarms log.pairs → AreFrom net value 0 pieces → LogClausesHold net log (length pieces) value → GuardsHold net log value →
     IsArranged net log (length pieces) value alarms pieces
 sound_from net log value pieces alarms valid complete kept are held guards = record {

@@ -9,21 +9,21 @@ use Rattle.log_clauses.specs.Coded.{coded_truth, opened}
 use Rattle.log_clauses.specs.Decoded.{decoded, decoded_order, alarm_at, alarm_event}
 use Rattle.log_clauses.specs.Drafts.{added_clauses, first_clauses}
 use Rattle.log_clauses.specs.LogClauses.{chain, matching_events, observable_events, LogClause, log_clause, guard_literals, chain_closed, takes_rest, uses_up, matched_once, done_by_match, one_match, not_done_first, before_if_asked}
-use Rattle.log_clauses.specs.LogNames.{added_names, first_names}
+use Rattle.log_clauses.specs.LogNames.{added_meanings, first_meanings}
 use Rattle.des_net.specs.Width.{joined}
 use Rattle.replay.specs.Deciding.{explains}
 use Rattle.replay.specs.Explanation.{Entry}
 use Rattle.prop_core.specs.NamedClauses.{named_true, named_clause_true}
 use Rattle.card_counter.specs.Exclusions.{two}
-use Rattle.prop_core.specs.VariableNames.{Name, in_state, happens, asked, matches, done, unmatched, closed, dropped, reaches, some_of_first, yes, no}
+use Rattle.prop_core.specs.VariableNames.{Meaning, in_state, happens, asked, matches, done, unmatched, closed, dropped, reaches, some_of_first, yes, no}
 use Rattle.std.specs.Prelude.{Some, None}
 
 abbrev pub alarm : List ℕ → List (List ℕ) → Alarm
-alarm name labels = an_alarm name labels false
+alarm meaning labels = an_alarm meaning labels false
 
 -- one that is perhaps false
 abbrev pub maybe : List ℕ → List (List ℕ) → Alarm
-maybe name labels = an_alarm name labels true
+maybe meaning labels = an_alarm meaning labels true
 
 abbrev entry : ℕ → Bool → Entry
 entry i real = record { alarm = i; real = real }
@@ -90,7 +90,7 @@ abbrev y_before_x : Log
 y_before_x = log_after no_log (alarm_added x ∷ alarm_added y ∷ pair_added 1 0 ∷ [])
 
 -- both events happen in step 1
-abbrev both : Name → Bool
+abbrev both : Meaning → Bool
 both (in_state c q t) = true
 both (happens e t) = t == 1
 both asked = false
@@ -103,7 +103,7 @@ both (reaches i j) = false
 both (some_of_first family i) = false
 
 -- eb stands for y, and ea for x
-abbrev matched : Name → Bool
+abbrev matched : Meaning → Bool
 matched = coded_truth apart y_before_x ((1 ∷ 0 ∷ []) ∷ []) ([] ∷ all_true (1 ∷ 0 ∷ []) ∷ []) both
 
 -- the clauses of the log in one step, as they come
@@ -150,21 +150,21 @@ pub unguarded_opens : list_all (λ which. named_clause_true (opened both) (log_c
 unguarded_opens = refl
 
 -- x a step before y is against the pair
-abbrev x_first : Name → Bool
+abbrev x_first : Meaning → Bool
 x_first = coded_truth apart y_before_x ((0 ∷ []) ∷ (1 ∷ []) ∷ []) ([] ∷ all_true (0 ∷ []) ∷ all_true (1 ∷ []) ∷ []) both
 
 pub pair_broken : named_clause_true x_first (log_clause apart y_before_x 2 (before_if_asked 1 0 1)) ≡ false
 pair_broken = refl
 
 -- one alarm in two steps
-abbrev twice : Name → Bool
+abbrev twice : Meaning → Bool
 twice = coded_truth apart y_before_x ((0 ∷ []) ∷ (0 ∷ []) ∷ []) ([] ∷ all_true (0 ∷ []) ∷ all_true (0 ∷ []) ∷ []) both
 
 pub matched_twice : named_clause_true twice (log_clause apart y_before_x 2 (matched_once 0 0 1)) ≡ false
 matched_twice = refl
 
 -- one alarm for two events of a step
-abbrev for_two : Name → Bool
+abbrev for_two : Meaning → Bool
 for_two = coded_truth pump beats ((1 ∷ 3 ∷ []) ∷ []) ([] ∷ all_true (0 ∷ 0 ∷ []) ∷ []) both
 
 pub two_events : named_clause_true for_two (log_clause pump beats 1 (one_match 0 0 (two 0 1 (matches 0 1 1) (matches 0 3 1)))) ≡ false
@@ -179,7 +179,7 @@ abbrev y_perhaps_z_x : Log
 y_perhaps_z_x = log_after no_log (alarm_added x ∷ alarm_added z ∷ alarm_added y ∷ pair_added 2 1 ∷ pair_added 1 0 ∷ [])
 
 -- z is done in step 1, as the others are
-abbrev z_dropped : Name → Bool
+abbrev z_dropped : Meaning → Bool
 z_dropped = coded_truth apart y_perhaps_z_x ((1 ∷ 0 ∷ []) ∷ []) ([] ∷ (entry 2 true ∷ entry 1 false ∷ entry 0 true ∷ []) ∷ []) both
 
 abbrev clauses_with_z : List LogClause
@@ -205,7 +205,7 @@ pub z-explains : explains apart y_perhaps_z_x 1 (joined (decoded apart y_perhaps
 z-explains = refl
 
 -- done from the start it would be before y
-abbrev z_early : Name → Bool
+abbrev z_early : Meaning → Bool
 z_early = coded_truth apart y_perhaps_z_x ((1 ∷ 0 ∷ []) ∷ []) ((entry 1 false ∷ []) ∷ (entry 2 true ∷ entry 0 true ∷ []) ∷ []) both
 
 pub z-too_early : named_clause_true z_early (log_clause apart y_perhaps_z_x 1 (before_if_asked 2 1 0)) ≡ false
@@ -218,7 +218,7 @@ certain_first = refl
 pub doubtful_first : log_clause apart y_perhaps_z_x 1 (not_done_first 1) ≡ no (done 1 0) ∷ yes (dropped 1) ∷ []
 doubtful_first = refl
 
-pub names_of_z : added_names apart no_log 1 (alarm_added z) ≡ done 0 0 ∷ done 0 1 ∷ dropped 0 ∷ []
+pub names_of_z : added_meanings apart no_log 1 (alarm_added z) ≡ done 0 0 ∷ done 0 1 ∷ dropped 0 ∷ []
 names_of_z = refl
 
 -- a doubtful trip in two steps: one clause more for each match
@@ -231,7 +231,7 @@ clauses_of_doubtful = refl
 pub clauses_of_x : length (added_clauses apart no_log 2 (alarm_added x)) ≡ 20
 clauses_of_x = refl
 
-pub names_of_x : added_names apart no_log 2 (alarm_added x)
+pub names_of_x : added_meanings apart no_log 2 (alarm_added x)
     ≡ closed 0 1 ∷ matches 0 0 1 ∷ unmatched 0 1 1 ∷ matches 0 0 2 ∷ unmatched 0 1 2 ∷ done 0 0 ∷ done 0 1 ∷ done 0 2 ∷ []
 names_of_x = refl
 
@@ -243,5 +243,5 @@ clauses_of_two = refl
 pub clauses_of_none : length (added_clauses apart no_log 2 (alarm_added (alarm (codes "z") (codes "C" ∷ [])))) ≡ 6
 clauses_of_none = refl
 
-pub first_of_apart : first_names apart ≡ asked ∷ closed 0 0 ∷ closed 1 0 ∷ []
+pub first_of_apart : first_meanings apart ≡ asked ∷ closed 0 0 ∷ closed 1 0 ∷ []
 first_of_apart = refl

@@ -6,7 +6,7 @@ use Rattle.log_clauses.specs.Additions.{Addition, alarm_added, pair_added, with_
 use Rattle.log_clauses.specs.Coded.{opened}
 use Rattle.log_clauses.specs.LogClauses.{chain, LogClause, log_clause, IsLogClause}
 use Rattle.log_clauses.specs.LogTruth.{LogClausesHold}
-use Rattle.prop_core.specs.VariableNames.{Name}
+use Rattle.prop_core.specs.VariableNames.{Meaning}
 use Rattle.replay.specs.Explanation.{is_matching}
 
 -- The chain of an event has the new alarm at its end where it may stand for the event, and a pair changes no chain.
@@ -31,6 +31,6 @@ EmptyLogIsExact = (net : Net) (n : ℕ) (which : LogClause) → IsLogClause net 
 
 -- So the clauses of a log hold together with those of all logs that it grew from, and all of them without a guard.
 abbrev pub AdditionsStayOpen : Type 0
-AdditionsStayOpen = (net : Net) (log : Log) (n : ℕ) (additions : List Addition) (value : Name → Bool) →
+AdditionsStayOpen = (net : Net) (log : Log) (n : ℕ) (additions : List Addition) (value : Meaning → Bool) →
     (LogClausesHold net (log_after log additions) n value → (k : ℕ) → LogClausesHold net (log_after log (take k additions)) n value)
     × ((k : ℕ) → LogClausesHold net (log_after log (take k additions)) n (opened value))

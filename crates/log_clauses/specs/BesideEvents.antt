@@ -8,16 +8,16 @@ use Rattle.log_clauses.specs.Drafts.{added_list, first_list}
 use Rattle.log_clauses.specs.LogClauses.{guard_literals}
 use Rattle.log_clauses.specs.LogCodeLaws.{IsLogCode}
 use Rattle.log_clauses.specs.LogCodes.{IsNamedLog}
-use Rattle.log_clauses.specs.LogNames.{AreLogNames, with_added, added_names, first_names}
+use Rattle.log_clauses.specs.LogNames.{AreLogMeanings, with_added, added_meanings, first_meanings}
 use Rattle.prop_core.specs.Clauses.{Clause}
 use Rattle.prop_core.specs.Listings.{IsListed}
 use Rattle.prop_core.specs.NamedClauses.{IsCode}
-use Rattle.prop_core.specs.VariableNames.{Name, happens, name_of, HasEachOnce, ReadsAs}
+use Rattle.prop_core.specs.VariableNames.{Meaning, happens, meaning_of, HasEachOnce, ReadsAs}
 use Rattle.prop_core.specs.declared.lit.Lit.{Lit}
 use Rattle.run_clauses.specs.LaidOut.{laid_out, event_block}
 
 -- the events of n steps on variables in a row from the first on, event by event and step by step within each, and these names
-abbrev pub with_events : Net → ℕ → ℕ → List (ℕ × Name) → List (ℕ × Name)
+abbrev pub with_events : Net → ℕ → ℕ → List (ℕ × Meaning) → List (ℕ × Meaning)
 with_events net n first names = laid_out first (event_block n (length net.events)) ++ names
 
 -- the variable comes after those of the events
@@ -25,36 +25,36 @@ abbrev pub IsAfterEvents : Net → ℕ → ℕ → ℕ → Type 0
 IsAfterEvents net n first var = first + length net.events * n ≤ var
 
 -- the names go together with those of the events, each once, and each keeps its variable
-pub record AreBesideEvents (net : Net) (n first : ℕ) (names : List (ℕ × Name)) : Type 0 where
+pub record AreBesideEvents (net : Net) (n first : ℕ) (names : List (ℕ × Meaning)) : Type 0 where
   pub once : HasEachOnce (with_events net n first names)
-  pub event : (e t : ℕ) → e < length net.events → t < n → name_of (with_events net n first names) (first + (e * n + t)) ≡ Some (happens e (suc t))
-  pub other : (var : ℕ) (name : Name) → name_of names var ≡ Some name → name_of (with_events net n first names) var ≡ Some name
+  pub event : (e t : ℕ) → e < length net.events → t < n → meaning_of (with_events net n first names) (first + (e * n + t)) ≡ Some (happens e (suc t))
+  pub other : (var : ℕ) (meaning : Meaning) → meaning_of names var ≡ Some meaning → meaning_of (with_events net n first names) var ≡ Some meaning
 
 -- So the names of a log do on later variables.
-abbrev pub NamesJoinEvents : Type 0
-NamesJoinEvents = (net : Net) (log : Log) (n first vars : ℕ) (names : List (ℕ × Name)) → AreLogNames net log n vars names →
+abbrev pub MeaningsJoinEvents : Type 0
+MeaningsJoinEvents = (net : Net) (log : Log) (n first vars : ℕ) (names : List (ℕ × Meaning)) → AreLogMeanings net log n vars names →
     AllByRecursion (λ entry. IsAfterEvents net n first entry.0) names → AreBesideEvents net n first names
 
 -- the names of a log on variables after those of the events and below a number, and its clauses by these names
-pub record HasLogCode (net : Net) (log : Log) (n first vars : ℕ) (names : List (ℕ × Name)) (written : List Clause) : Type 0 where
-  pub named : AreLogNames net log n vars names
+pub record HasLogCode (net : Net) (log : Log) (n first vars : ℕ) (names : List (ℕ × Meaning)) (written : List Clause) : Type 0 where
+  pub named : AreLogMeanings net log n vars names
   pub after : AllByRecursion (λ entry. IsAfterEvents net n first entry.0) names
   pub code : IsCode (with_events net n first names) (IsNamedLog net log n) written
 
 -- Its first clauses on the next variables are the code of the empty log,
 abbrev pub LogCodeBegins : Type 0
 LogCodeBegins = (net : Net) (n first vars : ℕ) (written : List Clause) → IsAfterEvents net n first vars →
-    IsListed (with_events net n first (laid_out vars (first_names net))) (first_list net n) written →
-    HasLogCode net no_log n first (vars + length (first_names net)) (laid_out vars (first_names net)) written
+    IsListed (with_events net n first (laid_out vars (first_meanings net))) (first_list net n) written →
+    HasLogCode net no_log n first (vars + length (first_meanings net)) (laid_out vars (first_meanings net)) written
 
 -- a draft on later variables makes it the code of the log with the addition,
 abbrev pub LogCodeGrows : Type 0
-LogCodeGrows = (net : Net) (log : Log) (n first vars next : ℕ) (addition : Addition) (names : List (ℕ × Name)) (written drafted : List Clause) →
+LogCodeGrows = (net : Net) (log : Log) (n first vars next : ℕ) (addition : Addition) (names : List (ℕ × Meaning)) (written drafted : List Clause) →
     HasLogCode net log n first vars names written → vars ≤ next →
     IsListed (with_events net n first (with_added net log n addition names next)) (added_list net log n addition) drafted →
-    HasLogCode net (with_addition log addition) n first (next + length (added_names net log n addition)) (with_added net log n addition names next) (written ++ drafted)
+    HasLogCode net (with_addition log addition) n first (next + length (added_meanings net log n addition)) (with_added net log n addition names next) (written ++ drafted)
 
 -- and with its guards it is a code of the log.
 abbrev pub LogCodesAre : Type 0
-LogCodesAre = (net : Net) (log : Log) (n first vars : ℕ) (names : List (ℕ × Name)) (written : List Clause) (assumed : List Lit) →
+LogCodesAre = (net : Net) (log : Log) (n first vars : ℕ) (names : List (ℕ × Meaning)) (written : List Clause) (assumed : List Lit) →
     HasLogCode net log n first vars names written → ReadsAs (with_events net n first names) assumed (guard_literals net log) → IsLogCode net log n (with_events net n first names) written assumed

@@ -5,11 +5,11 @@ use Rattle.des_net.specs.Network.{Net}
 use Rattle.des_net.specs.Width.{joined}
 use Rattle.log_order.specs.Log.{Log}
 use Rattle.log_clauses.specs.LogClauses.{chain, matching_events}
-use Rattle.prop_core.specs.VariableNames.{Name, in_state, happens, asked, matches, done, unmatched, closed, dropped, reaches, some_of_first, of_states, of_events, of_matches}
+use Rattle.prop_core.specs.VariableNames.{Meaning, in_state, happens, asked, matches, done, unmatched, closed, dropped, reaches, some_of_first, of_states, of_events, of_matches}
 use Rattle.replay.specs.Explanation.{observables, Entry, alarms_of, real_alarms}
 
 -- Nothing is asked for, no chain is closed, and no alarm stands for an event: each event that happens is passed on.
-abbrev pub opened : (Name → Bool) → Name → Bool
+abbrev pub opened : (Meaning → Bool) → Meaning → Bool
 opened value (in_state c q t) = value (in_state c q t)
 opened value (happens e t) = value (happens e t)
 opened value asked = false
@@ -39,7 +39,7 @@ abbrev pub is_dropped : List Entry → ℕ → Bool
 is_dropped order i = list_any (λ entry. entry.alarm == i && not entry.real) order
 
 -- The truth by which the true alarms of each block stand for the events of its piece, and the false ones are done with it: those of the first block from the start.
-abbrev pub coded_truth : Net → Log → List (List ℕ) → List (List Entry) → (Name → Bool) → Name → Bool
+abbrev pub coded_truth : Net → Log → List (List ℕ) → List (List Entry) → (Meaning → Bool) → Meaning → Bool
 coded_truth net log pieces blocks value (in_state c q t) = value (in_state c q t)
 coded_truth net log pieces blocks value (happens e t) = value (happens e t)
 coded_truth net log pieces blocks value asked = true

@@ -10,7 +10,7 @@ use Rattle.log_clauses.specs.LogCodes.{IsNamedAdded, IsNamedFirst}
 use Rattle.prop_core.specs.Clauses.{Clause}
 use Rattle.prop_core.specs.NamedClauses.{IsCode}
 use Rattle.card_counter.specs.Exclusions.{exclusion_list}
-use Rattle.prop_core.specs.VariableNames.{Name, matches}
+use Rattle.prop_core.specs.VariableNames.{Meaning, matches}
 use Rattle.replay.specs.QuestionSize.{question_size}
 use Rattle.prop_core.specs.Listings.{Listing, IsListed}
 
@@ -62,7 +62,7 @@ first_list net n = map (log_clause net no_log n) (first_clauses net n)
 
 -- Clauses that are listed so are the code of the addition, or of the empty log.
 abbrev pub DraftsAreCode : Type 0
-DraftsAreCode = (net : Net) (n : ℕ) (names : List (ℕ × Name)) (clauses : List Clause) →
+DraftsAreCode = (net : Net) (n : ℕ) (names : List (ℕ × Meaning)) (clauses : List Clause) →
     ((log : Log) (addition : Addition) → IsListed names (added_list net log n addition) clauses → IsCode names (IsNamedAdded net log n addition) clauses)
     × (IsListed names (first_list net n) clauses → IsCode names (IsNamedFirst net n) clauses)
 

@@ -5,7 +5,7 @@ use Rattle.des_base.specs.Lists.{numbers_below}
 use Rattle.des_net.specs.Network.{Net, label_of}
 use Rattle.log_order.specs.Log.{Log, is_doubtful}
 use Rattle.card_counter.specs.Exclusions.{ExclusionClause, exclusion_clause, IsExclusionClause}
-use Rattle.prop_core.specs.VariableNames.{Name, NamedLiteral, yes, no, asked, matches, done, closed, dropped, remaining, of_matches}
+use Rattle.prop_core.specs.VariableNames.{Meaning, NamedLiteral, yes, no, asked, matches, done, closed, dropped, remaining, of_matches}
 use Rattle.replay.specs.Explanation.{is_matching}
 
 -- The chain of an event: the alarms that may stand for it, in the order of the log. An event that happens is passed along its chain until one of these alarms takes it.
@@ -17,7 +17,7 @@ abbrev pub matching_events : Net → Log → ℕ → List ℕ
 matching_events net log i = filter (λ e. is_matching net log e i) (numbers_below (length net.events))
 
 -- of what at most one is so: that alarm i stands for one of these events in step t, counted from 1
-abbrev pub match_inputs : Net → Log → ℕ → ℕ → List Name
+abbrev pub match_inputs : Net → Log → ℕ → ℕ → List Meaning
 match_inputs net log i t = map (λ e. matches i e t) (matching_events net log i)
 
 -- the events that can be seen, by number

@@ -11,24 +11,24 @@ use Rattle.log_clauses.specs.LogLaws.{IsArranged, AreMatched, HasFalse}
 use Rattle.log_clauses.specs.LogTruth.{is_of_log}
 use Rattle.prop_core.specs.Clauses.{Clause, AllClausesTrue, AllLiteralsTrue}
 use Rattle.prop_core.specs.NamedClauses.{IsCode, value_by}
-use Rattle.prop_core.specs.VariableNames.{Name, name_of, HasEachOnce, ReadsAs}
+use Rattle.prop_core.specs.VariableNames.{Meaning, meaning_of, HasEachOnce, ReadsAs}
 use Rattle.prop_core.specs.declared.lit.Lit.{Lit}
 use Rattle.replay.specs.Explanation.{Entry, Linearises, Explains}
 use Rattle.run_clauses.specs.StepCodes.{IsNamedStep}
 use Rattle.run_clauses.specs.Steps.{AreSteps}
 
 -- by these names, each with one variable, the clauses are those of the log, and what is assumed are its guards
-pub record IsLogCode (net : Net) (log : Log) (n : ℕ) (names : List (ℕ × Name)) (written : List Clause) (assumed : List Lit) : Type 0 where
+pub record IsLogCode (net : Net) (log : Log) (n : ℕ) (names : List (ℕ × Meaning)) (written : List Clause) (assumed : List Lit) : Type 0 where
   pub once : HasEachOnce names
   pub clauses : IsCode names (IsNamedLog net log n) written
   pub guards : ReadsAs names assumed (guard_literals net log)
 
 -- the variable is one of the log alone
-abbrev pub is_log_variable : List (ℕ × Name) → ℕ → Bool
-is_log_variable names var = unwrap_or (option_map is_of_log (name_of names var)) false
+abbrev pub is_log_variable : List (ℕ × Meaning) → ℕ → Bool
+is_log_variable names var = unwrap_or (option_map is_of_log (meaning_of names var)) false
 
 -- the same truth for all variables but those of the log alone
-abbrev pub DifferInLogVariables : List (ℕ × Name) → (ℕ → Bool) → (ℕ → Bool) → Type 0
+abbrev pub DifferInLogVariables : List (ℕ × Meaning) → (ℕ → Bool) → (ℕ → Bool) → Type 0
 DifferInLogVariables names given assignment = (var : ℕ) → is_log_variable names var ≡ false → assignment var ≡ given var
 
 -- the assignment makes the clauses of a log and its guards true
@@ -37,7 +37,7 @@ pub record MakesLogTrue (assignment : ℕ → Bool) (written : List Clause) (ass
   pub guards : AllLiteralsTrue assignment assumed
 
 -- by these names clauses and guards say exactly which steps linearise the log, and the clauses alone allow whatever events happen
-pub record IsExactLogCode (net : Net) (log : Log) (n : ℕ) (names : List (ℕ × Name)) (written : List Clause) (assumed : List Lit) : Type 0 where
+pub record IsExactLogCode (net : Net) (log : Log) (n : ℕ) (names : List (ℕ × Meaning)) (written : List Clause) (assumed : List Lit) : Type 0 where
   -- Where clauses and guards are true, the sets of the steps, arranged by any order of the alarms that keeps the pairs, linearise the log.
   pub sound : (assignment : ℕ → Bool) (pieces : List (List ℕ)) (alarms : List ℕ) → IsValidLog log → ListsOnce (length log.alarms) alarms → Keeps alarms log.pairs →
       AreSteps net n (value_by names assignment) pieces → MakesLogTrue assignment written assumed → IsArranged net log n (value_by names assignment) alarms pieces
@@ -51,13 +51,13 @@ pub record IsExactLogCode (net : Net) (log : Log) (n : ℕ) (names : List (ℕ �
 
 -- The code of a log is exact.
 abbrev pub LogCodeIsExact : Type 0
-LogCodeIsExact = (net : Net) (log : Log) (n : ℕ) (names : List (ℕ × Name)) (written : List Clause) (assumed : List Lit) →
+LogCodeIsExact = (net : Net) (log : Log) (n : ℕ) (names : List (ℕ × Meaning)) (written : List Clause) (assumed : List Lit) →
     IsLogCode net log n names written assumed → IsExactLogCode net log n names written assumed
 
 -- ---- together with the steps
 
 -- by the same names the clauses of the steps and of the log, with its guards: a question that sets no bound on faults
-pub record IsUnboundedQuestion (net : Net) (log : Log) (n : ℕ) (names : List (ℕ × Name)) (stepped written : List Clause) (assumed : List Lit) : Type 0 where
+pub record IsUnboundedQuestion (net : Net) (log : Log) (n : ℕ) (names : List (ℕ × Meaning)) (stepped written : List Clause) (assumed : List Lit) : Type 0 where
   pub steps : IsCode names (IsNamedStep net n) stepped
   pub log_code : IsLogCode net log n names written assumed
 
@@ -68,25 +68,25 @@ pub record MakesQuestionTrue (assignment : ℕ → Bool) (stepped written : List
 
 -- Each explanation, cut into pieces, has an assignment that makes all true, and whose event variables are those of the pieces, and as many alarms are false by it.
 abbrev pub ExplanationsAreCoded : Type 0
-ExplanationsAreCoded = (net : Net) (log : Log) (n : ℕ) (names : List (ℕ × Name)) (stepped written : List Clause) (assumed : List Lit) (word : List ℕ) (order : List Entry) (pieces : List (List ℕ)) →
+ExplanationsAreCoded = (net : Net) (log : Log) (n : ℕ) (names : List (ℕ × Meaning)) (stepped written : List Clause) (assumed : List Lit) (word : List ℕ) (order : List Entry) (pieces : List (List ℕ)) →
     IsNetwork net → IsUnboundedQuestion net log n names stepped written assumed →
     IsRun net word → length pieces ≡ n → IsCutInto net word pieces → Linearises net log word order →
     (assignment : ℕ → Bool) × AreSteps net n (value_by names assignment) pieces × MakesQuestionTrue assignment stepped written assumed × HasFalse log (value_by names assignment) order
 
 -- the pieces and the order that a truth of names gives explain the log, and are its steps
-pub record IsDecoded (net : Net) (log : Log) (n : ℕ) (value : Name → Bool) (alarms : List ℕ) : Type 0 where
+pub record IsDecoded (net : Net) (log : Log) (n : ℕ) (value : Meaning → Bool) (alarms : List ℕ) : Type 0 where
   pub steps : AreSteps net n value (decoded net log value alarms n)
   pub explains : Explains net log n (joined (decoded net log value alarms n)) (decoded_order net log value alarms n)
   pub false_alarms : HasFalse log value (decoded_order net log value alarms n)
 
 -- Each assignment that makes all true gives an explanation, by any order of the alarms that keeps the pairs.
 abbrev pub AssignmentsExplain : Type 0
-AssignmentsExplain = (net : Net) (log : Log) (n : ℕ) (names : List (ℕ × Name)) (stepped written : List Clause) (assumed : List Lit) (assignment : ℕ → Bool) (alarms : List ℕ) →
+AssignmentsExplain = (net : Net) (log : Log) (n : ℕ) (names : List (ℕ × Meaning)) (stepped written : List Clause) (assumed : List Lit) (assignment : ℕ → Bool) (alarms : List ℕ) →
     IsNetwork net → IsUnboundedQuestion net log n names stepped written assumed → IsValidLog log → ListsOnce (length log.alarms) alarms → Keeps alarms log.pairs →
     MakesQuestionTrue assignment stepped written assumed → IsDecoded net log n (value_by names assignment) alarms
 
 -- Each run that fits n steps, whatever events of it can be seen, has an assignment that makes all clauses true where no guard is assumed.
 abbrev pub RunsStayOpen : Type 0
-RunsStayOpen = (net : Net) (log : Log) (n : ℕ) (names : List (ℕ × Name)) (stepped written : List Clause) (assumed : List Lit) (word : List ℕ) (pieces : List (List ℕ)) →
+RunsStayOpen = (net : Net) (log : Log) (n : ℕ) (names : List (ℕ × Meaning)) (stepped written : List Clause) (assumed : List Lit) (word : List ℕ) (pieces : List (List ℕ)) →
     IsNetwork net → IsUnboundedQuestion net log n names stepped written assumed → IsRun net word → length pieces ≡ n → IsCutInto net word pieces →
     (assignment : ℕ → Bool) × AreSteps net n (value_by names assignment) pieces × AllClausesTrue assignment stepped × AllClausesTrue assignment written

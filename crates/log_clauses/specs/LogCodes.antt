@@ -6,7 +6,7 @@ use Rattle.log_clauses.specs.Additions.{Addition, with_addition, IsAddedClause, 
 use Rattle.log_clauses.specs.LogClauses.{LogClause, log_clause, IsLogClause}
 use Rattle.prop_core.specs.Clauses.{Clause}
 use Rattle.prop_core.specs.NamedClauses.{IsCode}
-use Rattle.prop_core.specs.VariableNames.{Name, NamedLiteral, HasEachOnce, ReadsAs}
+use Rattle.prop_core.specs.VariableNames.{Meaning, NamedLiteral, HasEachOnce, ReadsAs}
 use Rattle.run_clauses.specs.StepCodes.{IsNamedStep}
 
 -- the clauses of a log
@@ -22,27 +22,27 @@ abbrev pub IsNamedAdded : Net → Log → ℕ → Addition → List NamedLiteral
 IsNamedAdded net log n addition named = (which : LogClause) × IsAddedClause net log n addition which × (log_clause net (with_addition log addition) n which ≡ named)
 
 -- each entry of the first list of names is in the second
-abbrev pub AreAmong : List (ℕ × Name) → List (ℕ × Name) → Type 0
-AreAmong names more = (entry : ℕ × Name) → Contains names entry → Contains more entry
+abbrev pub AreAmong : List (ℕ × Meaning) → List (ℕ × Meaning) → Type 0
+AreAmong names more = (entry : ℕ × Meaning) → Contains names entry → Contains more entry
 
 -- A clause that reads as something by some names reads so by more,
 abbrev pub ReadingsStay : Type 0
-ReadingsStay = (names more : List (ℕ × Name)) (clause : Clause) (named : List NamedLiteral) → HasEachOnce more → AreAmong names more → ReadsAs names clause named → ReadsAs more clause named
+ReadingsStay = (names more : List (ℕ × Meaning)) (clause : Clause) (named : List NamedLiteral) → HasEachOnce more → AreAmong names more → ReadsAs names clause named → ReadsAs more clause named
 
 -- and clauses that are those of the steps or of a log are so by more.
-pub record CodesStayBy (names more : List (ℕ × Name)) (clauses : List Clause) : Type 0 where
+pub record CodesStayBy (names more : List (ℕ × Meaning)) (clauses : List Clause) : Type 0 where
   pub steps : (net : Net) (n : ℕ) → IsCode names (IsNamedStep net n) clauses → IsCode more (IsNamedStep net n) clauses
   pub log : (net : Net) (log : Log) (n : ℕ) → IsCode names (IsNamedLog net log n) clauses → IsCode more (IsNamedLog net log n) clauses
 
 -- So it is of all clauses, by more names that have each variable and each name once.
 abbrev pub CodesStay : Type 0
-CodesStay = (names more : List (ℕ × Name)) (clauses : List Clause) → HasEachOnce more → AreAmong names more → CodesStayBy names more clauses
+CodesStay = (names more : List (ℕ × Meaning)) (clauses : List Clause) → HasEachOnce more → AreAmong names more → CodesStayBy names more clauses
 
 -- The first clauses are the code of the empty log,
 abbrev pub CodeBegins : Type 0
-CodeBegins = (net : Net) (n : ℕ) (names : List (ℕ × Name)) (clauses : List Clause) → IsCode names (IsNamedFirst net n) clauses → IsCode names (IsNamedLog net no_log n) clauses
+CodeBegins = (net : Net) (n : ℕ) (names : List (ℕ × Meaning)) (clauses : List Clause) → IsCode names (IsNamedFirst net n) clauses → IsCode names (IsNamedLog net no_log n) clauses
 
 -- and the code of a log with those of an addition is the code of the log with the addition.
 abbrev pub CodeGrows : Type 0
-CodeGrows = (net : Net) (log : Log) (n : ℕ) (addition : Addition) (names more : List (ℕ × Name)) (clauses drafted : List Clause) → HasEachOnce more → AreAmong names more →
+CodeGrows = (net : Net) (log : Log) (n : ℕ) (addition : Addition) (names more : List (ℕ × Meaning)) (clauses drafted : List Clause) → HasEachOnce more → AreAmong names more →
     IsCode names (IsNamedLog net log n) clauses → IsCode more (IsNamedAdded net log n addition) drafted → IsCode more (IsNamedLog net (with_addition log addition) n) (clauses ++ drafted)

@@ -12,12 +12,12 @@
 #![tactic(auto)]
 
 ghost use Rattle.log_clauses.specs.AdditionLaws.{AdditionsAreExact, AdditionsStayOpen, ChainsGrow, EmptyLogIsExact};
-ghost use Rattle.log_clauses.specs.BesideEvents.{LogCodeBegins, LogCodeGrows, LogCodesAre, NamesJoinEvents};
+ghost use Rattle.log_clauses.specs.BesideEvents.{LogCodeBegins, LogCodeGrows, LogCodesAre, MeaningsJoinEvents};
 ghost use Rattle.log_clauses.specs.Drafts.{DraftsAreCode, DraftsAreSmall, FirstClausesAreFew};
 ghost use Rattle.log_clauses.specs.LogCodeLaws.{AssignmentsExplain, ExplanationsAreCoded, LogCodeIsExact, RunsStayOpen};
 ghost use Rattle.log_clauses.specs.LogCodes.{CodeBegins, CodeGrows, CodesStay, ReadingsStay};
 ghost use Rattle.log_clauses.specs.LogLaws.{EventsAndAlarms, LogIsComplete, LogIsOpen, LogIsSound, MatchesAreExact, OnlyLogMatters};
-ghost use Rattle.log_clauses.specs.LogNames.{FirstNamesAreAll, NamesAreFew, NamesAreNew, NamesBegin, LogNamesGrow, OrderedReads, PlacesOfNames};
+ghost use Rattle.log_clauses.specs.LogNames.{FirstMeaningsAreAll, MeaningsAreFew, MeaningsAreNew, MeaningsBegin, LogMeaningsGrow, OrderedReads, PlacesOfMeanings};
 
 // ---- what the clauses of a log say, by name
 
@@ -119,39 +119,39 @@ pub fn ordered_reads()
 
 /// The first names are those of the empty log.
 pub fn first_names_are_all()
-    ensures { FirstNamesAreAll }
+    ensures { FirstMeaningsAreAll }
 {}
 
 /// The names of an addition are new, and with them a log has its names.
 pub fn names_are_new()
-    ensures { NamesAreNew }
+    ensures { MeaningsAreNew }
 {}
 
 /// The names of an addition are no more than the bound on the variables of a question grows by.
 pub fn names_are_few()
-    ensures { NamesAreFew }
+    ensures { MeaningsAreFew }
 {}
 
 /// The first names, on variables in a row, are the names of the empty log.
 pub fn names_begin()
-    ensures { NamesBegin }
+    ensures { MeaningsBegin }
 {}
 
 /// The names of an addition, on fresh variables in a row, make those of a log the names of the log with the addition.
 pub fn names_grow()
-    ensures { LogNamesGrow }
+    ensures { LogMeaningsGrow }
 {}
 
 /// Where the names of a new alarm stand in the row of the addition that brings it.
 pub fn places_of_names()
-    ensures { PlacesOfNames }
+    ensures { PlacesOfMeanings }
 {}
 
 // ---- the code of a log beside the variables of the events
 
 /// The names of a log go together with those of the events on earlier variables.
 pub fn names_join_events()
-    ensures { NamesJoinEvents }
+    ensures { MeaningsJoinEvents }
 {}
 
 /// The first clauses, on the next variables, are the code of the empty log.

@@ -11,7 +11,7 @@ use Rattle.log_order.specs.Log.{is_doubtful}
 use Rattle.log_clauses.specs.Additions.{alarm_added, with_addition}
 use Rattle.log_clauses.specs.LogClauses.{chain, observable_events, guard_literals, matching_events}
 use Rattle.log_clauses.specs.Decoded.{alarm_at, is_false_alarm}
-use Rattle.log_clauses.specs.LogNames.{first_names, ReadsInOrder}
+use Rattle.log_clauses.specs.LogNames.{first_meanings, ReadsInOrder}
 use Rattle.log_clauses.proofs.Lists.{clash, filter_has, filter_from}
 use Rattle.replay.specs.Explanation.{is_matching}
 use Rattle.run_clauses.proofs.Lists.{in_numbers}
@@ -25,7 +25,7 @@ use Rattle.log_encode.proofs.TakenLemmas.{map_count}
 use Rattle.log_encode.proofs.VariableLemmas.{link_is_small}
 use Rattle.log_encode.specs.AlarmState.{AlarmState, variables_of, is_matched}
 use Rattle.log_encode.specs.AlarmVariables.{AreWithinLimit, alarm_variable_count, false_width, match_variable, done_variable, dropped_variable}
-use Rattle.log_encode.specs.CodedLog.{CodedLog, log_names, read_names, empty_code, code_after, addition_width, nameless, false_literals, IsCodedLog}
+use Rattle.log_encode.specs.CodedLog.{CodedLog, log_meanings, read_meanings, empty_code, code_after, addition_width, nameless, false_literals, IsCodedLog}
 use Rattle.log_encode.specs.declared.log_code.LogCode.TheInside.{Inside}
 use Rattle.log_encode.specs.Drafted.{LogCodeState, DraftState, IsDraftOf, IsStepOfAlarm}
 use Rattle.log_encode.specs.declared.taken.ChainEnd.{ChainEnd}
@@ -41,7 +41,7 @@ use Rattle.replay.specs.QuestionSize.{question_size}
 use Rattle.std.specs.Option.{option_map_or}
 use Rattle.std.proofs.lemmas.Bool.{eqb-true, eq-eqb}
 use Rattle.log_encode.specs.declared.alarm_vars.AlarmVars.{AlarmVars}
-use Rattle.prop_core.specs.VariableNames.{Name, NamedLiteral, name_of, named_clause, yes, closed, matches, done, dropped}
+use Rattle.prop_core.specs.VariableNames.{Meaning, NamedLiteral, meaning_of, named_clause, yes, closed, matches, done, dropped}
 use Rattle.prop_core.specs.Listings.{IsListed}
 use Rattle.log_clauses.specs.Drafts.{added_list}
 use Rattle.log_encode.specs.WrittenLog.{AppendsFirst}
@@ -52,7 +52,7 @@ use Rattle.log_encode.specs.WrittenLog.{AppendsFirst}
 pub record IsBeginning (net : Net) (grid : Grid) (asked : ℕ) (chain_ends : List ChainEnd) : Type 0 where
   pub events : grid.events ≡ length net.events
   pub made : grid.first + grid.events * grid.steps ≤ asked
-  pub few : asked + length (first_names net) ≤ VAR_LIMIT
+  pub few : asked + length (first_meanings net) ≤ VAR_LIMIT
   pub begun : chain_ends ≡ first_ends (suc asked) (observable_events net)
 
 all_known : (net : Net) (grid : Grid) (chain_ends : List ChainEnd) → grid.events ≡ length net.events → map (λ (end : ChainEnd). end.event) chain_ends ≡ observable_events net → AllByRecursion (λ (end : ChainEnd). end.event < grid.events) chain_ends
@@ -67,7 +67,7 @@ first_events net grid asked chain_ends is = ap (map (λ (end : ChainEnd). end.ev
 pub first_known : (net : Net) (grid : Grid) (asked : ℕ) (chain_ends : List ChainEnd) → IsBeginning net grid asked chain_ends → All (λ (end : ChainEnd). end.event < grid.events) chain_ends
 first_known net grid asked chain_ends is = All-from_recursion (λ (end : ChainEnd). end.event < grid.events) chain_ends (all_known net grid chain_ends is.events (first_events net grid asked chain_ends is))
 
-pub first_guards : (net : Net) (grid : Grid) (asked : ℕ) (chain_ends : List ChainEnd) → IsBeginning net grid asked chain_ends → length (guards_of asked chain_ends) ≡ length (first_names net)
+pub first_guards : (net : Net) (grid : Grid) (asked : ℕ) (chain_ends : List ChainEnd) → IsBeginning net grid asked chain_ends → length (guards_of asked chain_ends) ≡ length (first_meanings net)
 first_guards net grid asked chain_ends is =
     let ends' = map_count (λ (end : ChainEnd). positive end.closed) chain_ends in
     let begun = ap length is.begun ∙ ends_count (suc asked) (observable_events net) in
@@ -75,7 +75,7 @@ first_guards net grid asked chain_ends is =
     omega (arith, ends', begun, names)
 
 pub first_kept : (net : Net) (grid : Grid) (asked vars : ℕ) (chain_ends : List ChainEnd) (guards lits : List Lit) (alarms : List AlarmState) (pairs : List (ℕ × ℕ)) → IsBeginning net grid asked chain_ends →
-    guards ≡ guards_of asked chain_ends → lits ≡ [] → alarms ≡ [] → pairs ≡ [] → vars ≡ asked + length (first_names net) → AreKept (coded_of net grid asked vars alarms pairs) chain_ends guards lits alarms
+    guards ≡ guards_of asked chain_ends → lits ≡ [] → alarms ≡ [] → pairs ≡ [] → vars ≡ asked + length (first_meanings net) → AreKept (coded_of net grid asked vars alarms pairs) chain_ends guards lits alarms
 first_kept net grid asked vars chain_ends guards lits alarms pairs is g d a p v =
     rw (g, d, a, p, v) (record {
       log = empty_is_coded net grid asked is.events is.made is.few;
@@ -84,11 +84,11 @@ first_kept net grid asked vars chain_ends guards lits alarms pairs is g d a p v 
       alarms = λ i alarm at. cc;
     })
 
-pub first_is_empty : (net : Net) (grid : Grid) (asked vars : ℕ) (alarms : List AlarmState) (pairs : List (ℕ × ℕ)) → alarms ≡ [] → pairs ≡ [] → vars ≡ asked + length (first_names net) → coded_of net grid asked vars alarms pairs ≡ empty_code net grid asked
+pub first_is_empty : (net : Net) (grid : Grid) (asked vars : ℕ) (alarms : List AlarmState) (pairs : List (ℕ × ℕ)) → alarms ≡ [] → pairs ≡ [] → vars ≡ asked + length (first_meanings net) → coded_of net grid asked vars alarms pairs ≡ empty_code net grid asked
 first_is_empty net grid asked vars alarms pairs a p v = rw (a, p, v) refl
 
 pub first_appends : (net : Net) (grid : Grid) (asked : ℕ) (chain_ends : List ChainEnd) (old made new : List Clause) → IsBeginning net grid asked chain_ends → made ≡ all_closed_written grid chain_ends → new ≡ old ++ made →
-    AppendsFirst net grid.steps (read_names (empty_code net grid asked)) old new
+    AppendsFirst net grid.steps (read_meanings (empty_code net grid asked)) old new
 first_appends net grid asked chain_ends old made new is written appended =
     let first = first_written net grid asked chain_ends (empty_is_coded net grid asked is.events is.made is.few) (first_events net grid asked chain_ends is) (all_known net grid chain_ends is.events (first_events net grid asked chain_ends is))
     (subst (AllByRecursion (IsChainEnd (empty_code net grid asked))) (sym is.begun) (empty_ends net grid asked).each) in record {
@@ -102,16 +102,16 @@ first_appends net grid asked chain_ends old made new is written appended =
 -- ---- guards
 
 ends_read : (code : CodedLog) (chain_ends : List ChainEnd) → IsCodedLog code → AllByRecursion (IsChainEnd code) chain_ends →
-    ReadsInOrder (read_names code) (map (λ (end : ChainEnd). positive end.closed) chain_ends) (map (λ e. yes (closed e (length (chain code.net code.log e)))) (map (λ (end : ChainEnd). end.event) chain_ends))
+    ReadsInOrder (read_meanings code) (map (λ (end : ChainEnd). positive end.closed) chain_ends) (map (λ e. yes (closed e (length (chain code.net code.log e)))) (map (λ (end : ChainEnd). end.event) chain_ends))
 ends_read code [] coded all = tt
 ends_read code (end ∷ chain_ends) coded all = ((lifted code end.closed _ coded all.0.closing, refl), ends_read code chain_ends coded all.1)
 
-pub guards_read : (code : CodedLog) (chain_ends : List ChainEnd) (guards : List Lit) → IsCodedLog code → AreEnds code chain_ends guards → named_clause (read_names code) guards ≡ Some (guard_literals code.net code.log)
+pub guards_read : (code : CodedLog) (chain_ends : List ChainEnd) (guards : List Lit) → IsCodedLog code → AreEnds code chain_ends guards → named_clause (read_meanings code) guards ≡ Some (guard_literals code.net code.log)
 guards_read code chain_ends guards coded are =
-    ordered_names (read_names code) guards (guard_literals code.net code.log)
-    (subst (λ gs. ReadsInOrder (read_names code) gs (guard_literals code.net code.log)) (sym are.guarding) (
+    ordered_names (read_meanings code) guards (guard_literals code.net code.log)
+    (subst (λ gs. ReadsInOrder (read_meanings code) gs (guard_literals code.net code.log)) (sym are.guarding) (
       (lifted code code.asked _ coded (asked_named code), refl),
-      subst (λ es. ReadsInOrder (read_names code) (map (λ (end : ChainEnd). positive end.closed) chain_ends) (map (λ e. yes (closed e (length (chain code.net code.log e)))) es)) are.events (ends_read code chain_ends coded are.each),
+      subst (λ es. ReadsInOrder (read_meanings code) (map (λ (end : ChainEnd). positive end.closed) chain_ends) (map (λ e. yes (closed e (length (chain code.net code.log e)))) es)) are.events (ends_read code chain_ends coded are.each),
     ))
 
 -- ---- an alarm that is there
@@ -162,11 +162,11 @@ rests code labels (end ∷ chain_ends) coded known all = by (has_any_label code.
 pub draft_rests : (code : CodedLog) (labels : List (List ℕ)) (maybe : Bool) (first : ℕ) (chain_ends : List ChainEnd) (guards : List Lit) → IsDrafting code labels maybe first chain_ends guards → All (HasRest code.grid) (taken_from code.net labels chain_ends)
 draft_rests code labels maybe first chain_ends guards is = All-from_recursion (HasRest code.grid) (taken_from code.net labels chain_ends) (rests code labels chain_ends is.coded (draft_known code labels maybe first chain_ends guards is) is.chains.each)
 
-pub begins : (net : Net) (grid : Grid) (vars asked : ℕ) (chain_ends : List ChainEnd) → asked ≡ vars → grid.events ≡ length net.events → grid.first + grid.events * grid.steps ≤ vars → vars + length (first_names net) ≤ VAR_LIMIT →
+pub begins : (net : Net) (grid : Grid) (vars asked : ℕ) (chain_ends : List ChainEnd) → asked ≡ vars → grid.events ≡ length net.events → grid.first + grid.events * grid.steps ≤ vars → vars + length (first_meanings net) ≤ VAR_LIMIT →
     chain_ends ≡ first_ends (suc asked) (observable_events net) → IsBeginning net grid asked chain_ends
 begins net grid vars asked chain_ends same events made few begun = record { events = events; made = omega (arith, made, same); few = omega (arith, few, same); begun = begun }
 
-pub guards_len : (net : Net) (grid : Grid) (asked len : ℕ) (chain_ends slice : List ChainEnd) (guards : List Lit) → IsBeginning net grid asked chain_ends → slice ≡ chain_ends → guards ≡ guards_of asked slice → length guards ≡ len → len ≡ length (first_names net)
+pub guards_len : (net : Net) (grid : Grid) (asked len : ℕ) (chain_ends slice : List ChainEnd) (guards : List Lit) → IsBeginning net grid asked chain_ends → slice ≡ chain_ends → guards ≡ guards_of asked slice → length guards ≡ len → len ≡ length (first_meanings net)
 guards_len net grid asked len chain_ends slice guards is same made count = sym count ∙ ap length (made ∙ ap (guards_of asked) same) ∙ first_guards net grid asked chain_ends is
 
 -- the alarm of a number, and the code that it stands in
@@ -212,14 +212,14 @@ link_none k (taken ∷ takes) e h here = by (taken.event == e) refl h (cons_case
 
 -- alarm k may stand for the event, and does in the step
 abbrev pub stands_for : CodedLog → (ℕ → Bool) → ℕ → ℕ → ℕ → Bool
-stands_for code value e t k = is_matching code.net code.log e k && value_by (log_names code) value (matches k e t)
+stands_for code value e t k = is_matching code.net code.log e k && value_by (log_meanings code) value (matches k e t)
 
 pub matched_is : (code : CodedLog) (i : ℕ) (alarm : AlarmState) (value : ℕ → Bool) (e step : ℕ) → IsCodedLog code → IsCodedAlarm code i alarm → e < length code.net.events → 1 ≤ step → step ≤ code.grid.steps →
     is_matched code.grid.steps alarm value e (step - 1) ≡ stands_for code value e step i
 matched_is code i alarm value e step coded is known from_one within = by (link_of alarm.takes e) refl
   where
     by : (o : Option ℕ) → link_of alarm.takes e ≡ o → option_map_or (λ link. value (match_variable (variables_of code.grid.steps alarm) link (step - 1))) o false ≡ stands_for code value e step i
-    by None at = sym (and_false (is_matching code.net code.log e i) (value_by (log_names code) value (matches i e step)) (otherwise (is_matching code.net code.log e i) (λ passes.
+    by None at = sym (and_false (is_matching code.net code.log e i) (value_by (log_meanings code) value (matches i e step)) (otherwise (is_matching code.net code.log e i) (λ passes.
         link_none 0 alarm.takes e at (subst (λ es. Contains es e) (sym is.events) (filter_has (λ x. is_matching code.net code.log x i) (numbers_below (length code.net.events)) e passes (in_numbers (length code.net.events) e known))))))
       where
         and_false : (a b : Bool) → a ≡ false → a && b ≡ false
@@ -231,10 +231,10 @@ matched_is code i alarm value e step coded is known from_one within = by (link_o
         let there : slice_get (matching_events code.net code.log i) found.0 ≡ Some e = subst (λ es. slice_get es found.0 ≡ Some e) is.events found.2 in
         let passes : is_matching code.net code.log e i ≡ true = (filter_from (λ x. is_matching code.net code.log x i) (numbers_below (length code.net.events)) e (contains_at (matching_events code.net code.log i) found.0 e there)).0 in
         let step_is : suc (step - 1) ≡ step = omega arith in
-        let named : name_of (log_names code) (match_variable (variables_of code.grid.steps alarm) link (step - 1)) ≡ Some (matches i e step) =
-        subst (λ p. name_of (log_names code) (match_variable (variables_of code.grid.steps alarm) p (step - 1)) ≡ Some (matches i e step)) (sym place)
-        (subst (λ t. name_of (log_names code) (match_variable (variables_of code.grid.steps alarm) found.0 (step - 1)) ≡ Some (matches i e t)) step_is (is.matching found.0 e (step - 1) there (omega arith))) in
-        let valued = values_match (log_names code) coded.names.once value (match_variable (variables_of code.grid.steps alarm) link (step - 1)) (matches i e step) named in
+        let named : meaning_of (log_meanings code) (match_variable (variables_of code.grid.steps alarm) link (step - 1)) ≡ Some (matches i e step) =
+        subst (λ p. meaning_of (log_meanings code) (match_variable (variables_of code.grid.steps alarm) p (step - 1)) ≡ Some (matches i e step)) (sym place)
+        (subst (λ t. meaning_of (log_meanings code) (match_variable (variables_of code.grid.steps alarm) found.0 (step - 1)) ≡ Some (matches i e t)) step_is (is.matching found.0 e (step - 1) there (omega arith))) in
+        let valued = values_match (log_meanings code) coded.names.once value (match_variable (variables_of code.grid.steps alarm) link (step - 1)) (matches i e step) named in
         rw passes valued
 
 -- the first of the numbers that pass both tests
@@ -307,7 +307,7 @@ ready_alarm code labels maybe first links chain_ends after guards then old later
 
 pub draft_brings : (code : CodedLog) (labels : List (List ℕ)) (maybe : Bool) (first links : ℕ) (chain_ends : List ChainEnd) (guards : List Lit) (takes : List Taken) (clauses : List Clause) → IsDrafting code labels maybe first chain_ends guards → takes ≡ taken_from code.net labels chain_ends → links ≡ length takes →
     clauses ≡ alarm_written code.grid code.asked (new_vars code first links maybe) takes →
-    IsListed (read_names (code_after code (alarm_added (nameless labels maybe)) first)) (added_list code.net code.log code.grid.steps (alarm_added (nameless labels maybe))) clauses
+    IsListed (read_meanings (code_after code (alarm_added (nameless labels maybe)) first)) (added_list code.net code.log code.grid.steps (alarm_added (nameless labels maybe))) clauses
     × (length clauses + 12 * question_size code.net code.log code.grid.steps ≤ 12 * question_size code.net (with_addition code.log (alarm_added (nameless labels maybe))) code.grid.steps + 12)
 draft_brings code labels maybe first links chain_ends guards takes clauses is t l w =
     rw (w, l, t) (alarm_brings code labels maybe first chain_ends is.coded (grown_is_coded code (alarm_added (nameless labels maybe)) first is.coded is.above is.few) is.above is.chains.events (draft_known code labels maybe first chain_ends guards is) is.chains.each)
@@ -338,13 +338,13 @@ pub kept_count : (a : Inside) (state : LogCodeState) → code_view a ≡ state �
 kept_count a state view inv = subst (λ (s : LogCodeState). (length s.code.log.alarms ≡ length a.alarms.items) × IsCodedLog s.code) view (map_count (λ (x : AlarmState). nameless x.labels x.doubtful) a.alarms.items, inv.kept.log)
 
 pub found_first : (state : LogCodeState) (value : ℕ → Bool) (e step number : ℕ) → NoneSoFar state value e step number → number < length state.code.log.alarms → stands_for state.code value e step number ≡ true →
-    Some number ≡ alarm_at state.code.net state.code.log (value_by (log_names state.code) value) e step
+    Some number ≡ alarm_at state.code.net state.code.log (value_by (log_meanings state.code) value) e step
 found_first state value e step number is known hit =
-    sym (find_hit (λ i. value_by (log_names state.code) value (matches i e step)) (is_matching state.code.net state.code.log e) (length state.code.log.alarms) number known hit is.none)
+    sym (find_hit (λ i. value_by (log_meanings state.code) value (matches i e step)) (is_matching state.code.net state.code.log e) (length state.code.log.alarms) number known hit is.none)
 
-pub found_none : (state : LogCodeState) (value : ℕ → Bool) (e step number : ℕ) → NoneSoFar state value e step number → length state.code.log.alarms ≤ number → None ≡ alarm_at state.code.net state.code.log (value_by (log_names state.code) value) e step
+pub found_none : (state : LogCodeState) (value : ℕ → Bool) (e step number : ℕ) → NoneSoFar state value e step number → length state.code.log.alarms ≤ number → None ≡ alarm_at state.code.net state.code.log (value_by (log_meanings state.code) value) e step
 found_none state value e step number is all =
-    sym (find_miss (λ i. value_by (log_names state.code) value (matches i e step)) (is_matching state.code.net state.code.log e) (length state.code.log.alarms) (λ k h. is.none k (omega (arith, h))))
+    sym (find_miss (λ i. value_by (log_meanings state.code) value (matches i e step)) (is_matching state.code.net state.code.log e) (length state.code.log.alarms) (λ k h. is.none k (omega (arith, h))))
 
 -- the alarm of a turn of the loop
 pub turned_alarm : (a : Inside) (state : LogCodeState) (slice : List AlarmState) (i : ℕ) (alarm : AlarmState) → code_view a ≡ state → KeepsLogCode a → slice ≡ a.alarms.items → i < length slice → alarm ≡ slice_index_or slice i alarm → IsCodedAlarm state.code i alarm × IsCodedLog state.code
@@ -363,7 +363,7 @@ ready_change code value labels kept maybe first takes after guards later same al
 
 -- a draft of the code is one of an equal code
 pub draft_of : (code value : CodedLog) (labels : List (List ℕ)) (maybe : Bool) (first width : ℕ) (clauses : List Clause) (draft : DraftState) → code ≡ value →
-    IsListed (read_names (code_after code (alarm_added (nameless labels maybe)) first)) (added_list code.net code.log code.grid.steps (alarm_added (nameless labels maybe))) clauses
+    IsListed (read_meanings (code_after code (alarm_added (nameless labels maybe)) first)) (added_list code.net code.log code.grid.steps (alarm_added (nameless labels maybe))) clauses
     × (length clauses + 12 * question_size code.net code.log code.grid.steps ≤ 12 * question_size code.net (with_addition code.log (alarm_added (nameless labels maybe))) code.grid.steps + 12) →
     addition_width code (alarm_added (nameless labels maybe)) ≡ width → draft.code ≡ value → draft.addition ≡ alarm_added (nameless labels maybe) → draft.first ≡ first → draft.vars ≡ width → draft.clauses ≡ clauses →
     IsDraftOf value (alarm_added (nameless labels maybe)) first draft
@@ -374,13 +374,13 @@ draft_of code value labels maybe first width clauses draft same brings wide of a
       adds = adds;
       begins = begun;
       width = vars ∙ sym wide;
-      listed = subst (IsListed (read_names (code_after code (alarm_added (nameless labels maybe)) first)) (added_list code.net code.log code.grid.steps (alarm_added (nameless labels maybe)))) (sym written) brings.0;
+      listed = subst (IsListed (read_meanings (code_after code (alarm_added (nameless labels maybe)) first)) (added_list code.net code.log code.grid.steps (alarm_added (nameless labels maybe)))) (sym written) brings.0;
       small = let few = brings.1 in let long = ap length written in omega (arith, few, long);
     }) of
 
 -- ---- false alarms, and steps
 
-clause_named : (names : List (ℕ × Name)) (ls : List Lit) (ms : List NamedLiteral) → ReadsInOrder names ls ms → named_clause names ls ≡ Some ms
+clause_named : (names : List (ℕ × Meaning)) (ls : List Lit) (ms : List NamedLiteral) → ReadsInOrder names ls ms → named_clause names ls ≡ Some ms
 clause_named names [] [] z = refl
 clause_named names [] (m ∷ ms) z = absurd z
 clause_named names (l ∷ ls) [] z = absurd z
@@ -389,40 +389,40 @@ clause_named names (l ∷ ls) (m ∷ ms) z =
     let rest = clause_named names ls ms z.1 in
     rw (here, rest) refl
 
-pub false_read : (code : CodedLog) (lits : List Lit) → AreFalse code lits → named_clause (log_names code) lits ≡ Some (false_literals code.log)
-false_read code lits are = clause_named (log_names code) lits (false_literals code.log) are
+pub false_read : (code : CodedLog) (lits : List Lit) → AreFalse code lits → named_clause (log_meanings code) lits ≡ Some (false_literals code.log)
+false_read code lits are = clause_named (log_meanings code) lits (false_literals code.log) are
 
 pub false_is : (code : CodedLog) (i : ℕ) (alarm : AlarmState) (value : ℕ → Bool) → IsCodedLog code → IsCodedAlarm code i alarm →
-    (alarm.doubtful && value (dropped_variable (variables_of code.grid.steps alarm))) ≡ is_false_alarm code.log (value_by (log_names code) value) i
+    (alarm.doubtful && value (dropped_variable (variables_of code.grid.steps alarm))) ≡ is_false_alarm code.log (value_by (log_meanings code) value) i
 false_is code i alarm value coded is = by alarm.doubtful refl
   where
-    by : (b : Bool) → alarm.doubtful ≡ b → (alarm.doubtful && value (dropped_variable (variables_of code.grid.steps alarm))) ≡ is_false_alarm code.log (value_by (log_names code) value) i
+    by : (b : Bool) → alarm.doubtful ≡ b → (alarm.doubtful && value (dropped_variable (variables_of code.grid.steps alarm))) ≡ is_false_alarm code.log (value_by (log_meanings code) value) i
     by true e =
         let mark : is_doubtful code.log i ≡ true = is.mark ∙ e in
-        let valued = values_match (log_names code) coded.names.once value (dropped_variable (variables_of code.grid.steps alarm)) (dropped i) (is.being_false e) in
+        let valued = values_match (log_meanings code) coded.names.once value (dropped_variable (variables_of code.grid.steps alarm)) (dropped i) (is.being_false e) in
         rw (e, mark) valued
     by false e = let mark : is_doubtful code.log i ≡ false = is.mark ∙ e in rw (e, mark) refl
 
 pub first_is_step : (code : CodedLog) (i : ℕ) (alarm : AlarmState) (value : ℕ → Bool) (step : ℕ) (vars : AlarmVars) → IsCodedLog code → IsCodedAlarm code i alarm → vars ≡ variables_of code.grid.steps alarm →
-    step ≤ vars.steps → ((t : ℕ) → t < step → value (done_variable vars t) ≡ false) → (step < vars.steps → value (done_variable vars step) ≡ true) → value_by (log_names code) value (done i code.grid.steps) ≡ true →
-    IsStepOfAlarm code.grid.steps (value_by (log_names code) value) i step
+    step ≤ vars.steps → ((t : ℕ) → t < step → value (done_variable vars t) ≡ false) → (step < vars.steps → value (done_variable vars step) ≡ true) → value_by (log_meanings code) value (done i code.grid.steps) ≡ true →
+    IsStepOfAlarm code.grid.steps (value_by (log_meanings code) value) i step
 first_is_step code i alarm value step vars coded is same = subst (λ (v : AlarmVars). step ≤ v.steps → ((t : ℕ) → t < step → value (done_variable v t) ≡ false) → (step < v.steps → value (done_variable v step) ≡ true) →
-    value_by (log_names code) value (done i code.grid.steps) ≡ true → IsStepOfAlarm code.grid.steps (value_by (log_names code) value) i step) (sym same) shown
+    value_by (log_meanings code) value (done i code.grid.steps) ≡ true → IsStepOfAlarm code.grid.steps (value_by (log_meanings code) value) i step) (sym same) shown
   where
     own : AlarmVars
     own = variables_of code.grid.steps alarm
 
-    valued : (t : ℕ) → t ≤ code.grid.steps → value_by (log_names code) value (done i t) ≡ value (done_variable own t)
-    valued t h = sym (values_match (log_names code) coded.names.once value (done_variable own t) (done i t) (is.being_done t h))
+    valued : (t : ℕ) → t ≤ code.grid.steps → value_by (log_meanings code) value (done i t) ≡ value (done_variable own t)
+    valued t h = sym (values_match (log_meanings code) coded.names.once value (done_variable own t) (done i t) (is.being_done t h))
 
     shown : step ≤ own.steps → ((t : ℕ) → t < step → value (done_variable own t) ≡ false) → (step < own.steps → value (done_variable own step) ≡ true) →
-        value_by (log_names code) value (done i code.grid.steps) ≡ true → IsStepOfAlarm code.grid.steps (value_by (log_names code) value) i step
+        value_by (log_meanings code) value (done i code.grid.steps) ≡ true → IsStepOfAlarm code.grid.steps (value_by (log_meanings code) value) i step
     shown within least there last = record {
       within = within;
       is = by (step == code.grid.steps) refl;
       least = λ t h. valued t (omega (arith, h, within)) ∙ least t h;
     }
       where
-        by : (b : Bool) → (step == code.grid.steps) ≡ b → value_by (log_names code) value (done i step) ≡ true
-        by true e = subst (λ t. value_by (log_names code) value (done i t) ≡ true) (sym (eqb-true step code.grid.steps e)) last
+        by : (b : Bool) → (step == code.grid.steps) ≡ b → value_by (log_meanings code) value (done i step) ≡ true
+        by true e = subst (λ t. value_by (log_meanings code) value (done i t) ≡ true) (sym (eqb-true step code.grid.steps e)) last
         by false e = valued step within ∙ there (omega (arith, within, λ (is : step ≡ code.grid.steps). clash {A = ⊥} (step == code.grid.steps) (eq-eqb step code.grid.steps is) e))

@@ -7,7 +7,7 @@ use Rattle.des_base.specs.declared.TheConstants.{VAR_LIMIT}
 use Rattle.des_net.specs.Network.{Net}
 use Rattle.log_order.specs.Log.{Log, Alarm, no_log, is_doubtful, a_log}
 use Rattle.log_clauses.specs.Additions.{Addition, alarm_added, pair_added, with_addition}
-use Rattle.log_clauses.specs.LogNames.{added_names, first_names, link_names, alarm_names, match_chains, false_names, AreLogNames}
+use Rattle.log_clauses.specs.LogNames.{added_meanings, first_meanings, link_meanings, alarm_meanings, match_chains, false_meanings, AreLogMeanings}
 use Rattle.log_clauses.specs.Drafts.{taken_events}
 use Rattle.log_clauses.specs.LogClauses.{chain, doubtful_alarms}
 use Rattle.log_clauses.proofs.Stay.{doubtful_new, doubtful_is}
@@ -16,9 +16,9 @@ use Rattle.log_clauses.specs.BesideEvents.{AreBesideEvents, IsAfterEvents}
 use Rattle.log_clauses.proofs.BesideEvents.{names_join_events}
 use Rattle.log_clauses.proofs.Numbered.{names_begin, names_grow}
 use Rattle.log_encode.proofs.Naming.{row_above}
-use Rattle.log_encode.specs.CodedLog.{CodedLog, names_from, log_names, empty_code, code_after, addition_width, false_literals, IsCodedLog}
+use Rattle.log_encode.specs.CodedLog.{CodedLog, meanings_from, log_meanings, empty_code, code_after, addition_width, false_literals, IsCodedLog}
 use Rattle.prop_core.specs.declared.grid.Grid.{Grid}
-use Rattle.prop_core.specs.VariableNames.{Name, done, dropped, yes}
+use Rattle.prop_core.specs.VariableNames.{Meaning, done, dropped, yes}
 use Rattle.std.specs.Prelude.{flat_map}
 use Rattle.run_clauses.specs.LaidOut.{laid_out}
 
@@ -27,43 +27,43 @@ of_alarms alarms = a_log alarms []
 
 -- one alarm more
 names_snoc : (net : Net) (n : ℕ) (before alarms : List Alarm) (starts : List ℕ) (new : Alarm) (first : ℕ) → length starts ≡ length alarms →
-    names_from net n (of_alarms before) (alarms ++ new ∷ []) (starts ++ first ∷ [])
-    ≡ names_from net n (of_alarms before) alarms starts ++ laid_out first (added_names net (of_alarms (before ++ alarms)) n (alarm_added new))
+    meanings_from net n (of_alarms before) (alarms ++ new ∷ []) (starts ++ first ∷ [])
+    ≡ meanings_from net n (of_alarms before) alarms starts ++ laid_out first (added_meanings net (of_alarms (before ++ alarms)) n (alarm_added new))
 names_snoc net n before [] [] new first same =
-    append-nil (laid_out first (added_names net (of_alarms before) n (alarm_added new)))
-    ∙ ap (λ xs. laid_out first (added_names net (of_alarms xs) n (alarm_added new))) (sym (append-nil before))
+    append-nil (laid_out first (added_meanings net (of_alarms before) n (alarm_added new)))
+    ∙ ap (λ xs. laid_out first (added_meanings net (of_alarms xs) n (alarm_added new))) (sym (append-nil before))
 names_snoc net n before [] (start ∷ starts) new first same = absurd (omega (arith, same))
 names_snoc net n before (alarm ∷ alarms) [] new first same = absurd (omega (arith, same))
 names_snoc net n before (alarm ∷ alarms) (start ∷ starts) new first same =
-    let here = laid_out start (added_names net (of_alarms before) n (alarm_added alarm)) in
+    let here = laid_out start (added_meanings net (of_alarms before) n (alarm_added alarm)) in
     let rest = names_snoc net n (before ++ alarm ∷ []) alarms starts new first (omega (arith, same)) in
-    ap (λ xs. here ++ xs) (rest ∙ ap (λ xs. names_from net n (of_alarms (before ++ alarm ∷ [])) alarms starts ++ laid_out first (added_names net (of_alarms xs) n (alarm_added new))) (append_assoc before (alarm ∷ []) alarms))
-    ∙ sym (append_assoc here (names_from net n (of_alarms (before ++ alarm ∷ [])) alarms starts) (laid_out first (added_names net (of_alarms (before ++ alarm ∷ alarms)) n (alarm_added new))))
+    ap (λ xs. here ++ xs) (rest ∙ ap (λ xs. meanings_from net n (of_alarms (before ++ alarm ∷ [])) alarms starts ++ laid_out first (added_meanings net (of_alarms xs) n (alarm_added new))) (append_assoc before (alarm ∷ []) alarms))
+    ∙ sym (append_assoc here (meanings_from net n (of_alarms (before ++ alarm ∷ [])) alarms starts) (laid_out first (added_meanings net (of_alarms (before ++ alarm ∷ alarms)) n (alarm_added new))))
 
 pub names_with_alarm : (code : CodedLog) (new : Alarm) (first : ℕ) → length code.starts ≡ length code.log.alarms →
-    log_names (code_after code (alarm_added new) first) ≡ log_names code ++ laid_out first (added_names code.net code.log code.grid.steps (alarm_added new))
+    log_meanings (code_after code (alarm_added new) first) ≡ log_meanings code ++ laid_out first (added_meanings code.net code.log code.grid.steps (alarm_added new))
 names_with_alarm code new first same =
-    ap (λ xs. laid_out code.asked (first_names code.net) ++ xs) (names_snoc code.net code.grid.steps [] code.log.alarms code.starts new first same)
-    ∙ sym (append_assoc (laid_out code.asked (first_names code.net)) (names_from code.net code.grid.steps no_log code.log.alarms code.starts) (laid_out first (added_names code.net code.log code.grid.steps (alarm_added new))))
+    ap (λ xs. laid_out code.asked (first_meanings code.net) ++ xs) (names_snoc code.net code.grid.steps [] code.log.alarms code.starts new first same)
+    ∙ sym (append_assoc (laid_out code.asked (first_meanings code.net)) (meanings_from code.net code.grid.steps no_log code.log.alarms code.starts) (laid_out first (added_meanings code.net code.log code.grid.steps (alarm_added new))))
 
-pub empty_is_coded : (net : Net) (grid : Grid) (asked : ℕ) → grid.events ≡ length net.events → grid.first + grid.events * grid.steps ≤ asked → asked + length (first_names net) ≤ VAR_LIMIT →
+pub empty_is_coded : (net : Net) (grid : Grid) (asked : ℕ) → grid.events ≡ length net.events → grid.first + grid.events * grid.steps ≤ asked → asked + length (first_meanings net) ≤ VAR_LIMIT →
     IsCodedLog (empty_code net grid asked)
 empty_is_coded net grid asked events made few = record {
   events = events;
   made = made;
-  names = subst (AreLogNames net no_log grid.steps (asked + length (first_names net))) (sym (append-nil (laid_out asked (first_names net)))) (names_begin net grid.steps asked);
-  after = subst (AllByRecursion (λ entry. asked ≤ entry.0)) (sym (append-nil (laid_out asked (first_names net)))) (row_above asked asked (first_names net) (omega arith));
+  names = subst (AreLogMeanings net no_log grid.steps (asked + length (first_meanings net))) (sym (append-nil (laid_out asked (first_meanings net)))) (names_begin net grid.steps asked);
+  after = subst (AllByRecursion (λ entry. asked ≤ entry.0)) (sym (append-nil (laid_out asked (first_meanings net)))) (row_above asked asked (first_meanings net) (omega arith));
   few = few;
   each = refl;
   alarms = omega arith;
 }
 
-all_below : (vars more : ℕ) (names : List (ℕ × Name)) → vars ≤ more → AllByRecursion (λ entry. entry.0 < vars) names → AllByRecursion (λ entry. entry.0 < more) names
+all_below : (vars more : ℕ) (names : List (ℕ × Meaning)) → vars ≤ more → AllByRecursion (λ entry. entry.0 < vars) names → AllByRecursion (λ entry. entry.0 < more) names
 all_below vars more [] h all = tt
 all_below vars more (entry ∷ names) h all = (omega (arith, all.0), all_below vars more names h all.1)
 
 -- the names of a log have greater variables than needed
-pub raised : (net : Net) (log : Log) (n vars more : ℕ) (names : List (ℕ × Name)) → vars ≤ more → AreLogNames net log n vars names → AreLogNames net log n more names
+pub raised : (net : Net) (log : Log) (n vars more : ℕ) (names : List (ℕ × Meaning)) → vars ≤ more → AreLogMeanings net log n vars names → AreLogMeanings net log n more names
 raised net log n vars more names h are = record {
   once = are.once;
   below = all_below vars more names h are.below;
@@ -71,20 +71,20 @@ raised net log n vars more names h are = record {
 }
 
 abbrev Grown : CodedLog → Addition → ℕ → Type 0
-Grown code addition first = AreLogNames code.net (with_addition code.log addition) code.grid.steps (first + addition_width code addition) (log_names (code_after code addition first))
+Grown code addition first = AreLogMeanings code.net (with_addition code.log addition) code.grid.steps (first + addition_width code addition) (log_meanings (code_after code addition first))
 
 grown : (code : CodedLog) (addition : Addition) (first : ℕ) → IsCodedLog code → code.vars ≤ first → Grown code addition first
 grown code (alarm_added new) first is above =
-    subst (AreLogNames code.net (with_addition code.log (alarm_added new)) code.grid.steps (first + addition_width code (alarm_added new))) (sym (names_with_alarm code new first is.each))
-    (names_grow code.net code.log code.grid.steps first (alarm_added new) (log_names code) (raised code.net code.log code.grid.steps code.vars first (log_names code) above is.names))
+    subst (AreLogMeanings code.net (with_addition code.log (alarm_added new)) code.grid.steps (first + addition_width code (alarm_added new))) (sym (names_with_alarm code new first is.each))
+    (names_grow code.net code.log code.grid.steps first (alarm_added new) (log_meanings code) (raised code.net code.log code.grid.steps code.vars first (log_meanings code) above is.names))
 grown code (pair_added i j) first is above =
-    subst (AreLogNames code.net (with_addition code.log (pair_added i j)) code.grid.steps (first + 0)) (append-nil (log_names code))
-    (names_grow code.net code.log code.grid.steps first (pair_added i j) (log_names code) (raised code.net code.log code.grid.steps code.vars first (log_names code) above is.names))
+    subst (AreLogMeanings code.net (with_addition code.log (pair_added i j)) code.grid.steps (first + 0)) (append-nil (log_meanings code))
+    (names_grow code.net code.log code.grid.steps first (pair_added i j) (log_meanings code) (raised code.net code.log code.grid.steps code.vars first (log_meanings code) above is.names))
 
-still_after : (code : CodedLog) (addition : Addition) (first : ℕ) → IsCodedLog code → code.asked ≤ first → AllByRecursion (λ entry. code.asked ≤ entry.0) (log_names (code_after code addition first))
+still_after : (code : CodedLog) (addition : Addition) (first : ℕ) → IsCodedLog code → code.asked ≤ first → AllByRecursion (λ entry. code.asked ≤ entry.0) (log_meanings (code_after code addition first))
 still_after code (alarm_added new) first is above =
     subst (AllByRecursion (λ entry. code.asked ≤ entry.0)) (sym (names_with_alarm code new first is.each))
-    (all_append (λ (entry : ℕ × Name). code.asked ≤ entry.0) (log_names code) (laid_out first (added_names code.net code.log code.grid.steps (alarm_added new))) is.after (row_above first code.asked (added_names code.net code.log code.grid.steps (alarm_added new)) above))
+    (all_append (λ (entry : ℕ × Meaning). code.asked ≤ entry.0) (log_meanings code) (laid_out first (added_meanings code.net code.log code.grid.steps (alarm_added new))) is.after (row_above first code.asked (added_meanings code.net code.log code.grid.steps (alarm_added new)) above))
 still_after code (pair_added i j) first is above = is.after
 
 still_each : (code : CodedLog) (addition : Addition) (first : ℕ) → IsCodedLog code → length (code_after code addition first).starts ≡ length (code_after code addition first).log.alarms
@@ -94,7 +94,7 @@ still_each code (pair_added i j) first is = is.each
 -- a new alarm has a variable
 width_positive : (code : CodedLog) (new : Alarm) → 1 ≤ addition_width code (alarm_added new)
 width_positive code new =
-    omega (arith, length-append (alarm_names code.net code.log code.grid.steps new) (match_chains code.grid.steps (length code.log.alarms) (length (taken_events code.net code.log new)) ++ false_names new.doubtful (length code.log.alarms)), length-append (flat_map (λ e. link_names code.grid.steps (length code.log.alarms) e (length (chain code.net code.log e))) (taken_events code.net code.log new)) (map (λ t. done (length code.log.alarms) t) (numbers_below (suc code.grid.steps))))
+    omega (arith, length-append (alarm_meanings code.net code.log code.grid.steps new) (match_chains code.grid.steps (length code.log.alarms) (length (taken_events code.net code.log new)) ++ false_meanings new.doubtful (length code.log.alarms)), length-append (flat_map (λ e. link_meanings code.grid.steps (length code.log.alarms) e (length (chain code.net code.log e))) (taken_events code.net code.log new)) (map (λ t. done (length code.log.alarms) t) (numbers_below (suc code.grid.steps))))
 
 still_fewer : (code : CodedLog) (addition : Addition) (first : ℕ) → IsCodedLog code → code.vars ≤ first → length (code_after code addition first).log.alarms ≤ first + addition_width code addition
 still_fewer code (alarm_added new) first is above = omega (arith, length-append code.log.alarms (new ∷ []), width_positive code new, is.alarms, above)
@@ -117,13 +117,13 @@ grown_is_coded code addition first is above few =
     }
 
 -- the names of a code go together with those of the events
-pub beside : (code : CodedLog) → IsCodedLog code → AreBesideEvents code.net code.grid.steps code.grid.first (log_names code)
-beside code coded = names_join_events code.net code.log code.grid.steps code.grid.first code.vars (log_names code) coded.names (all_after (log_names code) coded.after)
+pub beside : (code : CodedLog) → IsCodedLog code → AreBesideEvents code.net code.grid.steps code.grid.first (log_meanings code)
+beside code coded = names_join_events code.net code.log code.grid.steps code.grid.first code.vars (log_meanings code) coded.names (all_after (log_meanings code) coded.after)
   where
     made : code.grid.first + length code.net.events * code.grid.steps ≤ code.asked
     made = subst (λ k. code.grid.first + k * code.grid.steps ≤ code.asked) coded.events coded.made
 
-    all_after : (names : List (ℕ × Name)) → AllByRecursion (λ entry. code.asked ≤ entry.0) names → AllByRecursion (λ entry. IsAfterEvents code.net code.grid.steps code.grid.first entry.0) names
+    all_after : (names : List (ℕ × Meaning)) → AllByRecursion (λ entry. code.asked ≤ entry.0) names → AllByRecursion (λ entry. IsAfterEvents code.net code.grid.steps code.grid.first entry.0) names
     all_after [] all = tt
     all_after (entry ∷ names) all = (omega (arith, made, all.0), all_after names all.1)
 

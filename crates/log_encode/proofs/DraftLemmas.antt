@@ -9,7 +9,7 @@ use Rattle.log_order.specs.Log.{Log, Alarm, no_log}
 use Rattle.log_clauses.specs.Additions.{alarm_added, pair_added, with_addition}
 use Rattle.log_clauses.specs.Drafts.{alarm_link_clauses, alarm_clauses, real_clauses, added_clauses, taken_events, first_clauses, added_list}
 use Rattle.log_clauses.specs.LogClauses.{chain, observable_events, chain_closed, before_if_asked, log_clause}
-use Rattle.log_clauses.specs.LogNames.{first_names}
+use Rattle.log_clauses.specs.LogNames.{first_meanings}
 use Rattle.log_clauses.proofs.Drafts.{drafts_are_code, drafts_are_small, first_clauses_are_few}
 use Rattle.log_clauses.proofs.Codes.{code_begins}
 use Rattle.log_clauses.proofs.Stay.{doubtful_new}
@@ -20,14 +20,14 @@ use Rattle.log_encode.proofs.Reading.{zip_flat, zip_count, AreLinkNames, link_re
 use Rattle.log_encode.proofs.StayLemmas.{named_still}
 use Rattle.log_encode.proofs.TakenLemmas.{taken_are_events, taken_is_filter}
 use Rattle.log_encode.specs.AlarmVariables.{done_variable}
-use Rattle.log_encode.specs.CodedLog.{CodedLog, log_names, names_from, read_names, code_after, empty_code, nameless, IsCodedLog}
+use Rattle.log_encode.specs.CodedLog.{CodedLog, log_meanings, meanings_from, read_meanings, code_after, empty_code, nameless, IsCodedLog}
 use Rattle.log_encode.specs.declared.taken.ChainEnd.{ChainEnd}
 use Rattle.log_encode.specs.View.{IsChainEnd, IsRest}
 use Rattle.log_encode.specs.Written.{has_any_label, taken_from, rest_variable, link_written, link_variables, steps_of_link, links_written, done_written, real_written, alarm_written, pair_written, closed_written, all_closed_written}
 use Rattle.prop_core.proofs.NameLemmas.{found_more}
 use Rattle.prop_core.specs.declared.grid.Grid.{Grid}
 use Rattle.prop_core.specs.Grids.{grid_variable}
-use Rattle.prop_core.specs.VariableNames.{Name, name_of, asked, happens, done, dropped, closed, remaining, some_of_first, of_matches}
+use Rattle.prop_core.specs.VariableNames.{Meaning, meaning_of, asked, happens, done, dropped, closed, remaining, some_of_first, of_matches}
 use Rattle.replay.specs.QuestionSize.{question_size}
 use Rattle.run_clauses.proofs.LaidOut.{named_at}
 use Rattle.run_clauses.specs.LaidOut.{laid_out}
@@ -38,20 +38,20 @@ use Rattle.log_encode.specs.WrittenLog.{AppendsFirst}
 -- ---- names behind those of the code
 
 -- what has a name by the code has it beside the events
-pub lifted : (code : CodedLog) (var : ℕ) (name : Name) → IsCodedLog code → name_of (log_names code) var ≡ Some name → name_of (read_names code) var ≡ Some name
-lifted code var name coded h = (beside code coded).other var name h
+pub lifted : (code : CodedLog) (var : ℕ) (meaning : Meaning) → IsCodedLog code → meaning_of (log_meanings code) var ≡ Some meaning → meaning_of (read_meanings code) var ≡ Some meaning
+lifted code var meaning coded h = (beside code coded).other var meaning h
 
 -- an event in a step has its name
-pub event_named : (code : CodedLog) (e t : ℕ) → IsCodedLog code → e < code.grid.events → t < code.grid.steps → name_of (read_names code) (grid_variable code.grid e (suc t)) ≡ Some (happens e (suc t))
+pub event_named : (code : CodedLog) (e t : ℕ) → IsCodedLog code → e < code.grid.events → t < code.grid.steps → meaning_of (read_meanings code) (grid_variable code.grid e (suc t)) ≡ Some (happens e (suc t))
 event_named code e t coded known time =
     let place : code.grid.first + (e * code.grid.steps + t) ≡ grid_variable code.grid e (suc t) = omega arith in
-    subst (λ v. name_of (read_names code) v ≡ Some (happens e (suc t))) place ((beside code coded).event e t (omega (arith, coded.events)) time)
+    subst (λ v. meaning_of (read_meanings code) v ≡ Some (happens e (suc t))) place ((beside code coded).event e t (omega (arith, coded.events)) time)
 
 -- what comes to the end of a chain, by the names of the longer log
 rest_named : (code : CodedLog) (new : Alarm) (first e t : ℕ) (last : Option ℕ) → IsCodedLog code → IsCodedLog (code_after code (alarm_added new) first) → e < code.grid.events → t < code.grid.steps → IsRest code e last →
-    name_of (read_names (code_after code (alarm_added new) first)) (rest_variable code.grid e last t) ≡ Some (remaining e (length (chain code.net code.log e)) (suc t))
+    meaning_of (read_meanings (code_after code (alarm_added new) first)) (rest_variable code.grid e last t) ≡ Some (remaining e (length (chain code.net code.log e)) (suc t))
 rest_named code new first e t None coded grown known time is =
-    subst (λ k. name_of (read_names (code_after code (alarm_added new) first)) (grid_variable code.grid e (suc t)) ≡ Some (remaining e k (suc t))) (sym is) (event_named (code_after code (alarm_added new) first) e t grown known time)
+    subst (λ k. meaning_of (read_meanings (code_after code (alarm_added new) first)) (grid_variable code.grid e (suc t)) ≡ Some (remaining e k (suc t))) (sym is) (event_named (code_after code (alarm_added new) first) e t grown known time)
 rest_named code new first e t (Some start) coded grown known time is =
     lifted (code_after code (alarm_added new) first) (start + t * 2) _ grown (named_still code new first _ _ coded.each (is.1 t time))
 
@@ -59,13 +59,13 @@ rest_named code new first e t (Some start) coded grown known time is =
 
 link_named : (code : CodedLog) (labels : List (List ℕ)) (maybe : Bool) (first links link e t : ℕ) (last : Option ℕ) → IsCodedLog code → IsCodedLog (code_after code (alarm_added (nameless labels maybe)) first) → code.vars ≤ first → e < code.grid.events → t < code.grid.steps →
     slice_get (taken_events code.net code.log (nameless labels maybe)) link ≡ Some e → length (taken_events code.net code.log (nameless labels maybe)) ≡ links → IsRest code e last →
-    AreLinkNames (read_names (code_after code (alarm_added (nameless labels maybe)) first)) (length code.log.alarms) e (length (chain code.net code.log e)) t
+    AreLinkNames (read_meanings (code_after code (alarm_added (nameless labels maybe)) first)) (length code.log.alarms) e (length (chain code.net code.log e)) t
     (link_variables code.grid (new_vars code first links maybe) link (record { event = e; last = last }) t)
 link_named code labels maybe first links link e t last coded grown above known time at count is =
     let there = places code labels maybe first coded above in
-    let more : (v : ℕ) (x : Name) → name_of (log_names (code_after code (alarm_added (nameless labels maybe)) first)) v ≡ Some x → name_of (read_names (code_after code (alarm_added (nameless labels maybe)) first)) v ≡ Some x =
+    let more : (v : ℕ) (x : Meaning) → meaning_of (log_meanings (code_after code (alarm_added (nameless labels maybe)) first)) v ≡ Some x → meaning_of (read_meanings (code_after code (alarm_added (nameless labels maybe)) first)) v ≡ Some x =
     λ v x h. lifted (code_after code (alarm_added (nameless labels maybe)) first) v x grown h in
-    let finished : (u : ℕ) → u ≤ code.grid.steps → name_of (log_names (code_after code (alarm_added (nameless labels maybe)) first)) (done_variable (new_vars code first links maybe) u) ≡ Some (done (length code.log.alarms) u) = λ u within. subst (λ k. name_of (log_names (code_after code (alarm_added (nameless labels maybe)) first)) (first + (k * (1 + code.grid.steps * 2) + u)) ≡ Some (done (length code.log.alarms) u)) count (there.being_done u within) in record {
+    let finished : (u : ℕ) → u ≤ code.grid.steps → meaning_of (log_meanings (code_after code (alarm_added (nameless labels maybe)) first)) (done_variable (new_vars code first links maybe) u) ≡ Some (done (length code.log.alarms) u) = λ u within. subst (λ k. meaning_of (log_meanings (code_after code (alarm_added (nameless labels maybe)) first)) (first + (k * (1 + code.grid.steps * 2) + u)) ≡ Some (done (length code.log.alarms) u)) count (there.being_done u within) in record {
       closing = more _ _ (there.closing link e at);
       rest = rest_named code (nameless labels maybe) first e t last coded grown known time is;
       matching = more _ _ (there.matching link e t at time);
@@ -79,7 +79,7 @@ links_read : (code : CodedLog) (labels : List (List ℕ)) (maybe : Bool) (first 
     length (taken_events code.net code.log (nameless labels maybe)) ≡ links →
     taken_events code.net code.log (nameless labels maybe) ≡ before ++ filter (has_any_label code.net labels) (map (λ (end : ChainEnd). end.event) ends) →
     AllByRecursion (λ (end : ChainEnd). end.event < code.grid.events) ends → AllByRecursion (IsChainEnd code) ends →
-    AllZip (Reads code.net (with_addition code.log (alarm_added (nameless labels maybe))) code.grid.steps (read_names (code_after code (alarm_added (nameless labels maybe)) first)))
+    AllZip (Reads code.net (with_addition code.log (alarm_added (nameless labels maybe))) code.grid.steps (read_meanings (code_after code (alarm_added (nameless labels maybe)) first)))
     (links_written code.grid (new_vars code first links maybe) (length before) (taken_from code.net labels ends))
     (flat_map (λ e. flat_map (alarm_link_clauses (length code.log.alarms) e (length (chain code.net code.log e))) (numbers_below code.grid.steps)) (filter (has_any_label code.net labels) (map (λ (end : ChainEnd). end.event) ends)))
 links_read code labels maybe first links before [] coded grown above count are known all = tt
@@ -91,10 +91,10 @@ links_read code labels maybe first links before (end ∷ ends) coded grown above
 
     by : (b : Bool) → has_any_label code.net labels end.event ≡ b →
         ((earlier : List ℕ) → taken_events code.net code.log (nameless labels maybe) ≡ earlier ++ filter (has_any_label code.net labels) (map (λ (x : ChainEnd). x.event) ends) →
-        AllZip (Reads code.net (with_addition code.log (alarm_added (nameless labels maybe))) code.grid.steps (read_names (code_after code (alarm_added (nameless labels maybe)) first)))
+        AllZip (Reads code.net (with_addition code.log (alarm_added (nameless labels maybe))) code.grid.steps (read_meanings (code_after code (alarm_added (nameless labels maybe)) first)))
         (links_written code.grid (new_vars code first links maybe) (length earlier) (taken_from code.net labels ends))
         (flat_map (λ e. flat_map (alarm_link_clauses (length code.log.alarms) e (length (chain code.net code.log e))) (numbers_below code.grid.steps)) (filter (has_any_label code.net labels) (map (λ (x : ChainEnd). x.event) ends)))) →
-        AllZip (Reads code.net (with_addition code.log (alarm_added (nameless labels maybe))) code.grid.steps (read_names (code_after code (alarm_added (nameless labels maybe)) first)))
+        AllZip (Reads code.net (with_addition code.log (alarm_added (nameless labels maybe))) code.grid.steps (read_meanings (code_after code (alarm_added (nameless labels maybe)) first)))
         (links_written code.grid (new_vars code first links maybe) (length before) (taken_from code.net labels (end ∷ ends)))
         (flat_map (λ e. flat_map (alarm_link_clauses (length code.log.alarms) e (length (chain code.net code.log e))) (numbers_below code.grid.steps)) (filter (has_any_label code.net labels) (map (λ (x : ChainEnd). x.event) (end ∷ ends))))
     by true is later =
@@ -102,19 +102,19 @@ links_read code labels maybe first links before (end ∷ ends) coded grown above
         let at : slice_get (taken_events code.net code.log (nameless labels maybe)) (length before) ≡ Some end.event = rw split (get_at before (filter (has_any_label code.net labels) (map (λ (x : ChainEnd). x.event) ends)) end.event) in
         let one : length (before ++ end.event ∷ []) ≡ suc (length before) = omega (arith, length-append before (end.event ∷ [])) in
         let others = later (before ++ end.event ∷ []) (split ∙ sym (append_assoc before (end.event ∷ []) (filter (has_any_label code.net labels) (map (λ (x : ChainEnd). x.event) ends)))) in
-        let here = zip_flat (Reads code.net (with_addition code.log (alarm_added (nameless labels maybe))) code.grid.steps (read_names (code_after code (alarm_added (nameless labels maybe)) first)))
+        let here = zip_flat (Reads code.net (with_addition code.log (alarm_added (nameless labels maybe))) code.grid.steps (read_meanings (code_after code (alarm_added (nameless labels maybe)) first)))
         (λ t. link_written (link_variables code.grid (new_vars code first links maybe) (length before) (record { event = end.event; last = end.last }) t))
         (alarm_link_clauses (length code.log.alarms) end.event (length (chain code.net code.log end.event))) 0 code.grid.steps
-        (λ t h. link_reads code.net (with_addition code.log (alarm_added (nameless labels maybe))) code.grid.steps (read_names (code_after code (alarm_added (nameless labels maybe)) first)) (length code.log.alarms) end.event (length (chain code.net code.log end.event)) t
+        (λ t h. link_reads code.net (with_addition code.log (alarm_added (nameless labels maybe))) code.grid.steps (read_meanings (code_after code (alarm_added (nameless labels maybe)) first)) (length code.log.alarms) end.event (length (chain code.net code.log end.event)) t
         (link_variables code.grid (new_vars code first links maybe) (length before) (record { event = end.event; last = end.last }) t)
         (link_named code labels maybe first links (length before) end.event t end.last coded grown above known.0 (omega (arith, h)) at count all.0.rest)) in
-        rw is (zip_append (Reads code.net (with_addition code.log (alarm_added (nameless labels maybe))) code.grid.steps (read_names (code_after code (alarm_added (nameless labels maybe)) first)))
+        rw is (zip_append (Reads code.net (with_addition code.log (alarm_added (nameless labels maybe))) code.grid.steps (read_meanings (code_after code (alarm_added (nameless labels maybe)) first)))
         (steps_of_link code.grid (new_vars code first links maybe) (length before) (record { event = end.event; last = end.last }) code.grid.steps)
         (flat_map (alarm_link_clauses (length code.log.alarms) end.event (length (chain code.net code.log end.event))) (numbers_below code.grid.steps))
         (links_written code.grid (new_vars code first links maybe) (suc (length before)) (taken_from code.net labels ends))
         (flat_map (λ e. flat_map (alarm_link_clauses (length code.log.alarms) e (length (chain code.net code.log e))) (numbers_below code.grid.steps)) (filter (has_any_label code.net labels) (map (λ (x : ChainEnd). x.event) ends)))
         here
-        (subst (λ k. AllZip (Reads code.net (with_addition code.log (alarm_added (nameless labels maybe))) code.grid.steps (read_names (code_after code (alarm_added (nameless labels maybe)) first)))
+        (subst (λ k. AllZip (Reads code.net (with_addition code.log (alarm_added (nameless labels maybe))) code.grid.steps (read_meanings (code_after code (alarm_added (nameless labels maybe)) first)))
         (links_written code.grid (new_vars code first links maybe) k (taken_from code.net labels ends))
         (flat_map (λ e. flat_map (alarm_link_clauses (length code.log.alarms) e (length (chain code.net code.log e))) (numbers_below code.grid.steps)) (filter (has_any_label code.net labels) (map (λ (x : ChainEnd). x.event) ends)))) one others))
     by false is later =
@@ -123,36 +123,36 @@ links_read code labels maybe first links before (end ∷ ends) coded grown above
 
 -- ---- the whole draft of an alarm
 
-pub asked_named : (code : CodedLog) → name_of (log_names code) code.asked ≡ Some asked
+pub asked_named : (code : CodedLog) → meaning_of (log_meanings code) code.asked ≡ Some asked
 asked_named code =
-    let here : name_of (laid_out code.asked (first_names code.net)) code.asked ≡ Some asked = subst (λ v. name_of (laid_out code.asked (first_names code.net)) v ≡ Some asked) (omega arith) (named_at code.asked (first_names code.net) 0 asked refl) in
-    found_more (laid_out code.asked (first_names code.net)) (names_from code.net code.grid.steps no_log code.log.alarms code.starts) code.asked asked here
+    let here : meaning_of (laid_out code.asked (first_meanings code.net)) code.asked ≡ Some asked = subst (λ v. meaning_of (laid_out code.asked (first_meanings code.net)) v ≡ Some asked) (omega arith) (named_at code.asked (first_meanings code.net) 0 asked refl) in
+    found_more (laid_out code.asked (first_meanings code.net)) (meanings_from code.net code.grid.steps no_log code.log.alarms code.starts) code.asked asked here
 
 alarm_named : (code : CodedLog) (labels : List (List ℕ)) (maybe : Bool) (first links : ℕ) → IsCodedLog code → IsCodedLog (code_after code (alarm_added (nameless labels maybe)) first) → code.vars ≤ first → length (taken_events code.net code.log (nameless labels maybe)) ≡ links →
-    AreAlarmNames (read_names (code_after code (alarm_added (nameless labels maybe)) first)) code.grid.steps (length code.log.alarms) (taken_events code.net code.log (nameless labels maybe)) (new_vars code first links maybe)
+    AreAlarmNames (read_meanings (code_after code (alarm_added (nameless labels maybe)) first)) code.grid.steps (length code.log.alarms) (taken_events code.net code.log (nameless labels maybe)) (new_vars code first links maybe)
 alarm_named code labels maybe first links coded grown above count =
     let there = places code labels maybe first coded above in
-    let more : (v : ℕ) (x : Name) → name_of (log_names (code_after code (alarm_added (nameless labels maybe)) first)) v ≡ Some x → name_of (read_names (code_after code (alarm_added (nameless labels maybe)) first)) v ≡ Some x =
+    let more : (v : ℕ) (x : Meaning) → meaning_of (log_meanings (code_after code (alarm_added (nameless labels maybe)) first)) v ≡ Some x → meaning_of (read_meanings (code_after code (alarm_added (nameless labels maybe)) first)) v ≡ Some x =
     λ v x h. lifted (code_after code (alarm_added (nameless labels maybe)) first) v x grown h in record {
       links = sym count;
       steps = refl;
       matching = λ p e t at time. more _ _ (there.matching p e t at time);
-      being_done = λ t within. more _ _ (subst (λ k. name_of (log_names (code_after code (alarm_added (nameless labels maybe)) first)) (first + (k * (1 + code.grid.steps * 2) + t)) ≡ Some (done (length code.log.alarms) t)) count (there.being_done t within));
+      being_done = λ t within. more _ _ (subst (λ k. meaning_of (log_meanings (code_after code (alarm_added (nameless labels maybe)) first)) (first + (k * (1 + code.grid.steps * 2) + t)) ≡ Some (done (length code.log.alarms) t)) count (there.being_done t within));
       chaining = λ t time k below.
           let links : chain_count links ≡ chain_count (length (taken_events code.net code.log (nameless labels maybe))) = ap chain_count (sym count) in
-          let name = there.chaining t time k (subst (λ m. k < m) links below) in
-          more _ _ (subst (λ m. name_of (log_names (code_after code (alarm_added (nameless labels maybe)) first)) (first + (m * (1 + code.grid.steps * 2) + (suc code.grid.steps + t * chain_count m)) + k) ≡ Some (some_of_first (of_matches (length code.log.alarms) (suc t)) (suc k))) count name);
-      being_false = λ h. more _ _ (subst (λ m. name_of (log_names (code_after code (alarm_added (nameless labels maybe)) first)) (first + (m * (1 + code.grid.steps * 2) + (suc code.grid.steps + code.grid.steps * chain_count m))) ≡ Some (dropped (length code.log.alarms))) count (there.being_false h));
+          let meaning = there.chaining t time k (subst (λ m. k < m) links below) in
+          more _ _ (subst (λ m. meaning_of (log_meanings (code_after code (alarm_added (nameless labels maybe)) first)) (first + (m * (1 + code.grid.steps * 2) + (suc code.grid.steps + t * chain_count m)) + k) ≡ Some (some_of_first (of_matches (length code.log.alarms) (suc t)) (suc k))) count meaning);
+      being_false = λ h. more _ _ (subst (λ m. meaning_of (log_meanings (code_after code (alarm_added (nameless labels maybe)) first)) (first + (m * (1 + code.grid.steps * 2) + (suc code.grid.steps + code.grid.steps * chain_count m))) ≡ Some (dropped (length code.log.alarms))) count (there.being_false h));
     }
 
 alarm_listed : (code : CodedLog) (labels : List (List ℕ)) (maybe : Bool) (first : ℕ) (ends : List ChainEnd) → IsCodedLog code → IsCodedLog (code_after code (alarm_added (nameless labels maybe)) first) → code.vars ≤ first →
     map (λ (end : ChainEnd). end.event) ends ≡ observable_events code.net → AllByRecursion (λ (end : ChainEnd). end.event < code.grid.events) ends → AllByRecursion (IsChainEnd code) ends →
-    AllZip (Reads code.net (with_addition code.log (alarm_added (nameless labels maybe))) code.grid.steps (read_names (code_after code (alarm_added (nameless labels maybe)) first)))
+    AllZip (Reads code.net (with_addition code.log (alarm_added (nameless labels maybe))) code.grid.steps (read_meanings (code_after code (alarm_added (nameless labels maybe)) first)))
     (alarm_written code.grid code.asked (new_vars code first (length (taken_from code.net labels ends)) maybe) (taken_from code.net labels ends))
     (added_clauses code.net code.log code.grid.steps (alarm_added (nameless labels maybe)))
 alarm_listed code labels maybe first ends coded grown above are known all =
     let log = with_addition code.log (alarm_added (nameless labels maybe)) in
-    let names = read_names (code_after code (alarm_added (nameless labels maybe)) first) in
+    let names = read_meanings (code_after code (alarm_added (nameless labels maybe)) first) in
     let count = taken_count code labels maybe ends are in
     let found : taken_events code.net code.log (nameless labels maybe) ≡ filter (has_any_label code.net labels) (map (λ (end : ChainEnd). end.event) ends) =
     sym (taken_are_events code.net code.log labels maybe ends are) ∙ taken_is_filter code.net labels ends in
@@ -173,14 +173,14 @@ alarm_listed code labels maybe first ends coded grown above are known all =
 -- what is written of a new alarm is what it brings, and no more than its size allows
 pub alarm_brings : (code : CodedLog) (labels : List (List ℕ)) (maybe : Bool) (first : ℕ) (ends : List ChainEnd) → IsCodedLog code → IsCodedLog (code_after code (alarm_added (nameless labels maybe)) first) → code.vars ≤ first →
     map (λ (end : ChainEnd). end.event) ends ≡ observable_events code.net → AllByRecursion (λ (end : ChainEnd). end.event < code.grid.events) ends → AllByRecursion (IsChainEnd code) ends →
-    IsListed (read_names (code_after code (alarm_added (nameless labels maybe)) first)) (added_list code.net code.log code.grid.steps (alarm_added (nameless labels maybe)))
+    IsListed (read_meanings (code_after code (alarm_added (nameless labels maybe)) first)) (added_list code.net code.log code.grid.steps (alarm_added (nameless labels maybe)))
     (alarm_written code.grid code.asked (new_vars code first (length (taken_from code.net labels ends)) maybe) (taken_from code.net labels ends))
     × (length (alarm_written code.grid code.asked (new_vars code first (length (taken_from code.net labels ends)) maybe) (taken_from code.net labels ends)) + 12 * question_size code.net code.log code.grid.steps
     ≤ 12 * question_size code.net (with_addition code.log (alarm_added (nameless labels maybe))) code.grid.steps + 12)
 alarm_brings code labels maybe first ends coded grown above are known all =
     let vars = new_vars code first (length (taken_from code.net labels ends)) maybe in
     let takes = taken_from code.net labels ends in
-    let names = read_names (code_after code (alarm_added (nameless labels maybe)) first) in
+    let names = read_meanings (code_after code (alarm_added (nameless labels maybe)) first) in
     let listed = alarm_listed code labels maybe first ends coded grown above are known all in
     let counted = zip_count (Reads code.net (with_addition code.log (alarm_added (nameless labels maybe))) code.grid.steps names) (alarm_written code.grid code.asked vars takes) (added_clauses code.net code.log code.grid.steps (alarm_added (nameless labels maybe))) listed in
     let small = drafts_are_small code.net code.log code.grid.steps (alarm_added (nameless labels maybe)) in (
@@ -190,8 +190,8 @@ alarm_brings code labels maybe first ends coded grown above are known all =
 
 -- ---- a pair
 
-pair_listed : (net : Net) (log : Log) (n : ℕ) (names : List (ℕ × Name)) (ask first second i j a k : ℕ) → a + k ≤ n + 1 → name_of names ask ≡ Some asked →
-    ((t : ℕ) → t ≤ n → name_of names (first + t) ≡ Some (done i t)) → ((t : ℕ) → t ≤ n → name_of names (second + t) ≡ Some (done j t)) →
+pair_listed : (net : Net) (log : Log) (n : ℕ) (names : List (ℕ × Meaning)) (ask first second i j a k : ℕ) → a + k ≤ n + 1 → meaning_of names ask ≡ Some asked →
+    ((t : ℕ) → t ≤ n → meaning_of names (first + t) ≡ Some (done i t)) → ((t : ℕ) → t ≤ n → meaning_of names (second + t) ≡ Some (done j t)) →
     AllZip (Reads net log n names) (map (λ t. negative ask ∷ negative (second + t) ∷ positive (first + t) ∷ []) (range_with_len a k)) (map (λ t. before_if_asked i j t) (range_with_len a k))
 pair_listed net log n names ask first second i j a zero within asks firsts seconds = tt
 pair_listed net log n names ask first second i j a (suc k) within asks firsts seconds = (
@@ -200,12 +200,12 @@ pair_listed net log n names ask first second i j a (suc k) within asks firsts se
 )
 
 pub pair_brings : (code : CodedLog) (i j first second start : ℕ) → IsCodedLog (code_after code (pair_added i j) start) →
-    ((t : ℕ) → t ≤ code.grid.steps → name_of (log_names code) (first + t) ≡ Some (done i t)) → ((t : ℕ) → t ≤ code.grid.steps → name_of (log_names code) (second + t) ≡ Some (done j t)) →
-    IsListed (read_names (code_after code (pair_added i j) start)) (added_list code.net code.log code.grid.steps (pair_added i j)) (pair_written code.asked first second code.grid.steps)
+    ((t : ℕ) → t ≤ code.grid.steps → meaning_of (log_meanings code) (first + t) ≡ Some (done i t)) → ((t : ℕ) → t ≤ code.grid.steps → meaning_of (log_meanings code) (second + t) ≡ Some (done j t)) →
+    IsListed (read_meanings (code_after code (pair_added i j) start)) (added_list code.net code.log code.grid.steps (pair_added i j)) (pair_written code.asked first second code.grid.steps)
     × (length (pair_written code.asked first second code.grid.steps) + 12 * question_size code.net code.log code.grid.steps ≤ 12 * question_size code.net (with_addition code.log (pair_added i j)) code.grid.steps + 12)
 pair_brings code i j first second start grown firsts seconds =
     let after = code_after code (pair_added i j) start in
-    let names = read_names after in
+    let names = read_meanings after in
     let last : code.grid.steps + 1 ≡ suc code.grid.steps = omega arith in
     let listed : AllZip (Reads code.net (with_addition code.log (pair_added i j)) code.grid.steps names) (pair_written code.asked first second code.grid.steps) (map (λ t. before_if_asked i j t) (numbers_below (suc code.grid.steps))) =
     subst (λ k. AllZip (Reads code.net (with_addition code.log (pair_added i j)) code.grid.steps names) (pair_written code.asked first second code.grid.steps) (map (λ t. before_if_asked i j t) (numbers_below k))) last
@@ -220,27 +220,27 @@ pair_brings code i j first second start grown firsts seconds =
 -- ---- the empty log
 
 closed_listed : (net : Net) (grid : Grid) (ask : ℕ) (end : ChainEnd) (a k : ℕ) → IsCodedLog (empty_code net grid ask) → a + k ≤ grid.steps → end.event < grid.events → IsChainEnd (empty_code net grid ask) end →
-    AllZip (Reads net no_log grid.steps (read_names (empty_code net grid ask))) (map (λ t. negative end.closed ∷ negative (grid_variable grid end.event (suc t)) ∷ []) (range_with_len a k)) (map (λ t. chain_closed end.event 0 t) (range_with_len a k))
+    AllZip (Reads net no_log grid.steps (read_meanings (empty_code net grid ask))) (map (λ t. negative end.closed ∷ negative (grid_variable grid end.event (suc t)) ∷ []) (range_with_len a k)) (map (λ t. chain_closed end.event 0 t) (range_with_len a k))
 closed_listed net grid ask end a zero coded within known is = tt
 closed_listed net grid ask end a (suc k) coded within known is = (
-  reads_two (read_names (empty_code net grid ask)) end.closed (grid_variable grid end.event (suc a)) false false (closed end.event 0) (happens end.event (suc a))
+  reads_two (read_meanings (empty_code net grid ask)) end.closed (grid_variable grid end.event (suc a)) false false (closed end.event 0) (happens end.event (suc a))
       (lifted (empty_code net grid ask) end.closed _ coded is.closing) (event_named (empty_code net grid ask) end.event a coded known (omega arith)),
   closed_listed net grid ask end (a + 1) k coded (omega arith) known is,
 )
 
 all_closed_listed : (net : Net) (grid : Grid) (ask : ℕ) (ends : List ChainEnd) → IsCodedLog (empty_code net grid ask) → AllByRecursion (λ (end : ChainEnd). end.event < grid.events) ends → AllByRecursion (IsChainEnd (empty_code net grid ask)) ends →
-    AllZip (Reads net no_log grid.steps (read_names (empty_code net grid ask))) (all_closed_written grid ends) (flat_map (λ e. map (λ t. chain_closed e 0 t) (numbers_below grid.steps)) (map (λ (end : ChainEnd). end.event) ends))
+    AllZip (Reads net no_log grid.steps (read_meanings (empty_code net grid ask))) (all_closed_written grid ends) (flat_map (λ e. map (λ t. chain_closed e 0 t) (numbers_below grid.steps)) (map (λ (end : ChainEnd). end.event) ends))
 all_closed_listed net grid ask [] coded known all = tt
 all_closed_listed net grid ask (end ∷ ends) coded known all =
-    zip_append (Reads net no_log grid.steps (read_names (empty_code net grid ask))) (closed_written grid end) (map (λ t. chain_closed end.event 0 t) (numbers_below grid.steps))
+    zip_append (Reads net no_log grid.steps (read_meanings (empty_code net grid ask))) (closed_written grid end) (map (λ t. chain_closed end.event 0 t) (numbers_below grid.steps))
     (all_closed_written grid ends) (flat_map (λ e. map (λ t. chain_closed e 0 t) (numbers_below grid.steps)) (map (λ (x : ChainEnd). x.event) ends))
     (closed_listed net grid ask end 0 grid.steps coded (omega arith) known.0 all.0) (all_closed_listed net grid ask ends coded known.1 all.1)
 
 pub first_written : (net : Net) (grid : Grid) (ask : ℕ) (ends : List ChainEnd) → IsCodedLog (empty_code net grid ask) → map (λ (end : ChainEnd). end.event) ends ≡ observable_events net →
     AllByRecursion (λ (end : ChainEnd). end.event < grid.events) ends → AllByRecursion (IsChainEnd (empty_code net grid ask)) ends →
-    AppendsFirst net grid.steps (read_names (empty_code net grid ask)) [] (all_closed_written grid ends)
+    AppendsFirst net grid.steps (read_meanings (empty_code net grid ask)) [] (all_closed_written grid ends)
 first_written net grid ask ends coded are known all =
-    let names = read_names (empty_code net grid ask) in
+    let names = read_meanings (empty_code net grid ask) in
     let zipped = subst (λ es. AllZip (Reads net no_log grid.steps names) (all_closed_written grid ends) (flat_map (λ e. map (λ t. chain_closed e 0 t) (numbers_below grid.steps)) es)) are (all_closed_listed net grid ask ends coded known all) in
     let listed = listed_from names (log_clause net no_log grid.steps) (all_closed_written grid ends) (first_clauses net grid.steps) zipped in record {
       more = all_closed_written grid ends;

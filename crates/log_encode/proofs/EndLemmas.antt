@@ -8,7 +8,7 @@ use Rattle.des_base.specs.Lists.{numbers_below}
 use Rattle.des_base.specs.declared.TheConstants.{VAR_LIMIT}
 use Rattle.des_net.specs.Network.{Net, label_of}
 use Rattle.log_clauses.specs.LogClauses.{observable_events}
-use Rattle.log_clauses.specs.LogNames.{first_names}
+use Rattle.log_clauses.specs.LogNames.{first_meanings}
 use Rattle.log_clauses.proofs.Lists.{filter_from}
 use Rattle.log_encode.proofs.TakenLemmas.{map_count}
 use Rattle.prop_core.proofs.NameLemmas.{found_more}
@@ -19,7 +19,7 @@ use Rattle.log_encode.specs.declared.taken.ChainEnd.{ChainEnd}
 use Rattle.log_encode.specs.View.{IsChainEnd, AreEnds}
 use Rattle.log_encode.specs.Written.{first_ends, guards_of}
 use Rattle.prop_core.specs.declared.grid.Grid.{Grid}
-use Rattle.prop_core.specs.VariableNames.{closed, name_of}
+use Rattle.prop_core.specs.VariableNames.{closed, meaning_of}
 use Rattle.run_clauses.specs.LaidOut.{laid_out}
 
 pub filter_more : (p : ℕ → Bool) (k : ℕ) → filter p (numbers_below (k + 1)) ≡ filter p (numbers_below k) ++ filter p (k ∷ [])
@@ -62,8 +62,8 @@ ends_named : (net : Net) (grid : Grid) (asked : ℕ) (before events : List ℕ) 
 ends_named net grid asked before [] is = tt
 ends_named net grid asked before (e ∷ events) is = (
   record {
-    closing = found_more (laid_out asked (first_names net)) [] (suc asked + length before) (closed e 0)
-        (subst (λ v. name_of (laid_out asked (first_names net)) v ≡ Some (closed e 0)) (omega arith) (named_at asked (first_names net) (suc (length before)) (closed e 0) (at before (observable_events net) is)));
+    closing = found_more (laid_out asked (first_meanings net)) [] (suc asked + length before) (closed e 0)
+        (subst (λ v. meaning_of (laid_out asked (first_meanings net)) v ≡ Some (closed e 0)) (omega arith) (named_at asked (first_meanings net) (suc (length before)) (closed e 0) (at before (observable_events net) is)));
     rest = refl;
   },
   subst (λ v. AllByRecursion (IsChainEnd (empty_code net grid asked)) (first_ends v events)) (omega (arith, length-append before (e ∷ [])))
@@ -104,7 +104,7 @@ abbrev seen_below : Net → ℕ → List ℕ
 seen_below net k = filter (λ e. is_some (label_of net e)) (numbers_below k)
 
 -- the next one is within the limit
-pub next_fits : (net : Net) (asked k next : ℕ) → asked + length (first_names net) ≤ VAR_LIMIT → k < length net.events → is_some (label_of net k) ≡ true → next ≡ asked + length (seen_below net k) → next + 1 ≤ VAR_LIMIT
+pub next_fits : (net : Net) (asked k next : ℕ) → asked + length (first_meanings net) ≤ VAR_LIMIT → k < length net.events → is_some (label_of net k) ≡ true → next ≡ asked + length (seen_below net k) → next + 1 ≤ VAR_LIMIT
 next_fits net asked k next few known seen is =
     let counted = filter_below (λ e. is_some (label_of net e)) k (length net.events) known seen in
     let names = map_count (λ e. closed e 0) (observable_events net) in

@@ -20,14 +20,14 @@ use Rattle.log_encode.proofs.StayLemmas.{end_stays, chain_joined, named_still}
 use Rattle.log_encode.proofs.TakenLemmas.{taken_are_events, taken_is_filter, width_is, map_count}
 use Rattle.log_encode.proofs.VariableLemmas.{link_is_small}
 use Rattle.log_encode.specs.AlarmVariables.{alarm_variable_count, false_width, dropped_variable}
-use Rattle.log_encode.specs.CodedLog.{CodedLog, log_names, code_after, addition_width, nameless, false_literals, IsCodedLog}
+use Rattle.log_encode.specs.CodedLog.{CodedLog, log_meanings, code_after, addition_width, nameless, false_literals, IsCodedLog}
 use Rattle.log_encode.specs.declared.alarm_vars.AlarmVars.{AlarmVars}
 use Rattle.log_encode.specs.declared.taken.ChainEnd.{ChainEnd}
 use Rattle.log_encode.specs.declared.taken.Taken.{Taken}
 use Rattle.log_encode.specs.View.{IsChainEnd, AreEnds, AreFalse, IsCodedAlarm}
 use Rattle.log_encode.specs.Written.{has_any_label, taken_from, end_after, ends_after, guards_of, dropped_written}
 use Rattle.prop_core.specs.declared.lit.Lit.{Lit}
-use Rattle.prop_core.specs.VariableNames.{Name, NamedLiteral, name_of, yes, closed, remaining, done, dropped}
+use Rattle.prop_core.specs.VariableNames.{Meaning, NamedLiteral, meaning_of, yes, closed, remaining, done, dropped}
 use Rattle.std.specs.Prelude.{is_some}
 
 -- each chain whose event has one of the labels gets a link
@@ -79,10 +79,10 @@ abbrev pub new_vars : CodedLog → ℕ → ℕ → Bool → AlarmVars
 new_vars code first links maybe = record { start = first; links = links; steps = code.grid.steps; doubtful = maybe }
 
 -- the names of the longer log, where they are
-pub places : (code : CodedLog) (labels : List (List ℕ)) (maybe : Bool) (first : ℕ) → IsCodedLog code → code.vars ≤ first → HasAlarmPlaces code.net code.log code.grid.steps first (nameless labels maybe) (log_names (code_after code (alarm_added (nameless labels maybe)) first))
+pub places : (code : CodedLog) (labels : List (List ℕ)) (maybe : Bool) (first : ℕ) → IsCodedLog code → code.vars ≤ first → HasAlarmPlaces code.net code.log code.grid.steps first (nameless labels maybe) (log_meanings (code_after code (alarm_added (nameless labels maybe)) first))
 places code labels maybe first coded above =
     subst (HasAlarmPlaces code.net code.log code.grid.steps first (nameless labels maybe)) (sym (names_with_alarm code (nameless labels maybe) first coded.each))
-    (places_of_names code.net code.log code.grid.steps first (nameless labels maybe) (log_names code) (raised code.net code.log code.grid.steps code.vars first (log_names code) above coded.names))
+    (places_of_names code.net code.log code.grid.steps first (nameless labels maybe) (log_meanings code) (raised code.net code.log code.grid.steps code.vars first (log_meanings code) above coded.names))
 
 joined_count : (net : Net) (log : Log) (new : Alarm) (e : ℕ) → has_any_label net new.labels e ≡ true → length (chain net (with_addition log (alarm_added new)) e) ≡ suc (length (chain net log e))
 joined_count net log new e h = ap length (chain_joined net log new e h) ∙ omega (arith, length-append (chain net log e) (length log.alarms ∷ []))
@@ -99,13 +99,13 @@ joined_end code labels maybe first links link e coded above h at inside width =
     let there = places code labels maybe first coded above in
     let count = joined_count code.net code.log (nameless labels maybe) e h in
     let bound = link_is_small links (1 + code.grid.steps * 2) link inside in record {
-      closing = subst (λ k. name_of (log_names (code_after code (alarm_added (nameless labels maybe)) first)) (first + link * (1 + code.grid.steps * 2)) ≡ Some (closed e k)) (sym count) (there.closing link e at);
+      closing = subst (λ k. meaning_of (log_meanings (code_after code (alarm_added (nameless labels maybe)) first)) (first + link * (1 + code.grid.steps * 2)) ≡ Some (closed e k)) (sym count) (there.closing link e at);
       rest = (
         omega (arith, bound, width),
         λ t time.
             let var : first + (link * (1 + code.grid.steps * 2) + suc (t * 2 + 1)) ≡ first + (link * (1 + code.grid.steps * 2) + suc (0 * 2 + 1)) + t * 2 = omega arith in
-            subst (λ v. name_of (log_names (code_after code (alarm_added (nameless labels maybe)) first)) v ≡ Some (remaining e (length (chain code.net (with_addition code.log (alarm_added (nameless labels maybe))) e)) (suc t))) var
-            (subst (λ k. name_of (log_names (code_after code (alarm_added (nameless labels maybe)) first)) (first + (link * (1 + code.grid.steps * 2) + suc (t * 2 + 1))) ≡ Some (remaining e k (suc t))) (sym count) (there.passing link e t at time)),
+            subst (λ v. meaning_of (log_meanings (code_after code (alarm_added (nameless labels maybe)) first)) v ≡ Some (remaining e (length (chain code.net (with_addition code.log (alarm_added (nameless labels maybe))) e)) (suc t))) var
+            (subst (λ k. meaning_of (log_meanings (code_after code (alarm_added (nameless labels maybe)) first)) (first + (link * (1 + code.grid.steps * 2) + suc (t * 2 + 1))) ≡ Some (remaining e k (suc t))) (sym count) (there.passing link e t at time)),
       );
     }
 
@@ -167,30 +167,30 @@ new_alarm code labels maybe first ends coded above are =
       events = taken_are_events code.net code.log labels maybe ends are;
       within = omega (arith, width);
       matching = λ p e t at time. there.matching p e t at time;
-      being_done = λ t time. subst (λ k. name_of (log_names (code_after code (alarm_added (nameless labels maybe)) first)) (first + (k * (1 + code.grid.steps * 2) + t)) ≡ Some (done (length code.log.alarms) t)) (taken_count code labels maybe ends are) (there.being_done t time);
+      being_done = λ t time. subst (λ k. meaning_of (log_meanings (code_after code (alarm_added (nameless labels maybe)) first)) (first + (k * (1 + code.grid.steps * 2) + t)) ≡ Some (done (length code.log.alarms) t)) (taken_count code labels maybe ends are) (there.being_done t time);
       mark = doubtful_new code.log (nameless labels maybe);
-      being_false = λ h. subst (λ k. name_of (log_names (code_after code (alarm_added (nameless labels maybe)) first)) (first + (k * (1 + code.grid.steps * 2) + (suc code.grid.steps + code.grid.steps * chain_count k))) ≡ Some (dropped (length code.log.alarms))) (taken_count code labels maybe ends are) (there.being_false h);
+      being_false = λ h. subst (λ k. meaning_of (log_meanings (code_after code (alarm_added (nameless labels maybe)) first)) (first + (k * (1 + code.grid.steps * 2) + (suc code.grid.steps + code.grid.steps * chain_count k))) ≡ Some (dropped (length code.log.alarms))) (taken_count code labels maybe ends are) (there.being_false h);
     }
 
 -- ---- what says that alarms are false
 
-reads_still : (names more : List (ℕ × Name)) (lits : List Lit) (named : List NamedLiteral) → ((v : ℕ) (x : Name) → name_of names v ≡ Some x → name_of more v ≡ Some x) → ReadsInOrder names lits named → ReadsInOrder more lits named
+reads_still : (names more : List (ℕ × Meaning)) (lits : List Lit) (named : List NamedLiteral) → ((v : ℕ) (x : Meaning) → meaning_of names v ≡ Some x → meaning_of more v ≡ Some x) → ReadsInOrder names lits named → ReadsInOrder more lits named
 reads_still names more [] [] still h = tt
 reads_still names more [] (m ∷ named) still h = absurd h
 reads_still names more (l ∷ lits) [] still h = absurd h
-reads_still names more (l ∷ lits) (m ∷ named) still h = ((still l.var m.name h.0.0, h.0.1), reads_still names more lits named still h.1)
+reads_still names more (l ∷ lits) (m ∷ named) still h = ((still l.var m.meaning h.0.0, h.0.1), reads_still names more lits named still h.1)
 
 pub false_with_alarm : (code : CodedLog) (labels : List (List ℕ)) (maybe : Bool) (first : ℕ) (ends : List ChainEnd) (lits : List Lit) → IsCodedLog code → code.vars ≤ first → map (λ (end : ChainEnd). end.event) ends ≡ observable_events code.net →
     AreFalse code lits → AreFalse (code_after code (alarm_added (nameless labels maybe)) first) (lits ++ dropped_written (new_vars code first (length (taken_from code.net labels ends)) maybe))
 false_with_alarm code labels maybe first ends lits coded above are old =
     let after = code_after code (alarm_added (nameless labels maybe)) first in
     let vars = new_vars code first (length (taken_from code.net labels ends)) maybe in
-    let kept = reads_still (log_names code) (log_names after) lits (false_literals code.log) (λ v x h. named_still code (nameless labels maybe) first v x coded.each h) old in
-    subst (ReadsInOrder (log_names after) (lits ++ dropped_written vars)) (sym (false_more code.log (nameless labels maybe)))
+    let kept = reads_still (log_meanings code) (log_meanings after) lits (false_literals code.log) (λ v x h. named_still code (nameless labels maybe) first v x coded.each h) old in
+    subst (ReadsInOrder (log_meanings after) (lits ++ dropped_written vars)) (sym (false_more code.log (nameless labels maybe)))
     (zip_append _ lits (false_literals code.log) (dropped_written vars) (if maybe then yes (dropped (length code.log.alarms)) ∷ [] else []) kept
     (by maybe (new_alarm code labels maybe first ends coded above are).being_false))
   where
-    by : (b : Bool) → (b ≡ true → name_of (log_names (code_after code (alarm_added (nameless labels maybe)) first)) (dropped_variable (new_vars code first (length (taken_from code.net labels ends)) maybe)) ≡ Some (dropped (length code.log.alarms))) →
-        ReadsInOrder (log_names (code_after code (alarm_added (nameless labels maybe)) first)) (if b then (record { var = dropped_variable (new_vars code first (length (taken_from code.net labels ends)) maybe); positive = true }) ∷ [] else []) (if b then yes (dropped (length code.log.alarms)) ∷ [] else [])
+    by : (b : Bool) → (b ≡ true → meaning_of (log_meanings (code_after code (alarm_added (nameless labels maybe)) first)) (dropped_variable (new_vars code first (length (taken_from code.net labels ends)) maybe)) ≡ Some (dropped (length code.log.alarms))) →
+        ReadsInOrder (log_meanings (code_after code (alarm_added (nameless labels maybe)) first)) (if b then (record { var = dropped_variable (new_vars code first (length (taken_from code.net labels ends)) maybe); positive = true }) ∷ [] else []) (if b then yes (dropped (length code.log.alarms)) ∷ [] else [])
     by true h = ((h refl, refl), tt)
     by false h = tt

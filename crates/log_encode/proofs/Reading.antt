@@ -21,7 +21,7 @@ use Rattle.log_encode.specs.declared.writing.LinkVars.{LinkVars}
 use Rattle.log_encode.specs.Written.{link_written, matches_at, step_written, done_written, dropped_written, real_of_link, reals_written, real_written}
 use Rattle.prop_core.specs.declared.lit.Lit.{Lit}
 use Rattle.prop_core.specs.Clauses.{Clause}
-use Rattle.prop_core.specs.VariableNames.{Name, NamedLiteral, name_of, yes, no, asked, matches, done, dropped, closed, remaining, of_matches, named_clause}
+use Rattle.prop_core.specs.VariableNames.{Meaning, NamedLiteral, meaning_of, yes, no, asked, matches, done, dropped, closed, remaining, of_matches, named_clause}
 
 -- ---- lists side by side
 
@@ -45,34 +45,34 @@ zip_count R (x ∷ xs) (y ∷ ys) h = ap suc (zip_count R xs ys h.1)
 
 -- ---- clauses of one to three literals
 
-abbrev pub Reads : Net → Log → ℕ → List (ℕ × Name) → Clause → LogClause → Type 0
+abbrev pub Reads : Net → Log → ℕ → List (ℕ × Meaning) → Clause → LogClause → Type 0
 Reads net log n names clause which = named_clause names clause ≡ Some (log_clause net log n which)
 
-pub reads_one : (names : List (ℕ × Name)) (v : ℕ) (a : Bool) (x : Name) → name_of names v ≡ Some x → named_clause names (record { var = v; positive = a } ∷ []) ≡ Some (record { name = x; positive = a } ∷ [])
-reads_one names v a x h = ordered_names names (record { var = v; positive = a } ∷ []) (record { name = x; positive = a } ∷ []) ((h, refl), tt)
+pub reads_one : (names : List (ℕ × Meaning)) (v : ℕ) (a : Bool) (x : Meaning) → meaning_of names v ≡ Some x → named_clause names (record { var = v; positive = a } ∷ []) ≡ Some (record { meaning = x; positive = a } ∷ [])
+reads_one names v a x h = ordered_names names (record { var = v; positive = a } ∷ []) (record { meaning = x; positive = a } ∷ []) ((h, refl), tt)
 
-pub reads_two : (names : List (ℕ × Name)) (v w : ℕ) (a b : Bool) (x y : Name) → name_of names v ≡ Some x → name_of names w ≡ Some y →
-    named_clause names (record { var = v; positive = a } ∷ record { var = w; positive = b } ∷ []) ≡ Some (record { name = x; positive = a } ∷ record { name = y; positive = b } ∷ [])
-reads_two names v w a b x y h k = ordered_names names (record { var = v; positive = a } ∷ record { var = w; positive = b } ∷ []) (record { name = x; positive = a } ∷ record { name = y; positive = b } ∷ []) ((h, refl), ((k, refl), tt))
+pub reads_two : (names : List (ℕ × Meaning)) (v w : ℕ) (a b : Bool) (x y : Meaning) → meaning_of names v ≡ Some x → meaning_of names w ≡ Some y →
+    named_clause names (record { var = v; positive = a } ∷ record { var = w; positive = b } ∷ []) ≡ Some (record { meaning = x; positive = a } ∷ record { meaning = y; positive = b } ∷ [])
+reads_two names v w a b x y h k = ordered_names names (record { var = v; positive = a } ∷ record { var = w; positive = b } ∷ []) (record { meaning = x; positive = a } ∷ record { meaning = y; positive = b } ∷ []) ((h, refl), ((k, refl), tt))
 
-pub reads_three : (names : List (ℕ × Name)) (u v w : ℕ) (a b c : Bool) (x y z : Name) → name_of names u ≡ Some x → name_of names v ≡ Some y → name_of names w ≡ Some z →
+pub reads_three : (names : List (ℕ × Meaning)) (u v w : ℕ) (a b c : Bool) (x y z : Meaning) → meaning_of names u ≡ Some x → meaning_of names v ≡ Some y → meaning_of names w ≡ Some z →
     named_clause names (record { var = u; positive = a } ∷ record { var = v; positive = b } ∷ record { var = w; positive = c } ∷ [])
-    ≡ Some (record { name = x; positive = a } ∷ record { name = y; positive = b } ∷ record { name = z; positive = c } ∷ [])
+    ≡ Some (record { meaning = x; positive = a } ∷ record { meaning = y; positive = b } ∷ record { meaning = z; positive = c } ∷ [])
 reads_three names u v w a b c x y z h k l =
     ordered_names names (record { var = u; positive = a } ∷ record { var = v; positive = b } ∷ record { var = w; positive = c } ∷ [])
-    (record { name = x; positive = a } ∷ record { name = y; positive = b } ∷ record { name = z; positive = c } ∷ []) ((h, refl), ((k, refl), ((l, refl), tt)))
+    (record { meaning = x; positive = a } ∷ record { meaning = y; positive = b } ∷ record { meaning = z; positive = c } ∷ []) ((h, refl), ((k, refl), ((l, refl), tt)))
 
 -- ---- a link in one step
 
-pub record AreLinkNames (names : List (ℕ × Name)) (i e k t : ℕ) (v : LinkVars) : Type 0 where
-  pub closing : name_of names v.closed ≡ Some (closed e (suc k))
-  pub rest : name_of names v.rest ≡ Some (remaining e k (suc t))
-  pub matching : name_of names v.matched ≡ Some (matches i e (suc t))
-  pub passing : name_of names v.passed ≡ Some (remaining e (suc k) (suc t))
-  pub before : name_of names v.before ≡ Some (done i t)
-  pub after : name_of names v.after ≡ Some (done i (suc t))
+pub record AreLinkNames (names : List (ℕ × Meaning)) (i e k t : ℕ) (v : LinkVars) : Type 0 where
+  pub closing : meaning_of names v.closed ≡ Some (closed e (suc k))
+  pub rest : meaning_of names v.rest ≡ Some (remaining e k (suc t))
+  pub matching : meaning_of names v.matched ≡ Some (matches i e (suc t))
+  pub passing : meaning_of names v.passed ≡ Some (remaining e (suc k) (suc t))
+  pub before : meaning_of names v.before ≡ Some (done i t)
+  pub after : meaning_of names v.after ≡ Some (done i (suc t))
 
-pub link_reads : (net : Net) (log : Log) (n : ℕ) (names : List (ℕ × Name)) (i e k t : ℕ) (v : LinkVars) → AreLinkNames names i e k t v → AllZip (Reads net log n names) (link_written v) (alarm_link_clauses i e k t)
+pub link_reads : (net : Net) (log : Log) (n : ℕ) (names : List (ℕ × Meaning)) (i e k t : ℕ) (v : LinkVars) → AreLinkNames names i e k t v → AllZip (Reads net log n names) (link_written v) (alarm_link_clauses i e k t)
 link_reads net log n names i e k t v are = (
   reads_two names v.closed v.passed false false _ _ are.closing are.passing,
   (
@@ -95,16 +95,16 @@ link_reads net log n names i e k t v are = (
 
 -- ---- whether the alarm is matched
 
-pub record AreAlarmNames (names : List (ℕ × Name)) (n i : ℕ) (events : List ℕ) (vars : AlarmVars) : Type 0 where
+pub record AreAlarmNames (names : List (ℕ × Meaning)) (n i : ℕ) (events : List ℕ) (vars : AlarmVars) : Type 0 where
   pub links : vars.links ≡ length events
   pub steps : vars.steps ≡ n
-  pub matching : (p e t : ℕ) → slice_get events p ≡ Some e → t < n → name_of names (match_variable vars p t) ≡ Some (matches i e (suc t))
-  pub being_done : (t : ℕ) → t ≤ n → name_of names (done_variable vars t) ≡ Some (done i t)
+  pub matching : (p e t : ℕ) → slice_get events p ≡ Some e → t < n → meaning_of names (match_variable vars p t) ≡ Some (matches i e (suc t))
+  pub being_done : (t : ℕ) → t ≤ n → meaning_of names (done_variable vars t) ≡ Some (done i t)
   pub chaining : (t : ℕ) → t < n → IsNamedChain names (of_matches i (suc t)) (chain_variable vars t) (chain_count vars.links)
-  pub being_false : vars.doubtful ≡ true → name_of names (dropped_variable vars) ≡ Some (dropped i)
+  pub being_false : vars.doubtful ≡ true → meaning_of names (dropped_variable vars) ≡ Some (dropped i)
 
-abbrev IsNamed : List (ℕ × Name) → Lit → NamedLiteral → Type 0
-IsNamed names l m = (name_of names l.var ≡ Some m.name) × (l.positive ≡ m.positive)
+abbrev IsNamed : List (ℕ × Meaning) → Lit → NamedLiteral → Type 0
+IsNamed names l m = (meaning_of names l.var ≡ Some m.meaning) × (l.positive ≡ m.positive)
 
 -- what reads as clauses of a list reads as what these become
 zip_renamed : {A B C : Type 0} (R : A → C → Type 0) (f : B → C) (xs : List A) (ys : List B) → AllZip (λ x y. R x (f y)) xs ys → AllZip R xs (map f ys)
@@ -113,12 +113,12 @@ zip_renamed R f [] (y ∷ ys) h = absurd h
 zip_renamed R f (x ∷ xs) [] h = absurd h
 zip_renamed R f (x ∷ xs) (y ∷ ys) h = (h.0, zip_renamed R f xs ys h.1)
 
-map_twice : (f : ℕ → Name) (xs : List ℕ) → map (λ x. yes (f x)) xs ≡ map (λ name. yes name) (map f xs)
+map_twice : (f : ℕ → Meaning) (xs : List ℕ) → map (λ x. yes (f x)) xs ≡ map (λ meaning. yes meaning) (map f xs)
 map_twice f [] = refl
 map_twice f (x ∷ xs) = ap (λ rest. yes (f x) ∷ rest) (map_twice f xs)
 
 -- at most one match in a step
-one_reads : (net : Net) (log : Log) (n : ℕ) (names : List (ℕ × Name)) (i t : ℕ) (events : List ℕ) (vars : AlarmVars) → t < n → AreAlarmNames names n i events vars → AllZip (IsNamed names) (matches_at vars t) (map (λ e. yes (matches i e (suc t))) events) →
+one_reads : (net : Net) (log : Log) (n : ℕ) (names : List (ℕ × Meaning)) (i t : ℕ) (events : List ℕ) (vars : AlarmVars) → t < n → AreAlarmNames names n i events vars → AllZip (IsNamed names) (matches_at vars t) (map (λ e. yes (matches i e (suc t))) events) →
     AllZip (Reads net log n names) (exclusion_clauses (matches_at vars t) (chain_variable vars t)) (match_clauses i t events)
 one_reads net log n names i t events vars time are matched =
     let named = ordered_names names (matches_at vars t) (map (λ e. yes (matches i e (suc t))) events) matched in
@@ -129,7 +129,7 @@ one_reads net log n names i t events vars time are matched =
     (exclusions_read names (of_matches i (suc t)) (map (λ e. matches i e (suc t)) events) (matches_at vars t) (chain_variable vars t) reads chain)
 
 -- where it is doubtful, that it is false comes before the others
-dropped_reads : (names : List (ℕ × Name)) (log : Log) (i : ℕ) (vars : AlarmVars) (lits : List Lit) (named : List NamedLiteral) → is_doubtful log i ≡ vars.doubtful → (vars.doubtful ≡ true → name_of names (dropped_variable vars) ≡ Some (dropped i)) →
+dropped_reads : (names : List (ℕ × Meaning)) (log : Log) (i : ℕ) (vars : AlarmVars) (lits : List Lit) (named : List NamedLiteral) → is_doubtful log i ≡ vars.doubtful → (vars.doubtful ≡ true → meaning_of names (dropped_variable vars) ≡ Some (dropped i)) →
     AllZip (IsNamed names) lits named → AllZip (IsNamed names) (dropped_written vars ++ lits) (or_false log i named)
 dropped_reads names log i vars lits named mark h zip = by vars.doubtful refl
   where
@@ -137,21 +137,21 @@ dropped_reads names log i vars lits named mark h zip = by vars.doubtful refl
     by true e = let d : is_doubtful log i ≡ true = mark ∙ e in let at = h e in rw (e, d) ((at, refl), zip)
     by false e = let d : is_doubtful log i ≡ false = mark ∙ e in rw (e, d) zip
 
-not_first_reads : (names : List (ℕ × Name)) (log : Log) (n i : ℕ) (events : List ℕ) (vars : AlarmVars) → is_doubtful log i ≡ vars.doubtful → AreAlarmNames names n i events vars →
+not_first_reads : (names : List (ℕ × Meaning)) (log : Log) (n i : ℕ) (events : List ℕ) (vars : AlarmVars) → is_doubtful log i ≡ vars.doubtful → AreAlarmNames names n i events vars →
     named_clause names (negative (done_variable vars 0) ∷ dropped_written vars) ≡ Some (no (done i 0) ∷ or_false log i [])
 not_first_reads names log n i events vars mark are =
     ordered_names names (negative (done_variable vars 0) ∷ dropped_written vars) (no (done i 0) ∷ or_false log i [])
     ((are.being_done 0 (omega arith), refl), subst (λ ls. AllZip (IsNamed names) ls (or_false log i [])) (append-nil (dropped_written vars)) (dropped_reads names log i vars [] [] mark are.being_false tt))
 
 -- the matches of a step
-matches_read : (names : List (ℕ × Name)) (n i t : ℕ) (events : List ℕ) (vars : AlarmVars) → t < n → AreAlarmNames names n i events vars → AllZip (IsNamed names) (matches_at vars t) (map (λ e. yes (matches i e (suc t))) events)
+matches_read : (names : List (ℕ × Meaning)) (n i t : ℕ) (events : List ℕ) (vars : AlarmVars) → t < n → AreAlarmNames names n i events vars → AllZip (IsNamed names) (matches_at vars t) (map (λ e. yes (matches i e (suc t))) events)
 matches_read names n i t events vars time are =
     subst (λ k. AllZip (IsNamed names) (map (λ p. positive (match_variable vars p t)) (range_with_len 0 k)) (map (λ e. yes (matches i e (suc t))) events)) (sym are.links)
     (zip_numbered (IsNamed names) (λ p. positive (match_variable vars p t)) (λ e. yes (matches i e (suc t))) 0 events
-    (λ p e at. (subst (λ q. name_of names (match_variable vars q t) ≡ Some (matches i e (suc t))) (omega arith) (are.matching p e t at time), refl)))
+    (λ p e at. (subst (λ q. meaning_of names (match_variable vars q t) ≡ Some (matches i e (suc t))) (omega arith) (are.matching p e t at time), refl)))
 
 -- done after a step, by a match there or before
-by_match_reads : (names : List (ℕ × Name)) (log : Log) (n i t : ℕ) (events : List ℕ) (vars : AlarmVars) → t < n → is_doubtful log i ≡ vars.doubtful → AreAlarmNames names n i events vars →
+by_match_reads : (names : List (ℕ × Meaning)) (log : Log) (n i t : ℕ) (events : List ℕ) (vars : AlarmVars) → t < n → is_doubtful log i ≡ vars.doubtful → AreAlarmNames names n i events vars →
     named_clause names (negative (done_variable vars (suc t)) ∷ positive (done_variable vars t) ∷ (dropped_written vars ++ matches_at vars t)) ≡ Some (no (done i (suc t)) ∷ yes (done i t) ∷ or_false log i (map (λ e. yes (matches i e (suc t))) events))
 by_match_reads names log n i t events vars time mark are =
     ordered_names names (negative (done_variable vars (suc t)) ∷ positive (done_variable vars t) ∷ (dropped_written vars ++ matches_at vars t)) (no (done i (suc t)) ∷ yes (done i t) ∷ or_false log i (map (λ e. yes (matches i e (suc t))) events)) (
@@ -162,7 +162,7 @@ by_match_reads names log n i t events vars time mark are =
       ),
     )
 
-step_reads : (net : Net) (log : Log) (n : ℕ) (names : List (ℕ × Name)) (i t : ℕ) (events : List ℕ) (vars : AlarmVars) → t < n → matching_events net log i ≡ events → is_doubtful log i ≡ vars.doubtful → AreAlarmNames names n i events vars →
+step_reads : (net : Net) (log : Log) (n : ℕ) (names : List (ℕ × Meaning)) (i t : ℕ) (events : List ℕ) (vars : AlarmVars) → t < n → matching_events net log i ≡ events → is_doubtful log i ≡ vars.doubtful → AreAlarmNames names n i events vars →
     AllZip (Reads net log n names) (step_written vars t) (done_clauses i events t)
 step_reads net log n names i t events vars time same mark are = (
   reads_two names (done_variable vars t) (done_variable vars (suc t)) false true _ _ (are.being_done t (omega arith)) (are.being_done (suc t) (omega arith)),
@@ -184,7 +184,7 @@ zip_flat_numbered R f g a (x ∷ xs) each =
     zip_append R (f a) (g x) (flat_map f (range_with_len (a + 1) (length xs))) (flat_map g xs) (subst (λ k. AllZip R (f k) (g x)) (omega arith) (each 0 x refl))
     (zip_flat_numbered R f g (a + 1) xs (λ p y at. subst (λ k. AllZip R (f k) (g y)) (omega arith) (each (suc p) y at)))
 
-pub real_reads : (net : Net) (log : Log) (n : ℕ) (names : List (ℕ × Name)) (i : ℕ) (events : List ℕ) (vars : AlarmVars) → AreAlarmNames names n i events vars → AllZip (Reads net log n names) (real_written vars) (real_clauses vars.doubtful i events n)
+pub real_reads : (net : Net) (log : Log) (n : ℕ) (names : List (ℕ × Meaning)) (i : ℕ) (events : List ℕ) (vars : AlarmVars) → AreAlarmNames names n i events vars → AllZip (Reads net log n names) (real_written vars) (real_clauses vars.doubtful i events n)
 real_reads net log n names i events vars are = by vars.doubtful refl
   where
     all : vars.doubtful ≡ true → AllZip (Reads net log n names) (reals_written vars vars.links) (flat_map (λ e. map (λ t. match_is_real i e t) (numbers_below n)) events)
@@ -194,16 +194,16 @@ real_reads net log n names i events vars are = by vars.doubtful refl
         (λ p x at. subst (λ k. AllZip (Reads net log n names) (real_of_link vars (0 + p) k) (map (λ t. match_is_real i x t) (numbers_below n))) (sym are.steps)
         (zip_maps (Reads net log n names) (λ t. negative (match_variable vars (0 + p) t) ∷ negative (dropped_variable vars) ∷ []) (λ t. match_is_real i x t) 0 n
         (λ t h. reads_two names (match_variable vars (0 + p) t) (dropped_variable vars) false false (matches i x (suc t)) (dropped i)
-        (subst (λ q. name_of names (match_variable vars q t) ≡ Some (matches i x (suc t))) (omega arith) (are.matching p x t at (omega (arith, h)))) (are.being_false e)))))
+        (subst (λ q. meaning_of names (match_variable vars q t) ≡ Some (matches i x (suc t))) (omega arith) (are.matching p x t at (omega (arith, h)))) (are.being_false e)))))
 
     by : (b : Bool) → vars.doubtful ≡ b → AllZip (Reads net log n names) (real_written vars) (real_clauses vars.doubtful i events n)
     by true e = let whole = all e in rw e whole
     by false e = rw e tt
 
-pub done_reads : (net : Net) (log : Log) (n : ℕ) (names : List (ℕ × Name)) (i ask : ℕ) (events : List ℕ) (vars : AlarmVars) → name_of names ask ≡ Some asked → matching_events net log i ≡ events → is_doubtful log i ≡ vars.doubtful → AreAlarmNames names n i events vars →
+pub done_reads : (net : Net) (log : Log) (n : ℕ) (names : List (ℕ × Meaning)) (i ask : ℕ) (events : List ℕ) (vars : AlarmVars) → meaning_of names ask ≡ Some asked → matching_events net log i ≡ events → is_doubtful log i ≡ vars.doubtful → AreAlarmNames names n i events vars →
     AllZip (Reads net log n names) (done_written ask vars) (not_done_first i ∷ done_if_asked i ∷ flat_map (done_clauses i events) (numbers_below n))
 done_reads net log n names i ask events vars asks same mark are =
-    let last : name_of names (done_variable vars vars.steps) ≡ Some (done i n) = subst (λ k. name_of names (done_variable vars k) ≡ Some (done i n)) (sym are.steps) (are.being_done n (omega arith)) in (
+    let last : meaning_of names (done_variable vars vars.steps) ≡ Some (done i n) = subst (λ k. meaning_of names (done_variable vars k) ≡ Some (done i n)) (sym are.steps) (are.being_done n (omega arith)) in (
       not_first_reads names log n i events vars mark are,
       (
         reads_two names ask (done_variable vars vars.steps) false true _ _ asks last,

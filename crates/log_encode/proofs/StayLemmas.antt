@@ -7,27 +7,27 @@ use Rattle.des_net.specs.Network.{Net}
 use Rattle.log_order.specs.Log.{Log, Alarm, a_log}
 use Rattle.log_clauses.specs.Additions.{alarm_added, pair_added, with_addition}
 use Rattle.log_clauses.specs.LogClauses.{chain, matching_events}
-use Rattle.log_clauses.specs.LogNames.{added_names}
+use Rattle.log_clauses.specs.LogNames.{added_meanings}
 use Rattle.log_clauses.proofs.Stay.{matching_same, chain_is, doubtful_same}
 use Rattle.log_encode.proofs.CodeLemmas.{names_with_alarm}
 use Rattle.log_encode.proofs.TakenLemmas.{suits_new}
 use Rattle.log_encode.specs.AlarmState.{AlarmState}
-use Rattle.log_encode.specs.CodedLog.{CodedLog, log_names, code_after, addition_width, nameless, IsCodedLog}
+use Rattle.log_encode.specs.CodedLog.{CodedLog, log_meanings, code_after, addition_width, nameless, IsCodedLog}
 use Rattle.log_encode.specs.declared.taken.ChainEnd.{ChainEnd}
 use Rattle.log_encode.specs.View.{IsChainEnd, IsRest, AreEnds, AreFalse, IsCodedAlarm, AreKept, coded_of}
 use Rattle.log_encode.specs.Written.{has_any_label}
 use Rattle.prop_core.proofs.NameLemmas.{found_more}
 use Rattle.prop_core.specs.declared.grid.Grid.{Grid}
 use Rattle.prop_core.specs.declared.lit.Lit.{Lit}
-use Rattle.prop_core.specs.VariableNames.{Name, name_of, closed, remaining}
+use Rattle.prop_core.specs.VariableNames.{Meaning, meaning_of, closed, remaining}
 use Rattle.replay.specs.Explanation.{is_matching}
 use Rattle.run_clauses.specs.LaidOut.{laid_out}
 
 -- what has a name keeps it
-pub named_still : (code : CodedLog) (new : Alarm) (first var : ℕ) (name : Name) → length code.starts ≡ length code.log.alarms → name_of (log_names code) var ≡ Some name →
-    name_of (log_names (code_after code (alarm_added new) first)) var ≡ Some name
-named_still code new first var name same h =
-    subst (λ names. name_of names var ≡ Some name) (sym (names_with_alarm code new first same)) (found_more (log_names code) (laid_out first (added_names code.net code.log code.grid.steps (alarm_added new))) var name h)
+pub named_still : (code : CodedLog) (new : Alarm) (first var : ℕ) (meaning : Meaning) → length code.starts ≡ length code.log.alarms → meaning_of (log_meanings code) var ≡ Some meaning →
+    meaning_of (log_meanings (code_after code (alarm_added new) first)) var ≡ Some meaning
+named_still code new first var meaning same h =
+    subst (λ names. meaning_of names var ≡ Some meaning) (sym (names_with_alarm code new first same)) (found_more (log_meanings code) (laid_out first (added_meanings code.net code.log code.grid.steps (alarm_added new))) var meaning h)
 
 pub matching_still : (net : Net) (log : Log) (new : Alarm) (i : ℕ) → i < length log.alarms → matching_events net (with_addition log (alarm_added new)) i ≡ matching_events net log i
 matching_still net log new i h =
@@ -62,12 +62,12 @@ rest_stays : (code : CodedLog) (new : Alarm) (first e : ℕ) (last : Option ℕ)
 rest_stays code new first e None coded above apart is = ap length (chain_kept code.net code.log new e apart) ∙ is
 rest_stays code new first e (Some start) coded above apart is = (
   omega (arith, is.0),
-  λ t time. named_still code new first _ _ coded.each (subst (λ xs. name_of (log_names code) (start + t * 2) ≡ Some (remaining e (length xs) (suc t))) (sym (chain_kept code.net code.log new e apart)) (is.1 t time)),
+  λ t time. named_still code new first _ _ coded.each (subst (λ xs. meaning_of (log_meanings code) (start + t * 2) ≡ Some (remaining e (length xs) (suc t))) (sym (chain_kept code.net code.log new e apart)) (is.1 t time)),
 )
 
 pub end_stays : (code : CodedLog) (new : Alarm) (first : ℕ) (end : ChainEnd) → IsCodedLog code → code.vars ≤ first → has_any_label code.net new.labels end.event ≡ false → IsChainEnd code end → IsChainEnd (code_after code (alarm_added new) first) end
 end_stays code new first end coded above apart is = record {
-  closing = named_still code new first _ _ coded.each (subst (λ xs. name_of (log_names code) end.closed ≡ Some (closed end.event (length xs))) (sym (chain_kept code.net code.log new end.event apart)) is.closing);
+  closing = named_still code new first _ _ coded.each (subst (λ xs. meaning_of (log_meanings code) end.closed ≡ Some (closed end.event (length xs))) (sym (chain_kept code.net code.log new end.event apart)) is.closing);
   rest = rest_stays code new first end.event end.last coded above apart is.rest;
 }
 

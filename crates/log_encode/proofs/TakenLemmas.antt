@@ -12,7 +12,7 @@ use Rattle.log_order.specs.Log.{Log, Alarm}
 use Rattle.log_clauses.specs.Additions.{alarm_added, with_addition}
 use Rattle.log_clauses.specs.Drafts.{taken_events}
 use Rattle.log_clauses.specs.LogClauses.{chain, observable_events}
-use Rattle.log_clauses.specs.LogNames.{added_names, alarm_names, match_chains, false_names, link_names}
+use Rattle.log_clauses.specs.LogNames.{added_meanings, alarm_meanings, match_chains, false_meanings, link_meanings}
 use Rattle.log_clauses.proofs.Drafts.{flat_length}
 use Rattle.log_encode.specs.AlarmVariables.{alarm_variable_count, false_width}
 use Rattle.log_encode.specs.CodedLog.{nameless}
@@ -20,7 +20,7 @@ use Rattle.log_encode.specs.declared.taken.ChainEnd.{ChainEnd}
 use Rattle.log_encode.specs.declared.taken.Taken.{Taken}
 use Rattle.log_encode.specs.Written.{has_any_label, taken_from}
 use Rattle.replay.specs.Explanation.{is_matching}
-use Rattle.run_clauses.specs.LaidOut.{chain_names}
+use Rattle.run_clauses.specs.LaidOut.{chain_meanings}
 use Rattle.std.specs.Prelude.{flat_map}
 use Rattle.std.proofs.lemmas.List.FromFn.{length-range_with_len}
 use Rattle.prop_core.specs.VariableNames.{done, some_of_first, of_matches}
@@ -74,7 +74,7 @@ map_count f (x ∷ xs) = ap suc (map_count f xs)
 numbers_count : (k : ℕ) → length (numbers_below k) ≡ k
 numbers_count k = length-range_with_len 0 k
 
-false_count : (b : Bool) (i : ℕ) → length (false_names b i) ≡ false_width b
+false_count : (b : Bool) (i : ℕ) → length (false_meanings b i) ≡ false_width b
 false_count true i = refl
 false_count false i = refl
 
@@ -84,16 +84,16 @@ false_is_small false = omega arith
 
 -- how many variables a new alarm takes
 pub width_is : (net : Net) (log : Log) (n : ℕ) (labels : List (List ℕ)) (maybe : Bool) (takes : List Taken) → map (λ (taken : Taken). taken.event) takes ≡ taken_events net log (nameless labels maybe) →
-    length (added_names net log n (alarm_added (nameless labels maybe))) ≡ alarm_variable_count (length takes) n + false_width maybe
+    length (added_meanings net log n (alarm_added (nameless labels maybe))) ≡ alarm_variable_count (length takes) n + false_width maybe
 width_is net log n labels maybe takes is =
     let new = nameless labels maybe in
-    let links = flat_length (λ e. link_names n (length log.alarms) e (length (chain net log e))) (taken_events net log new) (1 + n * 2) (λ e. link_size n (length log.alarms) e (length (chain net log e))) in
+    let links = flat_length (λ e. link_meanings n (length log.alarms) e (length (chain net log e))) (taken_events net log new) (1 + n * 2) (λ e. link_size n (length log.alarms) e (length (chain net log e))) in
     let count : length (taken_events net log new) ≡ length takes = ap length (sym is) ∙ map_count (λ (taken : Taken). taken.event) takes in
     let dones : length (map (λ t. done (length log.alarms) t) (numbers_below (suc n))) ≡ suc n = map_count (λ t. done (length log.alarms) t) (numbers_below (suc n)) ∙ numbers_count (suc n) in
-    let whole = length-append (alarm_names net log n new) (match_chains n (length log.alarms) (length (taken_events net log new)) ++ false_names maybe (length log.alarms)) in
-    let both = length-append (match_chains n (length log.alarms) (length (taken_events net log new))) (false_names maybe (length log.alarms)) in
-    let two = length-append (flat_map (λ e. link_names n (length log.alarms) e (length (chain net log e))) (taken_events net log new)) (map (λ t. done (length log.alarms) t) (numbers_below (suc n))) in
-    let chains = flat_length (λ t. chain_names (of_matches (length log.alarms) (suc t)) (length (taken_events net log new))) (numbers_below n) (chain_count (length (taken_events net log new)))
+    let whole = length-append (alarm_meanings net log n new) (match_chains n (length log.alarms) (length (taken_events net log new)) ++ false_meanings maybe (length log.alarms)) in
+    let both = length-append (match_chains n (length log.alarms) (length (taken_events net log new))) (false_meanings maybe (length log.alarms)) in
+    let two = length-append (flat_map (λ e. link_meanings n (length log.alarms) e (length (chain net log e))) (taken_events net log new)) (map (λ t. done (length log.alarms) t) (numbers_below (suc n))) in
+    let chains = flat_length (λ t. chain_meanings (of_matches (length log.alarms) (suc t)) (length (taken_events net log new))) (numbers_below n) (chain_count (length (taken_events net log new)))
     (λ t. map_count (λ k. some_of_first (of_matches (length log.alarms) (suc t)) (suc k)) (numbers_below (chain_count (length (taken_events net log new)))) ∙ numbers_count (chain_count (length (taken_events net log new)))) in
     let row = ap (λ k. k * chain_count (length (taken_events net log new))) (numbers_count n) ∙ ap (λ m. n * chain_count m) count in
     let front = ap (λ k. k * (1 + n * 2)) count in

@@ -4,7 +4,7 @@ use Rattle.des_base.specs.declared.TheConstants.{VAR_LIMIT}
 use Rattle.des_net.specs.Network.{Net}
 use Rattle.log_clauses.specs.Additions.{Addition, alarm_added, pair_added}
 use Rattle.log_clauses.specs.Drafts.{added_list, first_list}
-use Rattle.log_encode.specs.CodedLog.{CodedLog, empty_code, code_after, read_names, IsCodedLog}
+use Rattle.log_encode.specs.CodedLog.{CodedLog, empty_code, code_after, read_meanings, IsCodedLog}
 use Rattle.log_encode.specs.Drafted.{DraftState, IsDraftOf}
 use Rattle.log_encode.specs.WrittenLog.{AppendsFirst}
 use Rattle.log_order.specs.Log.{Log}
@@ -23,11 +23,11 @@ pub record BuiltLog : Type 0 where
 
 -- the clauses of the empty log, by the names of its code
 abbrev pub first_written : CodedLog → List Clause
-first_written code = written_by (read_names code) (first_list code.net code.grid.steps)
+first_written code = written_by (read_meanings code) (first_list code.net code.grid.steps)
 
 -- the clauses of an addition whose variables come next after those of the code, by the names of the longer log
 abbrev pub added_written : CodedLog → Addition → List Clause
-added_written code addition = written_by (read_names (code_after code addition code.vars)) (added_list code.net code.log code.grid.steps addition)
+added_written code addition = written_by (read_meanings (code_after code addition code.vars)) (added_list code.net code.log code.grid.steps addition)
 
 -- the empty log, on variables from `first` on
 abbrev pub built_empty : Net → Grid → ℕ → BuiltLog
@@ -48,4 +48,4 @@ DraftIsBuilt = (code : CodedLog) (addition : Addition) (draft : DraftState) → 
 
 -- and the empty log those that its code determines.
 abbrev pub FirstIsBuilt : Type 0
-FirstIsBuilt = (code : CodedLog) (old new : List Clause) → IsCodedLog code → AppendsFirst code.net code.grid.steps (read_names code) old new → new ≡ old ++ first_written code
+FirstIsBuilt = (code : CodedLog) (old new : List Clause) → IsCodedLog code → AppendsFirst code.net code.grid.steps (read_meanings code) old new → new ≡ old ++ first_written code

@@ -7,9 +7,9 @@ use Rattle.log_order.specs.Log.{Log, Alarm, no_log, a_log, an_alarm}
 use Rattle.log_clauses.specs.Additions.{Addition, alarm_added, pair_added, with_addition}
 use Rattle.log_clauses.specs.BesideEvents.{with_events}
 use Rattle.log_clauses.specs.LogClauses.{doubtful_alarms}
-use Rattle.log_clauses.specs.LogNames.{added_names, first_names, AreLogNames}
+use Rattle.log_clauses.specs.LogNames.{added_meanings, first_meanings, AreLogMeanings}
 use Rattle.prop_core.specs.declared.grid.Grid.{Grid}
-use Rattle.prop_core.specs.VariableNames.{Name, NamedLiteral, yes, dropped}
+use Rattle.prop_core.specs.VariableNames.{Meaning, NamedLiteral, yes, dropped}
 use Rattle.run_clauses.specs.LaidOut.{laid_out}
 
 -- The network, the variables of its events, and the log, whose alarms have no names here; the variable that asks for the log, which is its first, the first variable of each alarm, and a number above all its variables.
@@ -32,19 +32,19 @@ without_names log = a_log (map (λ (alarm : Alarm). nameless alarm.labels alarm.
 -- ---- its variables
 
 -- those of alarms that are added to a log, each beginning at its first
-abbrev pub names_from : Net → ℕ → Log → List Alarm → List ℕ → List (ℕ × Name)
-names_from net n log [] starts = []
-names_from net n log (alarm ∷ alarms) [] = []
-names_from net n log (alarm ∷ alarms) (start ∷ starts) =
-    laid_out start (added_names net log n (alarm_added alarm)) ++ names_from net n (with_addition log (alarm_added alarm)) alarms starts
+abbrev pub meanings_from : Net → ℕ → Log → List Alarm → List ℕ → List (ℕ × Meaning)
+meanings_from net n log [] starts = []
+meanings_from net n log (alarm ∷ alarms) [] = []
+meanings_from net n log (alarm ∷ alarms) (start ∷ starts) =
+    laid_out start (added_meanings net log n (alarm_added alarm)) ++ meanings_from net n (with_addition log (alarm_added alarm)) alarms starts
 
 -- the variables that the code made, and what they stand for
-abbrev pub log_names : CodedLog → List (ℕ × Name)
-log_names code = laid_out code.asked (first_names code.net) ++ names_from code.net code.grid.steps no_log code.log.alarms code.starts
+abbrev pub log_meanings : CodedLog → List (ℕ × Meaning)
+log_meanings code = laid_out code.asked (first_meanings code.net) ++ meanings_from code.net code.grid.steps no_log code.log.alarms code.starts
 
 -- those that its clauses have: of the events too
-abbrev pub read_names : CodedLog → List (ℕ × Name)
-read_names code = with_events code.net code.grid.steps code.grid.first (log_names code)
+abbrev pub read_meanings : CodedLog → List (ℕ × Meaning)
+read_meanings code = with_events code.net code.grid.steps code.grid.first (log_meanings code)
 
 -- that an alarm is false, for each doubtful one
 abbrev pub false_literals : Log → List NamedLiteral
@@ -54,11 +54,11 @@ false_literals log = map (λ i. yes (dropped i)) (doubtful_alarms log)
 
 -- of no alarms
 abbrev pub empty_code : Net → Grid → ℕ → CodedLog
-empty_code net grid asked = record { net = net; grid = grid; log = no_log; asked = asked; starts = []; vars = asked + length (first_names net) }
+empty_code net grid asked = record { net = net; grid = grid; log = no_log; asked = asked; starts = []; vars = asked + length (first_meanings net) }
 
 -- how many variables an addition takes
 abbrev pub addition_width : CodedLog → Addition → ℕ
-addition_width code addition = length (added_names code.net code.log code.grid.steps addition)
+addition_width code addition = length (added_meanings code.net code.log code.grid.steps addition)
 
 -- the first variables of the alarms after an addition whose variables begin at `first`: a pair has none
 abbrev pub starts_after : List ℕ → Addition → ℕ → List ℕ
@@ -79,8 +79,8 @@ code_after code addition first = record code {
 pub record IsCodedLog (code : CodedLog) : Type 0 where
   pub events : code.grid.events ≡ length code.net.events
   pub made : code.grid.first + code.grid.events * code.grid.steps ≤ code.asked
-  pub names : AreLogNames code.net code.log code.grid.steps code.vars (log_names code)
-  pub after : AllByRecursion (λ entry. code.asked ≤ entry.0) (log_names code)
+  pub names : AreLogMeanings code.net code.log code.grid.steps code.vars (log_meanings code)
+  pub after : AllByRecursion (λ entry. code.asked ≤ entry.0) (log_meanings code)
   pub few : code.vars ≤ VAR_LIMIT
   pub each : length code.starts ≡ length code.log.alarms
   pub alarms : length code.log.alarms ≤ code.vars

@@ -2,10 +2,10 @@
 use Rattle.std.specs.Prelude.{◌≡◌, ℕ, Bool, true, false, ◌+◌, ◌*◌, ◌<◌, ◌≤◌, List, length}
 use Rattle.log_clauses.specs.Additions.{Addition, alarm_added, pair_added, with_addition}
 use Rattle.log_clauses.specs.Drafts.{added_list}
-use Rattle.log_encode.specs.CodedLog.{CodedLog, code_after, addition_width, read_names}
+use Rattle.log_encode.specs.CodedLog.{CodedLog, code_after, addition_width, read_meanings}
 use Rattle.prop_core.specs.Clauses.{Clause}
 use Rattle.prop_core.specs.Listings.{IsListed}
-use Rattle.prop_core.specs.VariableNames.{Name, done}
+use Rattle.prop_core.specs.VariableNames.{Meaning, done}
 use Rattle.replay.specs.QuestionSize.{question_size}
 
 -- a code, and for how many more alarms and pairs there is room in it
@@ -28,7 +28,7 @@ pub record IsDraftOf (code : CodedLog) (addition : Addition) (first : ℕ) (draf
   pub adds : draft.addition ≡ addition
   pub begins : draft.first ≡ first
   pub width : draft.vars ≡ addition_width code addition
-  pub listed : IsListed (read_names (code_after code addition first)) (added_list code.net code.log code.grid.steps addition) draft.clauses
+  pub listed : IsListed (read_meanings (code_after code addition first)) (added_list code.net code.log code.grid.steps addition) draft.clauses
   pub small : length draft.clauses + 12 * question_size code.net code.log code.grid.steps ≤ 12 * question_size code.net (with_addition code.log addition) code.grid.steps + 12
 
 -- there is room for what the addition adds
@@ -37,7 +37,7 @@ HasRoomFor state (alarm_added new) = 1 ≤ state.spare_alarms
 HasRoomFor state (pair_added i j) = 1 ≤ state.spare_pairs
 
 -- the least number of steps within which alarm i is done
-pub record IsStepOfAlarm (n : ℕ) (value : Name → Bool) (i step : ℕ) : Type 0 where
+pub record IsStepOfAlarm (n : ℕ) (value : Meaning → Bool) (i step : ℕ) : Type 0 where
   pub within : step ≤ n
   pub is : value (done i step) ≡ true
   pub least : (t : ℕ) → t < step → value (done i t) ≡ false

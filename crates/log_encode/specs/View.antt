@@ -13,14 +13,14 @@ use Rattle.log_encode.specs.declared.taken.ChainEnd.{ChainEnd}
 use Rattle.log_encode.specs.declared.taken.Taken.{Taken}
 use Rattle.log_encode.specs.AlarmState.{AlarmState, variables_of}
 use Rattle.log_encode.specs.AlarmVariables.{match_variable, done_variable, dropped_variable, alarm_width}
-use Rattle.log_encode.specs.CodedLog.{CodedLog, nameless, log_names, false_literals, IsCodedLog, code_after, addition_width}
+use Rattle.log_encode.specs.CodedLog.{CodedLog, nameless, log_meanings, false_literals, IsCodedLog, code_after, addition_width}
 use Rattle.log_encode.specs.Drafted.{LogCodeState, DraftState}
 use Rattle.log_encode.specs.Written.{guards_of}
 use Rattle.log_clauses.specs.LogNames.{ReadsInOrder}
 use Rattle.log_order.specs.Log.{is_doubtful}
 use Rattle.prop_core.specs.declared.grid.Grid.{Grid}
 use Rattle.prop_core.specs.declared.lit.Lit.{Lit}
-use Rattle.prop_core.specs.VariableNames.{name_of, matches, done, dropped, closed, remaining}
+use Rattle.prop_core.specs.VariableNames.{meaning_of, matches, done, dropped, closed, remaining}
 
 -- ---- the code
 
@@ -47,11 +47,11 @@ code_view a = record { code = coded a; spare_alarms = a.spare_alarms; spare_pair
 abbrev pub IsRest : CodedLog → ℕ → Option ℕ → Type 0
 IsRest code e None = length (chain code.net code.log e) ≡ 0
 IsRest code e (Some first) = (first + code.grid.steps * 2 ≤ code.vars)
-    × ((t : ℕ) → t < code.grid.steps → name_of (log_names code) (first + t * 2) ≡ Some (remaining e (length (chain code.net code.log e)) (suc t)))
+    × ((t : ℕ) → t < code.grid.steps → meaning_of (log_meanings code) (first + t * 2) ≡ Some (remaining e (length (chain code.net code.log e)) (suc t)))
 
 -- the end stands behind the present alarms of its chain: its variable closes the chain there, and what comes to it is what these leave
 pub record IsChainEnd (code : CodedLog) (end : ChainEnd) : Type 0 where
-  pub closing : name_of (log_names code) end.closed ≡ Some (closed end.event (length (chain code.net code.log end.event)))
+  pub closing : meaning_of (log_meanings code) end.closed ≡ Some (closed end.event (length (chain code.net code.log end.event)))
   pub rest : IsRest code end.event end.last
 
 -- the ends of the chains of all events that can be seen, and the guards
@@ -65,14 +65,14 @@ pub record IsCodedAlarm (code : CodedLog) (i : ℕ) (alarm : AlarmState) : Type 
   pub events : map (λ (taken : Taken). taken.event) alarm.takes ≡ matching_events code.net code.log i
   pub within : alarm.start + alarm_width (variables_of code.grid.steps alarm) ≤ code.vars
   pub matching : (p e t : ℕ) → slice_get (matching_events code.net code.log i) p ≡ Some e → t < code.grid.steps →
-      name_of (log_names code) (match_variable (variables_of code.grid.steps alarm) p t) ≡ Some (matches i e (suc t))
-  pub being_done : (t : ℕ) → t ≤ code.grid.steps → name_of (log_names code) (done_variable (variables_of code.grid.steps alarm) t) ≡ Some (done i t)
+      meaning_of (log_meanings code) (match_variable (variables_of code.grid.steps alarm) p t) ≡ Some (matches i e (suc t))
+  pub being_done : (t : ℕ) → t ≤ code.grid.steps → meaning_of (log_meanings code) (done_variable (variables_of code.grid.steps alarm) t) ≡ Some (done i t)
   pub mark : is_doubtful code.log i ≡ alarm.doubtful
-  pub being_false : alarm.doubtful ≡ true → name_of (log_names code) (dropped_variable (variables_of code.grid.steps alarm)) ≡ Some (dropped i)
+  pub being_false : alarm.doubtful ≡ true → meaning_of (log_meanings code) (dropped_variable (variables_of code.grid.steps alarm)) ≡ Some (dropped i)
 
 -- these say of the doubtful alarms, one after another, that they are false
 abbrev pub AreFalse : CodedLog → List Lit → Type 0
-AreFalse code lits = ReadsInOrder (log_names code) lits (false_literals code.log)
+AreFalse code lits = ReadsInOrder (log_meanings code) lits (false_literals code.log)
 
 -- what is kept beside a code
 pub record AreKept (code : CodedLog) (ends : List ChainEnd) (guards dropped : List Lit) (states : List AlarmState) : Type 0 where

@@ -9,17 +9,17 @@ use Rattle.log_clauses.specs.Drafts.{first_list}
 use Rattle.log_clauses.specs.LogClauses.{guard_literals}
 use Rattle.log_clauses.specs.LogCodeLaws.{IsExactLogCode}
 use Rattle.log_clauses.specs.LogCodes.{IsNamedLog}
-use Rattle.log_encode.specs.CodedLog.{CodedLog, read_names, code_after, without_names, IsCodedLog}
+use Rattle.log_encode.specs.CodedLog.{CodedLog, read_meanings, code_after, without_names, IsCodedLog}
 use Rattle.log_encode.specs.Drafted.{DraftState, IsDraftOf}
 use Rattle.prop_core.specs.declared.lit.Lit.{Lit}
 use Rattle.prop_core.specs.Clauses.{Clause}
 use Rattle.prop_core.specs.Listings.{IsListed}
 use Rattle.prop_core.specs.NamedClauses.{IsCode}
-use Rattle.prop_core.specs.VariableNames.{Name, ReadsAs}
+use Rattle.prop_core.specs.VariableNames.{Meaning, ReadsAs}
 use Rattle.replay.specs.Explanation.{Entry, Explains}
 
 -- Further clauses are those of the empty log, by these names, one after another in the order of their listing: for each event that can be seen one in each step.
-pub record AppendsFirst (net : Net) (n : ℕ) (names : List (ℕ × Name)) (old new : List Clause) : Type 0 where
+pub record AppendsFirst (net : Net) (n : ℕ) (names : List (ℕ × Meaning)) (old new : List Clause) : Type 0 where
   pub more : List Clause
   pub whole : new ≡ old ++ more
   pub listed : IsListed names (first_list net n) more
@@ -29,7 +29,7 @@ pub record AppendsFirst (net : Net) (n : ℕ) (names : List (ℕ × Name)) (old 
 -- by the names of the code's variables the clauses are those of its log
 pub record IsWritten (code : CodedLog) (written : List Clause) : Type 0 where
   pub coded : IsCodedLog code
-  pub clauses : IsCode (read_names code) (IsNamedLog code.net code.log code.grid.steps) written
+  pub clauses : IsCode (read_meanings code) (IsNamedLog code.net code.log code.grid.steps) written
 
 -- the variables of the draft come after those of the code, within the limit
 pub record Follows (code : CodedLog) (draft : DraftState) : Type 0 where
@@ -43,8 +43,8 @@ WrittenGrows = (code : CodedLog) (addition : Addition) (draft : DraftState) (wri
 
 -- With the guards they are exact: the explanations of the log, and without the guards every run.
 abbrev pub WrittenIsExact : Type 0
-WrittenIsExact = (code : CodedLog) (written : List Clause) (guards : List Lit) → IsWritten code written → ReadsAs (read_names code) guards (guard_literals code.net code.log) →
-    IsExactLogCode code.net code.log code.grid.steps (read_names code) written guards
+WrittenIsExact = (code : CodedLog) (written : List Clause) (guards : List Lit) → IsWritten code written → ReadsAs (read_meanings code) guards (guard_literals code.net code.log) →
+    IsExactLogCode code.net code.log code.grid.steps (read_meanings code) written guards
 
 -- The names of alarms don't matter for what explains a log.
 abbrev pub NamesDontMatter : Type 0

@@ -2,7 +2,7 @@
 ghost use Rattle.std.specs.Prelude.{◌≡◌, ◌≤◌, ◌+◌, ◌<◌, suc, length, is_some, IfOk};
 ghost use Rattle.des_net.specs.Network.{label_of};
 ghost use Rattle.log_clauses.specs.LogClauses.{observable_events};
-ghost use Rattle.log_clauses.specs.LogNames.{first_names};
+ghost use Rattle.log_clauses.specs.LogNames.{first_meanings};
 ghost use Rattle.log_encode.specs.Written.{first_ends, guards_of};
 
 use crate::taken::ChainEnd;
@@ -22,7 +22,7 @@ fn is_observable(net: &Network, event: u32) -> bool
 // The ends of chains without alarms, one for each event that can be seen. Their variables come after the one that asks for the
 // log.
 pub fn first_ends(alloc: Global, net: &Network, asked: u32) -> Result<Vec<ChainEnd>, Memory>
-    requires { asked + length (first_names net.now) ≤ VAR_LIMIT }
+    requires { asked + length (first_meanings net.now) ≤ VAR_LIMIT }
     ensures { IfOk result (λ ends. ends.items ≡ first_ends (suc asked) (observable_events net.now)) }
 {
     let mut ends = Vec::new(alloc);

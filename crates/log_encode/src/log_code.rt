@@ -3,13 +3,13 @@ ghost use Rattle.std.specs.Prelude.{◌≡◌, ◌<◌, ◌≤◌, ◌+◌, ◌*
 ghost use Rattle.log_clauses.specs.Additions.{alarm_added, pair_added};
 ghost use Rattle.log_clauses.specs.Decoded.{alarm_at, is_false_alarm};
 ghost use Rattle.log_clauses.specs.LogClauses.{guard_literals};
-ghost use Rattle.log_clauses.specs.LogNames.{first_names};
+ghost use Rattle.log_clauses.specs.LogNames.{first_meanings};
 ghost use Rattle.prop_core.specs.Clauses.{value_in};
 ghost use Rattle.prop_core.specs.NamedClauses.{value_by};
-ghost use Rattle.prop_core.specs.VariableNames.{ReadsAs, name_of, named_clause, done};
+ghost use Rattle.prop_core.specs.VariableNames.{ReadsAs, meaning_of, named_clause, done};
 ghost use Rattle.log_encode.specs.AlarmState.{variables_of, is_matched};
 ghost use Rattle.log_encode.specs.AlarmVariables.{AreWithinLimit, alarm_width, done_variable, dropped_variable};
-ghost use Rattle.log_encode.specs.CodedLog.{IsCodedLog, empty_code, code_after, log_names, false_literals, read_names, nameless, addition_width};
+ghost use Rattle.log_encode.specs.CodedLog.{IsCodedLog, empty_code, code_after, log_meanings, false_literals, read_meanings, nameless, addition_width};
 ghost use Rattle.log_encode.specs.Drafted.{IsDraftOf, IsStepOfAlarm, HasRoomFor};
 ghost use Rattle.log_encode.specs.WrittenLog.{AppendsFirst};
 
@@ -69,10 +69,10 @@ impl LogCode {
     ) -> Result<LogCode, Memory>
         requires events { grid.events ≡ length net.now.events }
         requires made { grid.first + grid.events * grid.steps ≤ vars.old }
-        requires few { vars.old + length (first_names net.now) ≤ VAR_LIMIT }
+        requires few { vars.old + length (first_meanings net.now) ≤ VAR_LIMIT }
         ensures code { IfOk result (λ made. made.code ≡ empty_code net.now grid vars.old) }
-        ensures vars { OnOk result (vars.new ≡ vars.old + length (first_names net.now)) }
-        ensures written { OnOk result (AppendsFirst net.now grid.steps (read_names (empty_code net.now grid vars.old)) out.old.clauses out.new.clauses) }
+        ensures vars { OnOk result (vars.new ≡ vars.old + length (first_meanings net.now)) }
+        ensures written { OnOk result (AppendsFirst net.now grid.steps (read_meanings (empty_code net.now grid vars.old)) out.old.clauses out.new.clauses) }
         ensures same_vars { OnErr result (vars.new ≡ vars.old) }
         ensures same_clauses { OnErr result (out.new ≡ out.old) }
     {
@@ -233,8 +233,8 @@ impl LogCode {
 
     /// The guards, which are to be assumed for the present log.
     pub fn guards(&self) -> &[Lit]
-        ensures listed { named_clause (read_names self.now.code) result.now ≡ Some (guard_literals self.now.code.net self.now.code.log) }
-        ensures guards { ReadsAs (read_names self.now.code) result.now (guard_literals self.now.code.net self.now.code.log) }
+        ensures listed { named_clause (read_meanings self.now.code) result.now ≡ Some (guard_literals self.now.code.net self.now.code.log) }
+        ensures guards { ReadsAs (read_meanings self.now.code) result.now (guard_literals self.now.code.net self.now.code.log) }
         ensures whole { IsCodedLog self.now.code }
     {
         self.guards.as_slice()
@@ -242,7 +242,7 @@ impl LogCode {
 
     /// That an alarm is false, for each doubtful alarm of the log.
     pub fn false_lits(&self) -> &[Lit]
-        ensures { named_clause (log_names self.now.code) result.now ≡ Some (false_literals self.now.code.log) }
+        ensures { named_clause (log_meanings self.now.code) result.now ≡ Some (false_literals self.now.code.log) }
     {
         self.dropped.as_slice()
     }
@@ -261,7 +261,7 @@ impl LogCode {
         requires from_one { 1 ≤ step }
         requires step { step ≤ self.now.code.grid.steps }
         requires values { self.now.code.vars ≤ length assign.now }
-        ensures { result ≡ alarm_at self.now.code.net self.now.code.log (value_by (log_names self.now.code) (value_in assign.now)) event step }
+        ensures { result ≡ alarm_at self.now.code.net self.now.code.log (value_by (log_meanings self.now.code) (value_in assign.now)) event step }
     {
         for (number, alarm) in self.alarms.iter().enumerate() {
             if self.is_matched(alarm, assign, event, step - 1) {
@@ -275,7 +275,7 @@ impl LogCode {
     pub fn is_false(&self, assign: &Assignment, alarm: u32) -> bool
         requires alarm { alarm < length self.now.code.log.alarms }
         requires values { self.now.code.vars ≤ length assign.now }
-        ensures { result ≡ is_false_alarm self.now.code.log (value_by (log_names self.now.code) (value_in assign.now)) alarm }
+        ensures { result ≡ is_false_alarm self.now.code.log (value_by (log_meanings self.now.code) (value_in assign.now)) alarm }
     {
         self.is_dropped(&self.alarms[alarm as usize], assign)
     }
@@ -285,8 +285,8 @@ impl LogCode {
     pub fn step_of(&self, assign: &Assignment, alarm: u32) -> u32
         requires alarm { alarm < length self.now.code.log.alarms }
         requires values { self.now.code.vars ≤ length assign.now }
-        requires last { value_by (log_names self.now.code) (value_in assign.now) (done alarm self.now.code.grid.steps) ≡ true }
-        ensures { IsStepOfAlarm self.now.code.grid.steps (value_by (log_names self.now.code) (value_in assign.now)) alarm result }
+        requires last { value_by (log_meanings self.now.code) (value_in assign.now) (done alarm self.now.code.grid.steps) ≡ true }
+        ensures { IsStepOfAlarm self.now.code.grid.steps (value_by (log_meanings self.now.code) (value_in assign.now)) alarm result }
     {
         first_done(self.vars_of(&self.alarms[alarm as usize]), assign)
     }
@@ -302,7 +302,7 @@ impl LogCode {
     pub fn undone(&self, alarm: u32, steps: u32) -> Lit
         requires alarm { alarm < length self.now.code.log.alarms }
         requires steps { steps ≤ self.now.code.grid.steps }
-        ensures name { name_of (log_names self.now.code) result.var ≡ Some (done alarm steps) }
+        ensures name { meaning_of (log_meanings self.now.code) result.var ≡ Some (done alarm steps) }
         ensures sign { result.positive ≡ false }
     {
         Lit::new(self.done(alarm) + steps, false)
@@ -348,7 +348,7 @@ impl LogCode {
         requires { alarm < length self.now.code.log.alarms }
         ensures within { result + self.now.code.grid.steps < self.now.code.vars }
         ensures few { self.now.code.vars ≤ VAR_LIMIT }
-        ensures names { (t : ℕ) → t ≤ self.now.code.grid.steps → name_of (log_names self.now.code) (result + t) ≡ Some (done alarm t) }
+        ensures names { (t : ℕ) → t ≤ self.now.code.grid.steps → meaning_of (log_meanings self.now.code) (result + t) ≡ Some (done alarm t) }
     {
         self.vars_of(&self.alarms[alarm as usize]).done(0)
     }

@@ -11,20 +11,20 @@ use std::marker::Model;
 
 // What an alarm may stand for: events with its labels, and no event where it is perhaps false.
 #[derive(Drop)]
-pub struct Meaning {
+pub struct AlarmMeaning {
     pub labels: Vec<Name>,
     pub doubtful: bool,
 }
 
-impl Model for Meaning {
-    ghost use Rattle.log_order.specs.Meanings.{Meaning};
+impl Model for AlarmMeaning {
+    ghost use Rattle.log_order.specs.Meanings.{AlarmMeaning};
 
-    ghost Value = { Meaning };
+    ghost Value = { AlarmMeaning };
 
     ghost view = { λ a. record { labels = a.labels.items; doubtful = a.doubtful } };
 }
 
-impl Meaning {
+impl AlarmMeaning {
     pub fn labels(&self) -> &[Name]
         ensures { result.now ≡ self.now.labels }
     {

@@ -5,7 +5,7 @@ ghost use Rattle.log_order.specs.Log.{no_log, has_pair, ListsOnce, Keeps, IsVali
 ghost use Rattle.log_order.specs.Adding.{Answers, alarm_refusal, with_alarm, before_refusal, with_pair, names_of, IsLog};
 ghost use Rattle.log_order.specs.Order.{least_order};
 
-use crate::alarm::{Meaning, each_once};
+use crate::alarm::{AlarmMeaning, each_once};
 use crate::precedence::Precedence;
 use crate::refusal::LogRefusal;
 use crate::{MOST_ALARMS, MOST_LABELS};
@@ -21,7 +21,7 @@ use std::marker::Model;
 #[derive(Drop)]
 pub struct AlarmLog {
     ids: NameTable,
-    meanings: Vec<Meaning>,
+    meanings: Vec<AlarmMeaning>,
     precedence: Precedence,
     alloc: Global,
 }
@@ -195,7 +195,7 @@ impl AlarmLog {
         ensures err { OnErr result (self.new ≡ self.old) }
     {
         let _text = id.as_str();
-        let meaning = Meaning {
+        let meaning = AlarmMeaning {
             labels: each_once(self.alloc, labels)?,
             doubtful,
         };

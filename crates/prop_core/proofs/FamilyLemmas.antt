@@ -4,7 +4,7 @@ use Rattle.std.proofs.lemmas.List.Elements.{Contains-append_left, Contains-appen
 use Rattle.std.proofs.lemmas.Bool.{cases_order}
 use Rattle.des_base.proofs.Elements.{all_append, all_change}
 use Rattle.prop_core.specs.Clauses.{Clause}
-use Rattle.prop_core.specs.VariableNames.{Name, NamedLiteral, named_clause, named_literal, with_literal, yes, name_of, ReadsAs, SameElements}
+use Rattle.prop_core.specs.VariableNames.{Meaning, NamedLiteral, named_clause, named_literal, with_literal, yes, meaning_of, ReadsAs, SameElements}
 use Rattle.prop_core.specs.NamedClauses.{IsCode, IsThere}
 use Rattle.prop_core.proofs.NameLemmas.{reads_more}
 
@@ -20,7 +20,7 @@ Either F G named = F named ⊎ G named
 abbrev pub EachBelow : ℕ → (ℕ → List NamedLiteral → Type 0) → List NamedLiteral → Type 0
 EachBelow k F named = (i : ℕ) × (i < k) × F i named
 
-module _ (names : List (ℕ × Name)) where
+module _ (names : List (ℕ × Meaning)) where
   -- an empty family
   pub code_none : (F : List NamedLiteral → Type 0) → ((named : List NamedLiteral) → F named → ⊥) → IsCode names F []
   code_none F none = record { all = λ named is. absurd (none named is); only = tt }
@@ -72,7 +72,7 @@ module _ (names : List (ℕ × Name)) where
           by (inr (inr more)) = absurd (omega arith)
 
 -- further names change nothing
-pub code_more_names : (names more : List (ℕ × Name)) (F : List NamedLiteral → Type 0) (xs : List Clause) → IsCode names F xs → IsCode (names ++ more) F xs
+pub code_more_names : (names more : List (ℕ × Meaning)) (F : List NamedLiteral → Type 0) (xs : List Clause) → IsCode names F xs → IsCode (names ++ more) F xs
 code_more_names names more F xs code = record {
   all = λ named is. let there = code.all named is in (there.0, there.1, reads_more names more there.0 named named refl there.2);
   only = all_change (λ clause. (named : List NamedLiteral) × F named × ReadsAs names clause named) (λ clause. (named : List NamedLiteral) × F named × ReadsAs (names ++ more) clause named) xs
@@ -80,10 +80,10 @@ code_more_names names more F xs code = record {
 }
 
 -- clauses that are read as they stand
-pub reads_whole : (names : List (ℕ × Name)) (clause : Clause) (named : List NamedLiteral) → named_clause names clause ≡ Some named → ReadsAs names clause named
+pub reads_whole : (names : List (ℕ × Meaning)) (clause : Clause) (named : List NamedLiteral) → named_clause names clause ≡ Some named → ReadsAs names clause named
 reads_whole names clause named h = record { read = named; by_name = h; same = λ l. ((λ x. x), (λ x. x)) }
 
-pub read_append : (names : List (ℕ × Name)) (clause more : Clause) (named rest : List NamedLiteral) → named_clause names clause ≡ Some named → named_clause names more ≡ Some rest → named_clause names (clause ++ more) ≡ Some (named ++ rest)
+pub read_append : (names : List (ℕ × Meaning)) (clause more : Clause) (named rest : List NamedLiteral) → named_clause names clause ≡ Some named → named_clause names more ≡ Some rest → named_clause names (clause ++ more) ≡ Some (named ++ rest)
 read_append names [] more named rest first second = let same : named ≡ [] = cc in rw same second
 read_append names (l ∷ clause) more named rest first second = by (named_literal names l) refl (named_clause names clause) refl first (read_append names clause more)
   where
@@ -98,10 +98,10 @@ read_append names (l ∷ clause) more named rest first second = by (named_litera
         rw (e, here) (ap (λ xs. Some (xs ++ rest)) same)
 
 -- a literal for each number
-pub read_each : (names : List (ℕ × Name)) (var : ℕ → ℕ) (name : ℕ → Name) (xs : List ℕ) → ((x : ℕ) → Contains xs x → name_of names (var x) ≡ Some (name x)) →
-    named_clause names (map (λ x. record { var = var x; positive = true }) xs) ≡ Some (map (λ x. yes (name x)) xs)
-read_each names var name [] each = refl
-read_each names var name (x ∷ xs) each =
+pub read_each : (names : List (ℕ × Meaning)) (var : ℕ → ℕ) (meaning : ℕ → Meaning) (xs : List ℕ) → ((x : ℕ) → Contains xs x → meaning_of names (var x) ≡ Some (meaning x)) →
+    named_clause names (map (λ x. record { var = var x; positive = true }) xs) ≡ Some (map (λ x. yes (meaning x)) xs)
+read_each names var meaning [] each = refl
+read_each names var meaning (x ∷ xs) each =
     let here = each x (0, omega arith, refl) in
-    let rest = read_each names var name xs (λ y there. each y (suc there.0, omega (arith, there.1), there.2)) in
+    let rest = read_each names var meaning xs (λ y there. each y (suc there.0, omega (arith, there.1), there.2)) in
     rw (here, rest) refl

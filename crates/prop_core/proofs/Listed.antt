@@ -7,7 +7,7 @@ use Rattle.std.proofs.lemmas.List.FromFn.{length-range_with_len, get_or-range_wi
 use Rattle.std.proofs.lemmas.List.Elements.{Contains-append_left, Contains-append_right, Contains-append_cases}
 use Rattle.prop_core.specs.declared.lit.Lit.{Lit}
 use Rattle.prop_core.specs.Clauses.{Clause}
-use Rattle.prop_core.specs.VariableNames.{Name, NamedLiteral, named_clause, named_literal, with_literal, name_of, HasEachOnce, ReadsAs}
+use Rattle.prop_core.specs.VariableNames.{Meaning, NamedLiteral, named_clause, named_literal, with_literal, meaning_of, HasEachOnce, ReadsAs}
 use Rattle.prop_core.specs.NamedClauses.{IsThere, variable_of}
 use Rattle.prop_core.specs.Listings.{Listing, IsListed, One, Both, EachOf, Each, When, Appends, literal_by, written_by, ListedAreWritten, ListedAreEqual, ListedAreCode}
 use Rattle.prop_core.proofs.FamilyLemmas.{reads_whole}
@@ -21,7 +21,7 @@ head_same x y xs ys h = (cc, cc)
 
 -- ---- one behind another
 
-module _ (names : List (ℕ × Name)) where
+module _ (names : List (ℕ × Meaning)) where
   pub listed_one : (clause : Clause) (named : List NamedLiteral) → named_clause names clause ≡ Some named → IsListed names (One named) (clause ∷ [])
   listed_one clause named reads = ap (λ o. o ∷ []) reads
 
@@ -65,23 +65,23 @@ each_next F k =
 pub each_more : (F : ℕ → Listing) (k : ℕ) → Each (k + 1) F ≡ Both (Each k F) (F k)
 each_more F k = let next : suc k ≡ k + 1 = omega arith in subst (λ m. Each m F ≡ Both (Each k F) (F k)) next (each_next F k)
 
-pub listed_each_next : (names : List (ℕ × Name)) (F : ℕ → Listing) (k : ℕ) (xs ys : List Clause) → IsListed names (Each k F) xs → IsListed names (F k) ys → IsListed names (Each (suc k) F) (xs ++ ys)
+pub listed_each_next : (names : List (ℕ × Meaning)) (F : ℕ → Listing) (k : ℕ) (xs ys : List Clause) → IsListed names (Each k F) xs → IsListed names (F k) ys → IsListed names (Each (suc k) F) (xs ++ ys)
 listed_each_next names F k xs ys first second = subst (λ list. IsListed names list (xs ++ ys)) (sym (each_next F k)) (listed_both names (Each k F) (F k) xs ys first second)
 
-pub appends_each_more : (names : List (ℕ × Name)) (F : ℕ → Listing) (k : ℕ) (old mid new : List Clause) → Appends names (Each k F) old mid → Appends names (F k) mid new → Appends names (Each (k + 1) F) old new
+pub appends_each_more : (names : List (ℕ × Meaning)) (F : ℕ → Listing) (k : ℕ) (old mid new : List Clause) → Appends names (Each k F) old mid → Appends names (F k) mid new → Appends names (Each (k + 1) F) old new
 appends_each_more names F k old mid new first second = appends_same names (Both (Each k F) (F k)) (Each (k + 1) F) old new (sym (each_more F k)) (appends_both names (Each k F) (F k) old mid new first second)
 
-pub appends_of_more : (names : List (ℕ × Name)) {X : Type 0} (xs : List X) (F : X → Listing) (i : ℕ) (x : X) (old mid new : List Clause) → i < length xs → x ≡ get_or xs i x →
+pub appends_of_more : (names : List (ℕ × Meaning)) {X : Type 0} (xs : List X) (F : X → Listing) (i : ℕ) (x : X) (old mid new : List Clause) → i < length xs → x ≡ get_or xs i x →
     Appends names (EachOf (take i xs) F) old mid → Appends names (F x) mid new → Appends names (EachOf (take (i + 1) xs) F) old new
 appends_of_more names xs F i x old mid new within at so_far grown =
     let next : take (i + 1) xs ≡ take i xs ++ x ∷ [] = take_more xs i x within ∙ ap (λ y. take i xs ++ y ∷ []) (sym at) in
     appends_same names (Both (EachOf (take i xs) F) (F x)) (EachOf (take (i + 1) xs) F) old new (sym (ap (λ ys. EachOf ys F) next ∙ each_push F (take i xs) x))
     (appends_both names (EachOf (take i xs) F) (F x) old mid new so_far grown)
 
-pub appends_when_true : (names : List (ℕ × Name)) (test : Bool) (F : Listing) (old new : List Clause) → test ≡ true → Appends names F old new → Appends names (When test F) old new
+pub appends_when_true : (names : List (ℕ × Meaning)) (test : Bool) (F : Listing) (old new : List Clause) → test ≡ true → Appends names F old new → Appends names (When test F) old new
 appends_when_true names test F old new h grown = appends_same names F (When test F) old new (sym (ap (λ b. cond b F []) h)) grown
 
-pub appends_when_false : (names : List (ℕ × Name)) (test : Bool) (F : Listing) (old : List Clause) → test ≡ false → Appends names (When test F) old old
+pub appends_when_false : (names : List (ℕ × Meaning)) (test : Bool) (F : Listing) (old : List Clause) → test ≡ false → Appends names (When test F) old old
 appends_when_false names test F old h = appends_same names [] (When test F) old old (sym (ap (λ b. cond b F []) h)) (appends_none names old)
 
 -- a listing over the elements that pass a test, made into others, is a listing over all of them, each under the test
@@ -103,29 +103,29 @@ each_same F G [] same = refl
 each_same F G (x ∷ xs) same = ap (λ ys. ys ++ EachOf xs F) (same x) ∙ ap (λ ys. G x ++ ys) (each_same F G xs same)
 
 -- what was appended to nothing is all
-pub listed_of_all : (names : List (ℕ × Name)) (F : Listing) (old new : List Clause) → old ≡ [] → Appends names F old new → IsListed names F new
+pub listed_of_all : (names : List (ℕ × Meaning)) (F : Listing) (old new : List Clause) → old ≡ [] → Appends names F old new → IsListed names F new
 listed_of_all names F old new empty grown = subst (IsListed names F) (sym (grown.whole ∙ ap (λ xs. xs ++ grown.more) empty)) grown.listed
 
 -- ---- how many clauses
 
-pub listed_length : (names : List (ℕ × Name)) (list : Listing) (clauses : List Clause) → IsListed names list clauses → length clauses ≡ length list
+pub listed_length : (names : List (ℕ × Meaning)) (list : Listing) (clauses : List Clause) → IsListed names list clauses → length clauses ≡ length list
 listed_length names list clauses h = sym (length-map clauses (named_clause names)) ∙ ap length h ∙ length-map list (λ named. Some named)
 
 -- ---- one listing by one naming is one list
 
-literal_is : (names : List (ℕ × Name)) (l : Lit) (m : NamedLiteral) → named_literal names l ≡ Some m → (name_of names l.var ≡ Some m.name) × (l.positive ≡ m.positive)
-literal_is names l m h = by (name_of names l.var) refl h
+literal_is : (names : List (ℕ × Meaning)) (l : Lit) (m : NamedLiteral) → named_literal names l ≡ Some m → (meaning_of names l.var ≡ Some m.meaning) × (l.positive ≡ m.positive)
+literal_is names l m h = by (meaning_of names l.var) refl h
   where
-    by : (o : Option Name) → name_of names l.var ≡ o → option_map (λ (name : Name). record { name = name; positive = l.positive }) o ≡ Some m → (name_of names l.var ≡ Some m.name) × (l.positive ≡ m.positive)
+    by : (o : Option Meaning) → meaning_of names l.var ≡ o → option_map (λ (meaning : Meaning). record { meaning = meaning; positive = l.positive }) o ≡ Some m → (meaning_of names l.var ≡ Some m.meaning) × (l.positive ≡ m.positive)
     by None e is = cc
     by (Some n) e is =
-        let same : record { name = n; positive = l.positive } ≡ m = cc in
-        (e ∙ ap (λ (x : NamedLiteral). Some x.name) same, ap (λ (x : NamedLiteral). x.positive) same)
+        let same : record { meaning = n; positive = l.positive } ≡ m = cc in
+        (e ∙ ap (λ (x : NamedLiteral). Some x.meaning) same, ap (λ (x : NamedLiteral). x.positive) same)
 
-literal_written : (names : List (ℕ × Name)) → HasEachOnce names → (l : Lit) (m : NamedLiteral) → named_literal names l ≡ Some m → l ≡ literal_by names m
+literal_written : (names : List (ℕ × Meaning)) → HasEachOnce names → (l : Lit) (m : NamedLiteral) → named_literal names l ≡ Some m → l ≡ literal_by names m
 literal_written names once l m h =
     let is = literal_is names l m h in
-    let var : l.var ≡ unwrap_or (variable_of names m.name) 0 = sym (ap (λ o. unwrap_or o 0) (variable_is names once l.var m.name is.0)) in
+    let var : l.var ≡ unwrap_or (variable_of names m.meaning) 0 = sym (ap (λ o. unwrap_or o 0) (variable_is names once l.var m.meaning is.0)) in
     λ i. record { var = var i; positive = is.1 i }
 
 read_parts : (o : Option NamedLiteral) (r : Option (List NamedLiteral)) (read : List NamedLiteral) → with_literal o r ≡ Some read → (x : NamedLiteral) × (xs : List NamedLiteral) × (o ≡ Some x) × (r ≡ Some xs) × (read ≡ x ∷ xs)
@@ -133,7 +133,7 @@ read_parts None r read h = cc
 read_parts (Some x) None read h = cc
 read_parts (Some x) (Some xs) read h = let same : read ≡ x ∷ xs = cc in (x, xs, refl, refl, same)
 
-pub clause_written : (names : List (ℕ × Name)) → HasEachOnce names → (clause : Clause) (read : List NamedLiteral) → named_clause names clause ≡ Some read → clause ≡ map (literal_by names) read
+pub clause_written : (names : List (ℕ × Meaning)) → HasEachOnce names → (clause : Clause) (read : List NamedLiteral) → named_clause names clause ≡ Some read → clause ≡ map (literal_by names) read
 clause_written names once [] read h = ap (map (literal_by names)) (some_same [] read h)
 clause_written names once (l ∷ clause) read h =
     let x = read_parts (named_literal names l) (named_clause names clause) read h in
@@ -155,7 +155,7 @@ pub listed_are_equal : ListedAreEqual
 listed_are_equal names list clauses others once first second = listed_are_written names list clauses once first ∙ sym (listed_are_written names list others once second)
 
 -- further names change nothing
-pub listed_more : (names more : List (ℕ × Name)) (list : Listing) (clauses : List Clause) → IsListed names list clauses → IsListed (names ++ more) list clauses
+pub listed_more : (names more : List (ℕ × Meaning)) (list : Listing) (clauses : List Clause) → IsListed names list clauses → IsListed (names ++ more) list clauses
 listed_more names more [] [] h = refl
 listed_more names more [] (c ∷ clauses) h = cc
 listed_more names more (named ∷ list) [] h = cc
@@ -256,7 +256,7 @@ module _ (named : List NamedLiteral) where
 -- ---- a clause for each of a list
 
 -- clauses that read one after another as those of a list are listed so
-pub listed_from : {X : Type 0} (names : List (ℕ × Name)) (f : X → List NamedLiteral) (clauses : List Clause) (xs : List X) → AllZip (λ clause x. named_clause names clause ≡ Some (f x)) clauses xs → IsListed names (map f xs) clauses
+pub listed_from : {X : Type 0} (names : List (ℕ × Meaning)) (f : X → List NamedLiteral) (clauses : List Clause) (xs : List X) → AllZip (λ clause x. named_clause names clause ≡ Some (f x)) clauses xs → IsListed names (map f xs) clauses
 listed_from names f [] [] all = refl
 listed_from names f [] (x ∷ xs) all = absurd all
 listed_from names f (c ∷ clauses) [] all = absurd all

@@ -4,41 +4,41 @@ use Rattle.std.specs.List.{AllByRecursion, list_any}
 use Rattle.des_base.specs.Lists.{EachPair}
 use Rattle.prop_core.specs.Clauses.{Clause}
 use Rattle.prop_core.specs.NamedClauses.{same_sign}
-use Rattle.prop_core.specs.VariableNames.{Name, NamedLiteral}
+use Rattle.prop_core.specs.VariableNames.{Meaning, NamedLiteral}
 use Rattle.prop_core.specs.declared.lit.Lit.{Lit}
 
 -- a literal by a name of any kind
 pub record LiteralOf (X : Type 0) : Type 0 where
-  pub name : X
+  pub meaning : X
   pub positive : Bool
 
 -- the positive literal of a name
 abbrev pub holds : {X : Type 0} → X → LiteralOf X
-holds name = record { name = name; positive = true }
+holds meaning = record { meaning = meaning; positive = true }
 
 -- the negated literal of a name
 abbrev pub fails : {X : Type 0} → X → LiteralOf X
-fails name = record { name = name; positive = false }
+fails meaning = record { meaning = meaning; positive = false }
 
 -- ---- names among further ones
 
 -- a literal by its name, where names are among those of a further kind
-abbrev pub lifted : {X : Type 0} → (Name → X) → NamedLiteral → LiteralOf X
-lifted into l = record { name = into l.name; positive = l.positive }
+abbrev pub lifted : {X : Type 0} → (Meaning → X) → NamedLiteral → LiteralOf X
+lifted into l = record { meaning = into l.meaning; positive = l.positive }
 
 -- names of variables, among those of a further kind
-abbrev pub lifted_names : {X : Type 0} → (Name → X) → List (ℕ × Name) → List (ℕ × X)
-lifted_names into names = map (λ entry. (entry.0, into entry.1)) names
+abbrev pub lifted_meanings : {X : Type 0} → (Meaning → X) → List (ℕ × Meaning) → List (ℕ × X)
+lifted_meanings into names = map (λ entry. (entry.0, into entry.1)) names
 
 -- a clause of a family, by further names
-abbrev pub IsLifted : {X : Type 0} → (Name → X) → (List NamedLiteral → Type 0) → List (LiteralOf X) → Type 0
+abbrev pub IsLifted : {X : Type 0} → (Meaning → X) → (List NamedLiteral → Type 0) → List (LiteralOf X) → Type 0
 IsLifted into family clause = (named : List NamedLiteral) × family named × (clause ≡ map (lifted into) named)
 
 -- ---- truth
 
 -- a literal is true where its name has the truth of its sign
 abbrev pub literal_holds : {X : Type 0} → (X → Bool) → LiteralOf X → Bool
-literal_holds value l = same_sign l.positive (value l.name)
+literal_holds value l = same_sign l.positive (value l.meaning)
 
 -- a clause is true where one of its literals is; the empty clause never is
 abbrev pub clause_holds : {X : Type 0} → (X → Bool) → List (LiteralOf X) → Bool
@@ -48,7 +48,7 @@ clause_holds value clause = list_any (literal_holds value) clause
 
 -- the literal by the variable of its name
 abbrev pub literal_with_variable : {X : Type 0} → (X → ℕ) → LiteralOf X → Lit
-literal_with_variable at l = record { var = at l.name; positive = l.positive }
+literal_with_variable at l = record { var = at l.meaning; positive = l.positive }
 
 -- clauses by the variables of the names, one by one and literal by literal
 abbrev pub written_as : {X : Type 0} → (X → ℕ) → List (List (LiteralOf X)) → List Clause
@@ -60,7 +60,7 @@ AreOnce names = EachPair (λ a b. (a.0 ≢ b.0) × (a.1 ≢ b.1)) names
 
 -- the variable of the literal has this name, and the sign is the same
 pub record IsCalled {X : Type 0} (names : List (ℕ × X)) (l : Lit) (m : LiteralOf X) : Type 0 where
-  pub named : Contains names (l.var, m.name)
+  pub named : Contains names (l.var, m.meaning)
   pub sign : l.positive ≡ m.positive
 
 -- by these names the clause is, as a set, this one

@@ -2,7 +2,7 @@
 use Rattle.std.specs.Prelude.{◌≡◌, ◌↔◌, ℕ, Bool, true, false, not, ◌&&◌, ◌==◌, List, Option, Some, find, option_map, unwrap_or, Contains, IsTrue}
 use Rattle.std.specs.List.{AllByRecursion, list_any}
 use Rattle.prop_core.specs.Clauses.{Clause, AllClausesTrue}
-use Rattle.prop_core.specs.VariableNames.{Name, in_state, happens, asked, matches, done, unmatched, closed, dropped, reaches, some_of_first, Exclusion, of_states, of_events, of_matches, NamedLiteral, HasEachOnce, name_of, ReadsAs}
+use Rattle.prop_core.specs.VariableNames.{Meaning, in_state, happens, asked, matches, done, unmatched, closed, dropped, reaches, some_of_first, Exclusion, of_states, of_events, of_matches, NamedLiteral, HasEachOnce, meaning_of, ReadsAs}
 
 -- ---- truth by name
 
@@ -12,11 +12,11 @@ same_sign true b = b
 same_sign false b = not b
 
 -- a literal is true where its name has the truth of its sign
-abbrev pub named_true : (Name → Bool) → NamedLiteral → Bool
-named_true value l = same_sign l.positive (value l.name)
+abbrev pub named_true : (Meaning → Bool) → NamedLiteral → Bool
+named_true value l = same_sign l.positive (value l.meaning)
 
 -- a clause by name is true where one of its literals is; the empty clause never is
-abbrev pub named_clause_true : (Name → Bool) → List NamedLiteral → Bool
+abbrev pub named_clause_true : (Meaning → Bool) → List NamedLiteral → Bool
 named_clause_true value clause = list_any (named_true value) clause
 
 -- ---- variables and names
@@ -29,59 +29,59 @@ same_exclusion (of_matches i t) (of_matches j u) = (i == j) && (t == u)
 same_exclusion a b = false
 
 -- whether two names are the same: of one kind, with the same numbers
-abbrev pub same_name : Name → Name → Bool
-same_name (in_state c q t) (in_state d r u) = (c == d) && ((q == r) && (t == u))
-same_name (happens e t) (happens f u) = (e == f) && (t == u)
-same_name asked asked = true
-same_name (matches i e t) (matches j f u) = (i == j) && ((e == f) && (t == u))
-same_name (done i t) (done j u) = (i == j) && (t == u)
-same_name (unmatched e k t) (unmatched f l u) = (e == f) && ((k == l) && (t == u))
-same_name (closed e k) (closed f l) = (e == f) && (k == l)
-same_name (dropped i) (dropped j) = i == j
-same_name (reaches i j) (reaches k l) = (i == k) && (j == l)
-same_name (some_of_first a i) (some_of_first b j) = same_exclusion a b && (i == j)
-same_name a b = false
+abbrev pub same_meaning : Meaning → Meaning → Bool
+same_meaning (in_state c q t) (in_state d r u) = (c == d) && ((q == r) && (t == u))
+same_meaning (happens e t) (happens f u) = (e == f) && (t == u)
+same_meaning asked asked = true
+same_meaning (matches i e t) (matches j f u) = (i == j) && ((e == f) && (t == u))
+same_meaning (done i t) (done j u) = (i == j) && (t == u)
+same_meaning (unmatched e k t) (unmatched f l u) = (e == f) && ((k == l) && (t == u))
+same_meaning (closed e k) (closed f l) = (e == f) && (k == l)
+same_meaning (dropped i) (dropped j) = i == j
+same_meaning (reaches i j) (reaches k l) = (i == k) && (j == l)
+same_meaning (some_of_first a i) (some_of_first b j) = same_exclusion a b && (i == j)
+same_meaning a b = false
 
 -- the variable of a name by a list of both: the first that has it, if there is one
-abbrev pub variable_of : List (ℕ × Name) → Name → Option ℕ
-variable_of names name = option_map (λ entry. entry.0) (find (λ entry. same_name entry.1 name) names)
+abbrev pub variable_of : List (ℕ × Meaning) → Meaning → Option ℕ
+variable_of names meaning = option_map (λ entry. entry.0) (find (λ entry. same_meaning entry.1 meaning) names)
 
 -- each variable has the truth of its name
-abbrev pub Match : List (ℕ × Name) → (ℕ → Bool) → (Name → Bool) → Type 0
-Match names assignment value = (var : ℕ) (name : Name) → name_of names var ≡ Some name → assignment var ≡ value name
+abbrev pub Match : List (ℕ × Meaning) → (ℕ → Bool) → (Meaning → Bool) → Type 0
+Match names assignment value = (var : ℕ) (meaning : Meaning) → meaning_of names var ≡ Some meaning → assignment var ≡ value meaning
 
 -- the truth of a name by that of its variable, where a name without one is false
-abbrev pub value_by : List (ℕ × Name) → (ℕ → Bool) → Name → Bool
-value_by names assignment name = unwrap_or (option_map assignment (variable_of names name)) false
+abbrev pub value_by : List (ℕ × Meaning) → (ℕ → Bool) → Meaning → Bool
+value_by names assignment meaning = unwrap_or (option_map assignment (variable_of names meaning)) false
 
 -- the truth of a variable by that of its name, where a variable without one keeps the given one
-abbrev pub assignment_by : List (ℕ × Name) → (Name → Bool) → (ℕ → Bool) → ℕ → Bool
-assignment_by names value given var = unwrap_or (option_map value (name_of names var)) (given var)
+abbrev pub assignment_by : List (ℕ × Meaning) → (Meaning → Bool) → (ℕ → Bool) → ℕ → Bool
+assignment_by names value given var = unwrap_or (option_map value (meaning_of names var)) (given var)
 
 -- Where each name and each variable stands once, names that take their truth from their variables match the assignment.
 abbrev pub ValuesMatch : Type 0
-ValuesMatch = (names : List (ℕ × Name)) → HasEachOnce names → (assignment : ℕ → Bool) → Match names assignment (value_by names assignment)
+ValuesMatch = (names : List (ℕ × Meaning)) → HasEachOnce names → (assignment : ℕ → Bool) → Match names assignment (value_by names assignment)
 
 -- Variables that take their truth from their names match it, whatever is given for the others.
 abbrev pub AssignmentsMatch : Type 0
-AssignmentsMatch = (names : List (ℕ × Name)) (value : Name → Bool) (given : ℕ → Bool) → Match names (assignment_by names value given) value
+AssignmentsMatch = (names : List (ℕ × Meaning)) (value : Meaning → Bool) (given : ℕ → Bool) → Match names (assignment_by names value given) value
 
 -- ---- families
 
 -- one of the clauses is this one by the names
-abbrev pub IsThere : List (ℕ × Name) → List Clause → List NamedLiteral → Type 0
+abbrev pub IsThere : List (ℕ × Meaning) → List Clause → List NamedLiteral → Type 0
 IsThere names clauses named = (clause : Clause) × Contains clauses clause × ReadsAs names clause named
 
 -- By these names the clauses are those of a family, all of them and no others.
-pub record IsCode (names : List (ℕ × Name)) (family : List NamedLiteral → Type 0) (clauses : List Clause) : Type 0 where
+pub record IsCode (names : List (ℕ × Meaning)) (family : List NamedLiteral → Type 0) (clauses : List Clause) : Type 0 where
   pub all : (named : List NamedLiteral) → family named → IsThere names clauses named
   pub only : AllByRecursion (λ clause. (named : List NamedLiteral) × family named × ReadsAs names clause named) clauses
 
 -- each clause of a family is true
-abbrev pub AllHold : (List NamedLiteral → Type 0) → (Name → Bool) → Type 0
+abbrev pub AllHold : (List NamedLiteral → Type 0) → (Meaning → Bool) → Type 0
 AllHold family value = (named : List NamedLiteral) → family named → IsTrue (named_clause_true value named)
 
 -- Clauses of a family are true exactly where the family is, by name.
 abbrev pub CodeHolds : (List NamedLiteral → Type 0) → Type 0
-CodeHolds family = (names : List (ℕ × Name)) (clauses : List Clause) (assignment : ℕ → Bool) (value : Name → Bool) →
+CodeHolds family = (names : List (ℕ × Meaning)) (clauses : List Clause) (assignment : ℕ → Bool) (value : Meaning → Bool) →
     IsCode names family clauses → Match names assignment value → AllClausesTrue assignment clauses ↔ AllHold family value

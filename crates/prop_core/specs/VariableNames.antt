@@ -11,57 +11,57 @@ pub data Exclusion : Type 0 where
   of_matches : (alarm step : ℕ) → Exclusion
 
 -- what a variable of a question stands for: something of the run or the log, or a part of a chain, of a counter or of an "at most one"
-pub data Name : Type 0 where
+pub data Meaning : Type 0 where
   -- the component is in the state after so many steps
-  in_state : (component state step : ℕ) → Name
+  in_state : (component state step : ℕ) → Meaning
   -- the event happens in the step
-  happens : (event step : ℕ) → Name
+  happens : (event step : ℕ) → Meaning
   -- the log is asked for
-  asked : Name
+  asked : Meaning
   -- the alarm stands for the event in the step
-  matches : (alarm event step : ℕ) → Name
+  matches : (alarm event step : ℕ) → Meaning
   -- the alarm is matched within the first steps, or false
-  done : (alarm steps : ℕ) → Name
+  done : (alarm steps : ℕ) → Meaning
   -- the event happens in the step, and none of the first alarms of its chain stands for it, of which there is at least one
-  unmatched : (event alarms step : ℕ) → Name
+  unmatched : (event alarms step : ℕ) → Meaning
   -- the chain of the event ends after so many alarms
-  closed : (event alarms : ℕ) → Name
+  closed : (event alarms : ℕ) → Meaning
   -- the alarm, which is perhaps false, is
-  dropped : (alarm : ℕ) → Name
+  dropped : (alarm : ℕ) → Meaning
   -- of the first inputs at least so many are true
-  reaches : (inputs amount : ℕ) → Name
+  reaches : (inputs amount : ℕ) → Meaning
   -- one of the first inputs of an "at most one" is true
-  some_of_first : Exclusion → (inputs : ℕ) → Name
+  some_of_first : Exclusion → (inputs : ℕ) → Meaning
 
 -- a literal by the name of its variable
 pub record NamedLiteral : Type 0 where
-  pub name : Name
+  pub meaning : Meaning
   pub positive : Bool
 
 -- the positive literal of a name
-abbrev pub yes : Name → NamedLiteral
-yes name = record { name = name; positive = true }
+abbrev pub yes : Meaning → NamedLiteral
+yes meaning = record { meaning = meaning; positive = true }
 
 -- the negated literal of a name
-abbrev pub no : Name → NamedLiteral
-no name = record { name = name; positive = false }
+abbrev pub no : Meaning → NamedLiteral
+no meaning = record { meaning = meaning; positive = false }
 
 -- e happens in step t, and none of the first k alarms of its chain stands for it there
-abbrev pub remaining : ℕ → ℕ → ℕ → Name
+abbrev pub remaining : ℕ → ℕ → ℕ → Meaning
 remaining e zero t = happens e t
 remaining e (suc k) t = unmatched e (suc k) t
 
 -- no variable has two names, and no name two variables
-abbrev pub HasEachOnce : List (ℕ × Name) → Type 0
+abbrev pub HasEachOnce : List (ℕ × Meaning) → Type 0
 HasEachOnce names = EachPair (λ a b. (a.0 ≢ b.0) × (a.1 ≢ b.1)) names
 
 -- the name of a variable by a list of both
-abbrev pub name_of : List (ℕ × Name) → ℕ → Option Name
-name_of names var = option_map (λ entry. entry.1) (find (λ entry. entry.0 == var) names)
+abbrev pub meaning_of : List (ℕ × Meaning) → ℕ → Option Meaning
+meaning_of names var = option_map (λ entry. entry.1) (find (λ entry. entry.0 == var) names)
 
 -- a literal by the name of its variable, if it has one
-abbrev pub named_literal : List (ℕ × Name) → Lit → Option NamedLiteral
-named_literal names l = option_map (λ name. record { name = name; positive = l.positive }) (name_of names l.var)
+abbrev pub named_literal : List (ℕ × Meaning) → Lit → Option NamedLiteral
+named_literal names l = option_map (λ meaning. record { meaning = meaning; positive = l.positive }) (meaning_of names l.var)
 
 -- a literal in front of a clause, where both could be named
 abbrev pub with_literal : Option NamedLiteral → Option (List NamedLiteral) → Option (List NamedLiteral)
@@ -69,7 +69,7 @@ with_literal None rest = None
 with_literal (Some l) rest = option_map (λ ls. l ∷ ls) rest
 
 -- a clause by the names of its variables, literal by literal, if each has one
-abbrev pub named_clause : List (ℕ × Name) → Clause → Option (List NamedLiteral)
+abbrev pub named_clause : List (ℕ × Meaning) → Clause → Option (List NamedLiteral)
 named_clause names [] = Some []
 named_clause names (l ∷ clause) = with_literal (named_literal names l) (named_clause names clause)
 
@@ -78,7 +78,7 @@ abbrev pub SameElements : List NamedLiteral → List NamedLiteral → Type 0
 SameElements xs ys = (x : NamedLiteral) → Contains xs x ↔ Contains ys x
 
 -- by the names of its variables the clause is, as a set, this one
-pub record ReadsAs (names : List (ℕ × Name)) (clause : Clause) (named : List NamedLiteral) : Type 0 where
+pub record ReadsAs (names : List (ℕ × Meaning)) (clause : Clause) (named : List NamedLiteral) : Type 0 where
   pub read : List NamedLiteral
   pub by_name : named_clause names clause ≡ Some read
   pub same : SameElements read named

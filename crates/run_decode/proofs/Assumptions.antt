@@ -10,11 +10,11 @@ use Rattle.log_clauses.specs.LogClauses.{chain, observable_events, guard_literal
 use Rattle.log_order.specs.Log.{Log}
 use Rattle.prop_core.proofs.NameLemmas.{some_literal}
 use Rattle.prop_core.specs.Clauses.{negation}
-use Rattle.prop_core.specs.VariableNames.{Name, in_state, happens, asked, matches, done, unmatched, closed, dropped, reaches, some_of_first, NamedLiteral, yes, name_of, named_literal, named_clause, ReadsAs}
+use Rattle.prop_core.specs.VariableNames.{Meaning, in_state, happens, asked, matches, done, unmatched, closed, dropped, reaches, some_of_first, NamedLiteral, yes, meaning_of, named_literal, named_clause, ReadsAs}
 use Rattle.prop_core.specs.declared.lit.Lit.{Lit}
 use Rattle.run_decode.specs.Drawn.{fault_inputs, at_most, bound_literals, assumption_literals}
 
-abbrev pub is_guard : Name → Bool
+abbrev pub is_guard : Meaning → Bool
 is_guard (in_state c q t) = false
 is_guard (happens e t) = false
 is_guard asked = true
@@ -28,7 +28,7 @@ is_guard (some_of_first family i) = false
 
 -- the literal has the sign of its name
 abbrev pub HasSign : NamedLiteral → Type 0
-HasSign l = l.positive ≡ is_guard l.name
+HasSign l = l.positive ≡ is_guard l.meaning
 
 ends_signed : (net : Net) (log : Log) (es : List ℕ) → AllByRecursion HasSign (map (λ e. yes (closed e (length (chain net log e)))) es)
 ends_signed net log [] = tt
@@ -48,20 +48,20 @@ assumptions_signed net log n bound = all_append HasSign (guard_literals net log)
 -- ---- over variables
 
 -- the variable of the literal has a name, whose sign it has
-abbrev HasNamedSign : List (ℕ × Name) → Lit → Type 0
-HasNamedSign names l = (name : Name) × (name_of names l.var ≡ Some name) × (l.positive ≡ is_guard name)
+abbrev HasNamedSign : List (ℕ × Meaning) → Lit → Type 0
+HasNamedSign names l = (meaning : Meaning) × (meaning_of names l.var ≡ Some meaning) × (l.positive ≡ is_guard meaning)
 
-some_name : (a b : Name) → Some a ≡ Some b → a ≡ b
+some_name : (a b : Meaning) → Some a ≡ Some b → a ≡ b
 some_name a b h = cc
 
-literal_signed : (names : List (ℕ × Name)) (l : Lit) (m : NamedLiteral) → named_literal names l ≡ Some m → HasSign m → HasNamedSign names l
-literal_signed names l m h sign = by (name_of names l.var) refl h
+literal_signed : (names : List (ℕ × Meaning)) (l : Lit) (m : NamedLiteral) → named_literal names l ≡ Some m → HasSign m → HasNamedSign names l
+literal_signed names l m h sign = by (meaning_of names l.var) refl h
   where
-    by : (o : Option Name) → name_of names l.var ≡ o → option_map (λ (name : Name). record { name = name; positive = l.positive }) o ≡ Some m → HasNamedSign names l
+    by : (o : Option Meaning) → meaning_of names l.var ≡ o → option_map (λ (meaning : Meaning). record { meaning = meaning; positive = l.positive }) o ≡ Some m → HasNamedSign names l
     by None e is = cc
-    by (Some name) e is = (name, e, subst HasSign (sym (some_literal (record { name = name; positive = l.positive }) m is)) sign)
+    by (Some meaning) e is = (meaning, e, subst HasSign (sym (some_literal (record { meaning = meaning; positive = l.positive }) m is)) sign)
 
-literals_signed : (names : List (ℕ × Name)) (literals : List Lit) (read : List NamedLiteral) → named_clause names literals ≡ Some read → AllByRecursion HasSign read → AllByRecursion (HasNamedSign names) literals
+literals_signed : (names : List (ℕ × Meaning)) (literals : List Lit) (read : List NamedLiteral) → named_clause names literals ≡ Some read → AllByRecursion HasSign read → AllByRecursion (HasNamedSign names) literals
 literals_signed names [] read h signs = tt
 literals_signed names (l ∷ literals) read h signs =
     let parts = read_of names l literals read h in
@@ -72,19 +72,19 @@ other_sign : (c : Bool) → c ≡ not c → ⊥
 other_sign true e = cc
 other_sign false e = cc
 
-no_opposites : (names : List (ℕ × Name)) (literals : List Lit) → AllByRecursion (HasNamedSign names) literals → EachPair (λ a b. a ≢ negation b) literals
+no_opposites : (names : List (ℕ × Meaning)) (literals : List Lit) → AllByRecursion (HasNamedSign names) literals → EachPair (λ a b. a ≢ negation b) literals
 no_opposites names [] signs = tt
 no_opposites names (a ∷ literals) signs = (
   all_from (λ b. a ≢ negation b) literals (λ b in' opposite.
       let other = all_at (HasNamedSign names) literals signs.1 b in' in
       let var : a.var ≡ b.var = ap (λ (l : Lit). l.var) opposite in
       let sign : a.positive ≡ not b.positive = ap (λ (l : Lit). l.positive) opposite in
-      let name = some_name signs.0.0 other.0 (sym signs.0.1 ∙ ap (name_of names) var ∙ other.1) in
-      other_sign b.positive (other.2 ∙ ap is_guard (sym name) ∙ sym signs.0.2 ∙ sign)),
+      let meaning = some_name signs.0.0 other.0 (sym signs.0.1 ∙ ap (meaning_of names) var ∙ other.1) in
+      other_sign b.positive (other.2 ∙ ap is_guard (sym meaning) ∙ sym signs.0.2 ∙ sign)),
   no_opposites names literals signs.1,
 )
 
-pub assumptions_are_consistent : (net : Net) (log : Log) (n : ℕ) (bound : Option ℕ) (names : List (ℕ × Name)) (assumed : List Lit) → ReadsAs names assumed (assumption_literals net log n bound) → EachPair (λ a b. a ≢ negation b) assumed
+pub assumptions_are_consistent : (net : Net) (log : Log) (n : ℕ) (bound : Option ℕ) (names : List (ℕ × Meaning)) (assumed : List Lit) → ReadsAs names assumed (assumption_literals net log n bound) → EachPair (λ a b. a ≢ negation b) assumed
 assumptions_are_consistent net log n bound names assumed reads =
     no_opposites names assumed (literals_signed names assumed reads.read reads.by_name
     (all_from HasSign reads.read (λ l in'. all_at HasSign (assumption_literals net log n bound) (assumptions_signed net log n bound) l ((reads.same l).0 in'))))

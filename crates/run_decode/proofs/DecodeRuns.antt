@@ -14,7 +14,7 @@ use Rattle.log_clauses.proofs.Lists.{filter_from, all_at}
 use Rattle.log_clauses.proofs.Sound.{log_is_sound, real_at}
 use Rattle.log_encode.proofs.TakenLemmas.{map_count}
 use Rattle.log_encode.specs.CodedLog.{without_names}
-use Rattle.prop_core.specs.VariableNames.{Name, happens, done}
+use Rattle.prop_core.specs.VariableNames.{Meaning, happens, done}
 use Rattle.replay.specs.declared.run.RunStep.{RunStep}
 use Rattle.replay.specs.Traced.{word_of, event_of}
 use Rattle.run_clauses.proofs.Exact.{steps_are_exact}
@@ -38,11 +38,11 @@ word_append : (xs ys : List RunStep) → word_of (xs ++ ys) ≡ word_of xs ++ wo
 word_append xs ys = filter_map-append event_of xs ys
 
 -- what the clauses of a log settle of its alarms in each step
-pub record AreSettled (net : Net) (log : Log) (n : ℕ) (value : Name → Bool) : Type 0 where
+pub record AreSettled (net : Net) (log : Log) (n : ℕ) (value : Meaning → Bool) : Type 0 where
   pub at : (t i : ℕ) → t < n → i < length log.alarms → comes value i (suc t) && not (is_false_alarm log value i) ≡ is_some (alarm_event net log value t i)
   pub first : (i : ℕ) → i < length log.alarms → comes value i 0 && not (is_false_alarm log value i) ≡ false
 
-pub are_settled : (net : Net) (log : Log) (n : ℕ) (value : Name → Bool) (order : List ℕ) → LogClausesHold net log n value → GuardsHold net log value → ListsOnce (length log.alarms) order → Keeps order log.pairs → AreSettled net log n value
+pub are_settled : (net : Net) (log : Log) (n : ℕ) (value : Meaning → Bool) (order : List ℕ) → LogClausesHold net log n value → GuardsHold net log value → ListsOnce (length log.alarms) order → Keeps order log.pairs → AreSettled net log n value
 are_settled net log n value order logged guarded listed kept = record {
   at = real_at net log n value logged guarded order listed kept;
   first = λ i known. by (value (done i 0)) refl (is_false_alarm log value i) refl (false_first net log n value logged i known);
@@ -60,7 +60,7 @@ none_of true false o h k = cc
 none_of false b o h k = cc
 
 -- the events that can't be seen among those of the step
-plain_is : (net : Net) (value : Name → Bool) (t : ℕ) → plain_events net value t ≡ unobservables net (events_at net value (suc t))
+plain_is : (net : Net) (value : Meaning → Bool) (t : ℕ) → plain_events net value t ≡ unobservables net (events_at net value (suc t))
 plain_is net value t = by (numbers_below (length net.events))
   where
     by : (xs : List ℕ) → filter (is_plain net value t) xs ≡ filter (λ e. not (is_some (label_of net e))) (filter (λ e. value (happens e (suc t))) xs)
@@ -74,10 +74,10 @@ plain_is net value t = by (numbers_below (length net.events))
         one false h d k later = rw h later
 
 -- the events of a step, as they are arranged
-abbrev piece : Net → Log → (Name → Bool) → List ℕ → ℕ → List ℕ
+abbrev piece : Net → Log → (Meaning → Bool) → List ℕ → ℕ → List ℕ
 piece net log value order t = unobservables net (events_at net value (suc t)) ++ shown_at net log value order t
 
-pub step_word : (net : Net) (log : Log) (n : ℕ) (value : Name → Bool) (order : List ℕ) (t : ℕ) → AreSettled net (without_names log) n value → AllByRecursion (λ i. i < length (without_names log).alarms) order → t < n →
+pub step_word : (net : Net) (log : Log) (n : ℕ) (value : Meaning → Bool) (order : List ℕ) (t : ℕ) → AreSettled net (without_names log) n value → AllByRecursion (λ i. i < length (without_names log).alarms) order → t < n →
     word_of (decoded_step net log value order t) ≡ piece net (without_names log) value order t
 step_word net log n value order t settled known time =
     let bare = without_names log in
@@ -87,7 +87,7 @@ step_word net log n value order t settled known time =
     ∙ ap (λ xs. unobservables net (events_at net value (suc t)) ++ xs) (shown_word log (alarm_event net bare value t) (falls bare value (suc t)) order (λ i in' fallen.
     none_of (comes value i (suc t)) (is_false_alarm bare value i) (alarm_event net bare value t i) (settled.at t i time (all_at (λ j. j < length bare.alarms) order known i in')) fallen))
 
-first_word : (log : Log) (value : Name → Bool) (order : List ℕ) → word_of (first_steps log value order) ≡ []
+first_word : (log : Log) (value : Meaning → Bool) (order : List ℕ) → word_of (first_steps log value order) ≡ []
 first_word log value order = shown_word log no_alarm_event (falls (without_names log) value 0) order (λ i in' h. refl) ∙ none order
   where
     none : (xs : List ℕ) → filter_map no_alarm_event xs ≡ []
@@ -95,7 +95,7 @@ first_word log value order = shown_word log no_alarm_event (falls (without_names
     none (x ∷ xs) = none xs
 
 -- the pieces from step a on
-pieces_from : (net : Net) (log : Log) (value : Name → Bool) (order : List ℕ) (a k : ℕ) → arranged net log value order a (map (λ t. events_at net value (suc t)) (range_with_len a k)) ≡ map (piece net log value order) (range_with_len a k)
+pieces_from : (net : Net) (log : Log) (value : Meaning → Bool) (order : List ℕ) (a k : ℕ) → arranged net log value order a (map (λ t. events_at net value (suc t)) (range_with_len a k)) ≡ map (piece net log value order) (range_with_len a k)
 pieces_from net log value order a zero = refl
 pieces_from net log value order a (suc k) =
     let next : suc a ≡ a + 1 = omega arith in
@@ -106,7 +106,7 @@ joined_map : (f : ℕ → List ℕ) (xs : List ℕ) → joined (map f xs) ≡ fl
 joined_map f [] = refl
 joined_map f (x ∷ xs) = ap (λ rest. f x ++ rest) (joined_map f xs)
 
-run_word_from : (net : Net) (log : Log) (n : ℕ) (value : Name → Bool) (order xs : List ℕ) → AreSettled net (without_names log) n value → AllByRecursion (λ i. i < length (without_names log).alarms) order → AllByRecursion (λ t. t < n) xs →
+run_word_from : (net : Net) (log : Log) (n : ℕ) (value : Meaning → Bool) (order xs : List ℕ) → AreSettled net (without_names log) n value → AllByRecursion (λ i. i < length (without_names log).alarms) order → AllByRecursion (λ t. t < n) xs →
     word_of (flat_map (decoded_step net log value order) xs) ≡ flat_map (piece net (without_names log) value order) xs
 run_word_from net log n value order [] settled known times = refl
 run_word_from net log n value order (t ∷ xs) settled known times =
@@ -117,7 +117,7 @@ pub below_all : (n : ℕ) → AllByRecursion (λ t. t < n) (numbers_below n)
 below_all n = all_from (λ t. t < n) (numbers_below n) (λ t in'. from_numbers n t in')
 
 -- the word of the run is that of the arranged pieces
-pub run_word : (net : Net) (log : Log) (value : Name → Bool) (order : List ℕ) (n : ℕ) → AreSettled net (without_names log) n value → AllByRecursion (λ i. i < length (without_names log).alarms) order →
+pub run_word : (net : Net) (log : Log) (value : Meaning → Bool) (order : List ℕ) (n : ℕ) → AreSettled net (without_names log) n value → AllByRecursion (λ i. i < length (without_names log).alarms) order →
     word_of (decoded_run net log value order n) ≡ joined (decoded net (without_names log) value order n)
 run_word net log value order n settled known =
     word_append (first_steps log value order) (flat_map (decoded_step net log value order) (numbers_below n)) ∙ ap (λ xs. xs ++ word_of (flat_map (decoded_step net log value order) (numbers_below n))) (first_word log value order)
@@ -131,7 +131,7 @@ map_at f a (suc k) zero h = ap f (omega arith)
 map_at f a (suc k) (suc t) h = map_at f (a + 1) k t (omega (arith, h)) ∙ ap f (omega arith)
 
 -- the arranged pieces are the steps, and linearise the log
-pub decoded_arranged : (net : Net) (log : Log) (n : ℕ) (value : Name → Bool) (order : List ℕ) → IsNetwork net → IsValidLog log → LogClausesHold net log n value → GuardsHold net log value → ListsOnce (length log.alarms) order → Keeps order log.pairs →
+pub decoded_arranged : (net : Net) (log : Log) (n : ℕ) (value : Meaning → Bool) (order : List ℕ) → IsNetwork net → IsValidLog log → LogClausesHold net log n value → GuardsHold net log value → ListsOnce (length log.alarms) order → Keeps order log.pairs →
     IsArranged net log n value order (step_sets net n value)
 decoded_arranged net log n value order network valid logged guarded listed kept =
     log_is_sound net log n value (step_sets net n value) order valid listed kept ((steps_are_exact net n value network).in_order) logged guarded
@@ -145,7 +145,7 @@ shown_short log event dropped (i ∷ order) = by (alarm_step log event dropped i
     by (Some s) e h = rw e (omega (arith, h))
 
 -- a step has no more events that can't be seen than the network has components, and the alarms
-pub step_small : (net : Net) (log : Log) (n t : ℕ) (value : Name → Bool) (order : List ℕ) → IsNetwork net → IsValidLog (without_names log) → StepClausesHold net n value → LogClausesHold net (without_names log) n value → GuardsHold net (without_names log) value →
+pub step_small : (net : Net) (log : Log) (n t : ℕ) (value : Meaning → Bool) (order : List ℕ) → IsNetwork net → IsValidLog (without_names log) → StepClausesHold net n value → LogClausesHold net (without_names log) n value → GuardsHold net (without_names log) value →
     ListsOnce (length (without_names log).alarms) order → Keeps order log.pairs → t < n → length (decoded_step net log value order t) ≤ length net.components + length order
 step_small net log n t value order network valid stepped logged guarded listed kept time =
     let bare = without_names log in

@@ -13,11 +13,11 @@ use Rattle.log_clauses.specs.Decoded.{is_false_alarm}
 use Rattle.log_order.specs.Log.{Log, is_doubtful}
 use Rattle.log_clauses.proofs.Pieces.{IsStepSet, AreFrom, pieces_are_steps}
 use Rattle.prop_core.specs.NamedClauses.{named_true}
-use Rattle.prop_core.specs.VariableNames.{Name, happens, dropped, yes}
+use Rattle.prop_core.specs.VariableNames.{Meaning, happens, dropped, yes}
 use Rattle.run_clauses.proofs.Lists.{in_numbers, from_numbers}
 use Rattle.run_decode.specs.DecodedRuns.{FaultsAreInputs}
-use Rattle.run_decode.specs.Drawn.{dropped_names}
-use Rattle.step_encode.specs.FaultInputs.{fault_events, fault_names}
+use Rattle.run_decode.specs.Drawn.{dropped_meanings}
+use Rattle.step_encode.specs.FaultInputs.{fault_events, fault_meanings}
 
 pub count_append : {X : Type 0} (p : X → Bool) (xs ys : List X) → count_by p (xs ++ ys) ≡ count_by p xs + count_by p ys
 count_append p xs ys = sum_by-append (λ x. cond (p x) 1 0) xs ys
@@ -25,7 +25,7 @@ count_append p xs ys = sum_by-append (λ x. cond (p x) 1 0) xs ys
 -- ---- one step
 
 -- the faults of a piece are the fault events that happen in its step
-piece_faults : (net : Net) (value : Name → Bool) (t : ℕ) (piece : List ℕ) → IsStepSet net value t piece → count_by (is_fault net) piece ≡ count_by (λ e. value (happens e (suc t))) (fault_events net)
+piece_faults : (net : Net) (value : Meaning → Bool) (t : ℕ) (piece : List ℕ) → IsStepSet net value t piece → count_by (is_fault net) piece ≡ count_by (λ e. value (happens e (suc t))) (fault_events net)
 piece_faults net value t piece is =
     sym (length-filter (is_fault net) piece)
     ∙ same_size (filter (is_fault net) piece) (filter (λ e. value (happens e (suc t))) (fault_events net))
@@ -50,10 +50,10 @@ piece_faults net value t piece is =
 -- ---- all steps
 
 -- the inputs from the step after t steps on
-abbrev inputs_from : ℕ → ℕ → List ℕ → List Name
+abbrev inputs_from : ℕ → ℕ → List ℕ → List Meaning
 inputs_from t n es = flat_map (λ e. map (λ s. happens e (suc s)) (range_with_len t n)) es
 
-one_step : (value : Name → Bool) (t n : ℕ) (es : List ℕ) →
+one_step : (value : Meaning → Bool) (t n : ℕ) (es : List ℕ) →
     count_by value (inputs_from t (suc n) es) ≡ count_by (λ e. value (happens e (suc t))) es + count_by value (inputs_from (t + 1) n es)
 one_step value t n [] = refl
 one_step value t n (e ∷ es) =
@@ -64,11 +64,11 @@ one_step value t n (e ∷ es) =
     let right = count_append value (map (λ s. happens e (suc s)) (range_with_len (t + 1) n)) (inputs_from (t + 1) n es) in
     omega (arith, rest, cons, first, left, right)
 
-no_steps : (value : Name → Bool) (t : ℕ) (es : List ℕ) → count_by value (inputs_from t 0 es) ≡ 0
+no_steps : (value : Meaning → Bool) (t : ℕ) (es : List ℕ) → count_by value (inputs_from t 0 es) ≡ 0
 no_steps value t [] = refl
 no_steps value t (e ∷ es) = no_steps value t es
 
-faults_from : (net : Net) (value : Name → Bool) (t : ℕ) (pieces : List (List ℕ)) → AreFrom net value t pieces → count_by (is_fault net) (joined pieces) ≡ count_by value (inputs_from t (length pieces) (fault_events net))
+faults_from : (net : Net) (value : Meaning → Bool) (t : ℕ) (pieces : List (List ℕ)) → AreFrom net value t pieces → count_by (is_fault net) (joined pieces) ≡ count_by value (inputs_from t (length pieces) (fault_events net))
 faults_from net value t [] are = sym (no_steps value t (fault_events net))
 faults_from net value t (piece ∷ pieces) are =
     let rest = faults_from net value (suc t) pieces are.1 in
@@ -80,16 +80,16 @@ faults_from net value t (piece ∷ pieces) are =
     omega (arith, rest, here, both, step, moved)
 
 -- names are true as inputs where they are as names
-named_count : (value : Name → Bool) (names : List Name) → count_by (named_true value) (map yes names) ≡ count_by value names
+named_count : (value : Meaning → Bool) (names : List Meaning) → count_by (named_true value) (map yes names) ≡ count_by value names
 named_count value [] = refl
-named_count value (name ∷ names) =
+named_count value (meaning ∷ names) =
     let rest = named_count value names in
-    let left = count_cons (named_true value) (yes name) (map yes names) in
-    let right = count_cons value name names in
+    let left = count_cons (named_true value) (yes meaning) (map yes names) in
+    let right = count_cons value meaning names in
     omega (arith, rest, left, right)
 
 -- names are true as inputs where they are as names, of doubtful alarms alone
-doubtful_count_is : (log : Log) (value : Name → Bool) (xs : List ℕ) → count_by value (map (λ i. dropped i) (filter (is_doubtful log) xs)) ≡ count_by (is_false_alarm log value) xs
+doubtful_count_is : (log : Log) (value : Meaning → Bool) (xs : List ℕ) → count_by value (map (λ i. dropped i) (filter (is_doubtful log) xs)) ≡ count_by (is_false_alarm log value) xs
 doubtful_count_is log value [] = refl
 doubtful_count_is log value (x ∷ xs) = by (is_doubtful log x) refl (doubtful_count_is log value xs)
   where
@@ -110,5 +110,5 @@ faults_are_inputs net log n value pieces order are false' =
     let from = (pieces_are_steps net n value pieces).0 are in
     let events = faults_from net value 0 pieces from.1 ∙ ap (λ m. count_by value (inputs_from 0 m (fault_events net))) from.0 in
     let alarms = doubtful_count_is log value (numbers_below (length log.alarms)) in
-    let both = count_append value (fault_names net n) (dropped_names log) in
-    omega (arith, events, false', alarms, both) ∙ sym (named_count value (fault_names net n ++ dropped_names log))
+    let both = count_append value (fault_meanings net n) (dropped_meanings log) in
+    omega (arith, events, false', alarms, both) ∙ sym (named_count value (fault_meanings net n ++ dropped_meanings log))

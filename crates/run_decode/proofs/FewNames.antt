@@ -8,30 +8,30 @@ use Rattle.card_counter.proofs.CodeLemmas.{read_length}
 use Rattle.des_base.specs.ChainCount.{chain_count}
 use Rattle.des_base.specs.Lists.{numbers_below}
 use Rattle.log_clauses.specs.LogClauses.{doubtful_alarms}
-use Rattle.card_counter.specs.CounterState.{CounterState, counter_names, variable}
+use Rattle.card_counter.specs.CounterState.{CounterState, counter_meanings, variable}
 use Rattle.des_net.specs.Network.{Net, is_fault}
 use Rattle.des_net.specs.QuestionSize.{step_variables, counter_size, fault_event_count}
 use Rattle.log_clauses.proofs.NewNames.{names_leave_room, first_names_are_all}
 use Rattle.log_clauses.specs.Additions.{alarm_added}
-use Rattle.log_clauses.specs.LogNames.{first_names, added_names}
-use Rattle.log_encode.specs.CodedLog.{CodedLog, names_from, log_names, false_literals}
+use Rattle.log_clauses.specs.LogNames.{first_meanings, added_meanings}
+use Rattle.log_encode.specs.CodedLog.{CodedLog, meanings_from, log_meanings, false_literals}
 use Rattle.log_order.specs.Log.{Log, Alarm, no_log, is_doubtful, a_log}
 use Rattle.prop_core.specs.declared.grid.Grid.{Grid}
 use Rattle.prop_core.specs.declared.lit.Lit.{Lit}
-use Rattle.prop_core.specs.VariableNames.{Name, reaches, yes, dropped}
+use Rattle.prop_core.specs.VariableNames.{Meaning, reaches, yes, dropped}
 use Rattle.replay.specs.QuestionSize.{doubtful_count, variable_bound}
-use Rattle.run_clauses.specs.LaidOut.{laid_out, step_names as names_of_steps}
+use Rattle.run_clauses.specs.LaidOut.{laid_out, step_meanings}
 use Rattle.run_clauses.specs.StepClauses.{event_groups}
 use Rattle.run_decode.proofs.Nameless.{nameless_bound}
 use Rattle.run_decode.specs.WholeNaming.{AreInputs, TogetherAreFew}
 use Rattle.step_encode.proofs.Codes.{chains_wide, names_end, variables_are_counted, blocks_wide}
 use Rattle.step_encode.proofs.FewChains.{chains_few}
-use Rattle.step_encode.specs.Coded.{all_chains, CodedSteps, code_names as step_names, code_grid}
+use Rattle.step_encode.specs.Coded.{all_chains, CodedSteps, code_meanings, code_grid}
 use Rattle.step_encode.specs.FaultInputs.{fault_events, event_literals, fault_literals}
 
-row_length : (first : ℕ) (names : List Name) → length (laid_out first names) ≡ length names
+row_length : (first : ℕ) (names : List Meaning) → length (laid_out first names) ≡ length names
 row_length first [] = refl
-row_length first (name ∷ names) = ap suc (row_length (first + 1) names)
+row_length first (meaning ∷ names) = ap suc (row_length (first + 1) names)
 
 -- lists of one length each
 flat_length : {X : Type 0} (f : ℕ → List X) (m : ℕ) → ((x : ℕ) → length (f x) ≡ m) → (xs : List ℕ) → length (flat_map f xs) ≡ length xs * m
@@ -51,7 +51,7 @@ flat_length f m each (x ∷ xs) =
 
 -- ---- the steps
 
-steps_few : (net : Net) (n : ℕ) → length (names_of_steps net n) ≤ step_variables net n
+steps_few : (net : Net) (n : ℕ) → length (step_meanings net n) ≤ step_variables net n
 steps_few net n =
     let states = blocks_wide net n (length net.components) in
     let ends = names_end net n in
@@ -68,28 +68,28 @@ of_alarms : List Alarm → Log
 of_alarms alarms = a_log alarms []
 
 alarms_few : (net : Net) (n : ℕ) (before alarms : List Alarm) (starts : List ℕ) → length starts ≡ length alarms →
-    length (names_from net n (of_alarms before) alarms starts) + variable_bound net (of_alarms before) n + 256 * doubtful_count (of_alarms (before ++ alarms)) ≤ variable_bound net (of_alarms (before ++ alarms)) n + 256 * doubtful_count (of_alarms before)
+    length (meanings_from net n (of_alarms before) alarms starts) + variable_bound net (of_alarms before) n + 256 * doubtful_count (of_alarms (before ++ alarms)) ≤ variable_bound net (of_alarms (before ++ alarms)) n + 256 * doubtful_count (of_alarms before)
 unfolding of_alarms
 alarms_few net n before [] starts same =
     subst (λ xs. 0 + variable_bound net (of_alarms before) n + 256 * doubtful_count (of_alarms xs) ≤ variable_bound net (of_alarms xs) n + 256 * doubtful_count (of_alarms before)) (sym (append-nil before)) (omega arith)
 alarms_few net n before (alarm ∷ alarms) [] same = absurd (omega (arith, same))
 alarms_few net n before (alarm ∷ alarms) (start ∷ starts) same =
     let rest = alarms_few net n (before ++ alarm ∷ []) alarms starts (omega (arith, same)) in
-    let moved = subst (λ xs. length (names_from net n (of_alarms (before ++ alarm ∷ [])) alarms starts) + variable_bound net (of_alarms (before ++ alarm ∷ [])) n + 256 * doubtful_count (of_alarms xs) ≤ variable_bound net (of_alarms xs) n + 256 * doubtful_count (of_alarms (before ++ alarm ∷ []))) (append_assoc before (alarm ∷ []) alarms) rest in
+    let moved = subst (λ xs. length (meanings_from net n (of_alarms (before ++ alarm ∷ [])) alarms starts) + variable_bound net (of_alarms (before ++ alarm ∷ [])) n + 256 * doubtful_count (of_alarms xs) ≤ variable_bound net (of_alarms xs) n + 256 * doubtful_count (of_alarms (before ++ alarm ∷ []))) (append_assoc before (alarm ∷ []) alarms) rest in
     let few = names_leave_room net (of_alarms before) n alarm in
-    let row = row_length start (added_names net (of_alarms before) n (alarm_added alarm)) in
-    let whole = length-append (laid_out start (added_names net (of_alarms before) n (alarm_added alarm))) (names_from net n (of_alarms (before ++ alarm ∷ [])) alarms starts) in
+    let row = row_length start (added_meanings net (of_alarms before) n (alarm_added alarm)) in
+    let whole = length-append (laid_out start (added_meanings net (of_alarms before) n (alarm_added alarm))) (meanings_from net n (of_alarms (before ++ alarm ∷ [])) alarms starts) in
     omega (arith, moved, few, row, whole)
 
 log_few : (code : CodedLog) (n : ℕ) → code.grid.steps ≡ n → length code.starts ≡ length code.log.alarms →
-    length (log_names code) + step_variables code.net n + (counter_size code.net n + 256 * doubtful_count code.log) ≤ variable_bound code.net code.log n
+    length (log_meanings code) + step_variables code.net n + (counter_size code.net n + 256 * doubtful_count code.log) ≤ variable_bound code.net code.log n
 unfolding of_alarms
 log_few code n is same =
-    subst (λ m. length (log_names code) + step_variables code.net m + (counter_size code.net m + 256 * doubtful_count code.log) ≤ variable_bound code.net code.log m) is
+    subst (λ m. length (log_meanings code) + step_variables code.net m + (counter_size code.net m + 256 * doubtful_count code.log) ≤ variable_bound code.net code.log m) is
     (let few = alarms_few code.net code.grid.steps [] code.log.alarms code.starts same in
     let first = (first_names_are_all code.net code.grid.steps).few in
-    let row = row_length code.asked (first_names code.net) in
-    let whole = length-append (laid_out code.asked (first_names code.net)) (names_from code.net code.grid.steps no_log code.log.alarms code.starts) in
+    let row = row_length code.asked (first_meanings code.net) in
+    let whole = length-append (laid_out code.asked (first_meanings code.net)) (meanings_from code.net code.grid.steps no_log code.log.alarms code.starts) in
     omega (arith, few, first, row, whole))
 
 -- ---- the counter
@@ -102,12 +102,12 @@ inputs_count net grid =
 -- the faults of the steps, and the doubtful alarms
 pub inputs_are_counted : (steps : CodedSteps) (code : CodedLog) (inputs : List Lit) → AreInputs steps code inputs → length inputs ≡ fault_event_count steps.net * steps.steps + doubtful_count code.log
 inputs_are_counted steps code inputs own =
-    let false_count : length own.false_lits ≡ doubtful_count code.log = sym (read_length (log_names code) own.false_lits (false_literals code.log) own.read)
+    let false_count : length own.false_lits ≡ doubtful_count code.log = sym (read_length (log_meanings code) own.false_lits (false_literals code.log) own.read)
     ∙ length-map (doubtful_alarms code.log) (λ i. yes (dropped i)) ∙ length-filter (is_doubtful code.log) (numbers_below (length code.log.alarms)) in
     ap length own.whole ∙ length-append (fault_literals steps.net (code_grid steps)) own.false_lits ∙ ap (λ m. m + length own.false_lits) (inputs_count steps.net (code_grid steps))
     ∙ ap (λ m. fault_event_count steps.net * steps.steps + m) false_count
 
-counter_count : (counter : CounterState) → length (counter_names counter) ≡ length counter.columns * length counter.inputs
+counter_count : (counter : CounterState) → length (counter_meanings counter) ≡ length counter.columns * length counter.inputs
 counter_count counter =
     flat_length (λ j. map (λ i. (variable counter i j, reaches (suc i) (suc j))) (numbers_below (length counter.inputs))) (length counter.inputs)
     (λ j. length-map-range_with_len (λ i. (variable counter i j, reaches (suc i) (suc j))) 0 (length counter.inputs)) (numbers_below (length counter.columns))
@@ -121,12 +121,12 @@ columns_few k f n d few = let most = mul-le-mul_right (f * n + d) few in let spr
 pub together_are_few : TogetherAreFew
 together_are_few steps code counter log together nameless few =
     let names = steps_few steps.net steps.steps in
-    let row = row_length steps.first (names_of_steps steps.net steps.steps) in
-    let logged = subst (λ net. length (log_names code) + step_variables net steps.steps + (counter_size net steps.steps + 256 * doubtful_count code.log) ≤ variable_bound net code.log steps.steps) together.beside.net
+    let row = row_length steps.first (step_meanings steps.net steps.steps) in
+    let logged = subst (λ net. length (log_meanings code) + step_variables net steps.steps + (counter_size net steps.steps + 256 * doubtful_count code.log) ≤ variable_bound net code.log steps.steps) together.beside.net
     (log_few code steps.steps (ap (λ (grid : Grid). grid.steps) together.beside.grid) together.beside.logged.each) in
     let bound = ap (λ (l : Log). variable_bound steps.net l steps.steps) nameless ∙ sym (nameless_bound steps.net log steps.steps) in
     let counted = counter_count counter ∙ ap (λ m. length counter.columns * m) (inputs_are_counted steps code counter.inputs together.inputs) in
     let columns = columns_few (length counter.columns) (fault_event_count steps.net) steps.steps (doubtful_count code.log) few in
-    let two = length-append (step_names steps) (log_names code ++ counter_names counter) in
-    let three = length-append (log_names code) (counter_names counter) in
+    let two = length-append (code_meanings steps) (log_meanings code ++ counter_meanings counter) in
+    let three = length-append (log_meanings code) (counter_meanings counter) in
     omega (arith, names, row, logged, bound, counted, columns, two, three)

@@ -10,9 +10,9 @@ use Rattle.log_clauses.specs.Additions.{Addition, alarm_added, pair_added, with_
 use Rattle.log_clauses.specs.LogClauses.{doubtful_alarms}
 use Rattle.log_order.specs.Log.{Log, is_doubtful}
 use Rattle.prop_core.specs.VariableNames.{NamedLiteral, yes, dropped}
-use Rattle.run_decode.specs.Drawn.{IsNamedClause, fault_inputs, dropped_names}
+use Rattle.run_decode.specs.Drawn.{IsNamedClause, fault_inputs, dropped_meanings}
 use Rattle.run_clauses.proofs.Lists.{get_more}
-use Rattle.step_encode.specs.FaultInputs.{fault_names}
+use Rattle.step_encode.specs.FaultInputs.{fault_meanings}
 use Rattle.run_decode.specs.QuestionLaws.{InstancesStay}
 
 -- the inputs of the counter stay, and those of a doubtful alarm come behind them
@@ -20,11 +20,11 @@ inputs_more : (net : Net) (log : Log) (n : ℕ) (addition : Addition) → (more 
 inputs_more net log n (pair_added i j) = ([], sym (append-nil (fault_inputs net log n)))
 inputs_more net log n (alarm_added new) = (
   map yes (map (λ i. dropped i) (filter (is_doubtful (with_alarm log new)) (length log.alarms ∷ []))),
-  ap (λ names. map yes (fault_names net n ++ names)) names ∙ ap (map yes) (sym (append_assoc (fault_names net n) (dropped_names log) (map (λ i. dropped i) (filter (is_doubtful (with_alarm log new)) (length log.alarms ∷ [])))))
-      ∙ map-append yes (fault_names net n ++ dropped_names log) (map (λ i. dropped i) (filter (is_doubtful (with_alarm log new)) (length log.alarms ∷ []))),
+  ap (λ names. map yes (fault_meanings net n ++ names)) names ∙ ap (map yes) (sym (append_assoc (fault_meanings net n) (dropped_meanings log) (map (λ i. dropped i) (filter (is_doubtful (with_alarm log new)) (length log.alarms ∷ [])))))
+      ∙ map-append yes (fault_meanings net n ++ dropped_meanings log) (map (λ i. dropped i) (filter (is_doubtful (with_alarm log new)) (length log.alarms ∷ []))),
 )
   where
-    names : dropped_names (with_alarm log new) ≡ dropped_names log ++ map (λ i. dropped i) (filter (is_doubtful (with_alarm log new)) (length log.alarms ∷ []))
+    names : dropped_meanings (with_alarm log new) ≡ dropped_meanings log ++ map (λ i. dropped i) (filter (is_doubtful (with_alarm log new)) (length log.alarms ∷ []))
     names = ap (map (λ i. dropped i)) (doubtful_is log new) ∙ map-append (λ i. dropped i) (doubtful_alarms log) (filter (is_doubtful (with_alarm log new)) (length log.alarms ∷ []))
 
 count_stays : (inputs more : List NamedLiteral) (which : CountClause) → IsCountClause inputs which → IsCountClause (inputs ++ more) which

@@ -16,7 +16,7 @@ use Rattle.log_order.specs.Log.{Log, Alarm, labels_of, is_doubtful}
 use Rattle.prop_core.proofs.FamilyLemmas.{code_same}
 use Rattle.prop_core.specs.Clauses.{Clause}
 use Rattle.prop_core.specs.NamedClauses.{IsCode}
-use Rattle.prop_core.specs.VariableNames.{Name, matches, done, asked, closed, dropped, NamedLiteral, yes, no, ReadsAs}
+use Rattle.prop_core.specs.VariableNames.{Meaning, matches, done, asked, closed, dropped, NamedLiteral, yes, no, ReadsAs}
 use Rattle.prop_core.specs.declared.lit.Lit.{Lit}
 use Rattle.des_net.specs.QuestionSize.{step_variables, observable_count, counter_size}
 use Rattle.replay.specs.Explanation.{is_matching}
@@ -24,7 +24,7 @@ use Rattle.replay.specs.QuestionSize.{alarm_variables, doubtful_count, variable_
 use Rattle.run_clauses.specs.Steps.{step_sets}
 use Rattle.run_decode.specs.Drawn.{IsNamedClause, IsNamedCounting, IsInstance, fault_inputs, at_most, bound_literals, assumption_literals}
 use Rattle.card_counter.specs.CounterClauses.{IsNamedCount}
-use Rattle.step_encode.specs.FaultInputs.{fault_names}
+use Rattle.step_encode.specs.FaultInputs.{fault_meanings}
 use Rattle.run_decode.specs.Question.{IsNamedQuestion, HasColumn, Asks}
 use Rattle.run_decode.specs.QuestionLaws.{AlarmNamesDontMatter}
 
@@ -109,7 +109,7 @@ module _ (net : Net) (log other : Log) (alike : AreAlike log other) where
   ends_alike (e ∷ es) = rw (chain_alike e, ends_alike es) refl
 
   inputs_alike : (n : ℕ) → fault_inputs net log n ≡ fault_inputs net other n
-  inputs_alike n = ap (λ is. map yes (fault_names net n ++ map (λ i. dropped i) is))
+  inputs_alike n = ap (λ is. map yes (fault_meanings net n ++ map (λ i. dropped i) is))
       (filter_alike (is_doubtful log) (is_doubtful other) (numbers_below (length log.alarms)) alike.marks ∙ ap (λ m. filter (is_doubtful other) (numbers_below m)) alike.count)
 
   bounds_alike : (n : ℕ) (bound : Option ℕ) → bound_literals net log n bound ≡ bound_literals net other n bound
@@ -128,7 +128,7 @@ module _ (net : Net) (log other : Log) (alike : AreAlike log other) where
   named_alike n named (inr (inl is)) = inr (inl (log_alike n named is))
   named_alike n named (inr (inr is)) = inr (inr (subst (λ inputs. IsNamedCounting inputs named) (inputs_alike n) is))
 
-  instance_alike : (n : ℕ) (names : List (ℕ × Name)) (clause : Clause) → IsInstance net log n names clause → IsInstance net other n names clause
+  instance_alike : (n : ℕ) (names : List (ℕ × Meaning)) (clause : Clause) → IsInstance net log n names clause → IsInstance net other n names clause
   instance_alike n names clause (named, is, reads) = (named, named_alike n named is, reads)
 
   question_alike : (n columns : ℕ) (named : List NamedLiteral) → IsNamedQuestion net log n columns named → IsNamedQuestion net other n columns named
@@ -138,28 +138,28 @@ module _ (net : Net) (log other : Log) (alike : AreAlike log other) where
 
   -- ---- runs
 
-  event_alike : (value : Name → Bool) (t i : ℕ) → alarm_event net log value t i ≡ alarm_event net other value t i
+  event_alike : (value : Meaning → Bool) (t i : ℕ) → alarm_event net log value t i ≡ alarm_event net other value t i
   event_alike value t i = ap (λ es. find (λ e. value (matches i e (suc t))) es) (events_alike i)
 
-  arranged_alike : (value : Name → Bool) (alarms : List ℕ) (t : ℕ) (pieces : List (List ℕ)) → arranged net log value alarms t pieces ≡ arranged net other value alarms t pieces
+  arranged_alike : (value : Meaning → Bool) (alarms : List ℕ) (t : ℕ) (pieces : List (List ℕ)) → arranged net log value alarms t pieces ≡ arranged net other value alarms t pieces
   arranged_alike value alarms t [] = refl
   arranged_alike value alarms t (piece ∷ pieces) = rw (mapped_alike (alarm_event net log value t) (alarm_event net other value t) alarms (event_alike value t), arranged_alike value alarms (suc t) pieces) refl
 
-  false_alike : (value : Name → Bool) (i : ℕ) → is_false_alarm log value i ≡ is_false_alarm other value i
+  false_alike : (value : Meaning → Bool) (i : ℕ) → is_false_alarm log value i ≡ is_false_alarm other value i
   false_alike value i = ap (λ b. b && value (dropped i)) (alike.marks i)
 
-  entries_alike : (value : Name → Bool) (xs : List ℕ) → map (decoded_entry log value) xs ≡ map (decoded_entry other value) xs
+  entries_alike : (value : Meaning → Bool) (xs : List ℕ) → map (decoded_entry log value) xs ≡ map (decoded_entry other value) xs
   entries_alike value [] = refl
   entries_alike value (x ∷ xs) = rw (false_alike value x, entries_alike value xs) refl
 
-  steps_alike : (value : Name → Bool) (alarms : List ℕ) (t : ℕ) (pieces : List (List ℕ)) → arranged_order log value alarms t pieces ≡ arranged_order other value alarms t pieces
+  steps_alike : (value : Meaning → Bool) (alarms : List ℕ) (t : ℕ) (pieces : List (List ℕ)) → arranged_order log value alarms t pieces ≡ arranged_order other value alarms t pieces
   steps_alike value alarms t [] = refl
   steps_alike value alarms t (piece ∷ pieces) = rw (entries_alike value (filter (λ i. comes value i (suc t)) alarms), steps_alike value alarms (suc t) pieces) refl
 
-  orders_alike : (value : Name → Bool) (alarms : List ℕ) (pieces : List (List ℕ)) → whole_order log value alarms pieces ≡ whole_order other value alarms pieces
+  orders_alike : (value : Meaning → Bool) (alarms : List ℕ) (pieces : List (List ℕ)) → whole_order log value alarms pieces ≡ whole_order other value alarms pieces
   orders_alike value alarms pieces = rw (entries_alike value (filter (λ i. comes value i 0) alarms), steps_alike value alarms 0 pieces) refl
 
-asks_alike : (net : Net) (log other : Log) → AreAlike log other → AreAlike other log → (n : ℕ) (bound : Option ℕ) (names : List (ℕ × Name)) (clauses : List Clause) (assumed : List Lit) →
+asks_alike : (net : Net) (log other : Log) → AreAlike log other → AreAlike other log → (n : ℕ) (bound : Option ℕ) (names : List (ℕ × Meaning)) (clauses : List Clause) (assumed : List Lit) →
     Asks net log n bound names clauses assumed → Asks net other n bound names clauses assumed
 asks_alike net log other alike back n bound names clauses assumed asks = record {
   columns = asks.columns;
@@ -182,16 +182,16 @@ alarm_names_dont_matter net log n =
     }
 
 -- the code of a log without the names of its alarms, and its guards, are those of the log
-pub nameless_code : (net : Net) (log : Log) (n : ℕ) (names : List (ℕ × Name)) (clauses : List Clause) → IsCode names (IsNamedLog net (without_names log) n) clauses → IsCode names (IsNamedLog net log n) clauses
+pub nameless_code : (net : Net) (log : Log) (n : ℕ) (names : List (ℕ × Meaning)) (clauses : List Clause) → IsCode names (IsNamedLog net (without_names log) n) clauses → IsCode names (IsNamedLog net log n) clauses
 nameless_code net log n names clauses code =
     let to = without_alike log in
     code_same names (IsNamedLog net (without_names log) n) (IsNamedLog net log n) clauses (log_alike net (without_names log) log (alike_back log (without_names log) to) n) (log_alike net log (without_names log) to n) code
 
-pub nameless_guards : (net : Net) (log : Log) (names : List (ℕ × Name)) (guards : List Lit) → ReadsAs names guards (guard_literals net (without_names log)) → ReadsAs names guards (guard_literals net log)
+pub nameless_guards : (net : Net) (log : Log) (names : List (ℕ × Meaning)) (guards : List Lit) → ReadsAs names guards (guard_literals net (without_names log)) → ReadsAs names guards (guard_literals net log)
 nameless_guards net log names guards reads =
     subst (λ ends. ReadsAs names guards (yes asked ∷ ends)) (sym (ends_alike net log (without_names log) (without_alike log) (observable_events net))) reads
 
-pub nameless_alarm : (net : Net) (log : Log) (value : Name → Bool) (e t : ℕ) → alarm_at net log value e t ≡ alarm_at net (without_names log) value e t
+pub nameless_alarm : (net : Net) (log : Log) (value : Meaning → Bool) (e t : ℕ) → alarm_at net log value e t ≡ alarm_at net (without_names log) value e t
 nameless_alarm net log value e t = ap (λ is. find (λ i. value (matches i e t)) is) (chain_alike net log (without_names log) (without_alike log) e)
 
 pub nameless_inputs : (net : Net) (log : Log) (n : ℕ) → fault_inputs net log n ≡ fault_inputs net (without_names log) n

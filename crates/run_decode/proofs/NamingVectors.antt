@@ -11,8 +11,8 @@ use Rattle.log_encode.specs.CodedLog.{nameless, CodedLog, empty_code}
 use Rattle.prop_core.specs.VariableNames.{in_state, happens, asked, closed, reaches}
 use Rattle.prop_core.specs.declared.lit.Lit.{Lit}
 use Rattle.run_decode.proofs.WholeNames.{together_begins, together_grow}
-use Rattle.run_decode.specs.RunNaming.{IsCodedBeside, run_names}
-use Rattle.run_decode.specs.WholeNaming.{counter_after, whole_names, AreCodedTogether}
+use Rattle.run_decode.specs.RunNaming.{IsCodedBeside, run_meanings}
+use Rattle.run_decode.specs.WholeNaming.{counter_after, whole_meanings, AreCodedTogether}
 use Rattle.step_encode.specs.Coded.{CodedSteps, code_grid}
 use Rattle.step_encode.specs.FaultInputs.{fault_literals}
 
@@ -45,13 +45,13 @@ coded_together =
     let made : IsMade 21 no_columns = none_is_made 21 inputs (All-from_recursion (λ (l : Lit). l.var < 21) inputs (omega arith, (omega arith, tt))) in
     (together_grow steps code no_columns 21 begun (omega arith) made).by_column (omega arith)
 
-pub names_of_run : run_names steps code ≡
+pub names_of_run : run_meanings steps code ≡
     (0, in_state 0 0 0) ∷ (1, in_state 0 1 0) ∷ (2, in_state 0 2 0) ∷ (3, in_state 0 0 1) ∷ (4, in_state 0 1 1) ∷ (5, in_state 0 2 1) ∷ (6, in_state 0 0 2) ∷ (7, in_state 0 1 2) ∷ (8, in_state 0 2 2)
     ∷ (9, happens 0 1) ∷ (10, happens 0 2) ∷ (11, happens 1 1) ∷ (12, happens 1 2) ∷ (13, happens 2 1) ∷ (14, happens 2 2) ∷ (15, happens 3 1) ∷ (16, happens 3 2)
     ∷ (17, asked) ∷ (18, closed 1 0) ∷ (19, closed 2 0) ∷ (20, closed 3 0) ∷ []
 names_of_run = refl
 
-pub names_of_all : whole_names steps code counter ≡ run_names steps code ++ (21, reaches 1 1) ∷ (22, reaches 2 1) ∷ []
+pub names_of_all : whole_meanings steps code counter ≡ run_meanings steps code ++ (21, reaches 1 1) ∷ (22, reaches 2 1) ∷ []
 names_of_all = refl
 
 pub no_jam_literal : bound_literal counter 0 ≡ record { var = 22; positive = false }

@@ -9,14 +9,14 @@ use Rattle.log_clauses.specs.LogCodes.{IsNamedLog}
 use Rattle.prop_core.proofs.FamilyLemmas.{read_append}
 use Rattle.prop_core.specs.Clauses.{Clause}
 use Rattle.prop_core.specs.NamedClauses.{IsCode, IsThere}
-use Rattle.prop_core.specs.VariableNames.{Name, NamedLiteral, HasEachOnce, ReadsAs}
+use Rattle.prop_core.specs.VariableNames.{Meaning, NamedLiteral, HasEachOnce, ReadsAs}
 use Rattle.run_clauses.specs.StepCodes.{IsNamedStep}
 use Rattle.run_decode.specs.Drawn.{fault_inputs, bound_literals}
 use Rattle.run_decode.specs.Question.{IsNamedQuestion, IsCodeAmong}
 use Rattle.run_decode.specs.QuestionLaws.{PartsMakeQuestion, PartsAreAssumed}
 use Rattle.std.proofs.lemmas.List.Elements.{Contains-append_cases, Contains-append_left, Contains-append_right}
 
-part_code : (names : List (ℕ × Name)) (family : List NamedLiteral → Type 0) (written : List Clause) → HasEachOnce names → IsCodeAmong names family written → IsCode names family written
+part_code : (names : List (ℕ × Meaning)) (family : List NamedLiteral → Type 0) (written : List Clause) → HasEachOnce names → IsCodeAmong names family written → IsCode names family written
 part_code names family written once part = code_stays part.own names family written once part.among part.code
 
 pub parts_make_question : PartsMakeQuestion

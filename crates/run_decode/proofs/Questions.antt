@@ -13,7 +13,7 @@ use Rattle.log_order.specs.Log.{Log}
 use Rattle.prop_core.proofs.NameLemmas.{values_match, assignments_match, code_holds}
 use Rattle.prop_core.specs.Clauses.{Clause, AllClausesTrue}
 use Rattle.prop_core.specs.NamedClauses.{named_true, named_clause_true, Match, value_by, assignment_by, AllHold}
-use Rattle.prop_core.specs.VariableNames.{Name, NamedLiteral, ReadsAs}
+use Rattle.prop_core.specs.VariableNames.{Meaning, NamedLiteral, ReadsAs}
 use Rattle.prop_core.specs.declared.lit.Lit.{Lit}
 use Rattle.run_clauses.proofs.StepCode.{steps_from_all, all_from_steps}
 use Rattle.run_clauses.specs.Steps.{StepClausesHold}
@@ -28,19 +28,19 @@ use Rattle.run_decode.specs.QuestionLaws.{QuestionIsFaithful, QuestionIsDrawn, Q
 -- ---- the clauses, by name
 
 -- the clauses of the question with these columns alone
-record HoldsWith (net : Net) (log : Log) (n columns : ℕ) (value : Name → Bool) : Type 0 where
+record HoldsWith (net : Net) (log : Log) (n columns : ℕ) (value : Meaning → Bool) : Type 0 where
   steps : StepClausesHold net n value
   logged : LogClausesHold net log n value
   count : AllHold (IsNamedCount (fault_inputs net log n) columns) value
 
-holds_from_all : (net : Net) (log : Log) (n columns : ℕ) (value : Name → Bool) → AllHold (IsNamedQuestion net log n columns) value → HoldsWith net log n columns value
+holds_from_all : (net : Net) (log : Log) (n columns : ℕ) (value : Meaning → Bool) → AllHold (IsNamedQuestion net log n columns) value → HoldsWith net log n columns value
 holds_from_all net log n columns value all = record {
   steps = steps_from_all net n value (λ named is. all named (inl is));
   logged = λ which is. all (log_clause net log n which) (inr (inl (which, is, refl)));
   count = λ named is. all named (inr (inr is));
 }
 
-all_from_holds : (net : Net) (log : Log) (n columns : ℕ) (value : Name → Bool) → QuestionHolds net log n value → AllHold (IsNamedQuestion net log n columns) value
+all_from_holds : (net : Net) (log : Log) (n columns : ℕ) (value : Meaning → Bool) → QuestionHolds net log n value → AllHold (IsNamedQuestion net log n columns) value
 all_from_holds net log n columns value holds named (inl is) = all_from_steps net n value holds.steps named is
 all_from_holds net log n columns value holds named (inr (inl (which, is, same))) = subst (λ clause. IsTrue (named_clause_true value clause)) same (holds.logged which is)
 all_from_holds net log n columns value holds named (inr (inr is)) = holds.count columns named is
@@ -52,13 +52,13 @@ instances_of net log n columns named (inl is) = inl is
 instances_of net log n columns named (inr (inl is)) = inr (inl is)
 instances_of net log n columns named (inr (inr (which, is, few, same))) = inr (inr (which, is, same))
 
-module _ (net : Net) (log : Log) (n : ℕ) (bound : Option ℕ) (names : List (ℕ × Name)) (clauses : List Clause) (assumed : List Lit) (asks : Asks net log n bound names clauses assumed) where
-  pub clauses_true : (assignment : ℕ → Bool) (value : Name → Bool) → Match names assignment value → QuestionHolds net log n value → AllClausesTrue assignment clauses
+module _ (net : Net) (log : Log) (n : ℕ) (bound : Option ℕ) (names : List (ℕ × Meaning)) (clauses : List Clause) (assumed : List Lit) (asks : Asks net log n bound names clauses assumed) where
+  pub clauses_true : (assignment : ℕ → Bool) (value : Meaning → Bool) → Match names assignment value → QuestionHolds net log n value → AllClausesTrue assignment clauses
   clauses_true assignment value match holds =
       (code_holds (IsNamedQuestion net log n asks.columns) names clauses assignment value asks.question.code match).1 (all_from_holds net log n asks.columns value holds)
 
   -- what is true by name is true by variable
-  pub made_true : (value : Name → Bool) (given : ℕ → Bool) → QuestionHolds net log n value → GuardsHold net log value → BoundHolds net log n bound value → MakesTrue (assignment_by names value given) clauses assumed
+  pub made_true : (value : Meaning → Bool) (given : ℕ → Bool) → QuestionHolds net log n value → GuardsHold net log value → BoundHolds net log n bound value → MakesTrue (assignment_by names value given) clauses assumed
   made_true value given holds guards bounds =
       let match = assignments_match names value given in record {
         clauses_true = clauses_true (assignment_by names value given) value match holds;
@@ -67,7 +67,7 @@ module _ (net : Net) (log : Log) (n : ℕ) (bound : Option ℕ) (names : List (�
       }
 
   -- and the other way round
-  record SaysByName (value : Name → Bool) : Type 0 where
+  record SaysByName (value : Meaning → Bool) : Type 0 where
     holds : HoldsWith net log n asks.columns value
     guards : GuardsHold net log value
     bounds : BoundHolds net log n bound value

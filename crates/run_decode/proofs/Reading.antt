@@ -6,7 +6,7 @@ use Rattle.log_clauses.proofs.Codes.{read_of, has_name, named_entry}
 use Rattle.log_clauses.specs.LogCodes.{AreAmong}
 use Rattle.prop_core.proofs.FamilyLemmas.{reads_whole}
 use Rattle.prop_core.specs.Clauses.{Clause}
-use Rattle.prop_core.specs.VariableNames.{Name, NamedLiteral, reaches, no, HasEachOnce, name_of, named_literal, named_clause, with_literal, ReadsAs}
+use Rattle.prop_core.specs.VariableNames.{Meaning, NamedLiteral, reaches, no, HasEachOnce, meaning_of, named_literal, named_clause, with_literal, ReadsAs}
 use Rattle.prop_core.specs.declared.lit.Lit.{Lit}
 use Rattle.run_decode.specs.DecodedRuns.{FaultLiteralsStay}
 use Rattle.run_decode.specs.Drawn.{fault_inputs, at_most, bound_literals}
@@ -14,14 +14,14 @@ use Rattle.run_decode.specs.QuestionLaws.{BoundIsRead}
 
 -- ---- the inputs, by more names
 
-literal_stays : (own names : List (ℕ × Name)) → HasEachOnce names → AreAmong own names → (l : Lit) (m : NamedLiteral) → named_literal own l ≡ Some m → named_literal names l ≡ Some m
-literal_stays own names once among l m h = by (name_of own l.var) refl h
+literal_stays : (own names : List (ℕ × Meaning)) → HasEachOnce names → AreAmong own names → (l : Lit) (m : NamedLiteral) → named_literal own l ≡ Some m → named_literal names l ≡ Some m
+literal_stays own names once among l m h = by (meaning_of own l.var) refl h
   where
-    by : (o : Option Name) → name_of own l.var ≡ o → option_map (λ (name : Name). record { name = name; positive = l.positive }) o ≡ Some m → named_literal names l ≡ Some m
+    by : (o : Option Meaning) → meaning_of own l.var ≡ o → option_map (λ (meaning : Meaning). record { meaning = meaning; positive = l.positive }) o ≡ Some m → named_literal names l ≡ Some m
     by None e is = cc
-    by (Some name) e is = rw (has_name names (l.var, name) once (among (l.var, name) (named_entry own l.var name e))) is
+    by (Some meaning) e is = rw (has_name names (l.var, meaning) once (among (l.var, meaning) (named_entry own l.var meaning e))) is
 
-pub clause_stays : (own names : List (ℕ × Name)) → HasEachOnce names → AreAmong own names → (clause : Clause) (read : List NamedLiteral) → named_clause own clause ≡ Some read → named_clause names clause ≡ Some read
+pub clause_stays : (own names : List (ℕ × Meaning)) → HasEachOnce names → AreAmong own names → (clause : Clause) (read : List NamedLiteral) → named_clause own clause ≡ Some read → named_clause names clause ≡ Some read
 clause_stays own names once among [] read h = h
 clause_stays own names once among (l ∷ clause) read h =
     let parts = read_of own l clause read h in
@@ -32,8 +32,8 @@ fault_literals_stay own names net log n inputs once among reads = clause_stays o
 
 -- ---- the bound
 
-negative_reads : (names : List (ℕ × Name)) (var : ℕ) (name : Name) → name_of names var ≡ Some name → named_clause names (negative var ∷ []) ≡ Some (no name ∷ [])
-negative_reads names var name h = ap (λ o. with_literal (option_map (λ (name' : Name). record { name = name'; positive = (negative var).positive }) o) (Some [])) h
+negative_reads : (names : List (ℕ × Meaning)) (var : ℕ) (meaning : Meaning) → meaning_of names var ≡ Some meaning → named_clause names (negative var ∷ []) ≡ Some (no meaning ∷ [])
+negative_reads names var meaning h = ap (λ o. with_literal (option_map (λ (meaning' : Meaning). record { meaning = meaning'; positive = (negative var).positive }) o) (Some [])) h
 
 pub bound_is_read : BoundIsRead
 bound_is_read net log n names state k counter named less = by (length state.inputs) refl

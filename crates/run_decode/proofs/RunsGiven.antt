@@ -12,7 +12,7 @@ use Rattle.log_order.specs.Log.{Log, ListsOnce, Keeps, IsValidLog}
 use Rattle.prop_core.proofs.NameLemmas.{values_match, literal_is}
 use Rattle.prop_core.specs.Clauses.{literal_true}
 use Rattle.prop_core.specs.NamedClauses.{named_true, Match, value_by}
-use Rattle.prop_core.specs.VariableNames.{Name, NamedLiteral, HasEachOnce, named_clause}
+use Rattle.prop_core.specs.VariableNames.{Meaning, NamedLiteral, HasEachOnce, named_clause}
 use Rattle.prop_core.specs.declared.lit.Lit.{Lit}
 use Rattle.run_clauses.proofs.Exact.{sets_in_order}
 use Rattle.run_clauses.proofs.Sound.{steps_are_sound}
@@ -23,7 +23,7 @@ use Rattle.run_decode.specs.Drawn.{fault_inputs}
 
 -- ---- by name
 
-pub decoded_by_name : (net : Net) (log : Log) (n : ℕ) (value : Name → Bool) (alarms : List ℕ) → IsNetwork net → IsValidLog log → ListsOnce (length log.alarms) alarms → Keeps alarms log.pairs →
+pub decoded_by_name : (net : Net) (log : Log) (n : ℕ) (value : Meaning → Bool) (alarms : List ℕ) → IsNetwork net → IsValidLog log → ListsOnce (length log.alarms) alarms → Keeps alarms log.pairs →
     StepClausesHold net n value → LogClausesHold net log n value → GuardsHold net log value → IsDecoded net log n value alarms
 decoded_by_name net log n value alarms network valid complete kept steps logged guards =
     let arranged' = log_is_sound net log n value (step_sets net n value) alarms valid complete kept (sets_in_order net n value) logged guards in
@@ -37,7 +37,7 @@ decoded_by_name net log n value alarms network valid complete kept steps logged 
 -- ---- by variable
 
 -- as many literals are true as names that they read as
-count_read : (names : List (ℕ × Name)) (assignment : ℕ → Bool) (value : Name → Bool) → Match names assignment value → (literals : List Lit) (read : List NamedLiteral) → named_clause names literals ≡ Some read →
+count_read : (names : List (ℕ × Meaning)) (assignment : ℕ → Bool) (value : Meaning → Bool) → Match names assignment value → (literals : List Lit) (read : List NamedLiteral) → named_clause names literals ≡ Some read →
     count_by (literal_true assignment) literals ≡ count_by (named_true value) read
 count_read names assignment value match [] read h = ap (count_by (named_true value)) (none_is read h)
   where
@@ -53,7 +53,7 @@ count_read names assignment value match (l ∷ literals) read h =
     let sum : count_by (literal_true assignment) (l ∷ literals) ≡ count_by (named_true value) (parts.first ∷ parts.rest) = omega (arith, rest, left, right, same) in
     sum ∙ ap (count_by (named_true value)) (sym parts.whole)
 
-pub gives_explanation : (net : Net) (log : Log) (n : ℕ) (names : List (ℕ × Name)) (assignment : ℕ → Bool) (alarms : List ℕ) → HasEachOnce names → IsDecoded net log n (value_by names assignment) alarms →
+pub gives_explanation : (net : Net) (log : Log) (n : ℕ) (names : List (ℕ × Meaning)) (assignment : ℕ → Bool) (alarms : List ℕ) → HasEachOnce names → IsDecoded net log n (value_by names assignment) alarms →
     GivesExplanation net log n names assignment alarms
 gives_explanation net log n names assignment alarms once gives =
     let faults = faults_are_inputs net log n (value_by names assignment) (decoded net log (value_by names assignment) alarms n) (decoded_order net log (value_by names assignment) alarms n) gives.steps gives.false_alarms in record {

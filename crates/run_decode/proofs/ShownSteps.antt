@@ -5,7 +5,7 @@ use Rattle.des_base.specs.Names.{place_of}
 use Rattle.log_order.specs.Adding.{names_of}
 use Rattle.log_order.specs.Log.{Log, id_of}
 use Rattle.log_clauses.specs.Decoded.{is_false_alarm, comes, entries_at}
-use Rattle.prop_core.specs.VariableNames.{Name}
+use Rattle.prop_core.specs.VariableNames.{Meaning}
 use Rattle.replay.specs.Explanation.{Entry}
 use Rattle.replay.specs.Matching.{order_of}
 use Rattle.replay.specs.Traced.{word_of}
@@ -37,11 +37,11 @@ shown_order log event dropped (i ∷ order) found = by (dropped i) refl (event i
     by false e (Some x) f place later = rw (e, f, place) (ap (λ (xs : List Entry). record { alarm = i; real = true } ∷ xs) later
         ∙ ap (λ b. record { alarm = i; real = not b } ∷ map (λ j. record { alarm = j; real = not (dropped j) }) (filter (λ j. dropped j || is_some (event j)) order)) (sym e))
 
-abbrev kept : Log → (Name → Bool) → (ℕ → Option ℕ) → ℕ → List ℕ → List Entry
+abbrev kept : Log → (Meaning → Bool) → (ℕ → Option ℕ) → ℕ → List ℕ → List Entry
 kept log value event s xs = map (λ j. record { alarm = j; real = not (comes value j s && is_false_alarm log value j) }) (filter (λ j. (comes value j s && is_false_alarm log value j) || is_some (event j)) xs)
 
 -- those are the entries of the step, where exactly the true alarms that come there have an event
-pub step_entries : (log : Log) (value : Name → Bool) (event : ℕ → Option ℕ) (s : ℕ) (order : List ℕ) → ((i : ℕ) → Contains order i → comes value i s && not (is_false_alarm log value i) ≡ is_some (event i)) →
+pub step_entries : (log : Log) (value : Meaning → Bool) (event : ℕ → Option ℕ) (s : ℕ) (order : List ℕ) → ((i : ℕ) → Contains order i → comes value i s && not (is_false_alarm log value i) ≡ is_some (event i)) →
     map (λ i. record { alarm = i; real = not (comes value i s && is_false_alarm log value i) }) (filter (λ i. (comes value i s && is_false_alarm log value i) || is_some (event i)) order) ≡ entries_at log value order s
 step_entries log value event s [] agree = refl
 step_entries log value event s (i ∷ order) agree =

@@ -12,7 +12,7 @@ use Rattle.prop_core.proofs.NameLemmas.{assignments_match}
 use Rattle.prop_core.proofs.Premises.{opposite}
 use Rattle.prop_core.specs.Clauses.{Clause, negation, literal_true, clause_true, AllClausesTrue, AllLiteralsTrue}
 use Rattle.prop_core.specs.NamedClauses.{same_sign, named_true, value_by, assignment_by}
-use Rattle.prop_core.specs.VariableNames.{Name, name_of, ReadsAs}
+use Rattle.prop_core.specs.VariableNames.{Meaning, meaning_of, ReadsAs}
 use Rattle.prop_core.specs.declared.lit.Lit.{Lit}
 use Rattle.run_decode.proofs.Assumptions.{is_guard, HasSign, assumptions_signed}
 use Rattle.run_decode.proofs.Decided.{refuted_by}
@@ -56,7 +56,7 @@ consistent_by assignment (a ∷ literals) all = (
 )
 
 -- a variable without a name keeps what is given
-pub unnamed : (names : List (ℕ × Name)) (value : Name → Bool) (given : ℕ → Bool) (var : ℕ) → name_of names var ≡ None → assignment_by names value given var ≡ given var
+pub unnamed : (names : List (ℕ × Meaning)) (value : Meaning → Bool) (given : ℕ → Bool) (var : ℕ) → meaning_of names var ≡ None → assignment_by names value given var ≡ given var
 unnamed names value given var none = ap (λ o. unwrap_or (option_map value o) (given var)) none
 
 signed_true : (a b : Bool) → a ≡ b → same_sign a b ≡ true
@@ -64,10 +64,10 @@ signed_true true b h = sym h
 signed_true false b h = ap not (sym h)
 
 -- what a question assumes is true where just the guards are
-pub guards_true : (names : List (ℕ × Name)) (net : Net) (log : Log) (n : ℕ) (bound : Option ℕ) (given : ℕ → Bool) (assumed : List Lit) → ReadsAs names assumed (assumption_literals net log n bound) →
+pub guards_true : (names : List (ℕ × Meaning)) (net : Net) (log : Log) (n : ℕ) (bound : Option ℕ) (given : ℕ → Bool) (assumed : List Lit) → ReadsAs names assumed (assumption_literals net log n bound) →
     AllLiteralsTrue (assignment_by names is_guard given) assumed
 guards_true names net log n bound given assumed reads = (literals_by_name names (assignment_by names is_guard given) is_guard (assignments_match names is_guard given) assumed (assumption_literals net log n bound) reads).1
-    (all_of (λ m. IsTrue (named_true is_guard m)) (assumption_literals net log n bound) (λ m in'. signed_true m.positive (is_guard m.name) (all_at HasSign (assumption_literals net log n bound) (assumptions_signed net log n bound) m in')))
+    (all_of (λ m. IsTrue (named_true is_guard m)) (assumption_literals net log n bound) (λ m in'. signed_true m.positive (is_guard m.meaning) (all_at HasSign (assumption_literals net log n bound) (assumptions_signed net log n bound) m in')))
 
 -- ---- clauses together
 

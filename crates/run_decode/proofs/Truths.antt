@@ -19,30 +19,30 @@ use Rattle.log_clauses.specs.LogLaws.{HasFalse}
 use Rattle.log_clauses.specs.LogTruth.{LogClausesHold, GuardsHold, is_of_log}
 use Rattle.log_order.specs.Log.{Log}
 use Rattle.prop_core.specs.NamedClauses.{named_true, AllHold}
-use Rattle.prop_core.specs.VariableNames.{Name, in_state, happens, asked, matches, done, unmatched, closed, dropped, reaches, some_of_first, Exclusion, of_states, of_events, of_matches, NamedLiteral, yes}
+use Rattle.prop_core.specs.VariableNames.{Meaning, in_state, happens, asked, matches, done, unmatched, closed, dropped, reaches, some_of_first, Exclusion, of_states, of_events, of_matches, NamedLiteral, yes}
 use Rattle.replay.specs.Explanation.{Entry, faults_of, Explains, Linearises}
 use Rattle.run_clauses.proofs.Exact.{runs_have_steps, only_steps_matter, same_sets}
 use Rattle.run_clauses.specs.Steps.{StepClausesHold, AreSteps, AgreeOnSteps, is_event, is_of_steps}
 use Rattle.run_decode.proofs.Faults.{faults_are_inputs}
 use Rattle.run_decode.specs.DecodedRuns.{true_faults}
-use Rattle.run_decode.specs.Drawn.{fault_inputs, dropped_names, at_most, bound_literals}
+use Rattle.run_decode.specs.Drawn.{fault_inputs, dropped_meanings, at_most, bound_literals}
 use Rattle.run_decode.specs.Faithful.{IsWithin}
 use Rattle.run_decode.specs.Question.{HasColumn}
 use Rattle.std.proofs.lemmas.List.Elements.{Contains-append_cases}
-use Rattle.step_encode.specs.FaultInputs.{fault_events, fault_names}
+use Rattle.step_encode.specs.FaultInputs.{fault_events, fault_meanings}
 
 -- all clauses of the question are true, with however many columns
-pub record QuestionHolds (net : Net) (log : Log) (n : ℕ) (value : Name → Bool) : Type 0 where
+pub record QuestionHolds (net : Net) (log : Log) (n : ℕ) (value : Meaning → Bool) : Type 0 where
   pub steps : StepClausesHold net n value
   pub logged : LogClausesHold net log n value
   pub count : (columns : ℕ) → AllHold (IsNamedCount (fault_inputs net log n) columns) value
 
-abbrev pub BoundHolds : Net → Log → ℕ → Option ℕ → (Name → Bool) → Type 0
+abbrev pub BoundHolds : Net → Log → ℕ → Option ℕ → (Meaning → Bool) → Type 0
 BoundHolds net log n bound value = AllByRecursion (λ l. IsTrue (named_true value l)) (bound_literals net log n bound)
 
 -- ---- the counter beside the steps and the log
 
-not_count : (name : Name) → is_event name || is_of_log name ≡ true → is_count name ≡ false
+not_count : (meaning : Meaning) → is_event meaning || is_of_log meaning ≡ true → is_count meaning ≡ false
 not_count (in_state c q t) h = refl
 not_count (happens e t) h = refl
 not_count asked h = refl
@@ -54,39 +54,39 @@ not_count (dropped i) h = refl
 not_count (reaches i j) h = cc
 not_count (some_of_first family i) h = refl
 
-inputs_are_named : (net : Net) (log : Log) (n : ℕ) (x : NamedLiteral) → Contains (fault_inputs net log n) x → is_count x.name ≡ false
+inputs_are_named : (net : Net) (log : Log) (n : ℕ) (x : NamedLiteral) → Contains (fault_inputs net log n) x → is_count x.meaning ≡ false
 inputs_are_named net log n x in' =
-    let named = map_from yes (fault_names net n ++ dropped_names log) x in' in
-    subst (λ (y : NamedLiteral). is_count y.name ≡ false) named.2 (by named.0 (Contains-append_cases (fault_names net n) (dropped_names log) named.0 named.1))
+    let named = map_from yes (fault_meanings net n ++ dropped_meanings log) x in' in
+    subst (λ (y : NamedLiteral). is_count y.meaning ≡ false) named.2 (by named.0 (Contains-append_cases (fault_meanings net n) (dropped_meanings log) named.0 named.1))
   where
-    by : (name : Name) → Contains (fault_names net n) name ⊎ Contains (dropped_names log) name → is_count name ≡ false
-    by name (inl of_event) =
-        let event = flat_from (λ e. map (λ t. happens e (suc t)) (numbers_below n)) (fault_events net) name of_event in
-        let step = map_from (λ t. happens event.0 (suc t)) (numbers_below n) name event.2 in
+    by : (meaning : Meaning) → Contains (fault_meanings net n) meaning ⊎ Contains (dropped_meanings log) meaning → is_count meaning ≡ false
+    by meaning (inl of_event) =
+        let event = flat_from (λ e. map (λ t. happens e (suc t)) (numbers_below n)) (fault_events net) meaning of_event in
+        let step = map_from (λ t. happens event.0 (suc t)) (numbers_below n) meaning event.2 in
         subst (λ m. is_count m ≡ false) step.2 refl
-    by name (inr of_alarm) = let alarm = map_from (λ i. dropped i) (doubtful_alarms log) name of_alarm in subst (λ m. is_count m ≡ false) alarm.2 refl
+    by meaning (inr of_alarm) = let alarm = map_from (λ i. dropped i) (doubtful_alarms log) meaning of_alarm in subst (λ m. is_count m ≡ false) alarm.2 refl
 
 -- the count goes with every truth of the steps and the log
-pub count_holds : (net : Net) (log : Log) (n : ℕ) (value : Name → Bool) → StepClausesHold net n value → LogClausesHold net log n value → QuestionHolds net log n (counted (fault_inputs net log n) value)
+pub count_holds : (net : Net) (log : Log) (n : ℕ) (value : Meaning → Bool) → StepClausesHold net n value → LogClausesHold net log n value → QuestionHolds net log n (counted (fault_inputs net log n) value)
 count_holds net log n value steps logged =
     let exact = named_count_is_exact (fault_inputs net log n) value in record {
       steps = only_steps_matter net n value (counted (fault_inputs net log n) value) (record { states = λ c q t. refl; events = λ e t. refl; chains = λ family k of_steps. refl }) steps;
-      logged = (only_log_matters net log n value (counted (fault_inputs net log n) value) (λ name h. sym (exact.others name (not_count name h)))).0 logged;
+      logged = (only_log_matters net log n value (counted (fault_inputs net log n) value) (λ meaning h. sym (exact.others meaning (not_count meaning h)))).0 logged;
       count = exact.free (inputs_are_named net log n);
     }
 
-guards_hold : (net : Net) (log : Log) (n : ℕ) (value : Name → Bool) → GuardsHold net log value → GuardsHold net log (counted (fault_inputs net log n) value)
+guards_hold : (net : Net) (log : Log) (n : ℕ) (value : Meaning → Bool) → GuardsHold net log value → GuardsHold net log (counted (fault_inputs net log n) value)
 guards_hold net log n value guards =
     let exact = named_count_is_exact (fault_inputs net log n) value in
-    (only_log_matters net log n value (counted (fault_inputs net log n) value) (λ name h. sym (exact.others name (not_count name h)))).1 guards
+    (only_log_matters net log n value (counted (fault_inputs net log n) value) (λ meaning h. sym (exact.others meaning (not_count meaning h)))).1 guards
 
 -- ---- the bound
 
-at_most_true : (value : Name → Bool) (m b : ℕ) → value (reaches m (suc b)) ≡ false → AllByRecursion (λ l. IsTrue (named_true value l)) (at_most m b)
+at_most_true : (value : Meaning → Bool) (m b : ℕ) → value (reaches m (suc b)) ≡ false → AllByRecursion (λ l. IsTrue (named_true value l)) (at_most m b)
 at_most_true value zero b h = tt
 at_most_true value (suc m) b h = (ap not h, tt)
 
-pub bound_holds : (net : Net) (log : Log) (n : ℕ) (bound : Option ℕ) (value : Name → Bool) → IsWithin bound (true_faults net log n value) → BoundHolds net log n bound (counted (fault_inputs net log n) value)
+pub bound_holds : (net : Net) (log : Log) (n : ℕ) (bound : Option ℕ) (value : Meaning → Bool) → IsWithin bound (true_faults net log n value) → BoundHolds net log n bound (counted (fault_inputs net log n) value)
 bound_holds net log n None value within = tt
 bound_holds net log n (Some b) value within =
     at_most_true (counted (fault_inputs net log n) value) (length (fault_inputs net log n)) b ((named_count_is_exact (fault_inputs net log n) value).bound b within)
@@ -95,7 +95,7 @@ none_counted : (p : NamedLiteral → Bool) (xs : List NamedLiteral) → length x
 none_counted p [] h = refl
 none_counted p (x ∷ xs) h = absurd (omega (arith, h))
 
-pub bound_says : (net : Net) (log : Log) (n columns : ℕ) (bound : Option ℕ) (value : Name → Bool) → HasColumn net log n columns bound → AllHold (IsNamedCount (fault_inputs net log n) columns) value →
+pub bound_says : (net : Net) (log : Log) (n columns : ℕ) (bound : Option ℕ) (value : Meaning → Bool) → HasColumn net log n columns bound → AllHold (IsNamedCount (fault_inputs net log n) columns) value →
     BoundHolds net log n bound value → IsWithin bound (true_faults net log n value)
 bound_says net log n columns None value column count bounds = tt
 bound_says net log n columns (Some b) value column count bounds = by (length (fault_inputs net log n)) refl bounds
@@ -110,7 +110,7 @@ bound_says net log n columns (Some b) value column count bounds = by (length (fa
 
 -- a truth of names by which the question is true, whose steps are the word in pieces, and by which as many alarms are false as in the order
 pub record HasTruth (net : Net) (log : Log) (n : ℕ) (bound : Option ℕ) (word : List ℕ) (order : List Entry) : Type 0 where
-  pub value : Name → Bool
+  pub value : Meaning → Bool
   pub pieces : List (List ℕ)
   pub whole : word ≡ joined pieces
   pub steps : AreSteps net n value pieces
@@ -124,7 +124,7 @@ explained_has_truth net log n bound word order network explains within =
     let pieces = explains.fits.0 in
     let count = explains.fits.1 in
     let cut = explains.fits.2 in
-    let given = runs_have_steps net word pieces (λ name. false) network explains.run cut in
+    let given = runs_have_steps net word pieces (λ meaning. false) network explains.run cut in
     let clauses = subst (λ m. StepClausesHold net m given.0) count given.1 in
     let steps = subst (λ m. AreSteps net m given.0 pieces) count given.2 in
     let made = log_is_complete net log n given.0 pieces order steps (subst (λ w. Linearises net log w order) cut.whole explains.linear) in
@@ -173,17 +173,17 @@ are_blank net zero = record { size = refl; empty = refl; apart = tt }
 are_blank net (suc n) = let rest = are_blank net n in record { size = ap suc rest.size; empty = rest.empty; apart = (tt, rest.apart) }
 
 -- the chains of the steps keep their truth
-same_chains : (value : Name → Bool) (family : Exclusion) (k : ℕ) → is_of_steps family ≡ true → value (some_of_first family k) ≡ opened value (some_of_first family k)
+same_chains : (value : Meaning → Bool) (family : Exclusion) (k : ℕ) → is_of_steps family ≡ true → value (some_of_first family k) ≡ opened value (some_of_first family k)
 same_chains value (of_states c t) k h = refl
 same_chains value (of_events t g) k h = refl
 same_chains value (of_matches i t) k h = cc
 
-pub question_has_truth : (net : Net) (log : Log) (n : ℕ) → IsNetwork net → (value : Name → Bool) × QuestionHolds net log n value
+pub question_has_truth : (net : Net) (log : Log) (n : ℕ) → IsNetwork net → (value : Meaning → Bool) × QuestionHolds net log n value
 question_has_truth net log n network =
     let start = starts net.components network.components in
     let blank = are_blank net n in
     let run : IsRun net [] = (start.0, start.0, start.1, refl) in
-    let given = runs_have_steps net [] (blanks n) (λ name. false) network run (record { whole = blank.empty; apart = blank.apart }) in
+    let given = runs_have_steps net [] (blanks n) (λ meaning. false) network run (record { whole = blank.empty; apart = blank.apart }) in
     let clauses = subst (λ m. StepClausesHold net m given.0) blank.size given.1 in
     let open' = log_is_open given.0 in
     let steps = only_steps_matter net n given.0 (opened given.0) (record { states = λ c q t. refl; events = λ e t. refl; chains = same_chains given.0 }) clauses in

@@ -9,7 +9,7 @@ use Rattle.des_net.specs.QuestionSize.{component_state_count}
 use Rattle.log_clauses.specs.LogClauses.{LogClause, log_clause, IsLogClause, chain_closed, takes_rest, uses_up, passes_on, taken_or_passed, not_done_first, stays_done, match_is_done, matched_once, match_is_real, done_by_match, one_match, done_if_asked, before_if_asked}
 use Rattle.log_order.specs.Log.{no_log}
 use Rattle.prop_core.proofs.FamilyLemmas.{reads_whole}
-use Rattle.prop_core.specs.VariableNames.{Name, in_state, happens, asked, matches, done, unmatched, closed, reaches, some_of_first, of_states, of_events, NamedLiteral, yes, no, named_clause}
+use Rattle.prop_core.specs.VariableNames.{Meaning, in_state, happens, asked, matches, done, unmatched, closed, reaches, some_of_first, of_states, of_events, NamedLiteral, yes, no, named_clause}
 use Rattle.prop_core.specs.declared.lit.Lit.{Lit}
 use Rattle.run_clauses.specs.StepClauses.{StepClause, step_clause, IsStepClause, some_state, one_state, not_at_start, moves, stays, one_of_group, not_both, event_groups, state_inputs, group_inputs}
 use Rattle.run_decode.specs.Drawn.{fault_inputs, bound_literals, assumption_literals, IsNamedClause, IsInstance}
@@ -48,7 +48,7 @@ pump_assumptions = refl
 
 -- ---- instances
 
-abbrev names : List (ℕ × Name)
+abbrev names : List (ℕ × Meaning)
 names = (0, happens 0 1) ∷ (1, happens 0 2) ∷ (2, reaches 1 1) ∷ (3, reaches 2 1) ∷ []
 
 abbrev positive : ℕ → Lit
@@ -87,14 +87,14 @@ counts_second_twice = (
 
 -- all literals of the clause have this name
 abbrev HaveName : List NamedLiteral → Type 0
-HaveName clause = (m : NamedLiteral) → Contains clause m → happens 0 1 ≡ m.name
+HaveName clause = (m : NamedLiteral) → Contains clause m → happens 0 1 ≡ m.meaning
 
 states_no : (c t : ℕ) (qs : List ℕ) → HaveName (map (λ q. yes (in_state c q t)) qs) → Contains (map (λ q. yes (in_state c q t)) qs) (no (happens 0 1)) → ⊥
 states_no c t [] each in' = none_in_nil (no (happens 0 1)) in'
 states_no c t (q ∷ qs) each in' = let same = each (yes (in_state c q t)) (0, omega arith, refl) in cc
 
 -- no state of a component is an event
-not_a_state : (c t : ℕ) (qs : List ℕ) (i : ℕ) (x : Name) → slice_get (map (λ q. in_state c q t) qs) i ≡ Some x → happens 0 1 ≡ x → ⊥
+not_a_state : (c t : ℕ) (qs : List ℕ) (i : ℕ) (x : Meaning) → slice_get (map (λ q. in_state c q t) qs) i ≡ Some x → happens 0 1 ≡ x → ⊥
 not_a_state c t [] i x at same = cc
 not_a_state c t (q ∷ qs) zero x at same = cc
 not_a_state c t (q ∷ qs) (suc i) x at same = not_a_state c t qs i x at same
@@ -106,7 +106,7 @@ not_over_states c t (goes_on i) is each = let same = each (no (some_of_first (of
 not_over_states c t (shuts_out i x) is each = let same = each (no (some_of_first (of_states c t) (suc i))) (1, omega arith, refl) in cc
 
 -- the first event stands once in the one group of the pump
-once_in_group : (t i j : ℕ) (x y : Name) → i < j → slice_get (group_inputs pump 0 (suc t)) i ≡ Some x → slice_get (group_inputs pump 0 (suc t)) j ≡ Some y → happens 0 1 ≡ x → happens 0 1 ≡ y → ⊥
+once_in_group : (t i j : ℕ) (x y : Meaning) → i < j → slice_get (group_inputs pump 0 (suc t)) i ≡ Some x → slice_get (group_inputs pump 0 (suc t)) j ≡ Some y → happens 0 1 ≡ x → happens 0 1 ≡ y → ⊥
 once_in_group t i zero x y order first second p q = absurd (omega (arith, order))
 once_in_group t i (suc zero) x y order first second p q = cc
 once_in_group t i (suc (suc zero)) x y order first second p q = cc
@@ -177,8 +177,8 @@ statement_is_no_instance (named, is, reads) = by is
     there = (reads.same (no (happens 0 1))).0 (subst (λ read. Contains read (no (happens 0 1))) (read_is reads.read reads.by_name) (0, omega arith, refl))
 
     -- no literal of another name stands in it
-    name_is : (m : NamedLiteral) → Contains named m → happens 0 1 ≡ m.name
-    name_is m in' = ap (λ (l : NamedLiteral). l.name) (only m in')
+    name_is : (m : NamedLiteral) → Contains named m → happens 0 1 ≡ m.meaning
+    name_is m in' = ap (λ (l : NamedLiteral). l.meaning) (only m in')
 
     by : IsNamedClause pump no_log 2 named → ⊥
     by (inl (which, known, same)) = not_of_steps which known

@@ -5,16 +5,16 @@ use Rattle.card_counter.proofs.NameLemmas.{counter_names_stand}
 use Rattle.card_counter.proofs.States.{place_cases, variable_before, variable_last, grown_is_counter, none_is_counter, made_later}
 use Rattle.card_counter.proofs.Inputs.{inputs_grow, place_cases as places_with_input}
 use Rattle.card_counter.specs.CounterClauses.{IsNamedCount}
-use Rattle.card_counter.specs.CounterState.{CounterState, IsCounter, IsMade, IsPlace, variable, counter_names, counter_clauses, bound_literal, without_columns, with_column, with_input, HasInput}
+use Rattle.card_counter.specs.CounterState.{CounterState, IsCounter, IsMade, IsPlace, variable, counter_meanings, counter_clauses, bound_literal, without_columns, with_column, with_input, HasInput}
 use Rattle.log_clauses.proofs.Lists.{all_at, pairs_append}
 use Rattle.log_clauses.proofs.Numbered.{laid_out_from}
 use Rattle.log_clauses.specs.Additions.{Addition, alarm_added, pair_added}
 use Rattle.log_clauses.specs.Drafts.{taken_events}
 use Rattle.log_clauses.specs.LogClauses.{guard_literals}
 use Rattle.log_clauses.specs.LogCodes.{IsNamedLog, AreAmong}
-use Rattle.log_clauses.specs.LogNames.{IsLogName, added_names, alarm_names, match_chains, false_names}
+use Rattle.log_clauses.specs.LogNames.{IsLogMeaning, added_meanings, alarm_meanings, match_chains, false_meanings}
 use Rattle.log_encode.proofs.CodeLemmas.{names_with_alarm, asked_below, grown_is_coded, false_more}
-use Rattle.log_encode.specs.CodedLog.{CodedLog, log_names, read_names, false_literals, addition_width, code_after, IsCodedLog}
+use Rattle.log_encode.specs.CodedLog.{CodedLog, log_meanings, read_meanings, false_literals, addition_width, code_after, IsCodedLog}
 use Rattle.des_base.specs.declared.TheConstants.{VAR_LIMIT}
 use Rattle.log_clauses.proofs.Codes.{has_name, named_entry}
 use Rattle.log_order.specs.Log.{Alarm}
@@ -23,7 +23,7 @@ use Rattle.run_decode.specs.DecodedRuns.{AreFaultLiterals}
 use Rattle.run_decode.specs.RunNaming.{AreFalseLiterals, IsCodedBeside}
 use Rattle.prop_core.specs.Clauses.{Clause}
 use Rattle.prop_core.specs.NamedClauses.{IsCode}
-use Rattle.prop_core.specs.VariableNames.{Name, dropped, yes, reaches, HasEachOnce, ReadsAs, named_clause, with_literal}
+use Rattle.prop_core.specs.VariableNames.{Meaning, dropped, yes, reaches, HasEachOnce, ReadsAs, named_clause, with_literal}
 use Rattle.prop_core.specs.declared.grid.Grid.{Grid}
 use Rattle.prop_core.specs.declared.lit.Lit.{Lit}
 use Rattle.run_clauses.proofs.LaidOut.{steps_are_laid_out, named_at}
@@ -33,69 +33,69 @@ use Rattle.run_decode.proofs.RunNames.{is_step, Differ, step_entry, log_entry, s
 use Rattle.run_decode.proofs.Reading.{clause_stays, bound_is_read}
 use Rattle.run_decode.specs.Drawn.{fault_inputs, assumption_literals}
 use Rattle.run_decode.specs.Question.{IsReadAmong, IsQuestion}
-use Rattle.run_decode.specs.WholeNaming.{whole_names, false_input, counter_after, IsApartFromCounter, AreCodedTogether, HaveOneNaming, TogetherOneNaming, TogetherBegins, TogetherGrow, AreClausesOf, TogetherAsk}
+use Rattle.run_decode.specs.WholeNaming.{whole_meanings, false_input, counter_after, IsApartFromCounter, AreCodedTogether, HaveOneNaming, TogetherOneNaming, TogetherBegins, TogetherGrow, AreClausesOf, TogetherAsk}
 use Rattle.std.proofs.lemmas.List.Elements.{Contains-append_cases, Contains-append_left, Contains-append_right}
 use Rattle.step_encode.proofs.Codes.{grid_ends}
-use Rattle.step_encode.specs.Coded.{CodedSteps, code_names as step_names, code_grid, variable_count}
+use Rattle.step_encode.specs.Coded.{CodedSteps, code_meanings, code_grid, variable_count}
 use Rattle.step_encode.specs.FaultInputs.{fault_literals}
 
 module _ (steps : CodedSteps) (code : CodedLog) (counter : CounterState) (together : AreCodedTogether steps code counter) where
-  record IsCounterEntry (entry : ℕ × Name) : Type 0 where
+  record IsCounterEntry (entry : ℕ × Meaning) : Type 0 where
     input : ℕ
     column : ℕ
     place : IsPlace counter input column
     is : entry ≡ (variable counter input column, reaches (suc input) (suc column))
 
-  counter_entry : (entry : ℕ × Name) → Contains (counter_names counter) entry → IsCounterEntry entry
+  counter_entry : (entry : ℕ × Meaning) → Contains (counter_meanings counter) entry → IsCounterEntry entry
   counter_entry entry in' = let found = (counter_names_stand counter together.counted).only entry in' in record { input = found.0; column = found.1; place = found.2; is = found.3 }
 
-  steps_and_counter : (x y : ℕ × Name) → Contains (step_names steps) x → Contains (counter_names counter) y → Differ x y
+  steps_and_counter : (x y : ℕ × Meaning) → Contains (code_meanings steps) x → Contains (counter_meanings counter) y → Differ x y
   steps_and_counter x y of_steps of_counter =
       let one = step_entry steps code together.beside x of_steps in
       let two = counter_entry y of_counter in
       let later = together.later two.input two.column two.place in
-      let var = ap (λ (e : ℕ × Name). e.0) two.is in
-      let name = ap (λ (e : ℕ × Name). e.1) two.is in (
+      let var = ap (λ (e : ℕ × Meaning). e.0) two.is in
+      let meaning = ap (λ (e : ℕ × Meaning). e.1) two.is in (
         λ same. omega (arith, one.1, later, var, same),
-        λ same. no_step (reaches (suc two.input) (suc two.column)) refl (subst (λ name'. is_step name' ≡ true) (same ∙ name) one.0),
+        λ same. no_step (reaches (suc two.input) (suc two.column)) refl (subst (λ meaning'. is_step meaning' ≡ true) (same ∙ meaning) one.0),
       )
     where
-      no_step : (name : Name) → is_step name ≡ false → is_step name ≡ true → ⊥
-      no_step name h k = cc
+      no_step : (meaning : Meaning) → is_step meaning ≡ false → is_step meaning ≡ true → ⊥
+      no_step meaning h k = cc
 
-  log_and_counter : (x y : ℕ × Name) → Contains (log_names code) x → Contains (counter_names counter) y → Differ x y
+  log_and_counter : (x y : ℕ × Meaning) → Contains (log_meanings code) x → Contains (counter_meanings counter) y → Differ x y
   log_and_counter x y of_log of_counter =
       let one = log_entry steps code together.beside x of_log in
       let two = counter_entry y of_counter in
-      let var = ap (λ (e : ℕ × Name). e.0) two.is in
-      let name = ap (λ (e : ℕ × Name). e.1) two.is in (
+      let var = ap (λ (e : ℕ × Meaning). e.0) two.is in
+      let meaning = ap (λ (e : ℕ × Meaning). e.1) two.is in (
         λ same. together.apart x two.input two.column of_log two.place (same ∙ var),
-        λ same. subst (IsLogName code.net code.log code.grid.steps) (same ∙ name) one.0,
+        λ same. subst (IsLogMeaning code.net code.log code.grid.steps) (same ∙ meaning) one.0,
       )
 
-  names_once : HasEachOnce (whole_names steps code counter)
+  names_once : HasEachOnce (whole_meanings steps code counter)
   names_once =
-      pairs_append Differ (step_names steps) (log_names code ++ counter_names counter) (steps_are_laid_out steps.net steps.steps steps.first).once
-      (pairs_append Differ (log_names code) (counter_names counter) together.beside.logged.names.once (counter_names_stand counter together.counted).once log_and_counter)
-      (λ x y of_steps rest. by x y of_steps (Contains-append_cases (log_names code) (counter_names counter) y rest))
+      pairs_append Differ (code_meanings steps) (log_meanings code ++ counter_meanings counter) (steps_are_laid_out steps.net steps.steps steps.first).once
+      (pairs_append Differ (log_meanings code) (counter_meanings counter) together.beside.logged.names.once (counter_names_stand counter together.counted).once log_and_counter)
+      (λ x y of_steps rest. by x y of_steps (Contains-append_cases (log_meanings code) (counter_meanings counter) y rest))
     where
-      by : (x y : ℕ × Name) → Contains (step_names steps) x → Contains (log_names code) y ⊎ Contains (counter_names counter) y → Differ x y
+      by : (x y : ℕ × Meaning) → Contains (code_meanings steps) x → Contains (log_meanings code) y ⊎ Contains (counter_meanings counter) y → Differ x y
       by x y of_steps (inl of_log) = steps_and_log steps code together.beside x y of_steps of_log
       by x y of_steps (inr of_counter) = steps_and_counter x y of_steps of_counter
 
-  steps_among : AreAmong (step_names steps) (whole_names steps code counter)
-  steps_among entry in' = Contains-append_left (step_names steps) (log_names code ++ counter_names counter) entry in'
+  steps_among : AreAmong (code_meanings steps) (whole_meanings steps code counter)
+  steps_among entry in' = Contains-append_left (code_meanings steps) (log_meanings code ++ counter_meanings counter) entry in'
 
-  log_among : AreAmong (log_names code) (whole_names steps code counter)
-  log_among entry in' = Contains-append_right (step_names steps) (log_names code ++ counter_names counter) entry (Contains-append_left (log_names code) (counter_names counter) entry in')
+  log_among : AreAmong (log_meanings code) (whole_meanings steps code counter)
+  log_among entry in' = Contains-append_right (code_meanings steps) (log_meanings code ++ counter_meanings counter) entry (Contains-append_left (log_meanings code) (counter_meanings counter) entry in')
 
-  counter_among : AreAmong (counter_names counter) (whole_names steps code counter)
-  counter_among entry in' = Contains-append_right (step_names steps) (log_names code ++ counter_names counter) entry (Contains-append_right (log_names code) (counter_names counter) entry in')
+  counter_among : AreAmong (counter_meanings counter) (whole_meanings steps code counter)
+  counter_among entry in' = Contains-append_right (code_meanings steps) (log_meanings code ++ counter_meanings counter) entry (Contains-append_right (log_meanings code) (counter_meanings counter) entry in')
 
-  read_among : AreAmong (read_names code) (whole_names steps code counter)
-  read_among entry in' = by (Contains-append_cases (laid_out code.grid.first (event_block code.grid.steps (length code.net.events))) (log_names code) entry in')
+  read_among : AreAmong (read_meanings code) (whole_meanings steps code counter)
+  read_among entry in' = by (Contains-append_cases (laid_out code.grid.first (event_block code.grid.steps (length code.net.events))) (log_meanings code) entry in')
     where
-      by : Contains (laid_out code.grid.first (event_block code.grid.steps (length code.net.events))) entry ⊎ Contains (log_names code) entry → Contains (whole_names steps code counter) entry
+      by : Contains (laid_out code.grid.first (event_block code.grid.steps (length code.net.events))) entry ⊎ Contains (log_meanings code) entry → Contains (whole_meanings steps code counter) entry
       by (inl event) = steps_among entry (events_among steps code together.beside entry event)
       by (inr own) = log_among entry own
 
@@ -104,15 +104,15 @@ together_one_naming steps code counter together =
     let once = names_once steps code counter together in
     let of_steps = steps_among steps code counter together in
     let inputs = together.inputs in
-    let faults : AreFaultLiterals (whole_names steps code counter) steps.net code.log steps.steps counter.inputs =
-    subst (AreFaultLiterals (whole_names steps code counter) steps.net code.log steps.steps) (sym inputs.whole) (inputs_read steps code (whole_names steps code counter) inputs.false_lits once of_steps (log_among steps code counter together) inputs.read) in record {
+    let faults : AreFaultLiterals (whole_meanings steps code counter) steps.net code.log steps.steps counter.inputs =
+    subst (AreFaultLiterals (whole_meanings steps code counter) steps.net code.log steps.steps) (sym inputs.whole) (inputs_read steps code (whole_meanings steps code counter) inputs.false_lits once of_steps (log_among steps code counter together) inputs.read) in record {
       once = once;
       of_steps = of_steps;
       of_log = read_among steps code counter together;
       of_faults = faults;
       of_counter = record {
         inputs_read = faults;
-        called = (counter_names_stand counter together.counted).called (whole_names steps code counter) once (counter_among steps code counter together);
+        called = (counter_names_stand counter together.counted).called (whole_meanings steps code counter) once (counter_among steps code counter together);
       };
     }
 
@@ -135,12 +135,12 @@ module _ (steps : CodedSteps) (code : CodedLog) (counter : CounterState) (first 
   -- the variables of an addition come after those of the counter
   apart_by_addition : (addition : Addition) → IsApartFromCounter (code_after code addition first) counter
   apart_by_addition (alarm_added new) entry i j in' place =
-      by (Contains-append_cases (log_names code) (laid_out first (added_names code.net code.log code.grid.steps (alarm_added new))) entry (subst (λ names. Contains names entry) (names_with_alarm code new first together.beside.logged.each) in'))
+      by (Contains-append_cases (log_meanings code) (laid_out first (added_meanings code.net code.log code.grid.steps (alarm_added new))) entry (subst (λ names. Contains names entry) (names_with_alarm code new first together.beside.logged.each) in'))
     where
-      by : Contains (log_names code) entry ⊎ Contains (laid_out first (added_names code.net code.log code.grid.steps (alarm_added new))) entry → entry.0 ≢ variable counter i j
+      by : Contains (log_meanings code) entry ⊎ Contains (laid_out first (added_meanings code.net code.log code.grid.steps (alarm_added new))) entry → entry.0 ≢ variable counter i j
       by (inl old) = together.apart entry i j old place
       by (inr fresh) =
-          let row = laid_out_from first (added_names code.net code.log code.grid.steps (alarm_added new)) entry fresh in
+          let row = laid_out_from first (added_meanings code.net code.log code.grid.steps (alarm_added new)) entry fresh in
           let below = made.columns i j place in
           λ same. omega (arith, row.1, below, same)
   apart_by_addition (pair_added a b) entry i j in' place = together.apart entry i j in' place
@@ -169,7 +169,7 @@ module _ (steps : CodedSteps) (code : CodedLog) (counter : CounterState) (first 
       by (inl old) = λ same. together.apart entry i j in' old (same ∙ variable_before counter first i j old)
       by (inr (below, is)) =
           let last = subst (λ k. variable (with_column counter first) i k ≡ first + i) (sym is) (variable_last counter first i below) in
-          let low = all_at (λ (e : ℕ × Name). e.0 < code.vars) (log_names code) together.beside.logged.names.below entry in' in
+          let low = all_at (λ (e : ℕ × Meaning). e.0 < code.vars) (log_meanings code) together.beside.logged.names.below entry in' in
           λ same. omega (arith, low, last, same, above)
 
   module _ (addition : Addition) (few : first + addition_width code addition ≤ VAR_LIMIT) where
@@ -194,38 +194,38 @@ module _ (steps : CodedSteps) (code : CodedLog) (counter : CounterState) (first 
     longer_code = code_after code (alarm_added new) first
 
     -- what says by the names of the log that alarms are false says so by those of the longer log
-    false_stay : named_clause (log_names longer_code) together.inputs.false_lits ≡ Some (false_literals code.log)
+    false_stay : named_clause (log_meanings longer_code) together.inputs.false_lits ≡ Some (false_literals code.log)
     unfolding longer_code
-    false_stay = clause_stays (log_names code) (log_names longer_code) (grown (alarm_added new) few).names.once
-        (λ entry in'. subst (λ names. Contains names entry) (sym (names_with_alarm code new first together.beside.logged.each)) (Contains-append_left (log_names code) (laid_out first (added_names code.net code.log code.grid.steps (alarm_added new))) entry in'))
+    false_stay = clause_stays (log_meanings code) (log_meanings longer_code) (grown (alarm_added new) few).names.once
+        (λ entry in'. subst (λ names. Contains names entry) (sym (names_with_alarm code new first together.beside.logged.each)) (Contains-append_left (log_meanings code) (laid_out first (added_meanings code.net code.log code.grid.steps (alarm_added new))) entry in'))
         together.inputs.false_lits (false_literals code.log) together.inputs.read
 
     -- its names but that it is false
-    abbrev own_names : List Name
-    own_names = alarm_names code.net code.log code.grid.steps new ++ match_chains code.grid.steps (length code.log.alarms) (length (taken_events code.net code.log new))
+    abbrev own_names : List Meaning
+    own_names = alarm_meanings code.net code.log code.grid.steps new ++ match_chains code.grid.steps (length code.log.alarms) (length (taken_events code.net code.log new))
 
-    names_split : new.doubtful ≡ true → added_names code.net code.log code.grid.steps (alarm_added new) ≡ own_names ++ dropped (length code.log.alarms) ∷ []
+    names_split : new.doubtful ≡ true → added_meanings code.net code.log code.grid.steps (alarm_added new) ≡ own_names ++ dropped (length code.log.alarms) ∷ []
     names_split h =
-        ap (λ b. alarm_names code.net code.log code.grid.steps new ++ (match_chains code.grid.steps (length code.log.alarms) (length (taken_events code.net code.log new)) ++ false_names b (length code.log.alarms))) h
-        ∙ sym (append_assoc (alarm_names code.net code.log code.grid.steps new) (match_chains code.grid.steps (length code.log.alarms) (length (taken_events code.net code.log new))) (dropped (length code.log.alarms) ∷ []))
+        ap (λ b. alarm_meanings code.net code.log code.grid.steps new ++ (match_chains code.grid.steps (length code.log.alarms) (length (taken_events code.net code.log new)) ++ false_meanings b (length code.log.alarms))) h
+        ∙ sym (append_assoc (alarm_meanings code.net code.log code.grid.steps new) (match_chains code.grid.steps (length code.log.alarms) (length (taken_events code.net code.log new))) (dropped (length code.log.alarms) ∷ []))
 
     wide : new.doubtful ≡ true → addition_width code (alarm_added new) ≡ suc (length own_names)
     wide h = let whole = ap length (names_split h) in let both = length-append own_names (dropped (length code.log.alarms) ∷ []) in omega (arith, whole, both)
 
-    input_entry : new.doubtful ≡ true → Contains (log_names longer_code) ((false_input code new first).var, dropped (length code.log.alarms))
+    input_entry : new.doubtful ≡ true → Contains (log_meanings longer_code) ((false_input code new first).var, dropped (length code.log.alarms))
     unfolding longer_code
     input_entry h =
         let names = own_names in
         let last : addition_width code (alarm_added new) - 1 ≡ length names = omega (arith, wide h) in
-        let split : added_names code.net code.log code.grid.steps (alarm_added new) ≡ names ++ dropped (length code.log.alarms) ∷ [] = names_split h in
-        let at = named_at first (added_names code.net code.log code.grid.steps (alarm_added new)) (length names) (dropped (length code.log.alarms))
+        let split : added_meanings code.net code.log code.grid.steps (alarm_added new) ≡ names ++ dropped (length code.log.alarms) ∷ [] = names_split h in
+        let at = named_at first (added_meanings code.net code.log code.grid.steps (alarm_added new)) (length names) (dropped (length code.log.alarms))
         (subst (λ xs. slice_get xs (length names) ≡ Some (dropped (length code.log.alarms))) (sym split) (at_seam names (dropped (length code.log.alarms)))) in
-        let row = laid_out first (added_names code.net code.log code.grid.steps (alarm_added new)) in
+        let row = laid_out first (added_meanings code.net code.log code.grid.steps (alarm_added new)) in
         let there = named_entry row (first + length names) (dropped (length code.log.alarms)) at in
         subst (λ names'. Contains names' ((false_input code new first).var, dropped (length code.log.alarms))) (sym (names_with_alarm code new first together.beside.logged.each))
-        (Contains-append_right (log_names code) row ((false_input code new first).var, dropped (length code.log.alarms)) (subst (λ k. Contains row (first + k, dropped (length code.log.alarms))) (sym last) there))
+        (Contains-append_right (log_meanings code) row ((false_input code new first).var, dropped (length code.log.alarms)) (subst (λ k. Contains row (first + k, dropped (length code.log.alarms))) (sym last) there))
       where
-        at_seam : (xs : List Name) (x : Name) → slice_get (xs ++ x ∷ []) (length xs) ≡ Some x
+        at_seam : (xs : List Meaning) (x : Meaning) → slice_get (xs ++ x ∷ []) (length xs) ≡ Some x
         at_seam [] x = refl
         at_seam (y ∷ xs) x = at_seam xs x
 
@@ -261,17 +261,17 @@ module _ (steps : CodedSteps) (code : CodedLog) (counter : CounterState) (first 
       inputs = record {
         false_lits = together.inputs.false_lits ++ false_input code new first ∷ [];
         whole = ap (λ ls. ls ++ false_input code new first ∷ []) together.inputs.whole ∙ append_assoc (fault_literals steps.net (code_grid steps)) together.inputs.false_lits (false_input code new first ∷ []);
-        read = read_append (log_names longer_code) together.inputs.false_lits (false_input code new first ∷ []) (false_literals code.log) (yes (dropped (length code.log.alarms)) ∷ []) false_stay one
+        read = read_append (log_meanings longer_code) together.inputs.false_lits (false_input code new first ∷ []) (false_literals code.log) (yes (dropped (length code.log.alarms)) ∷ []) false_stay one
             ∙ ap (λ xs. Some (false_literals code.log ++ xs)) (sym (ap (λ b. if b then yes (dropped (length code.log.alarms)) ∷ [] else []) h)) ∙ ap Some (sym (false_more code.log new));
       };
       later = λ i j place. later i j (place_of_input h i j place);
       apart = λ entry i j in' place. apart entry i j in' (place_of_input h i j place);
     }
       where
-        one : named_clause (log_names longer_code) (false_input code new first ∷ []) ≡ Some (yes (dropped (length code.log.alarms)) ∷ [])
+        one : named_clause (log_meanings longer_code) (false_input code new first ∷ []) ≡ Some (yes (dropped (length code.log.alarms)) ∷ [])
         one =
-            let name = has_name (log_names longer_code) ((false_input code new first).var, dropped (length code.log.alarms)) (grown (alarm_added new) few).names.once (input_entry h) in
-            ap (λ o. with_literal (option_map (λ (name' : Name). record { name = name'; positive = true }) o) (Some [])) name
+            let meaning = has_name (log_meanings longer_code) ((false_input code new first).var, dropped (length code.log.alarms)) (grown (alarm_added new) few).names.once (input_entry h) in
+            ap (λ o. with_literal (option_map (λ (meaning' : Meaning). record { meaning = meaning'; positive = true }) o) (Some [])) meaning
 
         begins : steps.first + variable_count steps.net steps.steps ≤ first
         begins =
@@ -284,10 +284,10 @@ module _ (steps : CodedSteps) (code : CodedLog) (counter : CounterState) (first 
         later i j (inl (old, same)) = let low = together.later i j old in omega (arith, low, same)
         later i j (inr high) = omega (arith, high, begins)
 
-        apart : (entry : ℕ × Name) (i j : ℕ) → Contains (log_names longer_code) entry → (IsPlace counter i j × (variable longer_counter i j ≡ variable counter i j)) ⊎ (next ≤ variable longer_counter i j) → entry.0 ≢ variable longer_counter i j
+        apart : (entry : ℕ × Meaning) (i j : ℕ) → Contains (log_meanings longer_code) entry → (IsPlace counter i j × (variable longer_counter i j ≡ variable counter i j)) ⊎ (next ≤ variable longer_counter i j) → entry.0 ≢ variable longer_counter i j
         apart entry i j in' (inl (old, is)) = λ same. apart_by_addition (alarm_added new) entry i j in' old (same ∙ is)
         apart entry i j in' (inr high) =
-            let low = all_at (λ (e : ℕ × Name). e.0 < first + addition_width code (alarm_added new)) (log_names longer_code) (grown (alarm_added new) few).names.below entry in' in
+            let low = all_at (λ (e : ℕ × Meaning). e.0 < first + addition_width code (alarm_added new)) (log_meanings longer_code) (grown (alarm_added new) few).names.below entry in' in
             λ same. omega (arith, low, high, same)
 
   by_addition : (addition : Addition) → first + addition_width code addition ≤ VAR_LIMIT → AreCodedTogether steps (code_after code addition first) (counter_after code counter addition first)
@@ -323,33 +323,33 @@ module _ (steps : CodedSteps) (code : CodedLog) (counter : CounterState) (clause
   naming : HaveOneNaming steps code counter
   naming = together_one_naming steps code counter together
 
-  log_code : IsCode (read_names code) (IsNamedLog steps.net code.log steps.steps) are.written
+  log_code : IsCode (read_meanings code) (IsNamedLog steps.net code.log steps.steps) are.written
   log_code =
-      subst (λ m. IsCode (read_names code) (IsNamedLog steps.net code.log m) are.written) steps_same
-      (subst (λ net. IsCode (read_names code) (IsNamedLog net code.log code.grid.steps) are.written) together.beside.net are.log_code.clauses)
+      subst (λ m. IsCode (read_meanings code) (IsNamedLog steps.net code.log m) are.written) steps_same
+      (subst (λ net. IsCode (read_meanings code) (IsNamedLog net code.log code.grid.steps) are.written) together.beside.net are.log_code.clauses)
 
-  count_code : IsCode (whole_names steps code counter) (IsNamedCount (fault_inputs steps.net code.log steps.steps) (length counter.columns)) (counter_clauses counter)
-  count_code = counter_is_code (whole_names steps code counter) (fault_inputs steps.net code.log steps.steps) counter naming.of_counter
+  count_code : IsCode (whole_meanings steps code counter) (IsNamedCount (fault_inputs steps.net code.log steps.steps) (length counter.columns)) (counter_clauses counter)
+  count_code = counter_is_code (whole_meanings steps code counter) (fault_inputs steps.net code.log steps.steps) counter naming.of_counter
 
-  is_question : IsQuestion steps.net code.log steps.steps (length counter.columns) (whole_names steps code counter) clauses
+  is_question : IsQuestion steps.net code.log steps.steps (length counter.columns) (whole_meanings steps code counter) clauses
   is_question =
-      parts_make_question steps.net code.log steps.steps (length counter.columns) (whole_names steps code counter) clauses are.stepped are.written (counter_clauses counter) naming.once
-      (record { own = step_names steps; among = naming.of_steps; code = are.step_code })
-      (record { own = read_names code; among = naming.of_log; code = log_code })
-      (record { own = whole_names steps code counter; among = λ entry in'. in'; code = count_code })
+      parts_make_question steps.net code.log steps.steps (length counter.columns) (whole_meanings steps code counter) clauses are.stepped are.written (counter_clauses counter) naming.once
+      (record { own = code_meanings steps; among = naming.of_steps; code = are.step_code })
+      (record { own = read_meanings code; among = naming.of_log; code = log_code })
+      (record { own = whole_meanings steps code counter; among = λ entry in'. in'; code = count_code })
       are.same
 
-  module _ (guards : List Lit) (read : ReadsAs (read_names code) guards (guard_literals code.net code.log)) where
-    guards_read : IsReadAmong (whole_names steps code counter) guards (guard_literals steps.net code.log)
-    guards_read = record { own = read_names code; among = naming.of_log; reads = subst (λ net. ReadsAs (read_names code) guards (guard_literals net code.log)) together.beside.net read }
+  module _ (guards : List Lit) (read : ReadsAs (read_meanings code) guards (guard_literals code.net code.log)) where
+    guards_read : IsReadAmong (whole_meanings steps code counter) guards (guard_literals steps.net code.log)
+    guards_read = record { own = read_meanings code; among = naming.of_log; reads = subst (λ net. ReadsAs (read_meanings code) guards (guard_literals net code.log)) together.beside.net read }
 
-    no_bound : ReadsAs (whole_names steps code counter) (guards ++ []) (assumption_literals steps.net code.log steps.steps None)
-    no_bound = parts_are_assumed steps.net code.log steps.steps None (whole_names steps code counter) guards [] naming.once guards_read
-        (record { own = whole_names steps code counter; among = λ entry in'. in'; reads = record { read = []; by_name = refl; same = λ x. (λ h. h, λ h. h) } })
+    no_bound : ReadsAs (whole_meanings steps code counter) (guards ++ []) (assumption_literals steps.net code.log steps.steps None)
+    no_bound = parts_are_assumed steps.net code.log steps.steps None (whole_meanings steps code counter) guards [] naming.once guards_read
+        (record { own = whole_meanings steps code counter; among = λ entry in'. in'; reads = record { read = []; by_name = refl; same = λ x. (λ h. h, λ h. h) } })
 
-    bound : (k : ℕ) → k < length counter.columns → ReadsAs (whole_names steps code counter) (guards ++ bound_literal counter k ∷ []) (assumption_literals steps.net code.log steps.steps (Some k))
-    bound k less = parts_are_assumed steps.net code.log steps.steps (Some k) (whole_names steps code counter) guards (bound_literal counter k ∷ []) naming.once guards_read
-        (record { own = whole_names steps code counter; among = λ entry in'. in'; reads = bound_is_read steps.net code.log steps.steps (whole_names steps code counter) counter k together.counted naming.of_counter less })
+    bound : (k : ℕ) → k < length counter.columns → ReadsAs (whole_meanings steps code counter) (guards ++ bound_literal counter k ∷ []) (assumption_literals steps.net code.log steps.steps (Some k))
+    bound k less = parts_are_assumed steps.net code.log steps.steps (Some k) (whole_meanings steps code counter) guards (bound_literal counter k ∷ []) naming.once guards_read
+        (record { own = whole_meanings steps code counter; among = λ entry in'. in'; reads = bound_is_read steps.net code.log steps.steps (whole_meanings steps code counter) counter k together.counted naming.of_counter less })
 
 pub together_ask : TogetherAsk
 together_ask steps code counter clauses guards together are read = record {
@@ -357,7 +357,7 @@ together_ask steps code counter clauses guards together are read = record {
     columns = length counter.columns;
     question = is_question steps code counter clauses together are;
     column = tt;
-    assumes = subst (λ literals. ReadsAs (whole_names steps code counter) literals (assumption_literals steps.net code.log steps.steps None)) (append-nil guards)
+    assumes = subst (λ literals. ReadsAs (whole_meanings steps code counter) literals (assumption_literals steps.net code.log steps.steps None)) (append-nil guards)
         (no_bound steps code counter clauses together are guards read);
   };
   bounded = λ k less. record {

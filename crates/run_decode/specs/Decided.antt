@@ -3,7 +3,7 @@ use Rattle.std.specs.Prelude.{◌≡◌, ℕ, suc, Bool, List, Option, None, Som
 use Rattle.des_net.specs.Network.{Net, IsNetwork}
 use Rattle.log_order.specs.Log.{Log, IsValidLog}
 use Rattle.prop_core.specs.Clauses.{Clause, clause_true, AllClausesTrue, NegatesOnly}
-use Rattle.prop_core.specs.VariableNames.{Name}
+use Rattle.prop_core.specs.VariableNames.{Meaning}
 use Rattle.prop_core.specs.declared.lit.Lit.{Lit}
 use Rattle.replay.specs.Explanation.{IsExplained, NeedsFaults, IsLeast, IsAbsent, IsMany}
 use Rattle.run_decode.specs.Faithful.{MakesTrue, IsFaithful}
@@ -44,5 +44,5 @@ NoneIsLeast = (net : Net) (log : Log) (n : ℕ) → IsExplained net log n 0 → 
 
 -- So a clause of negated assumptions decides a question that clauses and assumptions ask.
 abbrev pub QuestionIsDecided : Type 0
-QuestionIsDecided = (net : Net) (log : Log) (n : ℕ) (bound : Option ℕ) (names : List (ℕ × Name)) (clauses : List Clause) (assumed : List Lit) (clause : Clause) →
+QuestionIsDecided = (net : Net) (log : Log) (n : ℕ) (bound : Option ℕ) (names : List (ℕ × Meaning)) (clauses : List Clause) (assumed : List Lit) (clause : Clause) →
     IsNetwork net → IsValidLog log → Asks net log n bound names clauses assumed → Entails clauses clause → NegatesOnly assumed clause → Decides net log n bound

@@ -7,18 +7,18 @@ use Rattle.log_order.specs.Log.{Log}
 use Rattle.log_clauses.specs.LogClauses.{guard_literals, doubtful_alarms}
 use Rattle.log_clauses.specs.LogCodes.{IsNamedLog}
 use Rattle.prop_core.specs.Clauses.{Clause}
-use Rattle.prop_core.specs.VariableNames.{Name, dropped, reaches, NamedLiteral, yes, no, HasEachOnce, ReadsAs}
+use Rattle.prop_core.specs.VariableNames.{Meaning, dropped, reaches, NamedLiteral, yes, no, HasEachOnce, ReadsAs}
 use Rattle.prop_core.specs.declared.lit.Lit.{Lit}
 use Rattle.run_clauses.specs.StepCodes.{IsNamedStep}
-use Rattle.step_encode.specs.FaultInputs.{fault_names}
+use Rattle.step_encode.specs.FaultInputs.{fault_meanings}
 
 -- that a doubtful alarm is false, for each of them
-abbrev pub dropped_names : Log → List Name
-dropped_names log = map (λ i. dropped i) (doubtful_alarms log)
+abbrev pub dropped_meanings : Log → List Meaning
+dropped_meanings log = map (λ i. dropped i) (doubtful_alarms log)
 
 -- the inputs of the counter: that a fault event happens in a step, for each of both, and then that a doubtful alarm is false
 abbrev pub fault_inputs : Net → Log → ℕ → List NamedLiteral
-fault_inputs net log n = map yes (fault_names net n ++ dropped_names log)
+fault_inputs net log n = map yes (fault_meanings net n ++ dropped_meanings log)
 
 -- a clause of a counter over these inputs, of whichever column
 abbrev pub IsNamedCounting : List NamedLiteral → List NamedLiteral → Type 0
@@ -29,7 +29,7 @@ abbrev pub IsNamedClause : Net → Log → ℕ → List NamedLiteral → Type 0
 IsNamedClause net log n named = IsNamedStep net n named ⊎ (IsNamedLog net log n named ⊎ IsNamedCounting (fault_inputs net log n) named)
 
 -- By these names the clause is, as a set, one of them.
-abbrev pub IsInstance : Net → Log → ℕ → List (ℕ × Name) → Clause → Type 0
+abbrev pub IsInstance : Net → Log → ℕ → List (ℕ × Meaning) → Clause → Type 0
 IsInstance net log n names clause = (named : List NamedLiteral) × IsNamedClause net log n named × ReadsAs names clause named
 
 -- that of so many inputs at most b are true; of no inputs there is nothing to say
@@ -48,7 +48,7 @@ assumption_literals net log n bound = guard_literals net log ++ bound_literals n
 
 -- Some naming, of which neither a variable nor a name stands twice, names each variable: by it all clauses are instances, and the assumptions are, as a set, the guards and the bound.
 pub record IsDrawn (clauses : List Clause) (assumed : List Lit) (net : Net) (log : Log) (n : ℕ) (bound : Option ℕ) : Type 0 where
-  pub names : List (ℕ × Name)
+  pub names : List (ℕ × Meaning)
   pub once : HasEachOnce names
   pub instances : AllByRecursion (IsInstance net log n names) clauses
   pub assumes : ReadsAs names assumed (assumption_literals net log n bound)

@@ -6,7 +6,7 @@ use Rattle.log_clauses.specs.LogCodes.{IsNamedLog, AreAmong}
 use Rattle.log_order.specs.Log.{Log}
 use Rattle.prop_core.specs.Clauses.{Clause}
 use Rattle.prop_core.specs.NamedClauses.{IsCode}
-use Rattle.prop_core.specs.VariableNames.{Name, NamedLiteral, HasEachOnce, ReadsAs}
+use Rattle.prop_core.specs.VariableNames.{Meaning, NamedLiteral, HasEachOnce, ReadsAs}
 use Rattle.prop_core.specs.declared.lit.Lit.{Lit}
 use Rattle.run_clauses.specs.StepCodes.{IsNamedStep}
 use Rattle.run_decode.specs.Drawn.{fault_inputs, assumption_literals}
@@ -16,7 +16,7 @@ abbrev pub IsNamedQuestion : Net → Log → ℕ → ℕ → List NamedLiteral �
 IsNamedQuestion net log n columns named = IsNamedStep net n named ⊎ (IsNamedLog net log n named ⊎ IsNamedCount (fault_inputs net log n) columns named)
 
 -- by these names, each with one variable, the clauses are those, all of them and no others
-pub record IsQuestion (net : Net) (log : Log) (n columns : ℕ) (names : List (ℕ × Name)) (clauses : List Clause) : Type 0 where
+pub record IsQuestion (net : Net) (log : Log) (n columns : ℕ) (names : List (ℕ × Meaning)) (clauses : List Clause) : Type 0 where
   pub once : HasEachOnce names
   pub code : IsCode names (IsNamedQuestion net log n columns) clauses
 
@@ -26,7 +26,7 @@ HasColumn net log n columns None = ⊤
 HasColumn net log n columns (Some b) = 0 < length (fault_inputs net log n) → b < columns
 
 -- The clauses are those of a question, and what is assumed asks it within the bound.
-pub record Asks (net : Net) (log : Log) (n : ℕ) (bound : Option ℕ) (names : List (ℕ × Name)) (clauses : List Clause) (assumed : List Lit) : Type 0 where
+pub record Asks (net : Net) (log : Log) (n : ℕ) (bound : Option ℕ) (names : List (ℕ × Meaning)) (clauses : List Clause) (assumed : List Lit) : Type 0 where
   pub columns : ℕ
   pub question : IsQuestion net log n columns names clauses
   pub column : HasColumn net log n columns bound
@@ -35,13 +35,13 @@ pub record Asks (net : Net) (log : Log) (n : ℕ) (bound : Option ℕ) (names : 
 -- ---- from its parts
 
 -- by some of these names the clauses are those of a family
-pub record IsCodeAmong (names : List (ℕ × Name)) (family : List NamedLiteral → Type 0) (written : List Clause) : Type 0 where
-  pub own : List (ℕ × Name)
+pub record IsCodeAmong (names : List (ℕ × Meaning)) (family : List NamedLiteral → Type 0) (written : List Clause) : Type 0 where
+  pub own : List (ℕ × Meaning)
   pub among : AreAmong own names
   pub code : IsCode own family written
 
 -- by some of these names the literals read as those
-pub record IsReadAmong (names : List (ℕ × Name)) (literals : List Lit) (named : List NamedLiteral) : Type 0 where
-  pub own : List (ℕ × Name)
+pub record IsReadAmong (names : List (ℕ × Meaning)) (literals : List Lit) (named : List NamedLiteral) : Type 0 where
+  pub own : List (ℕ × Meaning)
   pub among : AreAmong own names
   pub reads : ReadsAs own literals named

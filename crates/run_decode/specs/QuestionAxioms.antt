@@ -5,14 +5,14 @@ use Rattle.des_net.specs.Network.{Net}
 use Rattle.log_clauses.specs.Additions.{Addition, alarm_added, pair_added}
 use Rattle.log_clauses.specs.Drafts.{added_list}
 use Rattle.log_encode.specs.BuiltLog.{BuiltLog, built_log}
-use Rattle.log_encode.specs.CodedLog.{CodedLog, log_names, read_names, code_after, addition_width, false_literals, without_names, IsCodedLog}
+use Rattle.log_encode.specs.CodedLog.{CodedLog, log_meanings, read_meanings, code_after, addition_width, false_literals, without_names, IsCodedLog}
 use Rattle.log_order.specs.Log.{Log}
 use Rattle.prop_core.specs.Clauses.{Clause}
 use Rattle.prop_core.specs.Listings.{literal_by, written_by}
 use Rattle.prop_core.specs.declared.lit.Lit.{Lit}
 use Rattle.run_clauses.specs.StepCodes.{StepsBelow}
 use Rattle.run_decode.specs.WholeNaming.{AreInputs, counter_after, counted_after}
-use Rattle.step_encode.specs.Coded.{CodedSteps, code_names as step_names, code_grid, variable_count, AppendsSteps}
+use Rattle.step_encode.specs.Coded.{CodedSteps, code_meanings, code_grid, variable_count, AppendsSteps}
 use Rattle.step_encode.specs.FaultInputs.{fault_literals}
 
 -- how steps, log and counter are coded, how many variables were made, and the axioms
@@ -33,7 +33,7 @@ log_built net log n = built_log net (code_grid (steps_built net n)) (variable_co
 
 -- The counter counts the faults of the steps, and then that doubtful alarms are false.
 abbrev pub inputs_built : CodedSteps → CodedLog → List Lit
-inputs_built steps code = fault_literals steps.net (code_grid steps) ++ map (literal_by (log_names code)) (false_literals code.log)
+inputs_built steps code = fault_literals steps.net (code_grid steps) ++ map (literal_by (log_meanings code)) (false_literals code.log)
 
 -- the question without columns: its axioms are the clauses of the steps, and then those of the log
 abbrev pub alone_built : CodedSteps → BuiltLog → BuiltQuestion
@@ -42,7 +42,7 @@ alone_built steps log = record {
   code = log.code;
   counter = without_columns (inputs_built steps log.code);
   vars = log.code.vars;
-  axioms = written_by (step_names steps) (StepsBelow steps.net steps.steps) ++ log.clauses;
+  axioms = written_by (code_meanings steps) (StepsBelow steps.net steps.steps) ++ log.clauses;
 }
 
 -- a column more, on the next variables
@@ -72,7 +72,7 @@ cells_after counter (pair_added i j) = 0
 -- The clauses of an addition on the next variables: those that the log gets, in the order of their listing, and then what the counter says of its new input.
 abbrev pub added_axioms : BuiltQuestion → Addition → List Clause
 added_axioms question addition =
-    written_by (read_names (code_after question.code addition question.vars)) (added_list question.code.net question.code.log question.code.grid.steps addition)
+    written_by (read_meanings (code_after question.code addition question.vars)) (added_list question.code.net question.code.log question.code.grid.steps addition)
     ++ counted_after question.code question.counter addition question.vars
 
 -- the question with an addition to its log, on the next variables and behind the axioms before it
@@ -93,7 +93,7 @@ roomless question = record question { counter = record { inputs = question.count
 -- It is so once steps and log are coded, and a counter over their inputs has no columns:
 abbrev pub QuestionBegins : Type 0
 QuestionBegins = (net : Net) (log : Log) (n : ℕ) (code : CodedLog) (stepped written : List Clause) (inputs : List Lit) →
-    AppendsSteps net n (step_names (steps_built net n)) [] stepped → IsCodedLog code → record { code = code; clauses = written } ≡ log_built net log n → AreInputs (steps_built net n) code inputs →
+    AppendsSteps net n (code_meanings (steps_built net n)) [] stepped → IsCodedLog code → record { code = code; clauses = written } ≡ log_built net log n → AreInputs (steps_built net n) code inputs →
     record { steps = steps_built net n; code = code; counter = without_columns inputs; vars = code.vars; axioms = stepped ++ written } ≡ question_built net log n 0
 
 -- and its columns are as many as were built.

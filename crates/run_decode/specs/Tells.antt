@@ -7,7 +7,7 @@ use Rattle.log_clauses.specs.LogLaws.{HasFalse}
 use Rattle.log_order.specs.Log.{Log, IsValidLog}
 use Rattle.prop_core.specs.Clauses.{Clause, negation, AllClausesTrue, NegatesOnly}
 use Rattle.prop_core.specs.NamedClauses.{value_by, assignment_by}
-use Rattle.prop_core.specs.VariableNames.{Name}
+use Rattle.prop_core.specs.VariableNames.{Meaning}
 use Rattle.prop_core.specs.declared.lit.Lit.{Lit}
 use Rattle.replay.specs.Explanation.{Entry, Explains, faults_of}
 use Rattle.run_clauses.specs.Steps.{AreSteps}
@@ -51,17 +51,17 @@ SamePropertyTold = (has other : Property) (clauses : List Clause) (assumed : Lis
 -- ---- riders
 
 -- Further clauses and assumptions say something of the truth of names, whatever it is: they may read the variables that have names, and choose others.
-pub record Rides (names : List (ℕ × Name)) (rider : List Clause) (further : List Lit) (says : (Name → Bool) → Type 0) : Type 0 where
+pub record Rides (names : List (ℕ × Meaning)) (rider : List Clause) (further : List Lit) (says : (Meaning → Bool) → Type 0) : Type 0 where
   -- where it is so, the other variables can be chosen
-  pub complete : (value : Name → Bool) → says value → (given : ℕ → Bool) × MakesTrue (assignment_by names value given) rider further
+  pub complete : (value : Meaning → Bool) → says value → (given : ℕ → Bool) × MakesTrue (assignment_by names value given) rider further
   -- and where all is true it is so
   pub sound : (assignment : ℕ → Bool) → MakesTrue assignment rider further → says (value_by names assignment)
   -- the clauses alone never stand against a truth of names
-  pub free : (value : Name → Bool) → (given : ℕ → Bool) × AllClausesTrue (assignment_by names value given) rider
+  pub free : (value : Meaning → Bool) → (given : ℕ → Bool) × AllClausesTrue (assignment_by names value given) rider
 
 -- What is said of a truth of names holds of the words whose events are those of its steps, with orders that have as many false alarms.
-abbrev pub SaysOfWords : Net → Log → ℕ → ((Name → Bool) → Type 0) → Property → Type 0
-SaysOfWords net log n says has = (value : Name → Bool) (pieces : List (List ℕ)) (order : List Entry) → AreSteps net n value pieces → HasFalse log value order → says value ↔ has (joined pieces) order
+abbrev pub SaysOfWords : Net → Log → ℕ → ((Meaning → Bool) → Type 0) → Property → Type 0
+SaysOfWords net log n says has = (value : Meaning → Bool) (pieces : List (List ℕ)) (order : List Entry) → AreSteps net n value pieces → HasFalse log value order → says value ↔ has (joined pieces) order
 
 -- the list has the clauses of both, in whatever order
 abbrev pub AreBoth : List Clause → List Clause → List Clause → Type 0
@@ -69,7 +69,7 @@ AreBoth whole clauses rider = (clause : Clause) → Contains whole clause ↔ Co
 
 -- A question with a rider tells which of its explanations have what the rider says.
 abbrev pub RiddenTells : Type 1
-RiddenTells = (net : Net) (log : Log) (n : ℕ) (bound : Option ℕ) (names : List (ℕ × Name)) (clauses rider whole : List Clause) (assumed further : List Lit)
-    (says : (Name → Bool) → Type 0) (has : Property) → IsNetwork net → IsValidLog log → Asks net log n bound names clauses assumed →
+RiddenTells = (net : Net) (log : Log) (n : ℕ) (bound : Option ℕ) (names : List (ℕ × Meaning)) (clauses rider whole : List Clause) (assumed further : List Lit)
+    (says : (Meaning → Bool) → Type 0) (has : Property) → IsNetwork net → IsValidLog log → Asks net log n bound names clauses assumed →
     Rides names rider further says → SaysOfWords net log n says has → AreBoth whole clauses rider → EachPair (λ a b. a ≢ negation b) (assumed ++ further) →
     Tells whole (assumed ++ further) (λ word order. ExplainsWithin net log n bound word order × has word order)

@@ -1,6 +1,6 @@
 -- One naming for a question whose steps, log and counter are coded on variables of their own: each part names its own, and the events of the log are those of the steps.
 use Rattle.std.specs.Prelude.{◌≡◌, ◌≢◌, ◌↔◌, ◌⊎◌, ℕ, ◌+◌, ◌-◌, ◌<◌, ◌≤◌, true, if◌then◌else◌, List, [], ◌∷◌, ◌++◌, length, Contains, None, Some}
-use Rattle.card_counter.specs.CounterState.{CounterState, IsCounter, IsMade, IsPlace, variable, counter_names, counter_clauses, next_clauses, input_clauses, bound_literal, without_columns, with_column, with_input, with_room, AreAlike, IsFull}
+use Rattle.card_counter.specs.CounterState.{CounterState, IsCounter, IsMade, IsPlace, variable, counter_meanings, counter_clauses, next_clauses, input_clauses, bound_literal, without_columns, with_column, with_input, with_room, AreAlike, IsFull}
 use Rattle.card_counter.specs.Counting.{IsNamedBy}
 use Rattle.des_base.specs.declared.TheConstants.{VAR_LIMIT, MOST_COLUMNS}
 use Rattle.log_clauses.specs.Additions.{Addition, alarm_added, pair_added}
@@ -8,28 +8,28 @@ use Rattle.log_clauses.specs.LogClauses.{guard_literals}
 use Rattle.log_clauses.specs.LogCodes.{AreAmong}
 use Rattle.log_order.specs.Log.{Log, Alarm}
 use Rattle.replay.specs.QuestionSize.{variable_bound}
-use Rattle.log_encode.specs.CodedLog.{without_names, CodedLog, log_names, read_names, code_after, addition_width}
+use Rattle.log_encode.specs.CodedLog.{without_names, CodedLog, log_meanings, read_meanings, code_after, addition_width}
 use Rattle.log_encode.specs.Drafted.{DraftState, IsDraftOf}
 use Rattle.log_encode.specs.WrittenLog.{IsWritten, Follows}
 use Rattle.prop_core.specs.Clauses.{Clause}
 use Rattle.prop_core.specs.NamedClauses.{IsCode}
-use Rattle.prop_core.specs.VariableNames.{Name, HasEachOnce, ReadsAs}
+use Rattle.prop_core.specs.VariableNames.{Meaning, HasEachOnce, ReadsAs}
 use Rattle.prop_core.specs.declared.lit.Lit.{Lit}
 use Rattle.run_clauses.specs.StepCodes.{IsNamedStep}
 use Rattle.run_decode.specs.DecodedRuns.{AreFaultLiterals}
 use Rattle.run_decode.specs.Drawn.{fault_inputs}
 use Rattle.run_decode.specs.Question.{Asks}
 use Rattle.run_decode.specs.RunNaming.{AreFalseLiterals, IsCodedBeside}
-use Rattle.step_encode.specs.Coded.{CodedSteps, code_names as step_names, code_grid, variable_count}
+use Rattle.step_encode.specs.Coded.{CodedSteps, code_meanings, code_grid, variable_count}
 use Rattle.step_encode.specs.FaultInputs.{fault_literals}
 
 -- the variables of the steps, of the log, and of the counter, each with its name
-abbrev pub whole_names : CodedSteps → CodedLog → CounterState → List (ℕ × Name)
-whole_names steps code counter = step_names steps ++ (log_names code ++ counter_names counter)
+abbrev pub whole_meanings : CodedSteps → CodedLog → CounterState → List (ℕ × Meaning)
+whole_meanings steps code counter = code_meanings steps ++ (log_meanings code ++ counter_meanings counter)
 
 -- no variable of the log is one of the counter
 abbrev pub IsApartFromCounter : CodedLog → CounterState → Type 0
-IsApartFromCounter code counter = (entry : ℕ × Name) (i j : ℕ) → Contains (log_names code) entry → IsPlace counter i j → entry.0 ≢ variable counter i j
+IsApartFromCounter code counter = (entry : ℕ × Meaning) (i j : ℕ) → Contains (log_meanings code) entry → IsPlace counter i j → entry.0 ≢ variable counter i j
 
 -- The inputs are the faults of the steps, and then that alarms of the log are false.
 pub record AreInputs (steps : CodedSteps) (code : CodedLog) (inputs : List Lit) : Type 0 where
@@ -47,11 +47,11 @@ pub record AreCodedTogether (steps : CodedSteps) (code : CodedLog) (counter : Co
 
 -- No name and no variable stands twice; the parts keep their names, and the inputs of the counter read as the fault events in all steps and the false alarms.
 pub record HaveOneNaming (steps : CodedSteps) (code : CodedLog) (counter : CounterState) : Type 0 where
-  pub once : HasEachOnce (whole_names steps code counter)
-  pub of_steps : AreAmong (step_names steps) (whole_names steps code counter)
-  pub of_log : AreAmong (read_names code) (whole_names steps code counter)
-  pub of_faults : AreFaultLiterals (whole_names steps code counter) steps.net code.log steps.steps counter.inputs
-  pub of_counter : IsNamedBy (whole_names steps code counter) (fault_inputs steps.net code.log steps.steps) counter
+  pub once : HasEachOnce (whole_meanings steps code counter)
+  pub of_steps : AreAmong (code_meanings steps) (whole_meanings steps code counter)
+  pub of_log : AreAmong (read_meanings code) (whole_meanings steps code counter)
+  pub of_faults : AreFaultLiterals (whole_meanings steps code counter) steps.net code.log steps.steps counter.inputs
+  pub of_counter : IsNamedBy (whole_meanings steps code counter) (fault_inputs steps.net code.log steps.steps) counter
 
 -- What is coded together has one naming.
 abbrev pub TogetherOneNaming : Type 0
@@ -95,14 +95,14 @@ TogetherGrow = (steps : CodedSteps) (code : CodedLog) (counter : CounterState) (
 pub record AreClausesOf (steps : CodedSteps) (code : CodedLog) (counter : CounterState) (clauses : List Clause) : Type 0 where
   pub stepped : List Clause
   pub written : List Clause
-  pub step_code : IsCode (step_names steps) (IsNamedStep steps.net steps.steps) stepped
+  pub step_code : IsCode (code_meanings steps) (IsNamedStep steps.net steps.steps) stepped
   pub log_code : IsWritten code written
   pub same : (clause : Clause) → Contains clauses clause ↔ Contains stepped clause ⊎ (Contains written clause ⊎ Contains (counter_clauses counter) clause)
 
 -- Before the counter has a column, those of the steps and of the log are all.
 abbrev pub ClausesBegin : Type 0
 ClausesBegin = (steps : CodedSteps) (code : CodedLog) (counter : CounterState) (stepped written : List Clause) → counter.columns ≡ [] →
-    IsCode (step_names steps) (IsNamedStep steps.net steps.steps) stepped → IsWritten code written → AreClausesOf steps code counter (stepped ++ written)
+    IsCode (code_meanings steps) (IsNamedStep steps.net steps.steps) stepped → IsWritten code written → AreClausesOf steps code counter (stepped ++ written)
 
 -- The clauses of a draft, with those of the counter's new input, and those of a column more, come behind them.
 pub record AreJoinedBy (steps : CodedSteps) (code : CodedLog) (counter : CounterState) (clauses : List Clause) : Type 0 where
@@ -131,15 +131,15 @@ RoomIsFree = (steps : CodedSteps) (code : CodedLog) (counter : CounterState) (mo
 
 -- With the guards they ask without a bound, and with the counter's literal for at most k besides, they ask within k.
 pub record AskTogether (steps : CodedSteps) (code : CodedLog) (counter : CounterState) (clauses : List Clause) (guards : List Lit) : Type 0 where
-  pub unbounded : Asks steps.net code.log steps.steps None (whole_names steps code counter) clauses guards
-  pub bounded : (k : ℕ) → k < length counter.columns → Asks steps.net code.log steps.steps (Some k) (whole_names steps code counter) clauses (guards ++ bound_literal counter k ∷ [])
+  pub unbounded : Asks steps.net code.log steps.steps None (whole_meanings steps code counter) clauses guards
+  pub bounded : (k : ℕ) → k < length counter.columns → Asks steps.net code.log steps.steps (Some k) (whole_meanings steps code counter) clauses (guards ++ bound_literal counter k ∷ [])
 
 -- So do the clauses of what is coded together, with literals that read as the guards of the log.
 abbrev pub TogetherAsk : Type 0
 TogetherAsk = (steps : CodedSteps) (code : CodedLog) (counter : CounterState) (clauses : List Clause) (guards : List Lit) → AreCodedTogether steps code counter → AreClausesOf steps code counter clauses →
-    ReadsAs (read_names code) guards (guard_literals code.net code.log) → AskTogether steps code counter clauses guards
+    ReadsAs (read_meanings code) guards (guard_literals code.net code.log) → AskTogether steps code counter clauses guards
 
 -- Up to the most columns it has no more variables than the bound on the variables of a question says.
 abbrev pub TogetherAreFew : Type 0
 TogetherAreFew = (steps : CodedSteps) (code : CodedLog) (counter : CounterState) (log : Log) → AreCodedTogether steps code counter → code.log ≡ without_names log → length counter.columns ≤ MOST_COLUMNS →
-    length (whole_names steps code counter) ≤ variable_bound steps.net log steps.steps
+    length (whole_meanings steps code counter) ≤ variable_bound steps.net log steps.steps

@@ -12,7 +12,7 @@ use Rattle.least_faults.specs.declared.answer.Found.{Found}
 use Rattle.least_faults.specs.declared.answer.Found.TheVariants.{Explained, Absent, Many, Undecided}
 use Rattle.log_order.specs.Log.{Log}
 use Rattle.proof_ledger.specs.Book.{BookEntry}
-use Rattle.prop_core.specs.VariableNames.{Name}
+use Rattle.prop_core.specs.VariableNames.{Meaning}
 use Rattle.replay.specs.Traced.{word_of}
 use Rattle.replay.specs.declared.run.RunStep.{RunStep}
 use Rattle.report.specs.Replies.{EventsKnown}
@@ -21,7 +21,7 @@ use Rattle.run_decode.specs.QuestionAxioms.{BuiltQuestion}
 
 -- ---- what was found
 
-known : (names : List (ℕ × Name)) (first : BuiltQuestion) (since : List BookEntry) (net : Net) (log : Log) (n budget : ℕ) (found : Found) → IsFound names first since net log n budget found → EventsKnown net found
+known : (names : List (ℕ × Meaning)) (first : BuiltQuestion) (since : List BookEntry) (net : Net) (log : Log) (n budget : ℕ) (found : Found) → IsFound names first since net log n budget found → EventsKnown net found
 known names first since net log n budget (Explained best) h = run_known net (word_of best.run) h.given.explains.run
 known names first since net log n budget Absent h = tt
 known names first since net log n budget (Many best) h = run_known net (word_of best.run) h.given.explains.run

@@ -1,7 +1,7 @@
 use Rattle.std.proofs.Common.{subst, List}
 use Rattle.cost_least.proofs.Guards.{guards_listed}
 use Rattle.log_clauses.specs.LogClauses.{guard_literals}
-use Rattle.log_encode.specs.CodedLog.{read_names}
+use Rattle.log_encode.specs.CodedLog.{read_meanings}
 use Rattle.prop_core.specs.VariableNames.{ReadsAs}
 use Rattle.prop_core.specs.declared.lit.Lit.{Lit}
 use Rattle.cost_least.proofs.question.has_guards.Goals as goal
@@ -9,4 +9,4 @@ use Rattle.cost_least.proofs.question.has_guards.Goals as goal
 pub returns : goal.returns
 returns c =
     let code = c.args.code.now.code in
-    subst (λ (xs : List Lit). ReadsAs (read_names code) xs (guard_literals code.net code.log)) (guards_listed code c.guards-guards.result.now c.guards-guards.ensures.whole c.guards-guards.ensures.listed) c.guards-guards.ensures.guards
+    subst (λ (xs : List Lit). ReadsAs (read_meanings code) xs (guard_literals code.net code.log)) (guards_listed code c.guards-guards.result.now c.guards-guards.ensures.whole c.guards-guards.ensures.listed) c.guards-guards.ensures.guards

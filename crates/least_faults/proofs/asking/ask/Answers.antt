@@ -7,7 +7,7 @@ use Rattle.least_faults.proofs.Staying.{belong_still, built_for}
 use Rattle.least_faults.proofs.asking.ask.Goals as goal
 use Rattle.least_faults.specs.Asking.{AreAssumptions}
 use Rattle.least_faults.specs.Evidence.{IsPosed}
-use Rattle.least_faults.specs.Parts.{AreReady, BelongTo, built_of, names_of_parts}
+use Rattle.least_faults.specs.Parts.{AreReady, BelongTo, built_of, meanings_of_parts}
 use Rattle.least_faults.specs.declared.parts.Parts.{Parts}
 use Rattle.log_order.specs.Log.{Log, IsValidLog}
 use Rattle.proof_ledger.specs.Book.{BookEntry, axioms_of}
@@ -18,7 +18,7 @@ use Rattle.sat_solve.specs.Searching.{IsAnswer, IsModel, HasPut}
 use Rattle.sat_solve.specs.declared.answer.Answer.{Answer}
 
 posed : {R : Type 0} (may : R → ℕ → Type 0) (gives : R → ℕ → ℕ → Type 0) (parts : Parts R) (book : List BookEntry) (net : Net) (log : Log) (bound : Option ℕ) (assumed : List Lit) → AreReady may gives parts book →
-    AreAssumptions parts.code.code parts.counter bound assumed → BelongTo net log parts → IsNetwork net → IsValidLog log → IsPosed (names_of_parts parts) (axioms_of book) assumed parts.step.net log parts.step.steps bound
+    AreAssumptions parts.code.code parts.counter bound assumed → BelongTo net log parts → IsNetwork net → IsValidLog log → IsPosed (meanings_of_parts parts) (axioms_of book) assumed parts.step.net log parts.step.steps bound
 posed may gives parts book net log bound assumed ready assumptions belong network valid =
     poses parts.step parts.code.code parts.counter parts.vars (axioms_of book) bound assumed ready.coded assumptions log (subst IsNetwork (sym belong.of_steps) network) valid belong.same_log
 

@@ -1,7 +1,7 @@
 -- What is found, and the question that is left.
 use Rattle.least_faults.proofs.Closing.{ok_weaker}
 use Rattle.least_faults.specs.Answers.{IsAnswered}
-use Rattle.least_faults.specs.Parts.{built_of, names_of_parts}
+use Rattle.least_faults.specs.Parts.{built_of, meanings_of_parts}
 use Rattle.inquiries.specs.Diagnosed.{IsDiagnosed}
 use Rattle.inquiries.proofs.Diagnosing.{diagnosed_begun, search_left}
 use Rattle.inquiries.proofs.least.LeastFaultsInquiry.ask.Goals as goal
@@ -15,7 +15,7 @@ returns-clause-says g c =
     let budget = c.args.self.now.budget in
     let old = c.args.book.now.entries in
     let book = c.least-found.new.book.entries in
-    ok_weaker c.least-found.result (IsAnswered (names_of_parts later) (built_of parts old) net log later.step.steps budget old book) (IsDiagnosed net log parts.step.steps budget book)
+    ok_weaker c.least-found.result (IsAnswered (meanings_of_parts later) (built_of parts old) net log later.step.steps budget old book) (IsDiagnosed net log parts.step.steps budget book)
     (λ found answered. diagnosed_begun (goal.R-pre g) (goal.R-post g) net log parts later old book c.requires.begun c.least-found.ensures.kept budget found c.entries.ensures.valid answered) c.least-found.ensures.answered
 
 pub returns-clause-left : goal.returns-clause-left

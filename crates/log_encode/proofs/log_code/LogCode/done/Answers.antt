@@ -2,9 +2,9 @@ use Rattle.std.proofs.Common.{◌≡◌, ◌∙◌, Some, sym, ap, subst, arith}
 use Rattle.log_encode.proofs.CallLemmas.{found_alarm, alarm_within, kept_count}
 use Rattle.log_encode.proofs.log_code.LogCode.done.Goals as goal
 use Rattle.log_encode.specs.AlarmVariables.{AreWithinLimit, done_variable}
-use Rattle.log_encode.specs.CodedLog.{log_names}
+use Rattle.log_encode.specs.CodedLog.{log_meanings}
 use Rattle.log_encode.specs.declared.alarm_vars.AlarmVars.{AlarmVars}
-use Rattle.prop_core.specs.VariableNames.{name_of, done}
+use Rattle.prop_core.specs.VariableNames.{meaning_of, done}
 
 pub vars_of-requires : goal.vars_of-requires
 vars_of-requires c =
@@ -30,4 +30,4 @@ pub returns-clause-names : goal.returns-clause-names
 returns-clause-names c =
     let found = found_alarm c.self.inside c.args.self.now c.args.alarm c.index.result.now c.self.view_is c.self.invariant c.requires c.index.ensures in
     let is = c.done.ensures ∙ ap (λ (v : AlarmVars). done_variable v 0) c.vars_of.ensures in
-    λ t within. subst (λ v. name_of (log_names c.args.self.now.code) v ≡ Some (done c.args.alarm t)) (omega (arith, is)) (found.0.being_done t within)
+    λ t within. subst (λ v. meaning_of (log_meanings c.args.self.now.code) v ≡ Some (done c.args.alarm t)) (omega (arith, is)) (found.0.being_done t within)

@@ -5,7 +5,7 @@ use Rattle.log_encode.proofs.CodeLemmas.{grown_is_coded}
 use Rattle.log_encode.proofs.DraftLemmas.{pair_brings}
 use Rattle.log_encode.proofs.log_code.LogCode.draft_before.Goals as goal
 use Rattle.log_clauses.specs.Drafts.{added_list}
-use Rattle.log_encode.specs.CodedLog.{IsCodedLog, read_names, code_after}
+use Rattle.log_encode.specs.CodedLog.{IsCodedLog, read_meanings, code_after}
 use Rattle.log_encode.specs.Drafted.{LogCodeState}
 use Rattle.prop_core.specs.Listings.{IsListed}
 use Rattle.log_encode.specs.Written.{pair_written}
@@ -22,6 +22,6 @@ returns c =
       adds = refl;
       begins = refl;
       width = refl;
-      listed = subst (IsListed (read_names (code_after c.args.self.now.code (pair_added c.args.first c.args.second) c.args.first_var)) (added_list c.args.self.now.code.net c.args.self.now.code.log c.args.self.now.code.grid.steps (pair_added c.args.first c.args.second))) (sym written) brings.0;
+      listed = subst (IsListed (read_meanings (code_after c.args.self.now.code (pair_added c.args.first c.args.second) c.args.first_var)) (added_list c.args.self.now.code.net c.args.self.now.code.log c.args.self.now.code.grid.steps (pair_added c.args.first c.args.second))) (sym written) brings.0;
       small = let few = brings.1 in let long = ap length written in omega (arith, few, long);
     }

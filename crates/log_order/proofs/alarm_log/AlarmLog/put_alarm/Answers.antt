@@ -4,7 +4,7 @@ use Rattle.std.specs.List.{AllByRecursion}
 use Rattle.des_base.specs.Names.{place_of, AreNames}
 use Rattle.des_base.proofs.TableLemmas.{AreNames-push}
 use Rattle.log_order.specs.Log.{Log, Alarm, an_alarm, a_log}
-use Rattle.log_order.specs.Meanings.{Meaning, alarms_with}
+use Rattle.log_order.specs.Meanings.{AlarmMeaning, alarms_with}
 use Rattle.log_order.specs.View.{log_view}
 use Rattle.log_order.proofs.Meaning.{alarms_with-push}
 use Rattle.log_order.specs.Precedence.{Precedence}
@@ -35,7 +35,7 @@ added c = an_alarm c.args.id (with_texts [] c.args.labels.now) c.args.doubtful
 
 alarms_are : (c : goal.After-push_reserved) → alarms_with c.add_number.new.ids c.push_reserved.new.self.items ≡ (log_view c.self.inside).alarms ++ added c ∷ []
 alarms_are c =
-    let meaning : Meaning = record { labels = with_texts [] c.args.labels.now; doubtful = c.args.doubtful } in
+    let meaning : AlarmMeaning = record { labels = with_texts [] c.args.labels.now; doubtful = c.args.doubtful } in
     let meanings : c.push_reserved.new.self.items ≡ c.self.inside.meanings.items ++ meaning ∷ [] =
     c.push_reserved.ensures.items ∙ ap (λ ms. ms ++ record { labels = c.in_ok-each_once.field-0.items; doubtful = c.args.doubtful } ∷ []) c.in_ok-reserve.ensures.items
     ∙ ap (λ (labels : List (List ℕ)). c.self.inside.meanings.items ++ record { labels = labels; doubtful = c.args.doubtful } ∷ []) c.in_ok-each_once.ensures.once in
