@@ -16,14 +16,14 @@ use Rattle.log_order.specs.Log.{Log, an_alarm, has_pair}
 use Rattle.proof_ledger.specs.Book.{axioms_of}
 use Rattle.replay.specs.QuestionSize.{question_size}
 
-module _ {R : Type 0} (net : Net) (n : ℕ) (kept : Kept R) (of_log : IsFor net n kept) (coded : AreParts kept.parts.step kept.parts.code.code kept.parts.counter kept.parts.vars (axioms_of kept.book.entries)) (whole : IsDraft net) where
+module _ {R : Type 0} (net : Net) (n : ℕ) (kept : Kept R) (of_log : IsFor net n kept) (coded : AreParts kept.parts.step kept.parts.code.coded kept.parts.counter kept.parts.vars (axioms_of kept.book.entries)) (whole : IsDraft net) where
   -- ---- any addition
 
-  module _ (addition : Addition) (new : Log) (codes : Codes kept.parts.code.code.log addition new) (few : length new.alarms ≤ 2000) (size : ℕ) (sized : size ≡ question_size net new n) (small : size ≤ MOST_SIZE) where
+  module _ (addition : Addition) (new : Log) (codes : Codes kept.parts.code.coded.log addition new) (few : length new.alarms ≤ 2000) (size : ℕ) (sized : size ≡ question_size net new n) (small : size ≤ MOST_SIZE) where
     limits : IsWithinLimits net new n
     limits = record { steps = of_log.limits.steps; size = omega (arith, sized, small) }
 
-    pub addition_drafted : (draft : DraftState) → IsDraftOf kept.parts.code.code addition kept.parts.vars draft → IsDraftedFor net n kept addition new (record { draft = draft; size = size })
+    pub addition_drafted : (draft : DraftState) → IsDraftOf kept.parts.code.coded addition kept.parts.vars draft → IsDraftedFor net n kept addition new (record { draft = draft; size = size })
     addition_drafted draft is = record {
       draft = is;
       fits = log_fits net n kept.log kept.parts (axioms_of kept.book.entries) of_log.belong of_log.time coded addition new codes whole few limits;
@@ -31,7 +31,7 @@ module _ {R : Type 0} (net : Net) (n : ℕ) (kept : Kept R) (of_log : IsFor net 
       limits = limits;
     }
 
-    pub addition_room : kept.parts.vars + addition_width kept.parts.code.code addition ≤ VAR_LIMIT
+    pub addition_room : kept.parts.vars + addition_width kept.parts.code.coded addition ≤ VAR_LIMIT
     addition_room =
         draft_fits net n kept.log kept.parts (axioms_of kept.book.entries) of_log.belong of_log.time coded addition new codes
         (log_fits net n kept.log kept.parts (axioms_of kept.book.entries) of_log.belong of_log.time coded addition new codes whole few limits)
@@ -47,19 +47,19 @@ module _ {R : Type 0} (net : Net) (n : ℕ) (kept : Kept R) (of_log : IsFor net 
       longer : length (with_alarm kept.log name labels doubtful).alarms ≤ 2000
       longer = omega (arith, few, length-append kept.log.alarms (an_alarm name (with_texts [] labels) doubtful ∷ []))
 
-      codes : Codes kept.parts.code.code.log (alarm_added (nameless (with_texts [] labels) doubtful)) (with_alarm kept.log name labels doubtful)
-      codes = alarm_codes kept.log kept.parts.code.code.log name (with_texts [] labels) doubtful of_log.belong.same_log
+      codes : Codes kept.parts.code.coded.log (alarm_added (nameless (with_texts [] labels) doubtful)) (with_alarm kept.log name labels doubtful)
+      codes = alarm_codes kept.log kept.parts.code.coded.log name (with_texts [] labels) doubtful of_log.belong.same_log
 
-      pub alarm_room : kept.parts.vars + addition_width kept.parts.code.code (alarm_added (nameless once doubtful)) ≤ VAR_LIMIT
+      pub alarm_room : kept.parts.vars + addition_width kept.parts.code.coded (alarm_added (nameless once doubtful)) ≤ VAR_LIMIT
       alarm_room =
-          subst (λ ls. kept.parts.vars + addition_width kept.parts.code.code (alarm_added (nameless ls doubtful)) ≤ VAR_LIMIT) (sym each)
+          subst (λ ls. kept.parts.vars + addition_width kept.parts.code.coded (alarm_added (nameless ls doubtful)) ≤ VAR_LIMIT) (sym each)
           (addition_room (alarm_added (nameless (with_texts [] labels) doubtful)) (with_alarm kept.log name labels doubtful) codes longer size alarm_sized small)
 
-      pub alarm_drafted : (draft : DraftState) → IsDraftOf kept.parts.code.code (alarm_added (nameless once doubtful)) kept.parts.vars draft →
+      pub alarm_drafted : (draft : DraftState) → IsDraftOf kept.parts.code.coded (alarm_added (nameless once doubtful)) kept.parts.vars draft →
           IsDraftedFor net n kept (alarm_added (nameless (with_texts [] labels) doubtful)) (with_alarm kept.log name labels doubtful) (record { draft = draft; size = size })
       alarm_drafted draft is =
           addition_drafted (alarm_added (nameless (with_texts [] labels) doubtful)) (with_alarm kept.log name labels doubtful) codes longer size alarm_sized small draft
-          (subst (λ ls. IsDraftOf kept.parts.code.code (alarm_added (nameless ls doubtful)) kept.parts.vars draft) each is)
+          (subst (λ ls. IsDraftOf kept.parts.code.coded (alarm_added (nameless ls doubtful)) kept.parts.vars draft) each is)
 
   -- ---- a pair
 
@@ -68,7 +68,7 @@ module _ {R : Type 0} (net : Net) (n : ℕ) (kept : Kept R) (of_log : IsFor net 
     pub pair_sized : size ≡ question_size net (paired kept.log first second) n
     pair_sized = sized net kept.log first second of_log.size ∙ ap (λ l. question_size net l n) (sym (paired_is kept.log first second new))
 
-    pub pair_drafted : length kept.log.alarms ≤ 2000 → size ≤ MOST_SIZE → (draft : DraftState) → IsDraftOf kept.parts.code.code (pair_added first second) kept.parts.vars draft →
+    pub pair_drafted : length kept.log.alarms ≤ 2000 → size ≤ MOST_SIZE → (draft : DraftState) → IsDraftOf kept.parts.code.coded (pair_added first second) kept.parts.vars draft →
         IsDraftedFor net n kept (pair_added first second) (paired kept.log first second) (record { draft = draft; size = size })
     pair_drafted few small draft is =
-        addition_drafted (pair_added first second) (paired kept.log first second) (pair_codes kept.log kept.parts.code.code.log first second new of_log.belong.same_log) few size pair_sized small draft is
+        addition_drafted (pair_added first second) (paired kept.log first second) (pair_codes kept.log kept.parts.code.coded.log first second new of_log.belong.same_log) few size pair_sized small draft is

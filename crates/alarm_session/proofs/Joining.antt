@@ -23,20 +23,20 @@ use Rattle.run_decode.specs.QuestionAxioms.{BuiltQuestion, added_built, roomless
 -- ---- what a draft asks for
 
 module _ {R : Type 0} (net : Net) (n : ℕ) (kept : Kept R) (addition : Addition) (new : Log) (drafted : Drafted) (is : IsDraftedFor net n kept addition new drafted) where
-  pub own_draft : IsDraftOf kept.parts.code.code drafted.draft.addition kept.parts.vars drafted.draft
-  own_draft = subst (λ (a : Addition). IsDraftOf kept.parts.code.code a kept.parts.vars drafted.draft) (sym is.draft.adds) is.draft
+  pub own_draft : IsDraftOf kept.parts.code.coded drafted.draft.addition kept.parts.vars drafted.draft
+  own_draft = subst (λ (a : Addition). IsDraftOf kept.parts.code.coded a kept.parts.vars drafted.draft) (sym is.draft.adds) is.draft
 
-  pub own_fits : question_variables kept.parts.step.net (with_addition kept.parts.code.code.log drafted.draft.addition) kept.parts.step.steps ≤ VAR_LIMIT
-  own_fits = subst (λ (a : Addition). question_variables kept.parts.step.net (with_addition kept.parts.code.code.log a) kept.parts.step.steps ≤ VAR_LIMIT) (sym is.draft.adds) is.fits
+  pub own_fits : question_variables kept.parts.step.net (with_addition kept.parts.code.coded.log drafted.draft.addition) kept.parts.step.steps ≤ VAR_LIMIT
+  own_fits = subst (λ (a : Addition). question_variables kept.parts.step.net (with_addition kept.parts.code.coded.log a) kept.parts.step.steps ≤ VAR_LIMIT) (sym is.draft.adds) is.fits
 
   -- ---- it is made
 
-  module _ (of_log : IsFor net n kept) (codes : Codes kept.parts.code.code.log addition new) (mid now : Parts R) (mid_book now_book : LedgerState) (room : KeepsAllButRoom kept.parts mid kept.book.entries mid_book.entries)
+  module _ (of_log : IsFor net n kept) (codes : Codes kept.parts.code.coded.log addition new) (mid now : Parts R) (mid_book now_book : LedgerState) (room : KeepsAllButRoom kept.parts mid kept.book.entries mid_book.entries)
       (draft : DraftState) (same : draft ≡ drafted.draft) (joined : HasAddition draft.addition mid now mid_book.entries now_book.entries) (log : Log) (made : log ≡ new) where
-    own_codes : Codes kept.parts.code.code.log draft.addition log
+    own_codes : Codes kept.parts.code.coded.log draft.addition log
     own_codes =
-        subst (λ (a : Addition). Codes kept.parts.code.code.log a log) (sym (ap (λ (d : DraftState). d.addition) same ∙ is.draft.adds))
-        (subst (Codes kept.parts.code.code.log addition) (sym made) codes)
+        subst (λ (a : Addition). Codes kept.parts.code.coded.log a log) (sym (ap (λ (d : DraftState). d.addition) same ∙ is.draft.adds))
+        (subst (Codes kept.parts.code.coded.log addition) (sym made) codes)
 
     pub kept_with : (may : R → ℕ → Type 0) (gives : R → ℕ → ℕ → Type 0) → AreReady may gives now now_book.entries → IsRankedKept may gives net n (record { log = log; size = drafted.size; parts = now; book = now_book })
     kept_with may gives ready = record {
@@ -57,8 +57,8 @@ module _ {R : Type 0} (net : Net) (n : ℕ) (kept : Kept R) (addition : Addition
         ∙ ap (λ (q : BuiltQuestion). added_built q draft.addition) (room_roomless kept.parts mid kept.book.entries mid_book.entries room)
         ∙ ap (λ (a : Addition). added_built (roomless (built_of kept.parts kept.book.entries)) a) (ap (λ (d : DraftState). d.addition) same ∙ is.draft.adds)
 
-    pub becomes_with : (may : R → ℕ → Type 0) (gives : R → ℕ → ℕ → Type 0) → AreReady may gives now now_book.entries → AreParts kept.parts.step kept.parts.code.code kept.parts.counter kept.parts.vars (axioms_of kept.book.entries) →
-        AddsFew mid.code.code.net mid.code.code.grid.steps mid.code.code.log now.code.code.log mid_book.entries now_book.entries → (size : ℕ) →
+    pub becomes_with : (may : R → ℕ → Type 0) (gives : R → ℕ → ℕ → Type 0) → AreReady may gives now now_book.entries → AreParts kept.parts.step kept.parts.code.coded kept.parts.counter kept.parts.vars (axioms_of kept.book.entries) →
+        AddsFew mid.code.coded.net mid.code.coded.grid.steps mid.code.coded.log now.code.coded.log mid_book.entries now_book.entries → (size : ℕ) →
         Becomes net n new (Some addition) (stage_of kept) (stage_of (record { log = log; size = size; parts = now; book = now_book }))
     becomes_with may gives ready coded few size = record {
       log = made;

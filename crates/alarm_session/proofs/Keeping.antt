@@ -79,20 +79,20 @@ of_coded log coded is = ap (λ (l : Log). length l.alarms) is ∙ count_same log
 
 -- ---- room for it
 
-module _ {R : Type 0} (net : Net) (n : ℕ) (log : Log) (parts : Parts R) (axioms : List Clause) (belong : BelongTo net log parts) (time : parts.step.steps ≡ n) (coded : AreParts parts.step parts.code.code parts.counter parts.vars axioms)
-    (addition : Addition) (new : Log) (codes : Codes parts.code.code.log addition new) where
+module _ {R : Type 0} (net : Net) (n : ℕ) (log : Log) (parts : Parts R) (axioms : List Clause) (belong : BelongTo net log parts) (time : parts.step.steps ≡ n) (coded : AreParts parts.step parts.code.coded parts.counter parts.vars axioms)
+    (addition : Addition) (new : Log) (codes : Codes parts.code.coded.log addition new) where
   -- its variables are within the limit
-  pub log_fits : IsDraft net → length new.alarms ≤ 2000 → IsWithinLimits net new n → question_variables parts.step.net (with_addition parts.code.code.log addition) parts.step.steps ≤ VAR_LIMIT
+  pub log_fits : IsDraft net → length new.alarms ≤ 2000 → IsWithinLimits net new n → question_variables parts.step.net (with_addition parts.code.coded.log addition) parts.step.steps ≤ VAR_LIMIT
   log_fits whole few limits =
       let all = question_fits net new n whole few limits.steps limits.size in
       let is =
-      ap (λ (m : Net). question_variables m (with_addition parts.code.code.log addition) parts.step.steps) belong.of_steps ∙ ap (λ k. question_variables net (with_addition parts.code.code.log addition) k) time
+      ap (λ (m : Net). question_variables m (with_addition parts.code.coded.log addition) parts.step.steps) belong.of_steps ∙ ap (λ k. question_variables net (with_addition parts.code.coded.log addition) k) time
       ∙ ap (λ l. question_variables net l n) (sym codes) ∙ sym (nameless_variables net new n) in
       omega (arith, all, is)
 
-  pub draft_fits : question_variables parts.step.net (with_addition parts.code.code.log addition) parts.step.steps ≤ VAR_LIMIT → parts.vars + addition_width parts.code.code addition ≤ VAR_LIMIT
+  pub draft_fits : question_variables parts.step.net (with_addition parts.code.coded.log addition) parts.step.steps ≤ VAR_LIMIT → parts.vars + addition_width parts.code.coded addition ≤ VAR_LIMIT
   draft_fits fits =
-      let width = width_fits parts.step parts.code.code parts.counter parts.vars axioms coded.bounded addition coded.together.beside.net (ap (λ (grid : Grid). grid.steps) coded.together.beside.grid) fits in
+      let width = width_fits parts.step parts.code.coded parts.counter parts.vars axioms coded.bounded addition coded.together.beside.net (ap (λ (grid : Grid). grid.steps) coded.together.beside.grid) fits in
       omega (arith, width)
 
 -- ---- what is kept with it
@@ -102,11 +102,11 @@ pub adds_none : (net : Net) (n : ℕ) (log : Log) (old new : List BookEntry) →
 adds_none net n log old new same = record { axioms = []; more = same ∙ sym (append-nil old); few = omega arith }
 
 module _ {R : Type 0} (net : Net) (n : ℕ) (log new : Log) (old mid now : Parts R) (old_book mid_book now_book : List BookEntry) (belong : BelongTo net log old) (time : old.step.steps ≡ n) (room : KeepsAllButRoom old mid old_book mid_book) where
-  module _ (draft : DraftState) (joined : HasAddition draft.addition mid now mid_book now_book) (beside : AreParts now.step now.code.code now.counter now.vars (axioms_of now_book)) (codes : Codes old.code.code.log draft.addition new) where
+  module _ (draft : DraftState) (joined : HasAddition draft.addition mid now mid_book now_book) (beside : AreParts now.step now.code.coded now.counter now.vars (axioms_of now_book)) (codes : Codes old.code.coded.log draft.addition new) where
     same_steps : now.step ≡ mid.step
     same_steps = ap (λ (q : BuiltQuestion). q.steps) joined.built
 
-    longer_code : now.code.code ≡ code_after mid.code.code draft.addition mid.vars
+    longer_code : now.code.coded ≡ code_after mid.code.coded draft.addition mid.vars
     longer_code = ap (λ (q : BuiltQuestion). q.code) joined.built
 
     pub belong_with : BelongTo net new now
@@ -120,14 +120,14 @@ module _ {R : Type 0} (net : Net) (n : ℕ) (log new : Log) (old mid now : Parts
     time_with = ap (λ (s : CodedSteps). s.steps) (same_steps ∙ room.step) ∙ time
 
     -- few axioms are added, by the sizes of the logs with names
-    pub few_with : AddsFew mid.code.code.net mid.code.code.grid.steps mid.code.code.log now.code.code.log mid_book now_book → AreParts old.step old.code.code old.counter old.vars (axioms_of old_book) → AddsFew net n log new old_book now_book
+    pub few_with : AddsFew mid.code.coded.net mid.code.coded.grid.steps mid.code.coded.log now.code.coded.log mid_book now_book → AreParts old.step old.code.coded old.counter old.vars (axioms_of old_book) → AddsFew net n log new old_book now_book
     few_with few coded =
-        let of_net : mid.code.code.net ≡ net = ap (λ (k : CodedLog). k.net) room.code ∙ coded.together.beside.net ∙ belong.of_steps in
-        let of_time : mid.code.code.grid.steps ≡ n = ap (λ (k : CodedLog). k.grid.steps) room.code ∙ ap (λ (grid : Grid). grid.steps) coded.together.beside.grid ∙ time in
-        let before : mid.code.code.log ≡ without_names log = ap (λ (k : CodedLog). k.log) room.code ∙ belong.same_log in
-        let after : now.code.code.log ≡ without_names new = ap (λ (k : CodedLog). k.log) longer_code ∙ ap (λ (k : CodedLog). with_addition k.log draft.addition) room.code ∙ sym codes in
-        let size_before = sized mid.code.code.net mid.code.code.grid.steps mid.code.code.log log of_net of_time before in
-        let size_after = sized mid.code.code.net mid.code.code.grid.steps now.code.code.log new of_net of_time after in
+        let of_net : mid.code.coded.net ≡ net = ap (λ (k : CodedLog). k.net) room.code ∙ coded.together.beside.net ∙ belong.of_steps in
+        let of_time : mid.code.coded.grid.steps ≡ n = ap (λ (k : CodedLog). k.grid.steps) room.code ∙ ap (λ (grid : Grid). grid.steps) coded.together.beside.grid ∙ time in
+        let before : mid.code.coded.log ≡ without_names log = ap (λ (k : CodedLog). k.log) room.code ∙ belong.same_log in
+        let after : now.code.coded.log ≡ without_names new = ap (λ (k : CodedLog). k.log) longer_code ∙ ap (λ (k : CodedLog). with_addition k.log draft.addition) room.code ∙ sym codes in
+        let size_before = sized mid.code.coded.net mid.code.coded.grid.steps mid.code.coded.log log of_net of_time before in
+        let size_after = sized mid.code.coded.net mid.code.coded.grid.steps now.code.coded.log new of_net of_time after in
         let most = few.few in
         record { axioms = few.axioms; more = few.more ∙ ap (λ b. b ++ map axiomatic few.axioms) room.book; few = omega (arith, most, size_before, size_after) }
       where
@@ -136,7 +136,7 @@ module _ {R : Type 0} (net : Net) (n : ℕ) (log new : Log) (old mid now : Parts
             ap (λ (x : Net). question_size x coded_log k) one ∙ ap (λ x. question_size net coded_log x) two ∙ ap (λ l. question_size net l n) three ∙ sym (nameless_size net named n)
 
   -- room alone leaves all as it was
-  pub belong_roomy : AreParts mid.step mid.code.code mid.counter mid.vars (axioms_of mid_book) → BelongTo net log mid
+  pub belong_roomy : AreParts mid.step mid.code.coded mid.counter mid.vars (axioms_of mid_book) → BelongTo net log mid
   belong_roomy coded = record {
     of_steps = ap (λ (s : CodedSteps). s.net) room.step ∙ belong.of_steps;
     beside = coded.together.beside;

@@ -23,19 +23,19 @@ use Rattle.run_decode.proofs.Nameless.{nameless_doubtful}
 
 module _ {R : Type 0} (net : Net) (n : ℕ) (kept : Kept R) (is : IsKept net n kept) where
   -- the clauses of the steps and of the log, by the network and the log with its names
-  coded_is : coded_clauses kept.parts.step.net kept.parts.code.code.log kept.parts.step.steps ≡ coded_clauses net kept.log n
+  coded_is : coded_clauses kept.parts.step.net kept.parts.code.coded.log kept.parts.step.steps ≡ coded_clauses net kept.log n
   coded_is =
-      ap (λ (m : Net). coded_clauses m kept.parts.code.code.log kept.parts.step.steps) is.of_log.belong.of_steps
-      ∙ ap (λ k. coded_clauses net kept.parts.code.code.log k) is.of_log.time
+      ap (λ (m : Net). coded_clauses m kept.parts.code.coded.log kept.parts.step.steps) is.of_log.belong.of_steps
+      ∙ ap (λ k. coded_clauses net kept.parts.code.coded.log k) is.of_log.time
       ∙ ap (λ l. coded_clauses net l n) is.of_log.belong.same_log
       ∙ ap (λ k. 12 * (n * (component_sizes net + k + length kept.log.pairs) + (component_sizes net + length (without_names kept.log).alarms + length kept.log.pairs))) (sym (nameless_sizes net kept.log))
       ∙ ap (λ k. 12 * (n * (component_sizes net + alarm_sizes net kept.log + length kept.log.pairs) + (component_sizes net + k + length kept.log.pairs))) (count_same kept.log)
 
   inputs_are : length kept.parts.counter.inputs ≡ fault_event_count net * n + doubtful_count kept.log
   inputs_are =
-      inputs_are_counted kept.parts.step kept.parts.code.code kept.parts.counter.inputs is.coded.together.inputs
-      ∙ ap (λ (m : Net). fault_event_count m * kept.parts.step.steps + doubtful_count kept.parts.code.code.log) is.of_log.belong.of_steps
-      ∙ ap (λ k. fault_event_count net * k + doubtful_count kept.parts.code.code.log) is.of_log.time
+      inputs_are_counted kept.parts.step kept.parts.code.coded kept.parts.counter.inputs is.coded.together.inputs
+      ∙ ap (λ (m : Net). fault_event_count m * kept.parts.step.steps + doubtful_count kept.parts.code.coded.log) is.of_log.belong.of_steps
+      ∙ ap (λ k. fault_event_count net * k + doubtful_count kept.parts.code.coded.log) is.of_log.time
       ∙ ap (λ l. fault_event_count net * n + doubtful_count l) is.of_log.belong.same_log
       ∙ ap (λ k. fault_event_count net * n + k) (sym (nameless_doubtful kept.log))
 
@@ -51,12 +51,12 @@ module _ {R : Type 0} (net : Net) (n : ℕ) (kept : Kept R) (is : IsKept net n k
       turn : (f k d : ℕ) → 256 * (f * k + d) ≡ 256 * k * f + 256 * d
       turn f k d = grind arith
 
-  pub book_poses : IsNetwork net → IsValidLog kept.log → (guards : List Lit) → ReadsAs (read_meanings kept.parts.code.code) guards (guard_literals kept.parts.code.code.net kept.parts.code.code.log) → Poses net kept.log n kept.book.entries
+  pub book_poses : IsNetwork net → IsValidLog kept.log → (guards : List Lit) → ReadsAs (read_meanings kept.parts.code.coded) guards (guard_literals kept.parts.code.coded.net kept.parts.code.coded.log) → Poses net kept.log n kept.book.entries
   book_poses network valid guards read = record {
     names = meanings_of_parts kept.parts;
     assumed = guards;
     posed = subst (λ k. IsPosed (meanings_of_parts kept.parts) (axioms_of kept.book.entries) guards net kept.log k None) is.of_log.time
         (subst (λ (m : Net). IsPosed (meanings_of_parts kept.parts) (axioms_of kept.book.entries) guards m kept.log kept.parts.step.steps None) is.of_log.belong.of_steps
-        (poses kept.parts.step kept.parts.code.code kept.parts.counter kept.parts.vars (axioms_of kept.book.entries) None guards is.coded (record { guards = guards; read = read; whole = sym (append-nil guards); column = tt })
+        (poses kept.parts.step kept.parts.code.coded kept.parts.counter kept.parts.vars (axioms_of kept.book.entries) None guards is.coded (record { guards = guards; read = read; whole = sym (append-nil guards); column = tt })
         kept.log (subst IsNetwork (sym is.of_log.belong.of_steps) network) valid is.of_log.belong.same_log));
   }

@@ -58,7 +58,7 @@ pub record IsFor {R : Type 0} (net : Net) (n : ℕ) (kept : Kept R) : Type 0 whe
 -- The parts are those of the log, and their clauses are the axioms of the book, in which all variables of its clauses occur; the solver has adopted these clauses.
 pub record IsKept {R : Type 0} (net : Net) (n : ℕ) (kept : Kept R) : Type 0 where
   pub of_log : IsFor net n kept
-  pub coded : AreParts kept.parts.step kept.parts.code.code kept.parts.counter kept.parts.vars (axioms_of kept.book.entries)
+  pub coded : AreParts kept.parts.step kept.parts.code.coded kept.parts.counter kept.parts.vars (axioms_of kept.book.entries)
   pub known : HasAxiomVars kept.book.entries
   pub adopted_all : kept.parts.solver.adopted ≡ clauses_of kept.book.entries
   pub enough : kept.parts.vars ≤ kept.parts.solver.vars
@@ -70,8 +70,8 @@ pub record IsRankedKept {R : Type 0} (may : R → ℕ → Type 0) (gives : R →
 
 -- An addition is drafted that makes this log, of this size, which is within the limits.
 pub record IsDraftedFor {R : Type 0} (net : Net) (n : ℕ) (kept : Kept R) (addition : Addition) (new : Log) (drafted : Drafted) : Type 0 where
-  pub draft : IsDraftOf kept.parts.code.code addition kept.parts.vars drafted.draft
-  pub fits : question_variables kept.parts.step.net (with_addition kept.parts.code.code.log addition) kept.parts.step.steps ≤ VAR_LIMIT
+  pub draft : IsDraftOf kept.parts.code.coded addition kept.parts.vars drafted.draft
+  pub fits : question_variables kept.parts.step.net (with_addition kept.parts.code.coded.log addition) kept.parts.step.steps ≤ VAR_LIMIT
   pub size : drafted.size ≡ question_size net new n
   pub limits : IsWithinLimits net new n
 

@@ -61,7 +61,7 @@ fn draft_alarm<R: Fn(u32) -> u64>(
     kept: &Kept<R>,
 ) -> Result<Drafted, SessionRefusal>
     requires of_log { IsFor setting.net.now setting.steps kept.now }
-    requires coded { AreParts kept.now.parts.step kept.now.parts.code.code kept.now.parts.counter kept.now.parts.vars (axioms_of kept.now.book.entries) }
+    requires coded { AreParts kept.now.parts.step kept.now.parts.code.coded kept.now.parts.counter kept.now.parts.vars (axioms_of kept.now.book.entries) }
     ensures refused { Answers result (refusal_of_alarm setting.entry.net.now setting.entry.steps kept.now.log id.now labels.now doubtful) }
     ensures drafted { IfOk result (IsDraftedFor setting.entry.net.now setting.entry.steps kept.now (alarm_addition labels.now doubtful) (with_alarm kept.now.log id.now labels.now doubtful)) }
 {
@@ -202,7 +202,7 @@ fn draft_pair<R: Fn(u32) -> u64>(
     kept: &Kept<R>,
 ) -> Result<Drafted, SessionRefusal>
     requires of_log { IsFor setting.net.now setting.steps kept.now }
-    requires coded { AreParts kept.now.parts.step kept.now.parts.code.code kept.now.parts.counter kept.now.parts.vars (axioms_of kept.now.book.entries) }
+    requires coded { AreParts kept.now.parts.step kept.now.parts.code.coded kept.now.parts.counter kept.now.parts.vars (axioms_of kept.now.book.entries) }
     requires accepted { refusal_of_pair kept.now.log (Some (first, second)) ≡ None }
     requires new { has_pair kept.now.log.pairs first second ≡ false }
     ensures refused { Answers result (refusal_with (refusal_of_pair kept.now.log (Some (first, second))) (question_size setting.entry.net.now (log_with kept.now.log (Some (first, second))) setting.entry.steps)) }

@@ -35,11 +35,11 @@ use Rattle.cost_least.specs.declared.asking.Asked.TheVariants.{Refuted, Spent}
 -- ---- by the parts as they were
 
 pub asked_back : {R : Type 0} (net : Net) (cost : ℕ → ℕ) (log : Log) (old new : Parts R) (scale : Scale) (bound : Option ℕ) (book then : List BookEntry) (before after : ℕ) (given asked : Asked) → KeepsCode old new → given ≡ asked →
-    HasAskedCost (asked_of net cost log new) new.code.code scale bound book then before after given → HasAskedCost (asked_of net cost log old) old.code.code scale bound book then before after asked
+    HasAskedCost (asked_of net cost log new) new.code.coded scale bound book then before after given → HasAskedCost (asked_of net cost log old) old.code.coded scale bound book then before after asked
 asked_back net cost log old new scale bound book then before after given asked keeps is has =
-    subst (λ (s : CodedSteps). HasAskedCost (record { net = net; cost = cost; log = log; steps = s.steps }) old.code.code scale bound book then before after asked) keeps.step
-    (subst (λ (c : LogCodeState). HasAskedCost (asked_of net cost log new) c.code scale bound book then before after asked) keeps.code
-    (subst (HasAskedCost (asked_of net cost log new) new.code.code scale bound book then before after) is has))
+    subst (λ (s : CodedSteps). HasAskedCost (record { net = net; cost = cost; log = log; steps = s.steps }) old.code.coded scale bound book then before after asked) keeps.step
+    (subst (λ (c : LogCodeState). HasAskedCost (asked_of net cost log new) c.coded scale bound book then before after asked) keeps.code
+    (subst (HasAskedCost (asked_of net cost log new) new.code.coded scale bound book then before after) is has))
 
 pub priced_still : {R : Type 0} (net : Net) (cost : ℕ → ℕ) (log : Log) (old new : Parts R) (priced : Priced) → KeepsCode old new → IsPriced (asked_of net cost log old) priced → IsPriced (asked_of net cost log new) priced
 priced_still net cost log old new priced keeps = subst (λ (s : CodedSteps). IsPriced (record { net = net; cost = cost; log = log; steps = s.steps }) priced) (sym keeps.step)
@@ -47,10 +47,10 @@ priced_still net cost log old new priced keeps = subst (λ (s : CodedSteps). IsP
 pub found_still : {R : Type 0} (net : Net) (cost : ℕ → ℕ) (log : Log) (old new : Parts R) (budget : ℕ) (book then : List BookEntry) (cheap : Cheap) → KeepsCode old new → HasFoundCost (asked_of net cost log old) budget book then cheap → HasFoundCost (asked_of net cost log new) budget book then cheap
 found_still net cost log old new budget book then cheap keeps = subst (λ (s : CodedSteps). HasFoundCost (record { net = net; cost = cost; log = log; steps = s.steps }) budget book then cheap) (sym keeps.step)
 
-pub coded_back : {R : Type 0} (cost : ℕ → ℕ) (old new : Parts R) (axioms : List Clause) (scale : Scale) → KeepsCode old new → AreWeighedParts cost new.step new.code.code new.counter new.vars axioms scale → AreWeighedParts cost old.step old.code.code new.counter new.vars axioms scale
+pub coded_back : {R : Type 0} (cost : ℕ → ℕ) (old new : Parts R) (axioms : List Clause) (scale : Scale) → KeepsCode old new → AreWeighedParts cost new.step new.code.coded new.counter new.vars axioms scale → AreWeighedParts cost old.step old.code.coded new.counter new.vars axioms scale
 coded_back cost old new axioms scale keeps coded =
-    subst (λ (s : CodedSteps). AreWeighedParts cost s old.code.code new.counter new.vars axioms scale) keeps.step
-    (subst (λ (c : LogCodeState). AreWeighedParts cost new.step c.code new.counter new.vars axioms scale) keeps.code coded)
+    subst (λ (s : CodedSteps). AreWeighedParts cost s old.code.coded new.counter new.vars axioms scale) keeps.step
+    (subst (λ (c : LogCodeState). AreWeighedParts cost new.step c.coded new.counter new.vars axioms scale) keeps.code coded)
 
 -- ---- without a bound
 

@@ -61,7 +61,7 @@ adds_pushed book mid entries clauses same pushed = record { axioms = clauses; mo
 pub weighed_after : {R : Type 0} (may : R → ℕ → Type 0) (gives : R → ℕ → ℕ → Type 0) (cost : ℕ → ℕ) (parts : Parts R) (scale : Scale) (solver : SolverState R) (before after : ℕ) (mid new : List BookEntry) → AreWeighed may gives cost parts scale mid →
     IsSearched mid new before after → solver.adopted ≡ clauses_of new → solver.vars ≡ parts.solver.vars → KeepsRanks parts.solver.order solver.order → AreWeighed may gives cost (record parts { solver = solver }) scale new
 weighed_after may gives cost parts scale solver before after mid new weighed searched all same same_ranks = record {
-  coded = subst (λ (axioms : List Clause). AreWeighedParts cost parts.step parts.code.code parts.counter parts.vars axioms scale) (sym (ap axioms_of searched.whole ∙ same_axioms mid searched.since searched.derived)) weighed.coded;
+  coded = subst (λ (axioms : List Clause). AreWeighedParts cost parts.step parts.code.coded parts.counter parts.vars axioms scale) (sym (ap axioms_of searched.whole ∙ same_axioms mid searched.since searched.derived)) weighed.coded;
   known = searched.known weighed.known;
   adopted_all = all;
   enough = subst (λ (v : ℕ). parts.vars ≤ v) (sym same) weighed.enough;
@@ -98,5 +98,5 @@ keeps_both old mid new one two = record { step = two.step ∙ one.step; code = t
 
 pub belongs_still : {R : Type 0} (net : Net) (log : Log) (old new : Parts R) → KeepsCode old new → BelongTo net log old → BelongTo net log new
 belongs_still net log old new keeps belong =
-    subst (λ (s : CodedSteps). BelongTogether net log s new.code.code) (sym keeps.step)
-    (subst (λ (c : LogCodeState). BelongTogether net log old.step c.code) (sym keeps.code) belong)
+    subst (λ (s : CodedSteps). BelongTogether net log s new.code.coded) (sym keeps.step)
+    (subst (λ (c : LogCodeState). BelongTogether net log old.step c.coded) (sym keeps.code) belong)

@@ -43,7 +43,7 @@ StayWeighed may gives old new scale old_book new_book = (cost : ℕ → ℕ) →
 
 -- it is what the true inputs weigh, whatever inputs the parts have with these costs
 abbrev pub IsTotalOf : {R : Type 0} → (ℕ → ℕ) → Parts R → ℕ → Type 0
-IsTotalOf cost parts total = (inputs : List Weighted) → AreWeightedInputs parts.step parts.code.code cost inputs → total ≡ weight_true (value_in parts.solver.assignment) inputs
+IsTotalOf cost parts total = (inputs : List Weighted) → AreWeightedInputs parts.step parts.code.coded cost inputs → total ≡ weight_true (value_in parts.solver.assignment) inputs
 
 -- each final entry refutes a total below lo
 abbrev pub FinalsAreBelowTotal : CodedLog → Scale → ℕ → List BookEntry → Type 0
@@ -79,7 +79,7 @@ pub record HasAnsweredCosts {R C : Type 0} (answers : C → ℕ → ℕ → Type
   pub answered : GivesCosts answers stored net cost
   pub means : IsCostAnswered (asked_of net cost log parts) budget old new cheap
   pub scale : Scale
-  pub weighed : AreWeighedParts cost parts.step parts.code.code parts.counter parts.vars (axioms_of new) scale
+  pub weighed : AreWeighedParts cost parts.step parts.code.coded parts.counter parts.vars (axioms_of new) scale
 
 -- ---- what a refutation decides
 

@@ -74,7 +74,7 @@ pub record AreWeighedParts (cost : ℕ → ℕ) (steps : CodedSteps) (code : Cod
 
 -- So they are with a book: its axioms are those, in which all variables of its clauses occur, the solver has adopted all its clauses, and has their variables at least. The stored ranks are what was answered.
 pub record AreWeighed {R : Type 0} (may : R → ℕ → Type 0) (gives : R → ℕ → ℕ → Type 0) (cost : ℕ → ℕ) (parts : Parts R) (scale : Scale) (book : List BookEntry) : Type 0 where
-  pub coded : AreWeighedParts cost parts.step parts.code.code parts.counter parts.vars (axioms_of book) scale
+  pub coded : AreWeighedParts cost parts.step parts.code.coded parts.counter parts.vars (axioms_of book) scale
   pub known : HasAxiomVars book
   pub adopted_all : parts.solver.adopted ≡ clauses_of book
   pub enough : parts.vars ≤ parts.solver.vars

@@ -53,7 +53,7 @@ pub fn ask<C: Fn(u32) -> u32, R: Fn(u32) -> u64>(
     ensures kept { KeepsCode parts.old parts.new }
     ensures searching { IsSearching book.old.entries book.new.entries budget.old budget.new }
     ensures given { IfOk result (λ asked. (cost : ℕ → ℕ) → GivesCosts C.post costs.now.cost question.entry.net.now cost → IsGiven (asked_of question.entry.net.now cost question.entry.log.now parts.new) asked) }
-    ensures asked { IfOk result (λ asked. (cost : ℕ → ℕ) → GivesCosts C.post costs.now.cost question.entry.net.now cost → AreWeighed R.pre R.post cost parts.old question.entry.scale book.old.entries → HasAskedCost (asked_of question.entry.net.now cost question.entry.log.now parts.new) parts.new.code.code question.entry.scale within book.old.entries book.new.entries budget.old budget.new asked) }
+    ensures asked { IfOk result (λ asked. (cost : ℕ → ℕ) → GivesCosts C.post costs.now.cost question.entry.net.now cost → AreWeighed R.pre R.post cost parts.old question.entry.scale book.old.entries → HasAskedCost (asked_of question.entry.net.now cost question.entry.log.now parts.new) parts.new.code.coded question.entry.scale within book.old.entries book.new.entries budget.old budget.new asked) }
 {
     question.net.is_built();
     question.log.is_whole();
@@ -76,7 +76,7 @@ fn assumptions(
 ) -> Result<Vec<Lit>, Memory>
     requires bound { IfSome within (MayBound question.scale) }
     requires within { IsWithinVars question.scale }
-    ensures { IfOk result (λ assumed. assumed.items ≡ assumed_at code.now.code question.entry.scale within) }
+    ensures { IfOk result (λ assumed. assumed.items ≡ assumed_at code.now.coded question.entry.scale within) }
 {
     let mut assumed = Vec::new(question.alloc);
     let guards = code.guards();
@@ -110,8 +110,8 @@ fn found_run<C: Fn(u32) -> u32, R: Fn(u32) -> u64>(
     requires net { costs.now.net ≡ question.net.now }
     requires belong { BelongTo question.net.now question.log.now parts.now }
     requires steps { parts.now.step.steps ≤ MOST_STEPS }
-    requires values { parts.now.code.code.vars ≤ parts.now.solver.vars }
-    requires true_there { IsTrueRun parts.now.step parts.now.code.code (value_in parts.now.solver.assignment) }
+    requires values { parts.now.code.coded.vars ≤ parts.now.solver.vars }
+    requires true_there { IsTrueRun parts.now.step parts.now.code.coded (value_in parts.now.solver.assignment) }
     ensures given { IfOk result (λ priced. (cost : ℕ → ℕ) → GivesCosts C.post costs.now.cost question.entry.net.now cost → IsPriced (asked_of question.entry.net.now cost question.entry.log.now parts.now) priced) }
     ensures total { IfOk result (λ priced. (cost : ℕ → ℕ) → GivesCosts C.post costs.now.cost question.entry.net.now cost → IsTotalOf cost parts.now priced.cost) }
 {

@@ -21,7 +21,7 @@ pub struct CostQuestion<'a> {
 
 // The guards of the log, in their order, are literals of its names, as the reader of its code tells.
 pub fn has_guards(code: &LogCode)
-    ensures { ReadsAs (read_meanings code.now.code) (log_guards code.now.code) (guard_literals code.now.code.net code.now.code.log) }
+    ensures { ReadsAs (read_meanings code.now.coded) (log_guards code.now.coded) (guard_literals code.now.coded.net code.now.coded.log) }
 {
     let _guards = code.guards();
 }

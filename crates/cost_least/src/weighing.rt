@@ -64,7 +64,7 @@ fn write_scale<R: Fn(u32) -> u64>(
     requires below { AllByRecursion (λ x. x.input.var < parts.old.vars) inputs.now }
     ensures kept { KeepsCode parts.old parts.new }
     ensures axioms { AddsAxioms book.old.entries book.new.entries }
-    ensures weighed { IfOk result (λ scale. (cost : ℕ → ℕ) → AreWeightedInputs parts.old.step parts.old.code.code cost inputs.now → AreWeighed R.pre R.post cost parts.new scale book.new.entries) }
+    ensures weighed { IfOk result (λ scale. (cost : ℕ → ℕ) → AreWeightedInputs parts.old.step parts.old.code.coded cost inputs.now → AreWeighed R.pre R.post cost parts.new scale book.new.entries) }
 {
     let places = inputs.len() * AMOUNTS as usize;
     book.reserve(2 * places, 5 * places)?;
@@ -89,7 +89,7 @@ fn weighted_inputs<C: Fn(u32) -> u32>(
     requires cost { IsCost C.pre C.post costs.now.cost costs.now.net }
     requires net { costs.now.net ≡ net.now }
     requires of_step { step.now.net ≡ net.now }
-    ensures { IfOk result (λ inputs. HasInputs C.post costs.now.cost net.now step.now code.now.code inputs.items) }
+    ensures { IfOk result (λ inputs. HasInputs C.post costs.now.cost net.now step.now code.now.coded inputs.items) }
 {
     let mut inputs = Vec::new(alloc);
     push_faults(net, step.grid(), costs, &mut inputs)?;

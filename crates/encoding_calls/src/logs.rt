@@ -39,7 +39,7 @@ struct Grown {
 // The code of the empty log within one step.
 #[tactic(auto, using(crate::proofs::Widths::first_names_fit))]
 fn begun(rt: &impl Abort, alloc: Global, net: &Network) -> Grown
-    ensures { IsGrown net.now result.steps result.vars result.alarms result.code.code }
+    ensures { IsGrown net.now result.steps result.vars result.alarms result.code.coded }
 {
     let events = net.events();
     assert!(rt; events <= 8);
@@ -65,10 +65,10 @@ fn begun(rt: &impl Abort, alloc: Global, net: &Network) -> Grown
 
 // Makes the addition of a draft.
 fn add(rt: &impl Abort, grown: &mut Grown, draft: Draft)
-    requires made_by { draft.code ≡ grown.old.code.code }
+    requires made_by { draft.code ≡ grown.old.code.coded }
     requires next { draft.first ≡ grown.old.vars }
     requires few { draft.first + draft.vars ≤ VAR_LIMIT }
-    ensures code { grown.new.code.code ≡ code_after grown.old.code.code draft.addition draft.first }
+    ensures code { grown.new.code.coded ≡ code_after grown.old.code.coded draft.addition draft.first }
     ensures vars { grown.new.vars ≡ draft.first + draft.vars }
     ensures alarms { grown.new.alarms ≡ grown.old.alarms }
     ensures steps { grown.new.steps ≡ grown.old.steps }
@@ -86,8 +86,8 @@ fn add(rt: &impl Abort, grown: &mut Grown, draft: Draft)
 // Drafts an alarm with these labels, certain or doubtful, for at most eight events and steps, and on the next variables.
 #[tactic(auto, using(crate::proofs::Widths::alarm_fits))]
 fn alarm_draft(rt: &impl Abort, net: &Network, grown: &Grown, labels: &[Name], maybe: bool) -> Draft
-    requires { IsGrown net.now grown.now.steps grown.now.vars grown.now.alarms grown.now.code.code }
-    ensures drafted { IsDraftOf grown.now.code.code (alarm_added (nameless labels.now maybe)) grown.now.vars result }
+    requires { IsGrown net.now grown.now.steps grown.now.vars grown.now.alarms grown.now.code.coded }
+    ensures drafted { IsDraftOf grown.now.code.coded (alarm_added (nameless labels.now maybe)) grown.now.vars result }
     ensures few { grown.now.vars + result.vars ≤ VAR_LIMIT }
 {
     let first = grown.vars.count();
@@ -102,8 +102,8 @@ fn alarm_draft(rt: &impl Abort, net: &Network, grown: &Grown, labels: &[Name], m
 
 // Adds an alarm with this label.
 fn add_alarm(rt: &impl Abort, net: &Network, grown: &mut Grown, label: Name)
-    requires { IsGrown net.now grown.old.steps grown.old.vars grown.old.alarms grown.old.code.code }
-    ensures { IsGrown net.now grown.new.steps grown.new.vars grown.new.alarms grown.new.code.code }
+    requires { IsGrown net.now grown.old.steps grown.old.vars grown.old.alarms grown.old.code.coded }
+    ensures { IsGrown net.now grown.new.steps grown.new.vars grown.new.alarms grown.new.code.coded }
 {
     assert!(rt; grown.alarms < 8);
     let draft = alarm_draft(rt, net, grown, &[label], false);
@@ -113,8 +113,8 @@ fn add_alarm(rt: &impl Abort, net: &Network, grown: &mut Grown, label: Name)
 
 // Adds a pair.
 fn add_pair(rt: &impl Abort, net: &Network, grown: &mut Grown, first: u32, second: u32)
-    requires { IsGrown net.now grown.old.steps grown.old.vars grown.old.alarms grown.old.code.code }
-    ensures { IsGrown net.now grown.new.steps grown.new.vars grown.new.alarms grown.new.code.code }
+    requires { IsGrown net.now grown.old.steps grown.old.vars grown.old.alarms grown.old.code.coded }
+    ensures { IsGrown net.now grown.new.steps grown.new.vars grown.new.alarms grown.new.code.coded }
 {
     let _ = net;
     assert!(rt; first < grown.alarms && second < grown.alarms);
@@ -139,7 +139,7 @@ fn set_bits(assign: &mut Assignment, vars: u32, bits: u32)
 
 // Whether each event has its own alarm.
 fn are_matched(net: &Network, grown: &Grown, assign: &Assignment) -> bool
-    requires grown { IsGrown net.now grown.now.steps grown.now.vars grown.now.alarms grown.now.code.code }
+    requires grown { IsGrown net.now grown.now.steps grown.now.vars grown.now.alarms grown.now.code.coded }
     requires values { grown.now.vars ≤ length assign.now }
 {
     net.events() == 2
@@ -154,7 +154,7 @@ fn are_matched(net: &Network, grown: &Grown, assign: &Assignment) -> bool
 const MATCHED: u32 = 0b100_1110_0110_0111;
 
 fn is_told(rt: &impl Abort, alloc: Global, net: &Network, grown: &Grown) -> bool
-    requires { IsGrown net.now grown.now.steps grown.now.vars grown.now.alarms grown.now.code.code }
+    requires { IsGrown net.now grown.now.steps grown.now.vars grown.now.alarms grown.now.code.coded }
 {
     let mut assign = Assignment::new(alloc);
     let Ok(()) = assign.grow(grown.code.vars()) else {
@@ -166,7 +166,7 @@ fn is_told(rt: &impl Abort, alloc: Global, net: &Network, grown: &Grown) -> bool
 
 // Whether the last variable is the one by which the second alarm is done within the step.
 fn has_undone(net: &Network, grown: &Grown) -> bool
-    requires { IsGrown net.now grown.now.steps grown.now.vars grown.now.alarms grown.now.code.code }
+    requires { IsGrown net.now grown.now.steps grown.now.vars grown.now.alarms grown.now.code.coded }
 {
     let _ = net;
     if grown.alarms != 2 || grown.steps != 1 {
@@ -190,8 +190,8 @@ fn name(rt: &impl Abort, alloc: Global, text: &[u8]) -> Name {
 
 // Two alarms and a pair.
 fn add_both(rt: &impl Abort, alloc: Global, net: &Network, grown: &mut Grown)
-    requires { IsGrown net.now grown.old.steps grown.old.vars grown.old.alarms grown.old.code.code }
-    ensures { IsGrown net.now grown.new.steps grown.new.vars grown.new.alarms grown.new.code.code }
+    requires { IsGrown net.now grown.old.steps grown.old.vars grown.old.alarms grown.old.code.coded }
+    ensures { IsGrown net.now grown.new.steps grown.new.vars grown.new.alarms grown.new.code.coded }
 {
     add_alarm(rt, net, grown, name(rt, alloc, b"A"));
     add_alarm(rt, net, grown, name(rt, alloc, b"B"));

@@ -168,17 +168,17 @@ fn text_of_faulty(alloc: Global, text: FaultyText) -> Result<String, Memory>
     ensures { IfOk result (λ told. string_bytes told ≡ text_of_faulty text) }
 {
     match text {
-        FaultyText::Model(fault) => placed(alloc, "MODEL", fault.line, fault.code),
-        FaultyText::Log(fault) => placed(alloc, "LOG", fault.row, fault.code),
-        FaultyText::Run(fault) => placed(alloc, "RUN", fault.line, fault.code),
-        FaultyText::Cnf(fault) => placed(alloc, "CNF", fault.line, fault.code),
-        FaultyText::Lrat(fault) => placed(alloc, "LRAT", fault.line, fault.code),
-        FaultyText::Cost(fault) => placed(alloc, "COST", fault.line, fault.code),
+        FaultyText::Model(fault) => line_with_two_numbers(alloc, "MODEL", fault.line, fault.code),
+        FaultyText::Log(fault) => line_with_two_numbers(alloc, "LOG", fault.row, fault.code),
+        FaultyText::Run(fault) => line_with_two_numbers(alloc, "RUN", fault.line, fault.code),
+        FaultyText::Cnf(fault) => line_with_two_numbers(alloc, "CNF", fault.line, fault.code),
+        FaultyText::Lrat(fault) => line_with_two_numbers(alloc, "LRAT", fault.line, fault.code),
+        FaultyText::Cost(fault) => line_with_two_numbers(alloc, "COST", fault.line, fault.code),
     }
 }
 
 // A word, and the line and the code of a fault.
-fn placed(alloc: Global, word: &str, line: u32, code: u8) -> Result<String, Memory>
+fn line_with_two_numbers(alloc: Global, word: &str, line: u32, code: u8) -> Result<String, Memory>
     ensures { IfOk result (λ text. string_bytes text ≡ line_with_two_numbers (word.now ++ 32 ∷ []) line code) }
 {
     Ok(format!(in alloc; "{word} {line} {code}\n")?)

@@ -55,11 +55,11 @@ module _ {R : Type 0} (may : R → ℕ → Type 0) (gives : R → ℕ → ℕ �
   parts_true : AllLiteralsTrue value are.guards × AllLiteralsTrue value are.further
   parts_true = all_split (λ l. IsTrue (literal_true value l)) are.guards are.further (subst (AllLiteralsTrue value) are.whole literals)
 
-  pub assumed_true_run : IsTrueRun parts.step parts.code.code value
-  assumed_true_run = true_run_of parts.step parts.code.code parts.counter are.ready.own (bound_for parts.counter k) are.guards value are.ready.clauses are.within own_true parts_true.0
+  pub assumed_true_run : IsTrueRun parts.step parts.code.coded value
+  assumed_true_run = true_run_of parts.step parts.code.coded parts.counter are.ready.own (bound_for parts.counter k) are.guards value are.ready.clauses are.within own_true parts_true.0
 
   few_faults : true_count value parts.counter.inputs ≤ k
-  few_faults = few_true parts.step parts.code.code parts.counter are.ready.own k (length parts.counter.inputs) are.guards value refl are.ready.beside.coded.together are.ready.clauses are.within own_true parts_true.0
+  few_faults = few_true parts.step parts.code.coded parts.counter are.ready.own k (length parts.counter.inputs) are.guards value refl are.ready.beside.coded.together are.ready.clauses are.within own_true parts_true.0
 
 -- ---- by the answer
 
@@ -118,8 +118,8 @@ module _ (net : Net) (log : Log) (n k e : ℕ) (first : List RunStep) (there : B
 pub asked_possible : {R : Type 0} (may : R → ℕ → Type 0) (gives : R → ℕ → ℕ → Type 0) (parts : Parts R) (net : Net) (log : Log) (k e : ℕ) (first other : List RunStep) (there : Bool) (assumed : List Lit) (old mid new : List BookEntry) (before after : ℕ) → AddsAxioms old mid → IsSearched mid new before after → HasAxiomVars mid →
     IsBestRun net log parts.step.steps k first → there ≡ true ↔ Contains (word_of first) e → HasPosed (axioms_of mid) assumed net log parts.step.steps k e there → AreAssumedOf may gives parts mid k e there assumed → BelongTo net log parts → IsNetwork net → IsValidLog log → e < length net.events →
     (value : ℕ → Bool) → AllClausesTrue value (axioms_of mid) → AllLiteralsTrue value assumed → IsWellMatched net log other → Explains net log parts.step.steps (word_of other) (order_of log other) →
-    ((false_lits : List Lit) → AreFalseLiterals parts.code.code false_lits → faults_of net (word_of other) (order_of log other) ≡ true_count value (fault_literals net (code_grid parts.step) ++ false_lits)) →
-    other ≡ decoded_run net log (truth_of parts.step parts.code.code value) (least_order (length log.alarms) log.pairs) parts.step.steps →
+    ((false_lits : List Lit) → AreFalseLiterals parts.code.coded false_lits → faults_of net (word_of other) (order_of log other) ≡ true_count value (fault_literals net (code_grid parts.step) ++ false_lits)) →
+    other ≡ decoded_run net log (truth_of parts.step parts.code.coded value) (least_order (length log.alarms) log.pairs) parts.step.steps →
     IsVerdictShown net log parts.step.steps k e first before after old new (Possible other)
 asked_possible may gives parts net log k e first other there assumed old mid new before after adds searched known best told has are belong network valid event value axioms literals matched explains faults run =
     let n = parts.step.steps in
@@ -131,7 +131,7 @@ asked_possible may gives parts net log k e first other there assumed old mid new
     with_verdict net log n k e first there assumed old mid new before after adds searched known best told has (Possible other)
     (possible_found (axioms_of new) (clauses_of new) old (map axiomatic adds.axioms ++ searched.since) net log n k e before first other there grid are.made are.further value best told are.about
     (riders_true may gives parts mid k e there assumed are value axioms literals) (parts_true may gives parts mid k e there assumed are value axioms literals).1 refl
-    (run_has net log parts.step parts.code.code value other network valid belong is_true run e event) matched explains (omega (arith, counted, few)))
+    (run_has net log parts.step parts.code.coded value other network valid belong is_true run e event) matched explains (omega (arith, counted, few)))
 
 -- ---- between the marks
 

@@ -50,14 +50,14 @@ asks_by_number steps code counter own k zero guards none together clauses assump
 asks_by_number steps code counter own k (suc m) guards some together clauses assumptions = clauses_ask steps code counter own (Some k) guards together clauses assumptions
 
 asks_beside : {R : Type 0} (may : R → ℕ → Type 0) (gives : R → ℕ → ℕ → Type 0) (parts : Parts R) (book : List BookEntry) (made : List (ℕ × ℕ)) (net : Net) (log : Log) (k : ℕ) (guards : List Lit) → AreReadyWith may gives parts book made → BelongTo net log parts →
-    AreAssumptions parts.code.code parts.counter (bound_for parts.counter k) guards → AsksBeside net log parts.step.steps k (meanings_of_parts parts) (code_grid parts.step) made (axioms_of book) guards
+    AreAssumptions parts.code.coded parts.counter (bound_for parts.counter k) guards → AsksBeside net log parts.step.steps k (meanings_of_parts parts) (code_grid parts.step) made (axioms_of book) guards
 asks_beside may gives parts book made net log k guards ready belong assumptions =
     subst (λ (net' : Net). AsksBeside net' log parts.step.steps k (meanings_of_parts parts) (code_grid parts.step) made (axioms_of book) guards) belong.of_steps (record {
       clauses = ready.own;
       asks = ((alarm_names_dont_matter parts.step.net log parts.step.steps).asks (Some k) (meanings_of_parts parts) ready.own guards).1
           (subst (λ l. Asks parts.step.net l parts.step.steps (Some k) (meanings_of_parts parts) ready.own guards) belong.same_log
-          (asks_by_number parts.step parts.code.code parts.counter ready.own k (length parts.counter.inputs) guards refl ready.beside.coded.together ready.clauses assumptions));
-      gridded = gridded parts.step parts.code.code parts.counter parts.vars ready.beside.coded;
+          (asks_by_number parts.step parts.code.coded parts.counter ready.own k (length parts.counter.inputs) guards refl ready.beside.coded.together ready.clauses assumptions));
+      gridded = gridded parts.step parts.code.coded parts.counter parts.vars ready.beside.coded;
       made_new = ready.made_new;
       both = ready.both;
     })
@@ -102,14 +102,14 @@ pub assumed_known : {R : Type 0} (may : R → ℕ → Type 0) (gives : R → ℕ
 assumed_known may gives parts book net log k e values there assumed are belong known more =
     subst (HasValues values) (sym are.whole) (All-append (λ (l : Lit). l.var < values) are.guards are.further guards (by there are.about))
   where
-    asks : Asks parts.step.net parts.code.code.log parts.step.steps (Some k) (meanings_of_parts parts) are.ready.own are.guards
-    asks = asks_by_number parts.step parts.code.code parts.counter are.ready.own k (length parts.counter.inputs) are.guards refl are.ready.beside.coded.together are.ready.clauses are.within
+    asks : Asks parts.step.net parts.code.coded.log parts.step.steps (Some k) (meanings_of_parts parts) are.ready.own are.guards
+    asks = asks_by_number parts.step parts.code.coded parts.counter are.ready.own k (length parts.counter.inputs) are.guards refl are.ready.beside.coded.together are.ready.clauses are.within
 
     guards : HasValues values are.guards
-    guards = read_below values (meanings_of_parts parts) are.guards asks.assumes.read (λ entry in'. let low = room_names_below parts.step parts.code.code parts.counter parts.vars are.ready.beside.coded entry in' in omega (arith, low, more)) asks.assumes.by_name
+    guards = read_below values (meanings_of_parts parts) are.guards asks.assumes.read (λ entry in'. let low = room_names_below parts.step parts.code.coded parts.counter parts.vars are.ready.beside.coded entry in' in omega (arith, low, more)) asks.assumes.by_name
 
     by : (b : Bool) → IsAbout b are.made (code_grid parts.step) e are.further → HasValues values are.further
-    by true about = subst (HasValues values) (sym (about ∙ none_signed (code_grid parts.step) e)) (signed_below parts.step parts.code.code parts.counter parts.vars values are.ready.beside.coded false e known more)
+    by true about = subst (HasValues values) (sym (about ∙ none_signed (code_grid parts.step) e)) (signed_below parts.step parts.code.coded parts.counter parts.vars values are.ready.beside.coded false e known more)
     by false about =
         let low = all_at (λ (entry : ℕ × ℕ). entry.0 < parts.vars) are.made are.ready.below (about.0, e) about.1 in
         subst (HasValues values) (sym about.2) (All-cons (λ (l : Lit). l.var < values) (positive about.0) [] (omega (arith, low, more)) (All-nil (λ (l : Lit). l.var < values)))

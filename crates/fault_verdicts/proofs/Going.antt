@@ -83,8 +83,8 @@ goes_both one two more old mid new enough first second = record {
 
 pub belong_on : {R : Type 0} (net : Net) (log : Log) (more : ℕ) (old new : Parts R) → KeepsStepsAndLog more old new → BelongTo net log old → BelongTo net log new
 belong_on net log more old new goes belong =
-    subst (λ (s : CodedSteps). BelongTogether net log s new.code.code) (sym goes.step)
-    (subst (λ (c : LogCodeState). BelongTogether net log old.step c.code) (sym goes.code) belong)
+    subst (λ (s : CodedSteps). BelongTogether net log s new.code.coded) (sym goes.step)
+    (subst (λ (c : LogCodeState). BelongTogether net log old.step c.coded) (sym goes.code) belong)
 
 -- ---- the book
 

@@ -18,11 +18,11 @@ none_of : (m k : ℕ) → m ≡ 0 → at_most_of m k ≡ None
 none_of zero k none = refl
 none_of (suc m) k none = absurd (omega (arith, none))
 
-pub guards_bound : (before now : LogCodeState) (counter : CounterState) (k columns : ℕ) (guards : List Lit) (literal : Lit) (assumed : List Lit) → ReadsAs (read_meanings before.code) guards (guard_literals before.code.net before.code.log) → now ≡ before → 0 < length counter.inputs →
-    length counter.columns ≡ max columns (k + 1) → literal ≡ bound_literal counter k → assumed ≡ guards ++ literal ∷ [] → AreAssumptions now.code counter (bound_for counter k) assumed
+pub guards_bound : (before now : LogCodeState) (counter : CounterState) (k columns : ℕ) (guards : List Lit) (literal : Lit) (assumed : List Lit) → ReadsAs (read_meanings before.coded) guards (guard_literals before.coded.net before.coded.log) → now ≡ before → 0 < length counter.inputs →
+    length counter.columns ≡ max columns (k + 1) → literal ≡ bound_literal counter k → assumed ≡ guards ++ literal ∷ [] → AreAssumptions now.coded counter (bound_for counter k) assumed
 guards_bound before now counter k columns guards literal assumed read same some there is whole =
-    subst (λ bound. AreAssumptions now.code counter bound assumed) (sym (some_of (length counter.inputs) k some))
-    (with_bound now.code counter k columns guards literal assumed (subst (λ (c : LogCodeState). ReadsAs (read_meanings c.code) guards (guard_literals c.code.net c.code.log)) (sym same) read) there is whole)
+    subst (λ bound. AreAssumptions now.coded counter bound assumed) (sym (some_of (length counter.inputs) k some))
+    (with_bound now.coded counter k columns guards literal assumed (subst (λ (c : LogCodeState). ReadsAs (read_meanings c.coded) guards (guard_literals c.coded.net c.coded.log)) (sym same) read) there is whole)
 
 pub guards_alone : (code : CodedLog) (counter : CounterState) (k : ℕ) (guards assumed : List Lit) → ReadsAs (read_meanings code) guards (guard_literals code.net code.log) → length counter.inputs ≡ 0 → assumed ≡ guards → AreAssumptions code counter (bound_for counter k) assumed
 guards_alone code counter k guards assumed read none whole =

@@ -189,8 +189,8 @@ ready_at_first may gives parts book net log ready belong size = record {
 
     few_inputs : MOST_COLUMNS * length parts.counter.inputs ≤ MOST_SIZE
     few_inputs =
-        let counted = inputs_are_counted parts.step parts.code.code parts.counter.inputs ready.coded.together.inputs
-        ∙ ap (λ (m : Net). fault_event_count m * parts.step.steps + doubtful_count parts.code.code.log) belong.of_steps
+        let counted = inputs_are_counted parts.step parts.code.coded parts.counter.inputs ready.coded.together.inputs
+        ∙ ap (λ (m : Net). fault_event_count m * parts.step.steps + doubtful_count parts.code.coded.log) belong.of_steps
         ∙ ap (λ l. fault_event_count net * parts.step.steps + doubtful_count l) belong.same_log
         ∙ ap (λ k. fault_event_count net * parts.step.steps + k) (sym (nameless_doubtful log)) in
         let inputs = ap (λ k. 256 * k) counted in
@@ -241,7 +241,7 @@ ready_by_solver may gives parts solver book entries made same ready with' = reco
 -- ---- with a literal more
 
 -- there is room for a variable more
-room_more : {R : Type 0} (may : R → ℕ → Type 0) (gives : R → ℕ → ℕ → Type 0) (parts : Parts R) (book : List BookEntry) (made : List (ℕ × ℕ)) (vars : ℕ) → AreReadyWith may gives parts book made → parts.vars ≤ 1000000000 → vars ≡ parts.vars + 1 → HaveRoom parts.step parts.code.code parts.counter vars
+room_more : {R : Type 0} (may : R → ℕ → Type 0) (gives : R → ℕ → ℕ → Type 0) (parts : Parts R) (book : List BookEntry) (made : List (ℕ × ℕ)) (vars : ℕ) → AreReadyWith may gives parts book made → parts.vars ≤ 1000000000 → vars ≡ parts.vars + 1 → HaveRoom parts.step parts.code.coded parts.counter vars
 room_more may gives parts book made vars with' few is =
     let room = with'.beside.coded in
     let above = room.above in
@@ -270,7 +270,7 @@ ready_with_literal may gives parts solver vars book entries made e with' known f
         let low = all_at (λ (x : ℕ × ℕ). x.0 < parts.vars) made with'.below a in' in
         let last = ap (λ (x : ℕ × ℕ). x.0) (only (parts.vars, e) b there) in
         omega (arith, low, last, same));
-    new = all_append (λ (x : ℕ × ℕ). meaning_of (meanings_of_parts parts) x.0 ≡ None) made ((parts.vars, e) ∷ []) with'.made_new.new (none_above parts.step parts.code.code parts.counter parts.vars with'.beside.coded, tt);
+    new = all_append (λ (x : ℕ × ℕ). meaning_of (meanings_of_parts parts) x.0 ≡ None) made ((parts.vars, e) ∷ []) with'.made_new.new (none_above parts.step parts.code.coded parts.counter parts.vars with'.beside.coded, tt);
     events = all_append (λ (x : ℕ × ℕ). x.1 < length parts.step.net.events) made ((parts.vars, e) ∷ []) with'.made_new.events (known, tt);
     faults = all_append (λ (x : ℕ × ℕ). is_fault parts.step.net x.1 ≡ true) made ((parts.vars, e) ∷ []) with'.made_new.faults (fault, tt);
   };
@@ -292,4 +292,4 @@ ready_with_literal may gives parts solver vars book entries made e with' known f
 pub literal_below : {R : Type 0} (may : R → ℕ → Type 0) (gives : R → ℕ → ℕ → Type 0) (parts : Parts R) (book : List BookEntry) (made : List (ℕ × ℕ)) (e values : ℕ) → AreReadyWith may gives parts book made → e < length parts.step.net.events → parts.vars < values →
     HasValues values (some_step_clause (code_grid parts.step) (parts.vars, e))
 literal_below may gives parts book made e values with' known less =
-    All-cons (λ (l : Lit). l.var < values) (negation (positive parts.vars)) (event_literals (code_grid parts.step) e) less (events_below parts.step parts.code.code parts.counter parts.vars values with'.beside.coded e known (omega (arith, less)))
+    All-cons (λ (l : Lit). l.var < values) (negation (positive parts.vars)) (event_literals (code_grid parts.step) e) less (events_below parts.step parts.code.coded parts.counter parts.vars values with'.beside.coded e known (omega (arith, less)))

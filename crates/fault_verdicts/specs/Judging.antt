@@ -63,7 +63,7 @@ pub record AreAssumedOf {R : Type 0} (may : R → ℕ → Type 0) (gives : R →
   pub made : List (ℕ × ℕ)
   pub ready : AreReadyWith may gives parts book made
   pub guards : List Lit
-  pub within : AreAssumptions parts.code.code parts.counter (bound_for parts.counter k) guards
+  pub within : AreAssumptions parts.code.coded parts.counter (bound_for parts.counter k) guards
   pub further : List Lit
   pub about : IsAbout there made (code_grid parts.step) e further
   pub whole : assumed ≡ guards ++ further

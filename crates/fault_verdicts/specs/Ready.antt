@@ -17,7 +17,7 @@ use Rattle.step_encode.specs.Coded.{code_grid}
 pub record AreReadyWith {R : Type 0} (may : R → ℕ → Type 0) (gives : R → ℕ → ℕ → Type 0) (parts : Parts R) (book : List BookEntry) (made : List (ℕ × ℕ)) : Type 0 where
   pub beside : AreReadyBeside may gives parts book
   pub own : List Clause
-  pub clauses : AreClausesOf parts.step parts.code.code parts.counter own
+  pub clauses : AreClausesOf parts.step parts.code.coded parts.counter own
   pub both : AreBoth (axioms_of book) own (some_step_clauses (code_grid parts.step) made)
   pub made_new : AreMade (meanings_of_parts parts) parts.step.net made
   pub below : AllByRecursion (λ entry. entry.0 < parts.vars) made

@@ -25,7 +25,7 @@ pub fn guards_within<R: Fn(u32) -> u64>(
     ensures ready { (made : List (ℕ × ℕ)) → AreReadyWith R.pre R.post parts.old book.old.entries made → AreReadyWith R.pre R.post parts.new book.new.entries made }
     ensures goes_on { KeepsStepsAndLog 0 parts.old parts.new }
     ensures axioms { AddsAxioms book.old.entries book.new.entries }
-    ensures within { IfOk result (λ assumed. AreAssumptions parts.new.code.code parts.new.counter (bound_for parts.new.counter k) assumed.items) }
+    ensures within { IfOk result (λ assumed. AreAssumptions parts.new.code.coded parts.new.counter (bound_for parts.new.counter k) assumed.items) }
 {
     let mut assumed = Vec::new(alloc);
     assumed.extend_from_slice(parts.code.guards())?;

@@ -166,14 +166,14 @@ module _ {R : Type 0} (may : R → ℕ → Type 0) (gives : R → ℕ → ℕ �
   question_is = (built_still net log n old parts a.keeps a.begun).determined ∙ ap (question_built net log n) columns_are
 
   assumed_is : assumed ≡ question_assumed net log n bound
-  assumed_is = a.assumes.listed ∙ ap (assumed_by parts.code.code parts.counter) counted_is ∙ ap (λ (q : BuiltQuestion). assumed_by q.code q.counter (bound_within net log n bound)) question_is
+  assumed_is = a.assumes.listed ∙ ap (assumed_by parts.code.coded parts.counter) counted_is ∙ ap (λ (q : BuiltQuestion). assumed_by q.code q.counter (bound_within net log n bound)) question_is
 
   posed : IsPosed (meanings_of_parts parts) (axioms_of book) assumed net log n bound
   posed =
       let here = belong_still net log old parts a.keeps a.belong in
       let same = a.counts ∙ ap (λ (inputs : List Lit). if nat_eq (length inputs) 0 then None else bound) (sym a.keeps.counter.inputs) in
-      let assumptions = subst (λ b. AreAssumptions parts.code.code parts.counter b assumed) same a.assumes.assumptions in
-      let by_parts = posed_by parts.step parts.code.code parts.counter parts.vars (axioms_of book) a.ready.coded bound assumed log (subst IsNetwork (sym here.of_steps) a.network) a.valid here.same_log assumptions in
+      let assumptions = subst (λ b. AreAssumptions parts.code.coded parts.counter b assumed) same a.assumes.assumptions in
+      let by_parts = posed_by parts.step parts.code.coded parts.counter parts.vars (axioms_of book) a.ready.coded bound assumed log (subst IsNetwork (sym here.of_steps) a.network) a.valid here.same_log assumptions in
       let of_net = subst (λ net'. IsPosed (meanings_of_parts parts) (axioms_of book) assumed net' log parts.step.steps bound) here.of_steps by_parts in
       subst (λ k. IsPosed (meanings_of_parts parts) (axioms_of book) assumed net log k bound) (ap (λ (s : CodedSteps). s.steps) a.keeps.step ∙ a.steps) of_net
 
@@ -194,10 +194,10 @@ module _ {R : Type 0} (may : R → ℕ → Type 0) (gives : R → ℕ → ℕ �
       all = clauses ∙ ap (λ (lits : List Lit). formula parts.vars (axioms_of book ++ unit_clauses lits)) assumed_is ∙ ap (λ (q : BuiltQuestion). formula q.vars (q.axioms ++ unit_clauses (question_assumed net log n bound))) question_is
 
       assumed_known : HasValues parts.vars assumed
-      assumed_known = assumed_below parts.step parts.code.code parts.counter parts.vars (axioms_of book) (axioms_of book) assumed net log n bound a.ready.coded posed
+      assumed_known = assumed_below parts.step parts.code.coded parts.counter parts.vars (axioms_of book) (axioms_of book) assumed net log n bound a.ready.coded posed
 
       known : All (HasValues f.vars) f.clauses
-      known = subst (λ (x : Formula). All (HasValues x.vars) x.clauses) (sym clauses) (clauses_below parts.vars (axioms_of book) assumed (axioms_below parts.step parts.code.code parts.counter parts.vars (axioms_of book) a.ready.coded) assumed_known)
+      known = subst (λ (x : Formula). All (HasValues x.vars) x.clauses) (sym clauses) (clauses_below parts.vars (axioms_of book) assumed (axioms_below parts.step parts.code.coded parts.counter parts.vars (axioms_of book) a.ready.coded) assumed_known)
 
       exact : IsSatisfiable f.clauses ↔ IsExplainedWithin net log n bound
       exact = subst (λ (x : Formula). IsSatisfiable x.clauses ↔ IsExplainedWithin net log n bound) (sym clauses) (satisfied_where_explained (axioms_of book) assumed net log n bound posed.faithful)

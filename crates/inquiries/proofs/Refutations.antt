@@ -214,8 +214,8 @@ bound_same net log n columns (Some k) less =
     ap (λ (l : Lit). l ∷ []) (literal_same net log n k (columns - (k + 1)) columns (omega (arith, less)))
 
 assumed_same : {R : Type 0} (net : Net) (log : Log) (n : ℕ) (bound : Option ℕ) (parts : Parts R) (book : List BookEntry) (assumed : List Lit) → IsBuilt net log n parts book → HasBoundColumn parts.counter bound →
-    assumed ≡ assumed_by parts.code.code parts.counter (counted_bound parts.counter bound) → assumed ≡ question_assumed net log n bound
-assumed_same net log n bound parts book assumed built column listed = listed ∙ ap (assumed_by parts.code.code parts.counter) counted ∙ all
+    assumed ≡ assumed_by parts.code.coded parts.counter (counted_bound parts.counter bound) → assumed ≡ question_assumed net log n bound
+assumed_same net log n bound parts book assumed built column listed = listed ∙ ap (assumed_by parts.code.coded parts.counter) counted ∙ all
   where
     columns : ℕ
     columns = length parts.counter.columns
@@ -223,7 +223,7 @@ assumed_same net log n bound parts book assumed built column listed = listed ∙
     counter_is : parts.counter ≡ (question_built net log n columns).counter
     counter_is = ap (λ (q : BuiltQuestion). q.counter) built.determined
 
-    code_is : parts.code.code ≡ (question_built net log n columns).code
+    code_is : parts.code.coded ≡ (question_built net log n columns).code
     code_is = ap (λ (q : BuiltQuestion). q.code) built.determined
 
     counted : counted_bound parts.counter bound ≡ bound_within net log n bound
@@ -232,10 +232,10 @@ assumed_same net log n bound parts book assumed built column listed = listed ∙
     there : IfSome (bound_within net log n bound) (λ k. k < columns)
     there = subst (λ (o : Option ℕ). IfSome o (λ k. k < columns)) counted column
 
-    codes : parts.code.code ≡ (question_within net log n bound).code
+    codes : parts.code.coded ≡ (question_within net log n bound).code
     codes = code_is ∙ code_same net log n columns ∙ sym (code_same net log n (columns_for (bound_within net log n bound)))
 
-    all : assumed_by parts.code.code parts.counter (bound_within net log n bound) ≡ question_assumed net log n bound
+    all : assumed_by parts.code.coded parts.counter (bound_within net log n bound) ≡ question_assumed net log n bound
     all =
         ap (λ (c : CodedLog). assumed_by c parts.counter (bound_within net log n bound)) codes
         ∙ ap (λ (c : CounterState). assumed_by (question_within net log n bound).code c (bound_within net log n bound)) counter_is
@@ -289,13 +289,13 @@ module _ {R : Type 0} (may : R → ℕ → Type 0) (gives : R → ℕ → ℕ �
       by o assumed reads true none = tt
       by None assumed reads false some = tt
       by (Some b) assumed reads false some =
-          column_there parts.step parts.code.code parts.counter log b assumed ready.coded.together belong.same_log (grind (arith, nat_tests))
+          column_there parts.step parts.code.coded parts.counter log b assumed ready.coded.together belong.same_log (grind (arith, nat_tests))
           (subst (λ (net' : Net). ReadsAs names assumed (assumption_literals net' log parts.step.steps (Some b))) (sym belong.of_steps) reads)
 
   module _ (assumed : List Lit) (assumes : AreAssumed parts.counter parts (counted_bound parts.counter bound) assumed) (network : IsNetwork net) (valid : IsValidLog log) where
     posed : IsPosed names (axioms_of book) assumed net log parts.step.steps bound
     posed = subst (λ (net' : Net). IsPosed names (axioms_of book) assumed net' log parts.step.steps bound) belong.of_steps
-        (posed_by parts.step parts.code.code parts.counter parts.vars (axioms_of book) ready.coded bound assumed log (subst IsNetwork (sym belong.of_steps) network) valid belong.same_log assumes.assumptions)
+        (posed_by parts.step parts.code.coded parts.counter parts.vars (axioms_of book) ready.coded bound assumed log (subst IsNetwork (sym belong.of_steps) network) valid belong.same_log assumes.assumptions)
 
     -- the split of the book by the final clause of the evidence
     abbrev refuted : HasLastFinal e.since e.evidence.assumed

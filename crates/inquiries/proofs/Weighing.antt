@@ -43,9 +43,9 @@ module _ {R C : Type 0} (may : R → ℕ → Type 0) (gives : R → ℕ → ℕ 
   question : HasCostQuestion net (cost_at table) log parts.step.steps new
   question =
       let of_net = ap (λ (s : CodedSteps). s.net) kept.step ∙ begun.belong.of_steps in
-      let by_costs = same_parts net found.cost (cost_at table) alike later.step later.code.code later.counter later.vars (axioms_of new) found.scale of_net found.weighed in
+      let by_costs = same_parts net found.cost (cost_at table) alike later.step later.code.coded later.counter later.vars (axioms_of new) found.scale of_net found.weighed in
       let step = kept.step ∙ ap (λ (q : BuiltQuestion). q.steps) built in
-      let code = ap (λ (c : _). c.code) kept.code ∙ ap (λ (q : BuiltQuestion). q.code) built in
+      let code = ap (λ (c : _). c.coded) kept.code ∙ ap (λ (q : BuiltQuestion). q.code) built in
       let counter = kept.counter ∙ ap (λ (q : BuiltQuestion). q.counter) built in
       let belong = subst (λ (s : CodedSteps). BelongTogether net log s (question_built net log parts.step.steps 0).code) (ap (λ (q : BuiltQuestion). q.steps) built)
       (subst (λ (d : CodedLog). BelongTogether net log parts.step d) (ap (λ (q : BuiltQuestion). q.code) built) begun.belong) in
@@ -56,7 +56,7 @@ module _ {R C : Type 0} (may : R → ℕ → Type 0) (gives : R → ℕ → ℕ 
         scale = found.scale;
         weighed = subst (λ (s : CodedSteps). AreWeighedParts (cost_at table) s (question_built net log parts.step.steps 0).code (question_built net log parts.step.steps 0).counter later.vars (axioms_of new) found.scale) step
             (subst (λ (d : CodedLog). AreWeighedParts (cost_at table) later.step d (question_built net log parts.step.steps 0).counter later.vars (axioms_of new) found.scale) code
-            (subst (λ (k : CounterState). AreWeighedParts (cost_at table) later.step later.code.code k later.vars (axioms_of new) found.scale) counter by_costs));
+            (subst (λ (k : CounterState). AreWeighedParts (cost_at table) later.step later.code.coded k later.vars (axioms_of new) found.scale) counter by_costs));
       }
 
   pub priced_by : IsValidBook new → IsPricedBy net (cost_at table) log parts.step.steps budget new cheap

@@ -88,7 +88,7 @@ searching_both old mid new before after adds searched known = record {
 pub ready_after : {R : Type 0} (may : R → ℕ → Type 0) (gives : R → ℕ → ℕ → Type 0) (parts : Parts R) (solver : SolverState R) (before after : ℕ) (mid new : List BookEntry) → AreReady may gives parts mid →
     IsSearched mid new before after → solver.adopted ≡ clauses_of new → solver.vars ≡ parts.solver.vars → KeepsRanks parts.solver.order solver.order → AreReady may gives (record parts { solver = solver }) new
 ready_after may gives parts solver before after mid new ready searched all same same_ranks = record {
-  coded = subst (AreParts parts.step parts.code.code parts.counter parts.vars) (sym (ap axioms_of searched.whole ∙ same_axioms mid searched.since searched.derived)) ready.coded;
+  coded = subst (AreParts parts.step parts.code.coded parts.counter parts.vars) (sym (ap axioms_of searched.whole ∙ same_axioms mid searched.since searched.derived)) ready.coded;
   known = searched.known ready.known;
   adopted_all = all;
   enough = subst (λ v. parts.vars ≤ v) (sym same) ready.enough;

@@ -88,24 +88,24 @@ with_bound code counter k columns guards literal assumed read there is whole =
 guards_listed : (code : CodedLog) (guards : List Lit) → IsCodedLog code → named_clause (read_meanings code) guards ≡ Some (guard_literals code.net code.log) → guards ≡ map (literal_by (read_meanings code)) (guard_literals code.net code.log)
 guards_listed code guards whole listed = clause_written (read_meanings code) (beside code whole).once guards (guard_literals code.net code.log) listed
 
-pub assumed_alone : {R : Type 0} (parts : Parts R) (guards assumed : List Lit) → IsCodedLog parts.code.code → named_clause (read_meanings parts.code.code) guards ≡ Some (guard_literals parts.code.code.net parts.code.code.log) → assumed ≡ guards →
+pub assumed_alone : {R : Type 0} (parts : Parts R) (guards assumed : List Lit) → IsCodedLog parts.code.coded → named_clause (read_meanings parts.code.coded) guards ≡ Some (guard_literals parts.code.coded.net parts.code.coded.log) → assumed ≡ guards →
     AreAssumed parts.counter parts None assumed
 assumed_alone parts guards assumed whole listed is = record {
-  listed = is ∙ guards_listed parts.code.code guards whole listed ∙ sym (append-nil (map (literal_by (read_meanings parts.code.code)) (guard_literals parts.code.code.net parts.code.code.log)));
-  assumptions = without_bound parts.code.code parts.counter guards assumed (reads_whole (read_meanings parts.code.code) guards (guard_literals parts.code.code.net parts.code.code.log) listed) is;
+  listed = is ∙ guards_listed parts.code.coded guards whole listed ∙ sym (append-nil (map (literal_by (read_meanings parts.code.coded)) (guard_literals parts.code.coded.net parts.code.coded.log)));
+  assumptions = without_bound parts.code.coded parts.counter guards assumed (reads_whole (read_meanings parts.code.coded) guards (guard_literals parts.code.coded.net parts.code.coded.log) listed) is;
   columns = omega arith;
 }
 
-pub assumed_bound : {R : Type 0} (old new : Parts R) (k : ℕ) (guards : List Lit) (literal : Lit) (assumed : List Lit) → IsCodedLog old.code.code → named_clause (read_meanings old.code.code) guards ≡ Some (guard_literals old.code.code.net old.code.code.log) →
+pub assumed_bound : {R : Type 0} (old new : Parts R) (k : ℕ) (guards : List Lit) (literal : Lit) (assumed : List Lit) → IsCodedLog old.code.coded → named_clause (read_meanings old.code.coded) guards ≡ Some (guard_literals old.code.coded.net old.code.coded.log) →
     new.code ≡ old.code → length new.counter.columns ≡ max (length old.counter.columns) (k + 1) → literal ≡ bound_literal new.counter k → assumed ≡ guards ++ literal ∷ [] → AreAssumed old.counter new (Some k) assumed
 assumed_bound old new k guards literal assumed whole listed same columns literal_is is = record {
-  listed = is ∙ ap (λ (l : Lit). guards ++ l ∷ []) literal_is ∙ ap (λ (gs : List Lit). gs ++ bound_literal new.counter k ∷ []) (guards_listed new.code.code guards (subst (λ (c : LogCodeState). IsCodedLog c.code) (sym same) whole) here);
-  assumptions = with_bound new.code.code new.counter k (length old.counter.columns) guards literal assumed (reads_whole (read_meanings new.code.code) guards (guard_literals new.code.code.net new.code.code.log) here) columns literal_is is;
+  listed = is ∙ ap (λ (l : Lit). guards ++ l ∷ []) literal_is ∙ ap (λ (gs : List Lit). gs ++ bound_literal new.counter k ∷ []) (guards_listed new.code.coded guards (subst (λ (c : LogCodeState). IsCodedLog c.coded) (sym same) whole) here);
+  assumptions = with_bound new.code.coded new.counter k (length old.counter.columns) guards literal assumed (reads_whole (read_meanings new.code.coded) guards (guard_literals new.code.coded.net new.code.coded.log) here) columns literal_is is;
   columns = columns;
 }
   where
-    here : named_clause (read_meanings new.code.code) guards ≡ Some (guard_literals new.code.code.net new.code.code.log)
-    here = subst (λ (c : LogCodeState). named_clause (read_meanings c.code) guards ≡ Some (guard_literals c.code.net c.code.log)) (sym same) listed
+    here : named_clause (read_meanings new.code.coded) guards ≡ Some (guard_literals new.code.coded.net new.code.coded.log)
+    here = subst (λ (c : LogCodeState). named_clause (read_meanings c.coded) guards ≡ Some (guard_literals c.coded.net c.coded.log)) (sym same) listed
 
 -- ---- where the counter gets a column
 

@@ -75,7 +75,7 @@ clauses_by_columns question (suc columns) own room clauses some few =
 
 pub beside : {R : Type 0} (may : R → ℕ → Type 0) (gives : R → ℕ → ℕ → Type 0) (parts : Parts R) (book : List BookEntry) → AreReady may gives parts book → AreReadyBeside may gives parts book
 beside may gives parts book ready = record {
-  coded = room_of parts.step parts.code.code parts.counter parts.vars (axioms_of book) ready.coded;
+  coded = room_of parts.step parts.code.coded parts.counter parts.vars (axioms_of book) ready.coded;
   known = ready.known;
   adopted_all = ready.adopted_all;
   enough = ready.enough;
@@ -97,10 +97,10 @@ alone_still may gives old new book entries some ready keeps alone = record {
 }
 
 -- the axioms that were added are those of the columns, and so join whatever list has the clauses of the parts
-pub clauses_still : {R : Type 0} (old new : Parts R) (book entries : List BookEntry) (own : List Clause) → 0 < length old.counter.inputs → HaveRoom old.step old.code.code old.counter old.vars → length new.counter.columns ≤ MOST_COLUMNS →
-    KeepsQuestion old new book entries → (adds : AddsAxioms book entries) → AreClausesOf old.step old.code.code old.counter own → AreClausesOf new.step new.code.code new.counter (own ++ adds.axioms)
+pub clauses_still : {R : Type 0} (old new : Parts R) (book entries : List BookEntry) (own : List Clause) → 0 < length old.counter.inputs → HaveRoom old.step old.code.coded old.counter old.vars → length new.counter.columns ≤ MOST_COLUMNS →
+    KeepsQuestion old new book entries → (adds : AddsAxioms book entries) → AreClausesOf old.step old.code.coded old.counter own → AreClausesOf new.step new.code.coded new.counter (own ++ adds.axioms)
 clauses_still old new book entries own some room few keeps adds clauses =
-    subst (λ more. AreClausesOf new.step new.code.code new.counter (own ++ more)) (append_cancel_left (axioms_of book) (further_clauses first columns) adds.axioms (sym (axioms_by_columns first columns) ∙ sym (ap (λ (q : BuiltQuestion). q.axioms) keeps.built) ∙ ap axioms_of adds.more ∙ axioms_added book adds.axioms))
+    subst (λ more. AreClausesOf new.step new.code.coded new.counter (own ++ more)) (append_cancel_left (axioms_of book) (further_clauses first columns) adds.axioms (sym (axioms_by_columns first columns) ∙ sym (ap (λ (q : BuiltQuestion). q.axioms) keeps.built) ∙ ap axioms_of adds.more ∙ axioms_added book adds.axioms))
     (subst (λ (q : BuiltQuestion). AreClausesOf q.steps q.code q.counter (own ++ further_clauses first columns)) (sym keeps.built)
     (clauses_by_columns first columns own room clauses some (few_kept old new keeps few)))
   where

@@ -140,7 +140,7 @@ marked_clauses book number = filter_map-append clause_of book (mark number ∷ [
 
 pub marked_ready : {R : Type 0} (may : R → ℕ → Type 0) (gives : R → ℕ → ℕ → Type 0) (parts : Parts R) (number : ℕ) (book new : List BookEntry) → new ≡ book ++ mark number ∷ [] → AreReady may gives parts book → AreReady may gives parts new
 marked_ready may gives parts number book new is ready = record {
-  coded = subst (AreParts parts.step parts.code.code parts.counter parts.vars) (sym (ap axioms_of is ∙ marked_axioms book number)) ready.coded;
+  coded = subst (AreParts parts.step parts.code.coded parts.counter parts.vars) (sym (ap axioms_of is ∙ marked_axioms book number)) ready.coded;
   adopted_all = ready.adopted_all ∙ sym (ap clauses_of is ∙ marked_clauses book number);
   known = known_same book new (ap clauses_of is ∙ marked_clauses book number) (ap axioms_of is ∙ marked_axioms book number) ready.known;
   enough = ready.enough;

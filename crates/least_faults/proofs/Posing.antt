@@ -67,13 +67,13 @@ poses steps code counter vars axioms bound assumed parts assumptions = clauses_p
 
 -- with its guards the parts ask a question without a bound
 pub unbounded : {R : Type 0} (may : R → ℕ → Type 0) (gives : R → ℕ → ℕ → Type 0) (parts : Parts R) (book : List BookEntry) (net : Net) (log : Log) (guards : List Lit) → AreReady may gives parts book → BelongTo net log parts → IsNetwork net → IsValidLog log →
-    ReadsAs (read_meanings parts.code.code) guards (guard_literals parts.code.code.net parts.code.code.log) → IsPosed (meanings_of_parts parts) (axioms_of book) guards net log parts.step.steps None
+    ReadsAs (read_meanings parts.code.coded) guards (guard_literals parts.code.coded.net parts.code.coded.log) → IsPosed (meanings_of_parts parts) (axioms_of book) guards net log parts.step.steps None
 unbounded may gives parts book net log guards ready belong network valid read =
     subst (λ net'. IsPosed (meanings_of_parts parts) (axioms_of book) guards net' log parts.step.steps None) belong.of_steps
-    (poses parts.step parts.code.code parts.counter parts.vars (axioms_of book) None guards ready.coded (record { guards = guards; read = read; whole = sym (append-nil guards); column = tt })
+    (poses parts.step parts.code.coded parts.counter parts.vars (axioms_of book) None guards ready.coded (record { guards = guards; read = read; whole = sym (append-nil guards); column = tt })
     log (subst IsNetwork (sym belong.of_steps) network) valid belong.same_log)
 
 -- they have no more names than network, log and n allow
 pub names_few : {R : Type 0} (may : R → ℕ → Type 0) (gives : R → ℕ → ℕ → Type 0) (parts : Parts R) (book : List BookEntry) (net : Net) (log : Log) → AreReady may gives parts book → BelongTo net log parts → length parts.counter.columns ≤ 256 → length (meanings_of_parts parts) ≤ variable_bound net log parts.step.steps
 names_few may gives parts book net log ready belong few =
-    subst (λ net'. length (meanings_of_parts parts) ≤ variable_bound net' log parts.step.steps) belong.of_steps (together_are_few parts.step parts.code.code parts.counter log ready.coded.together belong.same_log few)
+    subst (λ net'. length (meanings_of_parts parts) ≤ variable_bound net' log parts.step.steps) belong.of_steps (together_are_few parts.step parts.code.coded parts.counter log ready.coded.together belong.same_log few)

@@ -35,12 +35,12 @@ parts_roomy steps code counter vars more axioms parts =
     }
 
 pub ready_roomy : {R : Type 0} (may : R → ℕ → Type 0) (gives : R → ℕ → ℕ → Type 0) (parts : Parts R) (code : LogCodeState) (counter : CounterState) (solver : SolverState R) (more : ℕ) (book entries : List BookEntry) → AreReady may gives parts book →
-    code.code ≡ parts.code.code → counter ≡ with_room parts.counter more → solver.adopted ≡ parts.solver.adopted → parts.solver.vars ≤ solver.vars → (IsRanked may gives parts.solver.order → IsRanked may gives solver.order) → entries ≡ book →
+    code.coded ≡ parts.code.coded → counter ≡ with_room parts.counter more → solver.adopted ≡ parts.solver.adopted → parts.solver.vars ≤ solver.vars → (IsRanked may gives parts.solver.order → IsRanked may gives solver.order) → entries ≡ book →
     AreReady may gives (record parts { code = code; counter = counter; solver = solver }) entries
 ready_roomy may gives parts code counter solver more book entries ready same roomy adopted values ranked kept = record {
   coded = subst (λ (k : CodedLog). AreParts parts.step k counter parts.vars (axioms_of entries)) (sym same)
-      (subst (λ (c : CounterState). AreParts parts.step parts.code.code c parts.vars (axioms_of entries)) (sym roomy)
-      (parts_roomy parts.step parts.code.code parts.counter parts.vars more (axioms_of entries) (subst (λ (b : List BookEntry). AreParts parts.step parts.code.code parts.counter parts.vars (axioms_of b)) (sym kept) ready.coded)));
+      (subst (λ (c : CounterState). AreParts parts.step parts.code.coded c parts.vars (axioms_of entries)) (sym roomy)
+      (parts_roomy parts.step parts.code.coded parts.counter parts.vars more (axioms_of entries) (subst (λ (b : List BookEntry). AreParts parts.step parts.code.coded parts.counter parts.vars (axioms_of b)) (sym kept) ready.coded)));
   known = subst HasAxiomVars (sym kept) ready.known;
   adopted_all = adopted ∙ ready.adopted_all ∙ ap clauses_of (sym kept);
   enough = (let enough = ready.enough in omega (arith, enough, values));
@@ -48,15 +48,15 @@ ready_roomy may gives parts code counter solver more book entries ready same roo
 }
 
 -- what is reserved for a draft, where the parts are as they were but for their room
-pub is_reserved : {R : Type 0} (old new : Parts R) (old_book : List BookEntry) (book : LedgerState) (draft : DraftState) (doubtful : Bool) (clauses : ClauseStore) (cells : ℕ) → IsDraftOf old.code.code draft.addition old.vars draft → doubtful ≡ is_doubted draft.addition →
-    question_variables old.step.net (with_addition old.code.code.log draft.addition) old.step.steps ≤ VAR_LIMIT → cells ≡ input_count doubtful * length old.counter.columns → clauses.clauses ≡ draft.clauses → HasRoom clauses (2 * cells) (5 * cells) →
+pub is_reserved : {R : Type 0} (old new : Parts R) (old_book : List BookEntry) (book : LedgerState) (draft : DraftState) (doubtful : Bool) (clauses : ClauseStore) (cells : ℕ) → IsDraftOf old.code.coded draft.addition old.vars draft → doubtful ≡ is_doubted draft.addition →
+    question_variables old.step.net (with_addition old.code.coded.log draft.addition) old.step.steps ≤ VAR_LIMIT → cells ≡ input_count doubtful * length old.counter.columns → clauses.clauses ≡ draft.clauses → HasRoom clauses (2 * cells) (5 * cells) →
     KeepsAllButRoom old new old_book book.entries → HasRoomForDraft draft doubtful cells new book → IsReserved new book (record { draft = draft; doubtful = doubtful; clauses = clauses })
 is_reserved old new old_book book draft doubtful clauses cells is doubt fits count same store kept room =
     let counted : cells ≡ input_count doubtful * length new.counter.columns = count ∙ ap (λ (columns : List (List ℕ)). input_count doubtful * length columns) (sym kept.counter.columns) in
     record {
-      drafted = subst (λ (k : CodedLog). IsDraftOf k draft.addition new.vars draft) (sym kept.code) (subst (λ (v : ℕ). IsDraftOf old.code.code draft.addition v draft) (sym kept.vars) is);
+      drafted = subst (λ (k : CodedLog). IsDraftOf k draft.addition new.vars draft) (sym kept.code) (subst (λ (v : ℕ). IsDraftOf old.code.coded draft.addition v draft) (sym kept.vars) is);
       doubted = doubt;
-      fits = subst (λ (s : CodedSteps). question_variables s.net (with_addition new.code.code.log draft.addition) s.steps ≤ VAR_LIMIT) (sym kept.step)
+      fits = subst (λ (s : CodedSteps). question_variables s.net (with_addition new.code.coded.log draft.addition) s.steps ≤ VAR_LIMIT) (sym kept.step)
           (subst (λ (k : CodedLog). question_variables old.step.net (with_addition k.log draft.addition) old.step.steps ≤ VAR_LIMIT) (sym kept.code) fits);
       written = same;
       store = subst (λ (k : ℕ). HasRoom clauses (2 * k) (5 * k)) counted store;

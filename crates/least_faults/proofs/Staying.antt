@@ -51,12 +51,12 @@ question_kept parts counter vars solver book entries same count rank axioms = re
   code = refl;
   counter = record { inputs = ap (λ (c : CounterState). c.inputs) same; columns = []; more = ap (λ (c : CounterState). c.columns) same ∙ sym (append-nil parts.counter.columns) };
   rank = rank;
-  built = λ i. record { steps = parts.step; code = parts.code.code; counter = same i; vars = count i; axioms = axioms i };
+  built = λ i. record { steps = parts.step; code = parts.code.coded; counter = same i; vars = count i; axioms = axioms i };
 }
 
 -- what is built with these axioms
 abbrev pub with_axioms : {R : Type 0} → Parts R → List Clause → BuiltQuestion
-with_axioms parts axioms = record { steps = parts.step; code = parts.code.code; counter = parts.counter; vars = parts.vars; axioms = axioms }
+with_axioms parts axioms = record { steps = parts.step; code = parts.code.coded; counter = parts.counter; vars = parts.vars; axioms = axioms }
 
 -- a book that has the same axioms
 pub kept_by_axioms : {R : Type 0} (old new : Parts R) (first book last entries : List BookEntry) → axioms_of first ≡ axioms_of book → axioms_of entries ≡ axioms_of last → KeepsQuestion old new book last → KeepsQuestion old new first entries
@@ -93,8 +93,8 @@ built_same {R} {book} old new keeps wide = built_for old new None keeps wide ∙
 
 pub belong_still : {R : Type 0} {book entries : List BookEntry} (net : Net) (log : Log) (old new : Parts R) → KeepsQuestion old new book entries → BelongTo net log old → BelongTo net log new
 belong_still net log old new keeps belong =
-    subst (λ (s : CodedSteps). BelongTogether net log s new.code.code) (sym keeps.step)
-    (subst (λ (c : LogCodeState). BelongTogether net log old.step c.code) (sym keeps.code) belong)
+    subst (λ (s : CodedSteps). BelongTogether net log s new.code.coded) (sym keeps.step)
+    (subst (λ (c : LogCodeState). BelongTogether net log old.step c.coded) (sym keeps.code) belong)
 
 pub given_still : {R : Type 0} {book entries : List BookEntry} (net : Net) (log : Log) (old new : Parts R) (best : Best) → KeepsQuestion old new book entries → IsExplanation net log old.step.steps best → IsExplanation net log new.step.steps best
 given_still net log old new best keeps = subst (λ (s : CodedSteps). IsExplanation net log s.steps best) (sym keeps.step)
@@ -108,17 +108,17 @@ asked_as parts begun net log bound old new before after answer other is = subst 
 
 -- by the counter alone the parts differ
 come_by_counter : {R : Type 0} {book entries : List BookEntry} (old new : Parts R) (begun : BuiltQuestion) (net : Net) (log : Log) (k : ℕ) (first last : List BookEntry) (budget left : ℕ) → KeepsQuestion old new book entries →
-    HasComeTo old begun net log k first last budget left → HasComeToBy new.code.code old.counter begun net log new.step.steps k first last budget left
+    HasComeTo old begun net log k first last budget left → HasComeToBy new.code.coded old.counter begun net log new.step.steps k first last budget left
 come_by_counter old new begun net log k first last budget left keeps come =
-    subst (λ (s : CodedSteps). HasComeToBy new.code.code old.counter begun net log s.steps k first last budget left) (sym keeps.step)
-    (subst (λ (c : LogCodeState). HasComeToBy c.code old.counter begun net log old.step.steps k first last budget left) (sym keeps.code) come)
+    subst (λ (s : CodedSteps). HasComeToBy new.code.coded old.counter begun net log s.steps k first last budget left) (sym keeps.step)
+    (subst (λ (c : LogCodeState). HasComeToBy c.coded old.counter begun net log old.step.steps k first last budget left) (sym keeps.code) come)
 
 -- a bound is refuted
 pub comes_further : {R : Type 0} (begin old new : Parts R) (net : Net) (log : Log) (k : ℕ) (first mid last : List BookEntry) (budget before after : ℕ) → KeepsQuestion begin old first mid → KeepsQuestion old new mid last →
     length old.counter.columns ≡ max (length begin.counter.columns) k → HasComeTo old (built_of begin first) net log k first mid budget before → HasAsked new (built_of old mid) net log (Some k) mid last before after Refuted →
     HasComeTo new (built_of begin first) net log (suc k) first last budget after
 comes_further begin old new net log k first mid last budget before after kept keeps wide come =
-    come_further new.code.code old.counter new.counter (built_of begin first) (built_of old mid) net log new.step.steps k first mid last budget before after keeps.counter refl refl
+    come_further new.code.coded old.counter new.counter (built_of begin first) (built_of old mid) net log new.step.steps k first mid last budget before after keeps.counter refl refl
     (within_further (built_of begin first) (built_of old mid) (length kept.counter.columns) k kept.built wide)
     (come_by_counter old new (built_of begin first) net log k first mid budget before keeps come)
 
@@ -126,9 +126,9 @@ comes_further begin old new net log k first mid last budget before after kept ke
 pub comes_on : {R : Type 0} {book entries : List BookEntry} (old new : Parts R) (begun now : BuiltQuestion) (net : Net) (log : Log) (k : ℕ) (first mid last : List BookEntry) (budget before after : ℕ) (what : Asked) → KeepsQuestion old new book entries → what ≢ Refuted →
     HasComeTo old begun net log k first mid budget before → HasAsked new now net log (Some k) mid last before after what → HasComeTo new begun net log k first last budget after
 comes_on old new begun now net log k first mid last budget before after what keeps not come =
-    come_on new.code.code old.counter new.counter begun now net log new.step.steps k first mid last budget before after what keeps.counter not (come_by_counter old new begun net log k first mid budget before keeps come)
+    come_on new.code.coded old.counter new.counter begun now net log new.step.steps k first mid last budget before after what keeps.counter not (come_by_counter old new begun net log k first mid budget before keeps come)
 
 -- whatever it comes to, the search is still under way
 pub searching_on : {R : Type 0} (parts : Parts R) (begun : BuiltQuestion) (net : Net) (log : Log) (k : ℕ) (first mid last : List BookEntry) (budget before after : ℕ) → HasComeTo parts begun net log k first mid budget before → IsSearching mid last before after → IsSearching first last budget after
 searching_on parts begun net log k first mid last budget before after come =
-    searching_further first mid last budget before after (searched_so_far parts.code.code parts.counter begun net log parts.step.steps k first mid budget before come)
+    searching_further first mid last budget before after (searched_so_far parts.code.coded parts.counter begun net log parts.step.steps k first mid budget before come)

@@ -54,9 +54,9 @@ cell_count doubtful parts = input_count doubtful * length parts.counter.columns
 
 -- The draft is of the log of these parts, on the next variables, and with it the question keeps the limit of variables. There is room for all that comes with it.
 pub record IsReserved {R : Type 0} (parts : Parts R) (book : LedgerState) (reserved : Reserved) : Type 0 where
-  pub drafted : IsDraftOf parts.code.code reserved.draft.addition parts.vars reserved.draft
+  pub drafted : IsDraftOf parts.code.coded reserved.draft.addition parts.vars reserved.draft
   pub doubted : reserved.doubtful ≡ is_doubted reserved.draft.addition
-  pub fits : question_variables parts.step.net (with_addition parts.code.code.log reserved.draft.addition) parts.step.steps ≤ VAR_LIMIT
+  pub fits : question_variables parts.step.net (with_addition parts.code.coded.log reserved.draft.addition) parts.step.steps ≤ VAR_LIMIT
   pub written : reserved.clauses.clauses ≡ reserved.draft.clauses
   pub store : HasRoom reserved.clauses (2 * cell_count reserved.doubtful parts) (5 * cell_count reserved.doubtful parts)
   pub room : HasRoomForDraft reserved.draft reserved.doubtful (cell_count reserved.doubtful parts) parts book
@@ -64,7 +64,7 @@ pub record IsReserved {R : Type 0} (parts : Parts R) (book : LedgerState) (reser
 -- The question and its book are as they were, and so is what ranks its variables. There is perhaps more room.
 pub record KeepsAllButRoom {R : Type 0} (old new : Parts R) (old_book new_book : List BookEntry) : Type 0 where
   pub step : new.step ≡ old.step
-  pub code : new.code.code ≡ old.code.code
+  pub code : new.code.coded ≡ old.code.coded
   pub counter : AreAlike old.counter new.counter
   pub vars : new.vars ≡ old.vars
   pub rank : new.solver.order.rank ≡ old.solver.order.rank

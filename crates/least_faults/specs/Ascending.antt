@@ -41,7 +41,7 @@ pub record HasComeToBy (code : CodedLog) (counter : CounterState) (first : Built
 
 -- the same of the parts of a question
 abbrev pub HasComeTo : {R : Type 0} → Parts R → BuiltQuestion → Net → Log → ℕ → List BookEntry → List BookEntry → ℕ → ℕ → Type 0
-HasComeTo parts first net log k old new budget_old budget_new = HasComeToBy parts.code.code parts.counter first net log parts.step.steps k old new budget_old budget_new
+HasComeTo parts first net log k old new budget_old budget_new = HasComeToBy parts.code.coded parts.counter first net log parts.step.steps k old new budget_old budget_new
 
 -- The entries that were put show what was found, and no more clauses were learnt than the budget says, each of them fresh. No other clause was derived but final ones, of negated assumptions alone.
 pub record HasFound (names : List (ℕ × Meaning)) (first : BuiltQuestion) (net : Net) (log : Log) (n budget : ℕ) (old new : List BookEntry) (answer : Found) : Type 0 where

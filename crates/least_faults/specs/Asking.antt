@@ -46,8 +46,8 @@ assumed_by code counter bound = map (literal_by (read_meanings code)) (guard_lit
 
 -- What is assumed is this list, and the counter has got the columns that the bound needs.
 pub record AreAssumed {R : Type 0} (before : CounterState) (parts : Parts R) (bound : Option ℕ) (assumed : List Lit) : Type 0 where
-  pub listed : assumed ≡ assumed_by parts.code.code parts.counter bound
-  pub assumptions : AreAssumptions parts.code.code parts.counter bound assumed
+  pub listed : assumed ≡ assumed_by parts.code.coded parts.counter bound
+  pub assumptions : AreAssumptions parts.code.coded parts.counter bound assumed
   pub columns : length parts.counter.columns ≡ max (length before.columns) (columns_for bound)
 
 -- at most k faults can be asked for: there is something to count, and the bound is one of the columns that a counter may have
@@ -64,9 +64,9 @@ Pose steps code counter axioms bound assumed = (log : Log) → IsNetwork steps.n
 pub record IsBoundLiteral {R : Type 0} (before : CounterState) (parts : Parts R) (k : ℕ) (literal : Lit) : Type 0 where
   pub columns : length parts.counter.columns ≡ max (length before.columns) (k + 1)
   pub literal_is : literal ≡ bound_literal parts.counter k
-  pub posed : (own : List Clause) → AreClausesOf parts.step parts.code.code parts.counter own →
-      (guards : List Lit) → ReadsAs (read_meanings parts.code.code) guards (guard_literals parts.code.code.net parts.code.code.log) →
-      Pose parts.step parts.code.code parts.counter own (Some k) (guards ++ literal ∷ [])
+  pub posed : (own : List Clause) → AreClausesOf parts.step parts.code.coded parts.counter own →
+      (guards : List Lit) → ReadsAs (read_meanings parts.code.coded) guards (guard_literals parts.code.coded.net parts.code.coded.log) →
+      Pose parts.step parts.code.coded parts.counter own (Some k) (guards ++ literal ∷ [])
 
 -- ---- what is put down
 
@@ -126,4 +126,4 @@ pub record HasAskedBy (code : CodedLog) (counter : CounterState) (first : BuiltQ
 
 -- the same of the parts of a question
 abbrev pub HasAsked : {R : Type 0} → Parts R → BuiltQuestion → Net → Log → Option ℕ → List BookEntry → List BookEntry → ℕ → ℕ → Asked → Type 0
-HasAsked parts first net log bound old new budget_old budget_new asked = HasAskedBy parts.code.code parts.counter first net log parts.step.steps bound old new budget_old budget_new asked
+HasAsked parts first net log bound old new budget_old budget_new asked = HasAskedBy parts.code.coded parts.counter first net log parts.step.steps bound old new budget_old budget_new asked

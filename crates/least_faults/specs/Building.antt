@@ -44,7 +44,7 @@ parts_with coded solver = record { step = coded.step; code = coded.code; counter
 
 -- what is built: these parts, and these axioms
 abbrev pub built_as : Coded → List Clause → BuiltQuestion
-built_as coded axioms = record { steps = coded.step; code = coded.code.code; counter = coded.counter; vars = coded.vars; axioms = axioms }
+built_as coded axioms = record { steps = coded.step; code = coded.code.coded; counter = coded.counter; vars = coded.vars; axioms = axioms }
 
 -- The parts are those of the book, coded for this network and this log within n steps. The counter has no column, and what ranks is the solver's from before. Parts and axioms are those that network, log and n determine, whatever test and rank are stored. The axioms pose the question without a bound.
 pub record AreBuilt {R : Type 0} (may : R → ℕ → Type 0) (gives : R → ℕ → ℕ → Type 0) (net : Net) (log : Log) (n : ℕ) (solver : SolverState R) (book : List BookEntry) (parts : Parts R) : Type 0 where
@@ -54,4 +54,4 @@ pub record AreBuilt {R : Type 0} (may : R → ℕ → Type 0) (gives : R → ℕ
   pub columns : parts.counter.columns ≡ []
   pub rank : parts.solver.order.rank ≡ solver.order.rank
   pub built : IsBuilt net log n parts book
-  pub posed : (assumed : List Lit) → AreAssumptions parts.code.code parts.counter None assumed → Pose parts.step parts.code.code parts.counter (axioms_of book) None assumed
+  pub posed : (assumed : List Lit) → AreAssumptions parts.code.coded parts.counter None assumed → Pose parts.step parts.code.coded parts.counter (axioms_of book) None assumed

@@ -34,7 +34,7 @@ pub record AreParts (steps : CodedSteps) (code : CodedLog) (counter : CounterSta
 
 -- The parts are those of a book: its axioms are their clauses, in which all variables of its clauses occur, the solver has adopted all its clauses, and has their variables at least. The stored ranks are what was answered (`gives`) by what ranks, which may be asked (`may`).
 pub record AreReady {R : Type 0} (may : R → ℕ → Type 0) (gives : R → ℕ → ℕ → Type 0) (parts : Parts R) (book : List BookEntry) : Type 0 where
-  pub coded : AreParts parts.step parts.code.code parts.counter parts.vars (axioms_of book)
+  pub coded : AreParts parts.step parts.code.coded parts.counter parts.vars (axioms_of book)
   pub known : HasAxiomVars book
   pub adopted_all : parts.solver.adopted ≡ clauses_of book
   pub enough : parts.vars ≤ parts.solver.vars
@@ -52,7 +52,7 @@ pub record HaveRoom (steps : CodedSteps) (code : CodedLog) (counter : CounterSta
 
 -- The parts stand beside a book that may have further axioms: all variables of its clauses occur in axioms, the solver has adopted all its clauses, and has the variables at least.
 pub record AreReadyBeside {R : Type 0} (may : R → ℕ → Type 0) (gives : R → ℕ → ℕ → Type 0) (parts : Parts R) (book : List BookEntry) : Type 0 where
-  pub coded : HaveRoom parts.step parts.code.code parts.counter parts.vars
+  pub coded : HaveRoom parts.step parts.code.coded parts.counter parts.vars
   pub known : HasAxiomVars book
   pub adopted_all : parts.solver.adopted ≡ clauses_of book
   pub enough : parts.vars ≤ parts.solver.vars
@@ -62,11 +62,11 @@ pub record AreReadyBeside {R : Type 0} (may : R → ℕ → Type 0) (gives : R �
 
 -- steps and log are coded for this network and this log
 abbrev pub BelongTo : {R : Type 0} → Net → Log → Parts R → Type 0
-BelongTo net log parts = BelongTogether net log parts.step parts.code.code
+BelongTo net log parts = BelongTogether net log parts.step parts.code.coded
 
 -- what was built: how steps, log and counter are coded, and the axioms
 abbrev pub built_of : {R : Type 0} → Parts R → List BookEntry → BuiltQuestion
-built_of parts book = record { steps = parts.step; code = parts.code.code; counter = parts.counter; vars = parts.vars; axioms = axioms_of book }
+built_of parts book = record { steps = parts.step; code = parts.code.coded; counter = parts.counter; vars = parts.vars; axioms = axioms_of book }
 
 -- All of it is what network, log, n and the number of columns determine, the axioms as a list.
 pub record IsBuilt {R : Type 0} (net : Net) (log : Log) (n : ℕ) (parts : Parts R) (book : List BookEntry) : Type 0 where
@@ -74,4 +74,4 @@ pub record IsBuilt {R : Type 0} (net : Net) (log : Log) (n : ℕ) (parts : Parts
 
 -- the names of all variables
 abbrev pub meanings_of_parts : {R : Type 0} → Parts R → List (ℕ × Meaning)
-meanings_of_parts parts = whole_meanings parts.step parts.code.code parts.counter
+meanings_of_parts parts = whole_meanings parts.step parts.code.coded parts.counter

@@ -41,9 +41,9 @@ pub fn reserve_draft<R: Fn(u32) -> u64>(
     book: &mut Ledger,
 ) -> Result<Reserved, Memory>
     requires ready { AreReady R.pre R.post parts.old book.old.entries }
-    requires drafted { IsDraftOf parts.old.code.code draft.addition parts.old.vars draft }
+    requires drafted { IsDraftOf parts.old.code.coded draft.addition parts.old.vars draft }
     requires doubted { doubtful ≡ is_doubted draft.addition }
-    requires fits { question_variables parts.old.step.net (with_addition parts.old.code.code.log draft.addition) parts.old.step.steps ≤ VAR_LIMIT }
+    requires fits { question_variables parts.old.step.net (with_addition parts.old.code.coded.log draft.addition) parts.old.step.steps ≤ VAR_LIMIT }
     ensures ready { AreReady R.pre R.post parts.new book.new.entries }
     ensures kept { KeepsAllButRoom parts.old parts.new book.old.entries book.new.entries }
     ensures reserved { IfOk result (λ reserved. IsReserved parts.new book.new reserved) }
@@ -130,7 +130,7 @@ pub fn add_draft<R: Fn(u32) -> u64>(reserved: Reserved, parts: &mut Parts<R>, bo
     requires reserved { IsReserved parts.old book.old reserved }
     ensures ready { AreReady R.pre R.post parts.new book.new.entries }
     ensures added { HasAddition reserved.draft.addition parts.old parts.new book.old.entries book.new.entries }
-    ensures few { AddsFew parts.old.code.code.net parts.old.code.code.grid.steps parts.old.code.code.log parts.new.code.code.log book.old.entries book.new.entries }
+    ensures few { AddsFew parts.old.code.coded.net parts.old.code.coded.grid.steps parts.old.code.coded.log parts.new.code.coded.log book.old.entries book.new.entries }
 {
     let Reserved {
         draft,
@@ -158,13 +158,13 @@ fn count_false(
     vars: &mut Vars,
     clauses: &mut Clauses,
 )
-    requires some { 1 ≤ code.now.code.vars }
+    requires some { 1 ≤ code.now.coded.vars }
     requires reserved { input_count doubtful ≤ counter.old.spare_inputs }
     requires within { vars.old + input_count doubtful * length counter.old.columns ≤ VAR_LIMIT }
     requires made { IsMade vars.old counter.old }
-    requires inputs { All (MayCount vars.old counter.old) (new_inputs doubtful code.now.code.vars) }
+    requires inputs { All (MayCount vars.old counter.old) (new_inputs doubtful code.now.coded.vars) }
     requires room { HasRoom clauses.old (2 * (input_count doubtful * length counter.old.columns)) (5 * (input_count doubtful * length counter.old.columns)) }
-    ensures { AddsInputs (new_inputs doubtful code.now.code.vars) counter.old vars.old clauses.old.clauses counter.new vars.new clauses.new.clauses }
+    ensures { AddsInputs (new_inputs doubtful code.now.coded.vars) counter.old vars.old clauses.old.clauses counter.new vars.new clauses.new.clauses }
 {
     if doubtful {
         let dropped = Lit::new(code.vars() - 1, true);

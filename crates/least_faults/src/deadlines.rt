@@ -38,7 +38,7 @@ pub fn advise<R: Fn(u32) -> u64>(
 
 // That the alarms miss their deadlines, where these come before the last step: the last alarm of the log's order first.
 pub fn missed_deadlines(question: Question<'_>, code: &LogCode) -> Result<Vec<Lit>, Memory>
-    requires { length code.now.code.log.alarms ≡ length question.log.now.alarms }
+    requires { length code.now.coded.log.alarms ≡ length question.log.now.alarms }
 {
     let mut order = Vec::new(question.alloc);
     question.log.order(&mut order)?;

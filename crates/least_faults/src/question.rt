@@ -28,7 +28,7 @@ pub fn has_few_columns(counter: &Counter)
 
 // The guards of the log are literals, as the reader of its code tells.
 pub fn has_guards(code: &LogCode)
-    ensures { (guards : List Lit) × ReadsAs (read_meanings code.now.code) guards (guard_literals code.now.code.net code.now.code.log) }
+    ensures { (guards : List Lit) × ReadsAs (read_meanings code.now.coded) guards (guard_literals code.now.coded.net code.now.coded.log) }
 {
     let _guards = code.guards();
 }

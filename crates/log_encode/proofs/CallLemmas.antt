@@ -170,9 +170,9 @@ pub guards_len : (net : Net) (grid : Grid) (asked len : ℕ) (chain_ends slice :
 guards_len net grid asked len chain_ends slice guards is same made count = sym count ∙ ap length (made ∙ ap (guards_of asked) same) ∙ first_guards net grid asked chain_ends is
 
 -- the alarm of a number, and the code that it stands in
-pub found_alarm : (a : Inside) (state : LogCodeState) (i : ℕ) (alarm : AlarmState) → code_view a ≡ state → KeepsLogCode a → i < length state.code.log.alarms → alarm ≡ slice_index_or a.alarms.items i alarm → IsCodedAlarm state.code i alarm × IsCodedLog state.code
+pub found_alarm : (a : Inside) (state : LogCodeState) (i : ℕ) (alarm : AlarmState) → code_view a ≡ state → KeepsLogCode a → i < length state.coded.log.alarms → alarm ≡ slice_index_or a.alarms.items i alarm → IsCodedAlarm state.coded i alarm × IsCodedLog state.coded
 found_alarm a state i alarm view inv known at =
-    subst (λ (s : LogCodeState). i < length s.code.log.alarms → IsCodedAlarm s.code i alarm × IsCodedLog s.code) view
+    subst (λ (s : LogCodeState). i < length s.coded.log.alarms → IsCodedAlarm s.coded i alarm × IsCodedLog s.coded) view
     (λ known. (inv.kept.alarms i alarm (alarm_at_place a.alarms.items i alarm (omega (arith, known, map_count (λ (x : AlarmState). nameless x.labels x.doubtful) a.alarms.items)) ∙ ap (λ x. Some x) (sym at)), inv.kept.log))
     known
 
@@ -280,19 +280,19 @@ find_miss p q m none = find_nothing p q 0 m (λ j high low. none j (omega (arith
 
 -- ---- the draft itself
 
-pub drafting : (a : Inside) (state : LogCodeState) (labels : List (List ℕ)) (maybe : Bool) (first : ℕ) → code_view a ≡ state → KeepsLogCode a → state.code.vars ≤ first → first + addition_width state.code (alarm_added (nameless labels maybe)) ≤ VAR_LIMIT →
+pub drafting : (a : Inside) (state : LogCodeState) (labels : List (List ℕ)) (maybe : Bool) (first : ℕ) → code_view a ≡ state → KeepsLogCode a → state.coded.vars ≤ first → first + addition_width state.coded (alarm_added (nameless labels maybe)) ≤ VAR_LIMIT →
     IsDrafting (coded a) labels maybe first a.ends.items a.guards.items
 drafting a state labels maybe first view inv made few = record {
   coded = inv.kept.log;
   chains = inv.kept.chains;
-  above = subst (λ (s : LogCodeState). s.code.vars ≤ first) (sym view) made;
-  few = subst (λ (s : LogCodeState). first + addition_width s.code (alarm_added (nameless labels maybe)) ≤ VAR_LIMIT) (sym view) few;
+  above = subst (λ (s : LogCodeState). s.coded.vars ≤ first) (sym view) made;
+  few = subst (λ (s : LogCodeState). first + addition_width s.coded (alarm_added (nameless labels maybe)) ≤ VAR_LIMIT) (sym view) few;
 }
 
-pub taken_are : (a : Inside) (state : LogCodeState) (net : Net) (labels : List (List ℕ)) (slice : List ChainEnd) (takes : List Taken) → code_view a ≡ state → net ≡ state.code.net → slice ≡ a.ends.items → takes ≡ taken_from net labels slice →
+pub taken_are : (a : Inside) (state : LogCodeState) (net : Net) (labels : List (List ℕ)) (slice : List ChainEnd) (takes : List Taken) → code_view a ≡ state → net ≡ state.coded.net → slice ≡ a.ends.items → takes ≡ taken_from net labels slice →
     takes ≡ taken_from (coded a).net labels a.ends.items
 taken_are a state net labels slice takes view same sliced is =
-    is ∙ ap (λ n. taken_from n labels slice) (same ∙ sym (ap (λ (s : LogCodeState). s.code.net) view)) ∙ ap (taken_from (coded a).net labels) sliced
+    is ∙ ap (λ n. taken_from n labels slice) (same ∙ sym (ap (λ (s : LogCodeState). s.coded.net) view)) ∙ ap (taken_from (coded a).net labels) sliced
 
 -- what the draft of an alarm keeps for its commit
 pub record IsReadyAlarm (code : CodedLog) (first : ℕ) (labels : List (List ℕ)) (maybe : Bool) (takes : List Taken) (after : List ChainEnd) (guards later : List Lit) : Type 0 where
@@ -318,40 +318,40 @@ draft_width code labels maybe first links chain_ends guards takes is t l = rw (l
 
 -- no alarm so far stands for the event
 pub record NoneSoFar (state : LogCodeState) (value : ℕ → Bool) (e step number : ℕ) : Type 0 where
-  pub none : (k : ℕ) → k < number → stands_for state.code value e step k ≡ false
+  pub none : (k : ℕ) → k < number → stands_for state.coded value e step k ≡ false
 
 pub none_at_first : (state : LogCodeState) (value : ℕ → Bool) (e step : ℕ) → NoneSoFar state value e step 0
 none_at_first state value e step = record { none = λ k h. absurd (omega arith) }
 
-pub none_more : (state : LogCodeState) (value : ℕ → Bool) (e step number : ℕ) → NoneSoFar state value e step number → stands_for state.code value e step number ≡ false → NoneSoFar state value e step (number + 1)
+pub none_more : (state : LogCodeState) (value : ℕ → Bool) (e step number : ℕ) → NoneSoFar state value e step number → stands_for state.coded value e step number ≡ false → NoneSoFar state value e step (number + 1)
 none_more state value e step number is miss = record { none = λ k h. by k (k == number) refl h }
   where
-    by : (k : ℕ) → (b : Bool) → (k == number) ≡ b → k < number + 1 → stands_for state.code value e step k ≡ false
-    by k true same h = subst (λ x. stands_for state.code value e step x ≡ false) (sym (eqb-true k number same)) miss
+    by : (k : ℕ) → (b : Bool) → (k == number) ≡ b → k < number + 1 → stands_for state.coded value e step k ≡ false
+    by k true same h = subst (λ x. stands_for state.coded value e step x ≡ false) (sym (eqb-true k number same)) miss
     by k false other h = is.none k (omega (arith, h, λ (same : k ≡ number). clash {A = ⊥} (k == number) (eq-eqb k number same) other))
 
 -- the alarm of a number in a code that is kept
-pub kept_alarm : (a : Inside) (state : LogCodeState) (i : ℕ) (alarm : AlarmState) → code_view a ≡ state → KeepsLogCode a → i < length a.alarms.items → slice_get a.alarms.items i ≡ Some alarm → IsCodedAlarm state.code i alarm × IsCodedLog state.code
-kept_alarm a state i alarm view inv known at = subst (λ (s : LogCodeState). IsCodedAlarm s.code i alarm × IsCodedLog s.code) view (inv.kept.alarms i alarm at, inv.kept.log)
+pub kept_alarm : (a : Inside) (state : LogCodeState) (i : ℕ) (alarm : AlarmState) → code_view a ≡ state → KeepsLogCode a → i < length a.alarms.items → slice_get a.alarms.items i ≡ Some alarm → IsCodedAlarm state.coded i alarm × IsCodedLog state.coded
+kept_alarm a state i alarm view inv known at = subst (λ (s : LogCodeState). IsCodedAlarm s.coded i alarm × IsCodedLog s.coded) view (inv.kept.alarms i alarm at, inv.kept.log)
 
-pub kept_count : (a : Inside) (state : LogCodeState) → code_view a ≡ state → KeepsLogCode a → (length state.code.log.alarms ≡ length a.alarms.items) × IsCodedLog state.code
-kept_count a state view inv = subst (λ (s : LogCodeState). (length s.code.log.alarms ≡ length a.alarms.items) × IsCodedLog s.code) view (map_count (λ (x : AlarmState). nameless x.labels x.doubtful) a.alarms.items, inv.kept.log)
+pub kept_count : (a : Inside) (state : LogCodeState) → code_view a ≡ state → KeepsLogCode a → (length state.coded.log.alarms ≡ length a.alarms.items) × IsCodedLog state.coded
+kept_count a state view inv = subst (λ (s : LogCodeState). (length s.coded.log.alarms ≡ length a.alarms.items) × IsCodedLog s.coded) view (map_count (λ (x : AlarmState). nameless x.labels x.doubtful) a.alarms.items, inv.kept.log)
 
-pub found_first : (state : LogCodeState) (value : ℕ → Bool) (e step number : ℕ) → NoneSoFar state value e step number → number < length state.code.log.alarms → stands_for state.code value e step number ≡ true →
-    Some number ≡ alarm_at state.code.net state.code.log (value_by (log_meanings state.code) value) e step
+pub found_first : (state : LogCodeState) (value : ℕ → Bool) (e step number : ℕ) → NoneSoFar state value e step number → number < length state.coded.log.alarms → stands_for state.coded value e step number ≡ true →
+    Some number ≡ alarm_at state.coded.net state.coded.log (value_by (log_meanings state.coded) value) e step
 found_first state value e step number is known hit =
-    sym (find_hit (λ i. value_by (log_meanings state.code) value (matches i e step)) (is_matching state.code.net state.code.log e) (length state.code.log.alarms) number known hit is.none)
+    sym (find_hit (λ i. value_by (log_meanings state.coded) value (matches i e step)) (is_matching state.coded.net state.coded.log e) (length state.coded.log.alarms) number known hit is.none)
 
-pub found_none : (state : LogCodeState) (value : ℕ → Bool) (e step number : ℕ) → NoneSoFar state value e step number → length state.code.log.alarms ≤ number → None ≡ alarm_at state.code.net state.code.log (value_by (log_meanings state.code) value) e step
+pub found_none : (state : LogCodeState) (value : ℕ → Bool) (e step number : ℕ) → NoneSoFar state value e step number → length state.coded.log.alarms ≤ number → None ≡ alarm_at state.coded.net state.coded.log (value_by (log_meanings state.coded) value) e step
 found_none state value e step number is all =
-    sym (find_miss (λ i. value_by (log_meanings state.code) value (matches i e step)) (is_matching state.code.net state.code.log e) (length state.code.log.alarms) (λ k h. is.none k (omega (arith, h))))
+    sym (find_miss (λ i. value_by (log_meanings state.coded) value (matches i e step)) (is_matching state.coded.net state.coded.log e) (length state.coded.log.alarms) (λ k h. is.none k (omega (arith, h))))
 
 -- the alarm of a turn of the loop
-pub turned_alarm : (a : Inside) (state : LogCodeState) (slice : List AlarmState) (i : ℕ) (alarm : AlarmState) → code_view a ≡ state → KeepsLogCode a → slice ≡ a.alarms.items → i < length slice → alarm ≡ slice_index_or slice i alarm → IsCodedAlarm state.code i alarm × IsCodedLog state.code
+pub turned_alarm : (a : Inside) (state : LogCodeState) (slice : List AlarmState) (i : ℕ) (alarm : AlarmState) → code_view a ≡ state → KeepsLogCode a → slice ≡ a.alarms.items → i < length slice → alarm ≡ slice_index_or slice i alarm → IsCodedAlarm state.coded i alarm × IsCodedLog state.coded
 turned_alarm a state slice i alarm view inv same within at =
     kept_alarm a state i alarm view inv (subst (λ xs. i < length xs) same within) (subst (λ xs. slice_get xs i ≡ Some alarm) same (alarm_at_place slice i alarm within ∙ ap (λ x. Some x) (sym at)))
 
-pub turned_count : (a : Inside) (state : LogCodeState) (slice : List AlarmState) → code_view a ≡ state → KeepsLogCode a → slice ≡ a.alarms.items → length state.code.log.alarms ≡ length slice
+pub turned_count : (a : Inside) (state : LogCodeState) (slice : List AlarmState) → code_view a ≡ state → KeepsLogCode a → slice ≡ a.alarms.items → length state.coded.log.alarms ≡ length slice
 turned_count a state slice view inv same = (kept_count a state view inv).0 ∙ ap length (sym same)
 
 -- the same by an equal code and equal labels

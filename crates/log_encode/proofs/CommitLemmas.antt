@@ -55,18 +55,18 @@ pub record TellsAlarm (code : CodedLog) (first width : ℕ) (alarm : AlarmState)
   pub false_ones : AreFalse (code_after code (alarm_added (nameless alarm.labels alarm.doubtful)) first) later
   pub after_it : IsAfter code (alarm_added (nameless alarm.labels alarm.doubtful)) first width (first + width)
 
-pub tells_alarm : (d : DraftInside) (code : CodedLog) (alarm : AlarmState) (after : Vec ChainEnd Global) (then later : Vec Lit Global) → IsReadyDraft d → d.change ≡ Alarm alarm after then later → d.code.value.code ≡ code → TellsAlarm code d.first d.vars alarm after.items then.items later.items
+pub tells_alarm : (d : DraftInside) (code : CodedLog) (alarm : AlarmState) (after : Vec ChainEnd Global) (then later : Vec Lit Global) → IsReadyDraft d → d.change ≡ Alarm alarm after then later → d.code.value.coded ≡ code → TellsAlarm code d.first d.vars alarm after.items then.items later.items
 tells_alarm d code alarm after then later ready is same =
     subst (λ (k : CodedLog). TellsAlarm k d.first d.vars alarm after.items then.items later.items) same (
-    let change = subst (λ (ch : Change). IsReadyChange d.code.value.code d.first ch) is ready.change in record {
+    let change = subst (λ (ch : Change). IsReadyChange d.code.value.coded d.first ch) is ready.change in record {
       begins = change.0;
       last = change.1;
       chains = change.2;
       false_ones = change.3;
-      after_it = record { above = ready.after; wide = ready.width ∙ ap (λ (ch : Change). addition_width d.code.value.code (addition_of ch)) is; few = ready.few; last = refl };
+      after_it = record { above = ready.after; wide = ready.width ∙ ap (λ (ch : Change). addition_width d.code.value.coded (addition_of ch)) is; few = ready.few; last = refl };
     })
 
-pub tells_pair : (d : DraftInside) (code : CodedLog) (i j : ℕ) → IsReadyDraft d → d.change ≡ Pair i j → d.code.value.code ≡ code → IsAfter code (pair_added i j) d.first d.vars (d.first + d.vars)
+pub tells_pair : (d : DraftInside) (code : CodedLog) (i j : ℕ) → IsReadyDraft d → d.change ≡ Pair i j → d.code.value.coded ≡ code → IsAfter code (pair_added i j) d.first d.vars (d.first + d.vars)
 tells_pair d code i j ready is same =
     subst (λ (k : CodedLog). IsAfter k (pair_added i j) d.first d.vars (d.first + d.vars)) same
-    (record { above = ready.after; wide = ready.width ∙ ap (λ (ch : Change). addition_width d.code.value.code (addition_of ch)) is; few = ready.few; last = refl })
+    (record { above = ready.after; wide = ready.width ∙ ap (λ (ch : Change). addition_width d.code.value.coded (addition_of ch)) is; few = ready.few; last = refl })

@@ -10,7 +10,7 @@ use Rattle.replay.specs.QuestionSize.{question_size}
 
 -- a code, and for how many more alarms and pairs there is room in it
 pub record LogCodeState : Type 0 where
-  pub code : CodedLog
+  pub coded : CodedLog
   pub spare_alarms : ℕ
   pub spare_pairs : ℕ
 

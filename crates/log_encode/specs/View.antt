@@ -41,7 +41,7 @@ coded a = coded_of a.net.value a.grid a.asked a.vars a.alarms.items a.pairs.item
 
 -- the code, and the room for more alarms and pairs: the ends of chains, the guards and the links are not seen
 abbrev pub code_view : Inside → LogCodeState
-code_view a = record { code = coded a; spare_alarms = a.spare_alarms; spare_pairs = a.spare_pairs }
+code_view a = record { coded = coded a; spare_alarms = a.spare_alarms; spare_pairs = a.spare_pairs }
 
 -- what comes to the end of a chain: the event itself where the chain has no alarm, else what its last one passes on
 abbrev pub IsRest : CodedLog → ℕ → Option ℕ → Type 0
@@ -96,7 +96,7 @@ addition_of (Pair first second) = pair_added first second
 
 -- the code that it was made by, its addition, its variables and its clauses: what will be kept beside the code is not seen
 abbrev pub draft_view : DraftInside → DraftState
-draft_view a = record { code = a.code.value.code; addition = addition_of a.change; first = a.first; vars = a.vars; clauses = a.clauses.clauses }
+draft_view a = record { code = a.code.value.coded; addition = addition_of a.change; first = a.first; vars = a.vars; clauses = a.clauses.clauses }
 
 -- the alarm, the ends of chains, the guards and what says that alarms are false are those of the longer log; a pair changes none of them
 abbrev pub IsReadyChange : CodedLog → ℕ → Change → Type 0
@@ -109,7 +109,7 @@ IsReadyChange code first (Pair i j) = ⊤
 
 -- what the fields keep: the change fits the code, and the variables come after those of the code, as many as the addition takes, within the limit
 pub record IsReadyDraft (a : DraftInside) : Type 0 where
-  pub change : IsReadyChange a.code.value.code a.first a.change
-  pub after : a.code.value.code.vars ≤ a.first
-  pub width : a.vars ≡ addition_width a.code.value.code (addition_of a.change)
+  pub change : IsReadyChange a.code.value.coded a.first a.change
+  pub after : a.code.value.coded.vars ≤ a.first
+  pub width : a.vars ≡ addition_width a.code.value.coded (addition_of a.change)
   pub few : a.first + a.vars ≤ VAR_LIMIT

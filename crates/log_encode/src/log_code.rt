@@ -70,7 +70,7 @@ impl LogCode {
         requires events { grid.events ≡ length net.now.events }
         requires made { grid.first + grid.events * grid.steps ≤ vars.old }
         requires few { vars.old + length (first_meanings net.now) ≤ VAR_LIMIT }
-        ensures code { IfOk result (λ made. made.code ≡ empty_code net.now grid vars.old) }
+        ensures code { IfOk result (λ made. made.coded ≡ empty_code net.now grid vars.old) }
         ensures vars { OnOk result (vars.new ≡ vars.old + length (first_meanings net.now)) }
         ensures written { OnOk result (AppendsFirst net.now grid.steps (read_meanings (empty_code net.now grid vars.old)) out.old.clauses out.new.clauses) }
         ensures same_vars { OnErr result (vars.new ≡ vars.old) }
@@ -109,10 +109,10 @@ impl LogCode {
         maybe: bool,
         first_var: u32,
     ) -> Result<Draft, Memory>
-        requires net { net.now ≡ self.now.code.net }
-        requires made { self.now.code.vars ≤ first_var }
-        requires few { first_var + addition_width self.now.code (alarm_added (nameless labels.now maybe)) ≤ VAR_LIMIT }
-        ensures { IfOk result (IsDraftOf self.now.code (alarm_added (nameless labels.now maybe)) first_var) }
+        requires net { net.now ≡ self.now.coded.net }
+        requires made { self.now.coded.vars ≤ first_var }
+        requires few { first_var + addition_width self.now.coded (alarm_added (nameless labels.now maybe)) ≤ VAR_LIMIT }
+        ensures { IfOk result (IsDraftOf self.now.coded (alarm_added (nameless labels.now maybe)) first_var) }
     {
         let takes = taken_by(self.alloc, net, self.ends.as_slice(), labels)?;
         let vars = AlarmVars {
@@ -155,11 +155,11 @@ impl LogCode {
 
     /// Drafts a pair of alarms, "the first before the second". It takes no variables, and may stand between alarms of one step.
     pub fn draft_before(&self, first: u32, second: u32, first_var: u32) -> Result<Draft, Memory>
-        requires first { first < length self.now.code.log.alarms }
-        requires second { second < length self.now.code.log.alarms }
-        requires made { self.now.code.vars ≤ first_var }
+        requires first { first < length self.now.coded.log.alarms }
+        requires second { second < length self.now.coded.log.alarms }
+        requires made { self.now.coded.vars ≤ first_var }
         requires few { first_var ≤ VAR_LIMIT }
-        ensures { IfOk result (IsDraftOf self.now.code (pair_added first second) first_var) }
+        ensures { IfOk result (IsDraftOf self.now.coded (pair_added first second) first_var) }
     {
         let mut clauses = Clauses::new(self.alloc);
         write_pair(
@@ -180,7 +180,7 @@ impl LogCode {
 
     /// Sees to it that there is room for a draft.
     pub fn reserve(&mut self, draft: &Draft) -> Result<(), Memory>
-        ensures code { self.new.code ≡ self.old.code }
+        ensures code { self.new.coded ≡ self.old.coded }
         ensures room { OnOk result (HasRoomFor self.new draft.now.addition) }
         ensures err { OnErr result (self.new ≡ self.old) }
     {
@@ -199,9 +199,9 @@ impl LogCode {
 
     /// Makes the addition of a draft.
     pub fn commit(&mut self, draft: Draft)
-        requires made_by { draft.code ≡ self.old.code }
+        requires made_by { draft.code ≡ self.old.coded }
         requires room { HasRoomFor self.old draft.addition }
-        ensures { self.new.code ≡ code_after self.old.code draft.addition draft.first }
+        ensures { self.new.coded ≡ code_after self.old.coded draft.addition draft.first }
     {
         let Draft {
             code: _,
@@ -233,23 +233,23 @@ impl LogCode {
 
     /// The guards, which are to be assumed for the present log.
     pub fn guards(&self) -> &[Lit]
-        ensures listed { named_clause (read_meanings self.now.code) result.now ≡ Some (guard_literals self.now.code.net self.now.code.log) }
-        ensures guards { ReadsAs (read_meanings self.now.code) result.now (guard_literals self.now.code.net self.now.code.log) }
-        ensures whole { IsCodedLog self.now.code }
+        ensures listed { named_clause (read_meanings self.now.coded) result.now ≡ Some (guard_literals self.now.coded.net self.now.coded.log) }
+        ensures guards { ReadsAs (read_meanings self.now.coded) result.now (guard_literals self.now.coded.net self.now.coded.log) }
+        ensures whole { IsCodedLog self.now.coded }
     {
         self.guards.as_slice()
     }
 
     /// That an alarm is false, for each doubtful alarm of the log.
     pub fn false_lits(&self) -> &[Lit]
-        ensures { named_clause (log_meanings self.now.code) result.now ≡ Some (false_literals self.now.code.log) }
+        ensures { named_clause (log_meanings self.now.coded) result.now ≡ Some (false_literals self.now.coded.log) }
     {
         self.dropped.as_slice()
     }
 
     /// A number above all its variables.
     pub fn vars(&self) -> u32
-        ensures { result ≡ self.now.code.vars }
+        ensures { result ≡ self.now.coded.vars }
     {
         self.vars
     }
@@ -257,11 +257,11 @@ impl LogCode {
     /// The alarm that stands for an event in a step, counted from 1. Where the clauses and the guards are true, it is the one such
     /// alarm, and there is one wherever the event can be seen and happens.
     pub fn alarm_of(&self, assign: &Assignment, event: EventId, step: u32) -> Option<u32>
-        requires event { event < length self.now.code.net.events }
+        requires event { event < length self.now.coded.net.events }
         requires from_one { 1 ≤ step }
-        requires step { step ≤ self.now.code.grid.steps }
-        requires values { self.now.code.vars ≤ length assign.now }
-        ensures { result ≡ alarm_at self.now.code.net self.now.code.log (value_by (log_meanings self.now.code) (value_in assign.now)) event step }
+        requires step { step ≤ self.now.coded.grid.steps }
+        requires values { self.now.coded.vars ≤ length assign.now }
+        ensures { result ≡ alarm_at self.now.coded.net self.now.coded.log (value_by (log_meanings self.now.coded) (value_in assign.now)) event step }
     {
         for (number, alarm) in self.alarms.iter().enumerate() {
             if self.is_matched(alarm, assign, event, step - 1) {
@@ -272,37 +272,37 @@ impl LogCode {
     }
 
     /// Whether the alarm is false.
-    pub fn is_false(&self, assign: &Assignment, alarm: u32) -> bool
-        requires alarm { alarm < length self.now.code.log.alarms }
-        requires values { self.now.code.vars ≤ length assign.now }
-        ensures { result ≡ is_false_alarm self.now.code.log (value_by (log_meanings self.now.code) (value_in assign.now)) alarm }
+    pub fn is_false_alarm(&self, assign: &Assignment, alarm: u32) -> bool
+        requires alarm { alarm < length self.now.coded.log.alarms }
+        requires values { self.now.coded.vars ≤ length assign.now }
+        ensures { result ≡ is_false_alarm self.now.coded.log (value_by (log_meanings self.now.coded) (value_in assign.now)) alarm }
     {
         self.is_dropped(&self.alarms[alarm as usize], assign)
     }
 
     /// The least number of steps within which the alarm is done. It is done in the end: so it is where the clauses and the guards
     /// are true.
-    pub fn step_of(&self, assign: &Assignment, alarm: u32) -> u32
-        requires alarm { alarm < length self.now.code.log.alarms }
-        requires values { self.now.code.vars ≤ length assign.now }
-        requires last { value_by (log_meanings self.now.code) (value_in assign.now) (done alarm self.now.code.grid.steps) ≡ true }
-        ensures { IsStepOfAlarm self.now.code.grid.steps (value_by (log_meanings self.now.code) (value_in assign.now)) alarm result }
+    pub fn step_of_alarm(&self, assign: &Assignment, alarm: u32) -> u32
+        requires alarm { alarm < length self.now.coded.log.alarms }
+        requires values { self.now.coded.vars ≤ length assign.now }
+        requires last { value_by (log_meanings self.now.coded) (value_in assign.now) (done alarm self.now.coded.grid.steps) ≡ true }
+        ensures { IsStepOfAlarm self.now.coded.grid.steps (value_by (log_meanings self.now.coded) (value_in assign.now)) alarm result }
     {
         first_done(self.vars_of(&self.alarms[alarm as usize]), assign)
     }
 
     /// How many steps there are.
     pub fn steps(&self) -> u32
-        ensures { result ≡ self.now.code.grid.steps }
+        ensures { result ≡ self.now.coded.grid.steps }
     {
         self.grid.steps
     }
 
     /// That the alarm isn't done within so many steps.
     pub fn undone(&self, alarm: u32, steps: u32) -> Lit
-        requires alarm { alarm < length self.now.code.log.alarms }
-        requires steps { steps ≤ self.now.code.grid.steps }
-        ensures name { meaning_of (log_meanings self.now.code) result.var ≡ Some (done alarm steps) }
+        requires alarm { alarm < length self.now.coded.log.alarms }
+        requires steps { steps ≤ self.now.coded.grid.steps }
+        ensures name { meaning_of (log_meanings self.now.coded) result.var ≡ Some (done alarm steps) }
         ensures sign { result.positive ≡ false }
     {
         Lit::new(self.done(alarm) + steps, false)
@@ -310,19 +310,19 @@ impl LogCode {
 
     // Whether the alarm is false.
     fn is_dropped(&self, alarm: &AlarmCode, assign: &Assignment) -> bool
-        requires within { AreWithinLimit (variables_of self.now.code.grid.steps alarm.now) }
-        requires values { alarm.now.start + alarm_width (variables_of self.now.code.grid.steps alarm.now) ≤ length assign.now }
-        ensures { result ≡ (alarm.now.doubtful && value_in assign.now (dropped_variable (variables_of self.now.code.grid.steps alarm.now))) }
+        requires within { AreWithinLimit (variables_of self.now.coded.grid.steps alarm.now) }
+        requires values { alarm.now.start + alarm_width (variables_of self.now.coded.grid.steps alarm.now) ≤ length assign.now }
+        ensures { result ≡ (alarm.now.doubtful && value_in assign.now (dropped_variable (variables_of self.now.coded.grid.steps alarm.now))) }
     {
         alarm.doubtful && assign.value(self.vars_of(alarm).dropped())
     }
 
     // Whether the alarm stands for the event in the step after so many.
     fn is_matched(&self, alarm: &AlarmCode, assign: &Assignment, event: EventId, step: u32) -> bool
-        requires step { step < self.now.code.grid.steps }
-        requires within { AreWithinLimit (variables_of self.now.code.grid.steps alarm.now) }
-        requires values { alarm.now.start + alarm_width (variables_of self.now.code.grid.steps alarm.now) ≤ length assign.now }
-        ensures { result ≡ is_matched self.now.code.grid.steps alarm.now (value_in assign.now) event step }
+        requires step { step < self.now.coded.grid.steps }
+        requires within { AreWithinLimit (variables_of self.now.coded.grid.steps alarm.now) }
+        requires values { alarm.now.start + alarm_width (variables_of self.now.coded.grid.steps alarm.now) ≤ length assign.now }
+        ensures { result ≡ is_matched self.now.coded.grid.steps alarm.now (value_in assign.now) event step }
     {
         match alarm.link_of(event) {
             Some(link) => assign.value(self.vars_of(alarm).matched(link, step)),
@@ -332,8 +332,8 @@ impl LogCode {
 
     // Where the variables of an alarm stand.
     fn vars_of(&self, alarm: &AlarmCode) -> AlarmVars
-        requires { AreWithinLimit (variables_of self.now.code.grid.steps alarm.now) }
-        ensures { result ≡ variables_of self.now.code.grid.steps alarm.now }
+        requires { AreWithinLimit (variables_of self.now.coded.grid.steps alarm.now) }
+        ensures { result ≡ variables_of self.now.coded.grid.steps alarm.now }
     {
         AlarmVars {
             start: alarm.start,
@@ -345,10 +345,10 @@ impl LogCode {
 
     // Says that the alarm is done within 0 steps, with those for more steps behind it.
     fn done(&self, alarm: u32) -> u32
-        requires { alarm < length self.now.code.log.alarms }
-        ensures within { result + self.now.code.grid.steps < self.now.code.vars }
-        ensures few { self.now.code.vars ≤ VAR_LIMIT }
-        ensures names { (t : ℕ) → t ≤ self.now.code.grid.steps → meaning_of (log_meanings self.now.code) (result + t) ≡ Some (done alarm t) }
+        requires { alarm < length self.now.coded.log.alarms }
+        ensures within { result + self.now.coded.grid.steps < self.now.coded.vars }
+        ensures few { self.now.coded.vars ≤ VAR_LIMIT }
+        ensures names { (t : ℕ) → t ≤ self.now.coded.grid.steps → meaning_of (log_meanings self.now.coded) (result + t) ≡ Some (done alarm t) }
     {
         self.vars_of(&self.alarms[alarm as usize]).done(0)
     }

@@ -169,7 +169,7 @@ fn read_step(alloc: Global, net: &Network, left: u64, line: Line<'_>) -> Result<
     let Some(words) = step_words(line) else {
         return Err(fault(line.number, TOO_MANY_WORDS));
     };
-    if is_mark(words.event) {
+    if is_false_alarm_mark(words.event) {
         return read_dropped(alloc, line.number, words.alarm);
     }
     if !is_name(words.event) {
@@ -183,7 +183,7 @@ fn read_step(alloc: Global, net: &Network, left: u64, line: Line<'_>) -> Result<
 }
 
 // Whether a false alarm's line begins with this word.
-fn is_mark(word: &[u8]) -> bool
+fn is_false_alarm_mark(word: &[u8]) -> bool
     ensures { result ≡ is_false_alarm_mark word.now }
 {
     word == b"!".as_slice()
@@ -223,7 +223,7 @@ fn step_words<'a>(line: Line<'a>) -> Option<StepWords<'a>>
 fn lone_event<'a>(event: &'a [u8]) -> Option<StepWords<'a>>
     ensures { MatchOption result (step_words (event.now ∷ []) ≡ None) (λ words. step_words (event.now ∷ []) ≡ Some (words.event.now, option_copied words.alarm)) }
 {
-    if is_mark(event) {
+    if is_false_alarm_mark(event) {
         return None;
     }
     Some(StepWords { event, alarm: None })

@@ -80,8 +80,8 @@ impl Restarts {
         let parts = levels.min(MOST_LEVELS) * LEVEL;
         self.clauses = (self.clauses + 1).min(WHOLE);
         self.since = (self.since + 1).min(SHORTEST);
-        self.late = moved(self.late, parts, LATE);
-        self.whole = moved(self.whole, parts, self.clauses);
+        self.late = moved_mean(self.late, parts, LATE);
+        self.whole = moved_mean(self.whole, parts, self.clauses);
     }
 
     // Whether the search is to begin anew: the late mean is greater by a quarter. If so, it has begun.
@@ -99,7 +99,7 @@ impl Restarts {
 }
 
 // A mean that moves towards a number, by a part of the way.
-fn moved(mean: u64, number: u64, part: u64) -> u64
+fn moved_mean(mean: u64, number: u64, part: u64) -> u64
     requires part { 0 < part }
     requires mean { mean ≤ MOST }
     requires number { number ≤ MOST }

@@ -39,7 +39,7 @@ found_best net log n steps budget book best same diagnosed = let found = diagnos
 -- the parts belong to network and log as before
 pub belong_still : {R : Type 0} (net : Net) (log : Log) (old new : Parts R) → new.step ≡ old.step → new.code ≡ old.code → BelongTo net log old → BelongTo net log new
 belong_still net log old new step code belong =
-    subst (λ (s : CodedSteps). BelongTogether net log s new.code.code) (sym step) (subst (λ (k : LogCodeState). BelongTogether net log old.step k.code) (sym code) belong)
+    subst (λ (s : CodedSteps). BelongTogether net log s new.code.coded) (sym step) (subst (λ (k : LogCodeState). BelongTogether net log old.step k.coded) (sym code) belong)
 
 -- and they are ready for verdicts
 pub stays_ready : {R : Type 0} (may : R → ℕ → Type 0) (gives : R → ℕ → ℕ → Type 0) (net : Net) (log : Log) (n : ℕ) (old new : Parts R) (book : List BookEntry) → old.step.steps ≡ n → new.step ≡ old.step → new.code ≡ old.code → BelongTo net log old → question_size net log n ≤ MOST_SIZE

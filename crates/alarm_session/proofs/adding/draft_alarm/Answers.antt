@@ -42,4 +42,4 @@ returns-clause-drafted g c =
     let new = IsNewAlarm-from c.args.kept.now.log c.args.id.now c.args.labels.now (sym c.test_alarm.ensures ∙ c.in_default.is) in
     alarm_drafted c.args.setting.net.now c.args.setting.steps c.args.kept.now c.requires.of_log c.requires.coded c.is_built.ensures.whole c.args.id.now c.args.labels.now c.as_slice-labels.result.now c.args.doubtful
     (c.as_slice-labels.ensures.value ∙ c.in_ok-once.ensures.once) c.size_with_alarm-size.result c.size_with_alarm-size.ensures new.room (omega (arith, c.if-size-gt-MOST_SIZE.false)) c.in_ok-draft.draft
-    (subst (λ first. IsDraftOf c.args.kept.now.parts.code.code (alarm_added (nameless c.as_slice-labels.result.now c.args.doubtful)) first c.in_ok-draft.draft) c.count.ensures.count c.in_ok-draft.ensures)
+    (subst (λ first. IsDraftOf c.args.kept.now.parts.code.coded (alarm_added (nameless c.as_slice-labels.result.now c.args.doubtful)) first c.in_ok-draft.draft) c.count.ensures.count c.in_ok-draft.ensures)

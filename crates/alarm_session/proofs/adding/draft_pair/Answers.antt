@@ -19,13 +19,13 @@ returns-then-size-gt-MOST_SIZE-clause-refused g c =
 pub draft_before-requires-clause-first : goal.draft_before-requires-clause-first
 draft_before-requires-clause-first g c =
     let log = c.args.kept.now.log in
-    let alarms = of_coded c.args.kept.now.log c.args.kept.now.parts.code.code.log c.requires.of_log.belong.same_log in
+    let alarms = of_coded c.args.kept.now.log c.args.kept.now.parts.code.coded.log c.requires.of_log.belong.same_log in
     omega (arith, (known_pair (length log.alarms) log.pairs c.args.first c.args.second c.requires.accepted).0, alarms)
 
 pub draft_before-requires-clause-second : goal.draft_before-requires-clause-second
 draft_before-requires-clause-second g c =
     let log = c.args.kept.now.log in
-    let alarms = of_coded c.args.kept.now.log c.args.kept.now.parts.code.code.log c.requires.of_log.belong.same_log in
+    let alarms = of_coded c.args.kept.now.log c.args.kept.now.parts.code.coded.log c.requires.of_log.belong.same_log in
     omega (arith, (known_pair (length log.alarms) log.pairs c.args.first c.args.second c.requires.accepted).1, alarms)
 
 pub returns-clause-refused : goal.returns-clause-refused
@@ -39,4 +39,4 @@ pub returns-clause-drafted : goal.returns-clause-drafted
 returns-clause-drafted g c =
     pair_drafted c.args.setting.net.now c.args.setting.steps c.args.kept.now c.requires.of_log c.requires.coded c.is_built.ensures.whole c.args.first c.args.second c.requires.new c.size_with_pair-size.result c.size_with_pair-size.ensures
     c.is_whole.ensures.whole.few_alarms (omega (arith, c.if-size-gt-MOST_SIZE.false)) c.in_ok-draft.draft
-    (subst (λ first. IsDraftOf c.args.kept.now.parts.code.code (pair_added c.args.first c.args.second) first c.in_ok-draft.draft) c.count.ensures.count c.in_ok-draft.ensures)
+    (subst (λ first. IsDraftOf c.args.kept.now.parts.code.coded (pair_added c.args.first c.args.second) first c.in_ok-draft.draft) c.count.ensures.count c.in_ok-draft.ensures)

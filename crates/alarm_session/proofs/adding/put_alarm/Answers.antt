@@ -19,7 +19,7 @@ returns-in-Ok-clause-kept g c =
     let kept = c.args.kept.now in
     let labels = with_texts [] c.args.labels.now in
     kept_with c.args.setting.net.now c.args.setting.steps kept (alarm_addition c.args.labels.now c.args.doubtful) (with_alarm kept.log c.args.id c.args.labels.now c.args.doubtful) c.in_ok-drafted.drafted c.in_ok-drafted.ensures.drafted
-    c.requires.kept.of_log (alarm_codes kept.log kept.parts.code.code.log c.args.id labels c.args.doubtful c.requires.kept.of_log.belong.same_log) c.reserve_draft.new.parts c.add_draft.new.parts c.reserve_draft.new.book c.add_draft.new.book
+    c.requires.kept.of_log (alarm_codes kept.log kept.parts.code.coded.log c.args.id labels c.args.doubtful c.requires.kept.of_log.belong.same_log) c.reserve_draft.new.parts c.add_draft.new.parts c.reserve_draft.new.book c.add_draft.new.book
     c.reserve_draft.ensures.kept c.in_ok-reserved.reserved.draft c.in_ok-reserved.ensures.draft c.add_draft.ensures.added c.add_to_log.new.log c.in-Ok.ensures.ok (goal.R-pre g) (goal.R-post g) c.add_draft.ensures.ready
 
 pub returns-in-Ok-clause-added : goal.returns-in-Ok-clause-added
@@ -27,7 +27,7 @@ returns-in-Ok-clause-added g c =
     let kept = c.args.kept.now in
     let labels = with_texts [] c.args.labels.now in
     becomes_with c.args.setting.net.now c.args.setting.steps kept (alarm_addition c.args.labels.now c.args.doubtful) (with_alarm kept.log c.args.id c.args.labels.now c.args.doubtful) c.in_ok-drafted.drafted c.in_ok-drafted.ensures.drafted
-    c.requires.kept.of_log (alarm_codes kept.log kept.parts.code.code.log c.args.id labels c.args.doubtful c.requires.kept.of_log.belong.same_log) c.reserve_draft.new.parts c.add_draft.new.parts c.reserve_draft.new.book c.add_draft.new.book
+    c.requires.kept.of_log (alarm_codes kept.log kept.parts.code.coded.log c.args.id labels c.args.doubtful c.requires.kept.of_log.belong.same_log) c.reserve_draft.new.parts c.add_draft.new.parts c.reserve_draft.new.book c.add_draft.new.book
     c.reserve_draft.ensures.kept c.in_ok-reserved.reserved.draft c.in_ok-reserved.ensures.draft c.add_draft.ensures.added c.add_to_log.new.log c.in-Ok.ensures.ok (goal.R-pre g) (goal.R-post g) c.add_draft.ensures.ready
     c.requires.kept.ready.coded c.add_draft.ensures.few c.in_ok-drafted.drafted.size
 

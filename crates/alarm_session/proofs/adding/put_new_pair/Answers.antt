@@ -14,7 +14,7 @@ pub returns-in-Ok-clause-kept : goal.returns-in-Ok-clause-kept
 returns-in-Ok-clause-kept g c =
     let kept = c.args.kept.now in
     kept_with c.args.setting.net.now c.args.setting.steps kept (pair_added c.args.first c.args.second) (paired kept.log c.args.first c.args.second) c.in_ok-drafted.drafted c.in_ok-drafted.ensures.drafted
-    c.requires.kept.of_log (pair_codes kept.log kept.parts.code.code.log c.args.first c.args.second c.requires.new c.requires.kept.of_log.belong.same_log) c.reserve_draft.new.parts c.add_draft.new.parts c.reserve_draft.new.book c.add_draft.new.book
+    c.requires.kept.of_log (pair_codes kept.log kept.parts.code.coded.log c.args.first c.args.second c.requires.new c.requires.kept.of_log.belong.same_log) c.reserve_draft.new.parts c.add_draft.new.parts c.reserve_draft.new.book c.add_draft.new.book
     c.reserve_draft.ensures.kept c.in_ok-reserved.reserved.draft c.in_ok-reserved.ensures.draft c.add_draft.ensures.added c.add_before.new.self c.in-Ok.ensures.ok (goal.R-pre g) (goal.R-post g) c.add_draft.ensures.ready
 
 pub returns-in-Ok-clause-added : goal.returns-in-Ok-clause-added
@@ -22,7 +22,7 @@ returns-in-Ok-clause-added g c =
     let kept = c.args.kept.now in
     becomes_pair c.args.setting.net.now c.args.setting.steps kept.log c.args.first c.args.second _ _ c.requires.new
     (becomes_with c.args.setting.net.now c.args.setting.steps kept (pair_added c.args.first c.args.second) (paired kept.log c.args.first c.args.second) c.in_ok-drafted.drafted c.in_ok-drafted.ensures.drafted
-    c.requires.kept.of_log (pair_codes kept.log kept.parts.code.code.log c.args.first c.args.second c.requires.new c.requires.kept.of_log.belong.same_log) c.reserve_draft.new.parts c.add_draft.new.parts c.reserve_draft.new.book c.add_draft.new.book
+    c.requires.kept.of_log (pair_codes kept.log kept.parts.code.coded.log c.args.first c.args.second c.requires.new c.requires.kept.of_log.belong.same_log) c.reserve_draft.new.parts c.add_draft.new.parts c.reserve_draft.new.book c.add_draft.new.book
     c.reserve_draft.ensures.kept c.in_ok-reserved.reserved.draft c.in_ok-reserved.ensures.draft c.add_draft.ensures.added c.add_before.new.self c.in-Ok.ensures.ok (goal.R-pre g) (goal.R-post g) c.add_draft.ensures.ready
     c.requires.kept.ready.coded c.add_draft.ensures.few c.in_ok-drafted.drafted.size)
 

@@ -21,7 +21,7 @@ solve-requires-clause-known g c =
     let asked = c.requires.asked in
     subst (HasValues parts.solver.vars) (sym c.as_slice.ensures.value)
     (subst (HasValues parts.solver.vars) (sym c.in_ok-assumed.ensures)
-    (assumed_known asked.cost parts.step parts.code.code parts.counter parts.vars (axioms_of c.args.book.now.entries) c.args.question.scale asked.weighed.coded c.args.question.net.now c.args.question.log.now c.requires.belong.of_steps
+    (assumed_known asked.cost parts.step parts.code.coded parts.counter parts.vars (axioms_of c.args.book.now.entries) c.args.question.scale asked.weighed.coded c.args.question.net.now c.args.question.log.now c.requires.belong.of_steps
     c.is_built.ensures.network c.is_whole.ensures.whole.valid c.requires.belong.same_log c.has_guards.ensures parts.solver.vars asked.weighed.enough c.args.within c.requires.bound))
 
 pub solve-requires-clause-compatible : goal.solve-requires-clause-compatible
@@ -30,7 +30,7 @@ solve-requires-clause-compatible g c =
     let asked = c.requires.asked in
     subst AreConsistent (sym c.as_slice.ensures.value)
     (subst AreConsistent (sym c.in_ok-assumed.ensures)
-    (assumed_compatible asked.cost parts.step parts.code.code parts.counter parts.vars (axioms_of c.args.book.now.entries) c.args.question.scale asked.weighed.coded c.args.question.net.now c.args.question.log.now c.requires.belong.of_steps
+    (assumed_compatible asked.cost parts.step parts.code.coded parts.counter parts.vars (axioms_of c.args.book.now.entries) c.args.question.scale asked.weighed.coded c.args.question.net.now c.args.question.log.now c.requires.belong.of_steps
     c.is_built.ensures.network c.is_whole.ensures.whole.valid c.requires.belong.same_log c.has_guards.ensures c.args.within c.requires.bound))
 
 pub returns-in-Unsat-clause-asked : goal.returns-in-Unsat-clause-asked
@@ -39,9 +39,9 @@ returns-in-Unsat-clause-asked g c = λ cost answered weighed.
     let scale = c.args.question.scale in
     let mid = c.args.book.now.entries in
     let new = c.solve.new.book.entries in
-    let assumed = assumed_at parts.code.code scale c.args.within in
-    asked_refuted (record { net = c.args.question.net.now; cost = cost; log = c.args.question.log.now; steps = parts.step.steps }) parts.code.code scale c.args.within mid new c.args.budget.now c.solve.new.budget c.solve.ensures.searched weighed.known c.in-Unsat.field-0
-    (told cost parts.step parts.code.code parts.counter parts.vars (axioms_of mid) scale weighed.coded c.args.question.net.now c.args.question.log.now c.requires.belong.of_steps
+    let assumed = assumed_at parts.code.coded scale c.args.within in
+    asked_refuted (record { net = c.args.question.net.now; cost = cost; log = c.args.question.log.now; steps = parts.step.steps }) parts.code.coded scale c.args.within mid new c.args.budget.now c.solve.new.budget c.solve.ensures.searched weighed.known c.in-Unsat.field-0
+    (told cost parts.step parts.code.coded parts.counter parts.vars (axioms_of mid) scale weighed.coded c.args.question.net.now c.args.question.log.now c.requires.belong.of_steps
     c.is_built.ensures.network c.is_whole.ensures.whole.valid c.requires.belong.same_log c.has_guards.ensures c.args.within c.requires.bound)
     (subst (HasPut mid new) c.in-Unsat.is c.in_ok-answer.ensures.put)
     (subst (λ (xs : List Lit). IsAnswer c.solve.new.self.assignment new xs c.solve.new.budget (Answer.Unsat c.in-Unsat.field-0)) c.in_ok-assumed.ensures
@@ -55,7 +55,7 @@ returns-in-Spent-clause-asked g c = λ cost answered weighed.
     let scale = c.args.question.scale in
     let mid = c.args.book.now.entries in
     let new = c.solve.new.book.entries in
-    asked_spent (record { net = c.args.question.net.now; cost = cost; log = c.args.question.log.now; steps = parts.step.steps }) parts.code.code scale c.args.within mid new c.args.budget.now c.solve.new.budget c.solve.ensures.searched weighed.known
+    asked_spent (record { net = c.args.question.net.now; cost = cost; log = c.args.question.log.now; steps = parts.step.steps }) parts.code.coded scale c.args.within mid new c.args.budget.now c.solve.new.budget c.solve.ensures.searched weighed.known
     (subst (HasPut mid new) c.in-Spent.is c.in_ok-answer.ensures.put)
     (subst (λ (xs : List Lit). IsAnswer c.solve.new.self.assignment new xs c.solve.new.budget Answer.Spent) c.in_ok-assumed.ensures
     (subst (λ (xs : List Lit). IsAnswer c.solve.new.self.assignment new xs c.solve.new.budget Answer.Spent) c.as_slice.ensures.value
@@ -75,8 +75,8 @@ found_run-requires-clause-true_there g c =
     let parts = c.args.parts.now in
     let asked = c.requires.asked in
     let values = c.solve.new.self.assignment in
-    let holds = model values c.solve.new.book.entries c.as_slice.result.now c.in_ok-assumed.assumed.items (assumed_at parts.code.code c.args.question.scale c.args.within) c.solve.new.budget c.in_ok-answer.answer c.in-Sat.is c.as_slice.ensures.value c.in_ok-assumed.ensures c.in_ok-answer.ensures.answer in
-    model_run asked.cost parts.step parts.code.code parts.counter parts.vars (axioms_of c.args.book.now.entries) c.args.question.scale asked.weighed.coded c.args.question.net.now c.args.question.log.now c.requires.belong.of_steps
+    let holds = model values c.solve.new.book.entries c.as_slice.result.now c.in_ok-assumed.assumed.items (assumed_at parts.code.coded c.args.question.scale c.args.within) c.solve.new.budget c.in_ok-answer.answer c.in-Sat.is c.as_slice.ensures.value c.in_ok-assumed.ensures c.in_ok-answer.ensures.answer in
+    model_run asked.cost parts.step parts.code.coded parts.counter parts.vars (axioms_of c.args.book.now.entries) c.args.question.scale asked.weighed.coded c.args.question.net.now c.args.question.log.now c.requires.belong.of_steps
     c.is_built.ensures.network c.is_whole.ensures.whole.valid c.requires.belong.same_log c.has_guards.ensures (value_in values) c.args.within
     (begun_true (value_in values) c.args.book.now.entries c.solve.new.book.entries c.args.budget.now c.solve.new.budget c.solve.ensures.searched holds.clauses) holds.assumptions
 
@@ -90,15 +90,15 @@ returns-clause-asked g c = λ cost answered weighed.
     let log = c.args.question.log.now in
     let priced = c.in_ok-found_run-in-Sat.field-0 in
     let values = c.solve.new.self.assignment in
-    let holds = model values new c.as_slice.result.now c.in_ok-assumed.assumed.items (assumed_at parts.code.code scale c.args.within) c.solve.new.budget c.in_ok-answer.answer c.in-Sat.is c.as_slice.ensures.value c.in_ok-assumed.ensures c.in_ok-answer.ensures.answer in
+    let holds = model values new c.as_slice.result.now c.in_ok-assumed.assumed.items (assumed_at parts.code.coded scale c.args.within) c.solve.new.budget c.in_ok-answer.answer c.in-Sat.is c.as_slice.ensures.value c.in_ok-assumed.ensures c.in_ok-answer.ensures.answer in
     let begun = begun_true (value_in values) mid new c.args.budget.now c.solve.new.budget c.solve.ensures.searched holds.clauses in
     let total = c.in_ok-found_run-in-Sat.ensures.total cost answered weighed.coded.inputs weighed.coded.weighted in
-    asked_explained (record { net = net; cost = cost; log = log; steps = parts.step.steps }) parts.code.code scale c.args.within mid new c.args.budget.now c.solve.new.budget c.solve.ensures.searched weighed.known priced
+    asked_explained (record { net = net; cost = cost; log = log; steps = parts.step.steps }) parts.code.coded scale c.args.within mid new c.args.budget.now c.solve.new.budget c.solve.ensures.searched weighed.known priced
     (subst (HasPut mid new) c.in-Sat.is c.in_ok-answer.ensures.put)
     (c.in_ok-found_run-in-Sat.ensures.given cost answered)
-    (model_within cost parts.step parts.code.code parts.counter parts.vars (axioms_of mid) scale weighed.coded net log c.requires.belong.of_steps
+    (model_within cost parts.step parts.code.coded parts.counter parts.vars (axioms_of mid) scale weighed.coded net log c.requires.belong.of_steps
     c.is_built.ensures.network c.is_whole.ensures.whole.valid c.requires.belong.same_log c.has_guards.ensures (value_in values) c.args.within c.requires.bound begun holds.assumptions priced.cost total)
-    (model_counted cost parts.step parts.code.code parts.counter parts.vars (axioms_of mid) scale weighed.coded net log c.requires.belong.of_steps
+    (model_counted cost parts.step parts.code.coded parts.counter parts.vars (axioms_of mid) scale weighed.coded net log c.requires.belong.of_steps
     c.is_built.ensures.network c.is_whole.ensures.whole.valid c.requires.belong.same_log c.has_guards.ensures (value_in values) priced.cost total)
 
 pub returns-in_err-answer-clause-still : goal.returns-in_err-answer-clause-still

@@ -28,5 +28,5 @@ returns-clause-total g c = λ cost answered inputs weighted.
     let parts = c.args.parts.now in
     let whole = c.is_whole.ensures.whole in
     c.run_cost-cost.ensures cost answered ∙ ap (λ (xs : List RunStep). sum_by (entry_cost net cost) xs) c.steps.ensures.steps ∙ costs_counted net cost log c.in_ok-run.run' c.in_ok-run.ensures.matched
-    ∙ found_total net cost log parts.step parts.code.code (value_in parts.solver.assignment) c.in_ok-run.run' inputs c.is_built.ensures.network whole.valid whole.names.distinct c.requires.belong c.requires.true_there
-    (c.in_ok-run.ensures.run ∙ ap (λ (values : List Bool). decoded_run net log (truth_of parts.step parts.code.code (value_in values)) (least_order (length log.alarms) log.pairs) parts.step.steps) c.assignment.ensures.value) weighted
+    ∙ found_total net cost log parts.step parts.code.coded (value_in parts.solver.assignment) c.in_ok-run.run' inputs c.is_built.ensures.network whole.valid whole.names.distinct c.requires.belong c.requires.true_there
+    (c.in_ok-run.ensures.run ∙ ap (λ (values : List Bool). decoded_run net log (truth_of parts.step parts.code.coded (value_in values)) (least_order (length log.alarms) log.pairs) parts.step.steps) c.assignment.ensures.value) weighted

@@ -8,5 +8,5 @@ use Rattle.cost_least.proofs.question.has_guards.Goals as goal
 
 pub returns : goal.returns
 returns c =
-    let code = c.args.code.now.code in
+    let code = c.args.code.now.coded in
     subst (λ (xs : List Lit). ReadsAs (read_meanings code) xs (guard_literals code.net code.log)) (guards_listed code c.guards-guards.result.now c.guards-guards.ensures.whole c.guards-guards.ensures.listed) c.guards-guards.ensures.guards

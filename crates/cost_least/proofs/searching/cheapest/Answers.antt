@@ -66,6 +66,6 @@ returns-clause-answered g c =
           (ap (λ (b : LedgerState). b.entries) c.in_ok-put_mark.ensures.added) c.weigh.ensures.axioms (ap (λ (b : LedgerState). b.entries) c.in_ok-put_mark-2.ensures.added)
           (c.in_ok-cheap.ensures.found asked.cost asked.answered asked.weighed);
       scale = c.in_ok-scale.scale;
-      weighed = subst (λ (axioms : List Clause). AreWeighedParts asked.cost now.step now.code.code now.counter now.vars axioms c.in_ok-scale.scale) (sym (ap axioms_of closing ∙ marked_axioms c.search.new.book.entries 1))
+      weighed = subst (λ (axioms : List Clause). AreWeighedParts asked.cost now.step now.code.coded now.counter now.vars axioms c.in_ok-scale.scale) (sym (ap axioms_of closing ∙ marked_axioms c.search.new.book.entries 1))
           (c.search.ensures.still asked.cost asked.weighed).coded;
     }

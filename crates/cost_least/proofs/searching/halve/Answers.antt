@@ -17,7 +17,7 @@ loop-lo-init g c = record {
   kept = keeps_same c.args.parts.now;
   searching = searching_none c.args.book.now.entries c.args.budget.now;
   counted = c.requires.counted;
-  come = λ cost answered weighed. halved_none (asked_of c.args.question.net.now cost c.args.question.log.now c.args.parts.now) c.args.parts.now.code.code c.args.question.scale c.args.book.now.entries c.args.budget.now c.args.known (c.requires.known cost answered) c.requires.counted;
+  come = λ cost answered weighed. halved_none (asked_of c.args.question.net.now cost c.args.question.log.now c.args.parts.now) c.args.parts.now.code.coded c.args.question.scale c.args.book.now.entries c.args.budget.now c.args.known (c.requires.known cost answered) c.requires.counted;
 }
 
 pub ask-requires-clause-belong : goal.ask-requires-clause-belong
@@ -68,17 +68,17 @@ returns-in-Spent-clause-found g c = λ cost answered weighed.
     let keeps = keeps_both old c.loop-lo.parts now c.loop-lo.invariant.kept c.ask.ensures.kept in
     let there = c.loop-lo.invariant.still cost weighed in
     let here = asked_back net cost log old now scale (Some b) mid new c.loop-lo.budget c.ask.new.budget c.in_ok-asked.asked asked.Spent keeps c.in-Spent.is (c.in_ok-asked.ensures.asked cost answered there) in
-    let come = halved_spent q old.code.code scale first mid new c.args.budget.now c.loop-lo.budget c.ask.new.budget lo best (c.loop-lo.invariant.come cost answered weighed) b here in
+    let come = halved_spent q old.code.coded scale first mid new c.args.budget.now c.loop-lo.budget c.ask.new.budget lo best (c.loop-lo.invariant.come cost answered weighed) b here in
     let coded = coded_back cost old now (axioms_of new) scale keeps (c.ask.ensures.still cost there).coded in
     let amounts = coded.amounts in
     let test = c.loop-lo-test.true in
     let most = c.ceiling.ensures in
     found_still net cost log old now c.args.budget.now first new _ keeps
-    (halved_undecided q old.code.code scale first new c.args.budget.now c.ask.new.budget lo best come
-    (λ k few some. told cost old.step old.code.code now.counter now.vars (axioms_of new) scale coded net log c.requires.belong.of_steps c.is_built.ensures.network c.is_whole.ensures.whole.valid c.requires.belong.same_log c.has_guards.ensures (Some k) (record { some = some; few = omega (arith, amounts, few) }))
+    (halved_undecided q old.code.coded scale first new c.args.budget.now c.ask.new.budget lo best come
+    (λ k few some. told cost old.step old.code.coded now.counter now.vars (axioms_of new) scale coded net log c.requires.belong.of_steps c.is_built.ensures.network c.is_whole.ensures.whole.valid c.requires.belong.same_log c.has_guards.ensures (Some k) (record { some = some; few = omega (arith, amounts, few) }))
     c.entries.ensures.valid
-    (guards_before cost old.step old.code.code now.counter now.vars (axioms_of new) scale coded net log c.requires.belong.of_steps c.is_built.ensures.network c.is_whole.ensures.whole.valid c.requires.belong.same_log c.has_guards.ensures)
-    (told cost old.step old.code.code now.counter now.vars (axioms_of new) scale coded net log c.requires.belong.of_steps c.is_built.ensures.network c.is_whole.ensures.whole.valid c.requires.belong.same_log c.has_guards.ensures None tt)
+    (guards_before cost old.step old.code.coded now.counter now.vars (axioms_of new) scale coded net log c.requires.belong.of_steps c.is_built.ensures.network c.is_whole.ensures.whole.valid c.requires.belong.same_log c.has_guards.ensures)
+    (told cost old.step old.code.coded now.counter now.vars (axioms_of new) scale coded net log c.requires.belong.of_steps c.is_built.ensures.network c.is_whole.ensures.whole.valid c.requires.belong.same_log c.has_guards.ensures None tt)
     (omega (arith, test, most)) here.means.nothing b c.middle-b.ensures here.means.clashes)
 
 pub loop-lo-preserved-in-Explained : goal.loop-lo-preserved-in-Explained
@@ -100,7 +100,7 @@ loop-lo-preserved-in-Explained g c =
       searching = searching_further first mid new c.args.budget.now c.loop-lo.budget c.ask.new.budget c.loop-lo.invariant.searching c.ask.ensures.searching;
       counted = (asked_back net own.cost log old now scale (Some c.middle-b.result) mid new c.loop-lo.budget c.ask.new.budget c.in_ok-asked.asked (asked.Explained better) keeps c.in-Explained.is (c.in_ok-asked.ensures.asked own.cost own.answered (c.loop-lo.invariant.still own.cost own.weighed))).means.counted;
       come = λ cost answered weighed.
-          halved_better (asked_of net cost log old) old.code.code scale first mid new c.args.budget.now c.loop-lo.budget c.ask.new.budget c.loop-lo.lo c.loop-lo.best (c.loop-lo.invariant.come cost answered weighed) (Some c.middle-b.result) better
+          halved_better (asked_of net cost log old) old.code.coded scale first mid new c.args.budget.now c.loop-lo.budget c.ask.new.budget c.loop-lo.lo c.loop-lo.best (c.loop-lo.invariant.come cost answered weighed) (Some c.middle-b.result) better
           (asked_back net cost log old now scale (Some c.middle-b.result) mid new c.loop-lo.budget c.ask.new.budget c.in_ok-asked.asked (asked.Explained better) keeps c.in-Explained.is (c.in_ok-asked.ensures.asked cost answered (c.loop-lo.invariant.still cost weighed)));
     }
 
@@ -121,7 +121,7 @@ loop-lo-preserved g c =
       searching = searching_further first mid new c.args.budget.now c.loop-lo.budget c.ask.new.budget c.loop-lo.invariant.searching c.ask.ensures.searching;
       counted = c.loop-lo.invariant.counted;
       come = λ cost answered weighed.
-          halved_refuted (asked_of net cost log old) old.code.code scale first mid new c.args.budget.now c.loop-lo.budget c.ask.new.budget c.loop-lo.lo c.loop-lo.best (c.loop-lo.invariant.come cost answered weighed) c.middle-b.result c.middle-b.ensures
+          halved_refuted (asked_of net cost log old) old.code.coded scale first mid new c.args.budget.now c.loop-lo.budget c.ask.new.budget c.loop-lo.lo c.loop-lo.best (c.loop-lo.invariant.come cost answered weighed) c.middle-b.result c.middle-b.ensures
           (asked_back net cost log old now scale (Some c.middle-b.result) mid new c.loop-lo.budget c.ask.new.budget c.in_ok-asked.asked asked.Refuted keeps c.in-Refuted.is (c.in_ok-asked.ensures.asked cost answered (c.loop-lo.invariant.still cost weighed)));
     }
 
@@ -162,8 +162,8 @@ returns-then-best-gt-MOST_COST-clause-found g c = λ cost answered weighed.
     let most = c.ceiling.ensures in
     let side = c.if-best-gt-MOST_COST.true in
     found_still net cost log old now c.args.budget.now first new _ keeps
-    (halved_dear q old.code.code scale first new c.args.budget.now c.loop-lo.budget c.loop-lo.lo c.loop-lo.best (c.loop-lo.invariant.come cost answered weighed)
-    (λ k few some. told cost old.step old.code.code now.counter now.vars (axioms_of new) scale coded net log c.requires.belong.of_steps c.is_built.ensures.network c.is_whole.ensures.whole.valid c.requires.belong.same_log c.has_guards.ensures (Some k) (record { some = some; few = omega (arith, amounts, few) }))
+    (halved_dear q old.code.coded scale first new c.args.budget.now c.loop-lo.budget c.loop-lo.lo c.loop-lo.best (c.loop-lo.invariant.come cost answered weighed)
+    (λ k few some. told cost old.step old.code.coded now.counter now.vars (axioms_of new) scale coded net log c.requires.belong.of_steps c.is_built.ensures.network c.is_whole.ensures.whole.valid c.requires.belong.same_log c.has_guards.ensures (Some k) (record { some = some; few = omega (arith, amounts, few) }))
     (omega (arith, end, most)) (omega (arith, side)))
 
 pub returns-else-best-gt-MOST_COST-clause-kept : goal.returns-else-best-gt-MOST_COST-clause-kept
@@ -189,8 +189,8 @@ returns-else-best-gt-MOST_COST-clause-found g c = λ cost answered weighed.
     let most = c.ceiling.ensures in
     let side = c.if-best-gt-MOST_COST.false in
     found_still net cost log old now c.args.budget.now first new _ keeps
-    (halved_cheapest q old.code.code scale first new c.args.budget.now c.loop-lo.budget c.loop-lo.lo c.loop-lo.best (c.loop-lo.invariant.come cost answered weighed)
-    (λ k few some. told cost old.step old.code.code now.counter now.vars (axioms_of new) scale coded net log c.requires.belong.of_steps c.is_built.ensures.network c.is_whole.ensures.whole.valid c.requires.belong.same_log c.has_guards.ensures (Some k) (record { some = some; few = omega (arith, amounts, few) }))
+    (halved_cheapest q old.code.coded scale first new c.args.budget.now c.loop-lo.budget c.loop-lo.lo c.loop-lo.best (c.loop-lo.invariant.come cost answered weighed)
+    (λ k few some. told cost old.step old.code.coded now.counter now.vars (axioms_of new) scale coded net log c.requires.belong.of_steps c.is_built.ensures.network c.is_whole.ensures.whole.valid c.requires.belong.same_log c.has_guards.ensures (Some k) (record { some = some; few = omega (arith, amounts, few) }))
     (omega (arith, end, most)) (omega (arith, side)))
 
 pub returns-in_err-asked-clause-still : goal.returns-in_err-asked-clause-still

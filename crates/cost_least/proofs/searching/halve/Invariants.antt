@@ -15,7 +15,7 @@ invariant-loop-lo g l = record {
   searching : IsSearching l.fn.book.entries l.book.entries l.fn.budget l.budget;
   counted : 0 < l.best.cost → 0 < l.question.scale.inputs;
   come : (cost : ℕ → ℕ) → GivesCosts (goal.C-post g) l.costs.cost l.question.net.now cost → AreWeighed (goal.R-pre g) (goal.R-post g) cost l.fn.parts l.question.scale l.fn.book.entries →
-      HasHalved (asked_of l.question.net.now cost l.question.log.now l.fn.parts) l.fn.parts.code.code l.question.scale l.fn.book.entries l.book.entries l.fn.budget l.budget l.lo l.best;
+      HasHalved (asked_of l.question.net.now cost l.question.log.now l.fn.parts) l.fn.parts.code.coded l.question.scale l.fn.book.entries l.book.entries l.fn.budget l.budget l.lo l.best;
 }
 
 abbrev pub decreases-loop-lo : goal.decreases-loop-lo

@@ -26,8 +26,8 @@ returns-in-Refuted-clause-found g c = λ cost answered weighed.
     let new = c.ask.new.book.entries in
     let here = asked_back net cost log old now scale None mid new c.args.budget.now c.ask.new.budget c.in_ok-ask.field-0 asked.Refuted c.ask.ensures.kept c.in-Refuted.is (c.in_ok-ask.ensures.asked cost answered weighed) in
     let coded = coded_back cost old now (axioms_of new) scale c.ask.ensures.kept (c.ask.ensures.still cost weighed).coded in
-    let tells = told cost old.step old.code.code now.counter now.vars (axioms_of new) scale coded net log c.requires.belong.of_steps c.is_built.ensures.network c.is_whole.ensures.whole.valid c.requires.belong.same_log c.has_guards.ensures None tt in
-    found_still net cost log old now c.args.budget.now mid new _ c.ask.ensures.kept (found_absent (asked_of net cost log old) old.code.code scale mid new c.args.budget.now c.ask.new.budget tells here)
+    let tells = told cost old.step old.code.coded now.counter now.vars (axioms_of new) scale coded net log c.requires.belong.of_steps c.is_built.ensures.network c.is_whole.ensures.whole.valid c.requires.belong.same_log c.has_guards.ensures None tt in
+    found_still net cost log old now c.args.budget.now mid new _ c.ask.ensures.kept (found_absent (asked_of net cost log old) old.code.coded scale mid new c.args.budget.now c.ask.new.budget tells here)
 
 pub returns-in-Spent-clause-found : goal.returns-in-Spent-clause-found
 returns-in-Spent-clause-found g c = λ cost answered weighed.
@@ -40,8 +40,8 @@ returns-in-Spent-clause-found g c = λ cost answered weighed.
     let new = c.ask.new.book.entries in
     let here = asked_back net cost log old now scale None mid new c.args.budget.now c.ask.new.budget c.in_ok-ask.field-0 asked.Spent c.ask.ensures.kept c.in-Spent.is (c.in_ok-ask.ensures.asked cost answered weighed) in
     let coded = coded_back cost old now (axioms_of new) scale c.ask.ensures.kept (c.ask.ensures.still cost weighed).coded in
-    let tells = told cost old.step old.code.code now.counter now.vars (axioms_of new) scale coded net log c.requires.belong.of_steps c.is_built.ensures.network c.is_whole.ensures.whole.valid c.requires.belong.same_log c.has_guards.ensures None tt in
-    found_still net cost log old now c.args.budget.now mid new _ c.ask.ensures.kept (found_nothing (asked_of net cost log old) old.code.code scale mid new c.args.budget.now c.ask.new.budget tells here)
+    let tells = told cost old.step old.code.coded now.counter now.vars (axioms_of new) scale coded net log c.requires.belong.of_steps c.is_built.ensures.network c.is_whole.ensures.whole.valid c.requires.belong.same_log c.has_guards.ensures None tt in
+    found_still net cost log old now c.args.budget.now mid new _ c.ask.ensures.kept (found_nothing (asked_of net cost log old) old.code.coded scale mid new c.args.budget.now c.ask.new.budget tells here)
 
 pub halve-requires-clause-belong : goal.halve-requires-clause-belong
 halve-requires-clause-belong g c = belongs_still c.args.question.net.now c.args.question.log.now c.args.parts.now c.ask.new.parts c.ask.ensures.kept c.requires.belong

@@ -14,7 +14,7 @@ write_scale-requires-clause-room g c =
     let old = c.args.parts.now in
     let inputs = c.in_ok-inputs.ensures in
     subst (λ (xs : List Weighted). old.vars + length xs * 1001 ≤ VAR_LIMIT) (sym c.as_slice.ensures.value)
-    (scale_fits c.args.net.now c.args.log.now inputs.cost old.step old.code.code old.counter old.vars (axioms_of c.args.book.now.entries) c.in_ok-inputs.inputs.items c.is_built.ensures.whole c.is_whole.ensures.whole.few_alarms
+    (scale_fits c.args.net.now c.args.log.now inputs.cost old.step old.code.coded old.counter old.vars (axioms_of c.args.book.now.entries) c.in_ok-inputs.inputs.items c.is_built.ensures.whole c.is_whole.ensures.whole.few_alarms
     c.requires.belong c.requires.steps c.requires.size c.requires.ready.coded inputs.weighted)
 
 pub write_scale-requires-clause-below : goal.write_scale-requires-clause-below
@@ -22,17 +22,17 @@ write_scale-requires-clause-below g c =
     let old = c.args.parts.now in
     let inputs = c.in_ok-inputs.ensures in
     subst (AllByRecursion (λ (x : Weighted). x.input.var < old.vars)) (sym c.as_slice.ensures.value)
-    (inputs_below inputs.cost old.step old.code.code old.counter old.vars (axioms_of c.args.book.now.entries) c.in_ok-inputs.inputs.items c.requires.ready.coded inputs.weighted)
+    (inputs_below inputs.cost old.step old.code.coded old.counter old.vars (axioms_of c.args.book.now.entries) c.in_ok-inputs.inputs.items c.requires.ready.coded inputs.weighted)
 
 pub returns-clause-weighed : goal.returns-clause-weighed
 returns-clause-weighed g c =
     let old = c.args.parts.now in
     let inputs = c.in_ok-inputs.ensures in
     ok_weaker c.write_scale.result
-    (λ scale. (cost : ℕ → ℕ) → AreWeightedInputs old.step old.code.code cost c.as_slice.result.now → AreWeighed (goal.R-pre g) (goal.R-post g) cost c.write_scale.new.parts scale c.write_scale.new.book.entries)
+    (λ scale. (cost : ℕ → ℕ) → AreWeightedInputs old.step old.code.coded cost c.as_slice.result.now → AreWeighed (goal.R-pre g) (goal.R-post g) cost c.write_scale.new.parts scale c.write_scale.new.book.entries)
     (λ scale. AreAsked (goal.R-pre g) (goal.R-post g) (goal.C-post g) c.args.costs.now.cost c.args.net.now c.write_scale.new.parts scale c.write_scale.new.book.entries)
     (λ scale weighed. record {
       cost = inputs.cost;
       answered = inputs.answered;
-      weighed = weighed inputs.cost (subst (AreWeightedInputs old.step old.code.code inputs.cost) (sym c.as_slice.ensures.value) inputs.weighted);
+      weighed = weighed inputs.cost (subst (AreWeightedInputs old.step old.code.coded inputs.cost) (sym c.as_slice.ensures.value) inputs.weighted);
     }) c.write_scale.ensures.weighed

@@ -47,7 +47,7 @@ returns-clause-weighed g c = λ cost weighted.
     let next = c.in_ok-scale.ensures.added.vars in
     let values = ap (λ (s : SolverState _). s.vars) c.adopt.ensures.value in
     record {
-      coded = parts_weighed cost old.step old.code.code old.counter old.vars c.new.new.vars c.args.inputs.now _ _ c.new.new.out.clauses c.in_ok-scale.scale book c.reserve.new.self.entries entries c.requires.ready.coded weighted refl c.in_ok-scale.ensures.added
+      coded = parts_weighed cost old.step old.code.coded old.counter old.vars c.new.new.vars c.args.inputs.now _ _ c.new.new.out.clauses c.in_ok-scale.scale book c.reserve.new.self.entries entries c.requires.ready.coded weighted refl c.in_ok-scale.ensures.added
           (ap (λ (s : ClauseStore). s.clauses) c.new-clauses.ensures) c.reserve.ensures.same c.push_axioms.ensures;
       known = known_after book entries (adds_pushed book c.reserve.new.self.entries entries c.new.new.out.clauses c.reserve.ensures.same c.push_axioms.ensures) c.requires.ready.known;
       adopted_all = ap (λ (s : SolverState _). s.adopted) c.adopt.ensures.value;

@@ -53,12 +53,12 @@ returns-clause-axioms g c = elim c.if-inputs-gt0.branch [
 pub returns-clause-within : goal.returns-clause-within
 returns-clause-within g c = elim c.if-inputs-gt0.branch [
   | then-inputs-gt0+in_ok-bound+in_ok-push w ↦
-      subst (λ (p : Parts g.row.R.Denot). AreAssumptions p.code.code p.counter (bound_for p.counter c.args.k) c.if-inputs-gt0.assumed.items) (sym w.parts-is)
+      subst (λ (p : Parts g.row.R.Denot). AreAssumptions p.code.coded p.counter (bound_for p.counter c.args.k) c.if-inputs-gt0.assumed.items) (sym w.parts-is)
       (guards_bound c.args.parts.now.code w.bound.new.parts.code w.bound.new.parts.counter c.args.k (length c.args.parts.now.counter.columns) c.guards.result.now w.in_ok-bound.field-0 c.if-inputs-gt0.assumed.items c.guards.ensures.guards w.bound.ensures.kept.code
       (subst (λ inputs. 0 < length inputs) (sym w.bound.ensures.kept.counter.inputs) (omega (arith, w.if-inputs-gt0.true, c.inputs.ensures))) w.in_ok-bound.ensures.literal.columns w.in_ok-bound.ensures.literal.literal_is
       (grind (arith, w.assumed-is, w.in_ok-push.ensures.items, c.in_ok-extend_from_slice.ensures.items, c.new-assumed.ensures.items)))
   | else-inputs-gt0 w ↦
-      subst (λ (p : Parts g.row.R.Denot). AreAssumptions p.code.code p.counter (bound_for p.counter c.args.k) c.if-inputs-gt0.assumed.items) (sym w.parts-is)
-      (guards_alone c.args.parts.now.code.code c.args.parts.now.counter c.args.k c.guards.result.now c.if-inputs-gt0.assumed.items c.guards.ensures.guards (omega (arith, w.if-inputs-gt0.false, c.inputs.ensures))
+      subst (λ (p : Parts g.row.R.Denot). AreAssumptions p.code.coded p.counter (bound_for p.counter c.args.k) c.if-inputs-gt0.assumed.items) (sym w.parts-is)
+      (guards_alone c.args.parts.now.code.coded c.args.parts.now.counter c.args.k c.guards.result.now c.if-inputs-gt0.assumed.items c.guards.ensures.guards (omega (arith, w.if-inputs-gt0.false, c.inputs.ensures))
       (grind (arith, w.assumed-is, c.in_ok-extend_from_slice.ensures.items, c.new-assumed.ensures.items)))
 ]

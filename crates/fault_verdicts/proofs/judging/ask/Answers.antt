@@ -153,7 +153,7 @@ pub decode-requires-clause-true_there : goal.decode-requires-clause-true_there
 decode-requires-clause-true_there g c =
     let values = c.solve.new.self.assignment in
     let holds = model values c.solve.new.book.entries c.as_slice.result.now c.in_ok-assumed.assumed.items c.solve.new.budget c.in_ok-answer.answer c.in-Sat.is c.as_slice.ensures.value c.in_ok-answer.ensures.answer in
-    subst (λ vs. IsTrueRun c.assume.new.parts.step c.assume.new.parts.code.code (value_in vs)) (sym c.assignment.ensures.value)
+    subst (λ vs. IsTrueRun c.assume.new.parts.step c.assume.new.parts.code.coded (value_in vs)) (sym c.assignment.ensures.value)
     (assumed_true_run _ _ c.assume.new.parts c.assume.new.book.entries c.args.k c.args.event c.has_event-there.result c.in_ok-assumed.assumed.items c.in_ok-assumed.ensures.assumed (value_in values)
     (begun_true (value_in values) c.assume.new.book.entries c.solve.new.book.entries c.args.left.now c.solve.new.budget c.solve.ensures.searched holds.clauses) holds.assumptions)
 
@@ -173,4 +173,4 @@ returns-clause-asked g c =
     c.assume.ensures.axioms c.solve.ensures.searched are.ready.beside.known best c.has_event-there.ensures has are belong c.is_built.ensures.network c.is_whole.ensures.whole.valid c.requires.known (value_in values)
     (begun_true (value_in values) c.assume.new.book.entries c.solve.new.book.entries c.args.left.now c.solve.new.budget c.solve.ensures.searched holds.clauses) holds.assumptions decoded.matched decoded.explains
     (λ false_lits read. decoded.faults false_lits read ∙ ap (λ vs. true_count (value_in vs) (fault_literals net (code_grid mid.step) ++ false_lits)) c.assignment.ensures.value)
-    (decoded.run ∙ ap (λ vs. decoded_run net log (truth_of mid.step mid.code.code (value_in vs)) (least_order (length log.alarms) log.pairs) mid.step.steps) c.assignment.ensures.value)
+    (decoded.run ∙ ap (λ vs. decoded_run net log (truth_of mid.step mid.code.coded (value_in vs)) (least_order (length log.alarms) log.pairs) mid.step.steps) c.assignment.ensures.value)

@@ -12,7 +12,7 @@ use Rattle.sat_solve.specs.Solving.{SolverState}
 pub count_false-requires-clause-within : goal.count_false-requires-clause-within
 count_false-requires-clause-within g c =
     let old = c.args.parts.now in
-    let fits = variables_fit old.step old.code.code old.counter old.vars (axioms_of c.args.book.now.entries) c.requires.ready.coded c.args.reserved.draft c.requires.reserved.drafted c.requires.reserved.fits in
+    let fits = variables_fit old.step old.code.coded old.counter old.vars (axioms_of c.args.book.now.entries) c.requires.ready.coded c.args.reserved.draft c.requires.reserved.drafted c.requires.reserved.fits in
     let cells = ap (λ b. input_count b * length old.counter.columns) c.requires.reserved.doubted in
     omega (arith, fits, cells, c.fresh.ensures.count, c.vars.ensures)
 
@@ -22,13 +22,13 @@ count_false-requires-clause-made g c = made_later c.args.parts.now.vars c.fresh.
 pub count_false-requires-clause-inputs : goal.count_false-requires-clause-inputs
 count_false-requires-clause-inputs g c =
     let old = c.args.parts.now in
-    inputs_may_count old.step old.code.code c.commit.new.self.code old.counter old.vars c.fresh.new.self c.args.book.now.entries c.requires.ready.coded c.args.reserved.draft c.requires.reserved.drafted c.requires.reserved.fits
+    inputs_may_count old.step old.code.coded c.commit.new.self.coded old.counter old.vars c.fresh.new.self c.args.book.now.entries c.requires.ready.coded c.args.reserved.draft c.requires.reserved.drafted c.requires.reserved.fits
     (omega (arith, c.fresh.ensures.count, c.vars.ensures)) c.commit.ensures c.args.reserved.doubtful c.requires.reserved.doubted
 
 pub push_axioms-requires-clause-clauses : goal.push_axioms-requires-clause-clauses
 push_axioms-requires-clause-clauses g c =
     let old = c.args.parts.now in
-    let few = few_added old.step old.code.code c.commit.new.self.code old.counter old.vars c.fresh.new.self c.args.book.now.entries c.requires.ready.coded c.args.reserved.draft c.requires.reserved.drafted c.requires.reserved.fits
+    let few = few_added old.step old.code.coded c.commit.new.self.coded old.counter old.vars c.fresh.new.self c.args.book.now.entries c.requires.ready.coded c.args.reserved.draft c.requires.reserved.drafted c.requires.reserved.fits
     (omega (arith, c.fresh.ensures.count, c.vars.ensures)) c.commit.ensures c.args.reserved.doubtful c.requires.reserved.doubted c.count_false.new.counter c.count_false.new.vars c.args.reserved.clauses.clauses c.count_false.new.clauses.clauses
     c.requires.reserved.written c.count_false.ensures in
     omega (arith, few.few, c.requires.reserved.room.entered)
@@ -36,7 +36,7 @@ push_axioms-requires-clause-clauses g c =
 pub push_axioms-requires-clause-literals : goal.push_axioms-requires-clause-literals
 push_axioms-requires-clause-literals g c =
     let old = c.args.parts.now in
-    let few = few_added old.step old.code.code c.commit.new.self.code old.counter old.vars c.fresh.new.self c.args.book.now.entries c.requires.ready.coded c.args.reserved.draft c.requires.reserved.drafted c.requires.reserved.fits
+    let few = few_added old.step old.code.coded c.commit.new.self.coded old.counter old.vars c.fresh.new.self c.args.book.now.entries c.requires.ready.coded c.args.reserved.draft c.requires.reserved.drafted c.requires.reserved.fits
     (omega (arith, c.fresh.ensures.count, c.vars.ensures)) c.commit.ensures c.args.reserved.doubtful c.requires.reserved.doubted c.count_false.new.counter c.count_false.new.vars c.args.reserved.clauses.clauses c.count_false.new.clauses.clauses
     c.requires.reserved.written c.count_false.ensures in
     omega (arith, few.short, c.requires.reserved.room.spelt)
@@ -45,10 +45,10 @@ pub adopt-requires : goal.adopt-requires
 adopt-requires g c =
     let old = c.args.parts.now in
     let count : c.fresh.new.self ≡ old.vars + c.args.reserved.draft.vars = omega (arith, c.fresh.ensures.count, c.vars.ensures) in
-    let few = few_added old.step old.code.code c.commit.new.self.code old.counter old.vars c.fresh.new.self c.args.book.now.entries c.requires.ready.coded c.args.reserved.draft c.requires.reserved.drafted c.requires.reserved.fits
+    let few = few_added old.step old.code.coded c.commit.new.self.coded old.counter old.vars c.fresh.new.self c.args.book.now.entries c.requires.ready.coded c.args.reserved.draft c.requires.reserved.drafted c.requires.reserved.fits
     count c.commit.ensures c.args.reserved.doubtful c.requires.reserved.doubted c.count_false.new.counter c.count_false.new.vars c.args.reserved.clauses.clauses c.count_false.new.clauses.clauses
     c.requires.reserved.written c.count_false.ensures in
-    let has = draft_added old.step old.code.code c.commit.new.self.code old.counter old.vars c.fresh.new.self c.args.book.now.entries c.requires.ready.coded c.args.reserved.draft c.requires.reserved.drafted c.requires.reserved.fits
+    let has = draft_added old.step old.code.coded c.commit.new.self.coded old.counter old.vars c.fresh.new.self c.args.book.now.entries c.requires.ready.coded c.args.reserved.draft c.requires.reserved.drafted c.requires.reserved.fits
     count c.commit.ensures c.args.reserved.doubtful c.requires.reserved.doubted c.count_false.new.counter c.count_false.new.vars c.args.reserved.clauses.clauses c.count_false.new.clauses.clauses
     c.requires.reserved.written c.count_false.ensures old.solver.adopted old.solver.vars c.push_axioms.new.book.entries c.requires.ready.adopted_all c.requires.reserved.room.values c.push_axioms.ensures in
     let long = has.long in
@@ -61,7 +61,7 @@ adopt-requires g c =
 pub returns-clause-ready : goal.returns-clause-ready
 returns-clause-ready g c =
     let old = c.args.parts.now in
-    let has = draft_added old.step old.code.code c.commit.new.self.code old.counter old.vars c.fresh.new.self c.args.book.now.entries c.requires.ready.coded c.args.reserved.draft c.requires.reserved.drafted c.requires.reserved.fits
+    let has = draft_added old.step old.code.coded c.commit.new.self.coded old.counter old.vars c.fresh.new.self c.args.book.now.entries c.requires.ready.coded c.args.reserved.draft c.requires.reserved.drafted c.requires.reserved.fits
     (omega (arith, c.fresh.ensures.count, c.vars.ensures)) c.commit.ensures c.args.reserved.doubtful c.requires.reserved.doubted c.count_false.new.counter c.count_false.new.vars c.args.reserved.clauses.clauses c.count_false.new.clauses.clauses
     c.requires.reserved.written c.count_false.ensures old.solver.adopted old.solver.vars c.push_axioms.new.book.entries c.requires.ready.adopted_all c.requires.reserved.room.values c.push_axioms.ensures in
     let values = ap (λ (s : SolverState _). s.vars) c.adopt.ensures.value in
@@ -79,12 +79,12 @@ returns-clause-added g c =
     let old = c.args.parts.now in
     let count : c.fresh.new.self ≡ old.vars + c.args.reserved.draft.vars = omega (arith, c.fresh.ensures.count, c.vars.ensures) in
     record {
-      built = built_added old.step old.code.code c.commit.new.self.code old.counter old.vars c.fresh.new.self c.args.book.now.entries c.requires.ready.coded c.args.reserved.draft c.requires.reserved.drafted c.requires.reserved.fits
+      built = built_added old.step old.code.coded c.commit.new.self.coded old.counter old.vars c.fresh.new.self c.args.book.now.entries c.requires.ready.coded c.args.reserved.draft c.requires.reserved.drafted c.requires.reserved.fits
           count c.commit.ensures c.args.reserved.doubtful c.requires.reserved.doubted c.count_false.new.counter c.count_false.new.vars c.args.reserved.clauses.clauses c.count_false.new.clauses.clauses
           c.requires.reserved.written c.count_false.ensures c.push_axioms.new.book.entries c.push_axioms.ensures;
       put = c.push_axioms.ensures
           ∙ ap (λ (cs : List Clause). c.args.book.now.entries ++ map axiomatic cs)
-          (clauses_built old.step old.code.code c.commit.new.self.code old.counter old.vars c.fresh.new.self c.args.book.now.entries c.requires.ready.coded c.args.reserved.draft c.requires.reserved.drafted c.requires.reserved.fits
+          (clauses_built old.step old.code.coded c.commit.new.self.coded old.counter old.vars c.fresh.new.self c.args.book.now.entries c.requires.ready.coded c.args.reserved.draft c.requires.reserved.drafted c.requires.reserved.fits
           count c.commit.ensures c.args.reserved.doubtful c.requires.reserved.doubted c.count_false.new.counter c.count_false.new.vars c.args.reserved.clauses.clauses c.count_false.new.clauses.clauses
           c.requires.reserved.written c.count_false.ensures);
       rank = ap (λ (s : SolverState _). s.order.rank) c.adopt.ensures.value;
@@ -96,7 +96,7 @@ returns-clause-few g c =
     record {
       axioms = c.count_false.new.clauses.clauses;
       more = c.push_axioms.ensures;
-      few = axioms_few old.step old.code.code c.commit.new.self.code old.counter old.vars c.fresh.new.self c.args.book.now.entries c.requires.ready.coded c.args.reserved.draft c.requires.reserved.drafted c.requires.reserved.fits
+      few = axioms_few old.step old.code.coded c.commit.new.self.coded old.counter old.vars c.fresh.new.self c.args.book.now.entries c.requires.ready.coded c.args.reserved.draft c.requires.reserved.drafted c.requires.reserved.fits
           (omega (arith, c.fresh.ensures.count, c.vars.ensures)) c.commit.ensures c.args.reserved.doubtful c.requires.reserved.doubted c.count_false.new.counter c.count_false.new.vars c.args.reserved.clauses.clauses c.count_false.new.clauses.clauses
           c.requires.reserved.written c.count_false.ensures;
     }

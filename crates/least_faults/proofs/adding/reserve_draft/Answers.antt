@@ -8,7 +8,7 @@ use Rattle.proof_ledger.specs.Book.{axioms_of}
 pub reserve_room-requires-clause-few : goal.reserve_room-requires-clause-few
 reserve_room-requires-clause-few g c =
     let old = c.args.parts.now in
-    let fits = variables_fit old.step old.code.code old.counter old.vars (axioms_of c.args.book.now.entries) c.requires.ready.coded c.args.draft c.requires.drafted c.requires.fits in
+    let fits = variables_fit old.step old.code.coded old.counter old.vars (axioms_of c.args.book.now.entries) c.requires.ready.coded c.args.draft c.requires.drafted c.requires.fits in
     let count = ap (λ b. input_count b * length old.counter.columns) c.requires.doubted in
     let cells = c.cells_for-cells.ensures.is in
     omega (arith, fits, count, cells)

@@ -18,9 +18,9 @@ use Rattle.sat_solve.specs.Searching.{IsAnswer, IsModel, HasPut}
 use Rattle.sat_solve.specs.declared.answer.Answer.{Answer}
 
 posed : {R : Type 0} (may : R → ℕ → Type 0) (gives : R → ℕ → ℕ → Type 0) (parts : Parts R) (book : List BookEntry) (net : Net) (log : Log) (bound : Option ℕ) (assumed : List Lit) → AreReady may gives parts book →
-    AreAssumptions parts.code.code parts.counter bound assumed → BelongTo net log parts → IsNetwork net → IsValidLog log → IsPosed (meanings_of_parts parts) (axioms_of book) assumed parts.step.net log parts.step.steps bound
+    AreAssumptions parts.code.coded parts.counter bound assumed → BelongTo net log parts → IsNetwork net → IsValidLog log → IsPosed (meanings_of_parts parts) (axioms_of book) assumed parts.step.net log parts.step.steps bound
 posed may gives parts book net log bound assumed ready assumptions belong network valid =
-    poses parts.step parts.code.code parts.counter parts.vars (axioms_of book) bound assumed ready.coded assumptions log (subst IsNetwork (sym belong.of_steps) network) valid belong.same_log
+    poses parts.step parts.code.coded parts.counter parts.vars (axioms_of book) bound assumed ready.coded assumptions log (subst IsNetwork (sym belong.of_steps) network) valid belong.same_log
 
 pub solve-requires-clause-known : goal.solve-requires-clause-known
 solve-requires-clause-known g c =
@@ -30,7 +30,7 @@ solve-requires-clause-known g c =
     c.in_ok-assumed.ensures.assumed.assumptions belong c.is_built.ensures.network c.is_whole.ensures.whole.valid in
     subst (HasValues parts.solver.vars) (sym c.as_slice.ensures.value)
     (below_more parts.vars parts.solver.vars c.in_ok-assumed.assumed.items c.assumptions.ensures.ready.enough
-    (assumed_below parts.step parts.code.code parts.counter parts.vars (axioms_of c.assumptions.new.book.entries) (axioms_of c.assumptions.new.book.entries) c.in_ok-assumed.assumed.items parts.step.net c.args.question.log.now parts.step.steps c.args.within
+    (assumed_below parts.step parts.code.coded parts.counter parts.vars (axioms_of c.assumptions.new.book.entries) (axioms_of c.assumptions.new.book.entries) c.in_ok-assumed.assumed.items parts.step.net c.args.question.log.now parts.step.steps c.args.within
     c.assumptions.ensures.ready.coded asks))
 
 pub solve-requires-clause-compatible : goal.solve-requires-clause-compatible
@@ -45,7 +45,7 @@ pub returns-in-Unsat-clause-asked : goal.returns-in-Unsat-clause-asked
 returns-in-Unsat-clause-asked g c =
     let parts = c.assumptions.new.parts in
     let belong = belong_still c.args.question.net.now c.args.question.log.now c.args.parts.now parts c.assumptions.ensures.kept c.requires.belong in
-    asked_refuted parts.step parts.code.code parts.counter parts.vars c.args.question.net.now c.args.question.log.now c.assumptions.new.book.entries c.assumptions.ensures.ready.coded
+    asked_refuted parts.step parts.code.coded parts.counter parts.vars c.args.question.net.now c.args.question.log.now c.assumptions.new.book.entries c.assumptions.ensures.ready.coded
     belong.of_steps c.is_built.ensures.network c.is_whole.ensures.whole.valid
     belong.same_log c.args.within c.in_ok-assumed.assumed.items c.in_ok-assumed.ensures.assumed.assumptions
     c.args.book.now.entries c.solve.new.book.entries c.args.budget.now c.solve.new.budget c.assumptions.ensures.axioms c.solve.ensures.searched c.assumptions.ensures.ready.known
@@ -60,7 +60,7 @@ pub returns-in-Spent-clause-asked : goal.returns-in-Spent-clause-asked
 returns-in-Spent-clause-asked g c =
     let parts = c.assumptions.new.parts in
     let belong = belong_still c.args.question.net.now c.args.question.log.now c.args.parts.now parts c.assumptions.ensures.kept c.requires.belong in
-    asked_spent parts.step parts.code.code parts.counter parts.vars c.args.question.net.now c.args.question.log.now c.assumptions.new.book.entries c.assumptions.ensures.ready.coded
+    asked_spent parts.step parts.code.coded parts.counter parts.vars c.args.question.net.now c.args.question.log.now c.assumptions.new.book.entries c.assumptions.ensures.ready.coded
     belong.of_steps c.is_built.ensures.network c.is_whole.ensures.whole.valid
     belong.same_log c.args.within c.in_ok-assumed.assumed.items c.in_ok-assumed.ensures.assumed.assumptions
     c.args.book.now.entries c.solve.new.book.entries c.args.budget.now c.solve.new.budget c.assumptions.ensures.axioms c.solve.ensures.searched c.assumptions.ensures.ready.known
@@ -80,7 +80,7 @@ found_run-requires-clause-true_there g c =
     let parts = c.assumptions.new.parts in
     let values = c.solve.new.self.assignment in
     let holds = model values c.solve.new.book.entries c.as_slice.result.now c.in_ok-assumed.assumed.items c.solve.new.budget c.in_ok-answer.answer c.in-Sat.is c.as_slice.ensures.value c.in_ok-answer.ensures.answer in
-    true_run parts.step parts.code.code parts.counter parts.vars (axioms_of c.assumptions.new.book.entries) c.args.within c.in_ok-assumed.assumed.items (value_in values) c.assumptions.ensures.ready.coded c.in_ok-assumed.ensures.assumed.assumptions
+    true_run parts.step parts.code.coded parts.counter parts.vars (axioms_of c.assumptions.new.book.entries) c.args.within c.in_ok-assumed.assumed.items (value_in values) c.assumptions.ensures.ready.coded c.in_ok-assumed.ensures.assumed.assumptions
     (begun_true (value_in values) c.assumptions.new.book.entries c.solve.new.book.entries c.args.budget.now c.solve.new.budget c.solve.ensures.searched holds.clauses) holds.assumptions
 
 pub returns-clause-asked : goal.returns-clause-asked
@@ -89,7 +89,7 @@ returns-clause-asked g c =
     let belong = belong_still c.args.question.net.now c.args.question.log.now c.args.parts.now parts c.assumptions.ensures.kept c.requires.belong in
     let values = c.solve.new.self.assignment in
     let holds = model values c.solve.new.book.entries c.as_slice.result.now c.in_ok-assumed.assumed.items c.solve.new.budget c.in_ok-answer.answer c.in-Sat.is c.as_slice.ensures.value c.in_ok-answer.ensures.answer in
-    asked_explained parts.step parts.code.code parts.counter parts.vars c.args.question.net.now c.args.question.log.now c.assumptions.new.book.entries c.assumptions.ensures.ready.coded
+    asked_explained parts.step parts.code.coded parts.counter parts.vars c.args.question.net.now c.args.question.log.now c.assumptions.new.book.entries c.assumptions.ensures.ready.coded
     belong.of_steps c.is_built.ensures.network c.is_whole.ensures.whole.valid
     belong.same_log c.args.within c.in_ok-assumed.assumed.items c.in_ok-assumed.ensures.assumed.assumptions
     c.args.book.now.entries c.solve.new.book.entries c.args.budget.now c.solve.new.budget c.assumptions.ensures.axioms c.solve.ensures.searched c.assumptions.ensures.ready.known

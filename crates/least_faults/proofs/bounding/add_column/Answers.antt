@@ -14,7 +14,7 @@ use Rattle.sat_order.specs.Rank.{IsRanked}
 pub add_column-requires-clause-within : goal.add_column-requires-clause-within
 add_column-requires-clause-within g c =
     let old = c.args.parts.now in
-    let fits = column_fits old.step old.code.code old.counter old.vars c.requires.ready.coded c.requires.few in
+    let fits = column_fits old.step old.code.coded old.counter old.vars c.requires.ready.coded c.requires.few in
     omega (arith, fits)
 
 pub push_axioms-requires-clause-clauses : goal.push_axioms-requires-clause-clauses
@@ -34,7 +34,7 @@ push_axioms-requires-clause-literals g c =
 pub adopt-requires : goal.adopt-requires
 adopt-requires g c =
     let old = c.args.parts.now in
-    let column = column_added old.step old.code.code old.counter c.add_column.new.self old.vars c.add_column.new.vars old.solver.adopted c.reserve-2.new.self.adopted
+    let column = column_added old.step old.code.coded old.counter c.add_column.new.self old.vars c.add_column.new.vars old.solver.adopted c.reserve-2.new.self.adopted
     c.reserve-2.new.self.vars c.args.book.now.entries c.reserve.new.self.entries c.push_axioms.new.book.entries c.add_column.new.out.clauses c.requires.ready.coded c.requires.ready.adopted_all c.requires.some c.requires.few
     (more_values old.solver.vars c.reserve-2.new.self.vars c.count.result old.vars c.inputs-inputs.result (length old.counter.inputs) c.in_ok-reserve-2.ensures.ok.vars c.count.ensures.count c.inputs-inputs.ensures)
     c.in_ok-add_column.ensures.column.counter c.in_ok-add_column.ensures.column.vars c.reserve-2.ensures.adopted c.reserve.ensures.same (written_alone c.new-clauses.result.clauses c.add_column.new.out.clauses _ (ap (λ (store : ClauseStore). store.clauses) c.new-clauses.ensures) c.in_ok-add_column.ensures.column.clauses) c.push_axioms.ensures in
@@ -50,7 +50,7 @@ adopt-requires g c =
 pub returns-clause-ready : goal.returns-clause-ready
 returns-clause-ready g c =
     let old = c.args.parts.now in
-    let column = column_added old.step old.code.code old.counter c.add_column.new.self old.vars c.add_column.new.vars old.solver.adopted c.reserve-2.new.self.adopted
+    let column = column_added old.step old.code.coded old.counter c.add_column.new.self old.vars c.add_column.new.vars old.solver.adopted c.reserve-2.new.self.adopted
     c.reserve-2.new.self.vars c.args.book.now.entries c.reserve.new.self.entries c.push_axioms.new.book.entries c.add_column.new.out.clauses c.requires.ready.coded c.requires.ready.adopted_all c.requires.some c.requires.few
     (more_values old.solver.vars c.reserve-2.new.self.vars c.count.result old.vars c.inputs-inputs.result (length old.counter.inputs) c.in_ok-reserve-2.ensures.ok.vars c.count.ensures.count c.inputs-inputs.ensures)
     c.in_ok-add_column.ensures.column.counter c.in_ok-add_column.ensures.column.vars c.reserve-2.ensures.adopted c.reserve.ensures.same (written_alone c.new-clauses.result.clauses c.add_column.new.out.clauses _ (ap (λ (store : ClauseStore). store.clauses) c.new-clauses.ensures) c.in_ok-add_column.ensures.column.clauses) c.push_axioms.ensures in
@@ -81,7 +81,7 @@ returns-clause-kept g c =
         more = ap (λ (counter : CounterState). counter.columns) c.in_ok-add_column.ensures.column.counter;
       };
       rank = ap (λ (s : SolverState _). s.order.rank) c.adopt.ensures.value ∙ c.reserve-2.ensures.rank;
-      built = column_determined old.step old.code.code old.counter c.add_column.new.self old.vars c.add_column.new.vars c.args.book.now.entries c.reserve.new.self.entries c.push_axioms.new.book.entries c.add_column.new.out.clauses
+      built = column_determined old.step old.code.coded old.counter c.add_column.new.self old.vars c.add_column.new.vars c.args.book.now.entries c.reserve.new.self.entries c.push_axioms.new.book.entries c.add_column.new.out.clauses
           c.in_ok-add_column.ensures.column.counter c.in_ok-add_column.ensures.column.vars c.reserve.ensures.same
           (written_alone c.new-clauses.result.clauses c.add_column.new.out.clauses _ (ap (λ (store : ClauseStore). store.clauses) c.new-clauses.ensures) c.in_ok-add_column.ensures.column.clauses) c.push_axioms.ensures;
     }

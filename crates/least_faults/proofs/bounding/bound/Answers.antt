@@ -58,7 +58,7 @@ returns-clause-literal g c =
       columns = omega (arith, columns, upto, test);
       literal_is = c.bound_lit.ensures.literal;
       posed = λ own clauses guards read.
-          clauses_pose parts.step parts.code.code parts.counter own (Some c.args.k) (guards ++ c.bound_lit.result ∷ []) c.loop.invariant.ready.coded.together clauses (record {
+          clauses_pose parts.step parts.code.coded parts.counter own (Some c.args.k) (guards ++ c.bound_lit.result ∷ []) c.loop.invariant.ready.coded.together clauses (record {
             guards = guards;
             read = read;
             whole = ap (λ (lit : Lit). guards ++ lit ∷ []) c.bound_lit.ensures.literal;

@@ -8,5 +8,5 @@ use Rattle.prop_core.specs.VariableNames.{named_clause}
 
 pub returns : goal.returns
 returns c =
-    subst (λ (s : LogCodeState). named_clause (log_meanings s.code) c.as_slice.result.now ≡ Some (false_literals s.code.log)) c.self.view_is
+    subst (λ (s : LogCodeState). named_clause (log_meanings s.coded) c.as_slice.result.now ≡ Some (false_literals s.coded.log)) c.self.view_is
     (false_read (coded c.self.inside) c.as_slice.result.now (subst (AreFalse (coded c.self.inside)) (sym c.as_slice.ensures.value) c.self.invariant.kept.false_ones))

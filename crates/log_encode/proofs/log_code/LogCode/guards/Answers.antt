@@ -10,9 +10,9 @@ use Rattle.prop_core.specs.VariableNames.{named_clause}
 
 pub returns-clause-listed : goal.returns-clause-listed
 returns-clause-listed c =
-    subst (λ (s : LogCodeState). named_clause (read_meanings s.code) c.as_slice.result.now ≡ Some (guard_literals s.code.net s.code.log)) c.self.view_is
+    subst (λ (s : LogCodeState). named_clause (read_meanings s.coded) c.as_slice.result.now ≡ Some (guard_literals s.coded.net s.coded.log)) c.self.view_is
     (guards_read (coded c.self.inside) c.self.inside.ends.items c.as_slice.result.now c.self.invariant.kept.log
     (subst (AreEnds (coded c.self.inside) c.self.inside.ends.items) (sym c.as_slice.ensures.value) c.self.invariant.kept.chains))
 
 pub returns-clause-guards : goal.returns-clause-guards
-returns-clause-guards c = reads_whole (read_meanings c.args.self.now.code) c.as_slice.result.now (guard_literals c.args.self.now.code.net c.args.self.now.code.log) (returns-clause-listed c)
+returns-clause-guards c = reads_whole (read_meanings c.args.self.now.coded) c.as_slice.result.now (guard_literals c.args.self.now.coded.net c.args.self.now.coded.log) (returns-clause-listed c)
