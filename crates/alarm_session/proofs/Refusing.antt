@@ -6,7 +6,7 @@ use Rattle.alarm_session.specs.Refusals.{refusal_of, large_refusal, refusal_with
 use Rattle.alarm_session.specs.declared.refusal.SessionRefusal.{SessionRefusal}
 use Rattle.alarm_session.specs.declared.refusal.SessionRefusal.TheVariants.{TooLarge}
 use Rattle.least_faults.specs.declared.TheConstants.{MOST_SIZE}
-use Rattle.log_order.specs.Adding.{Answers as LogAnswers}
+use Rattle.log_order.specs.Adding.{AddsUnless}
 use Rattle.log_order.specs.declared.refusal.LogRefusal.{LogRefusal}
 use Rattle.log_order.specs.declared.refusal.LogRefusal.TheVariants as of_log
 
@@ -19,7 +19,7 @@ refused_by Y of_log.NoLabels o size is = ap (λ p. refusal_with p size) is
 refused_by Y of_log.Limit o size is = ap (λ p. refusal_with p size) is
 refused_by Y of_log.Memory o size is = tt
 
-pub refused_by_log : (X Y : Type 0) (r : LogRefusal) (o : Option LogRefusal) (size : ℕ) → LogAnswers {X = X} (Err r) o → Answers {X = Y} (Err (refusal_of r)) (refusal_with o size)
+pub refused_by_log : (X Y : Type 0) (r : LogRefusal) (o : Option LogRefusal) (size : ℕ) → AddsUnless {X = X} (Err r) o → Answers {X = Y} (Err (refusal_of r)) (refusal_with o size)
 refused_by_log X Y of_log.Double o size is = refused_by Y of_log.Double o size is
 refused_by_log X Y of_log.Unknown o size is = refused_by Y of_log.Unknown o size is
 refused_by_log X Y of_log.Cycle o size is = refused_by Y of_log.Cycle o size is
@@ -28,7 +28,7 @@ refused_by_log X Y of_log.Limit o size is = refused_by Y of_log.Limit o size is
 refused_by_log X Y of_log.Memory o size is = tt
 
 -- where the log had nothing against it, memory alone is wanting
-pub memory_alone : (X Y : Type 0) (r : LogRefusal) (o : Option LogRefusal) (refusal : Option SessionRefusal) → o ≡ None → LogAnswers {X = X} (Err r) o → Answers {X = Y} (Err (refusal_of r)) refusal
+pub memory_alone : (X Y : Type 0) (r : LogRefusal) (o : Option LogRefusal) (refusal : Option SessionRefusal) → o ≡ None → AddsUnless {X = X} (Err r) o → Answers {X = Y} (Err (refusal_of r)) refusal
 memory_alone X Y of_log.Double o refusal none is = cc
 memory_alone X Y of_log.Unknown o refusal none is = cc
 memory_alone X Y of_log.Cycle o refusal none is = cc

@@ -6,7 +6,7 @@ ghost use Rattle.alarm_session.specs.Session.{Becomes, IsDraftedFor, IsFor, IsRa
 ghost use Rattle.least_faults.specs.Parts.{AreParts};
 ghost use Rattle.least_faults.specs.declared.TheConstants.{MOST_SIZE};
 ghost use Rattle.log_clauses.specs.Additions.{pair_added};
-ghost use Rattle.log_order.specs.Adding.{Answers as LogAnswers, alarm_refusal, with_alarm};
+ghost use Rattle.log_order.specs.Adding.{AddsUnless, alarm_refusal, with_alarm};
 ghost use Rattle.log_order.specs.Log.{has_pair};
 ghost use Rattle.proof_ledger.specs.Book.{axioms_of};
 ghost use Rattle.replay.specs.QuestionSize.{question_size};
@@ -90,7 +90,7 @@ fn add_to_log(
     labels: &[Name],
     doubtful: bool,
 ) -> Result<u32, LogRefusal>
-    ensures refused { LogAnswers result (alarm_refusal log.old id labels.now) }
+    ensures refused { AddsUnless result (alarm_refusal log.old id labels.now) }
     ensures ok { OnOk result (log.new ≡ with_alarm log.old id labels.now doubtful) }
     ensures place { IfOk result (λ alarm. alarm ≡ length log.old.alarms) }
     ensures err { OnErr result (log.new ≡ log.old) }

@@ -215,8 +215,8 @@ read_more names more (l ∷ inputs) read h =
 abbrev Differ : ℕ × Meaning → ℕ × Meaning → Type 0
 Differ a b = (a.0 ≢ b.0) × (a.1 ≢ b.1)
 
-pub names_grow : CounterMeaningsGrow
-names_grow names read state first once below none named = (all_once, record { inputs_read = read_more names more state.inputs read named.inputs_read; called = called })
+pub counter_meanings_grow : CounterMeaningsGrow
+counter_meanings_grow names read state first once below none named = (all_once, record { inputs_read = read_more names more state.inputs read named.inputs_read; called = called })
   where
     more : List (ℕ × Meaning)
     more = next_meanings state first

@@ -11,7 +11,7 @@ use Rattle.prop_core.specs.NamedClauses.{same_sign, named_true, named_clause_tru
 use Rattle.prop_core.specs.VariableNames.{Meaning, in_state, happens, asked, matches, done, unmatched, closed, dropped, reaches, some_of_first, NamedLiteral}
 use Rattle.card_counter.proofs.ListLemmas.{flat_each, flat_from}
 use Rattle.card_counter.proofs.Counts.{count_cons, Reaches, reached, counting}
-use Rattle.card_counter.proofs.NameLemmas.{no_name, counter_names_stand}
+use Rattle.card_counter.proofs.NameLemmas.{no_name, counter_meanings_stand}
 use Rattle.card_counter.specs.CounterClauses.{CountClause, counts_on, counts_up, opposite, count_clause, IsCountClause, IsOfColumns, IsNamedCount}
 use Rattle.card_counter.specs.CounterState.{CounterState, IsPlace, IsCounter, variable, column_at, column_before, positive, Reached, always, never, told_by, reached_in, reached_before, under, place_clauses, input_at, column_clauses, counter_clauses, bound_literal, counter_meanings}
 use Rattle.card_counter.specs.Counting.{true_count, AgreeOutside, ExtendsOverCounter, CounterIsExact, is_count, counted, NamedCountIsExact}
@@ -191,13 +191,13 @@ module _ (state : CounterState) (counter : IsCounter state) where
   outside : (given : ℕ → Bool) → AgreeOutside state given (counting_by state given)
   outside given var other =
       let none = no_name (counter_meanings state) var (all_from (λ entry. entry.0 ≢ var) (counter_meanings state) (λ entry here same.
-      let at = (counter_names_stand state counter).only entry here in
+      let at = (counter_meanings_stand state counter).only entry here in
       other at.0 at.1 at.2 (sym same ∙ ap (λ (e : ℕ × Meaning). e.0) at.3))) in
       ap (λ o. unwrap_or (option_map (truth_of state given) o) (given var)) none
 
   inside : (given : ℕ → Bool) (i j : ℕ) → IsPlace state i j → counting_by state given (variable state i j) ≡ nat_le (suc j) (count_by (literal_true given) (take (suc i) state.inputs))
   inside given i j place =
-      let stand = counter_names_stand state counter in
+      let stand = counter_meanings_stand state counter in
       ap (λ o. unwrap_or (option_map (truth_of state given) o) (given (variable state i j))) (stand.called (counter_meanings state) stand.once (λ entry here. here) i j place)
 
   counts_itself : (given : ℕ → Bool) (i j : ℕ) → IsPlace state i j → counting_by state given (variable state i j) ≡ nat_le (suc j) (count_by (literal_true (counting_by state given)) (take (suc i) state.inputs))

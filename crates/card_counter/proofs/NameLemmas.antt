@@ -66,8 +66,8 @@ module _ (state : CounterState) where
       let differ = entries_differ counter first.0 j second.0 l (record { input = first.1; column = omega arith }) (record { input = second.1; column = h }) (λ same. let e = same.1 in omega arith) in
       subst (λ x. Differ x b) first.2 (subst (Differ (entry j first.0)) second.2 differ))
 
-pub counter_names_stand : CounterMeaningsStand
-counter_names_stand state counter = record {
+pub counter_meanings_stand : CounterMeaningsStand
+counter_meanings_stand state counter = record {
   once = entries_once state counter;
   there = entry_there state;
   only = entry_only state;

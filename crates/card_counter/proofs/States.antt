@@ -118,8 +118,8 @@ grown_is_counter state first counter made some = record {
         let here : variable (with_column state first) i j ≡ first + i = ap (variable (with_column state first) i) last ∙ variable_last state first i inside in
         omega (arith, below, here, same)
 
-pub columns_add_names : ColumnsAddMeanings
-columns_add_names state first =
+pub columns_add_meanings : ColumnsAddMeanings
+columns_add_meanings state first =
     ap (λ n. flat_map after (numbers_below n)) (one_more_column state.columns column)
     ∙ flat_next after (length state.columns)
     ∙ ap (λ xs. xs ++ after (length state.columns)) (flat_same after before (length state.columns) same)

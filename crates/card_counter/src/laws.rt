@@ -65,12 +65,12 @@ pub fn column_is_code()
 {}
 
 /// A law: a counter's variables have their names, each once.
-pub fn counter_names_stand()
+pub fn counter_meanings_stand()
     ensures { CounterMeaningsStand }
 {}
 
 /// A law: a column more has its names behind those of the others.
-pub fn columns_add_names()
+pub fn columns_add_meanings()
     ensures { ColumnsAddMeanings }
 {}
 
@@ -80,7 +80,7 @@ pub fn named_columns_grow()
 {}
 
 /// A law: names that stand for a counter stand, with those of a column more, for the counter with it.
-pub fn names_grow()
+pub fn counter_meanings_grow()
     ensures { CounterMeaningsGrow }
 {}
 

@@ -11,12 +11,12 @@ use Rattle.des_net.specs.Limits.{most_components, most_states, most_transitions,
 use Rattle.des_net.specs.Network.{Component, Event, Net, no_component, IsTransOf}
 
 -- a call's answer, where this is the refusal that the lists call for: want of memory may come in place of any answer
-abbrev pub Answers : {X : Type 0} → Result X BuildRefusal → Option BuildRefusal → Type 0
-Answers (Ok x) refusal = refusal ≡ None
-Answers (Err Memory) refusal = ⊤
-Answers (Err Double) refusal = refusal ≡ Some Double
-Answers (Err Unknown) refusal = refusal ≡ Some Unknown
-Answers (Err Limit) refusal = refusal ≡ Some Limit
+abbrev pub BuildsUnless : {X : Type 0} → Result X BuildRefusal → Option BuildRefusal → Type 0
+BuildsUnless (Ok x) refusal = refusal ≡ None
+BuildsUnless (Err Memory) refusal = ⊤
+BuildsUnless (Err Double) refusal = refusal ≡ Some Double
+BuildsUnless (Err Unknown) refusal = refusal ≡ Some Unknown
+BuildsUnless (Err Limit) refusal = refusal ≡ Some Limit
 
 -- ---- a component
 

@@ -2,7 +2,7 @@
 use Rattle.std.proofs.Common.{◌≡◌, ℕ, List, [], Ok, subst}
 use Rattle.des_base.specs.CommandWords.{word_at}
 use Rattle.des_net.specs.Network.{Net}
-use Rattle.model_text.specs.ModelFaults.{network_of, first_fault}
+use Rattle.model_text.specs.ModelFaults.{network_of, first_model_fault}
 use Rattle.model_text.proofs.ReadBackLemmas.{read_and_printed}
 use Rattle.proof_ledger.specs.Book.{BookEntry}
 use Rattle.diagnose_cli.specs.declared.command.Command.TheVariants.{One}
@@ -22,4 +22,4 @@ pub shown : (l : Loads) (words : List (List ℕ)) (book : List BookEntry) (net :
     → reply ≡ reply_of_model net → MayAnswer l words (One Show) book (once (Ok reply))
 shown l words book net reply (text, read, is) says =
     goes_on l words 1 model [] [] (Closes (One Show) words book) text (Ok (whole reply)) read
-    (is_one _ reply (record { is = subst (λ (n : Net). reply ≡ reply_of_model n) is says; again = read_and_printed text (none_before _ (first_fault text) read.well) }))
+    (is_one _ reply (record { is = subst (λ (n : Net). reply ≡ reply_of_model n) is says; again = read_and_printed text (none_before _ (first_model_fault text) read.well) }))

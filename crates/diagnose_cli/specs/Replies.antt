@@ -8,7 +8,7 @@ use Rattle.gen_plant.specs.Plant.{plant_net, plant_log}
 use Rattle.model_text.specs.ModelFaults.{network_of}
 use Rattle.model_text.specs.PrintedModel.{model_text}
 use Rattle.model_text.specs.ReadBack.{ReadsBack}
-use Rattle.replay.specs.RunText.{run_of, first_fault as first_run_fault}
+use Rattle.replay.specs.RunText.{run_of, first_run_fault}
 use Rattle.least_faults.specs.declared.answer.Found.{Found}
 use Rattle.least_faults.specs.declared.answer.Found.TheVariants.{Explained, Absent as NotExplained, Many as ManyFaults, Undecided as NotDecided}
 use Rattle.log_order.specs.Adding.{names_of}

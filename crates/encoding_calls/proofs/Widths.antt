@@ -7,10 +7,9 @@ use Rattle.std.specs.Prelude.{is_some, Bool}
 use Rattle.des_base.specs.ChainCount.{chain_count}
 use Rattle.des_base.specs.Lists.{numbers_below}
 use Rattle.des_base.specs.declared.TheConstants.{VAR_LIMIT}
-use Rattle.des_net.specs.Network.{Net, label_of}
+use Rattle.des_net.specs.Network.{Net, label_of, observable_events}
 use Rattle.log_clauses.specs.Additions.{alarm_added, with_addition}
 use Rattle.log_clauses.specs.Drafts.{taken_events}
-use Rattle.log_clauses.specs.LogClauses.{observable_events}
 use Rattle.log_clauses.specs.LogNames.{first_meanings}
 use Rattle.log_encode.proofs.TakenLemmas.{width_is, map_count, false_is_small}
 use Rattle.log_encode.specs.CodedLog.{CodedLog, addition_width, nameless}

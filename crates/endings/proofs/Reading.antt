@@ -2,30 +2,30 @@
 use Rattle.std.proofs.Common.{◌≡◌, ◌≢◌, inr, ℕ, List, length, Option, Some, None, ap, subst, refl}
 use Rattle.std.specs.Prelude.{option_map}
 use Rattle.des_net.specs.Network.{Net}
-use Rattle.event_costs.specs.CostText.{IsDue as IsCostDue, IsTableOf, first_fault as first_cost_fault}
+use Rattle.event_costs.specs.CostText.{IsCostDue, IsTableOf, first_cost_fault}
 use Rattle.event_costs.specs.declared.fault.CostRefusal.{CostRefusal}
 use Rattle.event_costs.specs.declared.fault.CostRefusal.TheVariants.{Fault as CostFaulty, Memory as CostMemory}
 use Rattle.model_text.specs.declared.fault.ModelRefusal.{ModelRefusal}
 use Rattle.model_text.specs.declared.fault.ModelRefusal.TheVariants.{Fault, Memory as ModelMemory}
-use Rattle.model_text.specs.ModelFaults.{network_of, first_fault as first_model_fault, IsDue as IsModelDue}
+use Rattle.model_text.specs.ModelFaults.{network_of, first_model_fault, IsModelDue}
 use Rattle.log_order.specs.Log.{Log as AlarmLog}
 use Rattle.log_csv.specs.declared.fault.LogReadRefusal.{LogReadRefusal}
 use Rattle.log_csv.specs.declared.fault.LogReadRefusal.TheVariants.{Fault as LogFaulty, Memory as LogMemory}
-use Rattle.log_csv.specs.Faults.{IsDue as IsLogDue}
-use Rattle.log_csv.specs.LogText.{log_of, first_fault as first_log_fault}
+use Rattle.log_csv.specs.Faults.{IsLogDue}
+use Rattle.log_csv.specs.LogText.{log_of, first_log_fault}
 use Rattle.log_csv.specs.ScriptText.{first_script_fault, script_of}
 use Rattle.log_csv.specs.declared.row.Row.{Row}
 use Rattle.prop_core.specs.Clauses.{Clause}
 use Rattle.proof_ledger.specs.declared.checker.ProofStep.{ProofStep}
 use Rattle.proof_text.specs.declared.fault.TextRefusal.{TextRefusal}
 use Rattle.proof_text.specs.declared.fault.TextRefusal.TheVariants.{Fault as TextFaulty, Memory as TextMemory}
-use Rattle.proof_text.specs.TextFaults.{IsDue as IsTextDue}
+use Rattle.proof_text.specs.TextFaults.{IsTextDue}
 use Rattle.proof_text.specs.CnfText.{formula, formula_of, first_cnf_fault}
 use Rattle.proof_text.specs.LratText.{proof_of, first_lrat_fault}
 use Rattle.replay.specs.declared.run.RunStep.{RunStep}
 use Rattle.replay.specs.declared.run_text.RunRefusal.{RunRefusal}
 use Rattle.replay.specs.declared.run_text.RunRefusal.TheVariants.{Fault as RunFaulty, Memory as RunMemory}
-use Rattle.replay.specs.RunText.{run_of, first_fault as first_run_fault, TellsFault}
+use Rattle.replay.specs.RunText.{run_of, first_run_fault, TellsFault}
 use Rattle.endings.specs.declared.stop.Stop.{Stop}
 use Rattle.endings.specs.declared.stop.Stop.TheVariants.{Faulty, Memory}
 use Rattle.endings.specs.declared.stop.FaultyText.{FaultyText}

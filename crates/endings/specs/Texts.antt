@@ -1,10 +1,10 @@
 -- The kinds of files, their limits, and the first fault of a text.
 use Rattle.std.specs.Prelude.{ℕ, List, [], ◌∷◌, length, Option, None, option_map}
 use Rattle.des_net.specs.Network.{Net}
-use Rattle.event_costs.specs.CostText.{first_fault as first_cost_fault}
-use Rattle.model_text.specs.ModelFaults.{network_of, first_fault as first_model_fault}
-use Rattle.replay.specs.RunText.{first_fault as first_run_fault}
-use Rattle.log_csv.specs.LogText.{first_fault as first_log_fault}
+use Rattle.event_costs.specs.CostText.{first_cost_fault}
+use Rattle.model_text.specs.ModelFaults.{network_of, first_model_fault}
+use Rattle.replay.specs.RunText.{first_run_fault}
+use Rattle.log_csv.specs.LogText.{first_log_fault}
 use Rattle.log_csv.specs.ScriptText.{first_script_fault}
 use Rattle.proof_text.specs.CnfText.{Formula, formula_of, first_cnf_fault}
 use Rattle.proof_text.specs.LratText.{first_lrat_fault}

@@ -8,7 +8,7 @@ use Rattle.des_base.specs.CountedLines.{NumberedLine, tokens_of}
 use Rattle.des_net.specs.Network.{Net, is_fault}
 use Rattle.event_costs.specs.declared.fault.CostFault.{CostFault}
 use Rattle.event_costs.specs.declared.table.Price.{Price}
-use Rattle.event_costs.specs.CostText.{cost_line, line_price, shape_code, fault_or, first_code, prices_of, given_to}
+use Rattle.event_costs.specs.CostText.{cost_line, line_price, cost_shape_code, cost_fault_or, first_cost_code, prices_of, given_to}
 use Rattle.event_costs.specs.Prices.{cost_at}
 use Rattle.event_costs.specs.Reading.{IsEmptyTable, IsPriceTable, GivesPrice, HasCode, IsTableOfLines}
 use Rattle.event_costs.proofs.TableLemmas.{given_push, other, holds_more}
@@ -19,7 +19,7 @@ pub record IsReadTo (net : Net) (all rest : List NumberedLine) (table : List (Op
   pub long : length table ≡ length net.events
   pub holds : IsPriceTable earlier table
   pub lines : prices_of net all ≡ earlier ++ prices_of net rest
-  pub codes : first_code net [] all ≡ first_code net earlier rest
+  pub codes : first_cost_code net [] all ≡ first_cost_code net earlier rest
   pub faults : (e : ℕ) → is_fault net e ≡ false → given_to earlier e ≡ None
 
 pub read_none : (net : Net) (all : List NumberedLine) (table : List (Option ℕ)) → IsEmptyTable (length net.events) table → IsReadTo net all all table
@@ -38,8 +38,8 @@ module _ (net : Net) (all rest : List NumberedLine) (line : NumberedLine) (table
     holds = holds_more so_far.earlier table price so_far.holds (subst (λ n. price.event < n) (sym so_far.long) gives.within) gives.free;
     lines = so_far.lines ∙ ap (λ o. so_far.earlier ++ cons_option o (prices_of net rest)) gives.said ∙ sym (append_assoc so_far.earlier (price ∷ []) (prices_of net rest));
     codes = so_far.codes
-        ∙ ap (λ code. fault_or line.number code (first_code net (so_far.earlier ++ option_to_list (line_price net (cost_line (tokens_of line.text)))) rest)) (gives.well so_far.earlier so_far.holds)
-        ∙ ap (λ (o : Option Price). first_code net (so_far.earlier ++ option_to_list o) rest) gives.said;
+        ∙ ap (λ code. cost_fault_or line.number code (first_cost_code net (so_far.earlier ++ option_to_list (line_price net (cost_line (tokens_of line.text)))) rest)) (gives.well so_far.earlier so_far.holds)
+        ∙ ap (λ (o : Option Price). first_cost_code net (so_far.earlier ++ option_to_list o) rest) gives.said;
     faults = λ e none. by e none (cases_eq price.event e);
   }
     where
@@ -48,14 +48,14 @@ module _ (net : Net) (all rest : List NumberedLine) (line : NumberedLine) (table
       by e none (inr apart) = given_push so_far.earlier price e ∙ ap (λ o. option_or o (given_to (price ∷ []) e)) (so_far.faults e none) ∙ other price e apart
 
   -- a line with a code is the first such
-  pub read_fault : (fault : CostFault) → HasCode net table line.number (cost_line (tokens_of line.text)) fault → first_code net [] all ≡ Some fault
+  pub read_fault : (fault : CostFault) → HasCode net table line.number (cost_line (tokens_of line.text)) fault → first_cost_code net [] all ≡ Some fault
   read_fault fault has =
       so_far.codes
-      ∙ ap (λ code. fault_or line.number code (first_code net (so_far.earlier ++ option_to_list (line_price net (cost_line (tokens_of line.text)))) rest)) (has.code_is so_far.earlier so_far.holds)
+      ∙ ap (λ code. cost_fault_or line.number code (first_cost_code net (so_far.earlier ++ option_to_list (line_price net (cost_line (tokens_of line.text)))) rest)) (has.code_is so_far.earlier so_far.holds)
       ∙ ap (λ n. Some (record { line = n; code = fault.code })) (sym has.line_is)
 
 -- at the end the table is that of all lines
-pub read_all : (net : Net) (all : List NumberedLine) (table : List (Option ℕ)) → IsReadTo net all [] table → (first_code net [] all ≡ None) × IsTableOfLines net all table
+pub read_all : (net : Net) (all : List NumberedLine) (table : List (Option ℕ)) → IsReadTo net all [] table → (first_cost_code net [] all ≡ None) × IsTableOfLines net all table
 read_all net all table read = (
   read.codes,
   record {

@@ -15,11 +15,11 @@ use Rattle.event_costs.specs.Prices.{cost_at}
 -- ---- what lines say
 
 -- the first line of costs is `costs 1`
-abbrev pub is_header : List (List ℕ) → Bool
-is_header [] = false
-is_header (word ∷ []) = false
-is_header (word ∷ version ∷ []) = if bytes_eq word (codes "costs") then bytes_eq version (codes "1") else false
-is_header (word ∷ version ∷ more ∷ tokens) = false
+abbrev pub is_cost_header : List (List ℕ) → Bool
+is_cost_header [] = false
+is_cost_header (word ∷ []) = false
+is_cost_header (word ∷ version ∷ []) = if bytes_eq word (codes "costs") then bytes_eq version (codes "1") else false
+is_cost_header (word ∷ version ∷ more ∷ tokens) = false
 
 -- the words of a line after the first: that of an event, and that of what it costs
 pub record CostLine : Type 0 where
@@ -58,9 +58,9 @@ abbrev pub prices_of : Net → List NumberedLine → List Price
 prices_of net lines = filter_map (λ line. line_price net (cost_line (tokens_of line.text))) lines
 
 -- the lines after the first
-abbrev pub body : List NumberedLine → List NumberedLine
-body [] = []
-body (header ∷ lines) = lines
+abbrev pub cost_body : List NumberedLine → List NumberedLine
+cost_body [] = []
+cost_body (header ∷ lines) = lines
 
 -- what is given to event e: the first cost of it, if there is one
 abbrev pub given_to : List Price → ℕ → Option ℕ
@@ -68,7 +68,7 @@ given_to prices e = option_map (λ price. price.cost) (find (λ price. price.eve
 
 -- What event e costs by a text: what the text gives it, or 1.
 abbrev pub cost_of : Net → List ℕ → ℕ → ℕ
-cost_of net bytes e = unwrap_or (given_to (prices_of net (body (counted_lines 35 bytes))) e) 1
+cost_of net bytes e = unwrap_or (given_to (prices_of net (cost_body (counted_lines 35 bytes))) e) 1
 
 -- ---- faults
 
@@ -78,8 +78,8 @@ is_named earlier None = false
 is_named earlier (Some e) = is_some (given_to earlier e)
 
 -- the first code, in the order 3, 5, 4, 6, whose condition holds of a line and what the lines before it give
-abbrev pub line_code : Net → List Price → CostLine → Option ℕ
-line_code net earlier line =
+abbrev pub cost_line_code : Net → List Price → CostLine → Option ℕ
+cost_line_code net earlier line =
     if not (is_name_text line.event) then Some 3
     else if is_none (fault_event_of net line.event) then Some 5
     else if is_named earlier (fault_event_of net line.event) then Some 4
@@ -87,35 +87,35 @@ line_code net earlier line =
     else None
 
 -- and 2 before them, where the line has no shape
-abbrev pub shape_code : Net → List Price → Option CostLine → Option ℕ
-shape_code net earlier None = Some 2
-shape_code net earlier (Some line) = line_code net earlier line
+abbrev pub cost_shape_code : Net → List Price → Option CostLine → Option ℕ
+cost_shape_code net earlier None = Some 2
+cost_shape_code net earlier (Some line) = cost_line_code net earlier line
 
 -- a fault of this code on the line of this number, or what comes after
-abbrev pub fault_or : ℕ → Option ℕ → Option CostFault → Option CostFault
-fault_or number None later = later
-fault_or number (Some code) later = Some (record { line = number; code = code })
+abbrev pub cost_fault_or : ℕ → Option ℕ → Option CostFault → Option CostFault
+cost_fault_or number None later = later
+cost_fault_or number (Some code) later = Some (record { line = number; code = code })
 
 -- the first line that has a code, where the lines before give this
-abbrev pub first_code : Net → List Price → List NumberedLine → Option CostFault
-first_code net earlier [] = None
-first_code net earlier (line ∷ lines) =
-    fault_or line.number (shape_code net earlier (cost_line (tokens_of line.text)))
-    (first_code net (earlier ++ option_to_list (line_price net (cost_line (tokens_of line.text)))) lines)
+abbrev pub first_cost_code : Net → List Price → List NumberedLine → Option CostFault
+first_cost_code net earlier [] = None
+first_cost_code net earlier (line ∷ lines) =
+    cost_fault_or line.number (cost_shape_code net earlier (cost_line (tokens_of line.text)))
+    (first_cost_code net (earlier ++ option_to_list (line_price net (cost_line (tokens_of line.text)))) lines)
 
 -- the first fault of the counted lines
-abbrev pub fault_of_lines : Net → List NumberedLine → Option CostFault
-fault_of_lines net [] = Some (record { line = 1; code = 1 })
-fault_of_lines net (header ∷ lines) = if is_header (tokens_of header.text) then first_code net [] lines else Some (record { line = header.number; code = 1 })
+abbrev pub cost_fault_of_lines : Net → List NumberedLine → Option CostFault
+cost_fault_of_lines net [] = Some (record { line = 1; code = 1 })
+cost_fault_of_lines net (header ∷ lines) = if is_cost_header (tokens_of header.text) then first_cost_code net [] lines else Some (record { line = header.number; code = 1 })
 
 -- comments in costs begin with `#`
-abbrev pub first_fault : Net → List ℕ → Option CostFault
-first_fault net bytes = fault_of_lines net (counted_lines 35 bytes)
+abbrev pub first_cost_fault : Net → List ℕ → Option CostFault
+first_cost_fault net bytes = cost_fault_of_lines net (counted_lines 35 bytes)
 
 -- A refusal names the first fault. Want of memory may come in place of any answer.
-abbrev pub IsDue : Option CostFault → CostRefusal → Type 0
-IsDue fault (Fault told) = fault ≡ Some told
-IsDue fault Memory = ⊤
+abbrev pub IsCostDue : Option CostFault → CostRefusal → Type 0
+IsCostDue fault (Fault told) = fault ≡ Some told
+IsCostDue fault Memory = ⊤
 
 -- ---- the table
 

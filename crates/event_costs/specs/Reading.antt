@@ -7,7 +7,7 @@ use Rattle.event_costs.specs.declared.fault.CostRefusal.{CostRefusal}
 use Rattle.event_costs.specs.declared.fault.CostRefusal.TheVariants.{Fault, Memory}
 use Rattle.event_costs.specs.declared.table.Price.{Price}
 use Rattle.event_costs.specs.Prices.{given_at, cost_at}
-use Rattle.event_costs.specs.CostText.{CostLine, line_price, shape_code, first_code, prices_of, given_to}
+use Rattle.event_costs.specs.CostText.{CostLine, line_price, cost_shape_code, first_cost_code, prices_of, given_to}
 
 -- the table with this price
 abbrev pub HasGiven : Price → List (Option ℕ) → List (Option ℕ) → Type 0
@@ -28,12 +28,12 @@ pub record GivesPrice (net : Net) (table : List (Option ℕ)) (line : Option Cos
   pub within : price.event < length net.events
   pub fault : is_fault net price.event ≡ true
   pub free : given_at table price.event ≡ None
-  pub well : (earlier : List Price) → IsPriceTable earlier table → shape_code net earlier line ≡ None
+  pub well : (earlier : List Price) → IsPriceTable earlier table → cost_shape_code net earlier line ≡ None
 
 -- the line has the code of the fault, where the table holds what the lines before it give
 pub record HasCode (net : Net) (table : List (Option ℕ)) (number : ℕ) (line : Option CostLine) (fault : CostFault) : Type 0 where
   pub line_is : fault.line ≡ number
-  pub code_is : (earlier : List Price) → IsPriceTable earlier table → shape_code net earlier line ≡ Some fault.code
+  pub code_is : (earlier : List Price) → IsPriceTable earlier table → cost_shape_code net earlier line ≡ Some fault.code
 
 -- a line gives a price or has a code
 abbrev pub ReadsPrice : Net → List (Option ℕ) → ℕ → Option CostLine → Result Price CostFault → Type 0
@@ -48,6 +48,6 @@ pub record IsTableOfLines (net : Net) (lines : List NumberedLine) (table : List 
 
 -- the table of some lines, or their first fault
 abbrev pub ReadsPrices : Net → List NumberedLine → Result (List (Option ℕ)) CostRefusal → Type 0
-ReadsPrices net lines (Ok table) = (first_code net [] lines ≡ None) × IsTableOfLines net lines table
-ReadsPrices net lines (Err (Fault fault)) = first_code net [] lines ≡ Some fault
+ReadsPrices net lines (Ok table) = (first_cost_code net [] lines ≡ None) × IsTableOfLines net lines table
+ReadsPrices net lines (Err (Fault fault)) = first_cost_code net [] lines ≡ Some fault
 ReadsPrices net lines (Err Memory) = ⊤

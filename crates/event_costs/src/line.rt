@@ -1,7 +1,7 @@
 // The lines of a cost text.
 ghost use Rattle.std.specs.Prelude.{◌≡◌, ◌<◌, length, true, IfOk, IfSome, option_map};
 ghost use Rattle.des_base.specs.CountedLines.{texts_of, tokens_of};
-ghost use Rattle.event_costs.specs.CostText.{is_header, cost_line, cost_number, fault_event_of};
+ghost use Rattle.event_costs.specs.CostText.{is_cost_header, cost_line, cost_number, fault_event_of};
 ghost use Rattle.event_costs.specs.Prices.{IsPrice};
 ghost use Rattle.event_costs.specs.LineWords.{said_by};
 ghost use Rattle.event_costs.specs.Reading.{ReadsPrice};
@@ -31,8 +31,8 @@ pub(crate) struct CostWords<'a> {
 }
 
 // Whether the tokens are `costs 1`.
-pub(crate) fn is_header(mut tokens: Tokens) -> bool
-    ensures { result ≡ is_header (texts_of tokens.entry) }
+pub(crate) fn is_cost_header(mut tokens: Tokens) -> bool
+    ensures { result ≡ is_cost_header (texts_of tokens.entry) }
 {
     let Some(word) = tokens.next_token() else {
         return false;

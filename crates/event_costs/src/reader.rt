@@ -1,10 +1,10 @@
 // Reading a cost text, line by line.
 ghost use Rattle.std.specs.Prelude.{◌≡◌, ◌<◌, ◌^◌, length, None, IfOk, OnOk, IfErr};
-ghost use Rattle.event_costs.specs.CostText.{first_fault, IsTableOf, IsDue};
+ghost use Rattle.event_costs.specs.CostText.{first_cost_fault, IsTableOf, IsCostDue};
 ghost use Rattle.event_costs.specs.Reading.{ReadsPrices};
 
 use crate::fault::{CostFault, CostRefusal};
-use crate::line::{fault_at, is_header, read_price};
+use crate::line::{fault_at, is_cost_header, read_price};
 use crate::table::CostTable;
 use des_base::Lines;
 use des_net::Network;
@@ -19,14 +19,14 @@ const NO_HEADER: u8 = 1;
 pub fn read_costs(alloc: Global, bytes: &[u8], net: &Network) -> Result<CostTable, CostRefusal>
     requires { length bytes.now < 2 ^ 32 }
     ensures table { IfOk result (IsTableOf net.now bytes.now) }
-    ensures well { OnOk result (first_fault net.now bytes.now ≡ None) }
-    ensures refused { IfErr result (IsDue (first_fault net.now bytes.now)) }
+    ensures well { OnOk result (first_cost_fault net.now bytes.now ≡ None) }
+    ensures refused { IfErr result (IsCostDue (first_cost_fault net.now bytes.now)) }
 {
     let mut lines = Lines::new(bytes, b'#');
     let Some(header) = lines.next_line() else {
         return Err(CostRefusal::Fault(fault_at(1, NO_HEADER)));
     };
-    if !is_header(header.tokens()) {
+    if !is_cost_header(header.tokens()) {
         return Err(CostRefusal::Fault(fault_at(header.number, NO_HEADER)));
     }
     read_prices(alloc, net, lines)

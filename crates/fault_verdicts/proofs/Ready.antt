@@ -4,7 +4,7 @@ use Rattle.std.proofs.lemmas.List.{map-append}
 use Rattle.std.proofs.Math.Nat.{mul-le-mul_right}
 use Rattle.std.proofs.lemmas.List.Elements.{All-cons, All-from_recursion, All-map, Contains-append_cases as append_cases, Contains-append_left as append_left, Contains-append_right as append_right}
 use Rattle.card_counter.proofs.NameLemmas.{no_name}
-use Rattle.card_counter.proofs.States.{columns_add_names, made_later}
+use Rattle.card_counter.proofs.States.{columns_add_meanings, made_later}
 use Rattle.card_counter.specs.CounterState.{CounterState, with_column, counter_meanings, next_meanings, positive}
 use Rattle.des_base.proofs.Elements.{all_append, all_change, all_from, cons_cases, map_from, none_in_nil}
 use Rattle.des_base.specs.Lists.{numbers_below}
@@ -69,7 +69,7 @@ none_next counter first var less = no_name (next_meanings counter first) var (al
 
 names_by_column : (steps : CodedSteps) (code : CodedLog) (counter : CounterState) (first : ℕ) → whole_meanings steps code (with_column counter first) ≡ whole_meanings steps code counter ++ next_meanings counter first
 names_by_column steps code counter first =
-    ap (λ names. code_meanings steps ++ (log_meanings code ++ names)) (columns_add_names counter first)
+    ap (λ names. code_meanings steps ++ (log_meanings code ++ names)) (columns_add_meanings counter first)
     ∙ ap (λ names. code_meanings steps ++ names) (sym (append_assoc (log_meanings code) (counter_meanings counter) (next_meanings counter first)))
     ∙ sym (append_assoc (code_meanings steps) (log_meanings code ++ counter_meanings counter) (next_meanings counter first))
 

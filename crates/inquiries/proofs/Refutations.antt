@@ -5,7 +5,7 @@ use Rattle.std.specs.List.{AllByRecursion, flat_map, list_any, range_with_len}
 use Rattle.std.proofs.lemmas.Bool.Decides.{nat_tests}
 use Rattle.std.proofs.lemmas.List.Elements.{All-contains, All-from_recursion, filter_map-append, Contains-append_cases, Contains-append_right}
 use Rattle.std.proofs.lemmas.List.Folds.{list_any-append}
-use Rattle.card_counter.proofs.NameLemmas.{counter_names_stand}
+use Rattle.card_counter.proofs.NameLemmas.{counter_meanings_stand}
 use Rattle.card_counter.specs.CounterState.{CounterState, bound_literal, column_before, counter_meanings, input_at, negative, next_clauses, place_clauses, var_at, with_column}
 use Rattle.des_base.proofs.Elements.{all_at, all_from, cons_cases, here_first, map_from, map_has, none_in_nil, take_whole}
 use Rattle.des_base.specs.Lists.{numbers_below}
@@ -135,7 +135,7 @@ reach_in_counter steps code counter together var i j in' = by (Contains-append_c
 
     of_counter : Contains (counter_meanings counter) (var, reaches i (suc j)) → j < length counter.columns
     of_counter here =
-        let found = (counter_names_stand counter together.counted).only (var, reaches i (suc j)) here in
+        let found = (counter_meanings_stand counter together.counted).only (var, reaches i (suc j)) here in
         let same = ap (λ (e : ℕ × Meaning). number_of e.1) found.3 in
         let place = found.2 in
         omega (arith, same, place.column)

@@ -3,7 +3,7 @@ use Rattle.std.proofs.Common.{◌≡◌, ℕ, ◌+◌, ◌-◌, ◌*◌, ◌<◌
 use Rattle.std.specs.List.{AllByRecursion}
 use Rattle.std.proofs.lemmas.List.Elements.{All-nil, All-cons, Contains-append_cases as append_cases}
 use Rattle.card_counter.proofs.CodeLemmas.{counter_is_code}
-use Rattle.card_counter.proofs.NameLemmas.{counter_names_stand}
+use Rattle.card_counter.proofs.NameLemmas.{counter_meanings_stand}
 use Rattle.card_counter.specs.CounterState.{CounterState, counter_meanings, counter_clauses}
 use Rattle.des_base.proofs.Elements.{all_from as all_of}
 use Rattle.least_faults.specs.Parts.{AreParts, HaveRoom}
@@ -78,7 +78,7 @@ module _ (steps : CodedSteps) (code : CodedLog) (counter : CounterState) (vars :
     where
       of_counter : Contains (counter_meanings counter) entry → entry.0 < vars
       of_counter here =
-          let found = (counter_names_stand counter room.together.counted).only entry here in
+          let found = (counter_meanings_stand counter room.together.counted).only entry here in
           let below = room.made.columns found.0 found.1 found.2 in
           let same = ap (λ (e : ℕ × Meaning). e.0) found.3 in
           omega (arith, below, same)

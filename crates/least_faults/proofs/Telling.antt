@@ -3,13 +3,13 @@ use Rattle.std.proofs.Common.{◌≡◌, ◌∙◌, ℕ, zero, suc, ◌-◌, ◌
 use Rattle.std.specs.List.{AllByRecursion}
 use Rattle.card_counter.specs.CounterState.{CounterState, bound_literal}
 use Rattle.des_base.proofs.Elements.{cons_cases, here_first, here_later, none_in_nil}
-use Rattle.des_net.specs.Network.{Net, IsNetwork}
+use Rattle.des_net.specs.Network.{Net, IsNetwork, observable_events}
 use Rattle.least_faults.proofs.Posing.{poses}
 use Rattle.least_faults.specs.Asking.{AreAssumptions}
 use Rattle.least_faults.specs.Parts.{AreParts}
 use Rattle.log_clauses.proofs.Codes.{IsReadOf, read_of}
 use Rattle.log_clauses.proofs.Lists.{all_at}
-use Rattle.log_clauses.specs.LogClauses.{guard_literals, chain, observable_events}
+use Rattle.log_clauses.specs.LogClauses.{guard_literals, chain}
 use Rattle.log_encode.specs.CodedLog.{CodedLog, without_names}
 use Rattle.log_order.specs.Log.{Log, IsValidLog}
 use Rattle.prop_core.specs.Clauses.{Clause, negation, NegatesOnly}

@@ -10,7 +10,7 @@ use Rattle.des_net.specs.Network.{Net}
 use Rattle.log_clauses.proofs.Codes.{has_name, named_entry, code_begins, code_grows}
 use Rattle.log_clauses.proofs.Drafts.{drafts_are_code}
 use Rattle.log_clauses.proofs.Lists.{all_at, pairs_append}
-use Rattle.log_clauses.proofs.Numbered.{laid_out_from, laid_out_has, flat_get, number_get, names_begin, names_grow}
+use Rattle.log_clauses.proofs.Numbered.{laid_out_from, laid_out_has, flat_get, number_get, meanings_begin, log_meanings_grow}
 use Rattle.log_clauses.specs.Additions.{with_addition}
 use Rattle.log_clauses.specs.BesideEvents.{with_events, IsAfterEvents, MeaningsJoinEvents, LogCodeBegins, LogCodeGrows, LogCodesAre}
 use Rattle.log_clauses.specs.LogCodes.{AreAmong}
@@ -32,8 +32,8 @@ block_get n k e t known step =
     let size = length-map (numbers_below n) (λ s. happens f (suc s)) in let range = length-range_with_len 0 n in omega (arith, size, range)) (number_get k e known) step
     ∙ slice_get-map (λ s. happens e (suc s)) (numbers_below n) t ∙ ap (option_map (λ s. happens e (suc s))) (number_get n t step)
 
-pub names_join_events : MeaningsJoinEvents
-names_join_events net log n first vars names are after = record {
+pub meanings_join_events : MeaningsJoinEvents
+meanings_join_events net log n first vars names are after = record {
   once = once;
   event = λ e t known step. has_name (with_events net n first names) (first + (e * n + t), happens e (suc t)) once
       (Contains-append_left (laid_out first (event_block n (length net.events))) names (first + (e * n + t), happens e (suc t))
@@ -64,7 +64,7 @@ row_after net n first next xs after = all_from (λ (entry : ℕ × Meaning). IsA
 
 pub log_code_begins : LogCodeBegins
 log_code_begins net n first vars written after listed = record {
-  named = names_begin net n vars;
+  named = meanings_begin net n vars;
   after = row_after net n first vars (first_meanings net) after;
   code = code_begins net n (with_events net n first (laid_out vars (first_meanings net))) written ((drafts_are_code net n (with_events net n first (laid_out vars (first_meanings net))) written).1 listed);
 }
@@ -74,7 +74,7 @@ log_code_grows net log n first vars next addition names written drafted before l
   named = grown;
   after = behind;
   code = code_grows net log n addition (with_events net n first names) (with_events net n first (with_added net log n addition names next)) written drafted
-      (names_join_events net (with_addition log addition) n first (next + length (added_meanings net log n addition)) (with_added net log n addition names next) grown behind).once
+      (meanings_join_events net (with_addition log addition) n first (next + length (added_meanings net log n addition)) (with_added net log n addition names next) grown behind).once
       among before.code ((drafts_are_code net n (with_events net n first (with_added net log n addition names next)) drafted).0 log addition listed);
 }
   where
@@ -94,7 +94,7 @@ log_code_grows net log n first vars next addition names written drafted before l
     }
 
     grown : AreLogMeanings net (with_addition log addition) n (next + length (added_meanings net log n addition)) (with_added net log n addition names next)
-    grown = names_grow net log n next addition names raised
+    grown = log_meanings_grow net log n next addition names raised
 
     behind : AllByRecursion (λ entry. IsAfterEvents net n first entry.0) (with_added net log n addition names next)
     behind = all_from (λ (entry : ℕ × Meaning). IsAfterEvents net n first entry.0) (with_added net log n addition names next) (λ entry in'.
@@ -113,7 +113,7 @@ log_code_grows net log n first vars next addition names written drafted before l
 
 pub log_codes_are : LogCodesAre
 log_codes_are net log n first vars names written assumed has guards = record {
-  once = (names_join_events net log n first vars names has.named has.after).once;
+  once = (meanings_join_events net log n first vars names has.named has.after).once;
   clauses = has.code;
   guards = guards;
 }

@@ -9,14 +9,14 @@ use Rattle.card_counter.proofs.Listed.{exclusions_are_listed}
 use Rattle.card_counter.specs.Exclusions.{IsExclusionClause, exclusion_list}
 use Rattle.des_base.proofs.Elements.{cons_cases, here_first, here_later, none_in_nil, flat_has, flat_from, map_has, map_from}
 use Rattle.des_base.specs.Lists.{numbers_below}
-use Rattle.des_net.specs.Network.{Net, label_of}
+use Rattle.des_net.specs.Network.{Net, label_of, observable_events}
 use Rattle.des_net.specs.QuestionSize.{touching_count, fault_event_count, component_state_count}
 use Rattle.log_clauses.proofs.Lists.{all_at, filter_has, filter_from}
 use Rattle.log_clauses.proofs.Rules.{has_event, event_matches, shown_event}
 use Rattle.log_clauses.proofs.Stay.{with_alarm, with_pair, range_more, matching_same, doubtful_same, doubtful_new}
 use Rattle.log_clauses.specs.Additions.{Addition, alarm_added, pair_added, with_addition, IsTaken, IsAlarmClause, IsAddedClause, IsFirstClause}
 use Rattle.log_clauses.specs.Drafts.{taken_events, alarm_link_clauses, match_clauses, done_clauses, alarm_clauses, real_clauses, added_clauses, first_clauses, DraftsAreCode, DraftsAreSmall, FirstClausesAreFew}
-use Rattle.log_clauses.specs.LogClauses.{chain, match_inputs, observable_events, LogClause, log_clause, chain_closed, takes_rest, uses_up, passes_on, taken_or_passed, not_done_first, stays_done, match_is_done, matched_once, match_is_real, done_by_match, one_match, done_if_asked, before_if_asked}
+use Rattle.log_clauses.specs.LogClauses.{chain, match_inputs, LogClause, log_clause, chain_closed, takes_rest, uses_up, passes_on, taken_or_passed, not_done_first, stays_done, match_is_done, matched_once, match_is_real, done_by_match, one_match, done_if_asked, before_if_asked}
 use Rattle.log_order.specs.Log.{Log, Alarm, no_log, is_doubtful}
 use Rattle.prop_core.specs.Clauses.{Clause}
 use Rattle.prop_core.specs.NamedClauses.{IsCode}

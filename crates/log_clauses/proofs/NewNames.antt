@@ -7,7 +7,7 @@ use Rattle.des_base.proofs.Elements.{cons_cases, here_first, here_later, none_in
 use Rattle.des_base.proofs.NumbersBelow.{range_once}
 use Rattle.des_base.specs.ChainCount.{chain_count}
 use Rattle.des_base.specs.Lists.{EachPair, numbers_below}
-use Rattle.des_net.specs.Network.{Net, label_of}
+use Rattle.des_net.specs.Network.{Net, label_of, observable_events}
 use Rattle.log_clauses.proofs.Drafts.{flat_length, sum_more, same_count, taken_count, longer, doubtful_more, taken_is, is_taken}
 use Rattle.log_clauses.proofs.Growth.{length_split, length_end, grown, number_split, match_split, taken}
 use Rattle.log_clauses.proofs.Lists.{all_at, filter_has, filter_from, pairs_filter, pairs_append}
@@ -16,7 +16,7 @@ use Rattle.log_clauses.proofs.Stay.{with_alarm, with_pair, all_range, matching_s
 use Rattle.log_clauses.proofs.Explained.{doubtful_below}
 use Rattle.log_clauses.specs.Additions.{alarm_added, pair_added, IsTaken}
 use Rattle.log_clauses.specs.Drafts.{taken_events}
-use Rattle.log_clauses.specs.LogClauses.{chain, matching_events, observable_events}
+use Rattle.log_clauses.specs.LogClauses.{chain, matching_events}
 use Rattle.log_clauses.specs.LogNames.{IsLogMeaning, link_meanings, alarm_meanings, match_chains, false_meanings, added_meanings, first_meanings, MeaningsAreNew, MeaningsAreFew, FirstMeaningsAreAll}
 use Rattle.log_order.specs.Log.{Log, Alarm, no_log, is_doubtful}
 use Rattle.prop_core.specs.VariableNames.{Meaning, in_state, happens, asked, matches, done, unmatched, closed, dropped, reaches, some_of_first, of_states, of_events, of_matches}
@@ -474,18 +474,18 @@ names_leave_room net log n new =
 names_small : (net : Net) (log : Log) (n : ℕ) (new : Alarm) → length (added_meanings net log n (alarm_added new)) + variable_bound net log n ≤ variable_bound net (with_alarm log new) n
 names_small net log n new = let room = names_leave_room net log n new in let doubt = doubtful_more net log n new in omega (arith, room, doubt)
 
-pub names_are_few : MeaningsAreFew
-names_are_few net log n (alarm_added new) = names_small net log n new
-names_are_few net log n (pair_added i j) = omega arith
+pub meanings_are_few : MeaningsAreFew
+meanings_are_few net log n (alarm_added new) = names_small net log n new
+meanings_are_few net log n (pair_added i j) = omega arith
 
-pub names_are_new : MeaningsAreNew
-names_are_new net log n (alarm_added new) =
+pub meanings_are_new : MeaningsAreNew
+meanings_are_new net log n (alarm_added new) =
     record { once = added_once net log n new; fresh = not_old net log n new; all = λ meaning. (name_split net log n new meaning, back meaning) }
   where
     back : (meaning : Meaning) → IsLogMeaning net log n meaning ⊎ Contains (added_meanings net log n (alarm_added new)) meaning → IsLogMeaning net (with_alarm log new) n meaning
     back meaning (inl old) = name_keeps net log n new meaning old
     back meaning (inr fresh) = new_known net log n new meaning fresh
-names_are_new net log n (pair_added i j) =
+meanings_are_new net log n (pair_added i j) =
     record { once = tt; fresh = λ meaning in' old. none_in_nil meaning in'; all = λ meaning. (λ h. inl (same meaning h), back meaning) }
   where
     same : (meaning : Meaning) → IsLogMeaning net (with_pair log i j) n meaning → IsLogMeaning net log n meaning
@@ -547,8 +547,8 @@ first_back net n meaning in' = by (cons_cases asked (map (λ e. closed e 0) (obs
         let found = map_from (λ e. closed e 0) (observable_events net) meaning rest in
         subst (IsLogMeaning net no_log n) found.2 ((filter_from (λ e. is_some (label_of net e)) (numbers_below (length net.events)) found.0 found.1).0, omega arith)
 
-pub first_names_are_all : FirstMeaningsAreAll
-first_names_are_all net n = record {
+pub first_meanings_are_all : FirstMeaningsAreAll
+first_meanings_are_all net n = record {
   once = (
     all_from (λ b. asked ≢ b) (map (λ e. closed e 0) (observable_events net)) (λ b in' same. let found = map_from (λ e. closed e 0) (observable_events net) b in' in differ found.0 (same ∙ sym found.2)),
     pairs_map (λ e. closed e 0) (observable_events net) (pairs_filter (λ a b. a ≢ b) (λ e. is_some (label_of net e)) (numbers_below (length net.events)) (range_once 0 (length net.events))) same_event,

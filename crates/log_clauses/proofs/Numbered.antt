@@ -10,7 +10,7 @@ use Rattle.des_base.specs.Lists.{numbers_below}
 use Rattle.des_net.specs.Network.{Net}
 use Rattle.log_clauses.proofs.Drafts.{flat_length}
 use Rattle.log_clauses.proofs.Lists.{all_at, pairs_append}
-use Rattle.log_clauses.proofs.NewNames.{names_are_new, first_names_are_all}
+use Rattle.log_clauses.proofs.NewNames.{meanings_are_new, first_meanings_are_all}
 use Rattle.log_clauses.proofs.Stay.{get_same}
 use Rattle.log_clauses.proofs.Codes.{has_name}
 use Rattle.log_clauses.specs.Additions.{alarm_added, with_addition}
@@ -53,21 +53,21 @@ laid_out_in first (y ∷ xs) x in' = by (cons_cases y xs x in') (laid_out_in (fi
     by (inl is) later = (first, here_first (first, y) (laid_out (first + 1) xs) (first, x) (λ i. (first, is i)))
     by (inr rest) later = let found = later rest in (found.0, here_later (first, y) (laid_out (first + 1) xs) (found.0, x) found.1)
 
-pub names_begin : MeaningsBegin
-names_begin net n first = record {
-  once = laid_once first (first_meanings net) (first_names_are_all net n).once;
+pub meanings_begin : MeaningsBegin
+meanings_begin net n first = record {
+  once = laid_once first (first_meanings net) (first_meanings_are_all net n).once;
   below = all_from (λ (entry : ℕ × Meaning). entry.0 < first + length (first_meanings net)) (laid_out first (first_meanings net)) (λ entry in'. (laid_out_from first (first_meanings net) entry in').2);
   exact = λ meaning. (
-    λ h. laid_out_in first (first_meanings net) meaning (((first_names_are_all net n).all meaning).0 h),
-    λ h. ((first_names_are_all net n).all meaning).1 (laid_out_from first (first_meanings net) (h.0, meaning) h.1).0,
+    λ h. laid_out_in first (first_meanings net) meaning (((first_meanings_are_all net n).all meaning).0 h),
+    λ h. ((first_meanings_are_all net n).all meaning).1 (laid_out_from first (first_meanings net) (h.0, meaning) h.1).0,
   );
 }
 
-pub names_grow : LogMeaningsGrow
-names_grow net log n first addition names are = record { once = once; below = below; exact = λ meaning. (to meaning, λ h. from meaning h.0 h.1) }
+pub log_meanings_grow : LogMeaningsGrow
+log_meanings_grow net log n first addition names are = record { once = once; below = below; exact = λ meaning. (to meaning, λ h. from meaning h.0 h.1) }
   where
     laws : BringsNewMeanings net log n addition
-    laws = names_are_new net log n addition
+    laws = meanings_are_new net log n addition
 
     once : HasEachOnce (names ++ laid_out first (added_meanings net log n addition))
     once = pairs_append (λ a b. (a.0 ≢ b.0) × (a.1 ≢ b.1)) names (laid_out first (added_meanings net log n addition)) are.once (laid_once first (added_meanings net log n addition) laws.once) (λ a b in' in2.
@@ -146,7 +146,7 @@ module _ (net : Net) (log : Log) (n first : ℕ) (new : Alarm) (names : List (�
 
   at : (k : ℕ) (meaning : Meaning) → slice_get (added_meanings net log n (alarm_added new)) k ≡ Some meaning → meaning_of (names ++ laid_out first (added_meanings net log n (alarm_added new))) (first + k) ≡ Some meaning
   at k meaning is =
-      has_name (names ++ laid_out first (added_meanings net log n (alarm_added new))) (first + k, meaning) (names_grow net log n first (alarm_added new) names are).once
+      has_name (names ++ laid_out first (added_meanings net log n (alarm_added new))) (first + k, meaning) (log_meanings_grow net log n first (alarm_added new) names are).once
       (Contains-append_right names (laid_out first (added_meanings net log n (alarm_added new))) (first + k, meaning) (laid_out_has first (added_meanings net log n (alarm_added new)) k meaning is))
 
   old_link_at : (p e j : ℕ) → slice_get (taken_events net log new) p ≡ Some e → j < 1 + n * 2 →
@@ -224,8 +224,8 @@ module _ (net : Net) (log : Log) (n first : ℕ) (new : Alarm) (names : List (�
       ∙ get_past chains falses 0
       ∙ ap (λ b. slice_get (false_meanings b (length log.alarms)) 0) doubtful
 
-pub places_of_names : PlacesOfMeanings
-places_of_names net log n first new names are = record {
+pub places_of_meanings : PlacesOfMeanings
+places_of_meanings net log n first new names are = record {
   closing = closed_at;
   matching = λ p e t is h. matches_at p e is t h;
   passing = λ p e t is h. unmatched_at p e is t h;

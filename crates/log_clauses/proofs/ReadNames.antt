@@ -2,9 +2,9 @@
 use Rattle.std.proofs.Common.{◌≡◌, ℕ, zero, suc, Bool, true, false, List, [], ◌∷◌, length, refl, sym, ap, subst, Some, slice_get, map, cond, IsTrue, ◌||◌, ◌∙◌}
 use Rattle.std.specs.List.{AllByRecursion}
 use Rattle.card_counter.specs.Exclusions.{two, opens, goes_on, shuts_out}
-use Rattle.des_net.specs.Network.{Net}
+use Rattle.des_net.specs.Network.{Net, observable_events}
 use Rattle.log_order.specs.Log.{Log, is_doubtful}
-use Rattle.log_clauses.specs.LogClauses.{chain, matching_events, observable_events, LogClause, log_clause, IsLogClause, guard_literals, chain_closed, takes_rest, uses_up, passes_on, taken_or_passed, not_done_first, stays_done, match_is_done, matched_once, match_is_real, done_by_match, one_match, done_if_asked, before_if_asked, or_false}
+use Rattle.log_clauses.specs.LogClauses.{chain, matching_events, LogClause, log_clause, IsLogClause, guard_literals, chain_closed, takes_rest, uses_up, passes_on, taken_or_passed, not_done_first, stays_done, match_is_done, matched_once, match_is_real, done_by_match, one_match, done_if_asked, before_if_asked, or_false}
 use Rattle.log_clauses.specs.LogLaws.{OnlyLogMatters}
 use Rattle.log_clauses.specs.LogTruth.{is_of_log, AgreeOnLog}
 use Rattle.prop_core.specs.NamedClauses.{same_sign, named_true, named_clause_true}

@@ -8,7 +8,8 @@ use Rattle.log_clauses.specs.Additions.{alarm_added, pair_added, with_addition, 
 use Rattle.log_clauses.specs.Coded.{coded_truth, opened}
 use Rattle.log_clauses.specs.Decoded.{decoded, decoded_order, alarm_at, alarm_event}
 use Rattle.log_clauses.specs.Drafts.{added_clauses, first_clauses}
-use Rattle.log_clauses.specs.LogClauses.{chain, matching_events, observable_events, LogClause, log_clause, guard_literals, chain_closed, takes_rest, uses_up, matched_once, done_by_match, one_match, not_done_first, before_if_asked}
+use Rattle.des_net.specs.Network.{observable_events}
+use Rattle.log_clauses.specs.LogClauses.{chain, matching_events, LogClause, log_clause, guard_literals, chain_closed, takes_rest, uses_up, matched_once, done_by_match, one_match, not_done_first, before_if_asked}
 use Rattle.log_clauses.specs.LogNames.{added_meanings, first_meanings}
 use Rattle.des_net.specs.Width.{joined}
 use Rattle.replay.specs.Deciding.{explains}

@@ -1,11 +1,11 @@
 -- The clauses of an addition to a log as a list, in the order in which loops write them.
 use Rattle.std.specs.Prelude.{◌≡◌, ℕ, suc, Bool, true, false, ◌+◌, ◌*◌, ◌≤◌, List, [], ◌∷◌, ◌++◌, map, flat_map, length}
 use Rattle.des_base.specs.Lists.{numbers_below}
-use Rattle.des_net.specs.Network.{Net}
+use Rattle.des_net.specs.Network.{Net, observable_events}
 use Rattle.des_net.specs.QuestionSize.{observable_count}
 use Rattle.log_order.specs.Log.{Log, Alarm, no_log}
 use Rattle.log_clauses.specs.Additions.{Addition, alarm_added, pair_added, with_addition}
-use Rattle.log_clauses.specs.LogClauses.{chain, matching_events, observable_events, LogClause, log_clause, chain_closed, takes_rest, uses_up, passes_on, taken_or_passed, not_done_first, stays_done, match_is_done, matched_once, match_is_real, done_by_match, one_match, done_if_asked, before_if_asked}
+use Rattle.log_clauses.specs.LogClauses.{chain, matching_events, LogClause, log_clause, chain_closed, takes_rest, uses_up, passes_on, taken_or_passed, not_done_first, stays_done, match_is_done, matched_once, match_is_real, done_by_match, one_match, done_if_asked, before_if_asked}
 use Rattle.log_clauses.specs.LogCodes.{IsNamedAdded, IsNamedFirst}
 use Rattle.prop_core.specs.Clauses.{Clause}
 use Rattle.prop_core.specs.NamedClauses.{IsCode}

@@ -2,7 +2,7 @@
 -- Observations beside the clauses of runs are as in Grastien, Anbulagan, Rintanen and Kelareva, "Diagnosis of discrete-event systems using satisfiability algorithms", 2007; the chains, by which a log grows, are our own.
 use Rattle.std.specs.Prelude.{◌≡◌, ℕ, suc, ◌<◌, ◌≤◌, List, [], ◌∷◌, map, filter, length, if◌then◌else◌, Some, slice_get, is_some, Contains, IsTrue}
 use Rattle.des_base.specs.Lists.{numbers_below}
-use Rattle.des_net.specs.Network.{Net, label_of}
+use Rattle.des_net.specs.Network.{Net, label_of, observable_events}
 use Rattle.log_order.specs.Log.{Log, is_doubtful}
 use Rattle.card_counter.specs.Exclusions.{ExclusionClause, exclusion_clause, IsExclusionClause}
 use Rattle.prop_core.specs.VariableNames.{Meaning, NamedLiteral, yes, no, asked, matches, done, closed, dropped, remaining, of_matches}
@@ -19,10 +19,6 @@ matching_events net log i = filter (λ e. is_matching net log e i) (numbers_belo
 -- of what at most one is so: that alarm i stands for one of these events in step t, counted from 1
 abbrev pub match_inputs : Net → Log → ℕ → ℕ → List Meaning
 match_inputs net log i t = map (λ e. matches i e t) (matching_events net log i)
-
--- the events that can be seen, by number
-abbrev pub observable_events : Net → List ℕ
-observable_events net = filter (λ e. is_some (label_of net e)) (numbers_below (length net.events))
 
 -- the alarms that are perhaps false, by number
 abbrev pub doubtful_alarms : Log → List ℕ

@@ -3,12 +3,12 @@ use Rattle.std.specs.Prelude.{◌≡◌, ◌≢◌, ◌↔◌, ◌⊎◌, ⊤, �
 use Rattle.std.specs.List.{AllByRecursion, AllZip}
 use Rattle.des_base.specs.ChainCount.{chain_count}
 use Rattle.des_base.specs.Lists.{EachPair, numbers_below}
-use Rattle.des_net.specs.Network.{Net, label_of}
+use Rattle.des_net.specs.Network.{Net, label_of, observable_events}
 use Rattle.des_net.specs.QuestionSize.{observable_count}
 use Rattle.log_order.specs.Log.{Log, Alarm, no_log, is_doubtful}
 use Rattle.log_clauses.specs.Additions.{Addition, alarm_added, pair_added, with_addition}
 use Rattle.log_clauses.specs.Drafts.{taken_events}
-use Rattle.log_clauses.specs.LogClauses.{chain, matching_events, observable_events}
+use Rattle.log_clauses.specs.LogClauses.{chain, matching_events}
 use Rattle.prop_core.specs.Clauses.{Clause}
 use Rattle.prop_core.specs.VariableNames.{Meaning, in_state, happens, asked, matches, done, unmatched, closed, dropped, reaches, some_of_first, of_states, of_events, of_matches, NamedLiteral, HasEachOnce, meaning_of, ReadsAs}
 use Rattle.prop_core.specs.declared.lit.Lit.{Lit}

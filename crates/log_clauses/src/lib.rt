@@ -118,39 +118,39 @@ pub fn ordered_reads()
 // ---- the names and their variables
 
 /// The first names are those of the empty log.
-pub fn first_names_are_all()
+pub fn first_meanings_are_all()
     ensures { FirstMeaningsAreAll }
 {}
 
 /// The names of an addition are new, and with them a log has its names.
-pub fn names_are_new()
+pub fn meanings_are_new()
     ensures { MeaningsAreNew }
 {}
 
 /// The names of an addition are no more than the bound on the variables of a question grows by.
-pub fn names_are_few()
+pub fn meanings_are_few()
     ensures { MeaningsAreFew }
 {}
 
 /// The first names, on variables in a row, are the names of the empty log.
-pub fn names_begin()
+pub fn meanings_begin()
     ensures { MeaningsBegin }
 {}
 
 /// The names of an addition, on fresh variables in a row, make those of a log the names of the log with the addition.
-pub fn names_grow()
+pub fn log_meanings_grow()
     ensures { LogMeaningsGrow }
 {}
 
 /// Where the names of a new alarm stand in the row of the addition that brings it.
-pub fn places_of_names()
+pub fn places_of_meanings()
     ensures { PlacesOfMeanings }
 {}
 
 // ---- the code of a log beside the variables of the events
 
 /// The names of a log go together with those of the events on earlier variables.
-pub fn names_join_events()
+pub fn meanings_join_events()
     ensures { MeaningsJoinEvents }
 {}
 

@@ -1,7 +1,7 @@
 -- The fields of a record, by their places.
 use Rattle.std.proofs.Common.{◌≡◌, ◌+◌, ◌≤◌, ℕ, zero, suc, true, cond, ◌&&◌, List, [], ◌∷◌, length, drop, Some, None, refl, arith, ap, sym, ◌∙◌}
 use Rattle.csv.specs.Records.{field_at}
-use Rattle.log_csv.specs.Records.{are_empty, is_empty_field, keyword_of, record_by_word, record_with, two_fields}
+use Rattle.log_csv.specs.Records.{are_empty, is_empty_field, record_keyword, record_by_word, record_with, two_fields}
 
 more : (i : ℕ) → suc (i + 1) ≡ suc i + 1
 more i = omega arith
@@ -49,10 +49,10 @@ unfolding field_at
 keyword-none [] h = refl
 keyword-none (f ∷ fs) h = cc
 
-pub keyword-some : (fields : List (List ℕ)) (text : List ℕ) → Some text ≡ field_at fields 0 → record_by_word fields ≡ record_with (keyword_of text) (drop 1 fields)
+pub keyword-some : (fields : List (List ℕ)) (text : List ℕ) → Some text ≡ field_at fields 0 → record_by_word fields ≡ record_with (record_keyword text) (drop 1 fields)
 unfolding field_at
 keyword-some [] text h = cc
-keyword-some (f ∷ fs) text h = let e : f ≡ text = cc in ap (λ x. record_with (keyword_of x) fs) e
+keyword-some (f ∷ fs) text h = let e : f ≡ text = cc in ap (λ x. record_with (record_keyword x) fs) e
 
 -- ---- two fields
 

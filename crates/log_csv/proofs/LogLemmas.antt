@@ -8,7 +8,7 @@ use Rattle.des_base.specs.Names.{is_name_text, place_of}
 use Rattle.des_base.proofs.BoolLemmas.{is_less}
 use Rattle.des_base.proofs.TableLemmas.{place_of-within}
 use Rattle.log_order.specs.Log.{Log, closes_cycle, has_pair, no_log}
-use Rattle.log_order.specs.Adding.{Answers, alarm_refusal, before_refusal, names_of, with_alarm, with_pair}
+use Rattle.log_order.specs.Adding.{AddsUnless, alarm_refusal, before_refusal, names_of, with_alarm, with_pair}
 use Rattle.log_order.specs.declared.TheConstants.{MOST_ALARMS, MOST_LABELS, MOST_PAIRS}
 use Rattle.log_order.specs.declared.refusal.LogRefusal.{LogRefusal}
 use Rattle.log_order.specs.declared.refusal.LogRefusal.TheVariants as refused
@@ -18,10 +18,10 @@ use Rattle.log_csv.specs.declared.row.Row.TheVariants as row
 use Rattle.log_csv.specs.declared.refusal.RowRefusal.{RowRefusal}
 use Rattle.log_csv.specs.declared.refusal.RowRefusal.TheVariants.{Shape, Name, Memory}
 use Rattle.log_csv.specs.Records.{Record, alarm, before, ask, nothing, malformed, record_of}
-use Rattle.log_csv.specs.Faults.{IsDue, fault_at}
-use Rattle.log_csv.specs.ScriptText.{is_malformed, row_code, row_of, words_of}
-use Rattle.log_csv.specs.LogText.{recorded_alarms, first_fault, first_record_fault, ids_of, is_pair_past_limit, is_question_record, log_of, log_of_records, pairs_of, record_code}
-use Rattle.log_csv.specs.Reading.{Adds, IsLogOf, IsReadTo, ReadsRecord, refusal_code, log_refusal_at, refusal_at}
+use Rattle.log_csv.specs.Faults.{IsLogDue, log_fault_at}
+use Rattle.log_csv.specs.ScriptText.{is_malformed, row_code, row_of, names_of_record}
+use Rattle.log_csv.specs.LogText.{recorded_alarms, first_log_fault, first_record_fault, ids_of, is_pair_past_limit, is_question_record, log_of, log_of_records, pairs_of, record_code}
+use Rattle.log_csv.specs.Reading.{Adds, IsLogOf, IsReadTo, ReadsRecord, refusal_code, log_refusal_at, row_refusal_at}
 use Rattle.csv.specs.Reading.{default_config, records, strip_bom}
 use Rattle.log_csv.proofs.RowLemmas.{malformed_refused}
 use Rattle.log_csv.proofs.GrowthLemmas.{log-alarm, log-nothing, log-pair}
@@ -40,7 +40,7 @@ name_first false true false o h f = cc
 name_first false false true o h f = refl
 name_first false false false o h f = cc
 
-no_words : (said : Record) → is_question_record said ≡ true → not (list_all is_name_text (words_of said)) ≡ false
+no_words : (said : Record) → is_question_record said ≡ true → not (list_all is_name_text (names_of_record said)) ≡ false
 no_words (alarm maybe id labels) h = cc
 no_words (before first second) h = cc
 no_words ask h = refl
@@ -54,11 +54,11 @@ six_case false false h = cc
 
 pub code-shape : (earlier : List Record) (said : Record) → row_code said ≡ Some 6 → record_code earlier said ≡ Some 6
 unfolding row_code record_code
-code-shape earlier said h = shape_first (is_malformed said) (is_question_record said) _ (six_case (is_malformed said) (not (list_all is_name_text (words_of said))) h)
+code-shape earlier said h = shape_first (is_malformed said) (is_question_record said) _ (six_case (is_malformed said) (not (list_all is_name_text (names_of_record said))) h)
 
 pub code-name : (earlier : List Record) (said : Record) → row_code said ≡ Some 7 → record_code earlier said ≡ Some 7
 unfolding row_code record_code
-code-name earlier said h = name_first (is_malformed said) (is_question_record said) (not (list_all is_name_text (words_of said))) _ h (no_words said)
+code-name earlier said h = name_first (is_malformed said) (is_question_record said) (not (list_all is_name_text (names_of_record said))) _ h (no_words said)
 
 pub code-ask : (earlier : List Record) → record_code earlier ask ≡ Some 6
 unfolding record_code
@@ -83,12 +83,12 @@ unfolding row_code record_code alarm_refusal
 code-alarm earlier maybe id labels h =
     alarm_case (not (list_all is_name_text (id ∷ labels))) (is_some (place_of id (ids_of earlier))) (nat_le (length labels) 0) (nat_le MOST_ALARMS (length (recorded_alarms earlier)) || nat_lt MOST_LABELS (length labels)) h
 
-answer_due : (row : ℕ) (why : Option LogRefusal) (e : LogRefusal) → Answers {X = ℕ} (Err e) why → IsDue (fault_at row (option_map refusal_code why)) (log_refusal_at row e)
-answer_due row why refused.Double h = ap (λ o. fault_at row (option_map refusal_code o)) h
-answer_due row why refused.Unknown h = ap (λ o. fault_at row (option_map refusal_code o)) h
-answer_due row why refused.Cycle h = ap (λ o. fault_at row (option_map refusal_code o)) h
-answer_due row why refused.NoLabels h = ap (λ o. fault_at row (option_map refusal_code o)) h
-answer_due row why refused.Limit h = ap (λ o. fault_at row (option_map refusal_code o)) h
+answer_due : (row : ℕ) (why : Option LogRefusal) (e : LogRefusal) → AddsUnless {X = ℕ} (Err e) why → IsLogDue (log_fault_at row (option_map refusal_code why)) (log_refusal_at row e)
+answer_due row why refused.Double h = ap (λ o. log_fault_at row (option_map refusal_code o)) h
+answer_due row why refused.Unknown h = ap (λ o. log_fault_at row (option_map refusal_code o)) h
+answer_due row why refused.Cycle h = ap (λ o. log_fault_at row (option_map refusal_code o)) h
+answer_due row why refused.NoLabels h = ap (λ o. log_fault_at row (option_map refusal_code o)) h
+answer_due row why refused.Limit h = ap (λ o. log_fault_at row (option_map refusal_code o)) h
 answer_due row why refused.Memory h = tt
 
 pub alarm-added : (earlier : List Record) (maybe : Bool) (id : List ℕ) (labels : List (List ℕ)) (row : ℕ) (log new : Log) → IsLogOf earlier log → row_code (alarm maybe id labels) ≡ None
@@ -97,9 +97,9 @@ alarm-added earlier maybe id labels row log new h named none e =
     (code-alarm earlier maybe id labels named ∙ ap (λ l. option_map refusal_code (alarm_refusal l id labels)) (sym h.is) ∙ ap (option_map refusal_code) none, log-alarm earlier maybe id labels log new h e)
 
 pub alarm-refused : (earlier : List Record) (maybe : Bool) (id : List ℕ) (labels : List (List ℕ)) (row : ℕ) (log new : Log) (e : LogRefusal) → IsLogOf earlier log → row_code (alarm maybe id labels) ≡ None
-    → Answers {X = ℕ} (Err e) (alarm_refusal log id labels) → Adds earlier (alarm maybe id labels) row new (Err (log_refusal_at row e))
+    → AddsUnless {X = ℕ} (Err e) (alarm_refusal log id labels) → Adds earlier (alarm maybe id labels) row new (Err (log_refusal_at row e))
 alarm-refused earlier maybe id labels row log new e h named a =
-    subst (λ (code : Option ℕ). IsDue (fault_at row code) (log_refusal_at row e)) (sym (code-alarm earlier maybe id labels named ∙ ap (λ l. option_map refusal_code (alarm_refusal l id labels)) (sym h.is)))
+    subst (λ (code : Option ℕ). IsLogDue (log_fault_at row code) (log_refusal_at row e)) (sym (code-alarm earlier maybe id labels named ∙ ap (λ l. option_map refusal_code (alarm_refusal l id labels)) (sym h.is)))
     (answer_due row (alarm_refusal log id labels) e a)
 
 -- ---- pairs
@@ -146,11 +146,11 @@ place_in_log earlier log text o h e = ap (λ l. place_of text (names_of l.alarms
 
 pub pair-unknown : (earlier : List Record) (first second : List ℕ) (row : ℕ) (log : Log) → IsLogOf earlier log → row_code (before first second) ≡ None
     → (None ≡ place_of first (names_of log.alarms)) → Adds earlier (before first second) row log (Err (log_refusal_at row refused.Unknown))
-pair-unknown earlier first second row log h named none = ap (fault_at row) (code-unknown earlier first second named (unknown-first _ _ (place_in_log earlier log first None h none)))
+pair-unknown earlier first second row log h named none = ap (log_fault_at row) (code-unknown earlier first second named (unknown-first _ _ (place_in_log earlier log first None h none)))
 
 pub pair-second_unknown : (earlier : List Record) (first second : List ℕ) (row : ℕ) (log : Log) → IsLogOf earlier log → row_code (before first second) ≡ None
     → (None ≡ place_of second (names_of log.alarms)) → Adds earlier (before first second) row log (Err (log_refusal_at row refused.Unknown))
-pair-second_unknown earlier first second row log h named none = ap (fault_at row) (code-unknown earlier first second named (unknown-second _ _ (place_in_log earlier log second None h none)))
+pair-second_unknown earlier first second row log h named none = ap (log_fault_at row) (code-unknown earlier first second named (unknown-second _ _ (place_in_log earlier log second None h none)))
 
 code-pair_log : (earlier : List Record) (first second : List ℕ) (i j : ℕ) (log : Log) → IsLogOf earlier log → row_code (before first second) ≡ None
     → (Some i ≡ place_of first (names_of log.alarms)) → (Some j ≡ place_of second (names_of log.alarms))
@@ -169,9 +169,9 @@ pair-added earlier first second row i j log new h named a b none e = (
 
 pub pair-refused : (earlier : List Record) (first second : List ℕ) (row i j : ℕ) (log new : Log) (e : LogRefusal) → IsLogOf earlier log → row_code (before first second) ≡ None
     → (Some i ≡ place_of first (names_of log.alarms)) → (Some j ≡ place_of second (names_of log.alarms))
-    → Answers {X = ℕ} (Err e) (before_refusal (length log.alarms) log.pairs i j) → Adds earlier (before first second) row new (Err (log_refusal_at row e))
+    → AddsUnless {X = ℕ} (Err e) (before_refusal (length log.alarms) log.pairs i j) → Adds earlier (before first second) row new (Err (log_refusal_at row e))
 pair-refused earlier first second row i j log new e h named a b refusal =
-    subst (λ (code : Option ℕ). IsDue (fault_at row code) (log_refusal_at row e)) (sym (code-pair_log earlier first second i j log h named a b)) (answer_due row _ e refusal)
+    subst (λ (code : Option ℕ). IsLogDue (log_fault_at row code) (log_refusal_at row e)) (sym (code-pair_log earlier first second i j log h named a b)) (answer_due row _ e refusal)
 
 -- ---- rows
 
@@ -228,8 +228,8 @@ row-before earlier of first second number new r h c f =
     let is : of ≡ before first second = before-of of first second h in
     subst (λ (said : Record). Adds earlier said number new r) (sym is) (f (ap row_code (sym is) ∙ c))
 
-pub row-ask : (earlier : List Record) (of : Record) (number : ℕ) → row_of of ≡ Some row.Ask → fault_at number (record_code earlier of) ≡ Some (record { row = number; code = 6 })
-row-ask earlier of number h = ap (λ said. fault_at number (record_code earlier said)) (ask-of of h) ∙ ap (fault_at number) (code-ask earlier)
+pub row-ask : (earlier : List Record) (of : Record) (number : ℕ) → row_of of ≡ Some row.Ask → log_fault_at number (record_code earlier of) ≡ Some (record { row = number; code = 6 })
+row-ask earlier of number h = ap (λ said. log_fault_at number (record_code earlier said)) (ask-of of h) ∙ ap (log_fault_at number) (code-ask earlier)
 
 -- a record without a row is blank, where it has no code
 blank-of : (of : Record) → row_of of ≡ None → row_code of ≡ None → of ≡ nothing
@@ -247,15 +247,15 @@ pub record-nothing : (earlier : List Record) (of : Record) (number : ℕ) (log :
 record-nothing earlier of number log h r =
     subst (λ (said : Record). Adds earlier said number log (Ok tt)) (sym (blank-of of r.1 r.0)) (code-nothing earlier, log-nothing earlier log h)
 
-pub record-bad : (earlier : List Record) (of : Record) (number : ℕ) (e : RowRefusal) → ReadsRecord of (Err e) → IsDue (fault_at number (record_code earlier of)) (refusal_at number e)
-record-bad earlier of number Shape r = ap (fault_at number) (code-shape earlier of r)
-record-bad earlier of number Name r = ap (fault_at number) (code-name earlier of r)
+pub record-bad : (earlier : List Record) (of : Record) (number : ℕ) (e : RowRefusal) → ReadsRecord of (Err e) → IsLogDue (log_fault_at number (record_code earlier of)) (row_refusal_at number e)
+record-bad earlier of number Shape r = ap (log_fault_at number) (code-shape earlier of r)
+record-bad earlier of number Name r = ap (log_fault_at number) (code-name earlier of r)
 record-bad earlier of number Memory r = tt
 
 -- ---- the records to come
 
 faults-first : (bytes : List ℕ) (old left : List (List (List ℕ))) (fields : List (List ℕ)) (number : ℕ) (log : Log) (h : IsReadTo bytes old number log) → old ≡ fields ∷ left
-    → option_or (fault_at (number + 1) (record_code h.earlier (record_of fields))) (first_record_fault (number + 1 + 1) (h.earlier ++ record_of fields ∷ []) (map record_of left)) ≡ first_fault bytes
+    → option_or (log_fault_at (number + 1) (record_code h.earlier (record_of fields))) (first_record_fault (number + 1 + 1) (h.earlier ++ record_of fields ∷ []) (map record_of left)) ≡ first_log_fault bytes
 faults-first bytes old left fields number log h e = ap (λ xs. first_record_fault (number + 1) h.earlier (map record_of xs)) (sym e) ∙ h.faults
 
 pub read-on : (bytes : List ℕ) (old left : List (List (List ℕ))) (fields : List (List ℕ)) (number : ℕ) (log new : Log) → old ≡ fields ∷ left → IsReadTo bytes old number log
@@ -266,18 +266,18 @@ read-on bytes old left fields number log new e h f =
       earlier = h.earlier ++ record_of fields ∷ [];
       logged = added.1;
       whole = append_assoc h.earlier (record_of fields ∷ []) (map record_of left) ∙ ap (λ xs. h.earlier ++ map record_of xs) (sym e) ∙ h.whole;
-      faults = no_fault _ _ (first_fault bytes) (faults-first bytes old left fields number log h e) (ap (fault_at (number + 1)) added.0);
+      faults = no_fault _ _ (first_log_fault bytes) (faults-first bytes old left fields number log h e) (ap (log_fault_at (number + 1)) added.0);
     }
 
 pub read-refused : (bytes : List ℕ) (old left : List (List (List ℕ))) (fields : List (List ℕ)) (number : ℕ) (log new : Log) (refusal : LogReadRefusal) → old ≡ fields ∷ left → IsReadTo bytes old number log
-    → ((earlier : List Record) → IsLogOf earlier log → Adds earlier (record_of fields) (number + 1) new (Err refusal)) → IsDue (first_fault bytes) refusal
-read-refused bytes old left fields number log new refusal e h f = due_here _ _ (first_fault bytes) refusal (faults-first bytes old left fields number log h e) (f h.earlier h.logged)
+    → ((earlier : List Record) → IsLogOf earlier log → Adds earlier (record_of fields) (number + 1) new (Err refusal)) → IsLogDue (first_log_fault bytes) refusal
+read-refused bytes old left fields number log new refusal e h f = due_here _ _ (first_log_fault bytes) refusal (faults-first bytes old left fields number log h e) (f h.earlier h.logged)
 
 pub read-log : (bytes : List ℕ) (old : List (List (List ℕ))) (number : ℕ) (log : Log) → old ≡ [] → IsReadTo bytes old number log → log ≡ log_of bytes
 read-log bytes old number log e h =
     h.logged.is ∙ ap log_of_records (sym (append-nil h.earlier) ∙ ap (λ xs. h.earlier ++ map record_of xs) (sym e) ∙ h.whole)
 
-pub read-well : (bytes : List ℕ) (old : List (List (List ℕ))) (number : ℕ) (log : Log) → old ≡ [] → IsReadTo bytes old number log → first_fault bytes ≡ None
+pub read-well : (bytes : List ℕ) (old : List (List (List ℕ))) (number : ℕ) (log : Log) → old ≡ [] → IsReadTo bytes old number log → first_log_fault bytes ≡ None
 read-well bytes old number log e h = sym h.faults ∙ ap (λ xs. first_record_fault (number + 1) h.earlier (map record_of xs)) e
 
 pub read-start : (bytes : List ℕ) (left : List (List (List ℕ))) (log : Log) → left ≡ records default_config (strip_bom bytes) → log ≡ no_log → IsReadTo bytes left 0 log

@@ -16,8 +16,8 @@ use Rattle.log_order.proofs.AlarmLemmas.{place_of-absent, with_text-new}
 use Rattle.log_order.proofs.KeptLemmas.{not_both, turned}
 use Rattle.log_order.proofs.OrderLemmas.{Keeps-cycle}
 use Rattle.log_csv.specs.Records.{Record, records_of}
-use Rattle.log_csv.specs.Faults.{fault_at}
-use Rattle.log_csv.specs.LogText.{first_fault, first_record_fault, log_of, log_of_records, record_code}
+use Rattle.log_csv.specs.Faults.{log_fault_at}
+use Rattle.log_csv.specs.LogText.{first_log_fault, first_record_fault, log_of, log_of_records, record_code}
 use Rattle.log_csv.specs.PrintedLog.{log_text}
 use Rattle.log_csv.specs.Reading.{Adds, IsLogOf}
 use Rattle.log_csv.proofs.RowLemmas.{alarm_accepted, before_accepted}
@@ -115,7 +115,7 @@ accepted-none earlier log h = record { faults = λ row. refl; logged = subst (λ
 
 accepted-first : (earlier : List Record) (said : Record) (rest : List Record) (log : Log) → record_code earlier said ≡ None → Accepted (earlier ++ said ∷ []) rest log → Accepted earlier (said ∷ rest) log
 accepted-first earlier said rest log h a = record {
-  faults = λ row. ap (λ code. option_or (fault_at row code) (first_record_fault (row + 1) (earlier ++ said ∷ []) rest)) h ∙ a.faults (row + 1);
+  faults = λ row. ap (λ code. option_or (log_fault_at row code) (first_record_fault (row + 1) (earlier ++ said ∷ []) rest)) h ∙ a.faults (row + 1);
   logged = subst (λ rs. IsLogOf rs log) (append_assoc earlier (said ∷ []) rest) a.logged;
 }
 
@@ -240,7 +240,7 @@ printed_accepted log h once whole =
 
 -- a printed log has no fault, and its text is the log
 pub record ReadsBack (log : Log) : Type 0 where
-  pub well : first_fault (log_text log) ≡ None
+  pub well : first_log_fault (log_text log) ≡ None
   pub same : log_of (log_text log) ≡ log
 
 pub printed-reads_back : (log : Log) → IsLog log → StandOnce log.pairs → ReadsBack log

@@ -9,7 +9,7 @@ use Rattle.log_csv.specs.declared.refusal.RowRefusal.{RowRefusal}
 use Rattle.log_csv.specs.declared.refusal.RowRefusal.TheVariants.{Shape, Name, Memory}
 use Rattle.log_csv.specs.Records.{alarm, before, ask, nothing, malformed, alarm_record, are_empty, ask_record, before_record, labels_in, record_by_word, record_of, two_fields}
 use Rattle.log_csv.specs.ScriptText.{alarm_row, row_code, row_of}
-use Rattle.log_csv.specs.Reading.{AreNamed, IsNamed, Reads, ReadsRecord}
+use Rattle.log_csv.specs.Reading.{AreNamed, IsNamedInRow, Reads, ReadsRecord}
 
 -- ---- codes
 
@@ -67,7 +67,7 @@ alarm_is maybe fields id labels h = ap (λ o. option_map_or (λ pair. alarm mayb
 pub alarm-none : (maybe : Bool) (fields : List (List ℕ)) → two_fields fields ≡ None → row_code (alarm_record maybe fields) ≡ Some 6
 alarm-none maybe fields h = ap (λ o. row_code (option_map_or (λ pair. alarm maybe pair.0 (labels_in pair.1)) o malformed)) h ∙ malformed_refused
 
-pub alarm-id : (maybe : Bool) (fields : List (List ℕ)) (id labels : List ℕ) (e : RowRefusal) → two_fields fields ≡ Some (id, labels) → IsNamed id (Err e) → Reads (alarm_record maybe fields) (Err e)
+pub alarm-id : (maybe : Bool) (fields : List (List ℕ)) (id labels : List ℕ) (e : RowRefusal) → two_fields fields ≡ Some (id, labels) → IsNamedInRow id (Err e) → Reads (alarm_record maybe fields) (Err e)
 alarm-id maybe fields id labels Shape h n = absurd n
 alarm-id maybe fields id labels Name h n = ap row_code (alarm_is maybe fields id labels h) ∙ id_refused maybe id (labels_in labels) n
 alarm-id maybe fields id labels Memory h n = tt
@@ -77,7 +77,7 @@ alarm-labels maybe fields id labels Shape h n = absurd n
 alarm-labels maybe fields id labels Name h n = ap row_code (alarm_is maybe fields id labels h) ∙ labels_refused maybe id (labels_in labels) n
 alarm-labels maybe fields id labels Memory h n = tt
 
-pub alarm-read : (maybe : Bool) (fields : List (List ℕ)) (id labels name : List ℕ) (names : List (List ℕ)) → two_fields fields ≡ Some (id, labels) → IsNamed id (Ok name) → AreNamed (labels_in labels) (Ok names) → Reads (alarm_record maybe fields) (Ok (alarm_row maybe name names))
+pub alarm-read : (maybe : Bool) (fields : List (List ℕ)) (id labels name : List ℕ) (names : List (List ℕ)) → two_fields fields ≡ Some (id, labels) → IsNamedInRow id (Ok name) → AreNamed (labels_in labels) (Ok names) → Reads (alarm_record maybe fields) (Ok (alarm_row maybe name names))
 alarm-read maybe fields id labels name names h n ns =
     let is = alarm_is maybe fields id labels h in
     (ap row_code is ∙ alarm_accepted maybe id (labels_in labels) n.1 ns.1, ap row_of is ∙ ap (λ x. Some (alarm_row maybe x (labels_in labels))) (sym n.0) ∙ ap (λ xs. Some (alarm_row maybe name xs)) (sym ns.0))
@@ -90,17 +90,17 @@ before_is fields first second h = ap (λ o. option_map_or (λ pair. before pair.
 pub before-none : (fields : List (List ℕ)) → two_fields fields ≡ None → row_code (before_record fields) ≡ Some 6
 before-none fields h = ap (λ o. row_code (option_map_or (λ pair. before pair.0 pair.1) o malformed)) h ∙ malformed_refused
 
-pub before-first : (fields : List (List ℕ)) (first second : List ℕ) (e : RowRefusal) → two_fields fields ≡ Some (first, second) → IsNamed first (Err e) → Reads (before_record fields) (Err e)
+pub before-first : (fields : List (List ℕ)) (first second : List ℕ) (e : RowRefusal) → two_fields fields ≡ Some (first, second) → IsNamedInRow first (Err e) → Reads (before_record fields) (Err e)
 before-first fields first second Shape h n = absurd n
 before-first fields first second Name h n = ap row_code (before_is fields first second h) ∙ first_refused first second n
 before-first fields first second Memory h n = tt
 
-pub before-second : (fields : List (List ℕ)) (first second : List ℕ) (e : RowRefusal) → two_fields fields ≡ Some (first, second) → IsNamed second (Err e) → Reads (before_record fields) (Err e)
+pub before-second : (fields : List (List ℕ)) (first second : List ℕ) (e : RowRefusal) → two_fields fields ≡ Some (first, second) → IsNamedInRow second (Err e) → Reads (before_record fields) (Err e)
 before-second fields first second Shape h n = absurd n
 before-second fields first second Name h n = ap row_code (before_is fields first second h) ∙ second_refused first second n
 before-second fields first second Memory h n = tt
 
-pub before-read : (fields : List (List ℕ)) (first second a b : List ℕ) → two_fields fields ≡ Some (first, second) → IsNamed first (Ok a) → IsNamed second (Ok b) → Reads (before_record fields) (Ok (row.Before a b))
+pub before-read : (fields : List (List ℕ)) (first second a b : List ℕ) → two_fields fields ≡ Some (first, second) → IsNamedInRow first (Ok a) → IsNamedInRow second (Ok b) → Reads (before_record fields) (Ok (row.Before a b))
 before-read fields first second a b h n m =
     let is = before_is fields first second h in
     (ap row_code is ∙ before_accepted first second n.1 m.1, ap row_of is ∙ ap (λ x. Some (row.Before x second)) (sym n.0) ∙ ap (λ x. Some (row.Before a x)) (sym m.0))

@@ -11,9 +11,9 @@ use Rattle.log_csv.specs.declared.row.Row.{Row}
 use Rattle.log_csv.specs.declared.refusal.RowRefusal.{RowRefusal}
 use Rattle.log_csv.specs.declared.refusal.RowRefusal.TheVariants.{Shape, Name, Memory}
 use Rattle.log_csv.specs.Records.{Record, record_of}
-use Rattle.log_csv.specs.Faults.{IsDue, fault_at}
+use Rattle.log_csv.specs.Faults.{IsLogDue, log_fault_at}
 use Rattle.log_csv.specs.ScriptText.{first_row_fault, row_code, row_of}
-use Rattle.log_csv.specs.Reading.{ReadsRecord, refusal_at}
+use Rattle.log_csv.specs.Reading.{ReadsRecord, row_refusal_at}
 
 -- ---- a record
 
@@ -23,9 +23,9 @@ push-row rows new said row e r = e ∙ ap (λ o. rows ++ option_to_list o) (sym 
 pub push-none : (rows : List Row) (said : Record) → ReadsRecord said (Ok None) → rows ≡ rows ++ option_to_list (row_of said)
 push-none rows said r = sym (append-nil rows) ∙ ap (λ o. rows ++ option_to_list o) (sym r.1)
 
-pub refused-due : (said : Record) (row : ℕ) (e : RowRefusal) → ReadsRecord said (Err e) → IsDue (fault_at row (row_code said)) (refusal_at row e)
-refused-due said row Shape h = ap (fault_at row) h
-refused-due said row Name h = ap (fault_at row) h
+pub refused-due : (said : Record) (row : ℕ) (e : RowRefusal) → ReadsRecord said (Err e) → IsLogDue (log_fault_at row (row_code said)) (row_refusal_at row e)
+refused-due said row Shape h = ap (log_fault_at row) h
+refused-due said row Name h = ap (log_fault_at row) h
 refused-due said row Memory h = tt
 
 pub ruleset pushed_rows = (push-row, push-none, refused-due)
@@ -33,7 +33,7 @@ pub ruleset pushed_rows = (push-row, push-none, refused-due)
 -- ---- the records to come
 
 -- a fault of the first record is that of all
-pub due_here : (first later all : Option LogFault) (e : LogReadRefusal) → option_or first later ≡ all → IsDue first e → IsDue all e
+pub due_here : (first later all : Option LogFault) (e : LogReadRefusal) → option_or first later ≡ all → IsLogDue first e → IsLogDue all e
 due_here first later all text.Memory h d = tt
 due_here None later all (text.Fault told) h d = cc
 due_here (Some fault) later all (text.Fault told) h d = sym h ∙ d
@@ -57,15 +57,15 @@ rows-on rows new old left fields all e h p =
     ∙ h
 
 pub row_faults-first : (row : ℕ) (old left : List (List (List ℕ))) (fields : List (List ℕ)) (all : Option LogFault) → old ≡ fields ∷ left → first_row_fault row (map record_of old) ≡ all
-    → option_or (fault_at row (row_code (record_of fields))) (first_row_fault (row + 1) (map record_of left)) ≡ all
+    → option_or (log_fault_at row (row_code (record_of fields))) (first_row_fault (row + 1) (map record_of left)) ≡ all
 row_faults-first row old left fields all e h = ap (λ xs. first_row_fault row (map record_of xs)) (sym e) ∙ h
 
 pub row_faults-on : (row : ℕ) (old left : List (List (List ℕ))) (fields : List (List ℕ)) (all : Option LogFault) → old ≡ fields ∷ left → first_row_fault row (map record_of old) ≡ all
     → row_code (record_of fields) ≡ None → first_row_fault (row + 1) (map record_of left) ≡ all
-row_faults-on row old left fields all e h c = no_fault _ _ all (row_faults-first row old left fields all e h) (ap (fault_at row) c)
+row_faults-on row old left fields all e h c = no_fault _ _ all (row_faults-first row old left fields all e h) (ap (log_fault_at row) c)
 
 pub row_faults-here : (row : ℕ) (old left : List (List (List ℕ))) (fields : List (List ℕ)) (all : Option LogFault) (refusal : LogReadRefusal) → old ≡ fields ∷ left → first_row_fault row (map record_of old) ≡ all
-    → IsDue (fault_at row (row_code (record_of fields))) refusal → IsDue all refusal
+    → IsLogDue (log_fault_at row (row_code (record_of fields))) refusal → IsLogDue all refusal
 row_faults-here row old left fields all refusal e h d = due_here _ _ all refusal (row_faults-first row old left fields all e h) d
 
 -- with a record behind it, there is room for the row's number

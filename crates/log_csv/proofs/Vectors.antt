@@ -8,7 +8,7 @@ use Rattle.log_csv.specs.declared.fault.LogFault.{LogFault}
 use Rattle.log_csv.specs.declared.row.Row.TheVariants.{Alarm, Maybe, Before, Ask}
 use Rattle.log_csv.specs.Records.{alarm, before, nothing, malformed, record_of}
 use Rattle.log_csv.specs.ScriptText.{first_script_fault, row_code, script_of}
-use Rattle.log_csv.specs.LogText.{first_fault, log_of, log_of_records, record_code}
+use Rattle.log_csv.specs.LogText.{first_log_fault, log_of, log_of_records, record_code}
 use Rattle.log_csv.specs.PrintedLog.{alarm_line, log_text}
 
 abbrev at : ℕ → ℕ → Option LogFault
@@ -22,7 +22,7 @@ pub trip-read : log_of (codes "\"alarm\",a1,T,,") ≡ one_trip
 unfolding csv_on_literals record_of
 trip-read = refl
 
-pub trip-well : first_fault (codes "\"alarm\",a1,T,,") ≡ None
+pub trip-well : first_log_fault (codes "\"alarm\",a1,T,,") ≡ None
 unfolding csv_on_literals record_of record_code is_name_text is_name_byte
 trip-well = refl
 
@@ -40,35 +40,35 @@ nothing-read = refl
 
 -- ---- first faults
 
-pub double-alarm : first_fault (codes ",\nalarm,a,T\nalarm,a,F") ≡ at 3 1
+pub double-alarm : first_log_fault (codes ",\nalarm,a,T\nalarm,a,F") ≡ at 3 1
 unfolding csv_on_literals record_of record_code is_name_text is_name_byte
 double-alarm = refl
 
-pub double-doubtful : first_fault (codes "alarm,a,T\nmaybe,a,F") ≡ at 2 1
+pub double-doubtful : first_log_fault (codes "alarm,a,T\nmaybe,a,F") ≡ at 2 1
 unfolding csv_on_literals record_of record_code is_name_text is_name_byte
 double-doubtful = refl
 
-pub unknown-alarm : first_fault (codes "alarm,a,T\nbefore,a,z") ≡ at 2 2
+pub unknown-alarm : first_log_fault (codes "alarm,a,T\nbefore,a,z") ≡ at 2 2
 unfolding csv_on_literals record_of record_code is_name_text is_name_byte
 unknown-alarm = refl
 
-pub own-cycle : first_fault (codes "alarm,a,T\nbefore,a,a") ≡ at 2 3
+pub own-cycle : first_log_fault (codes "alarm,a,T\nbefore,a,a") ≡ at 2 3
 unfolding csv_on_literals record_of record_code is_name_text is_name_byte
 own-cycle = refl
 
-pub no-labels : first_fault (codes "alarm,a,") ≡ at 1 4
+pub no-labels : first_log_fault (codes "alarm,a,") ≡ at 1 4
 unfolding csv_on_literals record_of record_code is_name_text is_name_byte
 no-labels = refl
 
-pub too-short : first_fault (codes "alarm,a") ≡ at 1 6
+pub too-short : first_log_fault (codes "alarm,a") ≡ at 1 6
 unfolding csv_on_literals record_of record_code is_name_text is_name_byte
 too-short = refl
 
-pub question-in-log : first_fault (codes "ask") ≡ at 1 6
+pub question-in-log : first_log_fault (codes "ask") ≡ at 1 6
 unfolding csv_on_literals record_of record_code is_name_text is_name_byte
 question-in-log = refl
 
-pub no-name : first_fault (codes "alarm,a b,T") ≡ at 1 7
+pub no-name : first_log_fault (codes "alarm,a b,T") ≡ at 1 7
 unfolding csv_on_literals record_of record_code is_name_text is_name_byte
 no-name = refl
 

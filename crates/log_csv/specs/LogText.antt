@@ -8,8 +8,8 @@ use Rattle.log_order.specs.Adding.{names_of, with_pair, with_texts}
 use Rattle.log_order.specs.declared.TheConstants.{MOST_ALARMS, MOST_LABELS, MOST_PAIRS}
 use Rattle.log_csv.specs.declared.fault.LogFault.{LogFault}
 use Rattle.log_csv.specs.Records.{Record, alarm, before, ask, nothing, malformed, records_of}
-use Rattle.log_csv.specs.ScriptText.{is_malformed, words_of}
-use Rattle.log_csv.specs.Faults.{fault_at}
+use Rattle.log_csv.specs.ScriptText.{is_malformed, names_of_record}
+use Rattle.log_csv.specs.Faults.{log_fault_at}
 
 -- ---- the log of records
 
@@ -69,20 +69,20 @@ is_question_record nothing = false
 is_question_record malformed = false
 
 -- an earlier alarm has the id
-abbrev pub is_double : List Record → Record → Bool
-is_double earlier (alarm maybe id labels) = is_some (place_of id (ids_of earlier))
-is_double earlier (before first second) = false
-is_double earlier ask = false
-is_double earlier nothing = false
-is_double earlier malformed = false
+abbrev pub is_double_record : List Record → Record → Bool
+is_double_record earlier (alarm maybe id labels) = is_some (place_of id (ids_of earlier))
+is_double_record earlier (before first second) = false
+is_double_record earlier ask = false
+is_double_record earlier nothing = false
+is_double_record earlier malformed = false
 
 -- one of two alarms isn't among the earlier
-abbrev pub is_unknown : List Record → Record → Bool
-is_unknown earlier (alarm maybe id labels) = false
-is_unknown earlier (before first second) = is_none (place_of first (ids_of earlier)) || is_none (place_of second (ids_of earlier))
-is_unknown earlier ask = false
-is_unknown earlier nothing = false
-is_unknown earlier malformed = false
+abbrev pub has_unknown_alarm : List Record → Record → Bool
+has_unknown_alarm earlier (alarm maybe id labels) = false
+has_unknown_alarm earlier (before first second) = is_none (place_of first (ids_of earlier)) || is_none (place_of second (ids_of earlier))
+has_unknown_alarm earlier ask = false
+has_unknown_alarm earlier nothing = false
+has_unknown_alarm earlier malformed = false
 
 -- the earlier pairs lead from the second alarm to the first
 abbrev pub is_cycle : List Record → Record → Bool
@@ -101,31 +101,31 @@ abbrev pub is_pair_past_limit : List (ℕ × ℕ) → ℕ × ℕ → Bool
 is_pair_past_limit pairs pair = not (has_pair pairs pair.0 pair.1) && nat_le MOST_PAIRS (length pairs)
 
 -- a limit would be passed: by one more alarm, by the labels as they are written, or by a pair that is new
-abbrev pub is_past_limit : List Record → Record → Bool
-is_past_limit earlier (alarm maybe id labels) = nat_le MOST_ALARMS (length (recorded_alarms earlier)) || nat_lt MOST_LABELS (length labels)
-is_past_limit earlier (before first second) = option_map_or (is_pair_past_limit (pairs_of earlier)) (recorded_pair (ids_of earlier) (before first second)) false
-is_past_limit earlier ask = false
-is_past_limit earlier nothing = false
-is_past_limit earlier malformed = false
+abbrev pub is_record_past_limit : List Record → Record → Bool
+is_record_past_limit earlier (alarm maybe id labels) = nat_le MOST_ALARMS (length (recorded_alarms earlier)) || nat_lt MOST_LABELS (length labels)
+is_record_past_limit earlier (before first second) = option_map_or (is_pair_past_limit (pairs_of earlier)) (recorded_pair (ids_of earlier) (before first second)) false
+is_record_past_limit earlier ask = false
+is_record_past_limit earlier nothing = false
+is_record_past_limit earlier malformed = false
 
 -- the first code, in this order, whose condition holds of a record and the accepted records before it
 unfoldable pub record_code : List Record → Record → Option ℕ
 record_code earlier said =
     if is_malformed said || is_question_record said then Some 6
-    else if not (list_all is_name_text (words_of said)) then Some 7
-    else if is_double earlier said then Some 1
-    else if is_unknown earlier said then Some 2
+    else if not (list_all is_name_text (names_of_record said)) then Some 7
+    else if is_double_record earlier said then Some 1
+    else if has_unknown_alarm earlier said then Some 2
     else if is_cycle earlier said then Some 3
     else if lacks_labels said then Some 4
-    else if is_past_limit earlier said then Some 5
+    else if is_record_past_limit earlier said then Some 5
     else None
 
 -- the first fault of the records behind these, where the first of them has this row
 abbrev pub first_record_fault : ℕ → List Record → List Record → Option LogFault
 first_record_fault row earlier [] = None
 first_record_fault row earlier (said ∷ others) =
-    option_or (fault_at row (record_code earlier said)) (first_record_fault (row + 1) (earlier ++ said ∷ []) others)
+    option_or (log_fault_at row (record_code earlier said)) (first_record_fault (row + 1) (earlier ++ said ∷ []) others)
 
 -- rows are counted from 1, the blank ones too
-abbrev pub first_fault : List ℕ → Option LogFault
-first_fault bytes = first_record_fault 1 [] (records_of bytes)
+abbrev pub first_log_fault : List ℕ → Option LogFault
+first_log_fault bytes = first_record_fault 1 [] (records_of bytes)

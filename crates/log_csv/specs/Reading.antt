@@ -14,9 +14,9 @@ use Rattle.log_csv.specs.declared.row.Row.{Row}
 use Rattle.log_csv.specs.declared.refusal.RowRefusal.{RowRefusal}
 use Rattle.log_csv.specs.declared.refusal.RowRefusal.TheVariants.{Shape, Name, Memory}
 use Rattle.log_csv.specs.Records.{Record, alarm, before, ask, nothing, malformed, record_of, records_of}
-use Rattle.log_csv.specs.Faults.{IsDue, fault_at}
+use Rattle.log_csv.specs.Faults.{IsLogDue, log_fault_at}
 use Rattle.log_csv.specs.ScriptText.{row_code, row_of}
-use Rattle.log_csv.specs.LogText.{first_fault, first_record_fault, ids_of, log_of_records, record_code}
+use Rattle.log_csv.specs.LogText.{first_log_fault, first_record_fault, ids_of, log_of_records, record_code}
 
 -- the pieces between bars of what is left of a field, if anything is
 abbrev pub pieces_in : Option (Bor (List ℕ)) → List (List ℕ)
@@ -24,22 +24,22 @@ pieces_in None = []
 pieces_in (Some rest) = slice_split (λ byte. byte == 124) rest.now
 
 -- why a record becomes no row, where one of its texts became no name
-abbrev pub refusal_of_name : NameFault → RowRefusal
-refusal_of_name fault.Shape = Name
-refusal_of_name fault.Memory = Memory
+abbrev pub row_refusal_of_name : NameFault → RowRefusal
+row_refusal_of_name fault.Shape = Name
+row_refusal_of_name fault.Memory = Memory
 
 -- the refusal of a text for the record of this row
-abbrev pub refusal_at : ℕ → RowRefusal → LogReadRefusal
-refusal_at row Shape = text.Fault (record { row = row; code = 6 })
-refusal_at row Name = text.Fault (record { row = row; code = 7 })
-refusal_at row Memory = text.Memory
+abbrev pub row_refusal_at : ℕ → RowRefusal → LogReadRefusal
+row_refusal_at row Shape = text.Fault (record { row = row; code = 6 })
+row_refusal_at row Name = text.Fault (record { row = row; code = 7 })
+row_refusal_at row Memory = text.Memory
 
 -- the text as a name, where it is one
-abbrev pub IsNamed : List ℕ → Result (List ℕ) RowRefusal → Type 0
-IsNamed text (Ok name) = (name ≡ text) × (is_name_text text ≡ true)
-IsNamed text (Err Shape) = ⊥
-IsNamed text (Err Name) = is_name_text text ≡ false
-IsNamed text (Err Memory) = ⊤
+abbrev pub IsNamedInRow : List ℕ → Result (List ℕ) RowRefusal → Type 0
+IsNamedInRow text (Ok name) = (name ≡ text) × (is_name_text text ≡ true)
+IsNamedInRow text (Err Shape) = ⊥
+IsNamedInRow text (Err Name) = is_name_text text ≡ false
+IsNamedInRow text (Err Memory) = ⊤
 
 -- the same of some texts
 abbrev pub AreNamed : List (List ℕ) → Result (List (List ℕ)) RowRefusal → Type 0
@@ -78,14 +78,14 @@ pub record IsLogOf (earlier : List Record) (log : Log) : Type 0 where
 -- a record behind these was added, or refused for its code
 abbrev pub Adds : List Record → Record → ℕ → Log → Result (Unit {0}) LogReadRefusal → Type 0
 Adds earlier said row log (Ok done) = (record_code earlier said ≡ None) × IsLogOf (earlier ++ said ∷ []) log
-Adds earlier said row log (Err refusal) = IsDue (fault_at row (record_code earlier said)) refusal
+Adds earlier said row log (Err refusal) = IsLogDue (log_fault_at row (record_code earlier said)) refusal
 
 -- the records before these were accepted, and the first fault of these is that of the text
 pub record IsReadTo (bytes : List ℕ) (left : List (List (List ℕ))) (row : ℕ) (log : Log) : Type 0 where
   pub earlier : List Record
   pub logged : IsLogOf earlier log
   pub whole : earlier ++ map record_of left ≡ records_of bytes
-  pub faults : first_record_fault (row + 1) earlier (map record_of left) ≡ first_fault bytes
+  pub faults : first_record_fault (row + 1) earlier (map record_of left) ≡ first_log_fault bytes
 
 -- the code of a refusal of the log, or 0 for want of memory, which is no fault of the text
 abbrev pub refusal_code : LogRefusal → ℕ

@@ -46,8 +46,8 @@ abbrev pub ask_record : List (List ℕ) → Record
 ask_record fields = if are_empty fields then ask else malformed
 
 -- the word that begins a record
-abbrev pub keyword_of : List ℕ → Option Keyword
-keyword_of text =
+abbrev pub record_keyword : List ℕ → Option Keyword
+record_keyword text =
     if bytes_eq text (codes "alarm") then Some word.Alarm
     else if bytes_eq text (codes "maybe") then Some word.Maybe
     else if bytes_eq text (codes "before") then Some word.Before
@@ -65,7 +65,7 @@ record_with (Some word.Ask) fields = ask_record fields
 -- what the first field and those behind it say
 abbrev pub record_by_word : List (List ℕ) → Record
 record_by_word [] = malformed
-record_by_word (text ∷ fields) = record_with (keyword_of text) fields
+record_by_word (text ∷ fields) = record_with (record_keyword text) fields
 
 -- what a record says by its fields; where all are empty, nothing
 unfoldable pub record_of : List (List ℕ) → Record

@@ -7,7 +7,7 @@ use Rattle.log_csv.specs.declared.fault.LogFault.{LogFault}
 use Rattle.log_csv.specs.declared.row.Row.{Row}
 use Rattle.log_csv.specs.declared.row.Row.TheVariants.{Alarm, Maybe, Before, Ask}
 use Rattle.log_csv.specs.Records.{Record, alarm, before, ask, nothing, malformed, records_of}
-use Rattle.log_csv.specs.Faults.{fault_at}
+use Rattle.log_csv.specs.Faults.{log_fault_at}
 
 -- the record has no shape
 abbrev pub is_malformed : Record → Bool
@@ -18,24 +18,24 @@ is_malformed nothing = false
 is_malformed malformed = true
 
 -- the texts that must be names
-abbrev pub words_of : Record → List (List ℕ)
-words_of (alarm maybe id labels) = id ∷ labels
-words_of (before first second) = first ∷ second ∷ []
-words_of ask = []
-words_of nothing = []
-words_of malformed = []
+abbrev pub names_of_record : Record → List (List ℕ)
+names_of_record (alarm maybe id labels) = id ∷ labels
+names_of_record (before first second) = first ∷ second ∷ []
+names_of_record ask = []
+names_of_record nothing = []
+names_of_record malformed = []
 
 -- 6: the record has no shape. 7: an id or a label isn't a name.
 unfoldable pub row_code : Record → Option ℕ
 row_code said =
     if is_malformed said then Some 6
-    else if not (list_all is_name_text (words_of said)) then Some 7
+    else if not (list_all is_name_text (names_of_record said)) then Some 7
     else None
 
 -- the first fault of the records, where the first of them has this row
 abbrev pub first_row_fault : ℕ → List Record → Option LogFault
 first_row_fault row [] = None
-first_row_fault row (said ∷ others) = option_or (fault_at row (row_code said)) (first_row_fault (row + 1) others)
+first_row_fault row (said ∷ others) = option_or (log_fault_at row (row_code said)) (first_row_fault (row + 1) others)
 
 -- rows are counted from 1, the blank ones too
 abbrev pub first_script_fault : List ℕ → Option LogFault

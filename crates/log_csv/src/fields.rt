@@ -1,9 +1,9 @@
 // The fields of a record.
 ghost use Rattle.std.specs.Prelude.{◌≡◌, ◌+◌, ◌&&◌, drop, option_map};
 ghost use Rattle.csv.specs.Records.{fields_of};
-ghost use Rattle.log_csv.specs.Records.{are_empty, keyword_of, two_fields, record_by_word, record_with};
+ghost use Rattle.log_csv.specs.Records.{are_empty, record_keyword, two_fields, record_by_word, record_with};
 
-use crate::keyword::{Keyword, keyword_of};
+use crate::keyword::{Keyword, record_keyword};
 use csv::ByteRecord;
 
 // Whether the fields from a place on are empty.
@@ -33,7 +33,7 @@ pub fn keyword(fields: &ByteRecord) -> Option<Keyword>
     ensures { record_by_word (fields_of fields.now) ≡ record_with result (drop 1 (fields_of fields.now)) }
 {
     match fields.get(0) {
-        Some(text) => keyword_of(text),
+        Some(text) => record_keyword(text),
         None => None,
     }
 }

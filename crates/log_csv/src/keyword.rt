@@ -1,6 +1,6 @@
 // The first field of a record.
 ghost use Rattle.std.specs.Prelude.{◌≡◌, bytes_eq};
-ghost use Rattle.log_csv.specs.Records.{keyword_of};
+ghost use Rattle.log_csv.specs.Records.{record_keyword};
 
 // The first field of a record.
 #[derive(Clone, Copy)]
@@ -12,8 +12,8 @@ pub enum Keyword {
 }
 
 // The keyword that the text is, if it is one.
-pub fn keyword_of(text: &[u8]) -> Option<Keyword>
-    ensures { result ≡ keyword_of text.now }
+pub fn record_keyword(text: &[u8]) -> Option<Keyword>
+    ensures { result ≡ record_keyword text.now }
 {
     if is_word(text, "alarm") {
         Some(Keyword::Alarm)

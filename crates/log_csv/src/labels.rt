@@ -3,7 +3,7 @@ ghost use Rattle.std.specs.Prelude.{◌≡◌, ◌+◌, ◌<◌, ◌≤◌, ◌=
 ghost use Rattle.std.specs.List.{position_or_len, slice_split};
 ghost use Rattle.std.specs.Option.{option_map_or};
 ghost use Rattle.log_csv.specs.Records.{labels_in};
-ghost use Rattle.log_csv.specs.Reading.{IsNamed, AreNamed, pieces_in};
+ghost use Rattle.log_csv.specs.Reading.{IsNamedInRow, AreNamed, pieces_in};
 
 use crate::refusal::RowRefusal;
 use des_base::{Name, NameList};
@@ -11,7 +11,7 @@ use std::alloc::Global;
 
 // The text as a name.
 pub fn name_of(alloc: Global, text: &[u8]) -> Result<Name, RowRefusal>
-    ensures { IsNamed text.now result }
+    ensures { IsNamedInRow text.now result }
 {
     Ok(Name::new(alloc, text)?)
 }

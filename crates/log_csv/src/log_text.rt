@@ -2,11 +2,11 @@
 ghost use Rattle.std.specs.Prelude.{◌≡◌, ◌^◌, ◌<◌, List, None, Some, length, IfErr, IfOk, OnErr, OnOk};
 ghost use Rattle.csv.specs.Records.{fields_of};
 ghost use Rattle.log_order.specs.Log.{no_log};
-ghost use Rattle.log_order.specs.Adding.{Answers, alarm_refusal, with_alarm};
+ghost use Rattle.log_order.specs.Adding.{AddsUnless, alarm_refusal, with_alarm};
 ghost use Rattle.log_csv.specs.Records.{Record, alarm, before, record_of};
-ghost use Rattle.log_csv.specs.Faults.{IsDue};
+ghost use Rattle.log_csv.specs.Faults.{IsLogDue};
 ghost use Rattle.log_csv.specs.ScriptText.{row_code, row_of};
-ghost use Rattle.log_csv.specs.LogText.{first_fault, log_of};
+ghost use Rattle.log_csv.specs.LogText.{first_log_fault, log_of};
 ghost use Rattle.log_csv.specs.Reading.{Adds, IsLogOf, log_refusal_at};
 
 use crate::fault::{LogFault, LogReadRefusal};
@@ -26,8 +26,8 @@ use std::alloc::Global;
 pub fn read_log(alloc: Global, bytes: &[u8]) -> Result<AlarmLog, LogReadRefusal>
     requires { length bytes.now < 2 ^ 32 }
     ensures log { IfOk result (λ log. log ≡ log_of bytes.now) }
-    ensures well { OnOk result (first_fault bytes.now ≡ None) }
-    ensures refused { IfErr result (IsDue (first_fault bytes.now)) }
+    ensures well { OnOk result (first_log_fault bytes.now ≡ None) }
+    ensures refused { IfErr result (IsLogDue (first_log_fault bytes.now)) }
 {
     let mut fields = ByteRecord::new(alloc);
     let mut log = AlarmLog::new(alloc);
@@ -48,8 +48,8 @@ fn add_records(
     requires few { length bytes.now < 2 ^ 32 }
     requires empty { log.old ≡ no_log }
     ensures log { OnOk result (log.new ≡ log_of bytes.now) }
-    ensures well { OnOk result (first_fault bytes.now ≡ None) }
-    ensures refused { IfErr result (IsDue (first_fault bytes.now)) }
+    ensures well { OnOk result (first_log_fault bytes.now ≡ None) }
+    ensures refused { IfErr result (IsLogDue (first_log_fault bytes.now)) }
 {
     let mut records = records_of(alloc, bytes);
     let mut row: u32 = 0;
@@ -105,7 +105,7 @@ fn add_alarm(
 
 // Adds an alarm, certain or doubtful.
 fn put_alarm(log: &mut AlarmLog, maybe: bool, id: Name, labels: &[Name]) -> Result<u32, LogRefusal>
-    ensures refused { Answers result (alarm_refusal log.old id labels.now) }
+    ensures refused { AddsUnless result (alarm_refusal log.old id labels.now) }
     ensures ok { OnOk result (log.new ≡ with_alarm log.old id labels.now maybe) }
     ensures err { OnErr result (log.new ≡ log.old) }
 {

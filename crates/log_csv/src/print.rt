@@ -1,7 +1,7 @@
 // A log as a text.
 ghost use Rattle.std.specs.Prelude.{◌≡◌, ◌<◌, ◌++◌, None, length, OnErr, OnOk};
 ghost use Rattle.std.specs.List.{flat_map, join_with_byte};
-ghost use Rattle.log_csv.specs.LogText.{first_fault, log_of};
+ghost use Rattle.log_csv.specs.LogText.{first_log_fault, log_of};
 ghost use Rattle.log_csv.specs.PrintedLog.{alarm_line, alarm_with, alarm_word, line_of_ids, log_text, pair_line};
 
 use des_base::{Memory, Name};
@@ -12,7 +12,7 @@ use log_order::AlarmLog;
 /// A refused call changes nothing.
 pub fn print_log(log: &AlarmLog, out: &mut Vec<u8>) -> Result<(), Memory>
     ensures text { OnOk result (out.new.items ≡ out.old.items ++ log_text log.now) }
-    ensures well { OnOk result (first_fault (log_text log.now) ≡ None) }
+    ensures well { OnOk result (first_log_fault (log_text log.now) ≡ None) }
     ensures read_back { OnOk result (log_of (log_text log.now) ≡ log.now) }
     ensures err { OnErr result (out.new.items ≡ out.old.items) }
 {

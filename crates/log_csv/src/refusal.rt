@@ -1,6 +1,6 @@
 // Why a record became no row.
 ghost use Rattle.std.specs.Prelude.{◌≡◌};
-ghost use Rattle.log_csv.specs.Reading.{refusal_of_name, refusal_at};
+ghost use Rattle.log_csv.specs.Reading.{row_refusal_of_name, row_refusal_at};
 ghost use Rattle.log_csv.specs.declared.refusal.RowRefusal.TheVariants.{Memory as NoMemory};
 
 use crate::fault::{LogFault, LogReadRefusal};
@@ -20,7 +20,7 @@ pub enum RowRefusal {
 impl RowRefusal {
     // The refusal of a text for this record.
     pub fn at(self, row: u32) -> LogReadRefusal
-        ensures { result ≡ refusal_at row self }
+        ensures { result ≡ row_refusal_at row self }
     {
         match self {
             RowRefusal::Shape => LogReadRefusal::Fault(LogFault { row, code: 6 }),
@@ -39,7 +39,7 @@ impl From<Memory> for RowRefusal {
 }
 
 impl From<NameFault> for RowRefusal {
-    ghost from_gives = { λ fault refusal. refusal ≡ refusal_of_name fault };
+    ghost from_gives = { λ fault refusal. refusal ≡ row_refusal_of_name fault };
 
     fn from(fault: NameFault) -> RowRefusal {
         match fault {

@@ -3,7 +3,7 @@ ghost use Rattle.std.specs.Prelude.{◌≡◌, ◌^◌, ◌<◌, ◌++◌, None,
 ghost use Rattle.std.specs.Option.{option_to_list};
 ghost use Rattle.csv.specs.Records.{fields_of};
 ghost use Rattle.log_csv.specs.Records.{record_of};
-ghost use Rattle.log_csv.specs.Faults.{IsDue, fault_at};
+ghost use Rattle.log_csv.specs.Faults.{IsLogDue, log_fault_at};
 ghost use Rattle.log_csv.specs.ScriptText.{first_script_fault, row_code, row_of, script_of};
 
 use crate::fault::LogReadRefusal;
@@ -48,7 +48,7 @@ pub fn read_script(alloc: Global, bytes: &[u8]) -> Result<Script, LogReadRefusal
     requires { length bytes.now < 2 ^ 32 }
     ensures script { IfOk result (λ script. script ≡ script_of bytes.now) }
     ensures well { OnOk result (first_script_fault bytes.now ≡ None) }
-    ensures refused { IfErr result (IsDue (first_script_fault bytes.now)) }
+    ensures refused { IfErr result (IsLogDue (first_script_fault bytes.now)) }
 {
     let mut records = records_of(alloc, bytes);
     let mut fields = ByteRecord::new(alloc);
@@ -71,7 +71,7 @@ fn push_row(
 ) -> Result<(), LogReadRefusal>
     ensures rows { OnOk result (rows.new.items ≡ rows.old.items ++ option_to_list (row_of (record_of (fields_of fields.now)))) }
     ensures well { OnOk result (row_code (record_of (fields_of fields.now)) ≡ None) }
-    ensures refused { IfErr result (IsDue (fault_at row (row_code (record_of (fields_of fields.now))))) }
+    ensures refused { IfErr result (IsLogDue (log_fault_at row (row_code (record_of (fields_of fields.now))))) }
 {
     match read_record(alloc, fields) {
         Ok(Some(said)) => {

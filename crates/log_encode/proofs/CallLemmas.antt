@@ -6,10 +6,10 @@ use Rattle.des_base.proofs.BoolLemmas.{otherwise}
 use Rattle.des_base.proofs.Elements.{cons_cases, none_in_nil, contains_at, at_place, all_from}
 use Rattle.des_base.specs.Lists.{numbers_below}
 use Rattle.des_base.specs.declared.TheConstants.{VAR_LIMIT}
-use Rattle.des_net.specs.Network.{Net}
+use Rattle.des_net.specs.Network.{Net, observable_events}
 use Rattle.log_order.specs.Log.{is_doubtful}
 use Rattle.log_clauses.specs.Additions.{alarm_added, with_addition}
-use Rattle.log_clauses.specs.LogClauses.{chain, observable_events, guard_literals, matching_events}
+use Rattle.log_clauses.specs.LogClauses.{chain, guard_literals, matching_events}
 use Rattle.log_clauses.specs.Decoded.{alarm_at, is_false_alarm}
 use Rattle.log_clauses.specs.LogNames.{first_meanings, ReadsInOrder}
 use Rattle.log_clauses.proofs.Lists.{clash, filter_has, filter_from}

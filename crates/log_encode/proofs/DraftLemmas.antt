@@ -4,11 +4,11 @@ use Rattle.std.specs.List.{AllByRecursion, AllZip, range_with_len}
 use Rattle.des_base.proofs.Elements.{zip_append}
 use Rattle.des_base.specs.ChainCount.{chain_count}
 use Rattle.des_base.specs.Lists.{numbers_below}
-use Rattle.des_net.specs.Network.{Net}
+use Rattle.des_net.specs.Network.{Net, observable_events}
 use Rattle.log_order.specs.Log.{Log, Alarm, no_log}
 use Rattle.log_clauses.specs.Additions.{alarm_added, pair_added, with_addition}
 use Rattle.log_clauses.specs.Drafts.{alarm_link_clauses, alarm_clauses, real_clauses, added_clauses, taken_events, first_clauses, added_list}
-use Rattle.log_clauses.specs.LogClauses.{chain, observable_events, chain_closed, before_if_asked, log_clause}
+use Rattle.log_clauses.specs.LogClauses.{chain, chain_closed, before_if_asked, log_clause}
 use Rattle.log_clauses.specs.LogNames.{first_meanings}
 use Rattle.log_clauses.proofs.Drafts.{drafts_are_code, drafts_are_small, first_clauses_are_few}
 use Rattle.log_clauses.proofs.Codes.{code_begins}

@@ -6,14 +6,14 @@ use Rattle.des_base.proofs.Elements.{zip_append}
 use Rattle.des_base.proofs.NumbersBelow.{range_once}
 use Rattle.des_base.specs.ChainCount.{chain_count}
 use Rattle.des_base.specs.Lists.{EachPair, numbers_below}
-use Rattle.des_net.specs.Network.{Net, label_of}
+use Rattle.des_net.specs.Network.{Net, label_of, observable_events}
 use Rattle.log_order.specs.Log.{Log, Alarm}
 use Rattle.log_clauses.specs.Additions.{alarm_added, with_addition}
 use Rattle.log_clauses.specs.Drafts.{taken_events}
-use Rattle.log_clauses.specs.LogClauses.{chain, observable_events}
+use Rattle.log_clauses.specs.LogClauses.{chain}
 use Rattle.log_clauses.specs.LogNames.{HasAlarmPlaces, ReadsInOrder}
 use Rattle.log_clauses.proofs.Lists.{pairs_filter}
-use Rattle.log_clauses.proofs.Numbered.{places_of_names}
+use Rattle.log_clauses.proofs.Numbered.{places_of_meanings}
 use Rattle.log_clauses.proofs.Stay.{doubtful_new}
 use Rattle.log_encode.proofs.CodeLemmas.{names_with_alarm, raised, false_more}
 use Rattle.log_encode.proofs.StayLemmas.{end_stays, chain_joined, named_still}
@@ -82,7 +82,7 @@ new_vars code first links maybe = record { start = first; links = links; steps =
 pub places : (code : CodedLog) (labels : List (List ℕ)) (maybe : Bool) (first : ℕ) → IsCodedLog code → code.vars ≤ first → HasAlarmPlaces code.net code.log code.grid.steps first (nameless labels maybe) (log_meanings (code_after code (alarm_added (nameless labels maybe)) first))
 places code labels maybe first coded above =
     subst (HasAlarmPlaces code.net code.log code.grid.steps first (nameless labels maybe)) (sym (names_with_alarm code (nameless labels maybe) first coded.each))
-    (places_of_names code.net code.log code.grid.steps first (nameless labels maybe) (log_meanings code) (raised code.net code.log code.grid.steps code.vars first (log_meanings code) above coded.names))
+    (places_of_meanings code.net code.log code.grid.steps first (nameless labels maybe) (log_meanings code) (raised code.net code.log code.grid.steps code.vars first (log_meanings code) above coded.names))
 
 joined_count : (net : Net) (log : Log) (new : Alarm) (e : ℕ) → has_any_label net new.labels e ≡ true → length (chain net (with_addition log (alarm_added new)) e) ≡ suc (length (chain net log e))
 joined_count net log new e h = ap length (chain_joined net log new e h) ∙ omega (arith, length-append (chain net log e) (length log.alarms ∷ []))

@@ -6,12 +6,12 @@ use Rattle.std.specs.Option.{option_map_or}
 use Rattle.des_base.proofs.Elements.{filter_alike}
 use Rattle.des_base.specs.ChainCount.{chain_count}
 use Rattle.des_base.specs.Lists.{numbers_below}
-use Rattle.des_net.specs.Network.{Net, label_of}
+use Rattle.des_net.specs.Network.{Net, label_of, observable_events}
 use Rattle.log_clauses.proofs.Numbered.{link_size}
 use Rattle.log_order.specs.Log.{Log, Alarm}
 use Rattle.log_clauses.specs.Additions.{alarm_added, with_addition}
 use Rattle.log_clauses.specs.Drafts.{taken_events}
-use Rattle.log_clauses.specs.LogClauses.{chain, observable_events}
+use Rattle.log_clauses.specs.LogClauses.{chain}
 use Rattle.log_clauses.specs.LogNames.{added_meanings, alarm_meanings, match_chains, false_meanings, link_meanings}
 use Rattle.log_clauses.proofs.Drafts.{flat_length}
 use Rattle.log_encode.specs.AlarmVariables.{alarm_variable_count, false_width}

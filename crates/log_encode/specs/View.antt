@@ -2,9 +2,9 @@
 use Rattle.std.specs.Prelude.{◌≡◌, ℕ, suc, ◌+◌, ◌*◌, ◌<◌, ◌≤◌, ⊤, true, List, map, length, Option, Some, None, slice_get, vec_len, vec_capacity}
 use Rattle.std.specs.List.{AllByRecursion}
 use Rattle.des_base.specs.declared.TheConstants.{VAR_LIMIT}
-use Rattle.des_net.specs.Network.{Net}
+use Rattle.des_net.specs.Network.{Net, observable_events}
 use Rattle.log_clauses.specs.Additions.{Addition, alarm_added, pair_added}
-use Rattle.log_clauses.specs.LogClauses.{chain, matching_events, observable_events}
+use Rattle.log_clauses.specs.LogClauses.{chain, matching_events}
 use Rattle.log_encode.specs.declared.draft.Change.{Change}
 use Rattle.log_encode.specs.declared.draft.Change.TheVariants.{Alarm, Pair}
 use Rattle.log_encode.specs.declared.draft.Draft.TheInside.{Inside as DraftInside}

@@ -8,14 +8,14 @@ use Rattle.log_order.specs.declared.refusal.LogRefusal.TheVariants.{Double, Unkn
 use Rattle.log_order.specs.Log.{Log, Alarm, IsValidLog, has_pair, closes_cycle, an_alarm}
 
 -- a call's answer, where this is the refusal that the log calls for: want of memory may come in place of any answer
-abbrev pub Answers : {X : Type 0} → Result X LogRefusal → Option LogRefusal → Type 0
-Answers (Ok x) refusal = refusal ≡ None
-Answers (Err Memory) refusal = ⊤
-Answers (Err Double) refusal = refusal ≡ Some Double
-Answers (Err Unknown) refusal = refusal ≡ Some Unknown
-Answers (Err Cycle) refusal = refusal ≡ Some Cycle
-Answers (Err NoLabels) refusal = refusal ≡ Some NoLabels
-Answers (Err Limit) refusal = refusal ≡ Some Limit
+abbrev pub AddsUnless : {X : Type 0} → Result X LogRefusal → Option LogRefusal → Type 0
+AddsUnless (Ok x) refusal = refusal ≡ None
+AddsUnless (Err Memory) refusal = ⊤
+AddsUnless (Err Double) refusal = refusal ≡ Some Double
+AddsUnless (Err Unknown) refusal = refusal ≡ Some Unknown
+AddsUnless (Err Cycle) refusal = refusal ≡ Some Cycle
+AddsUnless (Err NoLabels) refusal = refusal ≡ Some NoLabels
+AddsUnless (Err Limit) refusal = refusal ≡ Some Limit
 
 -- the ids of alarms, in order
 abbrev pub names_of : List Alarm → List (List ℕ)

@@ -2,7 +2,7 @@
 ghost use Rattle.std.specs.Prelude.{◌≡◌, ◌+◌, ◌<◌, ◌≤◌, ◌∷◌, ◌++◌, [], ℕ, true, false, not, length, Err, None, IfOk, OnOk, OnErr};
 ghost use Rattle.des_base.specs.Names.{place_of};
 ghost use Rattle.log_order.specs.Log.{has_pair, reaches, ListsOnce, Keeps, AreOrdered, StandOnce};
-ghost use Rattle.log_order.specs.Adding.{Answers, before_refusal, with_pair};
+ghost use Rattle.log_order.specs.Adding.{AddsUnless, before_refusal, with_pair};
 ghost use Rattle.log_order.specs.declared.TheConstants.{MOST_ALARMS, MOST_PAIRS};
 ghost use Rattle.log_order.specs.Precedence.{no_precedence, is_marked, moved, with_follower};
 ghost use Rattle.log_order.specs.Order.{least_order};
@@ -102,7 +102,7 @@ impl Precedence {
     // What the second number reaches, where the pair is accepted.
     #[tactic(auto, unfolding(crate::specs::Adding::before_refusal))]
     fn admit(&self, first: u32, second: u32) -> Result<Vec<bool>, LogRefusal>
-        ensures refused { Answers result (before_refusal self.now.count self.now.pairs first second) }
+        ensures refused { AddsUnless result (before_refusal self.now.count self.now.pairs first second) }
         ensures marks { IfOk result (λ marks. (i : ℕ) → is_marked marks.items i ≡ reaches self.now.pairs second i) }
         ensures apart { OnOk result (reaches self.now.pairs second first ≡ false) }
         ensures first { OnOk result (first < self.now.count) }
@@ -136,7 +136,7 @@ impl Precedence {
 
     // Whether the pair would be accepted.
     pub fn test(&self, first: u32, second: u32) -> Result<(), LogRefusal>
-        ensures refused { Answers result (before_refusal self.now.count self.now.pairs first second) }
+        ensures refused { AddsUnless result (before_refusal self.now.count self.now.pairs first second) }
         ensures ordered { OnOk result (AreOrdered self.now.count (with_pair self.now.pairs first second)) }
         ensures cycle { result ≡ Err LogRefusal.Cycle → ¬ AreOrdered self.now.count (with_pair self.now.pairs first second) }
     {
@@ -184,7 +184,7 @@ impl Precedence {
 
     // Adds a pair, where it isn't there.
     pub fn add(&mut self, first: u32, second: u32) -> Result<bool, LogRefusal>
-        ensures refused { Answers result (before_refusal self.old.count self.old.pairs first second) }
+        ensures refused { AddsUnless result (before_refusal self.old.count self.old.pairs first second) }
         ensures ok { OnOk result (self.new ≡ record self.old { pairs = with_pair self.old.pairs first second }) }
         ensures few { OnOk result (length self.old.pairs ≤ MOST_PAIRS → length self.new.pairs ≤ MOST_PAIRS) }
         ensures fresh { IfOk result (λ fresh. fresh ≡ not (has_pair self.old.pairs first second)) }

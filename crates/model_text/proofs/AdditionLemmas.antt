@@ -10,7 +10,7 @@ use Rattle.des_net.specs.Network.{Component, Net}
 use Rattle.des_net.specs.Building.{state_refusal, with_state, change_component, event_refusal, with_event}
 use Rattle.model_text.specs.ModelLines.{NamedPart, state, event}
 use Rattle.model_text.specs.Growth.{grown, unless, last_place, parts_by_name, grown_by_event}
-use Rattle.model_text.specs.LineAdditions.{IsNamed, IsLabelled}
+use Rattle.model_text.specs.LineAdditions.{IsNamedInLine, IsLabelled}
 
 none_either : (b : Bool) → ◌≡◌ {A = Option Net} (cond b None None) None
 none_either true = refl
@@ -37,7 +37,7 @@ named net name label fault parts found names is well =
 
 -- the same by the values that the reader has at hand
 pub event_added : (net new : Net) (text : List ℕ) (label : Option (List ℕ)) (fault : Bool) (parts : List NamedPart) (found slice : List Part) (name : List ℕ) (labelled : Option (List ℕ))
-    → parts_by_name net parts ≡ Some found → IsNamed text (Ok name) → IsLabelled label (Ok labelled) → slice ≡ found
+    → parts_by_name net parts ≡ Some found → IsNamedInLine text (Ok name) → IsLabelled label (Ok labelled) → slice ≡ found
     → event_refusal net name slice ≡ None → new ≡ with_event net name slice labelled fault → grown net (event text label fault parts) ≡ Some new
 event_added net new text label fault parts found slice name labelled is named' labels same well added =
     let well' : event_refusal net text found ≡ None = subst (λ (n : List ℕ). event_refusal net n found ≡ None) named'.0 (subst (λ (ps : List Part). event_refusal net name ps ≡ None) same well) in

@@ -4,7 +4,7 @@ use Rattle.std.proofs.lemmas.List.Elements.{filter_map-append}
 use Rattle.des_net.specs.Building.{IsDraft}
 use Rattle.model_text.specs.ModelLines.{ModelLine, component, state, transition, event}
 use Rattle.model_text.specs.ModelNetwork.{Section, NamedEvent, sections, events_in, declared_event, network_of_lines}
-use Rattle.model_text.specs.ModelFaults.{line_code}
+use Rattle.model_text.specs.ModelFaults.{model_line_code}
 use Rattle.model_text.specs.Growth.{grown}
 use Rattle.model_text.specs.GrowthLaw.{HasNames, LinesGrow}
 use Rattle.model_text.proofs.SectionLemmas.{sections-push, sections-component}
@@ -15,7 +15,7 @@ use Rattle.model_text.proofs.StepLemmas.{step-component, step-state, step-transi
 
 -- what the law says of a line after these
 abbrev StepAt : List ModelLine → ModelLine → Type 0
-StepAt earlier line = Step (line_code earlier line) (grown (network_of_lines earlier) line) (network_of_lines (earlier ++ line ∷ []))
+StepAt earlier line = Step (model_line_code earlier line) (grown (network_of_lines earlier) line) (network_of_lines (earlier ++ line ∷ []))
 
 -- a line that is no event leaves the events
 events-push : (lines : List ModelLine) (line : ModelLine) → events_in (line ∷ []) ≡ [] → events_in (lines ++ line ∷ []) ≡ events_in lines

@@ -12,7 +12,7 @@ use Rattle.des_base.proofs.PrintedLines.{word_byte, line_byte, IsWord, AreWords,
 use Rattle.des_base.specs.CountedLines.{NumberedLine, numbered, counted_from, is_counted, tokens_of}
 use Rattle.des_base.specs.Names.{is_name_byte, is_name_text}
 use Rattle.model_text.specs.ModelLines.{ModelLine, component, state, transition, event, NamedPart, after_flags, event_line, model_line, part_of_pieces, part_of_token, parts_of_tokens}
-use Rattle.model_text.specs.ModelFaults.{words_of}
+use Rattle.model_text.specs.ModelFaults.{names_of_line}
 use Rattle.model_text.specs.PrintedModel.{fault_tokens, label_tokens, line_text, mark_tokens, part_token, tokens_of_line}
 use Rattle.model_text.proofs.DraftSteps.{HasParts}
 
@@ -96,7 +96,7 @@ record EventNames (text : List ℕ) (shown : Option (List ℕ)) (parts : List Na
   components : list_all is_name_text (components_of parts) ≡ true
   actions : list_all is_name_text (actions_of parts) ≡ true
 
-event_names : (name : List ℕ) (label : Option (List ℕ)) (fault : Bool) (parts : List NamedPart) → list_all is_name_text (words_of (event name label fault parts)) ≡ true → EventNames name label parts
+event_names : (name : List ℕ) (label : Option (List ℕ)) (fault : Bool) (parts : List NamedPart) → list_all is_name_text (names_of_line (event name label fault parts)) ≡ true → EventNames name label parts
 event_names name label fault parts h =
     let front = name ∷ option_to_list label in
     let a = both (list_all is_name_text (front ++ components_of parts)) (list_all is_name_text (actions_of parts)) (sym (list_all-append is_name_text (front ++ components_of parts) (actions_of parts)) ∙ h) in
@@ -122,7 +122,7 @@ fault_words : (fault : Bool) → AreWords (fault_tokens fault)
 fault_words false = tt
 fault_words true = (keyword_word (codes "fault") refl refl, tt)
 
-line_words : (line : ModelLine) → list_all is_name_text (words_of line) ≡ true → AreWords (tokens_of_line line)
+line_words : (line : ModelLine) → list_all is_name_text (names_of_line line) ≡ true → AreWords (tokens_of_line line)
 line_words (component name) h = (keyword_word (codes "component") refl refl, (named_word name (one_name name h), tt))
 line_words (state name initial) h = (keyword_word (codes "state") refl refl, (named_word name (one_name name h), mark_words initial))
 line_words (transition from action to) h =
@@ -153,7 +153,7 @@ event_said name None true parts some h = flags_said name None true parts some h
 event_said name (Some label) false parts some h = flags_said name (Some label) false parts some h
 event_said name (Some label) true parts some h = flags_said name (Some label) true parts some h
 
-line_said : (line : ModelLine) → HasParts line → list_all is_name_text (words_of line) ≡ true → model_line (tokens_of_line line) ≡ Some line
+line_said : (line : ModelLine) → HasParts line → list_all is_name_text (names_of_line line) ≡ true → model_line (tokens_of_line line) ≡ Some line
 line_said (component name) some h = refl
 line_said (state name true) some h = refl
 line_said (state name false) some h = refl
@@ -175,7 +175,7 @@ abbrev pub Says : NumberedLine → ModelLine → Type 0
 Says line said = model_line (tokens_of line.text) ≡ Some said
 
 -- the first line of a text is the one that is printed first, and it says what it was printed for
-pub printed_line : (n : ℕ) (line : ModelLine) (rest : List ℕ) → HasParts line → list_all is_name_text (words_of line) ≡ true
+pub printed_line : (n : ℕ) (line : ModelLine) (rest : List ℕ) → HasParts line → list_all is_name_text (names_of_line line) ≡ true
     → (counted_from 35 n (line_text line ++ rest) ≡ numbered n (join_with_byte 32 (tokens_of_line line)) ∷ counted_from 35 (n + 1) rest) × Says (numbered n (join_with_byte 32 (tokens_of_line line))) line
 unfolding line_text
 printed_line n line rest some h =

@@ -14,9 +14,9 @@ use Rattle.des_net.proofs.NetworkLemmas.{IsNetwork-from_draft}
 use Rattle.model_text.specs.declared.fault.ModelFault.{ModelFault}
 use Rattle.model_text.specs.declared.keyword.Keyword.{Keyword}
 use Rattle.model_text.specs.declared.keyword.Keyword.TheVariants.{Component, State, Trans, Event}
-use Rattle.model_text.specs.ModelLines.{ModelLine, component, state, transition, event, NamedPart, after_flags, after_label, after_name, component_line, event_line, is_header, keyword_line, keyword_of, model_line, parts_of_tokens, part_of_token, state_line, transition_line}
+use Rattle.model_text.specs.ModelLines.{ModelLine, component, state, transition, event, NamedPart, after_flags, after_label, after_name, component_line, event_line, is_model_header, keyword_line, line_keyword, model_line, parts_of_tokens, part_of_token, state_line, transition_line}
 use Rattle.model_text.specs.ModelNetwork.{components_of, model_lines, network_of_lines}
-use Rattle.model_text.specs.ModelFaults.{body, component_numbers, fault_of_lines, fault_or, first_code, first_fault, line_code, network_of, shape_code, start_fault, with_shape, words_of, is_homeless, is_double, is_unknown, is_past_limit}
+use Rattle.model_text.specs.ModelFaults.{model_body, component_numbers, model_fault_of_lines, model_fault_or, first_model_code, first_model_fault, model_line_code, network_of, model_shape_code, start_fault, with_shape, names_of_line, is_homeless, is_double_line, has_unknown_word, is_line_past_limit}
 use Rattle.model_text.specs.Growth.{grown}
 use Rattle.model_text.specs.GrowthLaw.{Grows, HasNames}
 use Rattle.model_text.specs.PrintedModel.{line_text, lines_of_network}
@@ -33,7 +33,7 @@ use Rattle.model_text.proofs.ReadOrder.{IsAsRead-grown, IsAsRead-none}
 
 abbrev AreWell : (earlier lines : List ModelLine) → Type 0
 AreWell earlier [] = ⊤
-AreWell earlier (line ∷ lines) = (line_code earlier line ≡ None) × HasParts line × AreWell (earlier ++ line ∷ []) lines
+AreWell earlier (line ∷ lines) = (model_line_code earlier line ≡ None) × HasParts line × AreWell (earlier ++ line ∷ []) lines
 
 record Adds (earlier lines : List ModelLine) (last : Net) : Type 0 where
   well : AreWell earlier lines
@@ -53,8 +53,8 @@ named_step true named double unknown past h = cc
 named_step false true double unknown past h = refl
 named_step false false double unknown past h = cc
 
-named : (earlier : List ModelLine) (line : ModelLine) → line_code earlier line ≡ None → list_all is_name_text (words_of line) ≡ true
-named earlier line h = named_step (is_homeless earlier line) (list_all is_name_text (words_of line)) (is_double earlier line) (is_unknown earlier line) (is_past_limit earlier line) h
+named : (earlier : List ModelLine) (line : ModelLine) → model_line_code earlier line ≡ None → list_all is_name_text (names_of_line line) ≡ true
+named earlier line h = named_step (is_homeless earlier line) (list_all is_name_text (names_of_line line)) (is_double_line earlier line) (has_unknown_word earlier line) (is_line_past_limit earlier line) h
 
 -- ---- the printed lines are read again
 
@@ -64,16 +64,16 @@ lines_said n earlier (line ∷ lines) w =
     let first = printed_line n line (flat_map line_text lines) w.1 (named earlier line w.0) in
     subst (λ ls. AllZip Says ls (line ∷ lines)) (sym first.0) (first.1, lines_said (n + 1) (earlier ++ line ∷ []) lines w.2)
 
-fault_step : (number : ℕ) (code : Option ℕ) (later : Option ModelFault) → code ≡ None → later ≡ None → fault_or number code later ≡ None
+fault_step : (number : ℕ) (code : Option ℕ) (later : Option ModelFault) → code ≡ None → later ≡ None → model_fault_or number code later ≡ None
 fault_step number code later h k = rw (h, k) refl
 
-said_well : (earlier : List ModelLine) (lines : List NumberedLine) (said : List ModelLine) → AllZip Says lines said → AreWell earlier said → first_code earlier lines ≡ None
+said_well : (earlier : List ModelLine) (lines : List NumberedLine) (said : List ModelLine) → AllZip Says lines said → AreWell earlier said → first_model_code earlier lines ≡ None
 said_well earlier [] [] s w = refl
 said_well earlier [] (l ∷ ls) s w = absurd s
 said_well earlier (line ∷ lines) [] s w = absurd s
 said_well earlier (line ∷ lines) (l ∷ ls) s w =
-    ap (λ o. fault_or line.number (shape_code earlier o) (first_code (with_shape earlier o) lines)) s.0
-    ∙ fault_step line.number (line_code earlier l) (first_code (earlier ++ l ∷ []) lines) w.0 (said_well (earlier ++ l ∷ []) lines ls s.1 w.2)
+    ap (λ o. model_fault_or line.number (model_shape_code earlier o) (first_model_code (with_shape earlier o) lines)) s.0
+    ∙ fault_step line.number (model_line_code earlier l) (first_model_code (earlier ++ l ∷ []) lines) w.0 (said_well (earlier ++ l ∷ []) lines ls s.1 w.2)
 
 said_lines : (lines : List NumberedLine) (said : List ModelLine) → AllZip Says lines said → model_lines lines ≡ said
 said_lines [] [] s = refl
@@ -101,9 +101,9 @@ reads_back net d whole started r =
     let same : model_lines counted ≡ lines = said_lines counted lines said in
     let network : network_of_lines (model_lines counted) ≡ net = ap network_of_lines same ∙ adds.network in
     record {
-      well = ap fault_of_lines (printed_counted text)
-          ∙ neither_fault (first_code [] counted) (start_fault counted) (said_well [] counted lines said adds.well) (no_start net counted (ap (λ (n : Net). n.components) network) started);
-      network = ap (λ ls. network_of_lines (model_lines (body ls))) (printed_counted text) ∙ network;
+      well = ap model_fault_of_lines (printed_counted text)
+          ∙ neither_fault (first_model_code [] counted) (start_fault counted) (said_well [] counted lines said adds.well) (no_start net counted (ap (λ (n : Net). n.components) network) started);
+      network = ap (λ ls. network_of_lines (model_lines (model_body ls))) (printed_counted text) ∙ network;
     }
 
 -- ---- a line that was read names a part where it is an event
@@ -177,7 +177,7 @@ keyword_has tokens (Some Event) line h = event_has tokens line h
 
 line_has : (tokens : List (List ℕ)) (line : ModelLine) → model_line tokens ≡ Some line → HasParts line
 line_has [] line h = cc
-line_has (word ∷ tokens) line h = keyword_has tokens (keyword_of word) line h
+line_has (word ∷ tokens) line h = keyword_has tokens (line_keyword word) line h
 
 -- ---- what is true of a network that was read
 
@@ -186,7 +186,7 @@ record WasRead (net : Net) : Type 0 where
   names : HasNames net
   order : IsAsRead net
 
-no_fault : (number : ℕ) (code : Option ℕ) (later : Option ModelFault) → fault_or number code later ≡ None → (code ≡ None) × (later ≡ None)
+no_fault : (number : ℕ) (code : Option ℕ) (later : Option ModelFault) → model_fault_or number code later ≡ None → (code ≡ None) × (later ≡ None)
 no_fault number None later h = (refl, h)
 no_fault number (Some code) later h = cc
 
@@ -194,11 +194,11 @@ coded : (o : Option ℕ) → o ≡ None → IsSome o → ⊥
 coded None h s = cc
 coded (Some code) h s = cc
 
-WasRead-more : (earlier : List ModelLine) (line : ModelLine) → WasRead (network_of_lines earlier) → HasParts line → line_code earlier line ≡ None → WasRead (network_of_lines (earlier ++ line ∷ []))
+WasRead-more : (earlier : List ModelLine) (line : ModelLine) → WasRead (network_of_lines earlier) → HasParts line → model_line_code earlier line ≡ None → WasRead (network_of_lines (earlier ++ line ∷ []))
 WasRead-more earlier line r some well = step (grown (network_of_lines earlier) line) refl
   where
     step : (o : Option Net) → grown (network_of_lines earlier) line ≡ o → WasRead (network_of_lines (earlier ++ line ∷ []))
-    step None h = absurd (coded (line_code earlier line) well (lines_grow.refused earlier line r.draft r.names h))
+    step None h = absurd (coded (model_line_code earlier line) well (lines_grow.refused earlier line r.draft r.names h))
     step (Some now) h =
         let law : Grows earlier line now = lines_grow.grows earlier line now r.draft r.names h in
         subst WasRead (sym law.network) (record {
@@ -208,22 +208,22 @@ WasRead-more earlier line r some well = step (grown (network_of_lines earlier) l
         })
 
 -- the first line is read, and then the others by this
-through_step : (earlier : List ModelLine) (line : NumberedLine) (lines : List NumberedLine) (said : Option ModelLine) → model_line (tokens_of line.text) ≡ said → WasRead (network_of_lines earlier) → first_code earlier (line ∷ lines) ≡ None
-    → ((next : List ModelLine) → WasRead (network_of_lines next) → first_code next lines ≡ None → WasRead (network_of_lines (next ++ model_lines lines))) → WasRead (network_of_lines (earlier ++ model_lines (line ∷ lines)))
+through_step : (earlier : List ModelLine) (line : NumberedLine) (lines : List NumberedLine) (said : Option ModelLine) → model_line (tokens_of line.text) ≡ said → WasRead (network_of_lines earlier) → first_model_code earlier (line ∷ lines) ≡ None
+    → ((next : List ModelLine) → WasRead (network_of_lines next) → first_model_code next lines ≡ None → WasRead (network_of_lines (next ++ model_lines lines))) → WasRead (network_of_lines (earlier ++ model_lines (line ∷ lines)))
 through_step earlier line lines None is r h others =
-    let e : fault_or line.number (Some 2) (first_code earlier lines) ≡ None = ap (λ o. fault_or line.number (shape_code earlier o) (first_code (with_shape earlier o) lines)) (sym is) ∙ h in cc
+    let e : model_fault_or line.number (Some 2) (first_model_code earlier lines) ≡ None = ap (λ o. model_fault_or line.number (model_shape_code earlier o) (first_model_code (with_shape earlier o) lines)) (sym is) ∙ h in cc
 through_step earlier line lines (Some l) is r h others =
-    let e : fault_or line.number (line_code earlier l) (first_code (earlier ++ l ∷ []) lines) ≡ None = ap (λ o. fault_or line.number (shape_code earlier o) (first_code (with_shape earlier o) lines)) (sym is) ∙ h in
-    let parts = no_fault line.number (line_code earlier l) (first_code (earlier ++ l ∷ []) lines) e in
+    let e : model_fault_or line.number (model_line_code earlier l) (first_model_code (earlier ++ l ∷ []) lines) ≡ None = ap (λ o. model_fault_or line.number (model_shape_code earlier o) (first_model_code (with_shape earlier o) lines)) (sym is) ∙ h in
+    let parts = no_fault line.number (model_line_code earlier l) (first_model_code (earlier ++ l ∷ []) lines) e in
     subst (λ ls. WasRead (network_of_lines ls)) (append_assoc earlier (l ∷ []) (model_lines lines) ∙ ap (λ ls. earlier ++ ls) (ap (λ o. cons_option o (model_lines lines)) (sym is)))
     (others (earlier ++ l ∷ []) (WasRead-more earlier l r (line_has (tokens_of line.text) l is) parts.0) parts.1)
 
-read_through : (earlier : List ModelLine) (lines : List NumberedLine) → WasRead (network_of_lines earlier) → first_code earlier lines ≡ None → WasRead (network_of_lines (earlier ++ model_lines lines))
+read_through : (earlier : List ModelLine) (lines : List NumberedLine) → WasRead (network_of_lines earlier) → first_model_code earlier lines ≡ None → WasRead (network_of_lines (earlier ++ model_lines lines))
 read_through earlier [] r h = subst (λ ls. WasRead (network_of_lines ls)) (sym (append-nil earlier)) r
 read_through earlier (line ∷ lines) r h = through_step earlier line lines (model_line (tokens_of line.text)) refl r h (λ next s k. read_through next lines s k)
 
 -- the network of lines without a code
-pub lines_were_read : (lines : List NumberedLine) (built net : Net) → first_code [] lines ≡ None → built ≡ network_of_lines (model_lines lines) → net ≡ built → IsAsRead net
+pub lines_were_read : (lines : List NumberedLine) (built net : Net) → first_model_code [] lines ≡ None → built ≡ network_of_lines (model_lines lines) → net ≡ built → IsAsRead net
 lines_were_read lines built net h same e =
     subst IsAsRead (sym (e ∙ same)) (read_through [] lines (record { draft = IsDraft-none; names = HasNames-none; order = IsAsRead-none }) h).order
 
@@ -243,19 +243,19 @@ started_none : (f : ℕ → ModelFault) (o : Option ℕ) → option_map f o ≡ 
 started_none f None h = refl
 started_none f (Some k) h = cc
 
-counted_read : (lines : List NumberedLine) → fault_of_lines lines ≡ None → IsNetworkRead (network_of_lines (model_lines (body lines)))
+counted_read : (lines : List NumberedLine) → model_fault_of_lines lines ≡ None → IsNetworkRead (network_of_lines (model_lines (model_body lines)))
 counted_read [] h = cc
 counted_read (header ∷ lines) h =
-    let parts = both_none (first_code [] lines) (start_fault lines) (header_none (is_header (tokens_of header.text)) (option_or (first_code [] lines) (start_fault lines)) (record { line = header.number; code = 1 }) h) in
+    let parts = both_none (first_model_code [] lines) (start_fault lines) (header_none (is_model_header (tokens_of header.text)) (option_or (first_model_code [] lines) (start_fault lines)) (record { line = header.number; code = 1 }) h) in
     record {
       read = read_through [] lines (record { draft = IsDraft-none; names = HasNames-none; order = IsAsRead-none }) parts.0;
       started = started_none (λ place. record { line = slice_index (component_numbers lines) place; code = 6 }) (place_by lacks_init (components_of (model_lines lines))) parts.1;
     }
 
-pub was_read : (text : List ℕ) → first_fault text ≡ None → IsAsRead (network_of text)
+pub was_read : (text : List ℕ) → first_model_fault text ≡ None → IsAsRead (network_of text)
 was_read text h = (counted_read (counted_lines 35 text) h).read.order
 
-pub read_and_printed : (text : List ℕ) → first_fault text ≡ None → ReadsBack (network_of text)
+pub read_and_printed : (text : List ℕ) → first_model_fault text ≡ None → ReadsBack (network_of text)
 read_and_printed text h =
     let r = counted_read (counted_lines 35 text) h in
     reads_back (network_of text) r.read.draft (IsNetwork-from_draft (network_of text) r.read.draft r.started) r.started r.read.order

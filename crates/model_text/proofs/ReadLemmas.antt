@@ -6,13 +6,13 @@ use Rattle.des_net.specs.Network.{Net, no_net}
 use Rattle.des_net.specs.Building.{IsDraft}
 use Rattle.model_text.specs.ModelLines.{ModelLine, model_line}
 use Rattle.model_text.specs.ModelNetwork.{network_of_lines, model_lines}
-use Rattle.model_text.specs.ModelFaults.{shape_code, with_shape, fault_or, first_code}
+use Rattle.model_text.specs.ModelFaults.{model_shape_code, with_shape, model_fault_or, first_model_code}
 use Rattle.model_text.specs.declared.refusal.LineRefusal.{LineRefusal}
 use Rattle.model_text.specs.declared.refusal.LineRefusal.TheVariants.{Shape, Homeless, Name, Double, Unknown, Limit, Memory}
 use Rattle.model_text.specs.LineAdditions.{BuildsLines}
 use Rattle.model_text.specs.Growth.{grown, grown_by_tokens}
 use Rattle.model_text.specs.LineCodes.{code_by, code_by_tokens, IsCoded}
-use Rattle.model_text.specs.Refusals.{refusal_at}
+use Rattle.model_text.specs.Refusals.{line_refusal_at}
 use Rattle.model_text.specs.GrowthLaw.{HasNames, Grows}
 use Rattle.model_text.proofs.LawLemmas.{lines_grow}
 use Rattle.model_text.proofs.HasNamesLemmas.{HasNames-grown, HasNames-none}
@@ -22,7 +22,7 @@ pub record IsReadTo (all rest : List NumberedLine) (net : Net) : Type 0 where
   pub earlier : List ModelLine
   pub network : net ≡ network_of_lines earlier
   pub lines : model_lines all ≡ earlier ++ model_lines rest
-  pub codes : first_code [] all ≡ first_code earlier rest
+  pub codes : first_model_code [] all ≡ first_model_code earlier rest
   pub names : HasNames net
 
 pub IsReadTo-start : (all : List NumberedLine) → IsReadTo all all no_net
@@ -44,8 +44,8 @@ module _ (all rest : List NumberedLine) (line : NumberedLine) (net : Net) (so_fa
         earlier = so_far.earlier ++ shape ∷ [];
         network = sym law.network;
         lines = so_far.lines ∙ ap (λ ls. so_far.earlier ++ ls) shown ∙ sym (append_assoc so_far.earlier (shape ∷ []) (model_lines rest));
-        codes = so_far.codes ∙ ap (λ said. fault_or line.number (shape_code so_far.earlier said) (first_code (with_shape so_far.earlier said) rest)) is
-            ∙ ap (λ code. fault_or line.number code (first_code (so_far.earlier ++ shape ∷ []) rest)) law.well;
+        codes = so_far.codes ∙ ap (λ said. model_fault_or line.number (model_shape_code so_far.earlier said) (first_model_code (with_shape so_far.earlier said) rest)) is
+            ∙ ap (λ code. model_fault_or line.number code (first_model_code (so_far.earlier ++ shape ∷ []) rest)) law.well;
         names = HasNames-grown net shape now so_far.names h;
       }
     where
@@ -56,18 +56,18 @@ module _ (all rest : List NumberedLine) (line : NumberedLine) (net : Net) (so_fa
   pub IsReadTo-more : (now : Net) → grown_by_tokens net (model_line (tokens_of line.text)) ≡ Some now → IsReadTo all rest now
   IsReadTo-more now h = step (model_line (tokens_of line.text)) now refl h
 
-  coded : (said : Option ModelLine) → shape_code so_far.earlier said ≡ code_by_tokens net said
+  coded : (said : Option ModelLine) → model_shape_code so_far.earlier said ≡ code_by_tokens net said
   coded None = refl
   coded (Some shape) = lines_grow.coded so_far.earlier shape draft_before ∙ ap (λ (n : Net). code_by n shape) (sym so_far.network)
 
   -- the code of a line that adds nothing is the first
-  found : (code : ℕ) → code_by_tokens net (model_line (tokens_of line.text)) ≡ Some code → first_code [] all ≡ Some (record { line = line.number; code = code })
+  found : (code : ℕ) → code_by_tokens net (model_line (tokens_of line.text)) ≡ Some code → first_model_code [] all ≡ Some (record { line = line.number; code = code })
   found code h =
       so_far.codes
-      ∙ ap (λ c. fault_or line.number c (first_code (with_shape so_far.earlier (model_line (tokens_of line.text))) rest)) (coded (model_line (tokens_of line.text)) ∙ h)
+      ∙ ap (λ c. model_fault_or line.number c (first_model_code (with_shape so_far.earlier (model_line (tokens_of line.text))) rest)) (coded (model_line (tokens_of line.text)) ∙ h)
 
   -- where a line is refused, all lines have this first code
-  pub stopped : (r : LineRefusal) → IsCoded (code_by_tokens net (model_line (tokens_of line.text))) r → BuildsLines all (Err (refusal_at line.number r))
+  pub stopped : (r : LineRefusal) → IsCoded (code_by_tokens net (model_line (tokens_of line.text))) r → BuildsLines all (Err (line_refusal_at line.number r))
   stopped Shape h = found 2 h
   stopped Homeless h = found 7 h
   stopped Name h = found 3 h
@@ -77,5 +77,5 @@ module _ (all rest : List NumberedLine) (line : NumberedLine) (net : Net) (so_fa
   stopped Memory h = tt
 
 -- at the end the network is that of all lines
-pub network_of_all : (all : List NumberedLine) (net : Net) → IsReadTo all [] net → (first_code [] all ≡ None) × (net ≡ network_of_lines (model_lines all))
+pub network_of_all : (all : List NumberedLine) (net : Net) → IsReadTo all [] net → (first_model_code [] all ≡ None) × (net ≡ network_of_lines (model_lines all))
 network_of_all all net read = (read.codes, read.network ∙ ap network_of_lines (sym (read.lines ∙ append-nil read.earlier)))

@@ -12,17 +12,17 @@ use Rattle.des_net.specs.declared.parts.Part.{Part}
 use Rattle.des_net.specs.declared.refusal.BuildRefusal.{BuildRefusal}
 use Rattle.des_net.specs.declared.refusal.BuildRefusal.TheVariants as builder
 use Rattle.des_net.specs.Network.{Component as Automaton, Net, no_component, component_at}
-use Rattle.des_net.specs.Building.{Answers, IsDraft, state_refusal, trans_refusal, event_refusal, has_trans, trans_count, repeats, component_refusal}
+use Rattle.des_net.specs.Building.{BuildsUnless, IsDraft, state_refusal, trans_refusal, event_refusal, has_trans, trans_count, repeats, component_refusal}
 use Rattle.model_text.specs.declared.refusal.LineRefusal.{LineRefusal}
 use Rattle.model_text.specs.declared.refusal.LineRefusal.TheVariants as line
 use Rattle.model_text.specs.declared.part_name.PartName.{PartName}
 use Rattle.model_text.specs.Shapes.{part_said}
 use Rattle.model_text.specs.ModelLines.{ModelLine, component, state, transition, event, NamedPart}
-use Rattle.model_text.specs.ModelFaults.{has_repeated, stands_in, words_of}
+use Rattle.model_text.specs.ModelFaults.{has_repeated, stands_in, names_of_line}
 use Rattle.model_text.specs.Refusals.{refusal_of_build}
 use Rattle.model_text.specs.Growth.{last_place, last_states, parts_by_name}
 use Rattle.model_text.specs.LineCodes.{first_of, has_placed, has_named, is_without_components, code_by, code_by_tokens, IsCoded}
-use Rattle.model_text.specs.LineAdditions.{AddsLine, IsNamed, IsLabelled}
+use Rattle.model_text.specs.LineAdditions.{AddsLine, IsNamedInLine, IsLabelled}
 use Rattle.model_text.proofs.CodeLemmas.{limited, state_refusal-at, trans_refusal-at}
 use Rattle.model_text.proofs.PartLemmas.{all_found, all_there, all_repeated}
 use Rattle.model_text.proofs.StepLemmas.{event_refusal-known, length_all}
@@ -30,7 +30,7 @@ use Rattle.std.proofs.lemmas.Bool.{and_left, and_right}
 use Rattle.std.specs.Option.{option_to_list}
 
 -- a double, or a limit
-limited-coded : (double past : Bool) (r : BuildRefusal) → Answers {X = Unit {0}} (Err r) (limited double past) → IsCoded (first_of false true double false past) (refusal_of_build r)
+limited-coded : (double past : Bool) (r : BuildRefusal) → BuildsUnless {X = Unit {0}} (Err r) (limited double past) → IsCoded (first_of false true double false past) (refusal_of_build r)
 limited-coded true past builder.Double h = refl
 limited-coded true past builder.Unknown h = cc
 limited-coded true past builder.Limit h = cc
@@ -45,16 +45,16 @@ limited-coded false false builder.Limit h = cc
 limited-coded false false builder.Memory h = tt
 
 -- a refusal answers the same, whatever the call gives where it refuses nothing
-answers_any : (X : Type 0) (refusal : Option BuildRefusal) (r : BuildRefusal) → Answers {X = X} (Err r) refusal → Answers {X = Unit {0}} (Err r) refusal
+answers_any : (X : Type 0) (refusal : Option BuildRefusal) (r : BuildRefusal) → BuildsUnless {X = X} (Err r) refusal → BuildsUnless {X = Unit {0}} (Err r) refusal
 answers_any X refusal builder.Double h = h
 answers_any X refusal builder.Unknown h = h
 answers_any X refusal builder.Limit h = h
 answers_any X refusal builder.Memory h = tt
 
 by_limits : (double past : Bool) (code : Option ℕ) (refusal : Option BuildRefusal) (r : BuildRefusal) → code ≡ first_of false true double false past → refusal ≡ limited double past
-    → Answers {X = Unit {0}} (Err r) refusal → IsCoded code (refusal_of_build r)
+    → BuildsUnless {X = Unit {0}} (Err r) refusal → IsCoded code (refusal_of_build r)
 by_limits double past code refusal r e f h =
-    subst (λ c. IsCoded c (refusal_of_build r)) (sym e) (limited-coded double past r (subst (λ o. Answers {X = Unit {0}} (Err r) o) f h))
+    subst (λ c. IsCoded c (refusal_of_build r)) (sym e) (limited-coded double past r (subst (λ o. BuildsUnless {X = Unit {0}} (Err r) o) f h))
 
 -- ---- words that are no names
 
@@ -70,7 +70,7 @@ one_name name false h = rw h refl
 pub component-unnamed : (net : Net) (name : List ℕ) → is_name_text name ≡ false → code_by net (component name) ≡ Some 3
 component-unnamed net name h = unnamed false (list_all is_name_text (name ∷ [])) (stands_in net.component_names name) false (nat_le 1000 (length net.components)) refl (one_name name false h)
 
-pub component-refused : (net : Net) (name : List ℕ) (r : BuildRefusal) → is_name_text name ≡ true → Answers {X = ℕ} (Err r) (component_refusal net name) → IsCoded (code_by net (component name)) (refusal_of_build r)
+pub component-refused : (net : Net) (name : List ℕ) (r : BuildRefusal) → is_name_text name ≡ true → BuildsUnless {X = ℕ} (Err r) (component_refusal net name) → IsCoded (code_by net (component name)) (refusal_of_build r)
 component-refused net name r h answered =
     by_limits (stands_in net.component_names name) (nat_le 1000 (length net.components)) _ (component_refusal net name) r
     (ap (λ b. first_of false b (stands_in net.component_names name) false (nat_le 1000 (length net.components))) (one_name name true h)) refl (answers_any ℕ (component_refusal net name) r answered)
@@ -109,15 +109,15 @@ module _ (net : Net) (comp : ℕ) (current : comp + 1 ≡ length net.components)
   pub state-unnamed : (name : List ℕ) (initial : Bool) → is_name_text name ≡ false → code_by net (state name initial) ≡ Some 3
   state-unnamed name initial h = unnamed (is_without_components net) (list_all is_name_text (name ∷ [])) (stands_in (last_states net) name) false (nat_le 256 (length (last_states net))) some (one_name name false h)
 
-  pub state-refused : (name : List ℕ) (initial : Bool) (r : BuildRefusal) → is_name_text name ≡ true → Answers {X = ℕ} (Err r) (state_refusal net.components comp name) → IsCoded (code_by net (state name initial)) (refusal_of_build r)
+  pub state-refused : (name : List ℕ) (initial : Bool) (r : BuildRefusal) → is_name_text name ≡ true → BuildsUnless {X = ℕ} (Err r) (state_refusal net.components comp name) → IsCoded (code_by net (state name initial)) (refusal_of_build r)
   state-refused name initial r h answered =
       by_limits (stands_in (last_states net) name) (nat_le 256 (length (last_states net))) _ (state_refusal net.components comp name) r
       (λ i. first_of (some i) (one_name name true h i) (stands_in (last_states net) name) false (nat_le 256 (length (last_states net))))
       (state_refusal-at net.components comp name last at) (answers_any ℕ (state_refusal net.components comp name) r answered)
 
-  pub state-given : (text name : List ℕ) (initial : Bool) (r : BuildRefusal) → IsNamed text (Ok name) → Answers {X = ℕ} (Err r) (state_refusal net.components comp name) → IsCoded (code_by net (state text initial)) (refusal_of_build r)
+  pub state-given : (text name : List ℕ) (initial : Bool) (r : BuildRefusal) → IsNamedInLine text (Ok name) → BuildsUnless {X = ℕ} (Err r) (state_refusal net.components comp name) → IsCoded (code_by net (state text initial)) (refusal_of_build r)
   state-given text name initial r named answered =
-      state-refused text initial r named.1 (subst (λ (n : List ℕ). Answers {X = ℕ} (Err r) (state_refusal net.components comp n)) named.0 answered)
+      state-refused text initial r named.1 (subst (λ (n : List ℕ). BuildsUnless {X = ℕ} (Err r) (state_refusal net.components comp n)) named.0 answered)
 
   -- a transition with a word that is no name
   pub transition-unnamed : (from action to : List ℕ) → (is_name_text from && (is_name_text action && (is_name_text to && true))) ≡ false → code_by net (transition from action to) ≡ Some 3
@@ -137,22 +137,22 @@ module _ (net : Net) (comp : ℕ) (current : comp + 1 ≡ length net.components)
       unknown_of (Some i) (Some j) h = cc
 
   pub transition-refused : (from action to : List ℕ) (i j : ℕ) (r : BuildRefusal) → (is_name_text from && (is_name_text action && (is_name_text to && true))) ≡ true → place_of from last.state_names ≡ Some i → place_of to last.state_names ≡ Some j
-      → i < length last.state_names → j < length last.state_names → Answers {X = Unit {0}} (Err r) (trans_refusal net.components comp i action j) → IsCoded (code_by net (transition from action to)) (refusal_of_build r)
+      → i < length last.state_names → j < length last.state_names → BuildsUnless {X = Unit {0}} (Err r) (trans_refusal net.components comp i action j) → IsCoded (code_by net (transition from action to)) (refusal_of_build r)
   transition-refused from action to i j r h source target f t answered =
       by_limits (has_trans last i action j) (nat_le 50000 (trans_count net.components)) _ (trans_refusal net.components comp i action j) r
       (λ k. first_of (some k) (h k) (has_placed last action (source k) (target k)) (not (is_some (source k) && is_some (target k))) (nat_le 50000 (trans_count net.components)))
       (trans_refusal-at net.components comp i action j last at f t) answered
 
   -- the same by the values that the reader has at hand
-  pub transition-given : (from action to : List ℕ) (i j : ℕ) (name : List ℕ) (r : BuildRefusal) → is_name_text from ≡ true → is_name_text to ≡ true → IsNamed action (Ok name)
+  pub transition-given : (from action to : List ℕ) (i j : ℕ) (name : List ℕ) (r : BuildRefusal) → is_name_text from ≡ true → is_name_text to ≡ true → IsNamedInLine action (Ok name)
       → Some i ≡ place_of from (component_at net comp).state_names → Some j ≡ place_of to (component_at net comp).state_names → i < length (component_at net comp).state_names → j < length (component_at net comp).state_names
-      → Answers {X = Unit {0}} (Err r) (trans_refusal net.components comp i name j) → IsCoded (code_by net (transition from action to)) (refusal_of_build r)
+      → BuildsUnless {X = Unit {0}} (Err r) (trans_refusal net.components comp i name j) → IsCoded (code_by net (transition from action to)) (refusal_of_build r)
   transition-given from action to i j name r f t named source target inside within answered =
       let here : component_at net comp ≡ last = ap (λ k. component_at net k) place in
       transition-refused from action to i j r (three (is_name_text from) (is_name_text action) (is_name_text to) f named.1 t)
       (ap (λ (c : Automaton). place_of from c.state_names) (sym here) ∙ sym source) (ap (λ (c : Automaton). place_of to c.state_names) (sym here) ∙ sym target)
       (subst (λ (c : Automaton). i < length c.state_names) here inside) (subst (λ (c : Automaton). j < length c.state_names) here within)
-      (subst (λ (n : List ℕ). Answers {X = Unit {0}} (Err r) (trans_refusal net.components comp i n j)) named.0 answered)
+      (subst (λ (n : List ℕ). BuildsUnless {X = Unit {0}} (Err r) (trans_refusal net.components comp i n j)) named.0 answered)
     where
       three : (a b c : Bool) → a ≡ true → b ≡ true → c ≡ true → (a && (b && (c && true))) ≡ true
       three a b c h k l = rw (h, k, l) refl
@@ -194,14 +194,14 @@ module _ (net : Net) (name : List ℕ) (label : Option (List ℕ)) (fault : Bool
   abbrev past : Bool
   past = nat_le 4000 (length net.events) || nat_lt 16 (length parts)
 
-  words : list_all is_name_text (words_of (event name label fault parts)) ≡ (front && part_words parts)
+  words : list_all is_name_text (names_of_line (event name label fault parts)) ≡ (front && part_words parts)
   words =
       list_all-append is_name_text ((name ∷ option_to_list label) ++ map (λ (p : NamedPart). p.component) parts) (map (λ (p : NamedPart). p.action) parts)
       ∙ ap (λ b. b && actions) (list_all-append is_name_text (name ∷ option_to_list label) (map (λ (p : NamedPart). p.component) parts))
       ∙ and_assoc front comps actions
 
   unnamed_event : (front && part_words parts) ≡ false → code_by net (event name label fault parts) ≡ Some 3
-  unnamed_event h = unnamed false (list_all is_name_text (words_of (event name label fault parts))) double (not (is_some (parts_by_name net parts))) past refl (words ∙ h)
+  unnamed_event h = unnamed false (list_all is_name_text (names_of_line (event name label fault parts))) double (not (is_some (parts_by_name net parts))) past refl (words ∙ h)
 
   pub event-name_unnamed : is_name_text name ≡ false → code_by net (event name label fault parts) ≡ Some 3
   event-name_unnamed h = unnamed_event (and_left front (part_words parts) (and_left (is_name_text name) (list_all is_name_text (option_to_list label)) h))
@@ -213,7 +213,7 @@ module _ (net : Net) (name : List ℕ) (label : Option (List ℕ)) (fault : Bool
   event-part_unnamed h = unnamed_event (and_right front (part_words parts) h)
 
   module _ (called : is_name_text name ≡ true) (labelled : list_all is_name_text (option_to_list label) ≡ true) (named : part_words parts ≡ true) where
-    well : list_all is_name_text (words_of (event name label fault parts)) ≡ true
+    well : list_all is_name_text (names_of_line (event name label fault parts)) ≡ true
     well = words ∙ all_three (is_name_text name) (list_all is_name_text (option_to_list label)) (part_words parts) called labelled named
 
     -- where one of the parts isn't known
@@ -223,7 +223,7 @@ module _ (net : Net) (name : List ℕ) (label : Option (List ℕ)) (fault : Bool
         (sym (λ i. first_of false (well i) double (not (is_some (lost i))) past)) h
 
     -- where all are known
-    pub event-refused : (found : List Part) (r : BuildRefusal) → IsDraft net → parts_by_name net parts ≡ Some found → Answers {X = ℕ} (Err r) (event_refusal net name found) → IsCoded (code_by net (event name label fault parts)) (refusal_of_build r)
+    pub event-refused : (found : List Part) (r : BuildRefusal) → IsDraft net → parts_by_name net parts ≡ Some found → BuildsUnless {X = ℕ} (Err r) (event_refusal net name found) → IsCoded (code_by net (event name label fault parts)) (refusal_of_build r)
     event-refused found r draft is answered =
         let known = all_found net parts found is in
         let repeated = all_repeated net parts found known in
@@ -234,7 +234,7 @@ module _ (net : Net) (name : List ℕ) (label : Option (List ℕ)) (fault : Bool
 
 -- the same by the values that the reader has at hand
 module _ (net : Net) (text : List ℕ) (label : Option (List ℕ)) (fault : Bool) (parts : List PartName) (name : List ℕ) (labelled : Option (List ℕ))
-    (called : IsNamed text (Ok name)) (labels : IsLabelled label (Ok labelled)) (named : list_all (λ part. is_name_text part.component.now && is_name_text part.action.now) parts ≡ true) where
+    (called : IsNamedInLine text (Ok name)) (labels : IsLabelled label (Ok labelled)) (named : list_all (λ part. is_name_text part.component.now && is_name_text part.action.now) parts ≡ true) where
   whole : part_words (map part_said parts) ≡ true
   whole = sym (part_words-each parts) ∙ named
 
@@ -244,11 +244,11 @@ module _ (net : Net) (text : List ℕ) (label : Option (List ℕ)) (fault : Bool
       event-unknown net text label fault (map part_said parts) called.1 labels.1 whole r lost
       (subst (λ (n : List ℕ). IsCoded (first_of false true (stands_in net.event_names n || has_repeated (map (λ (p : NamedPart). p.component) (map part_said parts))) true false) r) called.0 h)
 
-  pub refused-given : (found slice : List Part) (r : BuildRefusal) → IsDraft net → parts_by_name net (map part_said parts) ≡ Some found → slice ≡ found → Answers {X = ℕ} (Err r) (event_refusal net name slice)
+  pub refused-given : (found slice : List Part) (r : BuildRefusal) → IsDraft net → parts_by_name net (map part_said parts) ≡ Some found → slice ≡ found → BuildsUnless {X = ℕ} (Err r) (event_refusal net name slice)
       → IsCoded (code_by net (event text label fault (map part_said parts))) (refusal_of_build r)
   refused-given found slice r draft is same answered =
       event-refused net text label fault (map part_said parts) called.1 labels.1 whole found r draft is
-      (subst (λ (ps : List Part). Answers {X = ℕ} (Err r) (event_refusal net text ps)) same (subst (λ (n : List ℕ). Answers {X = ℕ} (Err r) (event_refusal net n slice)) called.0 answered))
+      (subst (λ (ps : List Part). BuildsUnless {X = ℕ} (Err r) (event_refusal net text ps)) same (subst (λ (n : List ℕ). BuildsUnless {X = ℕ} (Err r) (event_refusal net n slice)) called.0 answered))
 
 -- as many parts are found as are named
 pub found-some : (net : Net) (parts : List PartName) (found slice : List Part) → parts_by_name net (map part_said parts) ≡ Some found → slice ≡ found → 0 < length parts → 0 < length slice
@@ -263,7 +263,7 @@ handed net new said of (Ok done) e is told h = absurd told
 handed net new said of (Err x) e is told h = subst (λ y. IsCoded (code_by_tokens net said) y) (sym told) (subst (λ o. IsCoded (code_by_tokens net o) e) (sym is) h)
 
 -- the refusal of a word that is no name
-pub no_name : (code : Option ℕ) (text : List ℕ) (e : LineRefusal) → IsNamed text (Err e) → (is_name_text text ≡ false → code ≡ Some 3) → IsCoded code e
+pub no_name : (code : Option ℕ) (text : List ℕ) (e : LineRefusal) → IsNamedInLine text (Err e) → (is_name_text text ≡ false → code ≡ Some 3) → IsCoded code e
 no_name code text line.Shape h f = absurd h
 no_name code text line.Homeless h f = absurd h
 no_name code text line.Name h f = f h

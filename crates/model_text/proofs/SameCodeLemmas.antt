@@ -12,7 +12,7 @@ use Rattle.des_net.specs.Network.{Component as Automaton, Net, IsTransOf, no_com
 use Rattle.des_net.specs.Building.{IsDraft, trans_count}
 use Rattle.model_text.specs.ModelLines.{ModelLine, component, state, transition, event, NamedPart}
 use Rattle.model_text.specs.ModelNetwork.{Section, NamedEvent, NamedTransition, sections, current, last_lines, component_names, events_in, state_names_in, transitions_in, actions_in, component_of, numbered_event, number, numbered_transition, network_of_lines}
-use Rattle.model_text.specs.ModelFaults.{is_same_transition, has_repeated, stands_in, words_of, line_code}
+use Rattle.model_text.specs.ModelFaults.{is_same_transition, has_repeated, stands_in, names_of_line, model_line_code}
 use Rattle.model_text.specs.Growth.{parts_by_name}
 use Rattle.model_text.specs.LineCodes.{first_of, has_placed, has_named, code_by}
 use Rattle.model_text.proofs.SectionLemmas.{last_lines-push, ends}
@@ -25,7 +25,7 @@ use Rattle.model_text.proofs.StepLemmas.{slice_get-automata, draft-last, count_o
 component_count : (ss : List Section) → length ss ≡ length (automata_of ss)
 component_count ss = sym (length-map ss (λ (s : Section). component_of s.lines))
 
-coded-component : (earlier : List ModelLine) (name : List ℕ) → line_code earlier (component name) ≡ code_by (network_of_lines earlier) (component name)
+coded-component : (earlier : List ModelLine) (name : List ℕ) → model_line_code earlier (component name) ≡ code_by (network_of_lines earlier) (component name)
 coded-component earlier name =
     ap (λ k. first_of false (is_name_text name && true) (stands_in (component_names earlier) name) false (nat_le 1000 k)) (component_count (sections earlier))
 
@@ -43,7 +43,7 @@ last_component (s ∷ ss) =
     let e = ends s ss in
     subst (λ sections. get_or (automata_of sections) (length (automata_of sections) - 1) no_component ≡ component_of (last_lines sections)) (sym e.is) (last_of_both e.front e.last)
 
-coded-state : (earlier : List ModelLine) (name : List ℕ) (initial : Bool) → line_code earlier (state name initial) ≡ code_by (network_of_lines earlier) (state name initial)
+coded-state : (earlier : List ModelLine) (name : List ℕ) (initial : Bool) → model_line_code earlier (state name initial) ≡ code_by (network_of_lines earlier) (state name initial)
 coded-state earlier name initial = λ i.
     let names = (sym (last_component (sections earlier)) i).state_names in
     first_of (nat_le (component_count (sections earlier) i) 0) (is_name_text name && true) (stands_in names name) false (nat_le 256 (length names))
@@ -104,7 +104,7 @@ between (s ∷ ss) events d =
     subst (λ sections. IsDraft (network_from sections events) → AreBetween (last_lines sections)) (sym e.is) (between_last e.front e.last events) d
 
 coded-transition : (earlier : List ModelLine) (from action to : List ℕ) → IsDraft (network_of_lines earlier)
-    → line_code earlier (transition from action to) ≡ code_by (network_of_lines earlier) (transition from action to)
+    → model_line_code earlier (transition from action to) ≡ code_by (network_of_lines earlier) (transition from action to)
 coded-transition earlier from action to d =
     let names = list_all is_name_text (from ∷ action ∷ to ∷ []) in
     let same = same_there (current earlier) from action to (between (sections earlier) (events_in earlier) d) in
@@ -121,15 +121,15 @@ known_found net parts None h = all_lost net parts h
 known_found net parts (Some found) h = all_known net parts found (all_found net parts found h)
 
 coded-event : (earlier : List ModelLine) (name : List ℕ) (label : Option (List ℕ)) (fault : Bool) (parts : List NamedPart)
-    → line_code earlier (event name label fault parts) ≡ code_by (network_of_lines earlier) (event name label fault parts)
+    → model_line_code earlier (event name label fault parts) ≡ code_by (network_of_lines earlier) (event name label fault parts)
 coded-event earlier name label fault parts =
     let net = network_of_lines earlier in
     let known = known_found net parts (parts_by_name net parts) refl in
     let many = sym (length-map (events_in earlier) (numbered_event (names_of (sections earlier)) (automata_of (sections earlier)))) in
-    λ i. first_of false (list_all is_name_text (words_of (event name label fault parts))) (stands_in net.event_names name || has_repeated (map (λ (p : NamedPart). p.component) parts))
+    λ i. first_of false (list_all is_name_text (names_of_line (event name label fault parts))) (stands_in net.event_names name || has_repeated (map (λ (p : NamedPart). p.component) parts))
     (not (known i)) (nat_le 4000 (many i) || nat_lt 16 (length parts))
 
-pub coded-line : (earlier : List ModelLine) (line : ModelLine) → IsDraft (network_of_lines earlier) → line_code earlier line ≡ code_by (network_of_lines earlier) line
+pub coded-line : (earlier : List ModelLine) (line : ModelLine) → IsDraft (network_of_lines earlier) → model_line_code earlier line ≡ code_by (network_of_lines earlier) line
 coded-line earlier (component name) d = coded-component earlier name
 coded-line earlier (state name initial) d = coded-state earlier name initial
 coded-line earlier (transition from action to) d = coded-transition earlier from action to d

@@ -6,7 +6,7 @@ use Rattle.des_net.specs.Network.{Component, Net}
 use Rattle.des_net.specs.Building.{IsDraft}
 use Rattle.model_text.specs.ModelLines.{ModelLine}
 use Rattle.model_text.specs.ModelNetwork.{network_of_lines}
-use Rattle.model_text.specs.ModelFaults.{line_code}
+use Rattle.model_text.specs.ModelFaults.{model_line_code}
 use Rattle.model_text.specs.Growth.{grown}
 use Rattle.model_text.specs.LineCodes.{code_by}
 
@@ -22,11 +22,11 @@ pub record HasNames (net : Net) : Type 0 where
 
 -- a line that adds to the network has no code, and the network with it is that of one line more
 pub record Grows (earlier : List ModelLine) (line : ModelLine) (net : Net) : Type 0 where
-  pub well : line_code earlier line ≡ None
+  pub well : model_line_code earlier line ≡ None
   pub network : network_of_lines (earlier ++ line ∷ []) ≡ net
 
 -- Over the network of any lines, a line adds what it says or is refused, and it is refused exactly where it has a code, which the network tells.
 pub record LinesGrow : Type 0 where
   pub grows : (earlier : List ModelLine) (line : ModelLine) (net : Net) → IsDraft (network_of_lines earlier) → HasNames (network_of_lines earlier) → grown (network_of_lines earlier) line ≡ Some net → Grows earlier line net
-  pub refused : (earlier : List ModelLine) (line : ModelLine) → IsDraft (network_of_lines earlier) → HasNames (network_of_lines earlier) → grown (network_of_lines earlier) line ≡ None → IsSome (line_code earlier line)
-  pub coded : (earlier : List ModelLine) (line : ModelLine) → IsDraft (network_of_lines earlier) → line_code earlier line ≡ code_by (network_of_lines earlier) line
+  pub refused : (earlier : List ModelLine) (line : ModelLine) → IsDraft (network_of_lines earlier) → HasNames (network_of_lines earlier) → grown (network_of_lines earlier) line ≡ None → IsSome (model_line_code earlier line)
+  pub coded : (earlier : List ModelLine) (line : ModelLine) → IsDraft (network_of_lines earlier) → model_line_code earlier line ≡ code_by (network_of_lines earlier) line

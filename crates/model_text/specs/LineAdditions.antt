@@ -13,7 +13,7 @@ use Rattle.model_text.specs.declared.refusal.LineRefusal.{LineRefusal}
 use Rattle.model_text.specs.declared.refusal.LineRefusal.TheVariants.{Shape, Name, Memory}
 use Rattle.model_text.specs.ModelLines.{ModelLine, parts_of_tokens}
 use Rattle.model_text.specs.ModelNetwork.{network_of_lines, model_lines}
-use Rattle.model_text.specs.ModelFaults.{first_code}
+use Rattle.model_text.specs.ModelFaults.{first_model_code}
 use Rattle.model_text.specs.Growth.{grown_by_tokens}
 use Rattle.model_text.specs.LineCodes.{code_by_tokens, IsCoded}
 use Rattle.model_text.specs.Shapes.{part_said}
@@ -24,11 +24,11 @@ AddsLine old line new (Ok _) = grown_by_tokens old line ≡ Some new
 AddsLine old line new (Err refusal) = IsCoded (code_by_tokens old line) refusal
 
 -- the text as a name, where it is one
-abbrev pub IsNamed : List ℕ → Result (List ℕ) LineRefusal → Type 0
-IsNamed text (Ok name) = (name ≡ text) × (is_name_text text ≡ true)
-IsNamed text (Err Name) = is_name_text text ≡ false
-IsNamed text (Err Memory) = ⊤
-IsNamed text (Err refusal) = ⊥
+abbrev pub IsNamedInLine : List ℕ → Result (List ℕ) LineRefusal → Type 0
+IsNamedInLine text (Ok name) = (name ≡ text) × (is_name_text text ≡ true)
+IsNamedInLine text (Err Name) = is_name_text text ≡ false
+IsNamedInLine text (Err Memory) = ⊤
+IsNamedInLine text (Err refusal) = ⊥
 
 -- the same of a label, which an event need not have
 abbrev pub IsLabelled : Option (List ℕ) → Result (Option (List ℕ)) LineRefusal → Type 0
@@ -51,6 +51,6 @@ IsCurrent net (Some comp) = comp + 1 ≡ length net.components
 
 -- the network of some lines, or why it isn't all of it
 abbrev pub BuildsLines : List NumberedLine → Result Net ModelRefusal → Type 0
-BuildsLines lines (Ok net) = (first_code [] lines ≡ None) × (net ≡ network_of_lines (model_lines lines))
-BuildsLines lines (Err (text.Fault fault)) = first_code [] lines ≡ Some fault
+BuildsLines lines (Ok net) = (first_model_code [] lines ≡ None) × (net ≡ network_of_lines (model_lines lines))
+BuildsLines lines (Err (text.Fault fault)) = first_model_code [] lines ≡ Some fault
 BuildsLines lines (Err text.Memory) = ⊤

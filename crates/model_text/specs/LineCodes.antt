@@ -8,7 +8,7 @@ use Rattle.des_net.specs.Limits.{most_components, most_states, most_transitions,
 use Rattle.model_text.specs.declared.refusal.LineRefusal.{LineRefusal}
 use Rattle.model_text.specs.declared.refusal.LineRefusal.TheVariants.{Shape, Homeless, Name, Double, Unknown, Limit, Memory}
 use Rattle.model_text.specs.ModelLines.{ModelLine, component, state, transition, event}
-use Rattle.model_text.specs.ModelFaults.{stands_in, words_of, has_repeated}
+use Rattle.model_text.specs.ModelFaults.{stands_in, names_of_line, has_repeated}
 use Rattle.model_text.specs.Growth.{last_place, last_states, parts_by_name}
 
 -- the first code whose condition holds
@@ -38,16 +38,16 @@ is_without_components net = nat_le (length net.components) 0
 -- the first code that a line has, told by the network alone, or none where the line is accepted
 abbrev pub code_by : Net → ModelLine → Option ℕ
 code_by net (component name) =
-    first_of false (list_all is_name_text (words_of (component name))) (stands_in net.component_names name) false (nat_le most_components (length net.components))
+    first_of false (list_all is_name_text (names_of_line (component name))) (stands_in net.component_names name) false (nat_le most_components (length net.components))
 code_by net (state name initial) =
-    first_of (is_without_components net) (list_all is_name_text (words_of (state name initial))) (stands_in (last_states net) name) false (nat_le most_states (length (last_states net)))
+    first_of (is_without_components net) (list_all is_name_text (names_of_line (state name initial))) (stands_in (last_states net) name) false (nat_le most_states (length (last_states net)))
 code_by net (transition from action to) =
-    first_of (is_without_components net) (list_all is_name_text (words_of (transition from action to)))
+    first_of (is_without_components net) (list_all is_name_text (names_of_line (transition from action to)))
     (has_named (component_at net (last_place net)) from action to)
     (not (stands_in (last_states net) from && stands_in (last_states net) to))
     (nat_le most_transitions (trans_count net.components))
 code_by net (event name label fault parts) =
-    first_of false (list_all is_name_text (words_of (event name label fault parts)))
+    first_of false (list_all is_name_text (names_of_line (event name label fault parts)))
     (stands_in net.event_names name || has_repeated (map (λ p. p.component) parts))
     (not (is_some (parts_by_name net parts)))
     (nat_le most_events (length net.events) || nat_lt most_parts (length parts))

@@ -83,8 +83,8 @@ event_line [] = None
 event_line (name ∷ tokens) = after_name name tokens
 
 -- which of the four keywords the first word of a line is, if it is one
-abbrev pub keyword_of : List ℕ → Option Keyword
-keyword_of word =
+abbrev pub line_keyword : List ℕ → Option Keyword
+line_keyword word =
     if bytes_eq word (codes "component") then Some Component
     else if bytes_eq word (codes "state") then Some State
     else if bytes_eq word (codes "trans") then Some Trans
@@ -101,11 +101,11 @@ keyword_line tokens Event = event_line tokens
 -- what a line after the first says, if it has a shape
 abbrev pub model_line : List (List ℕ) → Option ModelLine
 model_line [] = None
-model_line (word ∷ tokens) = option_and_then (keyword_line tokens) (keyword_of word)
+model_line (word ∷ tokens) = option_and_then (keyword_line tokens) (line_keyword word)
 
 -- the first line of a model is `des 1`
-abbrev pub is_header : List (List ℕ) → Bool
-is_header [] = false
-is_header (word ∷ []) = false
-is_header (word ∷ version ∷ []) = if bytes_eq word (codes "des") then bytes_eq version (codes "1") else false
-is_header (word ∷ version ∷ more ∷ tokens) = false
+abbrev pub is_model_header : List (List ℕ) → Bool
+is_model_header [] = false
+is_model_header (word ∷ []) = false
+is_model_header (word ∷ version ∷ []) = if bytes_eq word (codes "des") then bytes_eq version (codes "1") else false
+is_model_header (word ∷ version ∷ more ∷ tokens) = false

@@ -7,7 +7,7 @@ use Rattle.des_net.specs.declared.parts.Trans.{Trans}
 use Rattle.des_net.specs.Network.{Component, Event, Net}
 use Rattle.des_net.specs.Building.{is_trans}
 use Rattle.model_text.specs.ModelNetwork.{each_once}
-use Rattle.model_text.specs.ModelFaults.{first_fault, network_of}
+use Rattle.model_text.specs.ModelFaults.{first_model_fault, network_of}
 use Rattle.model_text.specs.PrintedModel.{model_text, name_at}
 
 -- none of these transitions is among those before it
@@ -35,10 +35,10 @@ pub record IsAsRead (net : Net) : Type 0 where
 
 -- the printed text has no fault and says this network
 pub record ReadsBack (net : Net) : Type 0 where
-  pub well : first_fault (model_text net) ≡ None
+  pub well : first_model_fault (model_text net) ≡ None
   pub network : network_of (model_text net) ≡ net
 
 -- What a text without a fault says is printed as a text that says the same.
 pub record ModelsReadBack : Type 0 where
-  pub order : (text : List ℕ) → first_fault text ≡ None → IsAsRead (network_of text)
-  pub back : (text : List ℕ) → first_fault text ≡ None → ReadsBack (network_of text)
+  pub order : (text : List ℕ) → first_model_fault text ≡ None → IsAsRead (network_of text)
+  pub back : (text : List ℕ) → first_model_fault text ≡ None → ReadsBack (network_of text)

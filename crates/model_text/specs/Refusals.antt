@@ -10,9 +10,9 @@ use Rattle.model_text.specs.declared.refusal.LineRefusal.{LineRefusal}
 use Rattle.model_text.specs.declared.refusal.LineRefusal.TheVariants.{Shape, Homeless, Name, Double, Unknown, Limit, Memory}
 
 -- a text that is no name is a fault of its line; want of memory stays what it is
-abbrev pub refusal_of_name : NameFault → LineRefusal
-refusal_of_name text.Shape = Name
-refusal_of_name text.Memory = Memory
+abbrev pub line_refusal_of_name : NameFault → LineRefusal
+line_refusal_of_name text.Shape = Name
+line_refusal_of_name text.Memory = Memory
 
 -- what the builder refuses, as the refusal of the line that asked for it
 abbrev pub refusal_of_build : BuildRefusal → LineRefusal
@@ -26,11 +26,11 @@ abbrev pub faulty : ℕ → ℕ → ModelRefusal
 faulty line code = model.Fault (record { line = line; code = code })
 
 -- the refusal of a text for the line of this number
-abbrev pub refusal_at : ℕ → LineRefusal → ModelRefusal
-refusal_at line Shape = faulty line 2
-refusal_at line Homeless = faulty line 7
-refusal_at line Name = faulty line 3
-refusal_at line Double = faulty line 4
-refusal_at line Unknown = faulty line 5
-refusal_at line Limit = faulty line 8
-refusal_at line Memory = model.Memory
+abbrev pub line_refusal_at : ℕ → LineRefusal → ModelRefusal
+line_refusal_at line Shape = faulty line 2
+line_refusal_at line Homeless = faulty line 7
+line_refusal_at line Name = faulty line 3
+line_refusal_at line Double = faulty line 4
+line_refusal_at line Unknown = faulty line 5
+line_refusal_at line Limit = faulty line 8
+line_refusal_at line Memory = model.Memory

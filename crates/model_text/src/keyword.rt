@@ -1,6 +1,6 @@
 // The words that begin the lines of a model text.
 ghost use Rattle.std.specs.Prelude.{◌≡◌, bytes_eq};
-ghost use Rattle.model_text.specs.ModelLines.{keyword_of};
+ghost use Rattle.model_text.specs.ModelLines.{line_keyword};
 
 /// The first word of a line after the header.
 #[derive(Clone, Copy)]
@@ -19,8 +19,8 @@ pub(crate) fn is_word(text: &[u8], word: &str) -> bool
 }
 
 // The keyword that the text is, if it is one.
-pub(crate) fn keyword_of(text: &[u8]) -> Option<Keyword>
-    ensures { result ≡ keyword_of text.now }
+pub(crate) fn line_keyword(text: &[u8]) -> Option<Keyword>
+    ensures { result ≡ line_keyword text.now }
 {
     if is_word(text, "component") {
         Some(Keyword::Component)

@@ -1,6 +1,6 @@
 // A name or a label that stands on a line.
 ghost use Rattle.std.specs.Prelude.{option_map};
-ghost use Rattle.model_text.specs.LineAdditions.{IsNamed, IsLabelled};
+ghost use Rattle.model_text.specs.LineAdditions.{IsNamedInLine, IsLabelled};
 
 use crate::refusal::LineRefusal;
 use des_base::Name;
@@ -8,7 +8,7 @@ use std::alloc::Global;
 
 // The text as a name.
 pub(crate) fn name_of(alloc: Global, text: &[u8]) -> Result<Name, LineRefusal>
-    ensures { IsNamed text.now result }
+    ensures { IsNamedInLine text.now result }
 {
     Ok(Name::new(alloc, text)?)
 }

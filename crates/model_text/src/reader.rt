@@ -4,14 +4,14 @@ ghost use Rattle.std.specs.Option.{option_map_or};
 ghost use Rattle.des_base.specs.CountedLines.{counted_lines, tokens_of};
 ghost use Rattle.model_text.specs.ModelLines.{model_line};
 ghost use Rattle.model_text.specs.ModelNetwork.{begins_component};
-ghost use Rattle.model_text.specs.ModelFaults.{body, component_numbers, first_fault, network_of, IsDue};
+ghost use Rattle.model_text.specs.ModelFaults.{model_body, component_numbers, first_model_fault, network_of, IsModelDue};
 ghost use Rattle.model_text.specs.ReadBack.{IsAsRead};
 ghost use Rattle.model_text.specs.LineAdditions.{BuildsLines};
 
 use crate::addition::add_line;
 use crate::fault::{ModelRefusal, fault_at};
-use crate::header::is_header;
-use crate::keyword::{Keyword, keyword_of};
+use crate::header::is_model_header;
+use crate::keyword::{Keyword, line_keyword};
 use crate::line_shape::component_line;
 use des_base::{CompId, Line, Lines};
 use des_net::{Builder, Network};
@@ -27,15 +27,15 @@ use std::alloc::Global;
 pub fn read_model(alloc: Global, bytes: &[u8]) -> Result<Network, ModelRefusal>
     requires { length bytes.now < 2 ^ 32 }
     ensures network { IfOk result (λ net. net ≡ network_of bytes.now) }
-    ensures well { OnOk result (first_fault bytes.now ≡ None) }
+    ensures well { OnOk result (first_model_fault bytes.now ≡ None) }
     ensures as_read { IfOk result IsAsRead }
-    ensures refused { IfErr result (IsDue (first_fault bytes.now)) }
+    ensures refused { IfErr result (IsModelDue (first_model_fault bytes.now)) }
 {
     let mut lines = Lines::new(bytes, b'#');
     let Some(header) = lines.next_line() else {
         return Err(fault_at(1, 1));
     };
-    if !is_header(header.tokens()) {
+    if !is_model_header(header.tokens()) {
         return Err(fault_at(header.number, 1));
     }
     let builder = build(alloc, lines)?;
@@ -62,7 +62,7 @@ fn build(alloc: Global, mut lines: Lines) -> Result<Builder, ModelRefusal>
 // The number of the line that begins this component. The text is gone over again, so that no number is kept for each.
 fn component_number(bytes: &[u8], comp: CompId) -> u32
     requires { length bytes.now < 2 ^ 32 }
-    ensures { result ≡ slice_index (component_numbers (body (counted_lines 35 bytes.now))) comp }
+    ensures { result ≡ slice_index (component_numbers (model_body (counted_lines 35 bytes.now))) comp }
 {
     let mut lines = Lines::new(bytes, b'#');
     match lines.next_line() {
@@ -95,7 +95,7 @@ fn begins_component(line: &Line) -> bool
     let Some(word) = tokens.next_token() else {
         return false;
     };
-    match keyword_of(word.text) {
+    match line_keyword(word.text) {
         Some(Keyword::Component) => component_line(tokens).is_some(),
         Some(Keyword::State | Keyword::Trans | Keyword::Event) | None => false,
     }

@@ -1,6 +1,6 @@
 // Why a line is refused, and the code of that.
 ghost use Rattle.std.specs.Prelude.{◌≡◌};
-ghost use Rattle.model_text.specs.Refusals.{refusal_at, refusal_of_build, refusal_of_name};
+ghost use Rattle.model_text.specs.Refusals.{line_refusal_at, refusal_of_build, line_refusal_of_name};
 ghost use Rattle.model_text.specs.declared.refusal.LineRefusal.TheVariants.{Memory as NoMemory};
 
 use crate::fault::{ModelRefusal, fault_at};
@@ -30,7 +30,7 @@ pub enum LineRefusal {
 impl LineRefusal {
     // The refusal of a text for the line of this number.
     pub fn at(self, line: u32) -> ModelRefusal
-        ensures { result ≡ refusal_at line self }
+        ensures { result ≡ line_refusal_at line self }
     {
         match self {
             LineRefusal::Shape => fault_at(line, 2),
@@ -61,7 +61,7 @@ impl<T: Drop> From<AllocFailed<T>> for LineRefusal {
 }
 
 impl From<NameFault> for LineRefusal {
-    ghost from_gives = { λ fault refusal. refusal ≡ refusal_of_name fault };
+    ghost from_gives = { λ fault refusal. refusal ≡ line_refusal_of_name fault };
 
     fn from(fault: NameFault) -> LineRefusal {
         match fault {

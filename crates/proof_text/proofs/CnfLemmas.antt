@@ -10,8 +10,8 @@ use Rattle.proof_text.specs.ClauseReading.{spelled_clauses}
 use Rattle.proof_text.specs.declared.fault.TextFault.{TextFault}
 use Rattle.proof_text.specs.declared.header.Header.{Header}
 use Rattle.proof_text.specs.SignedNumbers.{is_number, is_zero, size_of, literal_of}
-use Rattle.proof_text.specs.TextFaults.{fault_or, not_a_number, unknown_variable, other_count}
-use Rattle.proof_text.specs.CnfText.{LinedToken, most, header_of, limit_code, tokens_in, token_code, left_after, fault_of_tokens, fault_of_lines, fault_of_body, first_cnf_fault}
+use Rattle.proof_text.specs.TextFaults.{text_fault_or, not_a_number, unknown_variable, other_count}
+use Rattle.proof_text.specs.CnfText.{LinedToken, most, header_of, limit_code, tokens_in, token_code, left_after, fault_of_tokens, cnf_fault_of_lines, fault_of_body, first_cnf_fault}
 
 pub within_limits : (header : Header) → header.vars ≤ most → header.clauses ≤ most → limit_code header ≡ None
 within_limits header vars clauses = grind (arith, nat_tests)
@@ -21,14 +21,14 @@ pub first_cnf_fault-tokens : (bytes : List ℕ) (number : ℕ) (text : List ℕ)
     → header_of (tokens_of text) ≡ Some header → header.vars ≤ most → header.clauses ≤ most → tokens ≡ tokens_in lines
     → first_cnf_fault bytes ≡ fault_of_tokens header.vars (last_line bytes) header.clauses false tokens
 first_cnf_fault-tokens bytes number text lines header tokens all is vars clauses behind =
-    ap (fault_of_lines (last_line bytes)) all
+    ap (cnf_fault_of_lines (last_line bytes)) all
     ∙ ap (λ o. fault_of_body (last_line bytes) number o (tokens_in lines)) is
-    ∙ ap (λ code. fault_or number code (fault_of_tokens header.vars (last_line bytes) header.clauses false (tokens_in lines))) (within_limits header vars clauses)
+    ∙ ap (λ code. text_fault_or number code (fault_of_tokens header.vars (last_line bytes) header.clauses false (tokens_in lines))) (within_limits header vars clauses)
     ∙ ap (fault_of_tokens header.vars (last_line bytes) header.clauses false) (sym behind)
 
-pub fault_or-none : (line : ℕ) (code : Option ℕ) (later : Option TextFault) → fault_or line code later ≡ None → (code ≡ None) × (later ≡ None)
-fault_or-none line None later h = (refl, h)
-fault_or-none line (Some code) later h = cc
+pub text_fault_or-none : (line : ℕ) (code : Option ℕ) (later : Option TextFault) → text_fault_or line code later ≡ None → (code ≡ None) × (later ≡ None)
+text_fault_or-none line None later h = (refl, h)
+text_fault_or-none line (Some code) later h = cc
 
 chain-none : (a b c : Bool) (x y z : ℕ) → cond (not a) (Some x) (cond b (Some y) (cond c (Some z) None)) ≡ None → (a ≡ true) × (b ≡ false)
 chain-none false b c x y z h = cc
@@ -43,7 +43,7 @@ known_literal false size vars n within zero = cc
 pub clauses_known : (vars end left : ℕ) (is_open : Bool) (front : Clause) (tokens : List LinedToken) → HasValues vars front → fault_of_tokens vars end left is_open tokens ≡ None → All (HasValues vars) (spelled_clauses front tokens)
 clauses_known vars end left is_open front [] h none = All-nil (HasValues vars)
 clauses_known vars end left is_open front (token ∷ tokens) h none =
-    let parts = fault_or-none token.line (token_code vars left is_open token.text) (fault_of_tokens vars end (left_after left is_open) (not (is_zero token.text)) tokens) none in
+    let parts = text_fault_or-none token.line (token_code vars left is_open token.text) (fault_of_tokens vars end (left_after left is_open) (not (is_zero token.text)) tokens) none in
     let well = chain-none (is_number token.text) (nat_lt vars (size_of token.text)) (not is_open && left == 0) not_a_number unknown_variable other_count parts.0 in
     step (is_zero token.text) refl well.0 well.1 (λ next known. clauses_known vars end (left_after left is_open) (not (is_zero token.text)) next tokens known parts.1)
   where

@@ -11,8 +11,8 @@ use Rattle.prop_core.specs.declared.lit.Lit.{Lit}
 use Rattle.prop_core.specs.Clauses.{Clause, HasValues}
 use Rattle.proof_text.specs.ClauseReading.{spelled_clauses}
 use Rattle.proof_text.specs.SignedNumbers.{is_number, is_zero, size_of, literal_of}
-use Rattle.proof_text.specs.TextFaults.{fault_or, not_a_number, unknown_variable, other_count}
-use Rattle.proof_text.specs.CnfText.{most, stated, header_of, LinedToken, lined, tokens_in, left_after, fault_of_tokens, fault_of_lines, fault_of_body, Formula, formula, formula_of_body, formula_of_lines}
+use Rattle.proof_text.specs.TextFaults.{text_fault_or, not_a_number, unknown_variable, other_count}
+use Rattle.proof_text.specs.CnfText.{most, stated, header_of, LinedToken, lined, tokens_in, left_after, fault_of_tokens, cnf_fault_of_lines, fault_of_body, Formula, formula, formula_of_body, formula_of_lines}
 use Rattle.proof_text.specs.PrintedText.{literal_word, literals_text, clause_text, header_text, formula_text, IsFormulaText}
 use Rattle.proof_text.proofs.CnfLemmas.{within_limits}
 use Rattle.proof_text.proofs.PieceLemmas.{spelled_clauses-pieces}
@@ -58,7 +58,7 @@ passes false b c x y z h k m = cc
 fault_of_tokens-well : (vars end left : ℕ) (is_open : Bool) (line : ℕ) (word : List ℕ) (later : List LinedToken) → is_number word ≡ true → nat_lt vars (size_of word) ≡ false → (not is_open && left == 0) ≡ false
     → fault_of_tokens vars end left is_open (lined line word ∷ later) ≡ fault_of_tokens vars end (left_after left is_open) (not (is_zero word)) later
 fault_of_tokens-well vars end left is_open line word later number known begins =
-    ap (λ code. fault_or line code (fault_of_tokens vars end (left_after left is_open) (not (is_zero word)) later))
+    ap (λ code. text_fault_or line code (fault_of_tokens vars end (left_after left is_open) (not (is_zero word)) later))
     (passes (is_number word) (nat_lt vars (size_of word)) (not is_open && left == 0) not_a_number unknown_variable other_count number known begins)
 
 none_below_zero : (vars : ℕ) → nat_lt vars 0 ≡ false
@@ -207,9 +207,9 @@ printed_formula f vars clauses known =
     let tokens = tokens_in (clause_lines 2 f.clauses) in
     let header = stated f.vars (length f.clauses) in
     record {
-      well = ap (fault_of_lines end) (counted f vars clauses known)
+      well = ap (cnf_fault_of_lines end) (counted f vars clauses known)
           ∙ ap (λ o. fault_of_body end 1 o tokens) (header_said f.vars (length f.clauses) v c)
-          ∙ ap (λ code. fault_or 1 code (fault_of_tokens f.vars end (length f.clauses) false tokens)) (within_limits header vars clauses)
+          ∙ ap (λ code. text_fault_or 1 code (fault_of_tokens f.vars end (length f.clauses) false tokens)) (within_limits header vars clauses)
           ∙ fault_of-clauses f.vars end 2 f.clauses few known;
       value = ap formula_of_lines (counted f vars clauses known)
           ∙ ap (λ o. formula_of_body o tokens) (header_said f.vars (length f.clauses) v c)

@@ -6,7 +6,7 @@ use Rattle.std.specs.List.{list_all, list_any}
 use Rattle.des_base.proofs.BoolLemmas.{both, join, neither, not_false, not_true}
 use Rattle.des_base.specs.Numbers.{number_of, number_up_to, up_to}
 use Rattle.proof_text.specs.SignedNumbers.{Signed, plain, behind_minus, is_number, size_of, is_negative, is_zero}
-use Rattle.proof_text.specs.LratText.{cut, with_token, cut_at_zero, greatest, is_too_large, is_unsigned, some_rest, first_code}
+use Rattle.proof_text.specs.LratText.{cut, with_token, cut_at_zero, greatest, is_too_large, is_unsigned, some_rest, first_lrat_code}
 use Rattle.proof_text.specs.LineReading.{is_id, is_known_literal}
 use Rattle.std.proofs.lemmas.Bool.{or_from}
 
@@ -137,7 +137,7 @@ pub record NoneOf (large strange unended low unknown negative : Bool) : Type 0 w
   pub not_unknown : unknown ≡ false
   pub not_negative : negative ≡ false
 
-pub none_of : (a b c d e f : Bool) → first_code a b c d e f ≡ None → NoneOf a b c d e f
+pub none_of : (a b c d e f : Bool) → first_lrat_code a b c d e f ≡ None → NoneOf a b c d e f
 none_of true b c d e f h = cc
 none_of false true c d e f h = cc
 none_of false false true d e f h = cc
@@ -146,5 +146,5 @@ none_of false false false false true f h = cc
 none_of false false false false false true h = cc
 none_of false false false false false false h = record { not_large = refl; not_strange = refl; not_unended = refl; not_low = refl; not_unknown = refl; not_negative = refl }
 
-pub no_code : (a b c d e f : Bool) → NoneOf a b c d e f → first_code a b c d e f ≡ None
-no_code a b c d e f h = (λ i. first_code (h.not_large i) (h.not_strange i) (h.not_unended i) (h.not_low i) (h.not_unknown i) (h.not_negative i))
+pub no_code : (a b c d e f : Bool) → NoneOf a b c d e f → first_lrat_code a b c d e f ≡ None
+no_code a b c d e f h = (λ i. first_lrat_code (h.not_large i) (h.not_strange i) (h.not_unended i) (h.not_low i) (h.not_unknown i) (h.not_negative i))

@@ -8,9 +8,9 @@ use Rattle.proof_ledger.specs.declared.checker.Checked.{Checked}
 use Rattle.proof_ledger.specs.declared.checker.Checked.TheVariants.{Verified, Rejected}
 use Rattle.proof_ledger.specs.declared.checker.ProofStep.{ProofStep}
 use Rattle.proof_ledger.specs.declared.checker.ProofStep.TheVariants.{Add, Delete}
-use Rattle.proof_text.specs.LratText.{LratLine, addition, deletion, last_after, line_code, lrat_fault_of, lrat_line, proof_step_of, proof_steps_of}
+use Rattle.proof_text.specs.LratText.{LratLine, addition, deletion, last_after, lrat_line_code, lrat_fault_of, lrat_line, proof_step_of, proof_steps_of}
 use Rattle.proof_text.specs.PrintedText.{ReadsBackAsProof, without_line}
-use Rattle.proof_text.specs.TextFaults.{fault_or}
+use Rattle.proof_text.specs.TextFaults.{text_fault_or}
 use Rattle.proof_text.specs.declared.fault.TextFault.{TextFault}
 use Rattle.prop_core.specs.Clauses.{Clause}
 use Rattle.prop_core.specs.Derivation.{Derivation, derives, fails, derive, clause_numbered}
@@ -35,7 +35,7 @@ same_step : (n m : ℕ) (line : LratLine) → without_line (proof_step_of n line
 same_step n m (addition id literals hints ended rest) = refl
 same_step n m (deletion id ids ended rest) = refl
 
-none_either : (n m : ℕ) (code : Option ℕ) (here there : Option TextFault) → fault_or n code here ≡ None → (here ≡ None → there ≡ None) → fault_or m code there ≡ None
+none_either : (n m : ℕ) (code : Option ℕ) (here there : Option TextFault) → text_fault_or n code here ≡ None → (here ≡ None → there ≡ None) → text_fault_or m code there ≡ None
 none_either n m None here there none later = later none
 none_either n m (Some code) here there none later = cc
 
@@ -46,7 +46,7 @@ well_step : (vars last n m : ℕ) (line : List ℕ) (lines : List (List ℕ)) (b
     lrat_fault_of vars last (counted_among (numbered_from n (line ∷ lines))) ≡ None → lrat_fault_of vars last (counted_among (numbered_from m (line ∷ lines))) ≡ None
 well_step vars last n m line lines true is later well =
     ap (lrat_fault_of vars last) (counted_more true (numbered m line) (numbered_from (m + 1) lines) is)
-    ∙ none_either n m (line_code vars last (lrat_line (tokens_of line))) (lrat_fault_of vars (last_after last (proof_step_of n (lrat_line (tokens_of line)))) (behind n lines)) (lrat_fault_of vars (last_after last (proof_step_of m (lrat_line (tokens_of line)))) (behind m lines))
+    ∙ none_either n m (lrat_line_code vars last (lrat_line (tokens_of line))) (lrat_fault_of vars (last_after last (proof_step_of n (lrat_line (tokens_of line)))) (behind n lines)) (lrat_fault_of vars (last_after last (proof_step_of m (lrat_line (tokens_of line)))) (behind m lines))
     (sym (ap (lrat_fault_of vars last) (counted_more true (numbered n line) (numbered_from (n + 1) lines) is)) ∙ well)
     (λ none. later (last_after last (proof_step_of m (lrat_line (tokens_of line)))) (ap (λ k. lrat_fault_of vars k (behind n lines)) (same_last last m n (lrat_line (tokens_of line))) ∙ none))
 well_step vars last n m line lines false is later well =

@@ -16,8 +16,8 @@ use Rattle.proof_ledger.specs.declared.checker.ProofStep.{ProofStep}
 use Rattle.proof_ledger.specs.declared.checker.ProofStep.TheVariants.{Add, Delete}
 use Rattle.proof_text.specs.ProofNumbers.{NumbersAscend, HasNoZero}
 use Rattle.proof_text.specs.SignedNumbers.{plain, is_number, is_zero, size_of, literal_of}
-use Rattle.proof_text.specs.TextFaults.{fault_or}
-use Rattle.proof_text.specs.LratText.{Cut, cut, with_token, cut_at_zero, greatest, is_deletion_mark, some_rest, cut_addition, addition_line, deletion_of, lrat_line, line_code, proof_step_of, last_after, lrat_fault_of, proof_steps_of}
+use Rattle.proof_text.specs.TextFaults.{text_fault_or}
+use Rattle.proof_text.specs.LratText.{Cut, cut, with_token, cut_at_zero, greatest, is_deletion_mark, some_rest, cut_addition, addition_line, deletion_of, lrat_line, lrat_line_code, proof_step_of, last_after, lrat_fault_of, proof_steps_of}
 use Rattle.proof_text.specs.LineReading.{is_id, is_known_literal}
 use Rattle.proof_text.specs.PrintedText.{literal_word, numbers_text, step_text, steps_text, NumbersFit, without_line, HasVariablesBelow, HasNumberAbove, ReadsBackAsProof}
 use Rattle.proof_text.proofs.CodeLemmas.{id_passes}
@@ -160,7 +160,7 @@ literals vars (l ∷ ls) small h =
 
 -- what is read of a step's tokens
 record StepReads (vars last : ℕ) (texts : List (List ℕ)) (step : ProofStep) : Type 0 where
-  code : line_code vars last (lrat_line texts) ≡ None
+  code : lrat_line_code vars last (lrat_line texts) ≡ None
   said : (n : ℕ) → without_line (proof_step_of n (lrat_line texts)) ≡ without_line step
   next : (n : ℕ) → last_after last (proof_step_of n (lrat_line texts)) ≡ last_after last step
 
@@ -203,7 +203,7 @@ addition_reads vars last id line clause hints small above h =
     ∙ (λ i. proof_step_of n (cut_addition (decimal id) (first i) (then i)))
     ∙ (λ i. Add n (reads.size i) (literals vars clause small h.below i) (sizes hints h.fit.1 i)) in
     record {
-      code = ap (line_code vars last) is_addition ∙ addition_has_no_code vars last (decimal id) tokens well;
+      code = ap (lrat_line_code vars last) is_addition ∙ addition_has_no_code vars last (decimal id) tokens well;
       said = λ n. ap without_line (said n);
       next = λ n. ap (last_after last) (said n);
     }
@@ -255,8 +255,8 @@ fault_of-steps vars last n [] small above h = refl
 fault_of-steps vars last n (step ∷ steps) small above h =
     let words = step_words step ++ zero_word ∷ [] in
     let reads = step_reads vars last step steps small above h.0 in
-    ap (λ texts. fault_or n (line_code vars last (lrat_line texts)) (lrat_fault_of vars (last_after last (proof_step_of n (lrat_line texts))) (step_lines (n + 1) steps))) (tokens_of-line (step_words step) (are_step_words vars step small h.0))
-    ∙ ap (λ code. fault_or n code (lrat_fault_of vars (last_after last (proof_step_of n (lrat_line words))) (step_lines (n + 1) steps))) reads.code
+    ap (λ texts. text_fault_or n (lrat_line_code vars last (lrat_line texts)) (lrat_fault_of vars (last_after last (proof_step_of n (lrat_line texts))) (step_lines (n + 1) steps))) (tokens_of-line (step_words step) (are_step_words vars step small h.0))
+    ∙ ap (λ code. text_fault_or n code (lrat_fault_of vars (last_after last (proof_step_of n (lrat_line words))) (step_lines (n + 1) steps))) reads.code
     ∙ ap (λ m. lrat_fault_of vars m (step_lines (n + 1) steps)) (reads.next n)
     ∙ fault_of-steps vars (last_after last step) (n + 1) steps small (ascends_here last step steps above) h.1
 

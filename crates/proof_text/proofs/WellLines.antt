@@ -10,10 +10,10 @@ use Rattle.prop_core.specs.declared.lit.Lit.{Lit}
 use Rattle.proof_ledger.specs.declared.checker.ProofStep.{ProofStep}
 use Rattle.proof_ledger.specs.declared.checker.ProofStep.TheVariants.{Delete}
 use Rattle.proof_text.specs.SignedNumbers.{is_number, size_of, is_negative, is_zero, literal_of}
-use Rattle.proof_text.specs.LratText.{cut_at_zero, is_too_large, is_unsigned, is_positive, some_rest, line_code, lrat_line, addition_line, deletion_of, is_deletion_mark, proof_step_of, last_after, lrat_fault_of, proof_steps_of, cut, with_token}
+use Rattle.proof_text.specs.LratText.{cut_at_zero, is_too_large, is_unsigned, is_positive, some_rest, lrat_line_code, lrat_line, addition_line, deletion_of, is_deletion_mark, proof_step_of, last_after, lrat_fault_of, proof_steps_of, cut, with_token}
 use Rattle.proof_text.specs.LineReading.{is_id, is_known_literal, only, ids_only, with_hints, literals_and_hints, add_step, addition_read, deletion_read, step_read, line_read}
 use Rattle.proof_text.specs.ProofNumbers.{HasNoZero, NumbersAscend}
-use Rattle.proof_text.proofs.CnfLemmas.{fault_or-none}
+use Rattle.proof_text.proofs.CnfLemmas.{text_fault_or-none}
 use Rattle.proof_text.proofs.CodeLemmas.{id_is_read, IsIdToken, id_token, id_passes, ids_pass, AreIds, are_ids, known_pass, are_known, nothing_numbers, first_ended, none_of, no_code}
 use Rattle.std.proofs.lemmas.Bool.{or_from, not_from_true}
 
@@ -119,7 +119,7 @@ positive_id last id h above =
     not_zero true size above = grind (arith, nat_tests)
     not_zero false size above = refl
 
-addition_without_code : (vars last : ℕ) (id : List ℕ) (tokens : List (List ℕ)) → line_code vars last (addition_line id tokens) ≡ None → addition_well vars last id tokens ≡ true
+addition_without_code : (vars last : ℕ) (id : List ℕ) (tokens : List (List ℕ)) → lrat_line_code vars last (addition_line id tokens) ≡ None → addition_well vars last id tokens ≡ true
 addition_without_code vars last id tokens h =
     let c = cut_at_zero tokens in
     let d = cut_at_zero c.behind in
@@ -139,7 +139,7 @@ addition_without_code vars last id tokens h =
     (join c.ended (list_all (is_known_literal vars) c.front) (first_ended c.ended tokens refl ended) (known_pass vars c.front (not_is_false (list_all is_number c.front) strange-3.1) none.not_unknown))
     (hints_pass c.behind ended (ids_pass d.front large.1 (not_is_false (list_all is_number d.front) strange-2.1) none.not_negative) unended.1)))
 
-pub addition_has_no_code : (vars last : ℕ) (id : List ℕ) (tokens : List (List ℕ)) → addition_well vars last id tokens ≡ true → line_code vars last (addition_line id tokens) ≡ None
+pub addition_has_no_code : (vars last : ℕ) (id : List ℕ) (tokens : List (List ℕ)) → addition_well vars last id tokens ≡ true → lrat_line_code vars last (addition_line id tokens) ≡ None
 addition_has_no_code vars last id tokens h =
     let c = cut_at_zero tokens in
     let d = cut_at_zero c.behind in
@@ -162,7 +162,7 @@ addition_has_no_code vars last id tokens h =
       not_negative = hints.ids.negative;
     })
 
-deletion_without_code : (vars last : ℕ) (id : List ℕ) (tokens : List (List ℕ)) → line_code vars last (deletion_of id (cut_at_zero tokens)) ≡ None → deletion_well id tokens ≡ true
+deletion_without_code : (vars last : ℕ) (id : List ℕ) (tokens : List (List ℕ)) → lrat_line_code vars last (deletion_of id (cut_at_zero tokens)) ≡ None → deletion_well id tokens ≡ true
 deletion_without_code vars last id tokens h =
     let c = cut_at_zero tokens in
     let none = none_of _ _ _ false false false h in
@@ -176,7 +176,7 @@ deletion_without_code vars last id tokens h =
     (id_passes id sign.0 (not_true (is_negative id) sign.1) large.0)
     (hints_pass tokens (not_is_false c.ended unended.0) (ids_pass c.front large.1 (not_is_false (list_all is_number c.front) strange-3.1) strange-2.1) unended.1)
 
-pub deletion_has_no_code : (vars last : ℕ) (id : List ℕ) (tokens : List (List ℕ)) → deletion_well id tokens ≡ true → line_code vars last (deletion_of id (cut_at_zero tokens)) ≡ None
+pub deletion_has_no_code : (vars last : ℕ) (id : List ℕ) (tokens : List (List ℕ)) → deletion_well id tokens ≡ true → lrat_line_code vars last (deletion_of id (cut_at_zero tokens)) ≡ None
 deletion_has_no_code vars last id tokens h =
     let c = cut_at_zero tokens in
     let parts = both (is_id id) (hints_well tokens) h in
@@ -197,22 +197,22 @@ deletion_has_no_code vars last id tokens h =
       not_negative = refl;
     })
 
-branch_without_code : (b : Bool) (vars last : ℕ) (id token : List ℕ) (tokens : List (List ℕ)) → line_code vars last (cond b (deletion_of id (cut_at_zero tokens)) (addition_line id (token ∷ tokens))) ≡ None
+branch_without_code : (b : Bool) (vars last : ℕ) (id token : List ℕ) (tokens : List (List ℕ)) → lrat_line_code vars last (cond b (deletion_of id (cut_at_zero tokens)) (addition_line id (token ∷ tokens))) ≡ None
     → cond b (deletion_well id tokens) (addition_well vars last id (token ∷ tokens)) ≡ true
 branch_without_code true vars last id token tokens h = deletion_without_code vars last id tokens h
 branch_without_code false vars last id token tokens h = addition_without_code vars last id (token ∷ tokens) h
 
-line_without_code : (vars last : ℕ) (texts : List (List ℕ)) → line_code vars last (lrat_line texts) ≡ None → line_well vars last texts ≡ true
+line_without_code : (vars last : ℕ) (texts : List (List ℕ)) → lrat_line_code vars last (lrat_line texts) ≡ None → line_well vars last texts ≡ true
 line_without_code vars last [] h = cc
 line_without_code vars last (id ∷ []) h = addition_without_code vars last id [] h
 line_without_code vars last (id ∷ token ∷ tokens) h = branch_without_code (is_deletion_mark token) vars last id token tokens h
 
 branch_has_no_code : (b : Bool) (vars last : ℕ) (id token : List ℕ) (tokens : List (List ℕ)) → cond b (deletion_well id tokens) (addition_well vars last id (token ∷ tokens)) ≡ true
-    → line_code vars last (cond b (deletion_of id (cut_at_zero tokens)) (addition_line id (token ∷ tokens))) ≡ None
+    → lrat_line_code vars last (cond b (deletion_of id (cut_at_zero tokens)) (addition_line id (token ∷ tokens))) ≡ None
 branch_has_no_code true vars last id token tokens h = deletion_has_no_code vars last id tokens h
 branch_has_no_code false vars last id token tokens h = addition_has_no_code vars last id (token ∷ tokens) h
 
-line_has_no_code : (vars last : ℕ) (texts : List (List ℕ)) → line_well vars last texts ≡ true → line_code vars last (lrat_line texts) ≡ None
+line_has_no_code : (vars last : ℕ) (texts : List (List ℕ)) → line_well vars last texts ≡ true → lrat_line_code vars last (lrat_line texts) ≡ None
 line_has_no_code vars last [] h = cc
 line_has_no_code vars last (id ∷ []) h = addition_has_no_code vars last id [] h
 line_has_no_code vars last (id ∷ token ∷ tokens) h = branch_has_no_code (is_deletion_mark token) vars last id token tokens h
@@ -227,7 +227,7 @@ none_step : (w : Bool) (said : ProofStep) → None ≡ cond w (Some said) None �
 none_step true said h = cc
 none_step false said h = refl
 
-pub step_is_said : (line vars last : ℕ) (texts : List (List ℕ)) (step : ProofStep) → Some step ≡ line_read line vars last texts → (step ≡ proof_step_of line (lrat_line texts)) × (line_code vars last (lrat_line texts) ≡ None)
+pub step_is_said : (line vars last : ℕ) (texts : List (List ℕ)) (step : ProofStep) → Some step ≡ line_read line vars last texts → (step ≡ proof_step_of line (lrat_line texts)) × (lrat_line_code vars last (lrat_line texts) ≡ None)
 step_is_said line vars last texts step h =
     let parts = some_step (line_well vars last texts) step (proof_step_of line (lrat_line texts)) (h ∙ line_is_read line vars last texts) in
     (parts.1, line_has_no_code vars last texts parts.0)
@@ -236,10 +236,10 @@ some_code : (o : Option ℕ) → (o ≡ None → ⊥) → IsSome o
 some_code None h = absurd (h refl)
 some_code (Some x) h = search rules
 
-pub line_has_a_code : (line vars last : ℕ) (texts : List (List ℕ)) → None ≡ line_read line vars last texts → IsSome (line_code vars last (lrat_line texts))
+pub line_has_a_code : (line vars last : ℕ) (texts : List (List ℕ)) → None ≡ line_read line vars last texts → IsSome (lrat_line_code vars last (lrat_line texts))
 line_has_a_code line vars last texts h =
     let ill : line_well vars last texts ≡ false = none_step (line_well vars last texts) (proof_step_of line (lrat_line texts)) (h ∙ line_is_read line vars last texts) in
-    some_code (line_code vars last (lrat_line texts)) (λ none. let well : line_well vars last texts ≡ true = line_without_code vars last texts none in cc)
+    some_code (lrat_line_code vars last (lrat_line texts)) (λ none. let well : line_well vars last texts ≡ true = line_without_code vars last texts none in cc)
 
 -- the numbers of the additions of a proof without a fault ascend
 above_last : (vars last : ℕ) (id : List ℕ) (tokens : List (List ℕ)) → addition_well vars last id tokens ≡ true → last < size_of id
@@ -264,7 +264,7 @@ numbers_ascend vars last [] h = tt
 numbers_ascend vars last (line ∷ lines) h =
     let texts = tokens_of line.text in
     let step = proof_step_of line.number (lrat_line texts) in
-    let parts = fault_or-none line.number (line_code vars last (lrat_line texts)) (lrat_fault_of vars (last_after last step) lines) h in
+    let parts = text_fault_or-none line.number (lrat_line_code vars last (lrat_line texts)) (lrat_fault_of vars (last_after last step) lines) h in
     ascends_with vars last line.number texts (line_without_code vars last texts parts.0) (proof_steps_of lines) (numbers_ascend vars (last_after last step) lines parts.1)
 
 -- no number of a proof without a fault is 0
@@ -316,5 +316,5 @@ no_zeros vars last [] h = All-nil HasNoZero
 no_zeros vars last (line ∷ lines) h =
     let texts = tokens_of line.text in
     let step = proof_step_of line.number (lrat_line texts) in
-    let parts = fault_or-none line.number (line_code vars last (lrat_line texts)) (lrat_fault_of vars (last_after last step) lines) h in
+    let parts = text_fault_or-none line.number (lrat_line_code vars last (lrat_line texts)) (lrat_fault_of vars (last_after last step) lines) h in
     All-cons HasNoZero step (proof_steps_of lines) (line_no_zero vars last line.number texts (line_without_code vars last texts parts.0)) (no_zeros vars (last_after last step) lines parts.1)

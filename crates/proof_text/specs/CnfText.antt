@@ -8,7 +8,7 @@ use Rattle.prop_core.specs.Clauses.{Clause}
 use Rattle.proof_text.specs.declared.fault.TextFault.{TextFault}
 use Rattle.proof_text.specs.declared.header.Header.{Header}
 use Rattle.proof_text.specs.SignedNumbers.{is_number, is_zero, size_of, literal_of}
-use Rattle.proof_text.specs.TextFaults.{no_header, not_a_number, unknown_variable, other_count, not_ended, over_limit, fault_on_line, fault_or}
+use Rattle.proof_text.specs.TextFaults.{no_header, not_a_number, unknown_variable, other_count, not_ended, over_limit, fault_on_line, text_fault_or}
 
 -- the greatest number of variables, and of clauses, that a header may state
 abbrev pub most : ℕ
@@ -80,9 +80,9 @@ left_after left is_open = if is_open then left else left - 1
 
 -- the first fault of the tokens, and else that of the end, where the text's last line has this number
 abbrev pub fault_of_tokens : ℕ → ℕ → ℕ → Bool → List LinedToken → Option TextFault
-fault_of_tokens vars end left is_open [] = fault_or end (end_code left is_open) None
+fault_of_tokens vars end left is_open [] = text_fault_or end (end_code left is_open) None
 fault_of_tokens vars end left is_open (token ∷ tokens) =
-    fault_or token.line (token_code vars left is_open token.text)
+    text_fault_or token.line (token_code vars left is_open token.text)
     (fault_of_tokens vars end (left_after left is_open) (not (is_zero token.text)) tokens)
 
 -- the first fault behind a header that is well
@@ -92,16 +92,16 @@ fault_behind end (Some header) tokens = fault_of_tokens header.vars end header.c
 
 -- the first fault of a text by what its header states, on the line `number`, and by the tokens behind it; the last line is `end`
 abbrev pub fault_of_body : ℕ → ℕ → Option Header → List LinedToken → Option TextFault
-fault_of_body end number header tokens = fault_or number (header_code header) (fault_behind end header tokens)
+fault_of_body end number header tokens = text_fault_or number (header_code header) (fault_behind end header tokens)
 
 -- the first fault of the counted lines, of which the first is the header; without any the header is missing, on the last line `end`
-abbrev pub fault_of_lines : ℕ → List NumberedLine → Option TextFault
-fault_of_lines end [] = fault_on_line end no_header
-fault_of_lines end (header ∷ lines) = fault_of_body end header.number (header_of (tokens_of header.text)) (tokens_in lines)
+abbrev pub cnf_fault_of_lines : ℕ → List NumberedLine → Option TextFault
+cnf_fault_of_lines end [] = fault_on_line end no_header
+cnf_fault_of_lines end (header ∷ lines) = fault_of_body end header.number (header_of (tokens_of header.text)) (tokens_in lines)
 
 -- the first fault of a text, if it has one; lines that begin with `c` are comments
 abbrev pub first_cnf_fault : List ℕ → Option TextFault
-first_cnf_fault bytes = fault_of_lines (last_line bytes) (counted_lines 99 bytes)
+first_cnf_fault bytes = cnf_fault_of_lines (last_line bytes) (counted_lines 99 bytes)
 
 -- all but the last
 abbrev pub before_last : {X : Type 0} → List X → List X

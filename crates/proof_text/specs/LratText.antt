@@ -6,7 +6,7 @@ use Rattle.proof_ledger.specs.declared.checker.ProofStep.{ProofStep}
 use Rattle.proof_ledger.specs.declared.checker.ProofStep.TheVariants.{Add, Delete}
 use Rattle.proof_text.specs.declared.fault.TextFault.{TextFault}
 use Rattle.proof_text.specs.SignedNumbers.{is_number, is_negative, is_zero, size_of, literal_of}
-use Rattle.proof_text.specs.TextFaults.{not_a_number, unknown_variable, not_ended, not_ascending, negative_hint, over_limit, fault_or}
+use Rattle.proof_text.specs.TextFaults.{not_a_number, unknown_variable, not_ended, not_ascending, negative_hint, over_limit, text_fault_or}
 
 -- What stands before the first `0`; whether there is one; and what follows it.
 pub record Cut : Type 0 where
@@ -77,8 +77,8 @@ abbrev pub is_unsigned : List ℕ → Bool
 is_unsigned token = is_number token && not (is_negative token)
 
 -- the first of these that holds, as a code
-abbrev pub first_code : Bool → Bool → Bool → Bool → Bool → Bool → Option ℕ
-first_code large strange unended low unknown negative =
+abbrev pub first_lrat_code : Bool → Bool → Bool → Bool → Bool → Bool → Option ℕ
+first_lrat_code large strange unended low unknown negative =
     if large then Some over_limit
     else if strange then Some not_a_number
     else if unended then Some not_ended
@@ -88,15 +88,15 @@ first_code large strange unended low unknown negative =
     else None
 
 -- The code of a line, where there are so many variables, and an addition's number has to be greater than this one.
-abbrev pub line_code : ℕ → ℕ → LratLine → Option ℕ
-line_code vars last (addition id literals hints ended rest) = first_code
+abbrev pub lrat_line_code : ℕ → ℕ → LratLine → Option ℕ
+lrat_line_code vars last (addition id literals hints ended rest) = first_lrat_code
     (is_too_large id || list_any is_too_large hints)
     (not (is_positive id) || not (list_all is_number literals) || not (list_all is_number hints) || not (list_all is_number rest))
     (not ended || some_rest rest)
     (not (nat_lt last (size_of id)))
     (list_any (λ token. nat_lt vars (size_of token)) literals)
     (list_any is_negative hints)
-line_code vars last (deletion id ids ended rest) = first_code
+lrat_line_code vars last (deletion id ids ended rest) = first_lrat_code
     (is_too_large id || list_any is_too_large ids)
     (not (is_unsigned id) || not (list_all is_number ids) || list_any is_negative ids || not (list_all is_number rest))
     (not ended || some_rest rest)
@@ -116,7 +116,7 @@ last_after last (Delete ids) = last
 abbrev pub lrat_fault_of : ℕ → ℕ → List NumberedLine → Option TextFault
 lrat_fault_of vars last [] = None
 lrat_fault_of vars last (line ∷ lines) =
-    fault_or line.number (line_code vars last (lrat_line (tokens_of line.text)))
+    text_fault_or line.number (lrat_line_code vars last (lrat_line (tokens_of line.text)))
     (lrat_fault_of vars (last_after last (proof_step_of line.number (lrat_line (tokens_of line.text)))) lines)
 
 -- The first fault of the text of a proof, if it has one. Lines that begin with `c` are comments. Original clauses have the numbers from 1 to their count.

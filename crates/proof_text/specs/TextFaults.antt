@@ -41,11 +41,11 @@ abbrev pub fault_on_line : ℕ → ℕ → Option TextFault
 fault_on_line line code = Some (record { line = line; code = code })
 
 -- the fault with this code, where there is one, and else a later one
-abbrev pub fault_or : ℕ → Option ℕ → Option TextFault → Option TextFault
-fault_or line None later = later
-fault_or line (Some code) later = fault_on_line line code
+abbrev pub text_fault_or : ℕ → Option ℕ → Option TextFault → Option TextFault
+text_fault_or line None later = later
+text_fault_or line (Some code) later = fault_on_line line code
 
 -- A refusal for a fault tells the first fault of the text. Want of memory says nothing.
-abbrev pub IsDue : Option TextFault → TextRefusal → Type 0
-IsDue fault (Fault told) = fault ≡ Some told
-IsDue fault Memory = ⊤
+abbrev pub IsTextDue : Option TextFault → TextRefusal → Type 0
+IsTextDue fault (Fault told) = fault ≡ Some told
+IsTextDue fault Memory = ⊤

@@ -1,6 +1,6 @@
 // Reading clauses, token by token.
 ghost use Rattle.std.specs.Prelude.{◌≡◌, ℕ, ◌≤◌, ◌++◌, ◌∷◌, [], List, MatchResult, IfOk, OnOk, None, false};
-ghost use Rattle.proof_text.specs.TextFaults.{fault_or, IsDue};
+ghost use Rattle.proof_text.specs.TextFaults.{text_fault_or, IsTextDue};
 ghost use Rattle.proof_text.specs.ClauseReading.{ended_by, open_after, entry_code, spelled_clauses};
 ghost use Rattle.proof_text.specs.CnfText.{LinedToken, lined, some_open, end_code, fault_of_tokens, clauses_in};
 
@@ -42,7 +42,7 @@ impl ClauseReader {
     fn take(&mut self, token: BodyToken<'_>) -> Result<(), TextRefusal>
         requires { self.old.vars ≤ VAR_LIMIT }
         ensures vars { self.new.vars ≡ self.old.vars }
-        ensures faults { (end : ℕ) (later : List LinedToken) → MatchResult result (λ _. fault_of_tokens self.old.vars end self.old.left (some_open self.old.front.items) (lined token.entry.line token.entry.text.now ∷ later) ≡ fault_of_tokens self.new.vars end self.new.left (some_open self.new.front.items) later) (IsDue (fault_of_tokens self.old.vars end self.old.left (some_open self.old.front.items) (lined token.entry.line token.entry.text.now ∷ later))) }
+        ensures faults { (end : ℕ) (later : List LinedToken) → MatchResult result (λ _. fault_of_tokens self.old.vars end self.old.left (some_open self.old.front.items) (lined token.entry.line token.entry.text.now ∷ later) ≡ fault_of_tokens self.new.vars end self.new.left (some_open self.new.front.items) later) (IsTextDue (fault_of_tokens self.old.vars end self.old.left (some_open self.old.front.items) (lined token.entry.line token.entry.text.now ∷ later))) }
         ensures clauses { OnOk result ((later : List LinedToken) → self.new.clauses.clauses ++ spelled_clauses self.new.front.items later ≡ self.old.clauses.clauses ++ spelled_clauses self.old.front.items (lined token.entry.line token.entry.text.now ∷ later)) }
     {
         let Some(entry) = read_entry(token.text, self.vars) else {
@@ -104,7 +104,7 @@ pub(crate) fn read_clauses(
     mut tokens: BodyTokens<'_>,
 ) -> Result<ClauseReader, TextRefusal>
     requires { header.vars ≤ VAR_LIMIT }
-    ensures faults { (end : ℕ) → MatchResult result (λ reader. fault_of_tokens header.vars end header.clauses false tokens.entry ≡ fault_or end (end_code reader.left (some_open reader.front.items)) None) (IsDue (fault_of_tokens header.vars end header.clauses false tokens.entry)) }
+    ensures faults { (end : ℕ) → MatchResult result (λ reader. fault_of_tokens header.vars end header.clauses false tokens.entry ≡ text_fault_or end (end_code reader.left (some_open reader.front.items)) None) (IsTextDue (fault_of_tokens header.vars end header.clauses false tokens.entry)) }
     ensures clauses { IfOk result (λ reader. reader.clauses.clauses ≡ clauses_in tokens.entry) }
 {
     let mut reader = ClauseReader::new(alloc, header);

@@ -1,7 +1,7 @@
 // Reading the text of a formula.
 ghost use Rattle.std.specs.Prelude.{◌≡◌, ◌<◌, ◌≤◌, ◌^◌, length, All, IfOk, IfErr, OnOk, None};
 ghost use Rattle.prop_core.specs.Clauses.{HasValues};
-ghost use Rattle.proof_text.specs.TextFaults.{IsDue};
+ghost use Rattle.proof_text.specs.TextFaults.{IsTextDue};
 ghost use Rattle.proof_text.specs.CnfText.{formula, formula_of, first_cnf_fault};
 
 use crate::body::BodyTokens;
@@ -24,7 +24,7 @@ pub fn read_cnf(alloc: Global, bytes: &[u8]) -> Result<Cnf, TextRefusal>
     ensures well { OnOk result (first_cnf_fault bytes.now ≡ None) }
     ensures few { IfOk result (λ cnf. cnf.vars ≤ 100000000) }
     ensures known { IfOk result (λ cnf. All (HasValues cnf.vars) cnf.clauses.clauses) }
-    ensures refused { IfErr result (IsDue (first_cnf_fault bytes.now)) }
+    ensures refused { IfErr result (IsTextDue (first_cnf_fault bytes.now)) }
 {
     let mut lines = Lines::new(bytes, b'c');
     let Some(line) = lines.next_line() else {

@@ -3,7 +3,7 @@ ghost use Rattle.std.specs.Prelude.{◌≡◌, ◌&&◌, ◌||◌, nat_lt};
 ghost use Rattle.std.specs.List.{list_all, list_any};
 ghost use Rattle.des_base.specs.CountedLines.{texts_of, tokens_of};
 ghost use Rattle.proof_text.specs.SignedNumbers.{is_number, is_negative, size_of};
-ghost use Rattle.proof_text.specs.LratText.{cut_at_zero, is_too_large, some_rest, first_code, line_code, lrat_line, addition_line, deletion_of};
+ghost use Rattle.proof_text.specs.LratText.{cut_at_zero, is_too_large, some_rest, first_lrat_code, lrat_line_code, lrat_line, addition_line, deletion_of};
 
 use crate::fault::{
     NEGATIVE_HINT, NOT_A_NUMBER, NOT_ASCENDING, NOT_ENDED, OVER_LIMIT, UNKNOWN_VARIABLE,
@@ -30,8 +30,8 @@ struct LineFaults {
 }
 
 impl LineFaults {
-    fn first_code(self) -> Option<u8>
-        ensures { result ≡ first_code self.large self.strange self.unended self.low self.unknown self.negative }
+    fn first_lrat_code(self) -> Option<u8>
+        ensures { result ≡ first_lrat_code self.large self.strange self.unended self.low self.unknown self.negative }
     {
         if self.large {
             Some(OVER_LIMIT)
@@ -125,8 +125,8 @@ fn is_some_rest(tokens: &Tokens<'_>) -> bool
 }
 
 // The code of a line, where an addition's number has to be greater than `last`.
-pub(crate) fn line_code(line: Line<'_>, vars: u32, last: u64) -> Option<u8>
-    ensures { result ≡ line_code vars last (lrat_line (tokens_of line.entry.text.now)) }
+pub(crate) fn lrat_line_code(line: Line<'_>, vars: u32, last: u64) -> Option<u8>
+    ensures { result ≡ lrat_line_code vars last (lrat_line (tokens_of line.entry.text.now)) }
 {
     let mut tokens = line.tokens();
     let Some(id) = tokens.next_token() else {
@@ -142,7 +142,7 @@ pub(crate) fn line_code(line: Line<'_>, vars: u32, last: u64) -> Option<u8>
 }
 
 fn addition_code(id: &[u8], mut tokens: Tokens<'_>, vars: u32, last: u64) -> Option<u8>
-    ensures { result ≡ line_code vars last (addition_line id.now (texts_of tokens.entry)) }
+    ensures { result ≡ lrat_line_code vars last (addition_line id.now (texts_of tokens.entry)) }
 {
     let literals = survey(&mut tokens, vars);
     let hints = survey(&mut tokens, vars);
@@ -156,11 +156,11 @@ fn addition_code(id: &[u8], mut tokens: Tokens<'_>, vars: u32, last: u64) -> Opt
         unknown: literals.unknown,
         negative: hints.negative,
     };
-    faults.first_code()
+    faults.first_lrat_code()
 }
 
 fn deletion_code(id: &[u8], mut tokens: Tokens<'_>) -> Option<u8>
-    ensures { result ≡ line_code 0 0 (deletion_of id.now (cut_at_zero (texts_of tokens.entry))) }
+    ensures { result ≡ lrat_line_code 0 0 (deletion_of id.now (cut_at_zero (texts_of tokens.entry))) }
 {
     let ids = survey(&mut tokens, 0);
     let is_unsigned = is_number(id) && !is_negative(id);
@@ -173,5 +173,5 @@ fn deletion_code(id: &[u8], mut tokens: Tokens<'_>) -> Option<u8>
         unknown: false,
         negative: false,
     };
-    faults.first_code()
+    faults.first_lrat_code()
 }

@@ -3,11 +3,11 @@ ghost use Rattle.std.specs.Prelude.{◌≡◌, ◌<◌, ◌≤◌, ◌^◌, All,
 ghost use Rattle.des_base.specs.CountedLines.{tokens_of};
 ghost use Rattle.proof_text.specs.ProofNumbers.{NumbersAscend, HasNoZero};
 ghost use Rattle.proof_text.specs.declared.fault.TextFault.{TextFault};
-ghost use Rattle.proof_text.specs.TextFaults.{fault_or, IsDue};
-ghost use Rattle.proof_text.specs.LratText.{line_code, lrat_line, proof_step_of, last_after, first_lrat_fault, proof_of};
+ghost use Rattle.proof_text.specs.TextFaults.{text_fault_or, IsTextDue};
+ghost use Rattle.proof_text.specs.LratText.{lrat_line_code, lrat_line, proof_step_of, last_after, first_lrat_fault, proof_of};
 
 use crate::fault::{TextRefusal, fault_at};
-use crate::line_faults::line_code;
+use crate::line_faults::lrat_line_code;
 use crate::lrat_line::read_step;
 use crate::proof::Proof;
 use des_base::{Line, Lines, VAR_LIMIT};
@@ -27,7 +27,7 @@ pub fn read_lrat(alloc: Global, bytes: &[u8], vars: u32, clauses: u64) -> Result
     ensures well { OnOk result (first_lrat_fault vars clauses bytes.now ≡ None) }
     ensures ascend { IfOk result (λ proof. NumbersAscend clauses proof) }
     ensures above { IfOk result (λ proof. All HasNoZero proof) }
-    ensures refused { IfErr result (IsDue (first_lrat_fault vars clauses bytes.now)) }
+    ensures refused { IfErr result (IsTextDue (first_lrat_fault vars clauses bytes.now)) }
 {
     let mut lines = Lines::new(bytes, b'c');
     let mut proof = Proof::new(alloc);
@@ -44,12 +44,12 @@ pub fn read_lrat(alloc: Global, bytes: &[u8], vars: u32, clauses: u64) -> Result
 fn read_line(alloc: Global, line: Line<'_>, vars: u32, last: u64) -> Result<ProofStep, TextRefusal>
     requires { vars ≤ VAR_LIMIT }
     ensures step { IfOk result (λ step. step ≡ proof_step_of line.entry.number (lrat_line (tokens_of line.entry.text.now))) }
-    ensures well { OnOk result (line_code vars last (lrat_line (tokens_of line.entry.text.now)) ≡ None) }
-    ensures refused { IfErr result (λ refusal. (later : Option TextFault) → IsDue (fault_or line.entry.number (line_code vars last (lrat_line (tokens_of line.entry.text.now))) later) refusal) }
+    ensures well { OnOk result (lrat_line_code vars last (lrat_line (tokens_of line.entry.text.now)) ≡ None) }
+    ensures refused { IfErr result (λ refusal. (later : Option TextFault) → IsTextDue (text_fault_or line.entry.number (lrat_line_code vars last (lrat_line (tokens_of line.entry.text.now))) later) refusal) }
 {
     match read_step(alloc, line, vars, last)? {
         Some(step) => Ok(step),
-        None => Err(fault_at(line.number, line_code(line, vars, last).unwrap())),
+        None => Err(fault_at(line.number, lrat_line_code(line, vars, last).unwrap())),
     }
 }
 

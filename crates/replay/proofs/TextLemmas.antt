@@ -8,7 +8,7 @@ use Rattle.des_base.specs.Names.{place_by, place_of}
 use Rattle.des_base.specs.CountedLines.{NumberedLine, counted_lines, numbered, tokens_of, last_line}
 use Rattle.des_net.specs.Network.{Net}
 use Rattle.des_net.specs.Building.{IsDraft}
-use Rattle.replay.specs.RunText.{step_code, step_words, names_in, knows_event, after_reply_line, stated_length, fault_of_steps, fault_of_lines, first_fault}
+use Rattle.replay.specs.RunText.{step_code, step_words, names_in, knows_event, after_reply_line, stated_length, fault_of_steps, run_fault_of_lines, first_run_fault}
 
 place_step : (b : Bool) (q : Option ℕ) (n : ℕ) → IfSome q (λ j. j < n) → IfSome (cond b (Some 0) (option_map suc q)) (λ k. k < suc n)
 place_step true q n rest = omega arith
@@ -24,10 +24,10 @@ pub event_within : (net : Net) (name : List ℕ) (found : Option ℕ) → IsDraf
 event_within net name found h is = subst (λ o. IfSome o (λ e. e < length net.events)) (sym is) (subst (λ n. IfSome (place_of name net.event_names) (λ e. e < n)) h.called (place-within _ net.event_names))
 
 -- where the header is well the text's first fault is that of its steps
-pub first_fault-steps : (net : Net) (bytes : List ℕ) (lines : List NumberedLine) (number : ℕ) (text : List ℕ) (stated : ℕ) (steps : List NumberedLine) → lines ≡ counted_lines 35 bytes
-    → after_reply_line lines ≡ numbered number text ∷ steps → Some stated ≡ stated_length (tokens_of text) → first_fault net bytes ≡ fault_of_steps net (last_line bytes) number (Some stated) steps
-first_fault-steps net bytes lines number text stated steps all header length =
-    ap (λ (ls : List NumberedLine). fault_of_lines net (last_line bytes) (after_reply_line ls)) (sym all) ∙ ap (fault_of_lines net (last_line bytes)) header
+pub first_run_fault-steps : (net : Net) (bytes : List ℕ) (lines : List NumberedLine) (number : ℕ) (text : List ℕ) (stated : ℕ) (steps : List NumberedLine) → lines ≡ counted_lines 35 bytes
+    → after_reply_line lines ≡ numbered number text ∷ steps → Some stated ≡ stated_length (tokens_of text) → first_run_fault net bytes ≡ fault_of_steps net (last_line bytes) number (Some stated) steps
+first_run_fault-steps net bytes lines number text stated steps all header length =
+    ap (λ (ls : List NumberedLine). run_fault_of_lines net (last_line bytes) (after_reply_line ls)) (sym all) ∙ ap (run_fault_of_lines net (last_line bytes)) header
     ∙ ap (λ o. fault_of_steps net (last_line bytes) number o steps) (sym length)
 
 -- a line is well only where a line may still come

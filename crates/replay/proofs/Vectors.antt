@@ -6,7 +6,7 @@ use Rattle.des_base.specs.Names.{is_name_text, is_name_byte}
 use Rattle.replay.specs.declared.run.RunStep.{RunStep}
 use Rattle.replay.specs.declared.run.RunStep.TheVariants.{Happens, Dropped}
 use Rattle.replay.specs.declared.run_text.RunFault.{RunFault}
-use Rattle.replay.specs.RunText.{first_fault, run_of}
+use Rattle.replay.specs.RunText.{first_run_fault, run_of}
 
 -- only the names of a network's events matter
 abbrev net : Net
@@ -23,10 +23,10 @@ step event alarm = Happens event alarm
 
 -- ---- texts without a fault
 
-pub no_steps : first_fault net (codes "run 0") ≡ None
+pub no_steps : first_run_fault net (codes "run 0") ≡ None
 no_steps = refl
 
-pub one_step : first_fault net (text_of (codes "run 1" ∷ codes "g" ∷ [])) ≡ None
+pub one_step : first_run_fault net (text_of (codes "run 1" ∷ codes "g" ∷ [])) ≡ None
 unfolding is_name_text is_name_byte
 one_step = refl
 
@@ -34,7 +34,7 @@ pub one_step-run : run_of net (text_of (codes "run 1" ∷ codes "g" ∷ [])) ≡
 one_step-run = refl
 
 -- a printed reply is a run text
-pub reply : first_fault net (text_of (codes "EXPLAINED 1" ∷ codes "run 2" ∷ codes "g" ∷ codes "ea x1" ∷ [])) ≡ None
+pub reply : first_run_fault net (text_of (codes "EXPLAINED 1" ∷ codes "run 2" ∷ codes "g" ∷ codes "ea x1" ∷ [])) ≡ None
 unfolding is_name_text is_name_byte
 reply = refl
 
@@ -42,71 +42,71 @@ pub reply-run : run_of net (text_of (codes "EXPLAINED 1" ∷ codes "run 2" ∷ c
 reply-run = refl
 
 -- a false alarm
-pub false_alarm : first_fault net (text_of (codes "run 2" ∷ codes "! z" ∷ codes "eb" ∷ [])) ≡ None
+pub false_alarm : first_run_fault net (text_of (codes "run 2" ∷ codes "! z" ∷ codes "eb" ∷ [])) ≡ None
 unfolding is_name_text is_name_byte
 false_alarm = refl
 
 pub false_alarm-run : run_of net (text_of (codes "run 2" ∷ codes "! z" ∷ codes "eb" ∷ [])) ≡ Dropped (codes "z") ∷ step 2 None ∷ []
 false_alarm-run = refl
 
-pub mark_alone : first_fault net (text_of (codes "run 1" ∷ codes "!" ∷ [])) ≡ fault 2 2
+pub mark_alone : first_run_fault net (text_of (codes "run 1" ∷ codes "!" ∷ [])) ≡ fault 2 2
 mark_alone = refl
 
-pub false_no_name : first_fault net (text_of (codes "run 1" ∷ codes "! !" ∷ [])) ≡ fault 2 3
+pub false_no_name : first_run_fault net (text_of (codes "run 1" ∷ codes "! !" ∷ [])) ≡ fault 2 3
 unfolding is_name_text is_name_byte
 false_no_name = refl
 
-pub false_three_words : first_fault net (text_of (codes "run 1" ∷ codes "! x y" ∷ [])) ≡ fault 2 2
+pub false_three_words : first_run_fault net (text_of (codes "run 1" ∷ codes "! x y" ∷ [])) ≡ fault 2 2
 false_three_words = refl
 
 -- ---- no header
 
-pub no_bytes : first_fault net [] ≡ fault 1 1
+pub no_bytes : first_run_fault net [] ≡ fault 1 1
 no_bytes = refl
 
-pub no_count : first_fault net (text_of (codes "run" ∷ [])) ≡ fault 1 1
+pub no_count : first_run_fault net (text_of (codes "run" ∷ [])) ≡ fault 1 1
 no_count = refl
 
-pub leading_zero : first_fault net (text_of (codes "run 01" ∷ [])) ≡ fault 1 1
+pub leading_zero : first_run_fault net (text_of (codes "run 01" ∷ [])) ≡ fault 1 1
 leading_zero = refl
 
-pub too_long : first_fault net (text_of (codes "run 4000001" ∷ [])) ≡ fault 1 1
+pub too_long : first_run_fault net (text_of (codes "run 4000001" ∷ [])) ≡ fault 1 1
 too_long = refl
 
-pub other_word : first_fault net (text_of (codes "jog 0" ∷ [])) ≡ fault 1 1
+pub other_word : first_run_fault net (text_of (codes "jog 0" ∷ [])) ≡ fault 1 1
 other_word = refl
 
 -- ---- too few or too many steps
 
-pub none_of_one : first_fault net (text_of (codes "run 1" ∷ [])) ≡ fault 1 4
+pub none_of_one : first_run_fault net (text_of (codes "run 1" ∷ [])) ≡ fault 1 4
 none_of_one = refl
 
-pub one_of_two : first_fault net (text_of (codes "run 2" ∷ codes "g" ∷ [])) ≡ fault 2 4
+pub one_of_two : first_run_fault net (text_of (codes "run 2" ∷ codes "g" ∷ [])) ≡ fault 2 4
 unfolding is_name_text is_name_byte
 one_of_two = refl
 
-pub one_of_none : first_fault net (text_of (codes "run 0" ∷ codes "g" ∷ [])) ≡ fault 2 4
+pub one_of_none : first_run_fault net (text_of (codes "run 0" ∷ codes "g" ∷ [])) ≡ fault 2 4
 one_of_none = refl
 
 -- ---- a step's line
 
-pub unknown_event : first_fault net (text_of (codes "run 1" ∷ codes "zz" ∷ [])) ≡ fault 2 5
+pub unknown_event : first_run_fault net (text_of (codes "run 1" ∷ codes "zz" ∷ [])) ≡ fault 2 5
 unfolding is_name_text is_name_byte
 unknown_event = refl
 
-pub three_words : first_fault net (text_of (codes "run 1" ∷ codes "g x y" ∷ [])) ≡ fault 2 2
+pub three_words : first_run_fault net (text_of (codes "run 1" ∷ codes "g x y" ∷ [])) ≡ fault 2 2
 three_words = refl
 
-pub no_name : first_fault net (text_of (codes "run 1" ∷ codes "g x.y" ∷ [])) ≡ fault 2 3
+pub no_name : first_run_fault net (text_of (codes "run 1" ∷ codes "g x.y" ∷ [])) ≡ fault 2 3
 unfolding is_name_text is_name_byte
 no_name = refl
 
 -- lines that are skipped are counted too
-pub after_comment : first_fault net (text_of (codes "# a run" ∷ codes "run 1" ∷ [] ∷ codes "zz" ∷ [])) ≡ fault 4 5
+pub after_comment : first_run_fault net (text_of (codes "# a run" ∷ codes "run 1" ∷ [] ∷ codes "zz" ∷ [])) ≡ fault 4 5
 unfolding is_name_text is_name_byte
 after_comment = refl
 
 -- a line's fault comes before a shortage
-pub fault_before_shortage : first_fault net (text_of (codes "run 3" ∷ codes "zz" ∷ [])) ≡ fault 2 5
+pub fault_before_shortage : first_run_fault net (text_of (codes "run 3" ∷ codes "zz" ∷ [])) ≡ fault 2 5
 unfolding is_name_text is_name_byte
 fault_before_shortage = refl

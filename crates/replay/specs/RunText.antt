@@ -64,13 +64,13 @@ step_code net left words =
     else None
 
 -- a fault of the line of this number, if it has a code
-abbrev pub fault_at : ℕ → Option ℕ → Option RunFault
-fault_at number code = option_map (λ k. record { line = number; code = k }) code
+abbrev pub run_fault_at : ℕ → Option ℕ → Option RunFault
+run_fault_at number code = option_map (λ k. record { line = number; code = k }) code
 
 -- the first fault of the lines after the header, where so many may still come
 abbrev pub first_fault_in : Net → ℕ → List NumberedLine → Option RunFault
 first_fault_in net left [] = None
-first_fault_in net left (line ∷ lines) = option_or (fault_at line.number (step_code net left (tokens_of line.text))) (first_fault_in net (left - 1) lines)
+first_fault_in net left (line ∷ lines) = option_or (run_fault_at line.number (step_code net left (tokens_of line.text))) (first_fault_in net (left - 1) lines)
 
 -- A shortage of lines is found only where all lines are well. It is a fault of the text's end.
 abbrev pub shortage : ℕ → ℕ → ℕ → Option RunFault
@@ -82,13 +82,13 @@ fault_of_steps net end number None steps = Some (record { line = number; code = 
 fault_of_steps net end number (Some stated) steps = option_or (first_fault_in net stated steps) (shortage end stated (length steps))
 
 -- the first fault of the lines from the header on
-abbrev pub fault_of_lines : Net → ℕ → List NumberedLine → Option RunFault
-fault_of_lines net end [] = Some (record { line = end; code = 1 })
-fault_of_lines net end (header ∷ steps) = fault_of_steps net end header.number (stated_length (tokens_of header.text)) steps
+abbrev pub run_fault_of_lines : Net → ℕ → List NumberedLine → Option RunFault
+run_fault_of_lines net end [] = Some (record { line = end; code = 1 })
+run_fault_of_lines net end (header ∷ steps) = fault_of_steps net end header.number (stated_length (tokens_of header.text)) steps
 
 -- comments in runs begin with `#`
-abbrev pub first_fault : Net → List ℕ → Option RunFault
-first_fault net bytes = fault_of_lines net (last_line bytes) (after_reply_line (counted_lines 35 bytes))
+abbrev pub first_run_fault : Net → List ℕ → Option RunFault
+first_run_fault net bytes = run_fault_of_lines net (last_line bytes) (after_reply_line (counted_lines 35 bytes))
 
 -- the step that a line says, where its event is known
 abbrev pub step_of : Net → List (List ℕ) → Option RunStep

@@ -5,7 +5,7 @@ ghost use Rattle.std.specs.List.{list_all};
 ghost use Rattle.des_base.specs.Names.{is_name_text};
 ghost use Rattle.des_base.specs.CountedLines.{numbered, tokens_of, last_line};
 ghost use Rattle.replay.specs.Traced.{event_of, word_of};
-ghost use Rattle.replay.specs.RunText.{is_reply_word, is_reply_line, is_false_alarm_mark, after_reply_line, stated_length, step_code, step_words, step_of, steps_of, fault_at, fault_of_steps, first_fault, run_of, TellsFault};
+ghost use Rattle.replay.specs.RunText.{is_reply_word, is_reply_line, is_false_alarm_mark, after_reply_line, stated_length, step_code, step_words, step_of, steps_of, run_fault_at, fault_of_steps, first_run_fault, run_of, TellsFault};
 ghost use Rattle.replay.specs.declared.run_text.RunRefusal.TheVariants.{Memory as NoMemory};
 
 use crate::run::{Run, RunStep};
@@ -69,8 +69,8 @@ pub fn read_run(alloc: Global, bytes: &[u8], net: &Network) -> Result<Run, RunRe
     requires { length bytes.now < 2 ^ 32 }
     ensures run { IfOk result (λ run. run ≡ run_of net.now bytes.now) }
     ensures known { IfOk result (λ run. All (λ e. e < length net.now.events) (word_of run)) }
-    ensures well { OnOk result (first_fault net.now bytes.now ≡ None) }
-    ensures refused { IfErr result (TellsFault (first_fault net.now bytes.now)) }
+    ensures well { OnOk result (first_run_fault net.now bytes.now ≡ None) }
+    ensures refused { IfErr result (TellsFault (first_run_fault net.now bytes.now)) }
 {
     let mut lines = Lines::new(bytes, b'#');
     let Some(header) = next_header(&mut lines) else {
@@ -161,7 +161,7 @@ fn read_step(alloc: Global, net: &Network, left: u64, line: Line<'_>) -> Result<
     ensures step { IfOk result (λ step. step_of net.now (tokens_of line.entry.text.now) ≡ Some step) }
     ensures known { IfOk result (λ step. IfSome (event_of step) (λ e. e < length net.now.events)) }
     ensures well { OnOk result (step_code net.now left (tokens_of line.entry.text.now) ≡ None) }
-    ensures refused { IfErr result (TellsFault (fault_at line.entry.number (step_code net.now left (tokens_of line.entry.text.now)))) }
+    ensures refused { IfErr result (TellsFault (run_fault_at line.entry.number (step_code net.now left (tokens_of line.entry.text.now)))) }
 {
     if left == 0 {
         return Err(fault(line.number, OTHER_LENGTH));
@@ -193,7 +193,7 @@ fn is_false_alarm_mark(word: &[u8]) -> bool
 fn read_dropped(alloc: Global, line: u32, text: Option<&[u8]>) -> Result<RunStep, RunRefusal>
     ensures step { IfOk result (λ step. MatchOption (option_copied text.entry) ⊤ (λ name. step ≡ RunStep.Dropped name)) }
     ensures name { OnOk result (list_all is_name_text (option_to_list (option_copied text.entry)) ≡ true) }
-    ensures refused { IfErr result (TellsFault (fault_at line (if is_none (option_copied text.entry) then Some 2 else if list_all is_name_text (option_to_list (option_copied text.entry)) then None else Some 3))) }
+    ensures refused { IfErr result (TellsFault (run_fault_at line (if is_none (option_copied text.entry) then Some 2 else if list_all is_name_text (option_to_list (option_copied text.entry)) then None else Some 3))) }
 {
     match read_alarm(alloc, line, text)? {
         Some(alarm) => Ok(RunStep::Dropped { alarm }),
@@ -233,7 +233,7 @@ fn lone_event<'a>(event: &'a [u8]) -> Option<StepWords<'a>>
 fn read_alarm(alloc: Global, line: u32, text: Option<&[u8]>) -> Result<Option<Name>, RunRefusal>
     ensures alarm { IfOk result (λ alarm. alarm ≡ option_copied text.entry) }
     ensures name { OnOk result (list_all is_name_text (option_to_list (option_copied text.entry)) ≡ true) }
-    ensures refused { IfErr result (TellsFault (fault_at line (if list_all is_name_text (option_to_list (option_copied text.entry)) then None else Some 3))) }
+    ensures refused { IfErr result (TellsFault (run_fault_at line (if list_all is_name_text (option_to_list (option_copied text.entry)) then None else Some 3))) }
 {
     let Some(text) = text else {
         return Ok(None);

@@ -14,7 +14,7 @@ use Rattle.des_base.specs.Names.{AreNames, IsName, is_name_text, place_of}
 use Rattle.des_base.specs.Numbers.{up_to}
 use Rattle.des_net.specs.Network.{Net}
 use Rattle.replay.specs.Matching.{name_on}
-use Rattle.replay.specs.RunText.{stated_length, is_false_alarm_mark, step_words, names_in, knows_event, step_code, fault_at, first_fault_in, shortage, fault_of_steps, step_of, steps_of}
+use Rattle.replay.specs.RunText.{stated_length, is_false_alarm_mark, step_words, names_in, knows_event, step_code, run_fault_at, first_fault_in, shortage, fault_of_steps, step_of, steps_of}
 use Rattle.replay.specs.Traced.{word_of}
 use Rattle.replay.specs.declared.run.RunStep.{RunStep}
 use Rattle.replay.specs.declared.run.RunStep.TheVariants.{Happens, Dropped}
@@ -201,8 +201,8 @@ no_fault_in net n [] h = refl
 no_fault_in net n (step ∷ steps) h =
     let reads = named_reads net step h.0 in
     let later = first_fault_in net (suc (length steps) - 1) (step_lines net (n + 1) steps) in
-    ap (λ words. option_or (fault_at n (step_code net (suc (length steps)) words)) later) reads.tokens
-    ∙ ap (λ code. option_or (fault_at n code) later) (named_has_no_code net (suc (length steps)) step (omega arith) h.0)
+    ap (λ words. option_or (run_fault_at n (step_code net (suc (length steps)) words)) later) reads.tokens
+    ∙ ap (λ code. option_or (run_fault_at n code) later) (named_has_no_code net (suc (length steps)) step (omega arith) h.0)
     ∙ ap (λ left. first_fault_in net left (step_lines net (n + 1) steps)) (one_less (length steps))
     ∙ no_fault_in net (n + 1) steps h.1
 

@@ -7,7 +7,7 @@ use Rattle.des_base.proofs.PrintedLines.{line_byte, IsWord, counted_from-line, t
 use Rattle.des_base.specs.CountedLines.{NumberedLine, numbered, counted_from, is_counted, tokens_of, last_line}
 use Rattle.des_net.specs.Building.{IsDraft}
 use Rattle.des_net.specs.Network.{Net}
-use Rattle.replay.specs.RunText.{is_reply_line, after_reply_line, after_header, fault_of_steps, fault_of_lines, steps_of}
+use Rattle.replay.specs.RunText.{is_reply_line, after_reply_line, after_header, fault_of_steps, run_fault_of_lines, steps_of}
 use Rattle.replay.specs.declared.run.RunStep.{RunStep}
 use Rattle.least_faults.specs.declared.answer.Found.TheVariants.{Explained, Absent, Many, Undecided}
 use Rattle.report.specs.Replies.{text_of_run}
@@ -21,7 +21,7 @@ run_lines net n steps = numbered n (run_line (length steps)) ∷ step_lines net 
 -- a text reads back whose lines are those of the run, but for the first line of a reply
 read_lines : (net : Net) (steps : List RunStep) (text : List ℕ) (n : ℕ) → AreNamed net steps → length steps ≤ 4000000 → after_reply_line (counted_from 35 1 text) ≡ run_lines net n steps → IsRunText net steps text
 read_lines net steps text n named few lines = record {
-  well = ap (fault_of_lines net (last_line text)) lines
+  well = ap (run_fault_of_lines net (last_line text)) lines
       ∙ ap (λ stated. fault_of_steps net (last_line text) n stated (step_lines net (n + 1) steps)) (run_line-length (length steps) few)
       ∙ no_fault_of_steps net (last_line text) n (n + 1) steps named;
   value = ap (λ ls. steps_of net (after_header ls)) lines ∙ steps_of-lines net (n + 1) steps named;

@@ -5,7 +5,7 @@ use Rattle.des_base.specs.Names.{IsName}
 use Rattle.des_net.specs.Building.{IsDraft}
 use Rattle.des_net.specs.Network.{Net}
 use Rattle.replay.specs.Matching.{name_on}
-use Rattle.replay.specs.RunText.{first_fault, run_of}
+use Rattle.replay.specs.RunText.{first_run_fault, run_of}
 use Rattle.replay.specs.Traced.{word_of}
 use Rattle.replay.specs.declared.run.RunStep.{RunStep}
 use Rattle.least_faults.specs.declared.answer.Found.{Found}
@@ -23,7 +23,7 @@ pub record IsPrintable (net : Net) (steps : List RunStep) : Type 0 where
 
 -- The text is a run text without a fault, and this is its run.
 pub record IsRunText (net : Net) (steps : List RunStep) (text : List ℕ) : Type 0 where
-  pub well : first_fault net text ≡ None
+  pub well : first_run_fault net text ≡ None
   pub value : run_of net text ≡ steps
 
 -- Over a network within its limits the text of a printable run is a run text, and reads back as that run.

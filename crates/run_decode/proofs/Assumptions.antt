@@ -3,10 +3,10 @@ use Rattle.std.proofs.Common.{◌≡◌, ◌≢◌, ◌∙◌, ℕ, suc, zero, B
 use Rattle.std.specs.List.{AllByRecursion}
 use Rattle.des_base.proofs.Elements.{all_append, all_from}
 use Rattle.des_base.specs.Lists.{EachPair}
-use Rattle.des_net.specs.Network.{Net}
+use Rattle.des_net.specs.Network.{Net, observable_events}
 use Rattle.log_clauses.proofs.Codes.{read_of}
 use Rattle.log_clauses.proofs.Lists.{all_at}
-use Rattle.log_clauses.specs.LogClauses.{chain, observable_events, guard_literals}
+use Rattle.log_clauses.specs.LogClauses.{chain, guard_literals}
 use Rattle.log_order.specs.Log.{Log}
 use Rattle.prop_core.proofs.NameLemmas.{some_literal}
 use Rattle.prop_core.specs.Clauses.{negation}

@@ -11,7 +11,7 @@ use Rattle.log_clauses.specs.LogClauses.{doubtful_alarms}
 use Rattle.card_counter.specs.CounterState.{CounterState, counter_meanings, variable}
 use Rattle.des_net.specs.Network.{Net, is_fault}
 use Rattle.des_net.specs.QuestionSize.{step_variables, counter_size, fault_event_count}
-use Rattle.log_clauses.proofs.NewNames.{names_leave_room, first_names_are_all}
+use Rattle.log_clauses.proofs.NewNames.{names_leave_room, first_meanings_are_all}
 use Rattle.log_clauses.specs.Additions.{alarm_added}
 use Rattle.log_clauses.specs.LogNames.{first_meanings, added_meanings}
 use Rattle.log_encode.specs.CodedLog.{CodedLog, meanings_from, log_meanings, false_literals}
@@ -87,7 +87,7 @@ unfolding of_alarms
 log_few code n is same =
     subst (λ m. length (log_meanings code) + step_variables code.net m + (counter_size code.net m + 256 * doubtful_count code.log) ≤ variable_bound code.net code.log m) is
     (let few = alarms_few code.net code.grid.steps [] code.log.alarms code.starts same in
-    let first = (first_names_are_all code.net code.grid.steps).few in
+    let first = (first_meanings_are_all code.net code.grid.steps).few in
     let row = row_length code.asked (first_meanings code.net) in
     let whole = length-append (laid_out code.asked (first_meanings code.net)) (meanings_from code.net code.grid.steps no_log code.log.alarms code.starts) in
     omega (arith, few, first, row, whole))

@@ -7,9 +7,9 @@ use Rattle.std.proofs.lemmas.List.{length-map}
 use Rattle.card_counter.specs.Exclusions.{IsExclusionClause}
 use Rattle.des_base.proofs.Elements.{filter_alike}
 use Rattle.des_base.specs.Lists.{numbers_below}
-use Rattle.des_net.specs.Network.{Net, label_of}
+use Rattle.des_net.specs.Network.{Net, label_of, observable_events}
 use Rattle.log_clauses.specs.Decoded.{alarm_at, alarm_event, is_false_alarm, comes, decoded_entry, arranged, arranged_order, whole_order}
-use Rattle.log_clauses.specs.LogClauses.{guard_literals, chain, matching_events, observable_events, LogClause, log_clause, IsLogClause, chain_closed, takes_rest, uses_up, passes_on, taken_or_passed, not_done_first, stays_done, match_is_done, matched_once, match_is_real, done_by_match, one_match, done_if_asked, before_if_asked, or_false}
+use Rattle.log_clauses.specs.LogClauses.{guard_literals, chain, matching_events, LogClause, log_clause, IsLogClause, chain_closed, takes_rest, uses_up, passes_on, taken_or_passed, not_done_first, stays_done, match_is_done, matched_once, match_is_real, done_by_match, one_match, done_if_asked, before_if_asked, or_false}
 use Rattle.log_clauses.specs.LogCodes.{IsNamedLog}
 use Rattle.log_encode.specs.CodedLog.{without_names, nameless}
 use Rattle.log_order.specs.Log.{Log, Alarm, labels_of, is_doubtful}

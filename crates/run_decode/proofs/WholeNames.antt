@@ -1,7 +1,7 @@
 -- Steps, log and counter by one naming.
 use Rattle.std.proofs.Common.{◌≡◌, ◌≢◌, ◌∙◌, ℕ, suc, ◌+◌, ◌*◌, ◌<◌, ◌≤◌, ◌⊎◌, inl, inr, Bool, true, false, ◌-◌, if◌then◌else◌, slice_get, option_map, length-append, append_assoc, List, [], ◌∷◌, ◌++◌, length, None, Some, refl, sym, ap, subst, arith, Contains, append-nil}
 use Rattle.card_counter.proofs.CodeLemmas.{counter_is_code}
-use Rattle.card_counter.proofs.NameLemmas.{counter_names_stand}
+use Rattle.card_counter.proofs.NameLemmas.{counter_meanings_stand}
 use Rattle.card_counter.proofs.States.{place_cases, variable_before, variable_last, grown_is_counter, none_is_counter, made_later}
 use Rattle.card_counter.proofs.Inputs.{inputs_grow, place_cases as places_with_input}
 use Rattle.card_counter.specs.CounterClauses.{IsNamedCount}
@@ -47,7 +47,7 @@ module _ (steps : CodedSteps) (code : CodedLog) (counter : CounterState) (togeth
     is : entry ≡ (variable counter input column, reaches (suc input) (suc column))
 
   counter_entry : (entry : ℕ × Meaning) → Contains (counter_meanings counter) entry → IsCounterEntry entry
-  counter_entry entry in' = let found = (counter_names_stand counter together.counted).only entry in' in record { input = found.0; column = found.1; place = found.2; is = found.3 }
+  counter_entry entry in' = let found = (counter_meanings_stand counter together.counted).only entry in' in record { input = found.0; column = found.1; place = found.2; is = found.3 }
 
   steps_and_counter : (x y : ℕ × Meaning) → Contains (code_meanings steps) x → Contains (counter_meanings counter) y → Differ x y
   steps_and_counter x y of_steps of_counter =
@@ -76,7 +76,7 @@ module _ (steps : CodedSteps) (code : CodedLog) (counter : CounterState) (togeth
   names_once : HasEachOnce (whole_meanings steps code counter)
   names_once =
       pairs_append Differ (code_meanings steps) (log_meanings code ++ counter_meanings counter) (steps_are_laid_out steps.net steps.steps steps.first).once
-      (pairs_append Differ (log_meanings code) (counter_meanings counter) together.beside.logged.names.once (counter_names_stand counter together.counted).once log_and_counter)
+      (pairs_append Differ (log_meanings code) (counter_meanings counter) together.beside.logged.names.once (counter_meanings_stand counter together.counted).once log_and_counter)
       (λ x y of_steps rest. by x y of_steps (Contains-append_cases (log_meanings code) (counter_meanings counter) y rest))
     where
       by : (x y : ℕ × Meaning) → Contains (code_meanings steps) x → Contains (log_meanings code) y ⊎ Contains (counter_meanings counter) y → Differ x y
@@ -112,7 +112,7 @@ together_one_naming steps code counter together =
       of_faults = faults;
       of_counter = record {
         inputs_read = faults;
-        called = (counter_names_stand counter together.counted).called (whole_meanings steps code counter) once (counter_among steps code counter together);
+        called = (counter_meanings_stand counter together.counted).called (whole_meanings steps code counter) once (counter_among steps code counter together);
       };
     }
 

@@ -2,7 +2,7 @@ use Rattle.std.proofs.Common.{subst, sym}
 use Rattle.csv.specs.Records.{fields_of}
 use Rattle.log_csv.specs.declared.fault.LogReadRefusal.{LogReadRefusal}
 use Rattle.log_csv.specs.Records.{record_of}
-use Rattle.log_csv.specs.Faults.{IsDue, fault_at}
+use Rattle.log_csv.specs.Faults.{IsLogDue, log_fault_at}
 use Rattle.log_csv.specs.LogText.{record_code}
 use Rattle.log_csv.proofs.LogLemmas.{record-bad, record-nothing}
 use Rattle.log_csv.proofs.log_text.add_record.Goals as goal
@@ -19,5 +19,5 @@ returns-in-Ok-None c = λ earlier logged.
 
 pub returns-in-Err : goal.returns-in-Err
 returns-in-Err c = λ earlier logged.
-    subst (λ (e : LogReadRefusal). IsDue (fault_at c.args.row (record_code earlier (record_of (fields_of c.args.fields.now)))) e) (sym c.at.ensures)
+    subst (λ (e : LogReadRefusal). IsLogDue (log_fault_at c.args.row (record_code earlier (record_of (fields_of c.args.fields.now)))) e) (sym c.at.ensures)
     (record-bad earlier (record_of (fields_of c.args.fields.now)) c.args.row c.in-Err.refusal c.in-Err.ensures)

@@ -2,7 +2,7 @@ use Rattle.std.proofs.Common.{◌≡◌, ◌∷◌, ◌++◌, append-nil, ap, sy
 use Rattle.std.proofs.lemmas.Result.{err_from_is_err_and}
 use Rattle.proof_text.specs.declared.fault.TextFault.{TextFault}
 use Rattle.proof_text.specs.ClauseReading.{spelled_clauses}
-use Rattle.proof_text.specs.TextFaults.{IsDue}
+use Rattle.proof_text.specs.TextFaults.{IsTextDue}
 use Rattle.proof_text.specs.CnfText.{lined, some_open, fault_of_tokens}
 use Rattle.proof_text.proofs.PieceLemmas.{spelled_clauses-pieces}
 use Rattle.proof_text.proofs.clause_reader.read_clauses.Goals as goal
@@ -17,7 +17,7 @@ returns-in_err-take-clause-faults c = λ end.
     = ap (λ v. fault_of_tokens v end reader.left (some_open reader.front.items) (token ∷ c.next_token.new.self)) c.loop-token.invariant.vars
     ∙ ap (fault_of_tokens c.args.header.vars end reader.left (some_open reader.front.items)) (sym c.in-Some.ensures)
     ∙ c.loop-token.invariant.faults end in
-    rw (p.1, p.2) (subst (λ (fault : Option TextFault). IsDue fault c.in_err-take.field-0.0) same (c.in_err-take.ensures.faults end c.next_token.new.self))
+    rw (p.1, p.2) (subst (λ (fault : Option TextFault). IsTextDue fault c.in_err-take.field-0.0) same (c.in_err-take.ensures.faults end c.next_token.new.self))
 
 -- The pieces that a 0 ends are the clauses that were read.
 pub returns-clause-clauses : goal.returns-clause-clauses

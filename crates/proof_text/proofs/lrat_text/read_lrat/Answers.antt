@@ -5,7 +5,7 @@ use Rattle.std.specs.Prelude.{All}
 use Rattle.des_base.specs.CountedLines.{numbered, counted_lines, tokens_of}
 use Rattle.proof_text.specs.ProofNumbers.{NumbersAscend, HasNoZero}
 use Rattle.proof_text.specs.declared.fault.TextFault.{TextFault}
-use Rattle.proof_text.specs.TextFaults.{IsDue}
+use Rattle.proof_text.specs.TextFaults.{IsTextDue}
 use Rattle.proof_text.specs.LratText.{lrat_line, proof_step_of, last_after, lrat_fault_of, first_lrat_fault, proof_steps_of, proof_of}
 use Rattle.proof_text.proofs.WellLines.{numbers_ascend, no_zeros}
 use Rattle.proof_text.proofs.lrat_text.read_lrat.Goals as goal
@@ -18,7 +18,7 @@ returns-in_err-step-clause-refused c =
     let later = lrat_fault_of c.args.vars (last_after c.loop-line.last (proof_step_of line.number (lrat_line (tokens_of line.text)))) c.next_line.new.self in
     let same : lrat_fault_of c.args.vars c.loop-line.last (line ∷ c.next_line.new.self) ≡ first_lrat_fault c.args.vars c.args.clauses c.args.bytes.now
     = ap (lrat_fault_of c.args.vars c.loop-line.last) (sym c.in-Some.ensures.line) ∙ c.loop-line.invariant.faults in
-    rw (p.1, p.2) (subst (λ (fault : Option TextFault). IsDue fault c.in_err-step.field-0.0) same (c.in_err-step.ensures.refused later))
+    rw (p.1, p.2) (subst (λ (fault : Option TextFault). IsTextDue fault c.in_err-step.field-0.0) same (c.in_err-step.ensures.refused later))
 
 pub returns-clause-ascend : goal.returns-clause-ascend
 returns-clause-ascend c =
