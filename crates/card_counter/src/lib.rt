@@ -19,7 +19,7 @@ pub use counter::Counter;
 pub use exclusion::{at_most_one, chain_count};
 pub use laws::{
     column_is_code, columns_add_clauses, columns_add_meanings, counter_is_code, counter_is_exact,
-    counter_meanings_stand, exclusion_is_code, exclusion_is_complete, exclusion_is_exact,
-    exclusion_is_listed, exclusion_is_sound, exclusions_are_listed, inputs_add_clauses,
-    inputs_grow, many_inputs_add, named_columns_grow, named_count_is_exact, counter_meanings_grow,
+    counter_meanings_grow, counter_meanings_stand, exclusion_is_code, exclusion_is_complete,
+    exclusion_is_exact, exclusion_is_listed, exclusion_is_sound, exclusions_are_listed,
+    inputs_add_clauses, inputs_grow, many_inputs_add, named_columns_grow, named_count_is_exact,
 };
