@@ -116,7 +116,7 @@ pub record IsToldBy (net : Net) (n budget : ℕ) (old new : Stage) (found : Foun
 
 -- ---- what is always so of the book
 
--- By some names, and with some assumptions, the axioms ask what explains the log: they are faithful and drawn.
+-- By some meanings, and with some assumptions, the axioms ask what explains the log: they are faithful and drawn.
 pub record Poses (net : Net) (log : Log) (n : ℕ) (book : List BookEntry) : Type 0 where
   pub names : List (ℕ × Meaning)
   pub assumed : List Lit

@@ -75,14 +75,14 @@ ExclusionIsExact = (inputs : List Lit) (first : ℕ) → AllowsAtMostOne inputs 
 
 -- The variables of the chain are called by what they say.
 abbrev pub IsNamedChain : List (ℕ × Meaning) → Exclusion → ℕ → ℕ → Type 0
-IsNamedChain names family first count = (i : ℕ) → i < count → meaning_of names (first + i) ≡ Some (some_of_first family (suc i))
+IsNamedChain meanings family first count = (i : ℕ) → i < count → meaning_of meanings (first + i) ≡ Some (some_of_first family (suc i))
 
 -- The clauses are, by name, those of an "at most one" of what the inputs read as.
 abbrev pub ExclusionIsCode : Type 0
-ExclusionIsCode = (names : List (ℕ × Meaning)) (family : Exclusion) (called : List Meaning) (inputs : List Lit) (first : ℕ) → named_clause names inputs ≡ Some (map yes called) →
-    IsNamedChain names family first (chain_count (length inputs)) → IsCode names (IsNamedExclusion family called) (exclusion_clauses inputs first)
+ExclusionIsCode = (meanings : List (ℕ × Meaning)) (family : Exclusion) (called : List Meaning) (inputs : List Lit) (first : ℕ) → named_clause meanings inputs ≡ Some (map yes called) →
+    IsNamedChain meanings family first (chain_count (length inputs)) → IsCode meanings (IsNamedExclusion family called) (exclusion_clauses inputs first)
 
 -- One after another they are listed so, literal by literal.
 abbrev pub ExclusionIsListed : Type 0
-ExclusionIsListed = (names : List (ℕ × Meaning)) (family : Exclusion) (called : List Meaning) (inputs : List Lit) (first : ℕ) → named_clause names inputs ≡ Some (map yes called) →
-    IsNamedChain names family first (chain_count (length inputs)) → IsListed names (named_exclusion family called) (exclusion_clauses inputs first)
+ExclusionIsListed = (meanings : List (ℕ × Meaning)) (family : Exclusion) (called : List Meaning) (inputs : List Lit) (first : ℕ) → named_clause meanings inputs ≡ Some (map yes called) →
+    IsNamedChain meanings family first (chain_count (length inputs)) → IsListed meanings (named_exclusion family called) (exclusion_clauses inputs first)

@@ -1,5 +1,5 @@
--- The clauses of a counter, by name (after Sinz, "Towards an optimal CNF encoding of Boolean cardinality constraints", CP 2005). The name `reaches i j` says that of
--- the first i inputs at least j are true, for i and j from 1. That at least 0 are true is always so, and that of no inputs one is true is never so: these have no name.
+-- The clauses of a counter, by name (after Sinz, "Towards an optimal CNF encoding of Boolean cardinality constraints", CP 2005). The meaning `reaches i j` says that of
+-- the first i inputs at least j are true, for i and j from 1. That at least 0 are true is always so, and that of no inputs one is true is never so: these have no meaning.
 use Rattle.std.specs.Prelude.{◌≡◌, ◌⊎◌, ℕ, zero, suc, ◌<◌, ◌≤◌, not, List, [], ◌∷◌, ◌++◌, length, Some, slice_get}
 use Rattle.prop_core.specs.VariableNames.{NamedLiteral, yes, no, reaches}
 

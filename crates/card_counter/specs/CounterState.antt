@@ -217,17 +217,17 @@ pub record HasMoreInputs (state : CounterState) (more : List Lit) (first : ℕ) 
 abbrev pub ManyInputsAdd : Type 0
 ManyInputsAdd = (state : CounterState) (more : List Lit) (first : ℕ) → IsFull state → HasMoreInputs state more first
 
--- ---- names
+-- ---- meanings
 
--- the variables of the counter, each with its name
+-- the variables of the counter, each with its meaning
 abbrev pub counter_meanings : CounterState → List (ℕ × Meaning)
 counter_meanings state =
     flat_map (λ j. map (λ i. (variable state i j, reaches (suc i) (suc j))) (numbers_below (length state.inputs))) (numbers_below (length state.columns))
 
--- the variables of a column more, each with its name
+-- the variables of a column more, each with its meaning
 abbrev pub next_meanings : CounterState → ℕ → List (ℕ × Meaning)
 next_meanings state first = map (λ i. (first + i, reaches (suc i) (suc (length state.columns)))) (numbers_below (length state.inputs))
 
--- A column more has its names behind those of the others.
+-- A column more has its meanings behind those of the others.
 abbrev pub ColumnsAddMeanings : Type 0
 ColumnsAddMeanings = (state : CounterState) (first : ℕ) → counter_meanings (with_column state first) ≡ counter_meanings state ++ next_meanings state first

@@ -38,7 +38,7 @@ CounterIsExact = (state : CounterState) → IsCounter state → Counts state
 
 -- ---- by name
 
--- the name stands for a variable of a counter
+-- the meaning stands for a variable of a counter
 abbrev pub is_count : Meaning → Bool
 is_count (in_state c q t) = false
 is_count (happens e t) = false
@@ -51,7 +51,7 @@ is_count (dropped i) = false
 is_count (reaches i j) = true
 is_count (some_of_first family i) = false
 
--- the truth of names where the first i inputs reach j just where at least j of them are true
+-- the truth of meanings where the first i inputs reach j just where at least j of them are true
 abbrev pub counted : List NamedLiteral → (Meaning → Bool) → Meaning → Bool
 counted inputs value (in_state c q t) = value (in_state c q t)
 counted inputs value (happens e t) = value (happens e t)
@@ -64,14 +64,14 @@ counted inputs value (dropped i) = value (dropped i)
 counted inputs value (reaches i j) = nat_le j (count_by (named_true value) (take i inputs))
 counted inputs value (some_of_first family i) = value (some_of_first family i)
 
--- Whatever the truth of the inputs, of which none is a name of a counter, the count makes the clauses true, with at most k where at most k inputs are true; and where the clauses are true, at most k says so.
+-- Whatever the truth of the inputs, of which none is a meaning of a counter, the count makes the clauses true, with at most k where at most k inputs are true; and where the clauses are true, at most k says so.
 pub record CountsByName (inputs : List NamedLiteral) (value : Meaning → Bool) : Type 0 where
   pub others : (meaning : Meaning) → is_count meaning ≡ false → counted inputs value meaning ≡ value meaning
   pub free : ((x : NamedLiteral) → Contains inputs x → is_count x.meaning ≡ false) → (columns : ℕ) → AllHold (IsNamedCount inputs columns) (counted inputs value)
   pub bound : (k : ℕ) → count_by (named_true value) inputs ≤ k → counted inputs value (reaches (length inputs) (suc k)) ≡ false
   pub few : (columns k : ℕ) → AllHold (IsNamedCount inputs columns) value → k < columns → value (reaches (length inputs) (suc k)) ≡ false → count_by (named_true value) inputs ≤ k
 
--- So it is of whatever inputs, by each truth of names.
+-- So it is of whatever inputs, by each truth of meanings.
 abbrev pub NamedCountIsExact : Type 0
 NamedCountIsExact = (inputs : List NamedLiteral) (value : Meaning → Bool) → CountsByName inputs value
 
@@ -86,41 +86,41 @@ pub record ColumnsGrow (inputs : List NamedLiteral) : Type 0 where
 abbrev pub NamedColumnsGrow : Type 0
 NamedColumnsGrow = (inputs : List NamedLiteral) → ColumnsGrow inputs
 
--- ---- from variables to names
+-- ---- from variables to meanings
 
--- By these names the inputs read as those, and each variable of a column is called by what it counts.
-pub record IsNamedBy (names : List (ℕ × Meaning)) (inputs : List NamedLiteral) (state : CounterState) : Type 0 where
-  pub inputs_read : named_clause names state.inputs ≡ Some inputs
-  pub called : (i j : ℕ) → IsPlace state i j → meaning_of names (variable state i j) ≡ Some (reaches (suc i) (suc j))
+-- By these meanings the inputs read as those, and each variable of a column is called by what it counts.
+pub record IsNamedBy (meanings : List (ℕ × Meaning)) (inputs : List NamedLiteral) (state : CounterState) : Type 0 where
+  pub inputs_read : named_clause meanings state.inputs ≡ Some inputs
+  pub called : (i j : ℕ) → IsPlace state i j → meaning_of meanings (variable state i j) ≡ Some (reaches (suc i) (suc j))
 
 -- The clauses of a counter are, by name, those of its columns.
 abbrev pub CounterIsCode : Type 0
-CounterIsCode = (names : List (ℕ × Meaning)) (inputs : List NamedLiteral) (state : CounterState) → IsNamedBy names inputs state →
-    IsCode names (IsNamedCount inputs (length state.columns)) (counter_clauses state)
+CounterIsCode = (meanings : List (ℕ × Meaning)) (inputs : List NamedLiteral) (state : CounterState) → IsNamedBy meanings inputs state →
+    IsCode meanings (IsNamedCount inputs (length state.columns)) (counter_clauses state)
 
 -- The clauses that a column more brings are those of this column.
 abbrev pub ColumnIsCode : Type 0
-ColumnIsCode = (names : List (ℕ × Meaning)) (inputs : List NamedLiteral) (state : CounterState) (first : ℕ) → IsNamedBy names inputs (with_column state first) →
-    IsCode names (IsNamedColumn inputs (length state.columns)) (next_clauses state first)
+ColumnIsCode = (meanings : List (ℕ × Meaning)) (inputs : List NamedLiteral) (state : CounterState) (first : ℕ) → IsNamedBy meanings inputs (with_column state first) →
+    IsCode meanings (IsNamedColumn inputs (length state.columns)) (next_clauses state first)
 
--- The names of a counter have each variable and each name once; and by names that have them all its variables are called so.
+-- The meanings of a counter have each variable and each meaning once; and by meanings that have them all its variables are called so.
 pub record AreCounterMeanings (state : CounterState) : Type 0 where
   pub once : HasEachOnce (counter_meanings state)
   pub there : (i j : ℕ) → IsPlace state i j → Contains (counter_meanings state) (variable state i j, reaches (suc i) (suc j))
   pub only : (entry : ℕ × Meaning) → Contains (counter_meanings state) entry → (i : ℕ) × (j : ℕ) × IsPlace state i j × (entry ≡ (variable state i j, reaches (suc i) (suc j)))
-  pub called : (names : List (ℕ × Meaning)) → HasEachOnce names → ((entry : ℕ × Meaning) → Contains (counter_meanings state) entry → Contains names entry) →
-      (i j : ℕ) → IsPlace state i j → meaning_of names (variable state i j) ≡ Some (reaches (suc i) (suc j))
+  pub called : (meanings : List (ℕ × Meaning)) → HasEachOnce meanings → ((entry : ℕ × Meaning) → Contains (counter_meanings state) entry → Contains meanings entry) →
+      (i j : ℕ) → IsPlace state i j → meaning_of meanings (variable state i j) ≡ Some (reaches (suc i) (suc j))
 
--- So it is of the names of each counter.
+-- So it is of the meanings of each counter.
 abbrev pub CounterMeaningsStand : Type 0
 CounterMeaningsStand = (state : CounterState) → IsCounter state → AreCounterMeanings state
 
--- the names have none of this column
+-- the meanings have none of this column
 abbrev pub HasNoneOf : List (ℕ × Meaning) → ℕ → Type 0
-HasNoneOf names column = AllByRecursion (λ entry. (i : ℕ) → entry.1 ≢ reaches i (suc column)) names
+HasNoneOf meanings column = AllByRecursion (λ entry. (i : ℕ) → entry.1 ≢ reaches i (suc column)) meanings
 
 -- Names that stand for a counter, all of variables that were made before, stand with those of a column more for the counter with it.
 abbrev pub CounterMeaningsGrow : Type 0
-CounterMeaningsGrow = (names : List (ℕ × Meaning)) (inputs : List NamedLiteral) (state : CounterState) (first : ℕ) → HasEachOnce names → AllByRecursion (λ entry. entry.0 < first) names →
-    HasNoneOf names (length state.columns) → IsNamedBy names inputs state →
-    HasEachOnce (names ++ next_meanings state first) × IsNamedBy (names ++ next_meanings state first) inputs (with_column state first)
+CounterMeaningsGrow = (meanings : List (ℕ × Meaning)) (inputs : List NamedLiteral) (state : CounterState) (first : ℕ) → HasEachOnce meanings → AllByRecursion (λ entry. entry.0 < first) meanings →
+    HasNoneOf meanings (length state.columns) → IsNamedBy meanings inputs state →
+    HasEachOnce (meanings ++ next_meanings state first) × IsNamedBy (meanings ++ next_meanings state first) inputs (with_column state first)

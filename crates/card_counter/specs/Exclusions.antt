@@ -12,7 +12,7 @@ pub data ExclusionClause : Type 0 where
   goes_on : (i : ℕ) → ExclusionClause
   shuts_out : (i : ℕ) → (x : Meaning) → ExclusionClause
 
--- The name `some_of_first family k` says that one of the first k inputs is true, for k from 1.
+-- The meaning `some_of_first family k` says that one of the first k inputs is true, for k from 1.
 abbrev pub exclusion_clause : Exclusion → ExclusionClause → List NamedLiteral
 exclusion_clause family (two i j x y) = no x ∷ no y ∷ []
 exclusion_clause family (opens i x) = no x ∷ yes (some_of_first family (suc i)) ∷ []
@@ -32,7 +32,7 @@ IsNamedExclusion family inputs named = (which : ExclusionClause) × IsExclusionC
 
 -- ---- the same one after another, as loops write them
 
--- the name of input i, counted from 0; where there is none, a name that stands in its place
+-- the meaning of input i, counted from 0; where there is none, a meaning that stands in its place
 abbrev pub input_meaning : List Meaning → ℕ → Meaning
 input_meaning inputs i = slice_index_or inputs i asked
 
@@ -63,7 +63,7 @@ ExclusionsAreListed = (inputs : List Meaning) → AreListed inputs
 
 -- ---- what it says
 
--- no two of the names, at different places, are true
+-- no two of the meanings, at different places, are true
 abbrev pub AtMostOneOf : (Meaning → Bool) → List Meaning → Type 0
 AtMostOneOf value inputs = (i j : ℕ) (x y : Meaning) → i < j → slice_get inputs i ≡ Some x → slice_get inputs j ≡ Some y → value x ≡ true → value y ≡ true → ⊥
 
@@ -71,7 +71,7 @@ AtMostOneOf value inputs = (i j : ℕ) (x y : Meaning) → i < j → slice_get i
 abbrev pub ExclusionsHold : (Meaning → Bool) → Exclusion → List Meaning → Type 0
 ExclusionsHold value family inputs = (which : ExclusionClause) → IsExclusionClause inputs which → IsTrue (named_clause_true value (exclusion_clause family which))
 
--- the name stands for a variable of the chain of an "at most one"
+-- the meaning stands for a variable of the chain of an "at most one"
 abbrev pub is_chain : Meaning → Bool
 is_chain (in_state c q t) = false
 is_chain (happens e t) = false
@@ -84,7 +84,7 @@ is_chain (dropped i) = false
 is_chain (reaches i j) = false
 is_chain (some_of_first family i) = true
 
--- the truth of names where the chain of each family that has inputs here says what it is for
+-- the truth of meanings where the chain of each family that has inputs here says what it is for
 abbrev pub with_chains : (Exclusion → Option (List Meaning)) → (Meaning → Bool) → Meaning → Bool
 with_chains inputs value (in_state c q t) = value (in_state c q t)
 with_chains inputs value (happens e t) = value (happens e t)
@@ -101,12 +101,12 @@ with_chains inputs value (some_of_first family k) = unwrap_or (option_map (λ xs
 abbrev pub ExclusionIsSound : Type 0
 ExclusionIsSound = (value : Meaning → Bool) (family : Exclusion) (inputs : List Meaning) → ExclusionsHold value family inputs → AtMostOneOf value inputs
 
--- Where at most one input is true, and none is itself a name of a chain, the chains can be chosen, for all families that have inputs here at once, so that the clauses are true and no other name changes.
+-- Where at most one input is true, and none is itself a meaning of a chain, the chains can be chosen, for all families that have inputs here at once, so that the clauses are true and no other meaning changes.
 pub record ChainsComplete (inputs : Exclusion → Option (List Meaning)) (value : Meaning → Bool) : Type 0 where
   pub others : (meaning : Meaning) → is_chain meaning ≡ false → with_chains inputs value meaning ≡ value meaning
   pub kept : (family : Exclusion) (k : ℕ) → inputs family ≡ None → with_chains inputs value (some_of_first family k) ≡ value (some_of_first family k)
   pub hold : (family : Exclusion) (xs : List Meaning) → inputs family ≡ Some xs → ((x : Meaning) → Contains xs x → is_chain x ≡ false) → AtMostOneOf value xs → ExclusionsHold (with_chains inputs value) family xs
 
--- So it is of whatever inputs of the families, by each truth of names.
+-- So it is of whatever inputs of the families, by each truth of meanings.
 abbrev pub ExclusionIsComplete : Type 0
 ExclusionIsComplete = (inputs : Exclusion → Option (List Meaning)) (value : Meaning → Bool) → ChainsComplete inputs value

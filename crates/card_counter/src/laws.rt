@@ -8,7 +8,7 @@ pub fn exclusion_is_exact()
     ensures { ExclusionIsExact }
 {}
 
-/// A law: by name, the clauses of an "at most one" are those of the names that its inputs read as.
+/// A law: by name, the clauses of an "at most one" are those of the meanings that its inputs read as.
 pub fn exclusion_is_code()
     ensures { ExclusionIsCode }
 {}
@@ -28,7 +28,7 @@ pub fn exclusion_is_sound()
     ensures { ExclusionIsSound }
 {}
 
-/// A law: where at most one input of each is true, the names of all chains can be chosen so that the clauses are true.
+/// A law: where at most one input of each is true, the meanings of all chains can be chosen so that the clauses are true.
 pub fn exclusion_is_complete()
     ensures { ExclusionIsComplete }
 {}
@@ -64,12 +64,12 @@ pub fn column_is_code()
     ensures { ColumnIsCode }
 {}
 
-/// A law: a counter's variables have their names, each once.
+/// A law: a counter's variables have their meanings, each once.
 pub fn counter_meanings_stand()
     ensures { CounterMeaningsStand }
 {}
 
-/// A law: a column more has its names behind those of the others.
+/// A law: a column more has its meanings behind those of the others.
 pub fn columns_add_meanings()
     ensures { ColumnsAddMeanings }
 {}
@@ -79,7 +79,7 @@ pub fn named_columns_grow()
     ensures { NamedColumnsGrow }
 {}
 
-/// A law: names that stand for a counter stand, with those of a column more, for the counter with it.
+/// A law: meanings that stand for a counter stand, with those of a column more, for the counter with it.
 pub fn counter_meanings_grow()
     ensures { CounterMeaningsGrow }
 {}

@@ -8,7 +8,7 @@
 //!   anything again.
 //!
 //! Both are exact: by a change of new variables alone the clauses can be made true exactly where so few inputs are. Clauses
-//! of both are known as well by the names of their variables, whichever variables those are.
+//! of both are known as well by the meanings of their variables, whichever variables those are.
 #![tactic(auto)]
 
 mod counter;

@@ -8,14 +8,14 @@ use Rattle.prop_core.specs.VariableNames.{Meaning}
 use Rattle.prop_core.specs.declared.lit.Lit.{Lit}
 use Rattle.run_decode.specs.Drawn.{IsNamedClause}
 
--- A name of a question, or of a place of the counter of weights. Place (i, j), both from 0, is for that the first i + 1 inputs weigh more than j.
+-- A meaning of a question, or of a place of the counter of weights. Place (i, j), both from 0, is for that the first i + 1 inputs weigh more than j.
 pub data CostMeaning : Type 0 where
   of_question : Meaning → CostMeaning
   weighs : (i j : ℕ) → CostMeaning
 
 -- ---- the counter
 
--- Which clause of a counter it is, over inputs that have names.
+-- Which clause of a counter it is, over inputs that have meanings.
 pub data NamedWeighing : Type 0 where
   -- what the first inputs weigh, those with one more do
   keeps_weight : (i j : ℕ) → NamedWeighing
@@ -56,7 +56,7 @@ limit_literals inputs (Some b) = weighs_at_most inputs b
 abbrev pub cost_literals : Net → Log → ℕ → Option ℕ → List (LiteralOf CostMeaning)
 cost_literals net log inputs bound = map (lifted of_question) (guard_literals net log) ++ limit_literals inputs bound
 
--- By such names no clause is the literal of a place alone, as one that states a bound on the total would be.
+-- By such meanings no clause is the literal of a place alone, as one that states a bound on the total would be.
 abbrev pub BoundsAreNotStated : Type 0
-BoundsAreNotStated = (net : Net) (log : Log) (n : ℕ) (inputs : List (Meaning × ℕ)) (amounts : ℕ) (names : List (ℕ × CostMeaning)) (l : Lit) (named : List (LiteralOf CostMeaning)) (i j : ℕ) →
-    AreOnce names → IsCostClause net log n inputs amounts named → ReadsBy names (l ∷ []) named → Contains names (l.var, weighs i j) → ⊥
+BoundsAreNotStated = (net : Net) (log : Log) (n : ℕ) (inputs : List (Meaning × ℕ)) (amounts : ℕ) (meanings : List (ℕ × CostMeaning)) (l : Lit) (named : List (LiteralOf CostMeaning)) (i j : ℕ) →
+    AreOnce meanings → IsCostClause net log n inputs amounts named → ReadsBy meanings (l ∷ []) named → Contains meanings (l.var, weighs i j) → ⊥

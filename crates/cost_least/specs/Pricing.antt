@@ -32,40 +32,40 @@ ExplainsAt net cost log n (Some b) word order = Explains net log n word order ×
 
 -- ---- the inputs
 
--- the names of the counter's inputs, each with what it weighs: that a fault event happens in a step, its cost, and that a doubtful alarm is false, 1
+-- the meanings of the counter's inputs, each with what it weighs: that a fault event happens in a step, its cost, and that a doubtful alarm is false, 1
 abbrev pub named_weights : Net → (ℕ → ℕ) → Log → ℕ → List (Meaning × ℕ)
 named_weights net cost log n = flat_map (λ e. map (λ t. (happens e (suc t), cost e)) (numbers_below n)) (fault_events net) ++ map (λ i. (dropped i, 1)) (doubtful_alarms log)
 
--- what a name weighs: where it is true, its weight
+-- what a meaning weighs: where it is true, its weight
 abbrev pub weight_by : (Meaning → Bool) → Meaning × ℕ → ℕ
 weight_by value x = if value x.0 then x.1 else 0
 
--- what the true names weigh together
+-- what the true meanings weigh together
 abbrev pub weight_named : (Meaning → Bool) → List (Meaning × ℕ) → ℕ
 weight_named value named = sum_by (weight_by value) named
 
--- The events of the steps, each step in whatever order, with an order of alarms cost what the true names weigh.
+-- The events of the steps, each step in whatever order, with an order of alarms cost what the true meanings weigh.
 abbrev pub CostsAreWeights : Type 0
 CostsAreWeights = (net : Net) (cost : ℕ → ℕ) (log : Log) (n : ℕ) (value : Meaning → Bool) (pieces : List (List ℕ)) (order : List Entry) → AreSteps net n value pieces → HasFalse log value order →
     total net cost (joined pieces) order ≡ weight_named value (named_weights net cost log n)
 
--- the input is the variable of this name, with this weight
-pub record IsInput (names : List (ℕ × Meaning)) (x : Weighted) (named : Meaning × ℕ) : Type 0 where
+-- the input is the variable of this meaning, with this weight
+pub record IsInput (meanings : List (ℕ × Meaning)) (x : Weighted) (named : Meaning × ℕ) : Type 0 where
   pub positive : x.input.positive ≡ true
-  pub called : meaning_of names x.input.var ≡ Some named.0
+  pub called : meaning_of meanings x.input.var ≡ Some named.0
   pub weight : x.weight ≡ named.1
 
 -- ---- the question
 
--- Clauses of a question without a bound, and clauses that weigh its inputs on variables that have no name in it, in whatever order.
-pub record AsksCosts (net : Net) (cost : ℕ → ℕ) (log : Log) (n : ℕ) (names : List (ℕ × Meaning)) (scale : Scale) (whole : List Clause) (assumed : List Lit) : Type 0 where
+-- Clauses of a question without a bound, and clauses that weigh its inputs on variables that have no meaning in it, in whatever order.
+pub record AsksCosts (net : Net) (cost : ℕ → ℕ) (log : Log) (n : ℕ) (meanings : List (ℕ × Meaning)) (scale : Scale) (whole : List Clause) (assumed : List Lit) : Type 0 where
   pub clauses : List Clause
-  pub asks : Asks net log n None names clauses assumed
+  pub asks : Asks net log n None meanings clauses assumed
   pub inputs : List Weighted
-  pub input_names : AllZip (IsInput names) inputs (named_weights net cost log n)
+  pub input_names : AllZip (IsInput meanings) inputs (named_weights net cost log n)
   pub counted : scale.inputs ≡ length inputs
   pub amounts : scale.amounts ≡ 1 + MOST_COST
-  pub nameless : (var : ℕ) → scale.first ≤ var → meaning_of names var ≡ None
+  pub nameless : (var : ℕ) → scale.first ≤ var → meaning_of meanings var ≡ None
   pub weighing : List Clause
   pub weights : AreWeightClauses (place_variable scale) inputs scale.amounts weighing
   pub both : AreBoth whole clauses weighing
@@ -75,7 +75,7 @@ abbrev pub cost_limit : Scale → Option ℕ → List Lit
 cost_limit scale None = []
 cost_limit scale (Some b) = negative (place_variable scale (scale.inputs - 1) b) ∷ []
 
--- Clauses and assumptions pose the question what explains the log with a total of at most the bound: they tell it, and by some names each clause is one of a question or of the counter that weighs its faults by what they cost, and what is assumed are, as a set, the guards and that the faults weigh no more than the bound.
+-- Clauses and assumptions pose the question what explains the log with a total of at most the bound: they tell it, and by some meanings each clause is one of a question or of the counter that weighs its faults by what they cost, and what is assumed are, as a set, the guards and that the faults weigh no more than the bound.
 pub record PosesCosts (net : Net) (cost : ℕ → ℕ) (log : Log) (n : ℕ) (bound : Option ℕ) (clauses : List Clause) (assumed : List Lit) : Type 0 where
   pub tells : Tells clauses assumed (ExplainsAt net cost log n bound)
   pub names : List (ℕ × CostMeaning)
@@ -88,5 +88,5 @@ pub record TellsCosts (net : Net) (cost : ℕ → ℕ) (log : Log) (n : ℕ) (sc
 
 -- A question with a counter of costs asks this.
 abbrev pub CostsAreTold : Type 0
-CostsAreTold = (net : Net) (cost : ℕ → ℕ) (log : Log) (n : ℕ) (names : List (ℕ × Meaning)) (scale : Scale) (whole : List Clause) (assumed : List Lit) →
-    IsNetwork net → IsValidLog log → AsksCosts net cost log n names scale whole assumed → TellsCosts net cost log n scale whole assumed
+CostsAreTold = (net : Net) (cost : ℕ → ℕ) (log : Log) (n : ℕ) (meanings : List (ℕ × Meaning)) (scale : Scale) (whole : List Clause) (assumed : List Lit) →
+    IsNetwork net → IsValidLog log → AsksCosts net cost log n meanings scale whole assumed → TellsCosts net cost log n scale whole assumed

@@ -19,7 +19,7 @@ pub struct CostQuestion<'a> {
     pub alloc: Global,
 }
 
-// The guards of the log, in their order, are literals of its names, as the reader of its code tells.
+// The guards of the log, in their order, are literals of its meanings, as the reader of its code tells.
 pub fn has_guards(code: &LogCode)
     ensures { ReadsAs (read_meanings code.now.coded) (log_guards code.now.coded) (guard_literals code.now.coded.net code.now.coded.log) }
 {

@@ -23,9 +23,9 @@ abbrev pub asked_for : Net → Log → ℕ → ℕ → ℕ → Question → Prop
 asked_for net log n k e without word order = ExplainsWithin net log n (Some k) word order × (Contains word e → ⊥)
 asked_for net log n k e (with_event literal) word order = ExplainsWithin net log n (Some k) word order × Contains word e
 
--- ---- names
+-- ---- meanings
 
--- A name of a question, or that the event happens in some step: for each literal that was made for this, which the number tells from others.
+-- A meaning of a question, or that the event happens in some step: for each literal that was made for this, which the number tells from others.
 pub data VerdictMeaning : Type 0 where
   of_question : Meaning → VerdictMeaning
   occurs : (event literal : ℕ) → VerdictMeaning
@@ -55,7 +55,7 @@ assumed_of n e (with_event literal) = holds (occurs e literal) ∷ []
 abbrev pub verdict_literals : Net → Log → ℕ → ℕ → ℕ → Question → List (LiteralOf VerdictMeaning)
 verdict_literals net log n k e question = map in_question (assumption_literals net log n (Some k)) ++ assumed_of n e question
 
--- Clauses and assumptions ask this: they tell it, and by some names each clause is one of a question or gives a fault event in some step, and what is assumed are, as a set, the guards, the bound and what is assumed of the event.
+-- Clauses and assumptions ask this: they tell it, and by some meanings each clause is one of a question or gives a fault event in some step, and what is assumed are, as a set, the guards, the bound and what is assumed of the event.
 pub record IsPosedOf (clauses : List Clause) (assumed : List Lit) (net : Net) (log : Log) (n k e : ℕ) (question : Question) : Type 0 where
   pub tells : Tells clauses assumed (asked_for net log n k e question)
   pub names : List (ℕ × VerdictMeaning)
@@ -75,7 +75,7 @@ some_step_clauses grid made = map (some_step_clause grid) made
 abbrev pub no_step_literals : Grid → ℕ → List Lit
 no_step_literals grid e = map negation (event_literals grid e)
 
--- the names of variables that were made for events
+-- the meanings of variables that were made for events
 abbrev pub made_meanings : List (ℕ × ℕ) → List (ℕ × VerdictMeaning)
 made_meanings made = map (λ entry. (entry.0, occurs entry.1 entry.0)) made
 

@@ -14,23 +14,23 @@ use Rattle.prop_core.specs.VariableNames.{Meaning, happens, meaning_of}
 use Rattle.run_decode.specs.Question.{Asks}
 use Rattle.run_decode.specs.Tells.{AreBoth}
 
--- by these names the grid's variables are those of the events in n steps
+-- by these meanings the grid's variables are those of the events in n steps
 abbrev pub IsEventGrid : List (ℕ × Meaning) → Net → ℕ → Grid → Type 0
-IsEventGrid names net n grid = (grid.steps ≡ n) × ((e t : ℕ) → e < length net.events → t < n → meaning_of names (grid_variable grid e (suc t)) ≡ Some (happens e (suc t)))
+IsEventGrid meanings net n grid = (grid.steps ≡ n) × ((e t : ℕ) → e < length net.events → t < n → meaning_of meanings (grid_variable grid e (suc t)) ≡ Some (happens e (suc t)))
 
 -- The variables that were made, each for a fault event: none stands twice, and none is of the question.
-pub record AreMade (names : List (ℕ × Meaning)) (net : Net) (made : List (ℕ × ℕ)) : Type 0 where
+pub record AreMade (meanings : List (ℕ × Meaning)) (net : Net) (made : List (ℕ × ℕ)) : Type 0 where
   pub once : EachPair (λ a b. a.0 ≢ b.0) made
-  pub new : AllByRecursion (λ entry. meaning_of names entry.0 ≡ None) made
+  pub new : AllByRecursion (λ entry. meaning_of meanings entry.0 ≡ None) made
   pub events : AllByRecursion (λ entry. entry.1 < length net.events) made
   pub faults : AllByRecursion (λ entry. is_fault net entry.1 ≡ true) made
 
 -- The clauses that ask within k faults, and those of the variables that were made, in whatever order.
-pub record AsksBeside (net : Net) (log : Log) (n k : ℕ) (names : List (ℕ × Meaning)) (grid : Grid) (made : List (ℕ × ℕ)) (whole : List Clause) (assumed : List Lit) : Type 0 where
+pub record AsksBeside (net : Net) (log : Log) (n k : ℕ) (meanings : List (ℕ × Meaning)) (grid : Grid) (made : List (ℕ × ℕ)) (whole : List Clause) (assumed : List Lit) : Type 0 where
   pub clauses : List Clause
-  pub asks : Asks net log n (Some k) names clauses assumed
-  pub gridded : IsEventGrid names net n grid
-  pub made_new : AreMade names net made
+  pub asks : Asks net log n (Some k) meanings clauses assumed
+  pub gridded : IsEventGrid meanings net n grid
+  pub made_new : AreMade meanings net made
   pub both : AreBoth whole clauses (some_step_clauses grid made)
 
 -- They ask what explains without an event, and with it, by the assumptions for it.
@@ -40,5 +40,5 @@ pub record PosesEvents (net : Net) (log : Log) (n k : ℕ) (grid : Grid) (made :
 
 -- So it is over each network and valid log.
 abbrev pub EventsArePosed : Type 0
-EventsArePosed = (net : Net) (log : Log) (n k : ℕ) (names : List (ℕ × Meaning)) (grid : Grid) (made : List (ℕ × ℕ)) (whole : List Clause) (assumed : List Lit) →
-    IsNetwork net → IsValidLog log → AsksBeside net log n k names grid made whole assumed → PosesEvents net log n k grid made whole assumed
+EventsArePosed = (net : Net) (log : Log) (n k : ℕ) (meanings : List (ℕ × Meaning)) (grid : Grid) (made : List (ℕ × ℕ)) (whole : List Clause) (assumed : List Lit) →
+    IsNetwork net → IsValidLog log → AsksBeside net log n k meanings grid made whole assumed → PosesEvents net log n k grid made whole assumed

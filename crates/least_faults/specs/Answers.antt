@@ -33,39 +33,39 @@ pub record IsExplanation (net : Net) (log : Log) (n : ℕ) (best : Best) : Type 
 -- ---- the answers, with what the entries since the question was opened show, where it was built so first
 
 -- no explanation has fewer faults, which the book shows
-pub record IsLeastFound (names : List (ℕ × Meaning)) (first : BuiltQuestion) (since : List BookEntry) (net : Net) (log : Log) (n : ℕ) (best : Best) : Type 0 where
+pub record IsLeastFound (meanings : List (ℕ × Meaning)) (first : BuiltQuestion) (since : List BookEntry) (net : Net) (log : Log) (n : ℕ) (best : Best) : Type 0 where
   pub given : IsExplanation net log n best
   pub few : best.faults ≤ 255
   pub least : IsLeast net log n best.faults
-  pub evidence : (b : ℕ) → best.faults ≡ suc b → IsEvidence names first since net log n (Some b)
+  pub evidence : (b : ℕ) → best.faults ≡ suc b → IsEvidence meanings first since net log n (Some b)
 
 -- nothing explains the log
-pub record IsAbsentFound (names : List (ℕ × Meaning)) (first : BuiltQuestion) (since : List BookEntry) (net : Net) (log : Log) (n : ℕ) : Type 0 where
+pub record IsAbsentFound (meanings : List (ℕ × Meaning)) (first : BuiltQuestion) (since : List BookEntry) (net : Net) (log : Log) (n : ℕ) : Type 0 where
   pub absent : IsAbsent net log n
-  pub evidence : IsEvidence names first since net log n None
+  pub evidence : IsEvidence meanings first since net log n None
 
 -- all that explains the log has more than 255 faults
-pub record IsManyFound (names : List (ℕ × Meaning)) (first : BuiltQuestion) (since : List BookEntry) (net : Net) (log : Log) (n : ℕ) (best : Best) : Type 0 where
+pub record IsManyFound (meanings : List (ℕ × Meaning)) (first : BuiltQuestion) (since : List BookEntry) (net : Net) (log : Log) (n : ℕ) (best : Best) : Type 0 where
   pub given : IsExplanation net log n best
   pub above : 255 < best.faults
   pub many : IsMany net log n
-  pub evidence : IsEvidence names first since net log n (Some 255)
+  pub evidence : IsEvidence meanings first since net log n (Some 255)
 
 -- The budget was spent on learnt entries. All explanations have at least lo faults, and lo is one more than the greatest bound that a final entry refutes, or 0; an explanation that is known has more. Where none is known, nothing but learnt entries was put.
-pub record IsUndecidedFound (names : List (ℕ × Meaning)) (first : BuiltQuestion) (since : List BookEntry) (net : Net) (log : Log) (n budget lo : ℕ) (best : Option Best) : Type 0 where
+pub record IsUndecidedFound (meanings : List (ℕ × Meaning)) (first : BuiltQuestion) (since : List BookEntry) (net : Net) (log : Log) (n budget lo : ℕ) (best : Option Best) : Type 0 where
   pub spent : count_by is_learnt since ≡ budget
   pub above : NeedsFaults net log n lo
-  pub evidence : (b : ℕ) → lo ≡ suc b → IsEvidence names first since net log n (Some b)
-  pub greatest : (b : ℕ) (assumed : List Lit) → ReadsAs names assumed (assumption_literals net log n (Some b)) → HasFinal since assumed → b < lo
+  pub evidence : (b : ℕ) → lo ≡ suc b → IsEvidence meanings first since net log n (Some b)
+  pub greatest : (b : ℕ) (assumed : List Lit) → ReadsAs meanings assumed (assumption_literals net log n (Some b)) → HasFinal since assumed → b < lo
   pub given : IfSome best (λ run. IsExplanation net log n run × (lo < run.faults))
   pub unknown : IfNone best ((lo ≡ 0) × (list_all is_learnt since ≡ true))
 
 -- what it means that this was found, and what the entries since the question was opened show of it
 abbrev pub IsFound : List (ℕ × Meaning) → BuiltQuestion → List BookEntry → Net → Log → ℕ → ℕ → Found → Type 0
-IsFound names first since net log n budget (Explained best) = IsLeastFound names first since net log n best
-IsFound names first since net log n budget Absent = IsAbsentFound names first since net log n
-IsFound names first since net log n budget (Many best) = IsManyFound names first since net log n best
-IsFound names first since net log n budget (Undecided lo best) = IsUndecidedFound names first since net log n budget lo best
+IsFound meanings first since net log n budget (Explained best) = IsLeastFound meanings first since net log n best
+IsFound meanings first since net log n budget Absent = IsAbsentFound meanings first since net log n
+IsFound meanings first since net log n budget (Many best) = IsManyFound meanings first since net log n best
+IsFound meanings first since net log n budget (Undecided lo best) = IsUndecidedFound meanings first since net log n budget lo best
 
 -- ---- what the budget was spent on
 
@@ -73,10 +73,10 @@ IsFound names first since net log n budget (Undecided lo best) = IsUndecidedFoun
 abbrev pub HaveLearntFresh : List BookEntry → List BookEntry → Type 0
 HaveLearntFresh earlier since = AreFresh earlier since (count_by is_learnt since)
 
--- By these names the axioms of the book pose the question within the bound, with some assumptions for which there is a further conflict.
-pub record HasConflict (names : List (ℕ × Meaning)) (book : List BookEntry) (net : Net) (log : Log) (n : ℕ) (bound : Option ℕ) : Type 0 where
+-- By these meanings the axioms of the book pose the question within the bound, with some assumptions for which there is a further conflict.
+pub record HasConflict (meanings : List (ℕ × Meaning)) (book : List BookEntry) (net : Net) (log : Log) (n : ℕ) (bound : Option ℕ) : Type 0 where
   pub assumed : List Lit
-  pub posed : IsPosed names (axioms_of book) assumed net log n bound
+  pub posed : IsPosed meanings (axioms_of book) assumed net log n bound
   pub clashes : Clashes (clauses_of book) assumed
 
 -- what was asked last: without a bound where no run is known, else within lo
@@ -86,21 +86,21 @@ asked_last lo (Some run) = Some lo
 
 -- Where it is undecided, it is so at a further conflict.
 abbrev pub HasConflictFor : List (ℕ × Meaning) → List BookEntry → Net → Log → ℕ → Found → Type 0
-HasConflictFor names book net log n (Explained best) = ⊤
-HasConflictFor names book net log n Absent = ⊤
-HasConflictFor names book net log n (Many best) = ⊤
-HasConflictFor names book net log n (Undecided lo best) = HasConflict names book net log n (asked_last lo best)
+HasConflictFor meanings book net log n (Explained best) = ⊤
+HasConflictFor meanings book net log n Absent = ⊤
+HasConflictFor meanings book net log n (Many best) = ⊤
+HasConflictFor meanings book net log n (Undecided lo best) = HasConflict meanings book net log n (asked_last lo best)
 
--- The axioms of the book were those of the question as it was built first. The question was opened by a mark 0 and closed by a mark 1, and the entries between show what was found. At most as many clauses as the budget says were learnt, each of them fresh, and each final one has no literals but negations of assumptions. The axioms of the whole book pose the question without a bound, by these names and under some assumptions; the names are no more than network, log and n allow.
-pub record IsAnswered (names : List (ℕ × Meaning)) (first : BuiltQuestion) (net : Net) (log : Log) (n budget : ℕ) (old new : List BookEntry) (answer : Found) : Type 0 where
+-- The axioms of the book were those of the question as it was built first. The question was opened by a mark 0 and closed by a mark 1, and the entries between show what was found. At most as many clauses as the budget says were learnt, each of them fresh, and each final one has no literals but negations of assumptions. The axioms of the whole book pose the question without a bound, by these meanings and under some assumptions; the meanings are no more than network, log and n allow.
+pub record IsAnswered (meanings : List (ℕ × Meaning)) (first : BuiltQuestion) (net : Net) (log : Log) (n budget : ℕ) (old new : List BookEntry) (answer : Found) : Type 0 where
   pub begun : first.axioms ≡ axioms_of old
   pub since : List BookEntry
   pub whole : new ≡ old ++ mark 0 ∷ since ++ mark 1 ∷ []
   pub unmarked : (number : ℕ) → count_by (is_mark number) since ≡ 0
   pub within : count_by is_learnt since ≤ budget
   pub fresh : HaveLearntFresh (old ++ mark 0 ∷ []) since
-  pub finals : FinalsNegate names since net log n
-  pub few : length names ≤ variable_bound net log n
-  pub asks : (assumed : List Lit) × IsPosed names (axioms_of new) assumed net log n None
-  pub found : IsFound names first since net log n budget answer
-  pub conflict : HasConflictFor names new net log n answer
+  pub finals : FinalsNegate meanings since net log n
+  pub few : length meanings ≤ variable_bound net log n
+  pub asks : (assumed : List Lit) × IsPosed meanings (axioms_of new) assumed net log n None
+  pub found : IsFound meanings first since net log n budget answer
+  pub conflict : HasConflictFor meanings new net log n answer

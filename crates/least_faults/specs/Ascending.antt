@@ -44,12 +44,12 @@ abbrev pub HasComeTo : {R : Type 0} → Parts R → BuiltQuestion → Net → Lo
 HasComeTo parts first net log k old new budget_old budget_new = HasComeToBy parts.code.coded parts.counter first net log parts.step.steps k old new budget_old budget_new
 
 -- The entries that were put show what was found, and no more clauses were learnt than the budget says, each of them fresh. No other clause was derived but final ones, of negated assumptions alone.
-pub record HasFound (names : List (ℕ × Meaning)) (first : BuiltQuestion) (net : Net) (log : Log) (n budget : ℕ) (old new : List BookEntry) (answer : Found) : Type 0 where
+pub record HasFound (meanings : List (ℕ × Meaning)) (first : BuiltQuestion) (net : Net) (log : Log) (n budget : ℕ) (old new : List BookEntry) (answer : Found) : Type 0 where
   pub since : List BookEntry
   pub whole : new ≡ old ++ since
   pub unmarked : (number : ℕ) → count_by (is_mark number) since ≡ 0
   pub within : count_by is_learnt since ≤ budget
   pub fresh : HaveLearntFresh old since
-  pub finals : FinalsNegate names since net log n
-  pub found : IsFound names first since net log n budget answer
-  pub conflict : HasConflictFor names new net log n answer
+  pub finals : FinalsNegate meanings since net log n
+  pub found : IsFound meanings first since net log n budget answer
+  pub conflict : HasConflictFor meanings new net log n answer

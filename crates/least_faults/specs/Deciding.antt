@@ -12,4 +12,4 @@ use Rattle.run_decode.specs.QuestionAxioms.{BuiltQuestion}
 
 -- Where it is undecided, the budget is below 3 to the bound on the question's variables.
 abbrev pub UndecidedIsSmall : Type 0
-UndecidedIsSmall = (names : List (ℕ × Meaning)) (first : BuiltQuestion) (net : Net) (log : Log) (n budget lo : ℕ) (best : Option Best) (old new : List BookEntry) → IsAnswered names first net log n budget old new (Undecided lo best) → budget < 3 ^ variable_bound net log n
+UndecidedIsSmall = (meanings : List (ℕ × Meaning)) (first : BuiltQuestion) (net : Net) (log : Log) (n budget lo : ℕ) (best : Option Best) (old new : List BookEntry) → IsAnswered meanings first net log n budget old new (Undecided lo best) → budget < 3 ^ variable_bound net log n

@@ -12,12 +12,12 @@ use Rattle.run_decode.specs.Drawn.{IsInstance, assumption_literals}
 use Rattle.run_decode.specs.Faithful.{IsFaithful}
 use Rattle.run_decode.specs.QuestionAxioms.{BuiltQuestion}
 
--- By these names clauses and assumptions ask which explanations there are within the bound: they are faithful, each clause is of a family, and what is assumed are, as a set, the guards and the bound.
-pub record IsPosed (names : List (ℕ × Meaning)) (clauses : List Clause) (assumed : List Lit) (net : Net) (log : Log) (n : ℕ) (bound : Option ℕ) : Type 0 where
+-- By these meanings clauses and assumptions ask which explanations there are within the bound: they are faithful, each clause is of a family, and what is assumed are, as a set, the guards and the bound.
+pub record IsPosed (meanings : List (ℕ × Meaning)) (clauses : List Clause) (assumed : List Lit) (net : Net) (log : Log) (n : ℕ) (bound : Option ℕ) : Type 0 where
   pub faithful : IsFaithful clauses assumed net log n bound
-  pub once : HasEachOnce names
-  pub instances : AllByRecursion (IsInstance net log n names) clauses
-  pub assumes : ReadsAs names assumed (assumption_literals net log n bound)
+  pub once : HasEachOnce meanings
+  pub instances : AllByRecursion (IsInstance net log n meanings) clauses
+  pub assumes : ReadsAs meanings assumed (assumption_literals net log n bound)
 
 -- the entry is a final clause, as a refuted question leaves it
 abbrev pub is_final : BookEntry → Bool
@@ -33,16 +33,16 @@ pub record HasFinal (entries : List BookEntry) (assumed : List Lit) : Type 0 whe
   pub there : Contains entries (final clause hints)
   pub negates : NegatesOnly assumed clause
 
--- the clause has no literals but negations of what is assumed by these names: of the guards, and of some bound
-pub record NegatesAssumed (names : List (ℕ × Meaning)) (net : Net) (log : Log) (n : ℕ) (clause : Clause) : Type 0 where
+-- the clause has no literals but negations of what is assumed by these meanings: of the guards, and of some bound
+pub record NegatesAssumed (meanings : List (ℕ × Meaning)) (net : Net) (log : Log) (n : ℕ) (clause : Clause) : Type 0 where
   pub bound : Option ℕ
   pub assumed : List Lit
-  pub assumes : ReadsAs names assumed (assumption_literals net log n bound)
+  pub assumes : ReadsAs meanings assumed (assumption_literals net log n bound)
   pub negates : NegatesOnly assumed clause
 
 -- so it is with each final entry
 abbrev pub FinalsNegate : List (ℕ × Meaning) → List BookEntry → Net → Log → ℕ → Type 0
-FinalsNegate names entries net log n = (clause : Clause) (hints : List ℕ) → Contains entries (final clause hints) → NegatesAssumed names net log n clause
+FinalsNegate meanings entries net log n = (clause : Clause) (hints : List ℕ) → Contains entries (final clause hints) → NegatesAssumed meanings net log n clause
 
 -- the last final entry has no literals but negations of assumptions
 pub record HasLastFinal (entries : List BookEntry) (assumed : List Lit) : Type 0 where
@@ -64,11 +64,11 @@ pub record IsRefutation (first : BuiltQuestion) (entries : List BookEntry) (net 
 
 -- The last of these final entries refutes the question within the bound. The axioms before it pose that question: those that the book had first, and those of these entries. So do all.
 -- As a list they are those of the question that was built first, with the columns that the bound needs, and what is assumed and all clauses up to that one are over the variables of that question.
-pub record IsEvidence (names : List (ℕ × Meaning)) (first : BuiltQuestion) (entries : List BookEntry) (net : Net) (log : Log) (n : ℕ) (bound : Option ℕ) : Type 0 where
+pub record IsEvidence (meanings : List (ℕ × Meaning)) (first : BuiltQuestion) (entries : List BookEntry) (net : Net) (log : Log) (n : ℕ) (bound : Option ℕ) : Type 0 where
   pub assumed : List Lit
   pub refuted : HasLastFinal entries assumed
   pub listed : first.axioms ++ axioms_of refuted.earlier ≡ (built_within first bound).axioms
   pub known : AllByRecursion (HasValues (built_within first bound).vars) (first.axioms ++ clauses_of (refuted.earlier ++ final refuted.clause refuted.hints ∷ []))
   pub known_assumed : HasValues (built_within first bound).vars assumed
-  pub posed_before : IsPosed names (first.axioms ++ axioms_of refuted.earlier) assumed net log n bound
-  pub posed : IsPosed names (first.axioms ++ axioms_of entries) assumed net log n bound
+  pub posed_before : IsPosed meanings (first.axioms ++ axioms_of refuted.earlier) assumed net log n bound
+  pub posed : IsPosed meanings (first.axioms ++ axioms_of entries) assumed net log n bound

@@ -72,6 +72,6 @@ built_of parts book = record { steps = parts.step; code = parts.code.coded; coun
 pub record IsBuilt {R : Type 0} (net : Net) (log : Log) (n : ℕ) (parts : Parts R) (book : List BookEntry) : Type 0 where
   pub determined : built_of parts book ≡ question_built net log n (length parts.counter.columns)
 
--- the names of all variables
+-- the meanings of all variables
 abbrev pub meanings_of_parts : {R : Type 0} → Parts R → List (ℕ × Meaning)
 meanings_of_parts parts = whole_meanings parts.step parts.code.coded parts.counter

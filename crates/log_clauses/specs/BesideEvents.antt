@@ -16,30 +16,30 @@ use Rattle.prop_core.specs.VariableNames.{Meaning, happens, meaning_of, HasEachO
 use Rattle.prop_core.specs.declared.lit.Lit.{Lit}
 use Rattle.run_clauses.specs.LaidOut.{laid_out, event_block}
 
--- the events of n steps on variables in a row from the first on, event by event and step by step within each, and these names
+-- the events of n steps on variables in a row from the first on, event by event and step by step within each, and these meanings
 abbrev pub with_events : Net → ℕ → ℕ → List (ℕ × Meaning) → List (ℕ × Meaning)
-with_events net n first names = laid_out first (event_block n (length net.events)) ++ names
+with_events net n first meanings = laid_out first (event_block n (length net.events)) ++ meanings
 
 -- the variable comes after those of the events
 abbrev pub IsAfterEvents : Net → ℕ → ℕ → ℕ → Type 0
 IsAfterEvents net n first var = first + length net.events * n ≤ var
 
--- the names go together with those of the events, each once, and each keeps its variable
-pub record AreBesideEvents (net : Net) (n first : ℕ) (names : List (ℕ × Meaning)) : Type 0 where
-  pub once : HasEachOnce (with_events net n first names)
-  pub event : (e t : ℕ) → e < length net.events → t < n → meaning_of (with_events net n first names) (first + (e * n + t)) ≡ Some (happens e (suc t))
-  pub other : (var : ℕ) (meaning : Meaning) → meaning_of names var ≡ Some meaning → meaning_of (with_events net n first names) var ≡ Some meaning
+-- the meanings go together with those of the events, each once, and each keeps its variable
+pub record AreBesideEvents (net : Net) (n first : ℕ) (meanings : List (ℕ × Meaning)) : Type 0 where
+  pub once : HasEachOnce (with_events net n first meanings)
+  pub event : (e t : ℕ) → e < length net.events → t < n → meaning_of (with_events net n first meanings) (first + (e * n + t)) ≡ Some (happens e (suc t))
+  pub other : (var : ℕ) (meaning : Meaning) → meaning_of meanings var ≡ Some meaning → meaning_of (with_events net n first meanings) var ≡ Some meaning
 
--- So the names of a log do on later variables.
+-- So the meanings of a log do on later variables.
 abbrev pub MeaningsJoinEvents : Type 0
-MeaningsJoinEvents = (net : Net) (log : Log) (n first vars : ℕ) (names : List (ℕ × Meaning)) → AreLogMeanings net log n vars names →
-    AllByRecursion (λ entry. IsAfterEvents net n first entry.0) names → AreBesideEvents net n first names
+MeaningsJoinEvents = (net : Net) (log : Log) (n first vars : ℕ) (meanings : List (ℕ × Meaning)) → AreLogMeanings net log n vars meanings →
+    AllByRecursion (λ entry. IsAfterEvents net n first entry.0) meanings → AreBesideEvents net n first meanings
 
--- the names of a log on variables after those of the events and below a number, and its clauses by these names
-pub record HasLogCode (net : Net) (log : Log) (n first vars : ℕ) (names : List (ℕ × Meaning)) (written : List Clause) : Type 0 where
-  pub named : AreLogMeanings net log n vars names
-  pub after : AllByRecursion (λ entry. IsAfterEvents net n first entry.0) names
-  pub code : IsCode (with_events net n first names) (IsNamedLog net log n) written
+-- the meanings of a log on variables after those of the events and below a number, and its clauses by these meanings
+pub record HasLogCode (net : Net) (log : Log) (n first vars : ℕ) (meanings : List (ℕ × Meaning)) (written : List Clause) : Type 0 where
+  pub named : AreLogMeanings net log n vars meanings
+  pub after : AllByRecursion (λ entry. IsAfterEvents net n first entry.0) meanings
+  pub code : IsCode (with_events net n first meanings) (IsNamedLog net log n) written
 
 -- Its first clauses on the next variables are the code of the empty log,
 abbrev pub LogCodeBegins : Type 0
@@ -49,12 +49,12 @@ LogCodeBegins = (net : Net) (n first vars : ℕ) (written : List Clause) → IsA
 
 -- a draft on later variables makes it the code of the log with the addition,
 abbrev pub LogCodeGrows : Type 0
-LogCodeGrows = (net : Net) (log : Log) (n first vars next : ℕ) (addition : Addition) (names : List (ℕ × Meaning)) (written drafted : List Clause) →
-    HasLogCode net log n first vars names written → vars ≤ next →
-    IsListed (with_events net n first (with_added net log n addition names next)) (added_list net log n addition) drafted →
-    HasLogCode net (with_addition log addition) n first (next + length (added_meanings net log n addition)) (with_added net log n addition names next) (written ++ drafted)
+LogCodeGrows = (net : Net) (log : Log) (n first vars next : ℕ) (addition : Addition) (meanings : List (ℕ × Meaning)) (written drafted : List Clause) →
+    HasLogCode net log n first vars meanings written → vars ≤ next →
+    IsListed (with_events net n first (with_added net log n addition meanings next)) (added_list net log n addition) drafted →
+    HasLogCode net (with_addition log addition) n first (next + length (added_meanings net log n addition)) (with_added net log n addition meanings next) (written ++ drafted)
 
 -- and with its guards it is a code of the log.
 abbrev pub LogCodesAre : Type 0
-LogCodesAre = (net : Net) (log : Log) (n first vars : ℕ) (names : List (ℕ × Meaning)) (written : List Clause) (assumed : List Lit) →
-    HasLogCode net log n first vars names written → ReadsAs (with_events net n first names) assumed (guard_literals net log) → IsLogCode net log n (with_events net n first names) written assumed
+LogCodesAre = (net : Net) (log : Log) (n first vars : ℕ) (meanings : List (ℕ × Meaning)) (written : List Clause) (assumed : List Lit) →
+    HasLogCode net log n first vars meanings written → ReadsAs (with_events net n first meanings) assumed (guard_literals net log) → IsLogCode net log n (with_events net n first meanings) written assumed

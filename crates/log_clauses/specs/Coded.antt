@@ -1,4 +1,4 @@
--- Truths of the names of a log: where it isn't asked for, and of an explanation.
+-- Truths of the meanings of a log: where it isn't asked for, and of an explanation.
 use Rattle.std.specs.Prelude.{ℕ, zero, suc, Bool, true, false, not, ◌&&◌, ◌||◌, List, [], ◌∷◌, length, map, flat_map, take, nat_eq, ◌==◌, slice_index_or}
 use Rattle.std.specs.List.{list_any}
 use Rattle.des_net.specs.Network.{Net}

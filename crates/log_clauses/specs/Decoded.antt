@@ -1,4 +1,4 @@
--- The run and the order of alarms that a truth of names gives.
+-- The run and the order of alarms that a truth of meanings gives.
 use Rattle.std.specs.Prelude.{ℕ, zero, suc, Bool, not, ◌&&◌, List, [], ◌∷◌, ◌++◌, Option, is_some, map, filter, find, filter_map}
 use Rattle.des_net.specs.Network.{Net, label_of}
 use Rattle.log_order.specs.Log.{Log, is_doubtful}

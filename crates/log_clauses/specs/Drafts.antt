@@ -62,9 +62,9 @@ first_list net n = map (log_clause net no_log n) (first_clauses net n)
 
 -- Clauses that are listed so are the code of the addition, or of the empty log.
 abbrev pub DraftsAreCode : Type 0
-DraftsAreCode = (net : Net) (n : ℕ) (names : List (ℕ × Meaning)) (clauses : List Clause) →
-    ((log : Log) (addition : Addition) → IsListed names (added_list net log n addition) clauses → IsCode names (IsNamedAdded net log n addition) clauses)
-    × (IsListed names (first_list net n) clauses → IsCode names (IsNamedFirst net n) clauses)
+DraftsAreCode = (net : Net) (n : ℕ) (meanings : List (ℕ × Meaning)) (clauses : List Clause) →
+    ((log : Log) (addition : Addition) → IsListed meanings (added_list net log n addition) clauses → IsCode meanings (IsNamedAdded net log n addition) clauses)
+    × (IsListed meanings (first_list net n) clauses → IsCode meanings (IsNamedFirst net n) clauses)
 
 -- An addition has at most 12 clauses for each unit by which the size of the question grows, and 12.
 abbrev pub DraftsAreSmall : Type 0

@@ -24,7 +24,7 @@ match_inputs net log i t = map (λ e. matches i e t) (matching_events net log i)
 abbrev pub doubtful_alarms : Log → List ℕ
 doubtful_alarms log = filter (is_doubtful log) (numbers_below (length log.alarms))
 
--- Which clause of the log it is. Its step is the one after t steps, which names count as step t + 1; of a pair, t is a number of steps.
+-- Which clause of the log it is. Its step is the one after t steps, which meanings count as step t + 1; of a pair, t is a number of steps.
 pub data LogClause : Type 0 where
   chain_closed : (e k t : ℕ) → LogClause
   takes_rest : (i e k t : ℕ) → LogClause

@@ -17,49 +17,49 @@ use Rattle.replay.specs.Explanation.{Entry, Linearises, Explains}
 use Rattle.run_clauses.specs.StepCodes.{IsNamedStep}
 use Rattle.run_clauses.specs.Steps.{AreSteps}
 
--- by these names, each with one variable, the clauses are those of the log, and what is assumed are its guards
-pub record IsLogCode (net : Net) (log : Log) (n : ℕ) (names : List (ℕ × Meaning)) (written : List Clause) (assumed : List Lit) : Type 0 where
-  pub once : HasEachOnce names
-  pub clauses : IsCode names (IsNamedLog net log n) written
-  pub guards : ReadsAs names assumed (guard_literals net log)
+-- by these meanings, each with one variable, the clauses are those of the log, and what is assumed are its guards
+pub record IsLogCode (net : Net) (log : Log) (n : ℕ) (meanings : List (ℕ × Meaning)) (written : List Clause) (assumed : List Lit) : Type 0 where
+  pub once : HasEachOnce meanings
+  pub clauses : IsCode meanings (IsNamedLog net log n) written
+  pub guards : ReadsAs meanings assumed (guard_literals net log)
 
 -- the variable is one of the log alone
 abbrev pub is_log_variable : List (ℕ × Meaning) → ℕ → Bool
-is_log_variable names var = unwrap_or (option_map is_of_log (meaning_of names var)) false
+is_log_variable meanings var = unwrap_or (option_map is_of_log (meaning_of meanings var)) false
 
 -- the same truth for all variables but those of the log alone
 abbrev pub DifferInLogVariables : List (ℕ × Meaning) → (ℕ → Bool) → (ℕ → Bool) → Type 0
-DifferInLogVariables names given assignment = (var : ℕ) → is_log_variable names var ≡ false → assignment var ≡ given var
+DifferInLogVariables meanings given assignment = (var : ℕ) → is_log_variable meanings var ≡ false → assignment var ≡ given var
 
 -- the assignment makes the clauses of a log and its guards true
 pub record MakesLogTrue (assignment : ℕ → Bool) (written : List Clause) (assumed : List Lit) : Type 0 where
   pub clauses : AllClausesTrue assignment written
   pub guards : AllLiteralsTrue assignment assumed
 
--- by these names clauses and guards say exactly which steps linearise the log, and the clauses alone allow whatever events happen
-pub record IsExactLogCode (net : Net) (log : Log) (n : ℕ) (names : List (ℕ × Meaning)) (written : List Clause) (assumed : List Lit) : Type 0 where
+-- by these meanings clauses and guards say exactly which steps linearise the log, and the clauses alone allow whatever events happen
+pub record IsExactLogCode (net : Net) (log : Log) (n : ℕ) (meanings : List (ℕ × Meaning)) (written : List Clause) (assumed : List Lit) : Type 0 where
   -- Where clauses and guards are true, the sets of the steps, arranged by any order of the alarms that keeps the pairs, linearise the log.
   pub sound : (assignment : ℕ → Bool) (pieces : List (List ℕ)) (alarms : List ℕ) → IsValidLog log → ListsOnce (length log.alarms) alarms → Keeps alarms log.pairs →
-      AreSteps net n (value_by names assignment) pieces → MakesLogTrue assignment written assumed → IsArranged net log n (value_by names assignment) alarms pieces
+      AreSteps net n (value_by meanings assignment) pieces → MakesLogTrue assignment written assumed → IsArranged net log n (value_by meanings assignment) alarms pieces
   -- Where the sets of the steps in some order linearise the log, clauses and guards can be made true by a change of variables of the log alone, with as many false alarms.
-  pub complete : (given : ℕ → Bool) (pieces : List (List ℕ)) (order : List Entry) → AreSteps net n (value_by names given) pieces → Linearises net log (joined pieces) order →
-      (assignment : ℕ → Bool) × DifferInLogVariables names given assignment × MakesLogTrue assignment written assumed × HasFalse log (value_by names assignment) order
+  pub complete : (given : ℕ → Bool) (pieces : List (List ℕ)) (order : List Entry) → AreSteps net n (value_by meanings given) pieces → Linearises net log (joined pieces) order →
+      (assignment : ℕ → Bool) × DifferInLogVariables meanings given assignment × MakesLogTrue assignment written assumed × HasFalse log (value_by meanings assignment) order
   -- True alarms and events that happen go together one by one.
-  pub matched : (assignment : ℕ → Bool) → MakesLogTrue assignment written assumed → AreMatched net log n (value_by names assignment)
+  pub matched : (assignment : ℕ → Bool) → MakesLogTrue assignment written assumed → AreMatched net log n (value_by meanings assignment)
   -- Whatever events happen, the clauses can be made true by such a change where no guard is assumed.
-  pub unguarded : (given : ℕ → Bool) → (assignment : ℕ → Bool) × DifferInLogVariables names given assignment × AllClausesTrue assignment written
+  pub unguarded : (given : ℕ → Bool) → (assignment : ℕ → Bool) × DifferInLogVariables meanings given assignment × AllClausesTrue assignment written
 
 -- The code of a log is exact.
 abbrev pub LogCodeIsExact : Type 0
-LogCodeIsExact = (net : Net) (log : Log) (n : ℕ) (names : List (ℕ × Meaning)) (written : List Clause) (assumed : List Lit) →
-    IsLogCode net log n names written assumed → IsExactLogCode net log n names written assumed
+LogCodeIsExact = (net : Net) (log : Log) (n : ℕ) (meanings : List (ℕ × Meaning)) (written : List Clause) (assumed : List Lit) →
+    IsLogCode net log n meanings written assumed → IsExactLogCode net log n meanings written assumed
 
 -- ---- together with the steps
 
--- by the same names the clauses of the steps and of the log, with its guards: a question that sets no bound on faults
-pub record IsUnboundedQuestion (net : Net) (log : Log) (n : ℕ) (names : List (ℕ × Meaning)) (stepped written : List Clause) (assumed : List Lit) : Type 0 where
-  pub steps : IsCode names (IsNamedStep net n) stepped
-  pub log_code : IsLogCode net log n names written assumed
+-- by the same meanings the clauses of the steps and of the log, with its guards: a question that sets no bound on faults
+pub record IsUnboundedQuestion (net : Net) (log : Log) (n : ℕ) (meanings : List (ℕ × Meaning)) (stepped written : List Clause) (assumed : List Lit) : Type 0 where
+  pub steps : IsCode meanings (IsNamedStep net n) stepped
+  pub log_code : IsLogCode net log n meanings written assumed
 
 -- the assignment makes the clauses of the steps, of the log, and its guards true
 pub record MakesQuestionTrue (assignment : ℕ → Bool) (stepped written : List Clause) (assumed : List Lit) : Type 0 where
@@ -68,12 +68,12 @@ pub record MakesQuestionTrue (assignment : ℕ → Bool) (stepped written : List
 
 -- Each explanation, cut into pieces, has an assignment that makes all true, and whose event variables are those of the pieces, and as many alarms are false by it.
 abbrev pub ExplanationsAreCoded : Type 0
-ExplanationsAreCoded = (net : Net) (log : Log) (n : ℕ) (names : List (ℕ × Meaning)) (stepped written : List Clause) (assumed : List Lit) (word : List ℕ) (order : List Entry) (pieces : List (List ℕ)) →
-    IsNetwork net → IsUnboundedQuestion net log n names stepped written assumed →
+ExplanationsAreCoded = (net : Net) (log : Log) (n : ℕ) (meanings : List (ℕ × Meaning)) (stepped written : List Clause) (assumed : List Lit) (word : List ℕ) (order : List Entry) (pieces : List (List ℕ)) →
+    IsNetwork net → IsUnboundedQuestion net log n meanings stepped written assumed →
     IsRun net word → length pieces ≡ n → IsCutInto net word pieces → Linearises net log word order →
-    (assignment : ℕ → Bool) × AreSteps net n (value_by names assignment) pieces × MakesQuestionTrue assignment stepped written assumed × HasFalse log (value_by names assignment) order
+    (assignment : ℕ → Bool) × AreSteps net n (value_by meanings assignment) pieces × MakesQuestionTrue assignment stepped written assumed × HasFalse log (value_by meanings assignment) order
 
--- the pieces and the order that a truth of names gives explain the log, and are its steps
+-- the pieces and the order that a truth of meanings gives explain the log, and are its steps
 pub record IsDecoded (net : Net) (log : Log) (n : ℕ) (value : Meaning → Bool) (alarms : List ℕ) : Type 0 where
   pub steps : AreSteps net n value (decoded net log value alarms n)
   pub explains : Explains net log n (joined (decoded net log value alarms n)) (decoded_order net log value alarms n)
@@ -81,12 +81,12 @@ pub record IsDecoded (net : Net) (log : Log) (n : ℕ) (value : Meaning → Bool
 
 -- Each assignment that makes all true gives an explanation, by any order of the alarms that keeps the pairs.
 abbrev pub AssignmentsExplain : Type 0
-AssignmentsExplain = (net : Net) (log : Log) (n : ℕ) (names : List (ℕ × Meaning)) (stepped written : List Clause) (assumed : List Lit) (assignment : ℕ → Bool) (alarms : List ℕ) →
-    IsNetwork net → IsUnboundedQuestion net log n names stepped written assumed → IsValidLog log → ListsOnce (length log.alarms) alarms → Keeps alarms log.pairs →
-    MakesQuestionTrue assignment stepped written assumed → IsDecoded net log n (value_by names assignment) alarms
+AssignmentsExplain = (net : Net) (log : Log) (n : ℕ) (meanings : List (ℕ × Meaning)) (stepped written : List Clause) (assumed : List Lit) (assignment : ℕ → Bool) (alarms : List ℕ) →
+    IsNetwork net → IsUnboundedQuestion net log n meanings stepped written assumed → IsValidLog log → ListsOnce (length log.alarms) alarms → Keeps alarms log.pairs →
+    MakesQuestionTrue assignment stepped written assumed → IsDecoded net log n (value_by meanings assignment) alarms
 
 -- Each run that fits n steps, whatever events of it can be seen, has an assignment that makes all clauses true where no guard is assumed.
 abbrev pub RunsStayOpen : Type 0
-RunsStayOpen = (net : Net) (log : Log) (n : ℕ) (names : List (ℕ × Meaning)) (stepped written : List Clause) (assumed : List Lit) (word : List ℕ) (pieces : List (List ℕ)) →
-    IsNetwork net → IsUnboundedQuestion net log n names stepped written assumed → IsRun net word → length pieces ≡ n → IsCutInto net word pieces →
-    (assignment : ℕ → Bool) × AreSteps net n (value_by names assignment) pieces × AllClausesTrue assignment stepped × AllClausesTrue assignment written
+RunsStayOpen = (net : Net) (log : Log) (n : ℕ) (meanings : List (ℕ × Meaning)) (stepped written : List Clause) (assumed : List Lit) (word : List ℕ) (pieces : List (List ℕ)) →
+    IsNetwork net → IsUnboundedQuestion net log n meanings stepped written assumed → IsRun net word → length pieces ≡ n → IsCutInto net word pieces →
+    (assignment : ℕ → Bool) × AreSteps net n (value_by meanings assignment) pieces × AllClausesTrue assignment stepped × AllClausesTrue assignment written

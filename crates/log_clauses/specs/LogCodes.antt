@@ -21,28 +21,28 @@ IsNamedFirst net n named = (which : LogClause) × IsFirstClause net n which × (
 abbrev pub IsNamedAdded : Net → Log → ℕ → Addition → List NamedLiteral → Type 0
 IsNamedAdded net log n addition named = (which : LogClause) × IsAddedClause net log n addition which × (log_clause net (with_addition log addition) n which ≡ named)
 
--- each entry of the first list of names is in the second
+-- each entry of the first list of meanings is in the second
 abbrev pub AreAmong : List (ℕ × Meaning) → List (ℕ × Meaning) → Type 0
-AreAmong names more = (entry : ℕ × Meaning) → Contains names entry → Contains more entry
+AreAmong meanings more = (entry : ℕ × Meaning) → Contains meanings entry → Contains more entry
 
--- A clause that reads as something by some names reads so by more,
+-- A clause that reads as something by some meanings reads so by more,
 abbrev pub ReadingsStay : Type 0
-ReadingsStay = (names more : List (ℕ × Meaning)) (clause : Clause) (named : List NamedLiteral) → HasEachOnce more → AreAmong names more → ReadsAs names clause named → ReadsAs more clause named
+ReadingsStay = (meanings more : List (ℕ × Meaning)) (clause : Clause) (named : List NamedLiteral) → HasEachOnce more → AreAmong meanings more → ReadsAs meanings clause named → ReadsAs more clause named
 
 -- and clauses that are those of the steps or of a log are so by more.
-pub record CodesStayBy (names more : List (ℕ × Meaning)) (clauses : List Clause) : Type 0 where
-  pub steps : (net : Net) (n : ℕ) → IsCode names (IsNamedStep net n) clauses → IsCode more (IsNamedStep net n) clauses
-  pub log : (net : Net) (log : Log) (n : ℕ) → IsCode names (IsNamedLog net log n) clauses → IsCode more (IsNamedLog net log n) clauses
+pub record CodesStayBy (meanings more : List (ℕ × Meaning)) (clauses : List Clause) : Type 0 where
+  pub steps : (net : Net) (n : ℕ) → IsCode meanings (IsNamedStep net n) clauses → IsCode more (IsNamedStep net n) clauses
+  pub log : (net : Net) (log : Log) (n : ℕ) → IsCode meanings (IsNamedLog net log n) clauses → IsCode more (IsNamedLog net log n) clauses
 
--- So it is of all clauses, by more names that have each variable and each name once.
+-- So it is of all clauses, by more meanings that have each variable and each meaning once.
 abbrev pub CodesStay : Type 0
-CodesStay = (names more : List (ℕ × Meaning)) (clauses : List Clause) → HasEachOnce more → AreAmong names more → CodesStayBy names more clauses
+CodesStay = (meanings more : List (ℕ × Meaning)) (clauses : List Clause) → HasEachOnce more → AreAmong meanings more → CodesStayBy meanings more clauses
 
 -- The first clauses are the code of the empty log,
 abbrev pub CodeBegins : Type 0
-CodeBegins = (net : Net) (n : ℕ) (names : List (ℕ × Meaning)) (clauses : List Clause) → IsCode names (IsNamedFirst net n) clauses → IsCode names (IsNamedLog net no_log n) clauses
+CodeBegins = (net : Net) (n : ℕ) (meanings : List (ℕ × Meaning)) (clauses : List Clause) → IsCode meanings (IsNamedFirst net n) clauses → IsCode meanings (IsNamedLog net no_log n) clauses
 
 -- and the code of a log with those of an addition is the code of the log with the addition.
 abbrev pub CodeGrows : Type 0
-CodeGrows = (net : Net) (log : Log) (n : ℕ) (addition : Addition) (names more : List (ℕ × Meaning)) (clauses drafted : List Clause) → HasEachOnce more → AreAmong names more →
-    IsCode names (IsNamedLog net log n) clauses → IsCode more (IsNamedAdded net log n addition) drafted → IsCode more (IsNamedLog net (with_addition log addition) n) (clauses ++ drafted)
+CodeGrows = (net : Net) (log : Log) (n : ℕ) (addition : Addition) (meanings more : List (ℕ × Meaning)) (clauses drafted : List Clause) → HasEachOnce more → AreAmong meanings more →
+    IsCode meanings (IsNamedLog net log n) clauses → IsCode more (IsNamedAdded net log n addition) drafted → IsCode more (IsNamedLog net (with_addition log addition) n) (clauses ++ drafted)

@@ -17,11 +17,11 @@ LogIsOpen = (value : Meaning → Bool) →
     DifferInLog value (opened value)
     × ((net : Net) (log : Log) (n : ℕ) → LogClausesHold net log n (opened value))
 
--- by a truth of names as many doubtful alarms are false as in an order
+-- by a truth of meanings as many doubtful alarms are false as in an order
 abbrev pub HasFalse : Log → (Meaning → Bool) → List Entry → Type 0
 HasFalse log value order = false_count order ≡ count_by (is_false_alarm log value) (numbers_below (length log.alarms))
 
--- the pieces and the order that a truth of names gives are its steps, and linearise the log with as many false alarms
+-- the pieces and the order that a truth of meanings gives are its steps, and linearise the log with as many false alarms
 pub record IsArranged (net : Net) (log : Log) (n : ℕ) (value : Meaning → Bool) (alarms : List ℕ) (pieces : List (List ℕ)) : Type 0 where
   pub steps : AreSteps net n value (arranged net log value alarms 0 pieces)
   pub linear : Linearises net log (joined (arranged net log value alarms 0 pieces)) (whole_order log value alarms pieces)
@@ -33,7 +33,7 @@ LogIsSound = (net : Net) (log : Log) (n : ℕ) (value : Meaning → Bool) (piece
     IsValidLog log → ListsOnce (length log.alarms) alarms → Keeps alarms log.pairs →
     AreSteps net n value pieces → LogClausesHold net log n value → GuardsHold net log value → IsArranged net log n value alarms pieces
 
--- Where the sets of the steps in some order linearise the log, the names of the log have a truth that makes clauses and guards true, with as many false alarms, whatever all other names are.
+-- Where the sets of the steps in some order linearise the log, the meanings of the log have a truth that makes clauses and guards true, with as many false alarms, whatever all other meanings are.
 abbrev pub LogIsComplete : Type 0
 LogIsComplete = (net : Net) (log : Log) (n : ℕ) (given : Meaning → Bool) (pieces : List (List ℕ)) (order : List Entry) →
     AreSteps net n given pieces → Linearises net log (joined pieces) order →
@@ -88,7 +88,7 @@ abbrev pub EventsAndAlarms : Type 0
 EventsAndAlarms = (net : Net) (log : Log) (n : ℕ) (value : Meaning → Bool) → LogClausesHold net log n value → GuardsHold net log value →
     (i e t : ℕ) → t < n → alarm_at net log value e (suc t) ≡ Some i ↔ alarm_event net log value t i ≡ Some e
 
--- The clauses of a log and its guards read no names but those of the log and of events.
+-- The clauses of a log and its guards read no meanings but those of the log and of events.
 abbrev pub OnlyLogMatters : Type 0
 OnlyLogMatters = (net : Net) (log : Log) (n : ℕ) (value other : Meaning → Bool) → AgreeOnLog value other →
     (LogClausesHold net log n value → LogClausesHold net log n other) × (GuardsHold net log value → GuardsHold net log other)

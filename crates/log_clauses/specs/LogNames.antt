@@ -1,4 +1,4 @@
--- The names of a log, and their variables, in the order in which additions bring them.
+-- The meanings of a log, and their variables, in the order in which additions bring them.
 use Rattle.std.specs.Prelude.{◌≡◌, ◌≢◌, ◌↔◌, ◌⊎◌, ⊤, ℕ, suc, ◌+◌, ◌*◌, ◌<◌, ◌≤◌, Bool, true, if◌then◌else◌, List, [], ◌∷◌, ◌++◌, map, flat_map, length, Some, slice_get, is_some, Contains, IsTrue}
 use Rattle.std.specs.List.{AllByRecursion, AllZip}
 use Rattle.des_base.specs.ChainCount.{chain_count}
@@ -21,7 +21,7 @@ use Rattle.run_clauses.specs.LaidOut.{laid_out, chain_meanings}
 abbrev pub IsStepNumber : ℕ → ℕ → Type 0
 IsStepNumber n t = (1 ≤ t) × (t ≤ n)
 
--- the names of a log, apart from those of the steps
+-- the meanings of a log, apart from those of the steps
 abbrev pub IsLogMeaning : Net → Log → ℕ → Meaning → Type 0
 IsLogMeaning net log n (in_state c q t) = ⊥
 IsLogMeaning net log n (happens e t) = ⊥
@@ -54,17 +54,17 @@ match_chains n i m = flat_map (λ t. chain_meanings (of_matches i (suc t)) m) (n
 abbrev pub false_meanings : Bool → ℕ → List Meaning
 false_meanings doubtful i = if doubtful then dropped i ∷ [] else []
 
--- the new names of an addition
+-- the new meanings of an addition
 abbrev pub added_meanings : Net → Log → ℕ → Addition → List Meaning
 added_meanings net log n (alarm_added new) =
     alarm_meanings net log n new ++ (match_chains n (length log.alarms) (length (taken_events net log new)) ++ false_meanings new.doubtful (length log.alarms))
 added_meanings net log n (pair_added i j) = []
 
--- the names of the empty log
+-- the meanings of the empty log
 abbrev pub first_meanings : Net → List Meaning
 first_meanings net = asked ∷ map (λ e. closed e 0) (observable_events net)
 
--- The names that an addition brings are new, each one name, and with them a log has its names.
+-- The meanings that an addition brings are new, each one meaning, and with them a log has its meanings.
 pub record BringsNewMeanings (net : Net) (log : Log) (n : ℕ) (addition : Addition) : Type 0 where
   pub once : EachPair (λ a b. a ≢ b) (added_meanings net log n addition)
   pub fresh : (meaning : Meaning) → Contains (added_meanings net log n addition) meaning → IsLogMeaning net log n meaning → ⊥
@@ -79,7 +79,7 @@ abbrev pub MeaningsAreFew : Type 0
 MeaningsAreFew = (net : Net) (log : Log) (n : ℕ) (addition : Addition) →
     length (added_meanings net log n addition) + variable_bound net log n ≤ variable_bound net (with_addition log addition) n
 
--- The first names are those of the empty log, each one name: one for each event that can be seen, and one.
+-- The first meanings are those of the empty log, each one meaning: one for each event that can be seen, and one.
 pub record AreFirst (net : Net) (n : ℕ) : Type 0 where
   pub once : EachPair (λ a b. a ≢ b) (first_meanings net)
   pub all : (meaning : Meaning) → IsLogMeaning net no_log n meaning ↔ Contains (first_meanings net) meaning
@@ -91,48 +91,48 @@ FirstMeaningsAreAll = (net : Net) (n : ℕ) → AreFirst net n
 
 -- ---- on variables
 
--- exactly the names of the log have variables, each one, below a number
-pub record AreLogMeanings (net : Net) (log : Log) (n vars : ℕ) (names : List (ℕ × Meaning)) : Type 0 where
-  pub once : HasEachOnce names
-  pub below : AllByRecursion (λ entry. entry.0 < vars) names
-  pub exact : (meaning : Meaning) → IsLogMeaning net log n meaning ↔ ((var : ℕ) × Contains names (var, meaning))
+-- exactly the meanings of the log have variables, each one, below a number
+pub record AreLogMeanings (net : Net) (log : Log) (n vars : ℕ) (meanings : List (ℕ × Meaning)) : Type 0 where
+  pub once : HasEachOnce meanings
+  pub below : AllByRecursion (λ entry. entry.0 < vars) meanings
+  pub exact : (meaning : Meaning) → IsLogMeaning net log n meaning ↔ ((var : ℕ) × Contains meanings (var, meaning))
 
--- the names of a log, and those of an addition on the variables from this one on
+-- the meanings of a log, and those of an addition on the variables from this one on
 abbrev pub with_added : Net → Log → ℕ → Addition → List (ℕ × Meaning) → ℕ → List (ℕ × Meaning)
-with_added net log n addition names first = names ++ laid_out first (added_meanings net log n addition)
+with_added net log n addition meanings first = meanings ++ laid_out first (added_meanings net log n addition)
 
--- On variables in a row the first names are the names of the empty log,
+-- On variables in a row the first meanings are the meanings of the empty log,
 abbrev pub MeaningsBegin : Type 0
 MeaningsBegin = (net : Net) (n first : ℕ) → AreLogMeanings net no_log n (first + length (first_meanings net)) (laid_out first (first_meanings net))
 
--- and the names of an addition, on the variables that come next, make those of a log the names of the log with the addition.
+-- and the meanings of an addition, on the variables that come next, make those of a log the meanings of the log with the addition.
 abbrev pub LogMeaningsGrow : Type 0
-LogMeaningsGrow = (net : Net) (log : Log) (n first : ℕ) (addition : Addition) (names : List (ℕ × Meaning)) → AreLogMeanings net log n first names →
-    AreLogMeanings net (with_addition log addition) n (first + length (added_meanings net log n addition)) (with_added net log n addition names first)
+LogMeaningsGrow = (net : Net) (log : Log) (n first : ℕ) (addition : Addition) (meanings : List (ℕ × Meaning)) → AreLogMeanings net log n first meanings →
+    AreLogMeanings net (with_addition log addition) n (first + length (added_meanings net log n addition)) (with_added net log n addition meanings first)
 
--- Where the names of a new alarm stand: a link of each event that it may stand for, one after another, then when it is done, then the chains over its matches, and at the end, where it is doubtful, whether it is false.
-pub record HasAlarmPlaces (net : Net) (log : Log) (n first : ℕ) (new : Alarm) (names : List (ℕ × Meaning)) : Type 0 where
+-- Where the meanings of a new alarm stand: a link of each event that it may stand for, one after another, then when it is done, then the chains over its matches, and at the end, where it is doubtful, whether it is false.
+pub record HasAlarmPlaces (net : Net) (log : Log) (n first : ℕ) (new : Alarm) (meanings : List (ℕ × Meaning)) : Type 0 where
   pub closing : (p e : ℕ) → slice_get (taken_events net log new) p ≡ Some e →
-      meaning_of names (first + p * (1 + n * 2)) ≡ Some (closed e (suc (length (chain net log e))))
+      meaning_of meanings (first + p * (1 + n * 2)) ≡ Some (closed e (suc (length (chain net log e))))
   pub matching : (p e t : ℕ) → slice_get (taken_events net log new) p ≡ Some e → t < n →
-      meaning_of names (first + (p * (1 + n * 2) + suc (t * 2))) ≡ Some (matches (length log.alarms) e (suc t))
+      meaning_of meanings (first + (p * (1 + n * 2) + suc (t * 2))) ≡ Some (matches (length log.alarms) e (suc t))
   pub passing : (p e t : ℕ) → slice_get (taken_events net log new) p ≡ Some e → t < n →
-      meaning_of names (first + (p * (1 + n * 2) + suc (t * 2 + 1))) ≡ Some (unmatched e (suc (length (chain net log e))) (suc t))
-  pub being_done : (t : ℕ) → t ≤ n → meaning_of names (first + (length (taken_events net log new) * (1 + n * 2) + t)) ≡ Some (done (length log.alarms) t)
-  pub chaining : (t : ℕ) → t < n → IsNamedChain names (of_matches (length log.alarms) (suc t))
+      meaning_of meanings (first + (p * (1 + n * 2) + suc (t * 2 + 1))) ≡ Some (unmatched e (suc (length (chain net log e))) (suc t))
+  pub being_done : (t : ℕ) → t ≤ n → meaning_of meanings (first + (length (taken_events net log new) * (1 + n * 2) + t)) ≡ Some (done (length log.alarms) t)
+  pub chaining : (t : ℕ) → t < n → IsNamedChain meanings (of_matches (length log.alarms) (suc t))
       (first + (length (taken_events net log new) * (1 + n * 2) + (suc n + t * chain_count (length (taken_events net log new))))) (chain_count (length (taken_events net log new)))
   pub being_false : new.doubtful ≡ true →
-      meaning_of names (first + (length (taken_events net log new) * (1 + n * 2) + (suc n + n * chain_count (length (taken_events net log new))))) ≡ Some (dropped (length log.alarms))
+      meaning_of meanings (first + (length (taken_events net log new) * (1 + n * 2) + (suc n + n * chain_count (length (taken_events net log new))))) ≡ Some (dropped (length log.alarms))
 
--- They stand so where they are added behind the names of a log.
+-- They stand so where they are added behind the meanings of a log.
 abbrev pub PlacesOfMeanings : Type 0
-PlacesOfMeanings = (net : Net) (log : Log) (n first : ℕ) (new : Alarm) (names : List (ℕ × Meaning)) → AreLogMeanings net log n first names →
-    HasAlarmPlaces net log n first new (with_added net log n (alarm_added new) names first)
+PlacesOfMeanings = (net : Net) (log : Log) (n first : ℕ) (new : Alarm) (meanings : List (ℕ × Meaning)) → AreLogMeanings net log n first meanings →
+    HasAlarmPlaces net log n first new (with_added net log n (alarm_added new) meanings first)
 
--- literal by literal the clause has these names and signs
+-- literal by literal the clause has these meanings and signs
 abbrev pub ReadsInOrder : List (ℕ × Meaning) → Clause → List NamedLiteral → Type 0
-ReadsInOrder names clause named = AllZip (λ (l : Lit) (m : NamedLiteral). (meaning_of names l.var ≡ Some m.meaning) × (l.positive ≡ m.positive)) clause named
+ReadsInOrder meanings clause named = AllZip (λ (l : Lit) (m : NamedLiteral). (meaning_of meanings l.var ≡ Some m.meaning) × (l.positive ≡ m.positive)) clause named
 
 -- What reads literal by literal as a clause reads as that.
 abbrev pub OrderedReads : Type 0
-OrderedReads = (names : List (ℕ × Meaning)) (clause : Clause) (named : List NamedLiteral) → ReadsInOrder names clause named → ReadsAs names clause named
+OrderedReads = (meanings : List (ℕ × Meaning)) (clause : Clause) (named : List NamedLiteral) → ReadsInOrder meanings clause named → ReadsAs meanings clause named

@@ -1,4 +1,4 @@
--- When names by their truth make the clauses of a log true, and its guards.
+-- When meanings by their truth make the clauses of a log true, and its guards.
 use Rattle.std.specs.Prelude.{◌≡◌, ℕ, Bool, true, false, not, ◌||◌, IsTrue}
 use Rattle.std.specs.List.{AllByRecursion}
 use Rattle.des_net.specs.Network.{Net}
@@ -16,7 +16,7 @@ LogClausesHold net log n value = (which : LogClause) → IsLogClause net log n w
 abbrev pub GuardsHold : Net → Log → (Meaning → Bool) → Type 0
 GuardsHold net log value = AllByRecursion (λ l. IsTrue (named_true value l)) (guard_literals net log)
 
--- the name is one that clauses of logs alone have, or a guard
+-- the meaning is one that clauses of logs alone have, or a guard
 abbrev pub is_of_log : Meaning → Bool
 is_of_log (in_state c q t) = false
 is_of_log (happens e t) = false
@@ -29,10 +29,10 @@ is_of_log (dropped i) = true
 is_of_log (reaches i j) = false
 is_of_log (some_of_first family i) = not (is_of_steps family)
 
--- the same truth for all names but those of a log
+-- the same truth for all meanings but those of a log
 abbrev pub DifferInLog : (Meaning → Bool) → (Meaning → Bool) → Type 0
 DifferInLog given value = (meaning : Meaning) → is_of_log meaning ≡ false → value meaning ≡ given meaning
 
--- the same truth for all names that clauses of logs have, and guards
+-- the same truth for all meanings that clauses of logs have, and guards
 abbrev pub AgreeOnLog : (Meaning → Bool) → (Meaning → Bool) → Type 0
 AgreeOnLog value other = (meaning : Meaning) → is_event meaning || is_of_log meaning ≡ true → value meaning ≡ other meaning

@@ -26,7 +26,7 @@ pub fn log_is_sound()
     ensures { LogIsSound }
 {}
 
-/// Where the sets of the steps linearise the log, its names have a truth that makes clauses and guards true.
+/// Where the sets of the steps linearise the log, its meanings have a truth that makes clauses and guards true.
 pub fn log_is_complete()
     ensures { LogIsComplete }
 {}
@@ -36,7 +36,7 @@ pub fn log_is_open()
     ensures { LogIsOpen }
 {}
 
-/// The clauses of a log and its guards read names of the log and of events only.
+/// The clauses of a log and its guards read meanings of the log and of events only.
 pub fn only_log_matters()
     ensures { OnlyLogMatters }
 {}
@@ -75,12 +75,12 @@ pub fn chains_grow()
 
 // ---- as code over variables
 
-/// A clause reads the same by more names.
+/// A clause reads the same by more meanings.
 pub fn readings_stay()
     ensures { ReadingsStay }
 {}
 
-/// The code of steps and that of a log are so by more names.
+/// The code of steps and that of a log are so by more meanings.
 pub fn codes_stay()
     ensures { CodesStay }
 {}
@@ -115,41 +115,41 @@ pub fn ordered_reads()
     ensures { OrderedReads }
 {}
 
-// ---- the names and their variables
+// ---- the meanings and their variables
 
-/// The first names are those of the empty log.
+/// The first meanings are those of the empty log.
 pub fn first_meanings_are_all()
     ensures { FirstMeaningsAreAll }
 {}
 
-/// The names of an addition are new, and with them a log has its names.
+/// The meanings of an addition are new, and with them a log has its meanings.
 pub fn meanings_are_new()
     ensures { MeaningsAreNew }
 {}
 
-/// The names of an addition are no more than the bound on the variables of a question grows by.
+/// The meanings of an addition are no more than the bound on the variables of a question grows by.
 pub fn meanings_are_few()
     ensures { MeaningsAreFew }
 {}
 
-/// The first names, on variables in a row, are the names of the empty log.
+/// The first meanings, on variables in a row, are the meanings of the empty log.
 pub fn meanings_begin()
     ensures { MeaningsBegin }
 {}
 
-/// The names of an addition, on fresh variables in a row, make those of a log the names of the log with the addition.
+/// The meanings of an addition, on fresh variables in a row, make those of a log the meanings of the log with the addition.
 pub fn log_meanings_grow()
     ensures { LogMeaningsGrow }
 {}
 
-/// Where the names of a new alarm stand in the row of the addition that brings it.
+/// Where the meanings of a new alarm stand in the row of the addition that brings it.
 pub fn places_of_meanings()
     ensures { PlacesOfMeanings }
 {}
 
 // ---- the code of a log beside the variables of the events
 
-/// The names of a log go together with those of the events on earlier variables.
+/// The meanings of a log go together with those of the events on earlier variables.
 pub fn meanings_join_events()
     ensures { MeaningsJoinEvents }
 {}

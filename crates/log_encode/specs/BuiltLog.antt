@@ -21,11 +21,11 @@ pub record BuiltLog : Type 0 where
   pub code : CodedLog
   pub clauses : List Clause
 
--- the clauses of the empty log, by the names of its code
+-- the clauses of the empty log, by the meanings of its code
 abbrev pub first_written : CodedLog → List Clause
 first_written code = written_by (read_meanings code) (first_list code.net code.grid.steps)
 
--- the clauses of an addition whose variables come next after those of the code, by the names of the longer log
+-- the clauses of an addition whose variables come next after those of the code, by the meanings of the longer log
 abbrev pub added_written : CodedLog → Addition → List Clause
 added_written code addition = written_by (read_meanings (code_after code addition code.vars)) (added_list code.net code.log code.grid.steps addition)
 

@@ -1,4 +1,4 @@
--- The code of an alarm log: which variables stand for the names of the log.
+-- The code of an alarm log: which variables stand for the meanings of the log.
 use Rattle.std.specs.Prelude.{Bool, ℕ, ◌+◌, ◌*◌, ◌≡◌, ◌≤◌, List, [], ◌∷◌, ◌++◌, map, length}
 use Rattle.std.specs.List.{AllByRecursion}
 use Rattle.des_base.specs.declared.TheConstants.{VAR_LIMIT}
@@ -75,7 +75,7 @@ code_after code addition first = record code {
 
 -- ---- what is always so
 
--- The grid is that of the network's events, made before. Exactly the names of the log have variables, each one, and no variable stands twice; they are made after those of the grid. Each alarm has its first variable, and alarms are no more than variables.
+-- The grid is that of the network's events, made before. Exactly the meanings of the log have variables, each one, and no variable stands twice; they are made after those of the grid. Each alarm has its first variable, and alarms are no more than variables.
 pub record IsCodedLog (code : CodedLog) : Type 0 where
   pub events : code.grid.events ≡ length code.net.events
   pub made : code.grid.first + code.grid.events * code.grid.steps ≤ code.asked

@@ -22,7 +22,7 @@ pub record DraftState : Type 0 where
   pub vars : ℕ
   pub clauses : List Clause
 
--- a draft of this addition to the code: its variables are those of the new names, and by the names of the longer log its clauses are those that the addition brings, in the order of their listing
+-- a draft of this addition to the code: its variables are those of the new meanings, and by the meanings of the longer log its clauses are those that the addition brings, in the order of their listing
 pub record IsDraftOf (code : CodedLog) (addition : Addition) (first : ℕ) (draft : DraftState) : Type 0 where
   pub made_by : draft.code ≡ code
   pub adds : draft.addition ≡ addition

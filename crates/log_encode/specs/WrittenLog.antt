@@ -18,15 +18,15 @@ use Rattle.prop_core.specs.NamedClauses.{IsCode}
 use Rattle.prop_core.specs.VariableNames.{Meaning, ReadsAs}
 use Rattle.replay.specs.Explanation.{Entry, Explains}
 
--- Further clauses are those of the empty log, by these names, one after another in the order of their listing: for each event that can be seen one in each step.
-pub record AppendsFirst (net : Net) (n : ℕ) (names : List (ℕ × Meaning)) (old new : List Clause) : Type 0 where
+-- Further clauses are those of the empty log, by these meanings, one after another in the order of their listing: for each event that can be seen one in each step.
+pub record AppendsFirst (net : Net) (n : ℕ) (meanings : List (ℕ × Meaning)) (old new : List Clause) : Type 0 where
   pub more : List Clause
   pub whole : new ≡ old ++ more
-  pub listed : IsListed names (first_list net n) more
+  pub listed : IsListed meanings (first_list net n) more
   pub few : length more ≡ observable_count net * n
-  pub code : IsCode names (IsNamedLog net no_log n) more
+  pub code : IsCode meanings (IsNamedLog net no_log n) more
 
--- by the names of the code's variables the clauses are those of its log
+-- by the meanings of the code's variables the clauses are those of its log
 pub record IsWritten (code : CodedLog) (written : List Clause) : Type 0 where
   pub coded : IsCodedLog code
   pub clauses : IsCode (read_meanings code) (IsNamedLog code.net code.log code.grid.steps) written

@@ -1,4 +1,4 @@
--- What the variables of a question stand for, and literals and clauses by these names.
+-- What the variables of a question stand for, and literals and clauses by these meanings.
 use Rattle.std.specs.Prelude.{◌≢◌, ℕ, zero, suc, Bool, true, false, List, [], ◌∷◌, find, option_map, Option, Some, None, ◌≡◌, ◌==◌, Contains, ◌↔◌}
 use Rattle.des_base.specs.Lists.{EachPair}
 use Rattle.prop_core.specs.declared.lit.Lit.{Lit}
@@ -33,16 +33,16 @@ pub data Meaning : Type 0 where
   -- one of the first inputs of an "at most one" is true
   some_of_first : Exclusion → (inputs : ℕ) → Meaning
 
--- a literal by the name of its variable
+-- a literal by the meaning of its variable
 pub record NamedLiteral : Type 0 where
   pub meaning : Meaning
   pub positive : Bool
 
--- the positive literal of a name
+-- the positive literal of a meaning
 abbrev pub yes : Meaning → NamedLiteral
 yes meaning = record { meaning = meaning; positive = true }
 
--- the negated literal of a name
+-- the negated literal of a meaning
 abbrev pub no : Meaning → NamedLiteral
 no meaning = record { meaning = meaning; positive = false }
 
@@ -51,34 +51,34 @@ abbrev pub remaining : ℕ → ℕ → ℕ → Meaning
 remaining e zero t = happens e t
 remaining e (suc k) t = unmatched e (suc k) t
 
--- no variable has two names, and no name two variables
+-- no variable has two meanings, and no meaning two variables
 abbrev pub HasEachOnce : List (ℕ × Meaning) → Type 0
-HasEachOnce names = EachPair (λ a b. (a.0 ≢ b.0) × (a.1 ≢ b.1)) names
+HasEachOnce meanings = EachPair (λ a b. (a.0 ≢ b.0) × (a.1 ≢ b.1)) meanings
 
--- the name of a variable by a list of both
+-- the meaning of a variable by a list of both
 abbrev pub meaning_of : List (ℕ × Meaning) → ℕ → Option Meaning
-meaning_of names var = option_map (λ entry. entry.1) (find (λ entry. entry.0 == var) names)
+meaning_of meanings var = option_map (λ entry. entry.1) (find (λ entry. entry.0 == var) meanings)
 
--- a literal by the name of its variable, if it has one
+-- a literal by the meaning of its variable, if it has one
 abbrev pub named_literal : List (ℕ × Meaning) → Lit → Option NamedLiteral
-named_literal names l = option_map (λ meaning. record { meaning = meaning; positive = l.positive }) (meaning_of names l.var)
+named_literal meanings l = option_map (λ meaning. record { meaning = meaning; positive = l.positive }) (meaning_of meanings l.var)
 
 -- a literal in front of a clause, where both could be named
 abbrev pub with_literal : Option NamedLiteral → Option (List NamedLiteral) → Option (List NamedLiteral)
 with_literal None rest = None
 with_literal (Some l) rest = option_map (λ ls. l ∷ ls) rest
 
--- a clause by the names of its variables, literal by literal, if each has one
+-- a clause by the meanings of its variables, literal by literal, if each has one
 abbrev pub named_clause : List (ℕ × Meaning) → Clause → Option (List NamedLiteral)
-named_clause names [] = Some []
-named_clause names (l ∷ clause) = with_literal (named_literal names l) (named_clause names clause)
+named_clause meanings [] = Some []
+named_clause meanings (l ∷ clause) = with_literal (named_literal meanings l) (named_clause meanings clause)
 
 -- two lists have the same elements
 abbrev pub SameElements : List NamedLiteral → List NamedLiteral → Type 0
 SameElements xs ys = (x : NamedLiteral) → Contains xs x ↔ Contains ys x
 
--- by the names of its variables the clause is, as a set, this one
-pub record ReadsAs (names : List (ℕ × Meaning)) (clause : Clause) (named : List NamedLiteral) : Type 0 where
+-- by the meanings of its variables the clause is, as a set, this one
+pub record ReadsAs (meanings : List (ℕ × Meaning)) (clause : Clause) (named : List NamedLiteral) : Type 0 where
   pub read : List NamedLiteral
-  pub by_name : named_clause names clause ≡ Some read
+  pub by_name : named_clause meanings clause ≡ Some read
   pub same : SameElements read named

@@ -1,4 +1,4 @@
-// The laws of derivation and of names.
+// The laws of derivation and of meanings.
 ghost use Rattle.prop_core.specs.Grids.{GridsAreInjective};
 ghost use Rattle.prop_core.specs.Laws.{DerivedClausesAreTrue};
 ghost use Rattle.prop_core.specs.Listings.{ListedAreWritten, ListedAreEqual, ListedAreCode};
@@ -15,13 +15,13 @@ pub fn grids_are_injective()
     ensures { GridsAreInjective }
 {}
 
-/// A law: the truth of variables gives that of their names.
+/// A law: the truth of variables gives that of their meanings.
 #[tactic(auto, using(crate::proofs::NameLemmas::values_match))]
 pub fn values_match()
     ensures { ValuesMatch }
 {}
 
-/// A law: the truth of names gives that of their variables, and any other variable keeps its own.
+/// A law: the truth of meanings gives that of their variables, and any other variable keeps its own.
 #[tactic(auto, using(crate::proofs::NameLemmas::assignments_match))]
 pub fn assignments_match()
     ensures { AssignmentsMatch }

@@ -44,5 +44,5 @@ NoneIsLeast = (net : Net) (log : Log) (n : ℕ) → IsExplained net log n 0 → 
 
 -- So a clause of negated assumptions decides a question that clauses and assumptions ask.
 abbrev pub QuestionIsDecided : Type 0
-QuestionIsDecided = (net : Net) (log : Log) (n : ℕ) (bound : Option ℕ) (names : List (ℕ × Meaning)) (clauses : List Clause) (assumed : List Lit) (clause : Clause) →
-    IsNetwork net → IsValidLog log → Asks net log n bound names clauses assumed → Entails clauses clause → NegatesOnly assumed clause → Decides net log n bound
+QuestionIsDecided = (net : Net) (log : Log) (n : ℕ) (bound : Option ℕ) (meanings : List (ℕ × Meaning)) (clauses : List Clause) (assumed : List Lit) (clause : Clause) →
+    IsNetwork net → IsValidLog log → Asks net log n bound meanings clauses assumed → Entails clauses clause → NegatesOnly assumed clause → Decides net log n bound

@@ -28,7 +28,7 @@ IsNamedCounting inputs named = (which : CountClause) × IsCountClause inputs whi
 abbrev pub IsNamedClause : Net → Log → ℕ → List NamedLiteral → Type 0
 IsNamedClause net log n named = IsNamedStep net n named ⊎ (IsNamedLog net log n named ⊎ IsNamedCounting (fault_inputs net log n) named)
 
--- By these names the clause is, as a set, one of them.
+-- By these meanings the clause is, as a set, one of them.
 abbrev pub IsInstance : Net → Log → ℕ → List (ℕ × Meaning) → Clause → Type 0
 IsInstance net log n names clause = (named : List NamedLiteral) × IsNamedClause net log n named × ReadsAs names clause named
 
@@ -46,7 +46,7 @@ bound_literals net log n (Some b) = at_most (length (fault_inputs net log n)) b
 abbrev pub assumption_literals : Net → Log → ℕ → Option ℕ → List NamedLiteral
 assumption_literals net log n bound = guard_literals net log ++ bound_literals net log n bound
 
--- Some naming, of which neither a variable nor a name stands twice, names each variable: by it all clauses are instances, and the assumptions are, as a set, the guards and the bound.
+-- Some naming, of which neither a variable nor a meaning stands twice, names each variable: by it all clauses are instances, and the assumptions are, as a set, the guards and the bound.
 pub record IsDrawn (clauses : List Clause) (assumed : List Lit) (net : Net) (log : Log) (n : ℕ) (bound : Option ℕ) : Type 0 where
   pub names : List (ℕ × Meaning)
   pub once : HasEachOnce names

@@ -24,58 +24,58 @@ use Rattle.run_decode.specs.Question.{IsQuestion, Asks, IsCodeAmong, IsReadAmong
 
 -- What asks a question over a network and a valid log is faithful.
 abbrev pub QuestionIsFaithful : Type 0
-QuestionIsFaithful = (net : Net) (log : Log) (n : ℕ) (bound : Option ℕ) (names : List (ℕ × Meaning)) (clauses : List Clause) (assumed : List Lit) →
-    IsNetwork net → IsValidLog log → Asks net log n bound names clauses assumed → IsFaithful clauses assumed net log n bound
+QuestionIsFaithful = (net : Net) (log : Log) (n : ℕ) (bound : Option ℕ) (meanings : List (ℕ × Meaning)) (clauses : List Clause) (assumed : List Lit) →
+    IsNetwork net → IsValidLog log → Asks net log n bound meanings clauses assumed → IsFaithful clauses assumed net log n bound
 
 -- It is drawn from the families.
 abbrev pub QuestionIsDrawn : Type 0
-QuestionIsDrawn = (net : Net) (log : Log) (n : ℕ) (bound : Option ℕ) (names : List (ℕ × Meaning)) (clauses : List Clause) (assumed : List Lit) →
-    Asks net log n bound names clauses assumed → IsDrawn clauses assumed net log n bound
+QuestionIsDrawn = (net : Net) (log : Log) (n : ℕ) (bound : Option ℕ) (meanings : List (ℕ × Meaning)) (clauses : List Clause) (assumed : List Lit) →
+    Asks net log n bound meanings clauses assumed → IsDrawn clauses assumed net log n bound
 
 -- The assignment gives an explanation within the bound, with this order of the alarms.
-pub record GivesWithin (net : Net) (log : Log) (n : ℕ) (bound : Option ℕ) (names : List (ℕ × Meaning)) (assignment : ℕ → Bool) (alarms : List ℕ) : Type 0 where
-  pub explanation : GivesExplanation net log n names assignment alarms
-  pub within : IsWithin bound (faults_of net (joined (decoded net log (value_by names assignment) alarms n)) (decoded_order net log (value_by names assignment) alarms n))
+pub record GivesWithin (net : Net) (log : Log) (n : ℕ) (bound : Option ℕ) (meanings : List (ℕ × Meaning)) (assignment : ℕ → Bool) (alarms : List ℕ) : Type 0 where
+  pub explanation : GivesExplanation net log n meanings assignment alarms
+  pub within : IsWithin bound (faults_of net (joined (decoded net log (value_by meanings assignment) alarms n)) (decoded_order net log (value_by meanings assignment) alarms n))
 
 -- So does one that makes clauses and assumptions of a question true, by any order of the alarms that keeps the pairs.
 abbrev pub QuestionGivesExplanations : Type 0
-QuestionGivesExplanations = (net : Net) (log : Log) (n : ℕ) (bound : Option ℕ) (names : List (ℕ × Meaning)) (clauses : List Clause) (assumed : List Lit) (assignment : ℕ → Bool) (alarms : List ℕ) →
+QuestionGivesExplanations = (net : Net) (log : Log) (n : ℕ) (bound : Option ℕ) (meanings : List (ℕ × Meaning)) (clauses : List Clause) (assumed : List Lit) (assignment : ℕ → Bool) (alarms : List ℕ) →
     IsNetwork net → IsValidLog log → ListsOnce (length log.alarms) alarms → Keeps alarms log.pairs →
-    Asks net log n bound names clauses assumed → MakesTrue assignment clauses assumed → GivesWithin net log n bound names assignment alarms
+    Asks net log n bound meanings clauses assumed → MakesTrue assignment clauses assumed → GivesWithin net log n bound meanings assignment alarms
 
 -- ---- growth
 
--- An instance stays one when the log gets a further alarm or pair, and further variables get names.
+-- An instance stays one when the log gets a further alarm or pair, and further variables get meanings.
 abbrev pub InstancesStay : Type 0
-InstancesStay = (net : Net) (log : Log) (n : ℕ) (addition : Addition) (names more : List (ℕ × Meaning)) (clause : Clause) → HasEachOnce more → AreAmong names more →
-    IsInstance net log n names clause → IsInstance net (with_addition log addition) n more clause
+InstancesStay = (net : Net) (log : Log) (n : ℕ) (addition : Addition) (meanings more : List (ℕ × Meaning)) (clause : Clause) → HasEachOnce more → AreAmong meanings more →
+    IsInstance net log n meanings clause → IsInstance net (with_addition log addition) n more clause
 
 -- ---- parts
 
--- Clauses that are those of the three parts, each by some of the names, are those of the question,
+-- Clauses that are those of the three parts, each by some of the meanings, are those of the question,
 abbrev pub PartsMakeQuestion : Type 0
-PartsMakeQuestion = (net : Net) (log : Log) (n columns : ℕ) (names : List (ℕ × Meaning)) (clauses stepped logged counted : List Clause) → HasEachOnce names →
-    IsCodeAmong names (IsNamedStep net n) stepped → IsCodeAmong names (IsNamedLog net log n) logged → IsCodeAmong names (IsNamedCount (fault_inputs net log n) columns) counted →
+PartsMakeQuestion = (net : Net) (log : Log) (n columns : ℕ) (meanings : List (ℕ × Meaning)) (clauses stepped logged counted : List Clause) → HasEachOnce meanings →
+    IsCodeAmong meanings (IsNamedStep net n) stepped → IsCodeAmong meanings (IsNamedLog net log n) logged → IsCodeAmong meanings (IsNamedCount (fault_inputs net log n) columns) counted →
     ((clause : Clause) → Contains clauses clause ↔ Contains stepped clause ⊎ (Contains logged clause ⊎ Contains counted clause)) →
-    IsQuestion net log n columns names clauses
+    IsQuestion net log n columns meanings clauses
 
 -- and guards and bound are assumed together.
 abbrev pub PartsAreAssumed : Type 0
-PartsAreAssumed = (net : Net) (log : Log) (n : ℕ) (bound : Option ℕ) (names : List (ℕ × Meaning)) (guards bounds : List Lit) → HasEachOnce names →
-    IsReadAmong names guards (guard_literals net log) → IsReadAmong names bounds (bound_literals net log n bound) →
-    ReadsAs names (guards ++ bounds) (assumption_literals net log n bound)
+PartsAreAssumed = (net : Net) (log : Log) (n : ℕ) (bound : Option ℕ) (meanings : List (ℕ × Meaning)) (guards bounds : List Lit) → HasEachOnce meanings →
+    IsReadAmong meanings guards (guard_literals net log) → IsReadAmong meanings bounds (bound_literals net log n bound) →
+    ReadsAs meanings (guards ++ bounds) (assumption_literals net log n bound)
 
 -- the literal for at most so many, by a counter of the faults, is the bound
 abbrev pub BoundIsRead : Type 0
-BoundIsRead = (net : Net) (log : Log) (n : ℕ) (names : List (ℕ × Meaning)) (state : CounterState) (k : ℕ) → IsCounter state → IsNamedBy names (fault_inputs net log n) state → k < length state.columns →
-    ReadsAs names (bound_literal state k ∷ []) (bound_literals net log n (Some k))
+BoundIsRead = (net : Net) (log : Log) (n : ℕ) (meanings : List (ℕ × Meaning)) (state : CounterState) (k : ℕ) → IsCounter state → IsNamedBy meanings (fault_inputs net log n) state → k < length state.columns →
+    ReadsAs meanings (bound_literal state k ∷ []) (bound_literals net log n (Some k))
 
 -- ---- the names of alarms
 
--- What is asked, and what it is drawn from, is the same without the names of the alarms; so are the runs that truths of names give.
+-- What is asked, and what it is drawn from, is the same without the names of the alarms; so are the runs that truths of meanings give.
 pub record IsAsWithoutNames (net : Net) (log : Log) (n : ℕ) : Type 0 where
-  pub asks : (bound : Option ℕ) (names : List (ℕ × Meaning)) (clauses : List Clause) (assumed : List Lit) → Asks net log n bound names clauses assumed ↔ Asks net (without_names log) n bound names clauses assumed
-  pub instances : (names : List (ℕ × Meaning)) (clause : Clause) → IsInstance net log n names clause ↔ IsInstance net (without_names log) n names clause
+  pub asks : (bound : Option ℕ) (meanings : List (ℕ × Meaning)) (clauses : List Clause) (assumed : List Lit) → Asks net log n bound meanings clauses assumed ↔ Asks net (without_names log) n bound meanings clauses assumed
+  pub instances : (meanings : List (ℕ × Meaning)) (clause : Clause) → IsInstance net log n meanings clause ↔ IsInstance net (without_names log) n meanings clause
   pub pieces : (value : Meaning → Bool) (alarms : List ℕ) → decoded net log value alarms n ≡ decoded net (without_names log) value alarms n
   pub orders : (value : Meaning → Bool) (alarms : List ℕ) → decoded_order net log value alarms n ≡ decoded_order net (without_names log) value alarms n
 

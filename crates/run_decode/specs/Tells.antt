@@ -50,16 +50,16 @@ SamePropertyTold = (has other : Property) (clauses : List Clause) (assumed : Lis
 
 -- ---- riders
 
--- Further clauses and assumptions say something of the truth of names, whatever it is: they may read the variables that have names, and choose others.
-pub record Rides (names : List (ℕ × Meaning)) (rider : List Clause) (further : List Lit) (says : (Meaning → Bool) → Type 0) : Type 0 where
+-- Further clauses and assumptions say something of the truth of meanings, whatever it is: they may read the variables that have meanings, and choose others.
+pub record Rides (meanings : List (ℕ × Meaning)) (rider : List Clause) (further : List Lit) (says : (Meaning → Bool) → Type 0) : Type 0 where
   -- where it is so, the other variables can be chosen
-  pub complete : (value : Meaning → Bool) → says value → (given : ℕ → Bool) × MakesTrue (assignment_by names value given) rider further
+  pub complete : (value : Meaning → Bool) → says value → (given : ℕ → Bool) × MakesTrue (assignment_by meanings value given) rider further
   -- and where all is true it is so
-  pub sound : (assignment : ℕ → Bool) → MakesTrue assignment rider further → says (value_by names assignment)
-  -- the clauses alone never stand against a truth of names
-  pub free : (value : Meaning → Bool) → (given : ℕ → Bool) × AllClausesTrue (assignment_by names value given) rider
+  pub sound : (assignment : ℕ → Bool) → MakesTrue assignment rider further → says (value_by meanings assignment)
+  -- the clauses alone never stand against a truth of meanings
+  pub free : (value : Meaning → Bool) → (given : ℕ → Bool) × AllClausesTrue (assignment_by meanings value given) rider
 
--- What is said of a truth of names holds of the words whose events are those of its steps, with orders that have as many false alarms.
+-- What is said of a truth of meanings holds of the words whose events are those of its steps, with orders that have as many false alarms.
 abbrev pub SaysOfWords : Net → Log → ℕ → ((Meaning → Bool) → Type 0) → Property → Type 0
 SaysOfWords net log n says has = (value : Meaning → Bool) (pieces : List (List ℕ)) (order : List Entry) → AreSteps net n value pieces → HasFalse log value order → says value ↔ has (joined pieces) order
 
@@ -69,7 +69,7 @@ AreBoth whole clauses rider = (clause : Clause) → Contains whole clause ↔ Co
 
 -- A question with a rider tells which of its explanations have what the rider says.
 abbrev pub RiddenTells : Type 1
-RiddenTells = (net : Net) (log : Log) (n : ℕ) (bound : Option ℕ) (names : List (ℕ × Meaning)) (clauses rider whole : List Clause) (assumed further : List Lit)
-    (says : (Meaning → Bool) → Type 0) (has : Property) → IsNetwork net → IsValidLog log → Asks net log n bound names clauses assumed →
-    Rides names rider further says → SaysOfWords net log n says has → AreBoth whole clauses rider → EachPair (λ a b. a ≢ negation b) (assumed ++ further) →
+RiddenTells = (net : Net) (log : Log) (n : ℕ) (bound : Option ℕ) (meanings : List (ℕ × Meaning)) (clauses rider whole : List Clause) (assumed further : List Lit)
+    (says : (Meaning → Bool) → Type 0) (has : Property) → IsNetwork net → IsValidLog log → Asks net log n bound meanings clauses assumed →
+    Rides meanings rider further says → SaysOfWords net log n says has → AreBoth whole clauses rider → EachPair (λ a b. a ≢ negation b) (assumed ++ further) →
     Tells whole (assumed ++ further) (λ word order. ExplainsWithin net log n bound word order × has word order)

@@ -23,7 +23,7 @@ use Rattle.run_decode.specs.RunNaming.{AreFalseLiterals, IsCodedBeside}
 use Rattle.step_encode.specs.Coded.{CodedSteps, code_meanings, code_grid, variable_count}
 use Rattle.step_encode.specs.FaultInputs.{fault_literals}
 
--- the variables of the steps, of the log, and of the counter, each with its name
+-- the variables of the steps, of the log, and of the counter, each with its meaning
 abbrev pub whole_meanings : CodedSteps → CodedLog → CounterState → List (ℕ × Meaning)
 whole_meanings steps code counter = code_meanings steps ++ (log_meanings code ++ counter_meanings counter)
 
@@ -45,7 +45,7 @@ pub record AreCodedTogether (steps : CodedSteps) (code : CodedLog) (counter : Co
   pub later : (i j : ℕ) → IsPlace counter i j → steps.first + variable_count steps.net steps.steps ≤ variable counter i j
   pub apart : IsApartFromCounter code counter
 
--- No name and no variable stands twice; the parts keep their names, and the inputs of the counter read as the fault events in all steps and the false alarms.
+-- No meaning and no variable stands twice; the parts keep their meanings, and the inputs of the counter read as the fault events in all steps and the false alarms.
 pub record HaveOneNaming (steps : CodedSteps) (code : CodedLog) (counter : CounterState) : Type 0 where
   pub once : HasEachOnce (whole_meanings steps code counter)
   pub of_steps : AreAmong (code_meanings steps) (whole_meanings steps code counter)

@@ -19,7 +19,7 @@ pub fn question_is_drawn()
     ensures { QuestionIsDrawn }
 {}
 
-/// A law: an instance stays one when the log gets an alarm or a pair, and further variables get names.
+/// A law: an instance stays one when the log gets an alarm or a pair, and further variables get meanings.
 pub fn instances_stay()
     ensures { InstancesStay }
 {}
@@ -41,7 +41,7 @@ pub fn bound_is_read()
     ensures { BoundIsRead }
 {}
 
-/// A law: literals that are the inputs of the counter by some names are so by more.
+/// A law: literals that are the inputs of the counter by some meanings are so by more.
 pub fn fault_literals_stay()
     ensures { FaultLiteralsStay }
 {}
@@ -144,7 +144,7 @@ pub fn beside_one_naming()
     ensures { BesideOneNaming }
 {}
 
-/// A law: the truth of names by it is that of the variables of events, and of the alarms by the log's own names.
+/// A law: the truth of meanings by it is that of the variables of events, and of the alarms by the log's own meanings.
 pub fn truths_are_read()
     ensures { TruthsAreRead }
 {}
@@ -154,7 +154,7 @@ pub fn coded_runs_explain()
     ensures { CodedRunsExplain }
 {}
 
-/// A law: there the alarm of an event by the log's own names is the one that stands for it.
+/// A law: there the alarm of an event by the log's own meanings is the one that stands for it.
 pub fn coded_alarms_stand()
     ensures { CodedAlarmsStand }
 {}
