@@ -84,13 +84,13 @@ pub record IsSubsumed (clauses : List Clause) (watches : List Watch) (older newe
   pub apart : (watch_at watches newer).clause ≢ (watch_at watches older).clause
   pub subsumes : Subsumes clauses (watch_at watches newer).clause (watch_at watches older).clause
 
--- A clause that is short or watched, mostly itself, subsumes the one of this number, which so is quiet where that one is.
+-- A clause that is short or watched, mostly itself, subsumes the one of this number, which is quiet wherever that one is.
 pub record IsCovered (clauses : List Clause) (short : List ℕ) (watches : List Watch) (number : ℕ) : Type 0 where
   pub cover : ℕ
   pub looked : IsLookedAt short watches cover
   pub subsumes : Subsumes clauses cover number
 
--- Each attached clause is short or watched, or one that is subsumes it; there is room for more; and each watch is settled by the literals
+-- Each attached clause is short or watched, or subsumed by one that is; there is room for more; and each watch is settled by the literals
 -- that have been looked at, as is one that was dropped, which has no clause.
 pub record AreWatched (t : TrailState) (w : WatchedState) : Type 0 where
   pub front : w.seen ≤ length t.literals
