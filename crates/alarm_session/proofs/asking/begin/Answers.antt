@@ -13,6 +13,22 @@ returns-in-Ok-clause-refused g c =
     let log = ap (λ l. question_size c.args.setting.net.now l c.args.setting.steps) c.new-log.ensures in
     accepted None (question_size c.args.setting.net.now no_log c.args.setting.steps) refl (omega (arith, c.question_size-size.ensures.size, log, c.if-size-gt-MOST_SIZE.false))
 
+pub returns-in-Ok-clause-kept : goal.returns-in-Ok-clause-kept
+returns-in-Ok-clause-kept g c =
+    let built = c.in-Ok.ensures.built in
+    record {
+      of_log = record {
+        limits = record {
+          steps = c.requires.steps;
+          size = omega (arith, c.question_size-size.ensures.size, c.if-size-gt-MOST_SIZE.false);
+        };
+        size = c.question_size-size.ensures.size;
+        belong = built.belong;
+        time = built.steps;
+      };
+      ready = built.ready;
+    }
+
 pub returns-in-Ok-clause-begun : goal.returns-in-Ok-clause-begun
 returns-in-Ok-clause-begun g c =
     let built = c.in-Ok.ensures.built in
