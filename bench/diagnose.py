@@ -16,42 +16,43 @@ are what a device that tells its states leaves in a log. The last are grids of 2
 10 simulated faults, in their whole order and in that of each component alone, within the steps of the simulated run. So many faults are
 an upper bound of the answer.
 
-On 30 November 2026, on four processors with little else to do, seconds of the processor for the whole `diagnose` by the proved program, the least of two runs (of one where a run took more than 10 seconds
-before, and for 400 alarms of the lamp), and MiB at the peak; "before" is commit 92eb26f, which had no deadlines. CaDiCaL's library (1.5.3) was asked once for all bounds on the formulas that `cnf` prints,
-and its seconds are those of the search alone. A single run may vary severalfold where anything changes, so the mesh of 30 and the grid with 5 faults say little. Over the 28 questions that both
-answered, small ones that are left out here among them, the geometric mean of "now" to CaDiCaL's library is 0.72, and was 1.0 before; of "now" to "before" it is 0.71. These are not all that this script
-asks: 200 units in 50 and 52 steps and 300 units were not given to the library, and seven alarms of one device, the mesh of 50 nodes and longer lines weren't run.
+On 30 November 2026, on four processors with a proof or two beside, seconds of the processor for the whole `diagnose` by the proved program, the least of two runs (of one where a run took more than 10 seconds), and MiB at the
+peak; "before" is commit 8f500805, compiled without its proof, which copied each list of watches before it looked at it and went on to watch what a later clause subsumes. The runs took turns. CaDiCaL's library (1.5.3) was asked for all bounds on the
+formulas that `cnf` prints, the least of two runs, and its seconds are those of the search alone. A single run may vary severalfold where anything changes, so valves, six stations, the mesh of 30 and grids say little (docs/DECISIONS.md has
+means by several growths of activities). Over the 26 questions that both answered, the geometric mean of "now" to CaDiCaL's library is 0.64; of "now" to "before" it is 0.82 over 27. Seven alarms of one device, the mesh of 50 nodes and longer lines weren't run.
 
 | Plant | Steps | Before | Now | MiB | CaDiCaL's library | Now to CaDiCaL |
 |---|---|---|---|---|---|---|
-| 64 units | 16 | 0.04 | 0.05 | 15 | 0.07 | 0.7 |
-| 64 units | 18 | 0.06 | 0.04 | 18 | 0.12 | 0.3 |
-| 100 units | 26 | 0.23 | 0.21 | 31 | 0.53 | 0.4 |
-| 100 units | 28 | 0.27 | 0.23 | 33 | 0.53 | 0.4 |
-| 200 units, one step fewer than alarms | 48 | 1.08 | 0.26 | 100 | 1.50 | 0.2 |
-| 200 units | 50 | 2.96 | 2.49 | 192 | | |
-| 200 units | 52 | 3.12 | 2.89 | 198 | | |
-| 300 units | 75 | 16.2 | 10.6 | 616 | | |
-| 6 valves, 4 alarms | 5 | 0.21 | 0.27 | | 0.35 | 0.8 |
-| 6 valves, 5 alarms | 4 | 0.43 | 0.45 | | 0.28 | 1.6 |
-| 6 stations, 6 alarms | 8 | 0.22 | 0.20 | | 0.13 | 1.5 |
-| 10 stations, 6 alarms | 6 | 0.22 | 0.22 | | 0.10 | 2.3 |
-| mesh of 20 nodes | 10 | 0.09 | 0.08 | | 0.05 | 1.6 |
-| mesh of 30 nodes | 12 | 1.63 | 0.76 | 31 | 2.45 | 0.3 |
-| 5 alarms of one device | 5 | 0.07 | 0.06 | | 0.05 | 1.2 |
-| 6 alarms of one device | 6 | 1.31 | 1.33 | | 0.29 | 4.6 |
-| grid of 20, 4 faults, whole order | 13 | 0.04 | 0.04 | | 0.06 | 0.7 |
-| grid of 20, 4 faults, order of each component | 13 | 0.32 | 0.31 | | 0.24 | 1.3 |
-| grid of 20, 5 faults, whole order | 16 | 0.19 | 0.18 | | 0.18 | 1.0 |
-| grid of 20, 5 faults, order of each component | 16 | 1.08 | 2.11 | 38 | 1.20 | 1.8 |
-| grid of 20, 8 faults, whole order | 20 | 4.35 | 4.17 | 64 | 1.83 | 2.3 |
-| lamp, 50 alarms in order | 50 | 0.04 | 0.01 | | 0.09 | 0.1 |
-| lamp, 100 alarms in order | 100 | 0.76 | 0.06 | | 0.71 | 0.1 |
-| lamp, 100 alarms in order | 150 | 0.26 | 0.27 | | 0.91 | 0.3 |
-| lamp, 200 alarms in order | 200 | 11.0 | 0.37 | 41 | 3.13 | 0.1 |
-| lamp, 400 alarms in order | 400 | | 3.02 | 161 | | |
+| 64 units | 16 | 0.05 | 0.05 | 14 | 0.13 | 0.4 |
+| 64 units | 18 | 0.06 | 0.05 | 14 | 0.15 | 0.4 |
+| 100 units | 26 | 0.35 | 0.26 | 31 | 0.53 | 0.5 |
+| 100 units | 28 | 0.38 | 0.37 | 33 | 0.64 | 0.6 |
+| 200 units, one step fewer than alarms | 48 | 0.34 | 0.37 | 100 | 1.91 | 0.2 |
+| 200 units | 50 | 3.20 | 3.13 | 196 |  |  |
+| 6 valves, 4 alarms | 4 | 0.09 | 0.06 | 14 | 0.07 | 0.9 |
+| 6 valves, 4 alarms | 5 | 0.26 | 0.11 | 14 | 0.49 | 0.2 |
+| 6 valves, 5 alarms | 4 | 0.54 | 0.80 | 14 | 0.32 | 2.5 |
+| 6 stations, 6 alarms | 6 | 0.05 | 0.05 | 14 | 0.03 | 1.5 |
+| 6 stations, 6 alarms | 8 | 0.27 | 0.47 | 14 | 0.18 | 2.6 |
+| 10 stations, 6 alarms | 6 | 0.22 | 0.10 | 14 | 0.07 | 1.4 |
+| mesh of 20 nodes | 10 | 0.12 | 0.13 | 14 | 0.08 | 1.7 |
+| mesh of 30 nodes | 12 | 1.53 | 0.72 | 19 | 3.01 | 0.2 |
+| 5 alarms of one device | 5 | 0.06 | 0.06 | 14 | 0.05 | 1.1 |
+| 6 alarms of one device | 6 | 1.81 | 1.24 | 15 | 0.32 | 3.9 |
+| lamp, 50 alarms in order | 50 | 0.01 | 0.01 | 14 | 0.11 | 0.1 |
+| lamp, 100 alarms in order | 100 | 0.06 | 0.06 | 14 | 0.82 | 0.1 |
+| lamp, 200 alarms in order | 200 | 0.48 | 0.38 | 42 | 4.91 | 0.1 |
+| lamp, 400 alarms in order | 400 | 4.35 | 4.04 | 165 |  |  |
+| lamp, 100 alarms in order | 150 | 0.42 | 0.35 | 17 | 1.46 | 0.2 |
+| grid of 20, 4 faults, whole order | 13 | 0.07 | 0.06 | 14 | 0.07 | 1.0 |
+| grid of 20, 4 faults, order of each component | 13 | 0.47 | 0.19 | 14 | 0.34 | 0.6 |
+| grid of 20, 5 faults, whole order | 16 | 0.32 | 0.20 | 14 | 0.23 | 0.9 |
+| grid of 20, 5 faults, order of each component | 16 | 3.56 | 2.74 | 35 | 1.84 | 1.5 |
+| grid of 20, 6 faults, whole order | 19 | 0.39 | 0.35 | 14 | 0.23 | 1.5 |
+| grid of 20, 7 faults, whole order | 18 | 0.35 | 0.24 | 14 | 0.38 | 0.6 |
+| grid of 20, 8 faults, whole order | 20 | 6.86 | 5.79 | 58 | 2.43 | 2.4 |
 
-Not answered within 150 seconds, before or now: the grid with 8 faults in the order of each component (before; not tried now), and 20 alarms of the device that tells one alarm by three faults in a known order within 20 steps (within 60 seconds now).
+Not answered within 150 seconds by an earlier build: the grid with 8 faults in the order of each component (not tried now), and 20 alarms of the device that tells one alarm by three faults in a known order within 20 steps (within 60 seconds).
 Seven alarms of one device were answered in 144 seconds with 78 MiB, once, by an older build under load. MiniSat takes 4.8 for all bounds, and CaDiCaL's library 3.4.
 MiniSat (2.2.1), anew for each bound up to the answer, took 2.0, 15.6, 0.19, 0.39, 0.12, 0.14, 0.44, 1.61, 0.06 and 0.41 seconds on 64 and 100 units (16 and 26 steps), 6 valves with 4 and with 5 alarms, 6 and 10 stations, meshes of 20 and 30 nodes, and
 5 and 6 alarms, two days before and under load.
