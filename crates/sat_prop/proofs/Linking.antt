@@ -11,7 +11,7 @@ use Rattle.prop_core.proofs.Literals.{same_is}
 use Rattle.sat_prop.specs.declared.watch_lists.Ends.{Ends}
 use Rattle.sat_prop.specs.declared.watch_lists.Lists.{Lists}
 use Rattle.sat_prop.specs.declared.watch_lists.TheConstants.{NO_WATCH}
-use Rattle.sat_prop.specs.Watches.{AreLinked, IsList, is_among, appended, as_link, empty, ended, ends_in, ends_of, first_of, last_of, lists_at, no_lists, unlinked, with_ends}
+use Rattle.sat_prop.specs.Watches.{AreLinked, IsList, is_among, appended, as_link, empty, ended, ends_in, ends_of, first_or_end, last_of, lists_at, no_lists, unlinked, with_ends}
 use Rattle.sat_prop.proofs.Links.{among_either, among_left, among_right, list_apart, list_appended, list_unlinked, links_apart, links_below, links_more, last_is_among, not_both, relinked}
 
 -- ---- the ends of lists
@@ -116,8 +116,8 @@ module _ (of : ℕ → Lit) (nexts : List (Option ℕ)) (lists : List Lists) (nu
 
     -- one leaves
     pub linked_unlinked : (done : List ℕ) (n : ℕ) (rest : List ℕ) → numbers l ≡ done ++ n ∷ rest
-        → AreLinked of (relinked nexts (last_of done) (as_link (first_of rest))) (with_ends lists l (unlinked (ends_of lists l) (last_of done) (first_of rest))) (with_list numbers l (done ++ rest))
-    linked_unlinked done n rest e = linked_changed (last_of done) (as_link (first_of rest)) (unlinked (ends_of lists l) (last_of done) (first_of rest)) (done ++ rest)
+        → AreLinked of (relinked nexts (last_of done) (as_link (first_or_end rest))) (with_ends lists l (unlinked (ends_of lists l) (last_of done) (first_or_end rest))) (with_list numbers l (done ++ rest))
+    linked_unlinked done n rest e = linked_changed (last_of done) (as_link (first_or_end rest)) (unlinked (ends_of lists l) (last_of done) (first_or_end rest)) (done ++ rest)
         (λ d. subst (λ (xs : List ℕ). is_among (last_of done) xs ≡ true) (sym e) (among_left (last_of done) done (n ∷ rest) (last_is_among done d)))
         (list_unlinked nexts (ends_of lists l) n rest few done (subst (λ (xs : List ℕ). IsList nexts (ends_of lists l) xs) e (a.each l known)))
         (λ m t. a.own l m known (subst (λ (xs : List ℕ). is_among m xs ≡ true) (sym e) (⊎_elim

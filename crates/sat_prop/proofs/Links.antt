@@ -8,7 +8,7 @@ use Rattle.std.proofs.lemmas.List.Folds.{list_any-append}
 use Rattle.std.proofs.lemmas.Map.Steps.{length-le_from_distinct_below}
 use Rattle.sat_prop.specs.declared.watch_lists.Ends.{Ends}
 use Rattle.sat_prop.specs.declared.watch_lists.TheConstants.{NO_WATCH}
-use Rattle.sat_prop.specs.Watches.{IsList, Links, is_among, as_link, appended, first_of, last_of, passed_within, unlinked}
+use Rattle.sat_prop.specs.Watches.{IsList, Links, is_among, as_link, appended, first_or_end, last_of, passed_within, unlinked}
 
 -- ---- numbers among others
 
@@ -135,18 +135,18 @@ link_once a b e = ⊎_elim
     (cases_Bool (nat_eq a NO_WATCH))
 
 -- from the first of the rest on one passes the rest
-pub links_rest : (nexts : List (Option ℕ)) (first : Option ℕ) (done rest : List ℕ) → length nexts ≤ NO_WATCH → Links nexts first (done ++ rest) → Links nexts (as_link (first_of rest)) rest
+pub links_rest : (nexts : List (Option ℕ)) (first : Option ℕ) (done rest : List ℕ) → length nexts ≤ NO_WATCH → Links nexts first (done ++ rest) → Links nexts (as_link (first_or_end rest)) rest
 links_rest nexts first [] [] few h = ends NO_WATCH refl
 links_rest nexts first [] (x ∷ xs) few h = let w : x < length nexts = h.1 in (linked_to x (omega arith), h.1, h.2, h.3)
 links_rest nexts first (y ∷ ys) rest few h = links_rest nexts (get_or nexts y None) ys rest few h.3
 
 -- a link is to the first of those that one passes from it on
-pub links_first : (nexts : List (Option ℕ)) (link : Option ℕ) (numbers : List ℕ) → length nexts ≤ NO_WATCH → Links nexts link numbers → link ≡ as_link (first_of numbers)
+pub links_first : (nexts : List (Option ℕ)) (link : Option ℕ) (numbers : List ℕ) → length nexts ≤ NO_WATCH → Links nexts link numbers → link ≡ as_link (first_or_end numbers)
 links_first nexts link [] few k = k ∙ sym (ends NO_WATCH refl)
 links_first nexts link (x ∷ xs) few k = let w : x < length nexts = k.1 in k.0 ∙ sym (linked_to x (omega arith))
 
 -- the link from one is to the first of those after it
-pub link_after : (nexts : List (Option ℕ)) (first : Option ℕ) (done : List ℕ) (n : ℕ) (rest : List ℕ) → length nexts ≤ NO_WATCH → Links nexts first (done ++ n ∷ rest) → get_or nexts n None ≡ as_link (first_of rest)
+pub link_after : (nexts : List (Option ℕ)) (first : Option ℕ) (done : List ℕ) (n : ℕ) (rest : List ℕ) → length nexts ≤ NO_WATCH → Links nexts first (done ++ n ∷ rest) → get_or nexts n None ≡ as_link (first_or_end rest)
 link_after nexts first done n rest few h = links_first nexts (get_or nexts n None) rest few (links_rest nexts first done (n ∷ rest) few h).3
 
 -- those that one passes, where one may pass as many
@@ -256,7 +256,7 @@ list_appended nexts e n few w g = by_last (λ xs. IsList nexts e xs → is_among
     only : (k : ℕ) → (k ≡ n → ⊥) → is_among k (n ∷ []) ≡ false
     only k d = let q = ne_eqb k n d in rw q refl
 
-last_left : (done : List ℕ) (n : ℕ) (rest : List ℕ) (last : ℕ) → (rest ≡ []) ⊎ (first_of rest < NO_WATCH) → last ≡ last_of (done ++ n ∷ rest) → cond (eqb (first_of rest) NO_WATCH) (last_of done) last ≡ last_of (done ++ rest)
+last_left : (done : List ℕ) (n : ℕ) (rest : List ℕ) (last : ℕ) → (rest ≡ []) ⊎ (first_or_end rest < NO_WATCH) → last ≡ last_of (done ++ n ∷ rest) → cond (eqb (first_or_end rest) NO_WATCH) (last_of done) last ≡ last_of (done ++ rest)
 last_left done n [] last s e = ap last_of (sym (append-nil done))
 last_left done n (r ∷ rs) last s e =
     let b : r < NO_WATCH = small s in
@@ -268,25 +268,25 @@ last_left done n (r ∷ rs) last s e =
     small (inr b) = b
 
 -- one leaves
-pub list_unlinked : (nexts : List (Option ℕ)) (e : Ends) (n : ℕ) (rest : List ℕ) → length nexts ≤ NO_WATCH → (done : List ℕ) → IsList nexts e (done ++ n ∷ rest) → IsList (relinked nexts (last_of done) (as_link (first_of rest))) (unlinked e (last_of done) (first_of rest)) (done ++ rest)
-list_unlinked nexts e n rest few = by_last (λ done. IsList nexts e (done ++ n ∷ rest) → IsList (relinked nexts (last_of done) (as_link (first_of rest))) (unlinked e (last_of done) (first_of rest)) (done ++ rest))
+pub list_unlinked : (nexts : List (Option ℕ)) (e : Ends) (n : ℕ) (rest : List ℕ) → length nexts ≤ NO_WATCH → (done : List ℕ) → IsList nexts e (done ++ n ∷ rest) → IsList (relinked nexts (last_of done) (as_link (first_or_end rest))) (unlinked e (last_of done) (first_or_end rest)) (done ++ rest)
+list_unlinked nexts e n rest few = by_last (λ done. IsList nexts e (done ++ n ∷ rest) → IsList (relinked nexts (last_of done) (as_link (first_or_end rest))) (unlinked e (last_of done) (first_or_end rest)) (done ++ rest))
     (λ i. record { links = after [] i.links; last = last_left [] n rest e.last (small [] i.links) i.last })
     (λ ys d i.
     let f : last_of (ys ++ d ∷ []) ≡ d = last_append ys d [] in
     let whole : Links nexts (as_link e.first) (ys ++ d ∷ n ∷ rest) = subst (λ (xs : List ℕ). Links nexts (as_link e.first) xs) (append_assoc ys (d ∷ []) (n ∷ rest)) i.links in
     let b : d < length nexts = links_below nexts (as_link e.first) ((ys ++ d ∷ []) ++ n ∷ rest) d i.links (among_left d (ys ++ d ∷ []) (n ∷ rest) (among_last d ys)) in
     let q = ne_eqb d NO_WATCH (λ z. absurd (omega (arith, z, b, few))) in
-    let l : cond (eqb (first_of rest) NO_WATCH) d e.last ≡ last_of ((ys ++ d ∷ []) ++ rest) = subst (λ (k : ℕ). cond (eqb (first_of rest) NO_WATCH) k e.last ≡ last_of ((ys ++ d ∷ []) ++ rest)) f (last_left (ys ++ d ∷ []) n rest e.last (small (ys ++ d ∷ []) i.links) i.last) in
-    let all : Links (slice_set nexts d (as_link (first_of rest))) (as_link e.first) (ys ++ d ∷ rest) = links_relinked nexts (as_link e.first) ys d (n ∷ rest) rest (as_link (first_of rest)) whole (after (ys ++ d ∷ []) i.links)
+    let l : cond (eqb (first_or_end rest) NO_WATCH) d e.last ≡ last_of ((ys ++ d ∷ []) ++ rest) = subst (λ (k : ℕ). cond (eqb (first_or_end rest) NO_WATCH) k e.last ≡ last_of ((ys ++ d ∷ []) ++ rest)) f (last_left (ys ++ d ∷ []) n rest e.last (small (ys ++ d ∷ []) i.links) i.last) in
+    let all : Links (slice_set nexts d (as_link (first_or_end rest))) (as_link e.first) (ys ++ d ∷ rest) = links_relinked nexts (as_link e.first) ys d (n ∷ rest) rest (as_link (first_or_end rest)) whole (after (ys ++ d ∷ []) i.links)
     (λ k t. (among_front k n rest (links_split nexts (as_link e.first) (ys ++ d ∷ []) (n ∷ rest) k i.links t)).1) in
-    rw (f, q) (record { links = subst (λ (xs : List ℕ). Links (slice_set nexts d (as_link (first_of rest))) (as_link e.first) xs) (sym (append_assoc ys (d ∷ []) rest)) all; last = l }))
+    rw (f, q) (record { links = subst (λ (xs : List ℕ). Links (slice_set nexts d (as_link (first_or_end rest))) (as_link e.first) xs) (sym (append_assoc ys (d ∷ []) rest)) all; last = l }))
   where
-    after : (done : List ℕ) → Links nexts (as_link e.first) (done ++ n ∷ rest) → Links nexts (as_link (first_of rest)) rest
+    after : (done : List ℕ) → Links nexts (as_link e.first) (done ++ n ∷ rest) → Links nexts (as_link (first_or_end rest)) rest
     after done h = links_rest nexts (get_or nexts n None) [] rest few (links_rest nexts (as_link e.first) done (n ∷ rest) few h).3
 
-    small : (done : List ℕ) → Links nexts (as_link e.first) (done ++ n ∷ rest) → (rest ≡ []) ⊎ (first_of rest < NO_WATCH)
+    small : (done : List ℕ) → Links nexts (as_link e.first) (done ++ n ∷ rest) → (rest ≡ []) ⊎ (first_or_end rest < NO_WATCH)
     small done h = by rest (after done h)
       where
-        by : (xs : List ℕ) → Links nexts (as_link (first_of xs)) xs → (xs ≡ []) ⊎ (first_of xs < NO_WATCH)
+        by : (xs : List ℕ) → Links nexts (as_link (first_or_end xs)) xs → (xs ≡ []) ⊎ (first_or_end xs < NO_WATCH)
         by [] k = inl refl
         by (x ∷ xs) k = let w : x < length nexts = k.1 in inr (omega arith)

@@ -8,7 +8,7 @@ use Rattle.sat_prop.specs.declared.watch_lists.Lists.{Lists}
 use Rattle.sat_prop.specs.declared.watch_lists.Walk.{Walk}
 use Rattle.sat_prop.specs.declared.watch_lists.Watch.{Watch}
 use Rattle.sat_prop.specs.declared.watch_lists.TheConstants.{NO_WATCH}
-use Rattle.sat_prop.specs.Watches.{AreWatchLists, IsLive, IsOpened, MovesWatch, PassesWatch, WatchState, alone, appended, as_link, ends_of, first_of, is_among, last_of, literal_of, nexts_of, no_node, node_at, passed, unlinked, watch_at, watches_of, watching, with_ends, with_next}
+use Rattle.sat_prop.specs.Watches.{AreWatchLists, IsLive, IsOpened, MovesWatch, PassesWatch, WatchState, alone, appended, as_link, ends_of, first_or_end, is_among, last_of, watched_literal, nexts_of, no_node, node_at, passed, unlinked, watch_at, watches_of, watching, with_ends, with_next_watch}
 use Rattle.sat_prop.proofs.Links.{linked_to, relinked}
 use Rattle.sat_prop.proofs.Walking.{IsNext, IsWalkOf, after_is}
 use Rattle.sat_prop.proofs.WatchLists.{before_within, last_within, lists_forgotten, lists_moved, next_within, walk_left, walk_moved}
@@ -38,15 +38,15 @@ module _ (nodes : List Node) (lists : List Lists) (a : AreWatchLists (watches_of
   pub before_node : (walk.before ≡ NO_WATCH → ⊥) → walk.before < length nodes
   before_node d = let b = before_within (watches_of nodes) (nexts_of nodes) lists a links_few walk x d in let n = count_watches nodes in omega arith
 
-  module _ (after : ℕ) (new : List Node) (new_lists : List Lists) (e : after ≡ (node_at nodes walk.next).next) (f : new ≡ with_next nodes walk.before after) (g : new_lists ≡ with_ends lists walk.lit (unlinked (ends_of lists walk.lit) walk.before after)) where
-    first : after ≡ first_of x.others
+  module _ (after : ℕ) (new : List Node) (new_lists : List Lists) (e : after ≡ (node_at nodes walk.next).next) (f : new ≡ with_next_watch nodes walk.before after) (g : new_lists ≡ with_ends lists walk.lit (unlinked (ends_of lists walk.lit) walk.before after)) where
+    first : after ≡ first_or_end x.others
     first = after_is (nexts_of nodes) lists walk after links_few x (next_of_node nodes walk.next no_node next_node ∙ ap as_link (sym e))
 
     abbrev left_nexts : List (Option ℕ)
-    left_nexts = relinked (nexts_of nodes) (last_of x.done) (as_link (first_of x.others))
+    left_nexts = relinked (nexts_of nodes) (last_of x.done) (as_link (first_or_end x.others))
 
     abbrev left_lists : List Lists
-    left_lists = with_ends lists walk.lit (unlinked (ends_of lists walk.lit) (last_of x.done) (first_of x.others))
+    left_lists = with_ends lists walk.lit (unlinked (ends_of lists walk.lit) (last_of x.done) (first_or_end x.others))
 
     new_watches : watches_of new ≡ watches_of nodes
     new_watches = ap watches_of f ∙ watches_linked nodes walk.before after before_node
@@ -81,14 +81,14 @@ module _ (nodes : List Node) (lists : List Lists) (a : AreWatchLists (watches_of
 
     -- ---- it watches another literal
 
-    module _ (l : Lit) (known : l.var < length lists) (other : literal_of (watches_of nodes) walk.next ≡ l → ⊥) where
+    module _ (l : Lit) (known : l.var < length lists) (other : watched_literal (watches_of nodes) walk.next ≡ l → ⊥) where
       pub last_node : ((ends_of new_lists l).last ≡ NO_WATCH → ⊥) → (ends_of new_lists l).last < length nodes
       last_node d =
           let n = count_watches nodes in
           let b = last_within (watches_of nodes) (nexts_of nodes) lists a links_few walk x l known (λ z. d (ap (λ (ls : List Lists). (ends_of ls l).last) new_ends ∙ z)) in
           subst (λ (ls : List Lists). (ends_of ls l).last < length nodes) (sym new_ends) (omega arith)
 
-      module _ (turned final : List Node) (final_lists : List Lists) (t : turned ≡ slice_set new walk.next (alone (node_at new walk.next).clause l)) (h : final ≡ with_next turned (ends_of new_lists l).last walk.next)
+      module _ (turned final : List Node) (final_lists : List Lists) (t : turned ≡ slice_set new walk.next (alone (node_at new walk.next).clause l)) (h : final ≡ with_next_watch turned (ends_of new_lists l).last walk.next)
           (k : final_lists ≡ with_ends new_lists l (appended (ends_of new_lists l) walk.next)) where
         pub final_length : length final ≡ length nodes
         final_length = ap length h ∙ linked_length turned (ends_of new_lists l).last walk.next ∙ turned_length walk.next l turned t
@@ -134,7 +134,7 @@ module _ (nodes : List Node) (lists : List Lists) (a : AreWatchLists (watches_of
 
 -- ---- all that watch a literal wait
 
-pub opens : (s : WatchState) (waiting : List ℕ) (l : Lit) (numbers : List ℕ) → waiting ≡ numbers → ((n : ℕ) → n < length s.watches → IsLive s.watches n → literal_of s.watches n ≡ l → is_among n numbers ≡ true) → ((n : ℕ) → is_among n numbers ≡ true → literal_of s.watches n ≡ l)
+pub opens : (s : WatchState) (waiting : List ℕ) (l : Lit) (numbers : List ℕ) → waiting ≡ numbers → ((n : ℕ) → n < length s.watches → IsLive s.watches n → watched_literal s.watches n ≡ l → is_among n numbers ≡ true) → ((n : ℕ) → is_among n numbers ≡ true → watched_literal s.watches n ≡ l)
     → IsOpened s (record s { waiting = waiting }) l
 opens s waiting l numbers e f g = record {
   watches = refl;

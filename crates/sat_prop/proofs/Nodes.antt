@@ -11,7 +11,7 @@ use Rattle.sat_prop.specs.declared.watch_lists.Node.{Node}
 use Rattle.sat_prop.specs.declared.watch_lists.Lists.{Lists}
 use Rattle.sat_prop.specs.declared.watch_lists.TheConstants.{NO_WATCH, NO_CLAUSE}
 use Rattle.prop_core.specs.LiteralNumbers.{literal_number, numbered_literal}
-use Rattle.sat_prop.specs.Watches.{AreWatchLists, alone, appended, as_link, cleared, dropped, ends_of, literal_of, nexts_of, no_node, no_watch, node_at, twin_number, watch_at, watch_of, watches_from, watches_of, watching, with_dropped, with_ends, with_next}
+use Rattle.sat_prop.specs.Watches.{AreWatchLists, alone, appended, as_link, cleared, dropped, ends_of, watched_literal, nexts_of, no_node, no_watch, node_at, twin_number, watch_at, watch_of, watches_from, watches_of, watching, with_dropped, with_ends, with_next_watch}
 use Rattle.sat_prop.proofs.Links.{ends, linked_to, relinked, relinked_length}
 use Rattle.sat_prop.proofs.Linking.{last_link}
 use Rattle.sat_prop.proofs.WatchLists.{lists_pushed, lists_dropped}
@@ -103,13 +103,13 @@ set_same : {X : Type 0} (xs : List X) (i : ℕ) (d : X) → i < length xs → sl
 set_same xs i d h = grind (arith, common_steps)
 
 -- a node comes after another one
-pub nexts_linked : (nodes : List Node) (before after : ℕ) → nexts_of (with_next nodes before after) ≡ relinked (nexts_of nodes) before (as_link after)
+pub nexts_linked : (nodes : List Node) (before after : ℕ) → nexts_of (with_next_watch nodes before after) ≡ relinked (nexts_of nodes) before (as_link after)
 nexts_linked nodes before after = ⊎_elim
     (λ q. rw q refl)
     (λ q. rw q (nexts_set nodes before (record (node_at nodes before) { next = after })))
     (cases_Bool (eqb before NO_WATCH))
 
-pub watches_linked : (nodes : List Node) (before after : ℕ) → ((before ≡ NO_WATCH → ⊥) → before < length nodes) → watches_of (with_next nodes before after) ≡ watches_of nodes
+pub watches_linked : (nodes : List Node) (before after : ℕ) → ((before ≡ NO_WATCH → ⊥) → before < length nodes) → watches_of (with_next_watch nodes before after) ≡ watches_of nodes
 watches_linked nodes before after within = ⊎_elim
     (λ q. rw q refl)
     (λ q. let b = within (eqb-false before NO_WATCH q) in
@@ -119,8 +119,8 @@ watches_linked nodes before after within = ⊎_elim
     ∙ set_same (watches_of nodes) before no_watch (omega arith)))
     (cases_Bool (eqb before NO_WATCH))
 
-pub linked_length : (nodes : List Node) (before after : ℕ) → length (with_next nodes before after) ≡ length nodes
-linked_length nodes before after = sym (count_nexts (with_next nodes before after)) ∙ ap length (nexts_linked nodes before after) ∙ relinked_length (nexts_of nodes) before (as_link after) ∙ count_nexts nodes
+pub linked_length : (nodes : List Node) (before after : ℕ) → length (with_next_watch nodes before after) ≡ length nodes
+linked_length nodes before after = sym (count_nexts (with_next_watch nodes before after)) ∙ ap length (nexts_linked nodes before after) ∙ relinked_length (nexts_of nodes) before (as_link after) ∙ count_nexts nodes
 
 -- a node watches another literal, and comes before none
 pub nexts_turned : (nodes : List Node) (number clause : ℕ) (l : Lit) → nexts_of (slice_set nodes number (alone clause l)) ≡ slice_set (nexts_of nodes) number None
@@ -136,11 +136,11 @@ watches_turned nodes number l h =
 pub ends_within : (nodes : List Node) (lists : List Lists) (l : Lit) → length nodes ≤ NO_WATCH → AreWatchLists (watches_of nodes) (nexts_of nodes) lists → l.var < length lists → ((ends_of lists l).last ≡ NO_WATCH → ⊥) → (ends_of lists l).last < length nodes
 ends_within nodes lists l few a known d =
     let n = count_nexts nodes in
-    let b = last_link (literal_of (watches_of nodes)) (nexts_of nodes) lists a.numbers (omega arith) a.linked l known d in
+    let b = last_link (watched_literal (watches_of nodes)) (nexts_of nodes) lists a.numbers (omega arith) a.linked l known d in
     omega arith
 
 -- a node is added: its watch
-pub node_watches : (nodes new : List Node) (lists : List Lists) (clause : ℕ) (l : Lit) → AreWatchLists (watches_of nodes) (nexts_of nodes) lists → l.var < length lists → length nodes < NO_WATCH → new ≡ with_next (nodes ++ alone clause l ∷ []) (ends_of lists l).last (length nodes)
+pub node_watches : (nodes new : List Node) (lists : List Lists) (clause : ℕ) (l : Lit) → AreWatchLists (watches_of nodes) (nexts_of nodes) lists → l.var < length lists → length nodes < NO_WATCH → new ≡ with_next_watch (nodes ++ alone clause l ∷ []) (ends_of lists l).last (length nodes)
     → watches_of new ≡ watches_of nodes ++ record { clause = clause; lit = l; twin = twin_number (length nodes) } ∷ []
 node_watches nodes new lists clause l a known few e =
     let more : length (nodes ++ alone clause l ∷ []) ≡ length nodes + 1 = grind (arith, common_steps) in
@@ -150,7 +150,7 @@ node_watches nodes new lists clause l a known few e =
     ∙ ap (λ (w : Watch). watches_of nodes ++ w ∷ []) (alone_keeps (length nodes) clause l)
 
 -- a node is added, and comes after the last one of its list
-pub node_pushed : (nodes new : List Node) (lists : List Lists) (clause : ℕ) (l : Lit) → AreWatchLists (watches_of nodes) (nexts_of nodes) lists → l.var < length lists → length nodes < NO_WATCH → new ≡ with_next (nodes ++ alone clause l ∷ []) (ends_of lists l).last (length nodes)
+pub node_pushed : (nodes new : List Node) (lists : List Lists) (clause : ℕ) (l : Lit) → AreWatchLists (watches_of nodes) (nexts_of nodes) lists → l.var < length lists → length nodes < NO_WATCH → new ≡ with_next_watch (nodes ++ alone clause l ∷ []) (ends_of lists l).last (length nodes)
     → AreWatchLists (watches_of new) (nexts_of new) (with_ends lists l (appended (ends_of lists l) (length nodes)))
 node_pushed nodes new lists clause l a known few e =
     let n = count_watches nodes in

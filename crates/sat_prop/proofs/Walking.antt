@@ -4,7 +4,7 @@ use Rattle.prop_core.specs.declared.lit.Lit.{Lit}
 use Rattle.sat_prop.specs.declared.watch_lists.Lists.{Lists}
 use Rattle.sat_prop.specs.declared.watch_lists.Walk.{Walk}
 use Rattle.sat_prop.specs.declared.watch_lists.TheConstants.{NO_WATCH}
-use Rattle.sat_prop.specs.Watches.{IsList, IsWalk, IsWithin, Links, as_link, ends_of, first_of, last_of, passed, passed_within}
+use Rattle.sat_prop.specs.Watches.{IsList, IsWalk, IsWalkInList, Links, as_link, ends_of, first_or_end, last_of, passed, passed_within}
 use Rattle.sat_prop.proofs.Links.{ends, last_append, link_after, link_once, links_few, links_first, links_rest, passed_all, passed_none}
 
 -- one walks there, and these wait
@@ -22,13 +22,13 @@ walk_none nexts lists walk e = record {
 
 -- ---- the rest waits
 
-walk_of : (nexts : List (Option ℕ)) (lists : List Lists) (walk : Walk) → length nexts ≤ NO_WATCH → (w : IsWithin nexts lists walk) → IsWalkOf nexts lists walk w.rest
+walk_of : (nexts : List (Option ℕ)) (lists : List Lists) (walk : Walk) → length nexts ≤ NO_WATCH → (w : IsWalkInList nexts lists walk) → IsWalkOf nexts lists walk w.rest
 walk_of nexts lists walk few w =
     let l : Links nexts (as_link walk.next) w.rest = subst (λ (n : ℕ). Links nexts (as_link n) w.rest) (sym w.next) (links_rest nexts (as_link (ends_of lists walk.lit).first) w.done w.rest few w.links) in
     record { walks = λ d. w; waits = passed_all (length nexts) nexts (as_link walk.next) w.rest l (links_few nexts (as_link walk.next) w.rest l) }
 
 -- in the list of a literal, these have been looked at and these haven't
-pub walk_within : (nexts : List (Option ℕ)) (lists : List Lists) (l : Lit) (before next : ℕ) (done rest : List ℕ) → length nexts ≤ NO_WATCH → l.var < length lists → IsList nexts (ends_of lists l) (done ++ rest) → before ≡ last_of done → next ≡ first_of rest
+pub walk_within : (nexts : List (Option ℕ)) (lists : List Lists) (l : Lit) (before next : ℕ) (done rest : List ℕ) → length nexts ≤ NO_WATCH → l.var < length lists → IsList nexts (ends_of lists l) (done ++ rest) → before ≡ last_of done → next ≡ first_or_end rest
     → IsWalkOf nexts lists (record { lit = l; before = before; next = next }) rest
 walk_within nexts lists l before next done rest few known i b n =
     walk_of nexts lists (record { lit = l; before = before; next = next }) few (record { known = known; done = done; rest = rest; links = i.links; before = b; next = n })
@@ -37,7 +37,7 @@ walk_within nexts lists l before next done rest few known i b n =
 pub walk_begins : (nexts : List (Option ℕ)) (lists : List Lists) (l : Lit) (numbers : List ℕ) → length nexts ≤ NO_WATCH → l.var < length lists → IsList nexts (ends_of lists l) numbers
     → IsWalkOf nexts lists (record { lit = l; before = NO_WATCH; next = (ends_of lists l).first }) numbers
 walk_begins nexts lists l numbers few known i =
-    walk_within nexts lists l NO_WATCH (ends_of lists l).first [] numbers few known i refl (link_once (ends_of lists l).first (first_of numbers) (links_first nexts (as_link (ends_of lists l).first) numbers few i.links))
+    walk_within nexts lists l NO_WATCH (ends_of lists l).first [] numbers few known i refl (link_once (ends_of lists l).first (first_or_end numbers) (links_first nexts (as_link (ends_of lists l).first) numbers few i.links))
 
 -- ---- one waits
 
@@ -53,10 +53,10 @@ pub record IsNext (nexts : List (Option ℕ)) (lists : List Lists) (walk : Walk)
 pub is_next : (nexts : List (Option ℕ)) (lists : List Lists) (walk : Walk) → length nexts ≤ NO_WATCH → IsWalk nexts lists walk → (walk.next ≡ NO_WATCH → ⊥) → IsNext nexts lists walk
 is_next nexts lists walk few walks d = by w.rest w.links w.next (walk_of nexts lists walk few w).waits
   where
-    w : IsWithin nexts lists walk
+    w : IsWalkInList nexts lists walk
     w = walks d
 
-    by : (rest : List ℕ) → Links nexts (as_link (ends_of lists walk.lit).first) (w.done ++ rest) → walk.next ≡ first_of rest → passed nexts walk.next ≡ rest → IsNext nexts lists walk
+    by : (rest : List ℕ) → Links nexts (as_link (ends_of lists walk.lit).first) (w.done ++ rest) → walk.next ≡ first_or_end rest → passed nexts walk.next ≡ rest → IsNext nexts lists walk
     by [] l e p = absurd (d e)
     by (x ∷ xs) l e p = record {
       done = w.done;
@@ -73,8 +73,8 @@ some_next nexts lists walk few walks some = is_next nexts lists walk few walks
     (λ e. let z : length (passed nexts walk.next) ≡ 0 = ap length (walk_none nexts lists walk e).waits in absurd (omega (arith, z, some)))
 
 -- the one after it is the first of the others
-pub after_is : (nexts : List (Option ℕ)) (lists : List Lists) (walk : Walk) (after : ℕ) → length nexts ≤ NO_WATCH → (x : IsNext nexts lists walk) → get_or nexts walk.next None ≡ as_link after → after ≡ first_of x.others
-after_is nexts lists walk after few x e = link_once after (first_of x.others) (sym e ∙ link_after nexts (as_link (ends_of lists walk.lit).first) x.done walk.next x.others few x.links)
+pub after_is : (nexts : List (Option ℕ)) (lists : List Lists) (walk : Walk) (after : ℕ) → length nexts ≤ NO_WATCH → (x : IsNext nexts lists walk) → get_or nexts walk.next None ≡ as_link after → after ≡ first_or_end x.others
+after_is nexts lists walk after few x e = link_once after (first_or_end x.others) (sym e ∙ link_after nexts (as_link (ends_of lists walk.lit).first) x.done walk.next x.others few x.links)
 
 -- it stays, and the others wait
 pub walk_stays : (nexts : List (Option ℕ)) (lists : List Lists) (walk : Walk) (after : ℕ) → length nexts ≤ NO_WATCH → (x : IsNext nexts lists walk) → get_or nexts walk.next None ≡ as_link after

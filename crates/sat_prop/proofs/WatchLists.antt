@@ -11,7 +11,7 @@ use Rattle.sat_prop.specs.declared.watch_lists.Lists.{Lists}
 use Rattle.sat_prop.specs.declared.watch_lists.Walk.{Walk}
 use Rattle.sat_prop.specs.declared.watch_lists.Watch.{Watch}
 use Rattle.sat_prop.specs.declared.watch_lists.TheConstants.{NO_WATCH}
-use Rattle.sat_prop.specs.Watches.{AreLinked, AreWatchLists, IsFirstWaiting, IsList, IsLive, IsWalk, IsWithin, Links, appended, as_link, empty, ends_in, ends_of, first_of, is_among, last_of, literal_of, no_watch, passed, unlinked, watch_at, watching, with_dropped, with_ends}
+use Rattle.sat_prop.specs.Watches.{AreLinked, AreWatchLists, IsFirstWaiting, IsList, IsLive, IsWalk, IsWalkInList, Links, appended, as_link, empty, ends_in, ends_of, first_or_end, is_among, last_of, watched_literal, no_watch, passed, unlinked, watch_at, watching, with_dropped, with_ends}
 use Rattle.sat_prop.proofs.Links.{among_either, among_itself, among_left, among_neither, among_right, ends, last_is_among, links_once, links_rest, links_split, not_both, relinked, relinked_length}
 use Rattle.sat_prop.proofs.Linking.{apart, each_list, ends_length, last_link, linked_appended, linked_below, linked_more, linked_turned, linked_unlinked, list_here, list_there, stays_among, with_list}
 use Rattle.sat_prop.proofs.Walking.{IsNext, IsWalkOf, walk_within}
@@ -40,17 +40,17 @@ module _ (watches : List Watch) (nexts : List (Option ℕ)) (lists : List Lists)
   stands = subst (λ (xs : List ℕ). is_among walk.next xs ≡ true) (sym list_is) (among_right walk.next x.done (walk.next ∷ x.others) (among_itself walk.next x.others))
 
   pub next_within : walk.next < length watches
-  next_within = let b = linked_below (literal_of watches) nexts lists a.numbers few a.linked walk.lit walk.next x.known stands in let s = a.same in omega arith
+  next_within = let b = linked_below (watched_literal watches) nexts lists a.numbers few a.linked walk.lit walk.next x.known stands in let s = a.same in omega arith
 
   pub before_within : (walk.before ≡ NO_WATCH → ⊥) → walk.before < length watches
   before_within d =
       let s = a.same in
       let t : is_among walk.before (a.numbers walk.lit) ≡ true = subst (λ (xs : List ℕ). is_among walk.before xs ≡ true) (sym list_is)
       (among_left walk.before x.done (walk.next ∷ x.others) (subst (λ (n : ℕ). is_among n x.done ≡ true) (sym x.before) (last_is_among x.done (λ e. d (x.before ∙ e))))) in
-      let b = linked_below (literal_of watches) nexts lists a.numbers few a.linked walk.lit walk.before x.known t in
+      let b = linked_below (watched_literal watches) nexts lists a.numbers few a.linked walk.lit walk.before x.known t in
       omega arith
 
-  pub next_literal : literal_of watches walk.next ≡ walk.lit
+  pub next_literal : watched_literal watches walk.next ≡ walk.lit
   next_literal = a.linked.own walk.lit walk.next x.known stands
 
   not_among_others : is_among walk.next x.others ≡ false
@@ -67,22 +67,22 @@ module _ (watches : List Watch) (nexts : List (Option ℕ)) (lists : List Lists)
   next_is vars spare = record { others = x.others; first = x.waits; once = not_among_others; within = next_within }
 
   abbrev pub left_nexts : List (Option ℕ)
-  left_nexts = relinked nexts (last_of x.done) (as_link (first_of x.others))
+  left_nexts = relinked nexts (last_of x.done) (as_link (first_or_end x.others))
 
   abbrev pub left_lists : List Lists
-  left_lists = with_ends lists walk.lit (unlinked (ends_of lists walk.lit) (last_of x.done) (first_of x.others))
+  left_lists = with_ends lists walk.lit (unlinked (ends_of lists walk.lit) (last_of x.done) (first_or_end x.others))
 
   abbrev pub left_numbers : Lit → List ℕ
   left_numbers = with_list a.numbers walk.lit (x.done ++ x.others)
 
-  linked_left : AreLinked (literal_of watches) left_nexts left_lists left_numbers
-  linked_left = linked_unlinked (literal_of watches) nexts lists a.numbers few a.linked walk.lit x.known x.done walk.next x.others list_is
+  linked_left : AreLinked (watched_literal watches) left_nexts left_lists left_numbers
+  linked_left = linked_unlinked (watched_literal watches) nexts lists a.numbers few a.linked walk.lit x.known x.done walk.next x.others list_is
 
   left_length : length left_nexts ≡ length nexts
-  left_length = relinked_length nexts (last_of x.done) (as_link (first_of x.others))
+  left_length = relinked_length nexts (last_of x.done) (as_link (first_or_end x.others))
 
   left_many : length left_lists ≡ length lists
-  left_many = ends_length lists walk.lit (unlinked (ends_of lists walk.lit) (last_of x.done) (first_of x.others))
+  left_many = ends_length lists walk.lit (unlinked (ends_of lists walk.lit) (last_of x.done) (first_or_end x.others))
 
   left_few : length left_nexts ≤ NO_WATCH
   left_few = let e = left_length in omega arith
@@ -97,7 +97,7 @@ module _ (watches : List Watch) (nexts : List (Option ℕ)) (lists : List Lists)
   gone : (k : Lit) → k.var < length left_lists → is_among walk.next (left_numbers k) ≡ false
   gone k h = each_list a.numbers walk.lit (x.done ++ x.others) (λ y xs. is_among walk.next xs ≡ false) k
       (λ e. among_neither walk.next x.done x.others not_done not_among_others)
-      (λ d. apart (literal_of watches) nexts lists a.numbers few a.linked walk.lit x.known k walk.next (was_known k h) d stands)
+      (λ d. apart (watched_literal watches) nexts lists a.numbers few a.linked walk.lit x.known k walk.next (was_known k h) d stands)
 
   -- the others stay
   others_stay : (k : Lit) (m : ℕ) → (m ≡ walk.next → ⊥) → is_among m (a.numbers k) ≡ true → is_among m (left_numbers k) ≡ true
@@ -110,14 +110,14 @@ module _ (watches : List Watch) (nexts : List (Option ℕ)) (lists : List Lists)
       (among_either m x.done (walk.next ∷ x.others) (subst (λ (xs : List ℕ). is_among m xs ≡ true) list_is t)))
 
   -- those after it wait
-  pub walk_left : IsWalkOf left_nexts left_lists (record { lit = walk.lit; before = walk.before; next = first_of x.others }) x.others
-  walk_left = walk_within left_nexts left_lists walk.lit walk.before (first_of x.others) x.done x.others left_few (is_known walk.lit x.known)
+  pub walk_left : IsWalkOf left_nexts left_lists (record { lit = walk.lit; before = walk.before; next = first_or_end x.others }) x.others
+  walk_left = walk_within left_nexts left_lists walk.lit walk.before (first_or_end x.others) x.done x.others left_few (is_known walk.lit x.known)
       (subst (λ (xs : List ℕ). IsList left_nexts (ends_of left_lists walk.lit) xs) (list_here a.numbers walk.lit (x.done ++ x.others)) (linked_left.each walk.lit (is_known walk.lit x.known)))
       x.before refl
 
   pub last_within : (l : Lit) → l.var < length lists → ((ends_of left_lists l).last ≡ NO_WATCH → ⊥) → (ends_of left_lists l).last < length watches
   last_within l known d =
-      let b = last_link (literal_of watches) left_nexts left_lists left_numbers left_few linked_left l (is_known l known) d in
+      let b = last_link (watched_literal watches) left_nexts left_lists left_numbers left_few linked_left l (is_known l known) d in
       let e = left_length in
       let s = a.same in
       omega arith
@@ -129,8 +129,8 @@ module _ (watches : List Watch) (nexts : List (Option ℕ)) (lists : List Lists)
     same = left_length ∙ a.same;
     numbers = left_numbers;
     linked = linked_left;
-    placed = λ m h live. others_stay (literal_of watches m) m (not_dropped m live) (a.placed m h live);
-    known = λ m h. is_known (literal_of watches m) (a.known m h);
+    placed = λ m h live. others_stay (watched_literal watches m) m (not_dropped m live) (a.placed m h live);
+    known = λ m h. is_known (watched_literal watches m) (a.known m h);
   }
     where
       not_dropped : (m : ℕ) → IsLive watches m → m ≡ walk.next → ⊥
@@ -141,7 +141,7 @@ module _ (watches : List Watch) (nexts : List (Option ℕ)) (lists : List Lists)
 
   -- ---- where it watches another literal
 
-  module _ (l : Lit) (known : l.var < length lists) (other : literal_of watches walk.next ≡ l → ⊥) where
+  module _ (l : Lit) (known : l.var < length lists) (other : watched_literal watches walk.next ≡ l → ⊥) where
     abbrev pub moved_watches : List Watch
     moved_watches = slice_set watches walk.next (watching (watch_at watches walk.next) l)
 
@@ -157,7 +157,7 @@ module _ (watches : List Watch) (nexts : List (Option ℕ)) (lists : List Lists)
     abbrev pub moved_numbers : Lit → List ℕ
     moved_numbers = with_list left_numbers l (left_numbers l ++ walk.next ∷ [])
 
-    lit_here : literal_of moved_watches walk.next ≡ l
+    lit_here : watched_literal moved_watches walk.next ≡ l
     lit_here =
         let b : walk.next < length watches = next_within in
         let g : get_or moved_watches walk.next no_watch ≡ watching (watch_at watches walk.next) l = grind (arith, common_steps) in
@@ -166,7 +166,7 @@ module _ (watches : List Watch) (nexts : List (Option ℕ)) (lists : List Lists)
     same_elsewhere : (m : ℕ) → (m ≡ walk.next → ⊥) → watch_at moved_watches m ≡ watch_at watches m
     same_elsewhere m d = grind (arith, common_steps)
 
-    lit_elsewhere : (m : ℕ) → (m ≡ walk.next → ⊥) → literal_of moved_watches m ≡ literal_of watches m
+    lit_elsewhere : (m : ℕ) → (m ≡ walk.next → ⊥) → watched_literal moved_watches m ≡ watched_literal watches m
     lit_elsewhere m d = ap (λ (w : Watch). w.lit) (same_elsewhere m d)
 
     turned_length : length turned_nexts ≡ length nexts
@@ -190,11 +190,11 @@ module _ (watches : List Watch) (nexts : List (Option ℕ)) (lists : List Lists)
         let w : walk.next < length left_nexts = omega arith in
         grind (arith, common_steps)
 
-    linked_there : AreLinked (literal_of moved_watches) turned_nexts left_lists left_numbers
-    linked_there = linked_turned (literal_of watches) left_nexts left_lists left_numbers left_few linked_left (literal_of moved_watches) walk.next None gone lit_elsewhere
+    linked_there : AreLinked (watched_literal moved_watches) turned_nexts left_lists left_numbers
+    linked_there = linked_turned (watched_literal watches) left_nexts left_lists left_numbers left_few linked_left (watched_literal moved_watches) walk.next None gone lit_elsewhere
 
-    linked_moved : AreLinked (literal_of moved_watches) moved_nexts moved_lists moved_numbers
-    linked_moved = linked_appended (literal_of moved_watches) turned_nexts left_lists left_numbers turned_few linked_there l (is_known l known) walk.next turned_within turned_end (gone l (is_known l known)) lit_here
+    linked_moved : AreLinked (watched_literal moved_watches) moved_nexts moved_lists moved_numbers
+    linked_moved = linked_appended (watched_literal moved_watches) turned_nexts left_lists left_numbers turned_few linked_there l (is_known l known) walk.next turned_within turned_end (gone l (is_known l known)) lit_here
 
     moved_length : length moved_nexts ≡ length nexts
     moved_length = relinked_length turned_nexts (ends_of left_lists l).last (Some walk.next) ∙ turned_length
@@ -212,14 +212,14 @@ module _ (watches : List Watch) (nexts : List (Option ℕ)) (lists : List Lists)
     stays : (k : Lit) (m : ℕ) → is_among m (left_numbers k) ≡ true → is_among m (moved_numbers k) ≡ true
     stays k m = stays_among left_numbers l (left_numbers l ++ walk.next ∷ []) k m (λ e t. among_left m (left_numbers l) (walk.next ∷ []) t)
 
-    moved_placed : (m : ℕ) → m < length moved_watches → IsLive moved_watches m → is_among m (moved_numbers (literal_of moved_watches m)) ≡ true
+    moved_placed : (m : ℕ) → m < length moved_watches → IsLive moved_watches m → is_among m (moved_numbers (watched_literal moved_watches m)) ≡ true
     moved_placed m h live = ⊎_elim
-        (λ e. subst (λ (i : ℕ). is_among i (moved_numbers (literal_of moved_watches i)) ≡ true) (sym e)
+        (λ e. subst (λ (i : ℕ). is_among i (moved_numbers (watched_literal moved_watches i)) ≡ true) (sym e)
         (subst (λ (y : Lit). is_among walk.next (moved_numbers y) ≡ true) (sym lit_here)
         (subst (λ (xs : List ℕ). is_among walk.next xs ≡ true) (sym (list_here left_numbers l (left_numbers l ++ walk.next ∷ []))) (among_right walk.next (left_numbers l) (walk.next ∷ []) (among_itself walk.next [])))))
         (λ d. let w : m < length watches = grind (arith, common_steps) in
         subst (λ (y : Lit). is_among m (moved_numbers y) ≡ true) (sym (lit_elsewhere m d))
-        (stays (literal_of watches m) m (others_stay (literal_of watches m) m d (a.placed m w (subst (λ (y : Watch). 1 ≤ y.clause) (same_elsewhere m d) live)))))
+        (stays (watched_literal watches m) m (others_stay (watched_literal watches m) m d (a.placed m w (subst (λ (y : Watch). 1 ≤ y.clause) (same_elsewhere m d) live)))))
         (cases_eq m walk.next)
 
     pub lists_moved : AreWatchLists moved_watches moved_nexts moved_lists
@@ -229,17 +229,17 @@ module _ (watches : List Watch) (nexts : List (Option ℕ)) (lists : List Lists)
       linked = linked_moved;
       placed = moved_placed;
       known = λ m h. ⊎_elim
-          (λ e. subst (λ (i : ℕ). (literal_of moved_watches i).var < length moved_lists) (sym e) (subst (λ (y : Lit). y.var < length moved_lists) (sym lit_here) (moved_known l known)))
+          (λ e. subst (λ (i : ℕ). (watched_literal moved_watches i).var < length moved_lists) (sym e) (subst (λ (y : Lit). y.var < length moved_lists) (sym lit_here) (moved_known l known)))
           (λ d. let w : m < length watches = grind (arith, common_steps) in
-          subst (λ (y : Lit). y.var < length moved_lists) (sym (lit_elsewhere m d)) (moved_known (literal_of watches m) (a.known m w)))
+          subst (λ (y : Lit). y.var < length moved_lists) (sym (lit_elsewhere m d)) (moved_known (watched_literal watches m) (a.known m w)))
           (cases_eq m walk.next);
     }
 
     lit_apart : same_literal walk.lit l ≡ false
     lit_apart = ⊎_elim (λ t. absurd (other (next_literal ∙ same_is walk.lit l t))) (λ t. t) (cases_Bool (same_literal walk.lit l))
 
-    pub walk_moved : IsWalkOf moved_nexts moved_lists (record { lit = walk.lit; before = walk.before; next = first_of x.others }) x.others
-    walk_moved = walk_within moved_nexts moved_lists walk.lit walk.before (first_of x.others) x.done x.others moved_few (moved_known walk.lit x.known)
+    pub walk_moved : IsWalkOf moved_nexts moved_lists (record { lit = walk.lit; before = walk.before; next = first_or_end x.others }) x.others
+    walk_moved = walk_within moved_nexts moved_lists walk.lit walk.before (first_or_end x.others) x.done x.others moved_few (moved_known walk.lit x.known)
         (subst (λ (xs : List ℕ). IsList moved_nexts (ends_of moved_lists walk.lit) xs)
         (list_there left_numbers l walk.lit (left_numbers l ++ walk.next ∷ []) lit_apart ∙ list_here a.numbers walk.lit (x.done ++ x.others))
         (linked_moved.each walk.lit (moved_known walk.lit x.known)))
@@ -285,31 +285,31 @@ module _ (watches : List Watch) (nexts : List (Option ℕ)) (lists : List Lists)
 
   not_listed : (k : Lit) → k.var < length lists → is_among added (a.numbers k) ≡ false
   not_listed k h = ⊎_elim
-      (λ t. let b = linked_below (literal_of watches) nexts lists a.numbers still_few a.linked k added h t in let s = a.same in absurd (omega arith))
+      (λ t. let b = linked_below (watched_literal watches) nexts lists a.numbers still_few a.linked k added h t in let s = a.same in absurd (omega arith))
       (λ t. t)
       (cases_Bool (is_among added (a.numbers k)))
 
   same_before : (m : ℕ) → m < added → watch_at pushed_watches m ≡ watch_at watches m
   same_before m h = grind (arith, common_steps)
 
-  lit_before : (m : ℕ) → m < added → literal_of pushed_watches m ≡ literal_of watches m
+  lit_before : (m : ℕ) → m < added → watched_literal pushed_watches m ≡ watched_literal watches m
   lit_before m h = ap (λ (x : Watch). x.lit) (same_before m h)
 
-  lit_added : literal_of pushed_watches added ≡ w.lit
+  lit_added : watched_literal pushed_watches added ≡ w.lit
   lit_added = let g : get_or pushed_watches added no_watch ≡ w = grind (arith, common_steps) in ap (λ (x : Watch). x.lit) g
 
   more_length : length more_nexts ≡ length nexts + 1
   more_length = grind (arith, common_steps)
 
-  linked_with : AreLinked (literal_of pushed_watches) more_nexts lists a.numbers
-  linked_with = linked_more (literal_of watches) nexts lists a.numbers still_few a.linked (literal_of pushed_watches) None (λ m h. lit_before m (let s = a.same in omega arith))
+  linked_with : AreLinked (watched_literal pushed_watches) more_nexts lists a.numbers
+  linked_with = linked_more (watched_literal watches) nexts lists a.numbers still_few a.linked (watched_literal pushed_watches) None (λ m h. lit_before m (let s = a.same in omega arith))
 
-  linked_pushed : AreLinked (literal_of pushed_watches) pushed_nexts pushed_lists pushed_numbers
+  linked_pushed : AreLinked (watched_literal pushed_watches) pushed_nexts pushed_lists pushed_numbers
   linked_pushed =
       let e = more_length in
       let s = a.same in
       let g : get_or more_nexts added None ≡ None = rw (← s) (grind (arith, common_steps)) in
-      linked_appended (literal_of pushed_watches) more_nexts lists a.numbers (omega arith) linked_with w.lit known added (omega arith) g (not_listed w.lit known) lit_added
+      linked_appended (watched_literal pushed_watches) more_nexts lists a.numbers (omega arith) linked_with w.lit known added (omega arith) g (not_listed w.lit known) lit_added
 
   pushed_many : length pushed_lists ≡ length lists
   pushed_many = ends_length lists w.lit (appended (ends_of lists w.lit) added)
@@ -326,12 +326,12 @@ module _ (watches : List Watch) (nexts : List (Option ℕ)) (lists : List Lists)
     same = let s = a.same in relinked_length more_nexts (ends_of lists w.lit).last (Some added) ∙ more_length ∙ ap (λ (k : ℕ). k + 1) s ∙ grind (arith, common_steps);
     numbers = pushed_numbers;
     linked = linked_pushed;
-    placed = each_pushed (λ m. IsLive pushed_watches m → is_among m (pushed_numbers (literal_of pushed_watches m)) ≡ true)
+    placed = each_pushed (λ m. IsLive pushed_watches m → is_among m (pushed_numbers (watched_literal pushed_watches m)) ≡ true)
         (λ m h live. subst (λ (x : Lit). is_among m (pushed_numbers x) ≡ true) (sym (lit_before m h))
-        (stays_among a.numbers w.lit (a.numbers w.lit ++ added ∷ []) (literal_of watches m) m (λ e t. among_left m (a.numbers w.lit) (added ∷ []) t) (a.placed m h (subst (λ (x : Watch). 1 ≤ x.clause) (same_before m h) live))))
+        (stays_among a.numbers w.lit (a.numbers w.lit ++ added ∷ []) (watched_literal watches m) m (λ e t. among_left m (a.numbers w.lit) (added ∷ []) t) (a.placed m h (subst (λ (x : Watch). 1 ≤ x.clause) (same_before m h) live))))
         (λ live. subst (λ (x : Lit). is_among added (pushed_numbers x) ≡ true) (sym lit_added)
         (subst (λ (xs : List ℕ). is_among added xs ≡ true) (sym (list_here a.numbers w.lit (a.numbers w.lit ++ added ∷ []))) (among_right added (a.numbers w.lit) (added ∷ []) (among_itself added []))));
-    known = each_pushed (λ m. (literal_of pushed_watches m).var < length pushed_lists)
+    known = each_pushed (λ m. (watched_literal pushed_watches m).var < length pushed_lists)
         (λ m h. let k = a.known m h in let e = pushed_many in subst (λ (x : Lit). x.var < length pushed_lists) (sym (lit_before m h)) (omega arith))
         (let e = pushed_many in subst (λ (x : Lit). x.var < length pushed_lists) (sym lit_added) (omega arith));
   }
@@ -357,7 +357,7 @@ module _ (lists : List Lists) (more : ℕ) where
 
   pub walk_wider : (nexts : List (Option ℕ)) (walk : Walk) → IsWalk nexts lists walk → IsWalk nexts wider_lists walk
   walk_wider nexts walk walks d =
-      let w : IsWithin nexts lists walk = walks d in
+      let w : IsWalkInList nexts lists walk = walks d in
       record {
         known = let k = w.known in let m = wider_many in omega arith;
         done = w.done;
@@ -385,11 +385,11 @@ module _ (lists : List Lists) (more : ℕ) where
         each = λ l h. wide_or_not (λ xs. IsList nexts (ends_of wider_lists l) xs) l
             (λ b. subst (λ (e : Ends). IsList nexts e (a.numbers l)) (sym (wider_ends l b)) (a.linked.each l b))
             (λ b. subst (λ (e : Ends). IsList nexts e []) (sym (empty_ends l b)) (record { links = ends NO_WATCH refl; last = refl }));
-        own = λ l m h. wide_or_not (λ xs. is_among m xs ≡ true → literal_of watches m ≡ l) l
+        own = λ l m h. wide_or_not (λ xs. is_among m xs ≡ true → watched_literal watches m ≡ l) l
             (λ b t. a.linked.own l m b t)
             (λ b t. absurd (no_number m t));
       };
-      placed = λ m h live. wide_or_not (λ xs. is_among m xs ≡ true) (literal_of watches m)
+      placed = λ m h live. wide_or_not (λ xs. is_among m xs ≡ true) (watched_literal watches m)
           (λ b. a.placed m h live)
           (λ b. let k = a.known m h in absurd (omega arith));
       known = λ m h. let k = a.known m h in let n = wider_many in omega arith;

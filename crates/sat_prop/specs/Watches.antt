@@ -72,8 +72,8 @@ abbrev pub alone : ℕ → Lit → Node
 alone clause l = record { clause = clause; code = literal_number l; next = NO_WATCH }
 
 -- one watch comes after another one, if there is that one
-abbrev pub with_next : List Node → ℕ → ℕ → List Node
-with_next nodes before after = if before == NO_WATCH then nodes else slice_set nodes before (record (node_at nodes before) { next = after })
+abbrev pub with_next_watch : List Node → ℕ → ℕ → List Node
+with_next_watch nodes before after = if before == NO_WATCH then nodes else slice_set nodes before (record (node_at nodes before) { next = after })
 
 -- the watch that is kept in the node of a number is dropped
 abbrev pub cleared : List Node → ℕ → List Node
@@ -128,9 +128,9 @@ Links nexts first (number ∷ numbers) =
     (first ≡ Some number) × (number < length nexts) × (is_among number numbers ≡ false) × Links nexts (slice_index_or nexts number None) numbers
 
 -- the first of these, or none
-abbrev pub first_of : List ℕ → ℕ
-first_of [] = NO_WATCH
-first_of (number ∷ numbers) = number
+abbrev pub first_or_end : List ℕ → ℕ
+first_or_end [] = NO_WATCH
+first_or_end (number ∷ numbers) = number
 
 -- the last of these, or none
 abbrev pub last_of : List ℕ → ℕ
@@ -149,16 +149,16 @@ pub record AreLinked (of : ℕ → Lit) (nexts : List (Option ℕ)) (lists : Lis
   pub own : (l : Lit) (number : ℕ) → l.var < length lists → is_among number (numbers l) ≡ true → of number ≡ l
 
 -- the literal that a watch watches
-abbrev pub literal_of : List Watch → ℕ → Lit
-literal_of watches number = (watch_at watches number).lit
+abbrev pub watched_literal : List Watch → ℕ → Lit
+watched_literal watches number = (watch_at watches number).lit
 
 -- Each watch that wasn't dropped stands in the list of its literal; in no list one stands twice.
 pub record AreWatchLists (watches : List Watch) (nexts : List (Option ℕ)) (lists : List Lists) : Type 0 where
   pub same : length nexts ≡ length watches
   pub numbers : Lit → List ℕ
-  pub linked : AreLinked (literal_of watches) nexts lists numbers
-  pub placed : (number : ℕ) → number < length watches → IsLive watches number → is_among number (numbers (literal_of watches number)) ≡ true
-  pub known : (number : ℕ) → number < length watches → (literal_of watches number).var < length lists
+  pub linked : AreLinked (watched_literal watches) nexts lists numbers
+  pub placed : (number : ℕ) → number < length watches → IsLive watches number → is_among number (numbers (watched_literal watches number)) ≡ true
+  pub known : (number : ℕ) → number < length watches → (watched_literal watches number).var < length lists
 
 -- ---- a walk along a list
 
@@ -173,17 +173,17 @@ abbrev pub passed : List (Option ℕ) → ℕ → List ℕ
 passed nexts next = passed_within (length nexts) nexts (as_link next)
 
 -- the list of the literal has those that have been looked at and then the rest, of which the first is next
-pub record IsWithin (nexts : List (Option ℕ)) (lists : List Lists) (walk : Walk) : Type 0 where
+pub record IsWalkInList (nexts : List (Option ℕ)) (lists : List Lists) (walk : Walk) : Type 0 where
   pub known : walk.lit.var < length lists
   pub done : List ℕ
   pub rest : List ℕ
   pub links : Links nexts (as_link (ends_of lists walk.lit).first) (done ++ rest)
   pub before : walk.before ≡ last_of done
-  pub next : walk.next ≡ first_of rest
+  pub next : walk.next ≡ first_or_end rest
 
 -- one walks along a list, or no watch is next
 abbrev pub IsWalk : List (Option ℕ) → List Lists → Walk → Type 0
-IsWalk nexts lists walk = walk.next ≢ NO_WATCH → IsWithin nexts lists walk
+IsWalk nexts lists walk = walk.next ≢ NO_WATCH → IsWalkInList nexts lists walk
 
 -- ---- what the calls do
 

@@ -1,7 +1,7 @@
 ghost use Rattle.std.specs.Prelude.{◌≡◌, ◌≢◌, ◌↔◌, ℕ, ◌+◌, ◌-◌, ◌<◌, ◌≤◌, List, ◌++◌, ◌∷◌, [], length, max, slice_set, vec_len, vec_capacity, OnOk, OnErr, IfSome, IfNone, IsTrue};
 ghost use Rattle.prop_core.specs.LiteralNumbers.{literal_number};
 ghost use Rattle.sat_prop.specs.declared.watch_lists.TheConstants.{NO_CLAUSE};
-ghost use Rattle.sat_prop.specs.Watches.{IsFirstDropped, IsFirstWaiting, IsLive, IsOpened, MovesWatch, PassesWatch, alone, appended, ends_of, no_lists, twin_number, with_ends, with_next, node_at, other_literal, unlinked, watch_at, cleared, with_watched_clause, without_clause};
+ghost use Rattle.sat_prop.specs.Watches.{IsFirstDropped, IsFirstWaiting, IsLive, IsOpened, MovesWatch, PassesWatch, alone, appended, ends_of, no_lists, twin_number, with_ends, with_next_watch, node_at, other_literal, unlinked, watch_at, cleared, with_watched_clause, without_clause};
 
 use des_base::{Memory, VAR_LIMIT};
 use prop_core::Lit;
@@ -362,7 +362,7 @@ fn shorter(ends: Ends, before: u32, after: u32) -> Ends
 // Lets one watch come after another one, if there is that one.
 fn link(nodes: &mut Vec<Node>, before: u32, after: u32)
     requires { before ≢ NO_WATCH → before < length nodes.old.items }
-    ensures nodes { nodes.new.items ≡ with_next nodes.old.items before after }
+    ensures nodes { nodes.new.items ≡ with_next_watch nodes.old.items before after }
     ensures room { vec_capacity nodes.new ≡ vec_capacity nodes.old }
 {
     if before != NO_WATCH {
@@ -376,7 +376,7 @@ fn unlink(nodes: &mut Vec<Node>, lists: &mut Vec<Lists>, walk: Walk) -> u32
     requires next { walk.next < length nodes.old.items }
     requires before { walk.before ≢ NO_WATCH → walk.before < length nodes.old.items }
     ensures after { result ≡ (node_at nodes.old.items walk.next).next }
-    ensures nodes { nodes.new.items ≡ with_next nodes.old.items walk.before result }
+    ensures nodes { nodes.new.items ≡ with_next_watch nodes.old.items walk.before result }
     ensures lists { lists.new.items ≡ with_ends lists.old.items walk.lit (unlinked (ends_of lists.old.items walk.lit) walk.before result) }
     ensures room { vec_capacity nodes.new ≡ vec_capacity nodes.old }
 {
@@ -391,7 +391,7 @@ fn unlink(nodes: &mut Vec<Node>, lists: &mut Vec<Lists>, walk: Walk) -> u32
 fn append(nodes: &mut Vec<Node>, lists: &mut Vec<Lists>, number: u32, lit: Lit)
     requires known { lit.var < length lists.old.items }
     requires last { (ends_of lists.old.items lit).last ≢ NO_WATCH → (ends_of lists.old.items lit).last < length nodes.old.items }
-    ensures nodes { nodes.new.items ≡ with_next nodes.old.items (ends_of lists.old.items lit).last number }
+    ensures nodes { nodes.new.items ≡ with_next_watch nodes.old.items (ends_of lists.old.items lit).last number }
     ensures lists { lists.new.items ≡ with_ends lists.old.items lit (appended (ends_of lists.old.items lit) number) }
     ensures room { vec_capacity nodes.new ≡ vec_capacity nodes.old }
 {
@@ -422,7 +422,7 @@ fn push_node(nodes: &mut Vec<Node>, lists: &mut Vec<Lists>, clause: u32, lit: Li
     requires last { (ends_of lists.old.items lit).last ≢ NO_WATCH → (ends_of lists.old.items lit).last < length nodes.old.items }
     requires few { vec_len nodes.old < NO_WATCH }
     requires room { vec_len nodes.old < vec_capacity nodes.old }
-    ensures nodes { nodes.new.items ≡ with_next (nodes.old.items ++ alone clause lit ∷ []) (ends_of lists.old.items lit).last (length nodes.old.items) }
+    ensures nodes { nodes.new.items ≡ with_next_watch (nodes.old.items ++ alone clause lit ∷ []) (ends_of lists.old.items lit).last (length nodes.old.items) }
     ensures lists { lists.new.items ≡ with_ends lists.old.items lit (appended (ends_of lists.old.items lit) (length nodes.old.items)) }
     ensures room { vec_capacity nodes.old ≤ vec_capacity nodes.new }
 {

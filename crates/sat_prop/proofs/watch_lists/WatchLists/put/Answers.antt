@@ -1,7 +1,7 @@
 use Rattle.std.proofs.Common.{◌≡◌, ◌≢◌, ◌∙◌, ◌%◌, ◌<◌, ◌≤◌, ℕ, ap, sym, subst, length, arith}
 use Rattle.std.specs.Prelude.{vec_len}
 use Rattle.sat_prop.specs.declared.watch_lists.TheConstants.{NO_WATCH}
-use Rattle.sat_prop.specs.Watches.{WatchState, IsFirstWaiting, MovesWatch, literal_of, nexts_of, passed, watches_of}
+use Rattle.sat_prop.specs.Watches.{WatchState, IsFirstWaiting, MovesWatch, watched_literal, nexts_of, passed, watches_of}
 use Rattle.sat_prop.proofs.Linking.{ends_length}
 use Rattle.sat_prop.proofs.Walking.{some_next}
 use Rattle.sat_prop.proofs.WatchLists.{next_is}
@@ -56,7 +56,7 @@ append-requires-clause-last c d =
     let a = c.self.invariant.lists in
     let u = c.unlink-self-inside.ensures in
     let known = subst (λ (s : WatchState). c.args.lit.var < s.vars) (sym c.self.view_is) c.requires.known in
-    let other = subst (λ (s : WatchState). (i : ℕ) → IsFirstWaiting s i → literal_of s.watches i ≢ c.args.lit) (sym c.self.view_is) c.requires.other c.self.inside.walk.next
+    let other = subst (λ (s : WatchState). (i : ℕ) → IsFirstWaiting s i → watched_literal s.watches i ≢ c.args.lit) (sym c.self.view_is) c.requires.other c.self.inside.walk.next
     (next_is (watches_of c.self.inside.nodes.items) (nexts_of c.self.inside.nodes.items) c.self.inside.lists.items a links c.self.inside.walk x (length c.self.inside.lists.items) c.self.inside.spare) in
     let b = last_node c.self.inside.nodes.items c.self.inside.lists.items a few c.self.inside.walk x c.unlink-self-inside.result c.unlink-self-inside.new.nodes.items c.unlink-self-inside.new.lists.items u.after u.nodes u.lists c.args.lit known other d in
     let m = turned_length c.self.inside.nodes.items c.self.inside.lists.items a few c.self.inside.walk x c.unlink-self-inside.result c.unlink-self-inside.new.nodes.items c.unlink-self-inside.new.lists.items u.after u.nodes u.lists c.self.inside.walk.next c.args.lit c.turn.new.nodes.items c.turn.ensures.nodes in
@@ -73,7 +73,7 @@ invariant_of-self c =
     let a = c.self.invariant.lists in
     let u = c.unlink-self-inside.ensures in
     let known = subst (λ (s : WatchState). c.args.lit.var < s.vars) (sym c.self.view_is) c.requires.known in
-    let other = subst (λ (s : WatchState). (i : ℕ) → IsFirstWaiting s i → literal_of s.watches i ≢ c.args.lit) (sym c.self.view_is) c.requires.other c.self.inside.walk.next
+    let other = subst (λ (s : WatchState). (i : ℕ) → IsFirstWaiting s i → watched_literal s.watches i ≢ c.args.lit) (sym c.self.view_is) c.requires.other c.self.inside.walk.next
     (next_is (watches_of c.self.inside.nodes.items) (nexts_of c.self.inside.nodes.items) c.self.inside.lists.items a links c.self.inside.walk x (length c.self.inside.lists.items) c.self.inside.spare) in
     let m = final_length c.self.inside.nodes.items c.self.inside.lists.items a few c.self.inside.walk x c.unlink-self-inside.result c.unlink-self-inside.new.nodes.items c.unlink-self-inside.new.lists.items u.after u.nodes u.lists c.args.lit known other c.turn.new.nodes.items c.append.new.nodes.items c.append.new.lists.items c.turn.ensures.nodes c.append.ensures.nodes c.append.ensures.lists in
     let v : vec_len c.append.new.nodes ≡ vec_len c.self.inside.nodes = let q = c.append.new.nodes.ok.0 in omega arith in
@@ -98,7 +98,7 @@ returns c =
     let a = c.self.invariant.lists in
     let u = c.unlink-self-inside.ensures in
     let known = subst (λ (s : WatchState). c.args.lit.var < s.vars) (sym c.self.view_is) c.requires.known in
-    let other = subst (λ (s : WatchState). (i : ℕ) → IsFirstWaiting s i → literal_of s.watches i ≢ c.args.lit) (sym c.self.view_is) c.requires.other c.self.inside.walk.next
+    let other = subst (λ (s : WatchState). (i : ℕ) → IsFirstWaiting s i → watched_literal s.watches i ≢ c.args.lit) (sym c.self.view_is) c.requires.other c.self.inside.walk.next
     (next_is (watches_of c.self.inside.nodes.items) (nexts_of c.self.inside.nodes.items) c.self.inside.lists.items a links c.self.inside.walk x (length c.self.inside.lists.items) c.self.inside.spare) in
     let s : length c.append.new.lists.items ≡ length c.self.inside.lists.items = ap length c.append.ensures.lists ∙ ends_length c.unlink-self-inside.new.lists.items c.args.lit _ ∙ ap length u.lists ∙ ends_length c.self.inside.lists.items c.self.inside.walk.lit _ in
     subst (λ (i : ℕ). MovesWatch c.args.self.now (record { watches = watches_of c.append.new.nodes.items; waiting = passed (nexts_of c.append.new.nodes.items) c.unlink-self-inside.result; vars = i; spare = c.self.inside.spare }) c.args.lit) (sym s)
