@@ -2,39 +2,17 @@
 use Rattle.std.proofs.Common.{◌≡◌, ◌∙◌, ℕ, ◌<◌, ◌≤◌, Bool, true, false, cond, Option, None, Some, Err, refl, ap, arith}
 use Rattle.std.specs.Prelude.{nat_lt}
 use Rattle.std.proofs.lemmas.Bool.Decides.{nat_tests}
-use Rattle.alarm_session.specs.Refusals.{refusal_of, large_refusal, refusal_with, Answers}
+use Rattle.alarm_session.specs.Refusals.{refusal_of, large_refusal, refusal_with}
 use Rattle.alarm_session.specs.declared.refusal.SessionRefusal.{SessionRefusal}
-use Rattle.alarm_session.specs.declared.refusal.SessionRefusal.TheVariants.{TooLarge}
+use Rattle.alarm_session.specs.declared.refusal.SessionRefusal.TheVariants.{Memory, TooLarge}
+use Rattle.des_base.specs.Refusing.{SucceedsUnless}
 use Rattle.least_faults.specs.declared.TheConstants.{MOST_SIZE}
-use Rattle.log_order.specs.Adding.{AddsUnless}
 use Rattle.log_order.specs.declared.refusal.LogRefusal.{LogRefusal}
 use Rattle.log_order.specs.declared.refusal.LogRefusal.TheVariants as of_log
 
 -- by the log
-pub refused_by : (Y : Type 0) (r : LogRefusal) (o : Option LogRefusal) (size : ℕ) → o ≡ Some r → Answers {X = Y} (Err (refusal_of r)) (refusal_with o size)
-refused_by Y of_log.Double o size is = ap (λ p. refusal_with p size) is
-refused_by Y of_log.Unknown o size is = ap (λ p. refusal_with p size) is
-refused_by Y of_log.Cycle o size is = ap (λ p. refusal_with p size) is
-refused_by Y of_log.NoLabels o size is = ap (λ p. refusal_with p size) is
-refused_by Y of_log.Limit o size is = ap (λ p. refusal_with p size) is
-refused_by Y of_log.Memory o size is = tt
-
-pub refused_by_log : (X Y : Type 0) (r : LogRefusal) (o : Option LogRefusal) (size : ℕ) → AddsUnless {X = X} (Err r) o → Answers {X = Y} (Err (refusal_of r)) (refusal_with o size)
-refused_by_log X Y of_log.Double o size is = refused_by Y of_log.Double o size is
-refused_by_log X Y of_log.Unknown o size is = refused_by Y of_log.Unknown o size is
-refused_by_log X Y of_log.Cycle o size is = refused_by Y of_log.Cycle o size is
-refused_by_log X Y of_log.NoLabels o size is = refused_by Y of_log.NoLabels o size is
-refused_by_log X Y of_log.Limit o size is = refused_by Y of_log.Limit o size is
-refused_by_log X Y of_log.Memory o size is = tt
-
--- where the log had nothing against it, memory alone is wanting
-pub memory_alone : (X Y : Type 0) (r : LogRefusal) (o : Option LogRefusal) (refusal : Option SessionRefusal) → o ≡ None → AddsUnless {X = X} (Err r) o → Answers {X = Y} (Err (refusal_of r)) refusal
-memory_alone X Y of_log.Double o refusal none is = cc
-memory_alone X Y of_log.Unknown o refusal none is = cc
-memory_alone X Y of_log.Cycle o refusal none is = cc
-memory_alone X Y of_log.NoLabels o refusal none is = cc
-memory_alone X Y of_log.Limit o refusal none is = cc
-memory_alone X Y of_log.Memory o refusal none is = tt
+pub refused_by_log : (X Y : Type 0) (r : LogRefusal) (o : Option LogRefusal) (size : ℕ) → SucceedsUnless {X = X} o of_log.Memory (Err r) → SucceedsUnless {X = Y} (refusal_with o size) Memory (Err (refusal_of r))
+refused_by_log X Y r o size is n = ap (λ p. refusal_with p size) (is (λ h. n (ap refusal_of h)))
 
 -- by the size
 larger : (size : ℕ) (b : Bool) → nat_lt MOST_SIZE size ≡ b → MOST_SIZE < size → large_refusal size ≡ Some (TooLarge size)

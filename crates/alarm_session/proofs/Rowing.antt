@@ -2,7 +2,7 @@
 use Rattle.std.proofs.Common.{◌≡◌, ◌≢◌, ◌∙◌, ℕ, Bool, true, false, not, cond, List, [], ◌∷◌, ◌++◌, Option, None, Some, Result, Ok, Err, IfOk, OnOk, OnErr, is_some, refl, sym, ap, subst, append-nil, append_assoc, arith, length, length-append, map}
 use Rattle.alarm_session.proofs.Keeping.{adds_none}
 use Rattle.alarm_session.specs.Additions.{built_on}
-use Rattle.alarm_session.specs.Refusals.{Answers, refusal_of_alarm, refusal_of_before, is_new_pair, log_with, numbers_of}
+use Rattle.alarm_session.specs.Refusals.{refusal_of_alarm, refusal_of_before, is_new_pair, log_with, numbers_of}
 use Rattle.alarm_session.specs.Rows.{AreRowsTold, HasCarriedOut, IsLeftUndone, IsRowTold, after_row, built_after, built_with_row, log_after_rows, row_addition, row_refusal, rows_built, told_by, with_row}
 use Rattle.alarm_session.specs.Session.{Becomes, KeepsLog, IsSessionBook, IsToldBy, Stage, first_stage}
 use Rattle.alarm_session.specs.declared.refusal.SessionRefusal.{SessionRefusal}
@@ -10,6 +10,7 @@ use Rattle.alarm_session.specs.declared.refusal.SessionRefusal.TheVariants.{Doub
 use Rattle.alarm_session.specs.declared.rows.Told.{Told}
 use Rattle.alarm_session.specs.declared.rows.Told.TheVariants.{Made, Refused, Answered}
 use Rattle.des_base.specs.Lists.{Extends}
+use Rattle.des_base.specs.Refusing.{SucceedsUnless}
 use Rattle.des_base.specs.declared.memory.Memory.{Memory as NoMemory}
 use Rattle.des_net.specs.Network.{Net}
 use Rattle.least_faults.proofs.Freshness.{fresh_none}
@@ -109,18 +110,18 @@ module _ (net : Net) (n budget : ℕ) (old : Stage) (row : Row) (new : Stage) wh
   }
 
   -- an addition
-  by_answer : {X : Type 0} (answer : Result X SessionRefusal) → row ≢ Ask → Answers answer (row_refusal net n old.log row) → OnOk answer RowBecomes → OnOk answer (with_row old.log row ≡ old.log → new ≡ old) →
+  by_answer : {X : Type 0} (answer : Result X SessionRefusal) → row ≢ Ask → SucceedsUnless (row_refusal net n old.log row) Memory answer → OnOk answer RowBecomes → OnOk answer (with_row old.log row ≡ old.log → new ≡ old) →
       OnErr answer (new ≡ old) → IsSessionBook net n new → IfOk (told_by answer) (IsRowTold net n budget old row new)
   by_answer (Ok x) addition is becomes again same book = made addition is becomes again book
-  by_answer (Err Double) addition is becomes again same book = refused Double (λ h. cc) is same book
-  by_answer (Err Unknown) addition is becomes again same book = refused Unknown (λ h. cc) is same book
-  by_answer (Err Cycle) addition is becomes again same book = refused Cycle (λ h. cc) is same book
-  by_answer (Err NoLabels) addition is becomes again same book = refused NoLabels (λ h. cc) is same book
-  by_answer (Err Limit) addition is becomes again same book = refused Limit (λ h. cc) is same book
-  by_answer (Err (TooLarge size)) addition is becomes again same book = refused (TooLarge size) (λ h. cc) is same book
+  by_answer (Err Double) addition is becomes again same book = refused Double (λ h. cc) (is (λ h. cc)) same book
+  by_answer (Err Unknown) addition is becomes again same book = refused Unknown (λ h. cc) (is (λ h. cc)) same book
+  by_answer (Err Cycle) addition is becomes again same book = refused Cycle (λ h. cc) (is (λ h. cc)) same book
+  by_answer (Err NoLabels) addition is becomes again same book = refused NoLabels (λ h. cc) (is (λ h. cc)) same book
+  by_answer (Err Limit) addition is becomes again same book = refused Limit (λ h. cc) (is (λ h. cc)) same book
+  by_answer (Err (TooLarge size)) addition is becomes again same book = refused (TooLarge size) (λ h. cc) (is (λ h. cc)) same book
   by_answer (Err Memory) addition is becomes again same book = tt
 
-  pub addition_told : {X : Type 0} (answer : Result X SessionRefusal) (told : Result Told NoMemory) → told ≡ told_by answer → row ≢ Ask → Answers answer (row_refusal net n old.log row) →
+  pub addition_told : {X : Type 0} (answer : Result X SessionRefusal) (told : Result Told NoMemory) → told ≡ told_by answer → row ≢ Ask → SucceedsUnless (row_refusal net n old.log row) Memory answer →
       OnOk answer (Becomes net n (with_row old.log row) (row_addition old.log row) old new) → OnOk answer (with_row old.log row ≡ old.log → new ≡ old) → OnErr answer (new ≡ old) → IsSessionBook net n new → IfOk told (IsRowTold net n budget old row new)
   addition_told answer told is addition answers becomes again same book = subst (λ r. IfOk r (IsRowTold net n budget old row new)) (sym is) (by_answer answer addition answers becomes again same book)
 

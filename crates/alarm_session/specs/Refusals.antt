@@ -29,17 +29,6 @@ abbrev pub refusal_with : Option LogRefusal → ℕ → Option SessionRefusal
 refusal_with None size = large_refusal size
 refusal_with (Some refusal) size = Some (refusal_of refusal)
 
--- a call's answer, where this is the refusal that is called for: want of memory may come in place of any answer
-abbrev pub Answers : {X : Type 0} → Result X SessionRefusal → Option SessionRefusal → Type 0
-Answers (Ok x) refusal = refusal ≡ None
-Answers (Err Memory) refusal = ⊤
-Answers (Err Double) refusal = refusal ≡ Some Double
-Answers (Err Unknown) refusal = refusal ≡ Some Unknown
-Answers (Err Cycle) refusal = refusal ≡ Some Cycle
-Answers (Err NoLabels) refusal = refusal ≡ Some NoLabels
-Answers (Err Limit) refusal = refusal ≡ Some Limit
-Answers (Err (TooLarge size)) refusal = refusal ≡ Some (TooLarge size)
-
 -- the number by which a refusal is told; want of memory, which isn't told, has 0
 abbrev pub refusal_number : SessionRefusal → ℕ
 refusal_number Double = 1

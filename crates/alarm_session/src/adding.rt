@@ -1,12 +1,13 @@
 // Additions to the log of a session: what can be refused first, and then all of it.
 ghost use Rattle.std.specs.Prelude.{◌≡◌, false, length, IfOk, OnOk, OnErr, None, Some, true};
+ghost use Rattle.des_base.specs.Refusing.{SucceedsUnless};
 ghost use Rattle.alarm_session.specs.Additions.{alarm_addition, pair_addition};
-ghost use Rattle.alarm_session.specs.Refusals.{Answers, refusal_of_alarm, refusal_of_before, is_new_pair, log_with, numbers_of, refusal_of_pair, refusal_with};
+ghost use Rattle.alarm_session.specs.Refusals.{refusal_of_alarm, refusal_of_before, is_new_pair, log_with, numbers_of, refusal_of_pair, refusal_with};
 ghost use Rattle.alarm_session.specs.Session.{Becomes, IsDraftedFor, IsFor, IsRankedKept, stage_of};
 ghost use Rattle.least_faults.specs.Parts.{AreParts};
 ghost use Rattle.least_faults.specs.declared.TheConstants.{MOST_SIZE};
 ghost use Rattle.log_clauses.specs.Additions.{pair_added};
-ghost use Rattle.log_order.specs.Adding.{AddsUnless, alarm_refusal, with_alarm};
+ghost use Rattle.log_order.specs.Adding.{alarm_refusal, with_alarm};
 ghost use Rattle.log_order.specs.Log.{has_pair};
 ghost use Rattle.proof_ledger.specs.Book.{axioms_of};
 ghost use Rattle.replay.specs.QuestionSize.{question_size};
@@ -29,7 +30,7 @@ pub fn put_alarm<R: Fn(u32) -> u64>(
     requires kept { IsRankedKept R.pre R.post setting.net.now setting.steps kept.old }
     ensures kept { IsRankedKept R.pre R.post setting.entry.net.now setting.entry.steps kept.new }
     ensures rank { kept.new.parts.solver.order.rank ≡ kept.old.parts.solver.order.rank }
-    ensures refused { Answers result (refusal_of_alarm setting.entry.net.now setting.entry.steps kept.old.log id labels.now doubtful) }
+    ensures refused { SucceedsUnless (refusal_of_alarm setting.entry.net.now setting.entry.steps kept.old.log id labels.now doubtful) SessionRefusal.Memory result }
     ensures number { IfOk result (λ alarm. alarm ≡ length kept.old.log.alarms) }
     ensures added { OnOk result (Becomes setting.entry.net.now setting.entry.steps (with_alarm kept.old.log id labels.now doubtful) (Some (alarm_addition labels.now doubtful)) (stage_of kept.old) (stage_of kept.new)) }
     ensures same { OnErr result (stage_of kept.new ≡ stage_of kept.old) }
@@ -62,7 +63,7 @@ fn draft_alarm<R: Fn(u32) -> u64>(
 ) -> Result<Drafted, SessionRefusal>
     requires of_log { IsFor setting.net.now setting.steps kept.now }
     requires coded { AreParts kept.now.parts.step kept.now.parts.code.coded kept.now.parts.counter kept.now.parts.vars (axioms_of kept.now.book.entries) }
-    ensures refused { Answers result (refusal_of_alarm setting.entry.net.now setting.entry.steps kept.now.log id.now labels.now doubtful) }
+    ensures refused { SucceedsUnless (refusal_of_alarm setting.entry.net.now setting.entry.steps kept.now.log id.now labels.now doubtful) SessionRefusal.Memory result }
     ensures drafted { IfOk result (IsDraftedFor setting.entry.net.now setting.entry.steps kept.now (alarm_addition labels.now doubtful) (with_alarm kept.now.log id.now labels.now doubtful)) }
 {
     setting.net.is_built();
@@ -90,7 +91,7 @@ fn add_to_log(
     labels: &[Name],
     doubtful: bool,
 ) -> Result<u32, LogRefusal>
-    ensures refused { AddsUnless result (alarm_refusal log.old id labels.now) }
+    ensures refused { SucceedsUnless (alarm_refusal log.old id labels.now) LogRefusal.Memory result }
     ensures ok { OnOk result (log.new ≡ with_alarm log.old id labels.now doubtful) }
     ensures place { IfOk result (λ alarm. alarm ≡ length log.old.alarms) }
     ensures err { OnErr result (log.new ≡ log.old) }
@@ -112,7 +113,7 @@ pub fn put_before<R: Fn(u32) -> u64>(
     requires kept { IsRankedKept R.pre R.post setting.net.now setting.steps kept.old }
     ensures kept { IsRankedKept R.pre R.post setting.entry.net.now setting.entry.steps kept.new }
     ensures rank { kept.new.parts.solver.order.rank ≡ kept.old.parts.solver.order.rank }
-    ensures refused { Answers result (refusal_of_before setting.entry.net.now setting.entry.steps kept.old.log first.now second.now) }
+    ensures refused { SucceedsUnless (refusal_of_before setting.entry.net.now setting.entry.steps kept.old.log first.now second.now) SessionRefusal.Memory result }
     ensures new { IfOk result (λ new. new ≡ is_new_pair kept.old.log (numbers_of kept.old.log first.now second.now)) }
     ensures added { OnOk result (Becomes setting.entry.net.now setting.entry.steps (log_with kept.old.log (numbers_of kept.old.log first.now second.now)) (pair_addition kept.old.log (numbers_of kept.old.log first.now second.now)) (stage_of kept.old) (stage_of kept.new)) }
     ensures again { IfOk result (λ new. new ≡ false → stage_of kept.new ≡ stage_of kept.old) }
@@ -144,7 +145,7 @@ fn put_pair<R: Fn(u32) -> u64>(
     requires kept { IsRankedKept R.pre R.post setting.net.now setting.steps kept.old }
     ensures kept { IsRankedKept R.pre R.post setting.entry.net.now setting.entry.steps kept.new }
     ensures rank { kept.new.parts.solver.order.rank ≡ kept.old.parts.solver.order.rank }
-    ensures refused { Answers result (refusal_with (refusal_of_pair kept.old.log (Some (first, second))) (question_size setting.entry.net.now (log_with kept.old.log (Some (first, second))) setting.entry.steps)) }
+    ensures refused { SucceedsUnless (refusal_with (refusal_of_pair kept.old.log (Some (first, second))) (question_size setting.entry.net.now (log_with kept.old.log (Some (first, second))) setting.entry.steps)) SessionRefusal.Memory result }
     ensures new { IfOk result (λ new. new ≡ is_new_pair kept.old.log (Some (first, second))) }
     ensures added { OnOk result (Becomes setting.entry.net.now setting.entry.steps (log_with kept.old.log (Some (first, second))) (pair_addition kept.old.log (Some (first, second))) (stage_of kept.old) (stage_of kept.new)) }
     ensures same { OnErr result (stage_of kept.new ≡ stage_of kept.old) }
@@ -171,7 +172,7 @@ fn put_new_pair<R: Fn(u32) -> u64>(
     requires new { has_pair kept.old.log.pairs first second ≡ false }
     ensures kept { IsRankedKept R.pre R.post setting.entry.net.now setting.entry.steps kept.new }
     ensures rank { kept.new.parts.solver.order.rank ≡ kept.old.parts.solver.order.rank }
-    ensures refused { Answers result (refusal_with (refusal_of_pair kept.old.log (Some (first, second))) (question_size setting.entry.net.now (log_with kept.old.log (Some (first, second))) setting.entry.steps)) }
+    ensures refused { SucceedsUnless (refusal_with (refusal_of_pair kept.old.log (Some (first, second))) (question_size setting.entry.net.now (log_with kept.old.log (Some (first, second))) setting.entry.steps)) SessionRefusal.Memory result }
     ensures new { IfOk result (λ new. new ≡ true) }
     ensures added { OnOk result (Becomes setting.entry.net.now setting.entry.steps (log_with kept.old.log (Some (first, second))) (pair_addition kept.old.log (Some (first, second))) (stage_of kept.old) (stage_of kept.new)) }
     ensures same { OnErr result (stage_of kept.new ≡ stage_of kept.old) }
@@ -205,7 +206,7 @@ fn draft_pair<R: Fn(u32) -> u64>(
     requires coded { AreParts kept.now.parts.step kept.now.parts.code.coded kept.now.parts.counter kept.now.parts.vars (axioms_of kept.now.book.entries) }
     requires accepted { refusal_of_pair kept.now.log (Some (first, second)) ≡ None }
     requires new { has_pair kept.now.log.pairs first second ≡ false }
-    ensures refused { Answers result (refusal_with (refusal_of_pair kept.now.log (Some (first, second))) (question_size setting.entry.net.now (log_with kept.now.log (Some (first, second))) setting.entry.steps)) }
+    ensures refused { SucceedsUnless (refusal_with (refusal_of_pair kept.now.log (Some (first, second))) (question_size setting.entry.net.now (log_with kept.now.log (Some (first, second))) setting.entry.steps)) SessionRefusal.Memory result }
     ensures drafted { IfOk result (IsDraftedFor setting.entry.net.now setting.entry.steps kept.now (pair_added first second) (log_with kept.now.log (Some (first, second)))) }
 {
     setting.net.is_built();

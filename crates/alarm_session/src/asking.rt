@@ -1,8 +1,9 @@
 // A session begins, and questions are asked of what it keeps.
 ghost use Rattle.std.specs.Prelude.{◌≡◌, ◌≤◌, [], IfOk};
-ghost use Rattle.alarm_session.specs.Refusals.{Answers, large_refusal};
+ghost use Rattle.alarm_session.specs.Refusals.{large_refusal};
 ghost use Rattle.alarm_session.specs.Session.{KeepsLog, IsAtFirstStage, IsRankedKept, IsToldBy, stage_of};
 ghost use Rattle.des_base.specs.declared.TheConstants.{MOST_STEPS};
+ghost use Rattle.des_base.specs.Refusing.{SucceedsUnless};
 ghost use Rattle.indep.specs.StoredTest.{IsTest};
 ghost use Rattle.log_order.specs.Log.{no_log};
 ghost use Rattle.replay.specs.QuestionSize.{question_size};
@@ -32,7 +33,7 @@ pub fn begin<T: Fn(u32, u32) -> bool, R: Fn(u32) -> u64>(
     requires no_variables { rank.waiting ≡ [] }
     requires steps { setting.steps ≤ MOST_STEPS }
     requires empty { book.entries ≡ [] }
-    ensures refused { Answers result (large_refusal (question_size setting.entry.net.now no_log setting.entry.steps)) }
+    ensures refused { SucceedsUnless (large_refusal (question_size setting.entry.net.now no_log setting.entry.steps)) SessionRefusal.Memory result }
     ensures kept { IfOk result (IsRankedKept R.pre R.post setting.entry.net.now setting.entry.steps) }
     ensures begun { IfOk result (IsAtFirstStage setting.entry.net.now setting.entry.steps rank.rank) }
 {

@@ -1,6 +1,6 @@
 // The rows of a script: what each of them tells, and how it is carried out.
 ghost use Rattle.std.specs.Prelude.{◌≡◌, IfOk, OnOk, OnErr};
-ghost use Rattle.alarm_session.specs.Refusals.{Answers};
+ghost use Rattle.des_base.specs.Refusing.{SucceedsUnless};
 ghost use Rattle.alarm_session.specs.Rows.{IsLeftUndone, IsRowTold, row_addition, row_refusal, told_by, with_row};
 ghost use Rattle.alarm_session.specs.Session.{Becomes, IsRankedKept, stage_of};
 
@@ -60,7 +60,7 @@ fn put_row<R: Fn(u32) -> u64>(
     requires kept { IsRankedKept R.pre R.post setting.net.now setting.steps kept.old }
     ensures kept { IsRankedKept R.pre R.post setting.entry.net.now setting.entry.steps kept.new }
     ensures rank { kept.new.parts.solver.order.rank ≡ kept.old.parts.solver.order.rank }
-    ensures refused { Answers result (row_refusal setting.entry.net.now setting.entry.steps kept.old.log row.now) }
+    ensures refused { SucceedsUnless (row_refusal setting.entry.net.now setting.entry.steps kept.old.log row.now) SessionRefusal.Memory result }
     ensures added { OnOk result (Becomes setting.entry.net.now setting.entry.steps (with_row kept.old.log row.now) (row_addition kept.old.log row.now) (stage_of kept.old) (stage_of kept.new)) }
     ensures again { OnOk result (with_row kept.old.log row.now ≡ kept.old.log → stage_of kept.new ≡ stage_of kept.old) }
     ensures same { OnErr result (stage_of kept.new ≡ stage_of kept.old) }

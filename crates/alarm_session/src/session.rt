@@ -1,10 +1,11 @@
 // A session: a log that grows, and questions about it, over one book.
 ghost use Rattle.std.specs.Prelude.{◌≡◌, ◌≤◌, Some, [], false, length, true, IfOk, OnErr, OnOk};
 ghost use Rattle.alarm_session.specs.Additions.{alarm_addition, pair_addition};
-ghost use Rattle.alarm_session.specs.Refusals.{Answers, refusal_of_alarm, refusal_of_before, is_new_pair, large_refusal, log_with, numbers_of};
+ghost use Rattle.alarm_session.specs.Refusals.{refusal_of_alarm, refusal_of_before, is_new_pair, large_refusal, log_with, numbers_of};
 ghost use Rattle.alarm_session.specs.Rows.{IsLeftUndone, IsRowTold};
 ghost use Rattle.alarm_session.specs.Session.{Becomes, BeginsAs, KeepsLog, IsSessionBook, IsToldBy, KeepsSetting};
 ghost use Rattle.des_base.specs.declared.TheConstants.{MOST_STEPS};
+ghost use Rattle.des_base.specs.Refusing.{SucceedsUnless};
 ghost use Rattle.indep.specs.StoredTest.{IsTest};
 ghost use Rattle.log_order.specs.Adding.{with_alarm};
 ghost use Rattle.log_order.specs.Log.{no_log};
@@ -66,7 +67,7 @@ impl<'a, R: Fn(u32) -> u64> Session<'a, R> {
         requires no_variables { rank.waiting ≡ [] }
         requires steps { n ≤ MOST_STEPS }
         requires empty { book.entries ≡ [] }
-        ensures refused { Answers result (large_refusal (question_size net.now no_log n)) }
+        ensures refused { SucceedsUnless (large_refusal (question_size net.now no_log n)) SessionRefusal.Memory result }
         ensures begins { IfOk result (BeginsAs net.now n rank.rank) }
         ensures ranked { IfOk result (λ session. IsRanked R.pre R.post session.order) }
     {
@@ -84,7 +85,7 @@ impl<'a, R: Fn(u32) -> u64> Session<'a, R> {
         requires ranked { IsRanked R.pre R.post self.old.order }
         ensures ranked { IsRanked R.pre R.post self.new.order }
         ensures kept { KeepsSetting self.old self.new }
-        ensures refused { Answers result (refusal_of_alarm self.old.net self.old.steps self.old.stage.log id labels.now false) }
+        ensures refused { SucceedsUnless (refusal_of_alarm self.old.net self.old.steps self.old.stage.log id labels.now false) SessionRefusal.Memory result }
         ensures number { IfOk result (λ alarm. alarm ≡ length self.old.stage.log.alarms) }
         ensures added { OnOk result (Becomes self.old.net self.old.steps (with_alarm self.old.stage.log id labels.now false) (Some (alarm_addition labels.now false)) self.old.stage self.new.stage) }
         ensures same { OnErr result (self.new.stage ≡ self.old.stage) }
@@ -97,7 +98,7 @@ impl<'a, R: Fn(u32) -> u64> Session<'a, R> {
         requires ranked { IsRanked R.pre R.post self.old.order }
         ensures ranked { IsRanked R.pre R.post self.new.order }
         ensures kept { KeepsSetting self.old self.new }
-        ensures refused { Answers result (refusal_of_alarm self.old.net self.old.steps self.old.stage.log id labels.now true) }
+        ensures refused { SucceedsUnless (refusal_of_alarm self.old.net self.old.steps self.old.stage.log id labels.now true) SessionRefusal.Memory result }
         ensures number { IfOk result (λ alarm. alarm ≡ length self.old.stage.log.alarms) }
         ensures added { OnOk result (Becomes self.old.net self.old.steps (with_alarm self.old.stage.log id labels.now true) (Some (alarm_addition labels.now true)) self.old.stage self.new.stage) }
         ensures same { OnErr result (self.new.stage ≡ self.old.stage) }
@@ -111,7 +112,7 @@ impl<'a, R: Fn(u32) -> u64> Session<'a, R> {
         requires ranked { IsRanked R.pre R.post self.old.order }
         ensures ranked { IsRanked R.pre R.post self.new.order }
         ensures kept { KeepsSetting self.old self.new }
-        ensures refused { Answers result (refusal_of_before self.old.net self.old.steps self.old.stage.log first.now second.now) }
+        ensures refused { SucceedsUnless (refusal_of_before self.old.net self.old.steps self.old.stage.log first.now second.now) SessionRefusal.Memory result }
         ensures new { IfOk result (λ new. new ≡ is_new_pair self.old.stage.log (numbers_of self.old.stage.log first.now second.now)) }
         ensures added { OnOk result (Becomes self.old.net self.old.steps (log_with self.old.stage.log (numbers_of self.old.stage.log first.now second.now)) (pair_addition self.old.stage.log (numbers_of self.old.stage.log first.now second.now)) self.old.stage self.new.stage) }
         ensures again { IfOk result (λ new. new ≡ false → self.new.stage ≡ self.old.stage) }

@@ -3,8 +3,8 @@ ghost use Rattle.std.specs.Prelude.{◌≡◌, length};
 
 use crate::literals::{NO_0, NO_2, NO_3, YES_1, YES_3, are, are_numbers, push_all};
 use crate::truths::truth;
-use des_base::VAR_LIMIT;
-use prop_core::{Assignment, ClauseId, Clauses, Grid, IdList, Lit, LitList, Vars};
+use des_base::{ListOf, VAR_LIMIT};
+use prop_core::{Assignment, ClauseId, Clauses, Grid, Lit, Vars};
 use std::alloc::Global;
 
 // A variable, a sign, and the number of the literal.
@@ -52,27 +52,27 @@ fn literals_have_signs_and_numbers(rt: HostRuntime) {
 
 const TWO_LITERALS: [Lit; 2] = [YES_3, NO_3];
 
-fn lists_literals(lits: &mut LitList) -> bool {
+fn lists_literals(lits: &mut ListOf<Lit>) -> bool {
     lits.push(YES_3).is_ok() && lits.push(NO_3).is_ok() && are(lits.as_slice(), &TWO_LITERALS)
 }
 
 const TWO_NUMBERS: [ClauseId; 2] = [ClauseId(9), ClauseId(2)];
 
-fn lists_numbers(ids: &mut IdList) -> bool {
+fn lists_numbers(ids: &mut ListOf<ClauseId>) -> bool {
     ids.push(ClauseId(9)).is_ok()
         && ids.push(ClauseId(2)).is_ok()
         && are_numbers(ids.as_slice(), &TWO_NUMBERS)
 }
 
 fn copies_numbers(alloc: Global) -> bool {
-    match IdList::from_slice(alloc, &TWO_NUMBERS) {
+    match ListOf::from_slice(alloc, &TWO_NUMBERS) {
         Ok(copy) => are_numbers(copy.as_slice(), &TWO_NUMBERS),
         Err(_) => false,
     }
 }
 
 fn lists_both(alloc: Global) -> bool {
-    lists_literals(&mut LitList::new(alloc)) && lists_numbers(&mut IdList::new(alloc))
+    lists_literals(&mut ListOf::new(alloc)) && lists_numbers(&mut ListOf::new(alloc))
 }
 
 #[test]

@@ -7,4 +7,5 @@ pub mod Held
 pub mod CommandWords
 pub mod Laws
 pub mod Lists
+pub mod Refusing
 pub mod ChainCount

@@ -1,22 +1,14 @@
 -- What each call of the builder refuses, what it adds, and what stays true of the network that is built.
-use Rattle.std.specs.Prelude.{◌≡◌, ⊤, ℕ, ◌≤◌, Bool, true, false, nat_le, nat_lt, ◌&&◌, ◌||◌, ◌==◌, not, List, [], ◌∷◌, ◌++◌, length, slice_get, slice_set, Option, Some, None, is_some, unwrap_or, if◌then◌else◌, sum_by, All, Result, Ok, Err}
+use Rattle.std.specs.Prelude.{◌≡◌, ℕ, ◌≤◌, Bool, true, false, nat_le, nat_lt, ◌&&◌, ◌||◌, ◌==◌, not, List, [], ◌∷◌, ◌++◌, length, slice_get, slice_set, Option, Some, None, is_some, unwrap_or, if◌then◌else◌, sum_by, All}
 use Rattle.std.specs.List.{list_all, list_any}
 use Rattle.std.specs.Option.{option_map_or}
 use Rattle.des_base.specs.Names.{place_of, AreNames}
 use Rattle.des_net.specs.declared.parts.Part.{Part}
 use Rattle.des_net.specs.declared.parts.Trans.{Trans}
 use Rattle.des_net.specs.declared.refusal.BuildRefusal.{BuildRefusal}
-use Rattle.des_net.specs.declared.refusal.BuildRefusal.TheVariants.{Double, Unknown, Limit, Memory}
+use Rattle.des_net.specs.declared.refusal.BuildRefusal.TheVariants.{Double, Unknown, Limit}
 use Rattle.des_net.specs.Limits.{most_components, most_states, most_transitions, most_events, most_parts}
 use Rattle.des_net.specs.Network.{Component, Event, Net, no_component, IsTransOf}
-
--- a call's answer, where this is the refusal that the lists call for: want of memory may come in place of any answer
-abbrev pub BuildsUnless : {X : Type 0} → Result X BuildRefusal → Option BuildRefusal → Type 0
-BuildsUnless (Ok x) refusal = refusal ≡ None
-BuildsUnless (Err Memory) refusal = ⊤
-BuildsUnless (Err Double) refusal = refusal ≡ Some Double
-BuildsUnless (Err Unknown) refusal = refusal ≡ Some Unknown
-BuildsUnless (Err Limit) refusal = refusal ≡ Some Limit
 
 -- ---- a component
 

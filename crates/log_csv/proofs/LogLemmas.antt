@@ -8,7 +8,8 @@ use Rattle.des_base.specs.Names.{is_name_text, place_of}
 use Rattle.des_base.proofs.BoolLemmas.{is_less}
 use Rattle.des_base.proofs.TableLemmas.{place_of-within}
 use Rattle.log_order.specs.Log.{Log, closes_cycle, has_pair, no_log}
-use Rattle.log_order.specs.Adding.{AddsUnless, alarm_refusal, before_refusal, names_of, with_alarm, with_pair}
+use Rattle.des_base.specs.Refusing.{SucceedsUnless}
+use Rattle.log_order.specs.Adding.{alarm_refusal, before_refusal, names_of, with_alarm, with_pair}
 use Rattle.log_order.specs.declared.TheConstants.{MOST_ALARMS, MOST_LABELS, MOST_PAIRS}
 use Rattle.log_order.specs.declared.refusal.LogRefusal.{LogRefusal}
 use Rattle.log_order.specs.declared.refusal.LogRefusal.TheVariants as refused
@@ -83,12 +84,12 @@ unfolding row_code record_code alarm_refusal
 code-alarm earlier maybe id labels h =
     alarm_case (not (list_all is_name_text (id ∷ labels))) (is_some (place_of id (ids_of earlier))) (nat_le (length labels) 0) (nat_le MOST_ALARMS (length (recorded_alarms earlier)) || nat_lt MOST_LABELS (length labels)) h
 
-answer_due : (row : ℕ) (why : Option LogRefusal) (e : LogRefusal) → AddsUnless {X = ℕ} (Err e) why → IsLogDue (log_fault_at row (option_map refusal_code why)) (log_refusal_at row e)
-answer_due row why refused.Double h = ap (λ o. log_fault_at row (option_map refusal_code o)) h
-answer_due row why refused.Unknown h = ap (λ o. log_fault_at row (option_map refusal_code o)) h
-answer_due row why refused.Cycle h = ap (λ o. log_fault_at row (option_map refusal_code o)) h
-answer_due row why refused.NoLabels h = ap (λ o. log_fault_at row (option_map refusal_code o)) h
-answer_due row why refused.Limit h = ap (λ o. log_fault_at row (option_map refusal_code o)) h
+answer_due : (row : ℕ) (why : Option LogRefusal) (e : LogRefusal) → SucceedsUnless {X = ℕ} why refused.Memory (Err e) → IsLogDue (log_fault_at row (option_map refusal_code why)) (log_refusal_at row e)
+answer_due row why refused.Double h = ap (λ o. log_fault_at row (option_map refusal_code o)) (h (λ m. cc))
+answer_due row why refused.Unknown h = ap (λ o. log_fault_at row (option_map refusal_code o)) (h (λ m. cc))
+answer_due row why refused.Cycle h = ap (λ o. log_fault_at row (option_map refusal_code o)) (h (λ m. cc))
+answer_due row why refused.NoLabels h = ap (λ o. log_fault_at row (option_map refusal_code o)) (h (λ m. cc))
+answer_due row why refused.Limit h = ap (λ o. log_fault_at row (option_map refusal_code o)) (h (λ m. cc))
 answer_due row why refused.Memory h = tt
 
 pub alarm-added : (earlier : List Record) (maybe : Bool) (id : List ℕ) (labels : List (List ℕ)) (row : ℕ) (log new : Log) → IsLogOf earlier log → row_code (alarm maybe id labels) ≡ None
@@ -97,7 +98,7 @@ alarm-added earlier maybe id labels row log new h named none e =
     (code-alarm earlier maybe id labels named ∙ ap (λ l. option_map refusal_code (alarm_refusal l id labels)) (sym h.is) ∙ ap (option_map refusal_code) none, log-alarm earlier maybe id labels log new h e)
 
 pub alarm-refused : (earlier : List Record) (maybe : Bool) (id : List ℕ) (labels : List (List ℕ)) (row : ℕ) (log new : Log) (e : LogRefusal) → IsLogOf earlier log → row_code (alarm maybe id labels) ≡ None
-    → AddsUnless {X = ℕ} (Err e) (alarm_refusal log id labels) → Adds earlier (alarm maybe id labels) row new (Err (log_refusal_at row e))
+    → SucceedsUnless {X = ℕ} (alarm_refusal log id labels) refused.Memory (Err e) → Adds earlier (alarm maybe id labels) row new (Err (log_refusal_at row e))
 alarm-refused earlier maybe id labels row log new e h named a =
     subst (λ (code : Option ℕ). IsLogDue (log_fault_at row code) (log_refusal_at row e)) (sym (code-alarm earlier maybe id labels named ∙ ap (λ l. option_map refusal_code (alarm_refusal l id labels)) (sym h.is)))
     (answer_due row (alarm_refusal log id labels) e a)
@@ -169,7 +170,7 @@ pair-added earlier first second row i j log new h named a b none e = (
 
 pub pair-refused : (earlier : List Record) (first second : List ℕ) (row i j : ℕ) (log new : Log) (e : LogRefusal) → IsLogOf earlier log → row_code (before first second) ≡ None
     → (Some i ≡ place_of first (names_of log.alarms)) → (Some j ≡ place_of second (names_of log.alarms))
-    → AddsUnless {X = ℕ} (Err e) (before_refusal (length log.alarms) log.pairs i j) → Adds earlier (before first second) row new (Err (log_refusal_at row e))
+    → SucceedsUnless {X = ℕ} (before_refusal (length log.alarms) log.pairs i j) refused.Memory (Err e) → Adds earlier (before first second) row new (Err (log_refusal_at row e))
 pair-refused earlier first second row i j log new e h named a b refusal =
     subst (λ (code : Option ℕ). IsLogDue (log_fault_at row code) (log_refusal_at row e)) (sym (code-pair_log earlier first second i j log h named a b)) (answer_due row _ e refusal)
 

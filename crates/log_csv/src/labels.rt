@@ -6,7 +6,7 @@ ghost use Rattle.log_csv.specs.Records.{labels_in};
 ghost use Rattle.log_csv.specs.Reading.{IsNamedInRow, AreNamed, pieces_in};
 
 use crate::refusal::RowRefusal;
-use des_base::{Name, NameList};
+use des_base::{ListOf, Name};
 use std::alloc::Global;
 
 // The text as a name.
@@ -17,10 +17,10 @@ pub fn name_of(alloc: Global, text: &[u8]) -> Result<Name, RowRefusal>
 }
 
 // The labels in a field, which stand between bars.
-pub fn read_labels(alloc: Global, field: &[u8]) -> Result<NameList, RowRefusal>
+pub fn read_labels(alloc: Global, field: &[u8]) -> Result<ListOf<Name>, RowRefusal>
     ensures { AreNamed (labels_in field.now) result }
 {
-    let mut labels = NameList::new(alloc);
+    let mut labels = ListOf::new(alloc);
     let mut rest = first_piece(field);
     while let Some(text) = rest {
         let (label, others) = cut_label(text);

@@ -1,8 +1,9 @@
 // A log is read record by record.
 ghost use Rattle.std.specs.Prelude.{◌≡◌, ◌^◌, ◌<◌, List, None, Some, length, IfErr, IfOk, OnErr, OnOk};
+ghost use Rattle.des_base.specs.Refusing.{SucceedsUnless};
 ghost use Rattle.csv.specs.Records.{fields_of};
 ghost use Rattle.log_order.specs.Log.{no_log};
-ghost use Rattle.log_order.specs.Adding.{AddsUnless, alarm_refusal, with_alarm};
+ghost use Rattle.log_order.specs.Adding.{alarm_refusal, with_alarm};
 ghost use Rattle.log_csv.specs.Records.{Record, alarm, before, record_of};
 ghost use Rattle.log_csv.specs.Faults.{IsLogDue};
 ghost use Rattle.log_csv.specs.ScriptText.{row_code, row_of};
@@ -105,7 +106,7 @@ fn add_alarm(
 
 // Adds an alarm, certain or doubtful.
 fn put_alarm(log: &mut AlarmLog, maybe: bool, id: Name, labels: &[Name]) -> Result<u32, LogRefusal>
-    ensures refused { AddsUnless result (alarm_refusal log.old id labels.now) }
+    ensures refused { SucceedsUnless (alarm_refusal log.old id labels.now) LogRefusal.Memory result }
     ensures ok { OnOk result (log.new ≡ with_alarm log.old id labels.now maybe) }
     ensures err { OnErr result (log.new ≡ log.old) }
 {

@@ -11,7 +11,7 @@ use crate::labels::{name_of, read_labels};
 use crate::refusal::RowRefusal;
 use crate::row::Row;
 use csv::ByteRecord;
-use des_base::{Name, NameList};
+use des_base::{ListOf, Name};
 use std::alloc::Global;
 
 // The row that a record says, where one of its fields isn't empty.
@@ -53,7 +53,7 @@ fn read_alarm(alloc: Global, fields: &ByteRecord, maybe: bool) -> Result<Row, Ro
 }
 
 // The row of an alarm, certain or doubtful.
-fn alarm_row(maybe: bool, id: Name, labels: NameList) -> Row
+fn alarm_row(maybe: bool, id: Name, labels: ListOf<Name>) -> Row
     ensures { result ≡ alarm_row maybe id labels }
 {
     if maybe {

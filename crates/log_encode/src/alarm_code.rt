@@ -3,14 +3,14 @@ ghost use Rattle.std.specs.Prelude.{◌≡◌, ◌≤◌, length, IfOk};
 ghost use Rattle.log_encode.specs.Written.{link_of};
 
 use crate::taken::Taken;
-use des_base::{EventId, Memory, Name, NameList, VAR_LIMIT};
+use des_base::{EventId, ListOf, Memory, Name, VAR_LIMIT};
 use std::alloc::Global;
 use std::marker::Model;
 
 // An alarm of the log: its labels, whether it is doubtful, the events that it may stand for, and its first variable.
 #[derive(Drop)]
 pub struct AlarmCode {
-    pub labels: NameList,
+    pub labels: ListOf<Name>,
     pub doubtful: bool,
     pub takes: Vec<Taken>,
     pub start: u32,
@@ -40,10 +40,10 @@ impl AlarmCode {
 }
 
 // A copy of the labels.
-pub fn copy_labels(alloc: Global, labels: &[Name]) -> Result<NameList, Memory>
+pub fn copy_labels(alloc: Global, labels: &[Name]) -> Result<ListOf<Name>, Memory>
     ensures { IfOk result (λ list. list ≡ labels.now) }
 {
-    let mut list = NameList::new(alloc);
+    let mut list = ListOf::new(alloc);
     for label in labels {
         list.push(label.copy()?)?;
     }

@@ -7,16 +7,6 @@ use Rattle.log_order.specs.declared.refusal.LogRefusal.{LogRefusal}
 use Rattle.log_order.specs.declared.refusal.LogRefusal.TheVariants.{Double, Unknown, Cycle, NoLabels, Limit, Memory}
 use Rattle.log_order.specs.Log.{Log, Alarm, IsValidLog, has_pair, closes_cycle, an_alarm}
 
--- a call's answer, where this is the refusal that the log calls for: want of memory may come in place of any answer
-abbrev pub AddsUnless : {X : Type 0} → Result X LogRefusal → Option LogRefusal → Type 0
-AddsUnless (Ok x) refusal = refusal ≡ None
-AddsUnless (Err Memory) refusal = ⊤
-AddsUnless (Err Double) refusal = refusal ≡ Some Double
-AddsUnless (Err Unknown) refusal = refusal ≡ Some Unknown
-AddsUnless (Err Cycle) refusal = refusal ≡ Some Cycle
-AddsUnless (Err NoLabels) refusal = refusal ≡ Some NoLabels
-AddsUnless (Err Limit) refusal = refusal ≡ Some Limit
-
 -- the ids of alarms, in order
 abbrev pub names_of : List Alarm → List (List ℕ)
 names_of alarms = map (λ alarm. alarm.name) alarms

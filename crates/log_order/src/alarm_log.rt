@@ -1,8 +1,9 @@
 // A log of alarms, which refuses what does not fit and else adds the one thing.
 ghost use Rattle.std.specs.Prelude.{◌≡◌, ◌<◌, ◌≤◌, length, slice_get, option_map, not, true, false, IfOk, OnErr, OnOk, Some, None, Err};
 ghost use Rattle.des_base.specs.Names.{place_of};
+ghost use Rattle.des_base.specs.Refusing.{SucceedsUnless};
 ghost use Rattle.log_order.specs.Log.{no_log, has_pair, ListsOnce, Keeps, IsValidLog, StandOnce};
-ghost use Rattle.log_order.specs.Adding.{AddsUnless, alarm_refusal, with_alarm, before_refusal, with_pair, names_of, IsLog};
+ghost use Rattle.log_order.specs.Adding.{alarm_refusal, with_alarm, before_refusal, with_pair, names_of, IsLog};
 ghost use Rattle.log_order.specs.Order.{least_order};
 
 use crate::alarm::{AlarmMeaning, each_once};
@@ -144,7 +145,7 @@ impl AlarmLog {
 
     /// Adds an alarm, and answers its number. A repeated label counts once, and keeps its first place.
     pub fn add_alarm(&mut self, id: Name, labels: &[Name]) -> Result<u32, LogRefusal>
-        ensures refused { AddsUnless result (alarm_refusal self.old id labels.now) }
+        ensures refused { SucceedsUnless (alarm_refusal self.old id labels.now) LogRefusal.Memory result }
         ensures ok { OnOk result (self.new ≡ with_alarm self.old id labels.now false) }
         ensures place { IfOk result (λ alarm. alarm ≡ length self.old.alarms) }
         ensures err { OnErr result (self.new ≡ self.old) }
@@ -154,7 +155,7 @@ impl AlarmLog {
 
     /// Adds an alarm that is perhaps false, and answers its number.
     pub fn add_maybe(&mut self, id: Name, labels: &[Name]) -> Result<u32, LogRefusal>
-        ensures refused { AddsUnless result (alarm_refusal self.old id labels.now) }
+        ensures refused { SucceedsUnless (alarm_refusal self.old id labels.now) LogRefusal.Memory result }
         ensures ok { OnOk result (self.new ≡ with_alarm self.old id labels.now true) }
         ensures place { IfOk result (λ alarm. alarm ≡ length self.old.alarms) }
         ensures err { OnErr result (self.new ≡ self.old) }
@@ -164,7 +165,7 @@ impl AlarmLog {
 
     // Adds an alarm, where it isn't refused.
     fn add(&mut self, id: Name, labels: &[Name], doubtful: bool) -> Result<u32, LogRefusal>
-        ensures refused { AddsUnless result (alarm_refusal self.old id labels.now) }
+        ensures refused { SucceedsUnless (alarm_refusal self.old id labels.now) LogRefusal.Memory result }
         ensures ok { OnOk result (self.new ≡ with_alarm self.old id labels.now doubtful) }
         ensures place { IfOk result (λ alarm. alarm ≡ length self.old.alarms) }
         ensures err { OnErr result (self.new ≡ self.old) }
@@ -208,7 +209,7 @@ impl AlarmLog {
     /// Why a pair would be refused. `Unknown`: an alarm isn't there. `Cycle`: the pairs would have one, and no order of the
     /// alarms would keep them all. `Limit`: the pair is new, and there are 20,000.
     pub fn test_before(&self, first: u32, second: u32) -> Result<(), LogRefusal>
-        ensures refused { AddsUnless result (before_refusal (length self.now.alarms) self.now.pairs first second) }
+        ensures refused { SucceedsUnless (before_refusal (length self.now.alarms) self.now.pairs first second) LogRefusal.Memory result }
         ensures valid { OnOk result (IsValidLog (record self.now { pairs = with_pair self.now.pairs first second })) }
         ensures cycle { result ≡ Err LogRefusal.Cycle → ¬ (IsValidLog (record self.now { pairs = with_pair self.now.pairs first second })) }
     {
@@ -217,7 +218,7 @@ impl AlarmLog {
 
     /// Adds a pair of alarms, "the first before the second": true where it is new, and false where it was there.
     pub fn add_before(&mut self, first: u32, second: u32) -> Result<bool, LogRefusal>
-        ensures refused { AddsUnless result (before_refusal (length self.old.alarms) self.old.pairs first second) }
+        ensures refused { SucceedsUnless (before_refusal (length self.old.alarms) self.old.pairs first second) LogRefusal.Memory result }
         ensures ok { OnOk result (self.new ≡ record self.old { pairs = with_pair self.old.pairs first second }) }
         ensures fresh { IfOk result (λ fresh. fresh ≡ not (has_pair self.old.pairs first second)) }
         ensures err { OnErr result (self.new ≡ self.old) }

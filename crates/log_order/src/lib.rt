@@ -8,7 +8,6 @@
 
 mod alarm;
 mod alarm_log;
-mod followers;
 mod marks;
 mod order;
 mod precedence;

@@ -1,18 +1,18 @@
 // The pairs of a log, by their first alarms, and whether a further pair closes a cycle.
 ghost use Rattle.std.specs.Prelude.{◌≡◌, ◌+◌, ◌<◌, ◌≤◌, ◌∷◌, ◌++◌, [], ℕ, true, false, not, length, Err, None, IfOk, OnOk, OnErr};
 ghost use Rattle.des_base.specs.Names.{place_of};
+ghost use Rattle.des_base.specs.Refusing.{SucceedsUnless};
 ghost use Rattle.log_order.specs.Log.{has_pair, reaches, ListsOnce, Keeps, AreOrdered, StandOnce};
-ghost use Rattle.log_order.specs.Adding.{AddsUnless, before_refusal, with_pair};
+ghost use Rattle.log_order.specs.Adding.{before_refusal, with_pair};
 ghost use Rattle.log_order.specs.declared.TheConstants.{MOST_ALARMS, MOST_PAIRS};
 ghost use Rattle.log_order.specs.Precedence.{no_precedence, is_marked, moved, with_follower};
 ghost use Rattle.log_order.specs.Order.{least_order};
 
 use crate::MOST_PAIRS;
-use crate::followers::Followers;
 use crate::marks::{is_marked, mark_all, push_marked, push_unmarked};
 use crate::order::least_order;
 use crate::refusal::LogRefusal;
-use des_base::{Memory, Name, NameTable};
+use des_base::{ListOf, Memory, Name, NameTable};
 use std::alloc::Global;
 use std::marker::Model;
 
@@ -24,7 +24,7 @@ use std::marker::Model;
 pub struct Precedence {
     pairs: Vec<(u32, u32)>,
     order: Vec<u32>,
-    followers: Vec<Followers>,
+    followers: Vec<ListOf<u32>>,
     alloc: Global,
 }
 
@@ -102,7 +102,7 @@ impl Precedence {
     // What the second number reaches, where the pair is accepted.
     #[tactic(auto, unfolding(crate::specs::Adding::before_refusal))]
     fn admit(&self, first: u32, second: u32) -> Result<Vec<bool>, LogRefusal>
-        ensures refused { AddsUnless result (before_refusal self.now.count self.now.pairs first second) }
+        ensures refused { SucceedsUnless (before_refusal self.now.count self.now.pairs first second) LogRefusal.Memory result }
         ensures marks { IfOk result (λ marks. (i : ℕ) → is_marked marks.items i ≡ reaches self.now.pairs second i) }
         ensures apart { OnOk result (reaches self.now.pairs second first ≡ false) }
         ensures first { OnOk result (first < self.now.count) }
@@ -136,7 +136,7 @@ impl Precedence {
 
     // Whether the pair would be accepted.
     pub fn test(&self, first: u32, second: u32) -> Result<(), LogRefusal>
-        ensures refused { AddsUnless result (before_refusal self.now.count self.now.pairs first second) }
+        ensures refused { SucceedsUnless (before_refusal self.now.count self.now.pairs first second) LogRefusal.Memory result }
         ensures ordered { OnOk result (AreOrdered self.now.count (with_pair self.now.pairs first second)) }
         ensures cycle { result ≡ Err LogRefusal.Cycle → ¬ AreOrdered self.now.count (with_pair self.now.pairs first second) }
     {
@@ -160,7 +160,7 @@ impl Precedence {
         self.followers.reserve(1)?;
         ids.add(id)?;
         self.order.push_reserved(number);
-        self.followers.push_reserved(Followers::new(self.alloc));
+        self.followers.push_reserved(ListOf::new(self.alloc));
         Ok(number)
     }
 
@@ -184,7 +184,7 @@ impl Precedence {
 
     // Adds a pair, where it isn't there.
     pub fn add(&mut self, first: u32, second: u32) -> Result<bool, LogRefusal>
-        ensures refused { AddsUnless result (before_refusal self.old.count self.old.pairs first second) }
+        ensures refused { SucceedsUnless (before_refusal self.old.count self.old.pairs first second) LogRefusal.Memory result }
         ensures ok { OnOk result (self.new ≡ record self.old { pairs = with_pair self.old.pairs first second }) }
         ensures few { OnOk result (length self.old.pairs ≤ MOST_PAIRS → length self.new.pairs ≤ MOST_PAIRS) }
         ensures fresh { IfOk result (λ fresh. fresh ≡ not (has_pair self.old.pairs first second)) }
@@ -210,7 +210,7 @@ fn moved(alloc: Global, order: &[u32], marks: &[bool]) -> Result<Vec<u32>, Memor
 }
 
 // Adds a follower of one of the numbers.
-fn push_follower(followers: &mut Vec<Followers>, first: u32, second: u32) -> Result<(), Memory>
+fn push_follower(followers: &mut Vec<ListOf<u32>>, first: u32, second: u32) -> Result<(), Memory>
     requires { first < length followers.old.items }
     ensures ok { OnOk result (followers.new.items ≡ with_follower followers.old.items first second) }
     ensures err { OnErr result (followers.new.items ≡ followers.old.items) }

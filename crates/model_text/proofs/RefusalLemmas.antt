@@ -12,7 +12,8 @@ use Rattle.des_net.specs.declared.parts.Part.{Part}
 use Rattle.des_net.specs.declared.refusal.BuildRefusal.{BuildRefusal}
 use Rattle.des_net.specs.declared.refusal.BuildRefusal.TheVariants as builder
 use Rattle.des_net.specs.Network.{Component as Automaton, Net, no_component, component_at}
-use Rattle.des_net.specs.Building.{BuildsUnless, IsDraft, state_refusal, trans_refusal, event_refusal, has_trans, trans_count, repeats, component_refusal}
+use Rattle.des_base.specs.Refusing.{SucceedsUnless}
+use Rattle.des_net.specs.Building.{IsDraft, state_refusal, trans_refusal, event_refusal, has_trans, trans_count, repeats, component_refusal}
 use Rattle.model_text.specs.declared.refusal.LineRefusal.{LineRefusal}
 use Rattle.model_text.specs.declared.refusal.LineRefusal.TheVariants as line
 use Rattle.model_text.specs.declared.part_name.PartName.{PartName}
@@ -30,31 +31,24 @@ use Rattle.std.proofs.lemmas.Bool.{and_left, and_right}
 use Rattle.std.specs.Option.{option_to_list}
 
 -- a double, or a limit
-limited-coded : (double past : Bool) (r : BuildRefusal) → BuildsUnless {X = Unit {0}} (Err r) (limited double past) → IsCoded (first_of false true double false past) (refusal_of_build r)
+limited-coded : (double past : Bool) (r : BuildRefusal) → SucceedsUnless {X = Unit {0}} (limited double past) builder.Memory (Err r) → IsCoded (first_of false true double false past) (refusal_of_build r)
 limited-coded true past builder.Double h = refl
-limited-coded true past builder.Unknown h = cc
-limited-coded true past builder.Limit h = cc
+limited-coded true past builder.Unknown h = let e = h (λ m. cc) in cc
+limited-coded true past builder.Limit h = let e = h (λ m. cc) in cc
 limited-coded true past builder.Memory h = tt
-limited-coded false true builder.Double h = cc
-limited-coded false true builder.Unknown h = cc
+limited-coded false true builder.Double h = let e = h (λ m. cc) in cc
+limited-coded false true builder.Unknown h = let e = h (λ m. cc) in cc
 limited-coded false true builder.Limit h = refl
 limited-coded false true builder.Memory h = tt
-limited-coded false false builder.Double h = cc
-limited-coded false false builder.Unknown h = cc
-limited-coded false false builder.Limit h = cc
+limited-coded false false builder.Double h = let e = h (λ m. cc) in cc
+limited-coded false false builder.Unknown h = let e = h (λ m. cc) in cc
+limited-coded false false builder.Limit h = let e = h (λ m. cc) in cc
 limited-coded false false builder.Memory h = tt
 
--- a refusal answers the same, whatever the call gives where it refuses nothing
-answers_any : (X : Type 0) (refusal : Option BuildRefusal) (r : BuildRefusal) → BuildsUnless {X = X} (Err r) refusal → BuildsUnless {X = Unit {0}} (Err r) refusal
-answers_any X refusal builder.Double h = h
-answers_any X refusal builder.Unknown h = h
-answers_any X refusal builder.Limit h = h
-answers_any X refusal builder.Memory h = tt
-
 by_limits : (double past : Bool) (code : Option ℕ) (refusal : Option BuildRefusal) (r : BuildRefusal) → code ≡ first_of false true double false past → refusal ≡ limited double past
-    → BuildsUnless {X = Unit {0}} (Err r) refusal → IsCoded code (refusal_of_build r)
+    → SucceedsUnless {X = Unit {0}} refusal builder.Memory (Err r) → IsCoded code (refusal_of_build r)
 by_limits double past code refusal r e f h =
-    subst (λ c. IsCoded c (refusal_of_build r)) (sym e) (limited-coded double past r (subst (λ o. BuildsUnless {X = Unit {0}} (Err r) o) f h))
+    subst (λ c. IsCoded c (refusal_of_build r)) (sym e) (limited-coded double past r (subst (λ o. SucceedsUnless {X = Unit {0}} o builder.Memory (Err r)) f h))
 
 -- ---- words that are no names
 
@@ -70,10 +64,10 @@ one_name name false h = rw h refl
 pub component-unnamed : (net : Net) (name : List ℕ) → is_name_text name ≡ false → code_by net (component name) ≡ Some 3
 component-unnamed net name h = unnamed false (list_all is_name_text (name ∷ [])) (stands_in net.component_names name) false (nat_le 1000 (length net.components)) refl (one_name name false h)
 
-pub component-refused : (net : Net) (name : List ℕ) (r : BuildRefusal) → is_name_text name ≡ true → BuildsUnless {X = ℕ} (Err r) (component_refusal net name) → IsCoded (code_by net (component name)) (refusal_of_build r)
+pub component-refused : (net : Net) (name : List ℕ) (r : BuildRefusal) → is_name_text name ≡ true → SucceedsUnless {X = ℕ} (component_refusal net name) builder.Memory (Err r) → IsCoded (code_by net (component name)) (refusal_of_build r)
 component-refused net name r h answered =
     by_limits (stands_in net.component_names name) (nat_le 1000 (length net.components)) _ (component_refusal net name) r
-    (ap (λ b. first_of false b (stands_in net.component_names name) false (nat_le 1000 (length net.components))) (one_name name true h)) refl (answers_any ℕ (component_refusal net name) r answered)
+    (ap (λ b. first_of false b (stands_in net.component_names name) false (nat_le 1000 (length net.components))) (one_name name true h)) refl answered
 
 -- ---- before any component
 
@@ -109,15 +103,15 @@ module _ (net : Net) (comp : ℕ) (current : comp + 1 ≡ length net.components)
   pub state-unnamed : (name : List ℕ) (initial : Bool) → is_name_text name ≡ false → code_by net (state name initial) ≡ Some 3
   state-unnamed name initial h = unnamed (is_without_components net) (list_all is_name_text (name ∷ [])) (stands_in (last_states net) name) false (nat_le 256 (length (last_states net))) some (one_name name false h)
 
-  pub state-refused : (name : List ℕ) (initial : Bool) (r : BuildRefusal) → is_name_text name ≡ true → BuildsUnless {X = ℕ} (Err r) (state_refusal net.components comp name) → IsCoded (code_by net (state name initial)) (refusal_of_build r)
+  pub state-refused : (name : List ℕ) (initial : Bool) (r : BuildRefusal) → is_name_text name ≡ true → SucceedsUnless {X = ℕ} (state_refusal net.components comp name) builder.Memory (Err r) → IsCoded (code_by net (state name initial)) (refusal_of_build r)
   state-refused name initial r h answered =
       by_limits (stands_in (last_states net) name) (nat_le 256 (length (last_states net))) _ (state_refusal net.components comp name) r
       (λ i. first_of (some i) (one_name name true h i) (stands_in (last_states net) name) false (nat_le 256 (length (last_states net))))
-      (state_refusal-at net.components comp name last at) (answers_any ℕ (state_refusal net.components comp name) r answered)
+      (state_refusal-at net.components comp name last at) answered
 
-  pub state-given : (text name : List ℕ) (initial : Bool) (r : BuildRefusal) → IsNamedInLine text (Ok name) → BuildsUnless {X = ℕ} (Err r) (state_refusal net.components comp name) → IsCoded (code_by net (state text initial)) (refusal_of_build r)
+  pub state-given : (text name : List ℕ) (initial : Bool) (r : BuildRefusal) → IsNamedInLine text (Ok name) → SucceedsUnless {X = ℕ} (state_refusal net.components comp name) builder.Memory (Err r) → IsCoded (code_by net (state text initial)) (refusal_of_build r)
   state-given text name initial r named answered =
-      state-refused text initial r named.1 (subst (λ (n : List ℕ). BuildsUnless {X = ℕ} (Err r) (state_refusal net.components comp n)) named.0 answered)
+      state-refused text initial r named.1 (subst (λ (n : List ℕ). SucceedsUnless {X = ℕ} (state_refusal net.components comp n) builder.Memory (Err r)) named.0 answered)
 
   -- a transition with a word that is no name
   pub transition-unnamed : (from action to : List ℕ) → (is_name_text from && (is_name_text action && (is_name_text to && true))) ≡ false → code_by net (transition from action to) ≡ Some 3
@@ -137,7 +131,7 @@ module _ (net : Net) (comp : ℕ) (current : comp + 1 ≡ length net.components)
       unknown_of (Some i) (Some j) h = cc
 
   pub transition-refused : (from action to : List ℕ) (i j : ℕ) (r : BuildRefusal) → (is_name_text from && (is_name_text action && (is_name_text to && true))) ≡ true → place_of from last.state_names ≡ Some i → place_of to last.state_names ≡ Some j
-      → i < length last.state_names → j < length last.state_names → BuildsUnless {X = Unit {0}} (Err r) (trans_refusal net.components comp i action j) → IsCoded (code_by net (transition from action to)) (refusal_of_build r)
+      → i < length last.state_names → j < length last.state_names → SucceedsUnless {X = Unit {0}} (trans_refusal net.components comp i action j) builder.Memory (Err r) → IsCoded (code_by net (transition from action to)) (refusal_of_build r)
   transition-refused from action to i j r h source target f t answered =
       by_limits (has_trans last i action j) (nat_le 50000 (trans_count net.components)) _ (trans_refusal net.components comp i action j) r
       (λ k. first_of (some k) (h k) (has_placed last action (source k) (target k)) (not (is_some (source k) && is_some (target k))) (nat_le 50000 (trans_count net.components)))
@@ -146,13 +140,13 @@ module _ (net : Net) (comp : ℕ) (current : comp + 1 ≡ length net.components)
   -- the same by the values that the reader has at hand
   pub transition-given : (from action to : List ℕ) (i j : ℕ) (name : List ℕ) (r : BuildRefusal) → is_name_text from ≡ true → is_name_text to ≡ true → IsNamedInLine action (Ok name)
       → Some i ≡ place_of from (component_at net comp).state_names → Some j ≡ place_of to (component_at net comp).state_names → i < length (component_at net comp).state_names → j < length (component_at net comp).state_names
-      → BuildsUnless {X = Unit {0}} (Err r) (trans_refusal net.components comp i name j) → IsCoded (code_by net (transition from action to)) (refusal_of_build r)
+      → SucceedsUnless {X = Unit {0}} (trans_refusal net.components comp i name j) builder.Memory (Err r) → IsCoded (code_by net (transition from action to)) (refusal_of_build r)
   transition-given from action to i j name r f t named source target inside within answered =
       let here : component_at net comp ≡ last = ap (λ k. component_at net k) place in
       transition-refused from action to i j r (three (is_name_text from) (is_name_text action) (is_name_text to) f named.1 t)
       (ap (λ (c : Automaton). place_of from c.state_names) (sym here) ∙ sym source) (ap (λ (c : Automaton). place_of to c.state_names) (sym here) ∙ sym target)
       (subst (λ (c : Automaton). i < length c.state_names) here inside) (subst (λ (c : Automaton). j < length c.state_names) here within)
-      (subst (λ (n : List ℕ). BuildsUnless {X = Unit {0}} (Err r) (trans_refusal net.components comp i n j)) named.0 answered)
+      (subst (λ (n : List ℕ). SucceedsUnless {X = Unit {0}} (trans_refusal net.components comp i n j) builder.Memory (Err r)) named.0 answered)
     where
       three : (a b c : Bool) → a ≡ true → b ≡ true → c ≡ true → (a && (b && (c && true))) ≡ true
       three a b c h k l = rw (h, k, l) refl
@@ -223,14 +217,14 @@ module _ (net : Net) (name : List ℕ) (label : Option (List ℕ)) (fault : Bool
         (sym (λ i. first_of false (well i) double (not (is_some (lost i))) past)) h
 
     -- where all are known
-    pub event-refused : (found : List Part) (r : BuildRefusal) → IsDraft net → parts_by_name net parts ≡ Some found → BuildsUnless {X = ℕ} (Err r) (event_refusal net name found) → IsCoded (code_by net (event name label fault parts)) (refusal_of_build r)
+    pub event-refused : (found : List Part) (r : BuildRefusal) → IsDraft net → parts_by_name net parts ≡ Some found → SucceedsUnless {X = ℕ} (event_refusal net name found) builder.Memory (Err r) → IsCoded (code_by net (event name label fault parts)) (refusal_of_build r)
     event-refused found r draft is answered =
         let known = all_found net parts found is in
         let repeated = all_repeated net parts found known in
         let few = length_all net parts found known in
         by_limits (stands_in net.event_names name || repeats found) (nat_le 4000 (length net.events) || nat_lt 16 (length found)) _ (event_refusal net name found) r
         (λ i. first_of false (well i) (stands_in net.event_names name || repeated i) (not (is_some (is i))) (nat_le 4000 (length net.events) || nat_lt 16 (few i)))
-        (event_refusal-known net name found (all_there net parts found draft.named known)) (answers_any ℕ (event_refusal net name found) r answered)
+        (event_refusal-known net name found (all_there net parts found draft.named known)) answered
 
 -- the same by the values that the reader has at hand
 module _ (net : Net) (text : List ℕ) (label : Option (List ℕ)) (fault : Bool) (parts : List PartName) (name : List ℕ) (labelled : Option (List ℕ))
@@ -244,11 +238,11 @@ module _ (net : Net) (text : List ℕ) (label : Option (List ℕ)) (fault : Bool
       event-unknown net text label fault (map part_said parts) called.1 labels.1 whole r lost
       (subst (λ (n : List ℕ). IsCoded (first_of false true (stands_in net.event_names n || has_repeated (map (λ (p : NamedPart). p.component) (map part_said parts))) true false) r) called.0 h)
 
-  pub refused-given : (found slice : List Part) (r : BuildRefusal) → IsDraft net → parts_by_name net (map part_said parts) ≡ Some found → slice ≡ found → BuildsUnless {X = ℕ} (Err r) (event_refusal net name slice)
+  pub refused-given : (found slice : List Part) (r : BuildRefusal) → IsDraft net → parts_by_name net (map part_said parts) ≡ Some found → slice ≡ found → SucceedsUnless {X = ℕ} (event_refusal net name slice) builder.Memory (Err r)
       → IsCoded (code_by net (event text label fault (map part_said parts))) (refusal_of_build r)
   refused-given found slice r draft is same answered =
       event-refused net text label fault (map part_said parts) called.1 labels.1 whole found r draft is
-      (subst (λ (ps : List Part). BuildsUnless {X = ℕ} (Err r) (event_refusal net text ps)) same (subst (λ (n : List ℕ). BuildsUnless {X = ℕ} (Err r) (event_refusal net n slice)) called.0 answered))
+      (subst (λ (ps : List Part). SucceedsUnless {X = ℕ} (event_refusal net text ps) builder.Memory (Err r)) same (subst (λ (n : List ℕ). SucceedsUnless {X = ℕ} (event_refusal net n slice) builder.Memory (Err r)) called.0 answered))
 
 -- as many parts are found as are named
 pub found-some : (net : Net) (parts : List PartName) (found slice : List Part) → parts_by_name net (map part_said parts) ≡ Some found → slice ≡ found → 0 < length parts → 0 < length slice

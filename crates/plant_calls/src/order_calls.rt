@@ -1,6 +1,6 @@
 // Logs that are built, calls that are refused, and the order of the smallest free alarms.
 use crate::made::name;
-use des_base::{Name, NameList};
+use des_base::{ListOf, Name};
 use log_order::{AlarmLog, LogRefusal};
 use std::alloc::Global;
 
@@ -31,7 +31,7 @@ fn adds(
     }
 }
 
-fn push(labels: &mut NameList, alloc: Global, text: &[u8]) -> bool {
+fn push(labels: &mut ListOf<Name>, alloc: Global, text: &[u8]) -> bool {
     match name(alloc, text) {
         Some(label) => labels.push(label).is_ok(),
         None => false,
@@ -39,7 +39,7 @@ fn push(labels: &mut NameList, alloc: Global, text: &[u8]) -> bool {
 }
 
 // An alarm with the labels L, K and L, and a doubtful one with these; none without a label, and none twice.
-fn adds_two(log: &mut AlarmLog, alloc: Global, labels: &mut NameList) -> bool {
+fn adds_two(log: &mut AlarmLog, alloc: Global, labels: &mut ListOf<Name>) -> bool {
     push(labels, alloc, b"L")
         && push(labels, alloc, b"K")
         && push(labels, alloc, b"L")
@@ -73,21 +73,21 @@ fn has_two(log: &AlarmLog) -> bool {
         && log.find(b"L").is_none()
 }
 
-fn keeps_two(log: &mut AlarmLog, alloc: Global, labels: &mut NameList) -> bool {
+fn keeps_two(log: &mut AlarmLog, alloc: Global, labels: &mut ListOf<Name>) -> bool {
     log.alarms() == 0 && log.pairs().is_empty() && adds_two(log, alloc, labels) && has_two(log)
 }
 
-fn are_kept(alloc: Global, labels: &mut NameList) -> bool {
+fn are_kept(alloc: Global, labels: &mut ListOf<Name>) -> bool {
     keeps_two(&mut AlarmLog::new(alloc), alloc, labels)
 }
 
 #[test]
 fn keeps_alarms(rt: HostRuntime) {
-    assert!(rt; are_kept(rt.alloc(), &mut NameList::new(rt.alloc())));
+    assert!(rt; are_kept(rt.alloc(), &mut ListOf::new(rt.alloc())));
 }
 
 // Four alarms, and no pairs.
-fn add_four(log: &mut AlarmLog, alloc: Global, labels: &mut NameList) -> bool {
+fn add_four(log: &mut AlarmLog, alloc: Global, labels: &mut ListOf<Name>) -> bool {
     push(labels, alloc, b"L")
         && adds(log, alloc, b"a", labels.as_slice(), false, Ok(0))
         && adds(log, alloc, b"b", labels.as_slice(), false, Ok(1))
@@ -130,7 +130,7 @@ fn adds_pairs(log: &mut AlarmLog) -> bool {
 }
 
 fn are_refused(log: &mut AlarmLog, alloc: Global) -> bool {
-    add_four(log, alloc, &mut NameList::new(alloc)) && adds_pairs(log)
+    add_four(log, alloc, &mut ListOf::new(alloc)) && adds_pairs(log)
 }
 
 #[test]
@@ -146,7 +146,7 @@ fn has_order(log: &AlarmLog, order: &mut Vec<u32>, want: &[u32]) -> bool {
 fn takes_smallest(log: &mut AlarmLog, alloc: Global, order: &mut Vec<u32>) -> bool {
     order.push(7).is_ok()
         && has_order(log, order, &[])
-        && add_four(log, alloc, &mut NameList::new(alloc))
+        && add_four(log, alloc, &mut ListOf::new(alloc))
         && log.add_before(3, 0).is_ok()
         && log.add_before(2, 1).is_ok()
         && has_order(log, order, &[2, 1, 3, 0])

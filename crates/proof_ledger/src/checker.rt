@@ -6,8 +6,8 @@ ghost use Rattle.proof_ledger.specs.Checking.{check_proof, after_step, IsChecked
 use crate::follow::{Outcome, derive_by};
 use crate::held::HeldClauses;
 use crate::truths::Truths;
-use des_base::Memory;
-use prop_core::{Clauses, IdList, LitList};
+use des_base::{ListOf, Memory};
+use prop_core::{ClauseId, Clauses, Lit};
 use std::alloc::Global;
 
 /// A step of a proof, with the line that it stands in.
@@ -17,12 +17,12 @@ pub enum ProofStep {
     Add {
         line: u32,
         id: u64,
-        clause: LitList,
-        hints: IdList,
+        clause: ListOf<Lit>,
+        hints: ListOf<ClauseId>,
     },
     /// The clauses of these numbers are held no longer.
     Delete {
-        ids: IdList,
+        ids: ListOf<ClauseId>,
     },
 }
 

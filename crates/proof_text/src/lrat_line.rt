@@ -5,9 +5,9 @@ ghost use Rattle.proof_text.specs.LratText.{is_deletion_mark};
 ghost use Rattle.proof_text.specs.LineReading.{ids_section, literals_section, ids_only, literals_and_hints, deletion_read, add_step, line_read};
 
 use crate::number::{Entry, read_entry};
-use des_base::{Line, Memory, Tokens, VAR_LIMIT, read_number};
+use des_base::{Line, ListOf, Memory, Tokens, VAR_LIMIT, read_number};
 use proof_ledger::ProofStep;
-use prop_core::{ClauseId, IdList, LitList};
+use prop_core::{ClauseId, Lit};
 use std::alloc::Global;
 
 // The step of a line that has no fault. An addition's number has to be greater than `last`.
@@ -80,7 +80,7 @@ fn read_addition(
 }
 
 // The clause numbers up to a `0` that ends the line.
-fn read_last_ids(alloc: Global, mut tokens: Tokens<'_>) -> Result<Option<IdList>, Memory>
+fn read_last_ids(alloc: Global, mut tokens: Tokens<'_>) -> Result<Option<ListOf<ClauseId>>, Memory>
     ensures { IfOk result (λ ids. ids ≡ ids_only (texts_of tokens.entry)) }
 {
     let ids = read_ids(alloc, &mut tokens)?;
@@ -91,10 +91,10 @@ fn read_last_ids(alloc: Global, mut tokens: Tokens<'_>) -> Result<Option<IdList>
 }
 
 // The clause numbers up to a `0`. None where another token stands among them, or no `0` does.
-fn read_ids(alloc: Global, tokens: &mut Tokens<'_>) -> Result<Option<IdList>, Memory>
+fn read_ids(alloc: Global, tokens: &mut Tokens<'_>) -> Result<Option<ListOf<ClauseId>>, Memory>
     ensures { IfOk result (λ ids. MatchOption ids (ids_section (texts_of tokens.old) ≡ None) (λ ids. ids_section (texts_of tokens.old) ≡ Some (ids, texts_of tokens.new))) }
 {
-    let mut ids = IdList::new(alloc);
+    let mut ids = ListOf::new(alloc);
     while let Some(token) = tokens.next_token() {
         match read_number(token.text, u64::MAX) {
             None => return Ok(None),
@@ -110,11 +110,11 @@ fn read_literals(
     alloc: Global,
     tokens: &mut Tokens<'_>,
     vars: u32,
-) -> Result<Option<LitList>, Memory>
+) -> Result<Option<ListOf<Lit>>, Memory>
     requires { vars ≤ VAR_LIMIT }
     ensures { IfOk result (λ clause. MatchOption clause (literals_section vars (texts_of tokens.old) ≡ None) (λ clause. literals_section vars (texts_of tokens.old) ≡ Some (clause, texts_of tokens.new))) }
 {
-    let mut clause = LitList::new(alloc);
+    let mut clause = ListOf::new(alloc);
     while let Some(token) = tokens.next_token() {
         match read_entry(token.text, vars) {
             None => return Ok(None),

@@ -8,9 +8,9 @@ ghost use Rattle.proof_text.specs.ProofNumbers.{NumbersAscend, HasNoZero};
 ghost use Rattle.proof_text.specs.Refutation.{EndsIn, front_to, is_numbered, refuted_formula, numbers_from, new_number, derived_of, derived_steps, steps_behind, refutation_steps, IsStepOf, RefutationsCheck};
 
 use crate::proof::Proof;
-use des_base::Memory;
+use des_base::{ListOf, Memory};
 use proof_ledger::{Entry, Ledger, ProofStep};
-use prop_core::{ClauseId, IdList, Lit, LitList};
+use prop_core::{ClauseId, Lit};
 use std::alloc::Global;
 
 /// The proof that ends with a final clause of the book, given the assumptions of which it has negations alone.
@@ -106,20 +106,20 @@ impl Front<'_> {
         proof.push(ProofStep::Add {
             line: 0,
             id: next,
-            clause: LitList::new(self.alloc),
+            clause: ListOf::new(self.alloc),
             hints,
         })?;
         Ok(proof)
     }
 
     // The new numbers of the clauses: axioms are numbered from 1, what was derived from another number.
-    fn numbers(&self, first: u64) -> Result<IdList, Memory>
+    fn numbers(&self, first: u64) -> Result<ListOf<ClauseId>, Memory>
         requires within { self.now.count ≤ length self.now.book.now.entries }
         requires from_one { 1 ≤ first }
         requires room { first + self.now.count < 2 ^ 64 }
         ensures { IfOk result (λ numbers. numbers ≡ numbers_from 1 first (take self.now.count self.now.book.now.entries)) }
     {
-        let mut numbers = IdList::new(self.alloc);
+        let mut numbers = ListOf::new(self.alloc);
         let mut axiom = 1;
         let mut next = first;
         for place in 0..self.count {
@@ -170,12 +170,12 @@ impl Front<'_> {
     }
 
     // The numbers of the assumptions' clauses, and then that of the last clause.
-    fn last_hints(&self, axioms: u64, clauses: u64, last: ClauseId) -> Result<IdList, Memory>
+    fn last_hints(&self, axioms: u64, clauses: u64, last: ClauseId) -> Result<ListOf<ClauseId>, Memory>
         requires units { axioms ≤ clauses }
         requires room { clauses < 2 ^ 64 - 1 }
         ensures { IfOk result (λ hints. hints ≡ range_with_len (axioms + 1) (clauses - axioms) ++ last ∷ []) }
     {
-        let mut hints = IdList::new(self.alloc);
+        let mut hints = ListOf::new(self.alloc);
         for before in axioms..clauses {
             hints.push(ClauseId(before + 1))?;
         }
@@ -196,10 +196,10 @@ fn new_number(numbers: &[ClauseId], id: ClauseId) -> ClauseId
 }
 
 // The new numbers of the clauses.
-fn renumbered(alloc: Global, hints: &[ClauseId], numbers: &[ClauseId]) -> Result<IdList, Memory>
+fn renumbered(alloc: Global, hints: &[ClauseId], numbers: &[ClauseId]) -> Result<ListOf<ClauseId>, Memory>
     ensures { IfOk result (λ list. list ≡ map (new_number numbers.now) hints.now) }
 {
-    let mut list = IdList::new(alloc);
+    let mut list = ListOf::new(alloc);
     for hint in hints {
         list.push(new_number(numbers, *hint))?;
     }
@@ -207,10 +207,10 @@ fn renumbered(alloc: Global, hints: &[ClauseId], numbers: &[ClauseId]) -> Result
 }
 
 // A copy of a clause.
-fn copy_of(alloc: Global, clause: &[Lit]) -> Result<LitList, Memory>
+fn copy_of(alloc: Global, clause: &[Lit]) -> Result<ListOf<Lit>, Memory>
     ensures { IfOk result (λ copy. copy ≡ clause.now) }
 {
-    let mut copy = LitList::new(alloc);
+    let mut copy = ListOf::new(alloc);
     for lit in clause {
         copy.push(*lit)?;
     }

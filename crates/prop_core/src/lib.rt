@@ -12,7 +12,6 @@ mod assignment;
 mod clauses;
 mod grid;
 mod laws;
-mod lists;
 mod lit;
 mod pieces;
 mod vars;
@@ -24,7 +23,6 @@ pub use laws::{
     assignments_match, derived_clauses_are_true, grids_are_injective, listed_are_code,
     listed_are_equal, listed_are_written, values_match,
 };
-pub use lists::{IdList, LitList};
 pub use lit::Lit;
 pub use pieces::Pieces;
 pub use vars::Vars;

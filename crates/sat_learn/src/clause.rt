@@ -2,8 +2,8 @@
 ghost use Rattle.std.specs.Prelude.{◌≡◌, ◌≤◌, ◌++◌, length, OnOk};
 ghost use Rattle.sat_learn.specs.Seen.{negated_seen, level_seen};
 
-use des_base::Memory;
-use prop_core::{Lit, LitList};
+use des_base::{ListOf, Memory};
+use prop_core::Lit;
 use sat_prop::Trail;
 
 // Adds the negations of the literals that are seen among the first so many, from the last on.
@@ -11,7 +11,7 @@ pub fn add_negated(
     seen: &[bool],
     literals: &[Lit],
     count: usize,
-    clause: &mut LitList,
+    clause: &mut ListOf<Lit>,
 ) -> Result<(), Memory>
     requires seen { count ≤ length seen.now }
     requires literals { count ≤ length literals.now }

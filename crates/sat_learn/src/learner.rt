@@ -14,8 +14,8 @@ use crate::clause::{add_negated, last_level};
 use crate::removable::Removable;
 use crate::resolving::{begin, resolve_to_decisions, resolve_to_one};
 use crate::shortening::shorten;
-use des_base::Memory;
-use prop_core::{ClauseId, Clauses, IdList, Lit, LitList};
+use des_base::{ListOf, Memory};
+use prop_core::{ClauseId, Clauses, Lit};
 use sat_prop::Trail;
 use std::alloc::Global;
 use std::marker::Model;
@@ -24,8 +24,8 @@ use std::marker::Model;
 /// before it was shortened: so many.
 #[derive(Drop)]
 pub struct Learnt {
-    pub clause: LitList,
-    pub hints: IdList,
+    pub clause: ListOf<Lit>,
+    pub hints: ListOf<ClauseId>,
     pub level: u32,
     pub from_conflict: usize,
 }
@@ -200,7 +200,7 @@ fn learn_with(
     hints.reverse();
     Ok(Learnt {
         clause,
-        hints: IdList::from_slice(alloc, hints)?,
+        hints: ListOf::from_slice(alloc, hints)?,
         level,
         from_conflict,
     })
@@ -212,14 +212,14 @@ fn asserting(
     alloc: Global,
     on: &Analysed<'_>,
     place: usize,
-) -> Result<LitList, Memory>
+) -> Result<ListOf<Lit>, Memory>
     requires place { place < length on.now.trail.now.literals }
     requires seen { on.now.start ≤ length seen.now }
     requires literals { on.now.start ≤ length on.now.trail.now.literals }
     ensures { IfOk result (λ clause. clause ≡ negation (literal_at on.now.trail.now.literals place) ∷ negated_seen on.now.trail.now.literals seen.now on.now.start) }
 {
     let literals = on.trail.literals();
-    let mut clause = LitList::new(alloc);
+    let mut clause = ListOf::new(alloc);
     clause.push(literals[place].negated())?;
     add_negated(seen, literals, on.start, &mut clause)?;
     Ok(clause)
@@ -249,12 +249,12 @@ fn close(
     let mut hints = Vec::new(alloc);
     begin(seen, &on, conflict, &mut hints)?;
     resolve_to_decisions(seen, &on, &mut hints)?;
-    let mut clause = LitList::new(alloc);
+    let mut clause = ListOf::new(alloc);
     add_negated(seen, literals, literals.len(), &mut clause)?;
     hints.reverse();
     Ok(Learnt {
         clause,
-        hints: IdList::from_slice(alloc, &hints)?,
+        hints: ListOf::from_slice(alloc, &hints)?,
         level: 0,
         from_conflict: hints.len(),
     })
@@ -286,13 +286,13 @@ fn close_failed(
     };
     let mut hints = Vec::new(alloc);
     resolve_to_decisions(seen, &on, &mut hints)?;
-    let mut clause = LitList::new(alloc);
+    let mut clause = ListOf::new(alloc);
     clause.push(lit.negated())?;
     add_negated(seen, literals, literals.len(), &mut clause)?;
     hints.reverse();
     Ok(Learnt {
         clause,
-        hints: IdList::from_slice(alloc, &hints)?,
+        hints: ListOf::from_slice(alloc, &hints)?,
         level: 0,
         from_conflict: hints.len(),
     })

@@ -1,7 +1,8 @@
 // Formulas that are hard for their size. Each is appended to a list of clauses, and the answer is whether memory was left.
 ghost use Rattle.std.specs.Prelude.{◌<◌};
 
-use prop_core::{Clauses, Lit, LitList};
+use des_base::ListOf;
+use prop_core::{Clauses, Lit};
 use std::alloc::Global;
 
 fn literal(var: u32, positive: bool) -> Lit {
@@ -58,7 +59,7 @@ fn pigeonholes(alloc: Global, pigeons: u32, holes: u32, clauses: &mut Clauses) -
 
 // The pigeon has a hole, and shares none with those before it.
 fn add_pigeon(alloc: Global, pigeons: u32, holes: u32, pigeon: u32, clauses: &mut Clauses) -> bool {
-    if !add_some_hole(pigeons, holes, pigeon, &mut LitList::new(alloc), clauses) {
+    if !add_some_hole(pigeons, holes, pigeon, &mut ListOf::new(alloc), clauses) {
         return false;
     }
     for other in 0..pigeon {
@@ -73,7 +74,7 @@ fn add_some_hole(
     pigeons: u32,
     holes: u32,
     pigeon: u32,
-    clause: &mut LitList,
+    clause: &mut ListOf<Lit>,
     clauses: &mut Clauses,
 ) -> bool {
     clause.push(literal(pigeon, false)).is_ok()
@@ -81,7 +82,7 @@ fn add_some_hole(
         && clauses.push(clause.as_slice()).is_ok()
 }
 
-fn push_holes(pigeons: u32, holes: u32, pigeon: u32, clause: &mut LitList) -> bool {
+fn push_holes(pigeons: u32, holes: u32, pigeon: u32, clause: &mut ListOf<Lit>) -> bool {
     for hole in 0..holes {
         if clause
             .push(in_hole(pigeons, holes, pigeon, hole, true))

@@ -1,5 +1,5 @@
 // Scripts that are read, and logs that are read and printed.
-use des_base::{Name, NameList};
+use des_base::{ListOf, Name};
 use log_csv::{Row, Script, print_log, read_log, read_script};
 use std::alloc::Global;
 
@@ -65,7 +65,7 @@ fn prints_logs(rt: HostRuntime) {
 // What a row says: its kind, its names, and how many labels it has, as they are written.
 type Said = (char, &'static str, &'static str, usize);
 
-fn is_alarm(id: &Name, labels: &NameList, said: &Said) -> bool {
+fn is_alarm(id: &Name, labels: &ListOf<Name>, said: &Said) -> bool {
     id.as_str() == said.1 && labels.as_slice().len() == said.3
 }
 

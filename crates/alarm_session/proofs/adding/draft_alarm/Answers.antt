@@ -18,7 +18,7 @@ returns-then-size-gt-MOST_SIZE-clause-refused g c =
     let log = c.args.kept.now.log in
     let sized = alarm_sized net c.args.setting.steps c.args.kept.now c.requires.of_log c.requires.coded c.is_built.ensures.whole c.args.id.now c.args.labels.now c.as_slice-labels.result.now c.args.doubtful
     (c.as_slice-labels.ensures.value ∙ c.in_ok-once.ensures.once) c.size_with_alarm-size.result c.size_with_alarm-size.ensures in
-    refused_by_size (alarm_refusal log c.args.id.now c.args.labels.now) c.size_with_alarm-size.result (question_size net (with_alarm log c.args.id.now c.args.labels.now c.args.doubtful) c.args.setting.steps)
+    λ _. refused_by_size (alarm_refusal log c.args.id.now c.args.labels.now) c.size_with_alarm-size.result (question_size net (with_alarm log c.args.id.now c.args.labels.now c.args.doubtful) c.args.setting.steps)
     (sym c.test_alarm.ensures ∙ c.in_default.is) (omega (arith, c.if-size-gt-MOST_SIZE.true)) (sym sized)
 
 pub draft_alarm-requires-clause-few : goal.draft_alarm-requires-clause-few

@@ -13,7 +13,7 @@ returns-then-size-gt-MOST_SIZE-clause-refused g c =
     let net = c.args.setting.net.now in
     let log = c.args.kept.now.log in
     let sized = pair_sized net c.args.setting.steps c.args.kept.now c.requires.of_log c.requires.coded c.is_built.ensures.whole c.args.first c.args.second c.requires.new c.size_with_pair-size.result c.size_with_pair-size.ensures in
-    refused_by_size (refusal_of_pair log (Some (c.args.first, c.args.second))) c.size_with_pair-size.result (question_size net (paired log c.args.first c.args.second) c.args.setting.steps)
+    λ _. refused_by_size (refusal_of_pair log (Some (c.args.first, c.args.second))) c.size_with_pair-size.result (question_size net (paired log c.args.first c.args.second) c.args.setting.steps)
     c.requires.accepted (omega (arith, c.if-size-gt-MOST_SIZE.true)) (sym sized)
 
 pub draft_before-requires-clause-first : goal.draft_before-requires-clause-first

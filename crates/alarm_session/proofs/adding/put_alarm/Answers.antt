@@ -4,8 +4,10 @@ use Rattle.alarm_session.proofs.Keeping.{alarm_codes}
 use Rattle.alarm_session.proofs.Refusing.{refused_by_log}
 use Rattle.alarm_session.proofs.adding.put_alarm.Goals as goal
 use Rattle.alarm_session.specs.Additions.{alarm_addition}
-use Rattle.alarm_session.specs.Refusals.{Answers, refusal_of_alarm}
+use Rattle.alarm_session.specs.Refusals.{refusal_of_alarm}
 use Rattle.alarm_session.specs.declared.refusal.SessionRefusal.{SessionRefusal}
+use Rattle.alarm_session.specs.declared.refusal.SessionRefusal.TheVariants.{Memory}
+use Rattle.des_base.specs.Refusing.{SucceedsUnless}
 use Rattle.log_order.specs.Adding.{with_alarm, with_texts}
 
 pub reserve_draft-requires-clause-drafted : goal.reserve_draft-requires-clause-drafted
@@ -45,5 +47,5 @@ returns-in-Err-clause-kept g c =
 
 pub returns-in-Err-clause-refused : goal.returns-in-Err-clause-refused
 returns-in-Err-clause-refused g c =
-    subst (λ (r : SessionRefusal). Answers {X = ℕ} (Err r) (refusal_of_alarm c.args.setting.net.now c.args.setting.steps c.args.kept.now.log c.args.id c.args.labels.now c.args.doubtful)) (sym c.refusal_of.ensures)
+    subst (λ (r : SessionRefusal). SucceedsUnless {X = ℕ} (refusal_of_alarm c.args.setting.net.now c.args.setting.steps c.args.kept.now.log c.args.id c.args.labels.now c.args.doubtful) Memory (Err r)) (sym c.refusal_of.ensures)
     (refused_by_log ℕ ℕ c.in-Err.refusal _ _ c.in-Err.ensures.refused)
