@@ -1,29 +1,20 @@
 -- A watch is dropped: its clause goes, and nothing else changes.
 use Rattle.std.proofs.Common.{◌≡◌, ◌∙◌, ◌⊎◌, inl, inr, ℕ, ◌<◌, ◌≤◌, List, refl, ap, sym, subst, length, arith, ⊎_elim}
-use Rattle.std.specs.Prelude.{slice_set}
 use Rattle.std.proofs.lemmas.Grind.{common_steps}
 use Rattle.std.proofs.lemmas.Bool.{cases_eq, cases_order}
+use Rattle.std.proofs.lemmas.List.{length-set, get_or-set_same, get_or-set_other}
 use Rattle.sat_prop.specs.declared.watch_lists.Watch.{Watch}
-use Rattle.sat_prop.specs.Watches.{IsLive, watch_at, dropped, with_dropped, without_clause}
+use Rattle.sat_prop.specs.Watches.{IsLive, no_watch, watch_at, dropped, with_dropped, without_clause}
 use Rattle.sat_prop.specs.Watching.{WatchedState, OnlyDrops, unwatched}
 
-set_here : (watches : List Watch) (n : ℕ) (x : Watch) → n < length watches → watch_at (slice_set watches n x) n ≡ x
-set_here watches n x h = grind (arith, common_steps)
-
-set_apart : (watches : List Watch) (n m : ℕ) (x : Watch) → (m ≡ n → ⊥) → watch_at (slice_set watches n x) m ≡ watch_at watches m
-set_apart watches n m x d = grind (arith, common_steps)
-
-set_length : (watches : List Watch) (n : ℕ) (x : Watch) → length (slice_set watches n x) ≡ length watches
-set_length watches n x = grind (arith, common_steps)
-
 drop_here : (watches : List Watch) (n : ℕ) → n < length watches → watch_at (with_dropped watches n) n ≡ dropped (watch_at watches n)
-drop_here watches n h = set_here watches n (dropped (watch_at watches n)) h
+drop_here watches n h = get_or-set_same watches n (dropped (watch_at watches n)) no_watch h
 
 pub drop_apart : (watches : List Watch) (n m : ℕ) → (m ≡ n → ⊥) → watch_at (with_dropped watches n) m ≡ watch_at watches m
-drop_apart watches n m d = set_apart watches n m (dropped (watch_at watches n)) d
+drop_apart watches n m d = get_or-set_other watches n m (dropped (watch_at watches n)) no_watch d
 
 pub drop_length : (watches : List Watch) (n : ℕ) → length (with_dropped watches n) ≡ length watches
-drop_length watches n = set_length watches n (dropped (watch_at watches n))
+drop_length watches n = length-set watches n (dropped (watch_at watches n))
 
 pub drop_lit : (watches : List Watch) (n m : ℕ) → n < length watches → (watch_at (with_dropped watches n) m).lit ≡ (watch_at watches m).lit
 drop_lit watches n m h = ⊎_elim

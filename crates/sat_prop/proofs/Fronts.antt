@@ -25,13 +25,6 @@ front_length old xs e = let g : length (take (length old) xs) ≡ length old = a
 pub front_itself : {X : Type 0} (xs : List X) → take (length xs) xs ≡ xs
 front_itself xs = grind (arith, common_steps)
 
-pub front_trans : {X : Type 0} (a b c : List X) → take (length a) b ≡ a → take (length b) c ≡ b → take (length a) c ≡ a
-front_trans a b c e f =
-    let n = front_length a b e in
-    let m = front_length b c f in
-    let g : take (length a) (take (length b) c) ≡ take (length a) c = grind (arith, common_steps) in
-    sym g ∙ ap (take (length a)) f ∙ e
-
 pub front_at : {X : Type 0} (old new : List X) (k : ℕ) (d : X) → take (length old) new ≡ old → k < length old → get_or new k d ≡ get_or old k d
 front_at old new k d e h =
     let a : get_or (take (length old) new) k d ≡ get_or new k d = grind (arith, common_steps) in

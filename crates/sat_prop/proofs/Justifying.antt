@@ -1,13 +1,13 @@
 -- A trail stays justified, and quiet before its decisions, as it changes.
-use Rattle.std.proofs.Common.{◌≡◌, ◌∙◌, ℕ, ◌+◌, ◌<◌, ◌≤◌, true, ◌||◌, ◌++◌, ◌∷◌, [], List, ap, sym, map, length, take, get_or, arith, subst, ⊎_elim, Option, Some, None}
+use Rattle.std.proofs.Common.{◌≡◌, ◌∙◌, ℕ, ◌+◌, ◌<◌, ◌≤◌, true, ◌||◌, ◌++◌, ◌∷◌, [], List, refl, ap, sym, map, length, take, get_or, arith, subst, ⊎_elim, Option, Some, None}
 use Rattle.std.specs.Prelude.{Contains, count_by, is_none, nat_eq}
 use Rattle.std.specs.List.{list_any, list_all}
 use Rattle.std.proofs.lemmas.Grind.{common_steps}
 use Rattle.std.proofs.lemmas.Bool.{and_parts, eqb-true, eq-eqb, or_cases, or_left, or_right}
-use Rattle.std.proofs.lemmas.List.Elements.{All-push, All-take, All-weaker}
+use Rattle.std.proofs.lemmas.List.Elements.{All-push, All-take}
 use Rattle.std.proofs.lemmas.Map.Steps.{length-le_from_distinct_below}
 use Rattle.prop_core.specs.declared.lit.Lit.{Lit}
-use Rattle.prop_core.specs.Clauses.{Clause, same_literal, is_false, is_open, HasValues, AreConsistent}
+use Rattle.prop_core.specs.Clauses.{Clause, same_literal, is_false, is_open, AreConsistent}
 use Rattle.prop_core.specs.Derivation.{unit, standing, clause_numbered}
 use Rattle.prop_core.specs.Trail.{is_quiet, no_literal, has_var, HasVarsOnce}
 use Rattle.prop_core.proofs.Literals.{differs, below_at, below_var, once_from_apart, once_consistent}
@@ -16,7 +16,7 @@ use Rattle.sat_prop.specs.TrailState.{TrailState, IsReason, IsJustified, IsKnown
 use Rattle.sat_prop.specs.Quiet.{stands, AreQuiet, WasQuietBefore, JoinsQuietly}
 use Rattle.sat_prop.specs.Changes.{IsFront, Propagates, with_true_literal, with_attached_clause}
 use Rattle.sat_prop.specs.Kept.{IsTrailState}
-use Rattle.sat_prop.proofs.Fronts.{split_last, front_more, front_held, front_same, known_at, contains_more}
+use Rattle.sat_prop.proofs.Fronts.{split_last, front_itself, front_more, front_held, front_same, known_at, contains_more}
 
 -- the variables of a trail are apart
 pub justified_once : (cs : List Clause) (att : List ℕ) (literals : List Lit) (reasons : List (Option ℕ)) (vars : ℕ) → IsJustified cs att literals reasons vars → HasVarsOnce literals
@@ -198,16 +198,9 @@ state_attach t all new s f k q = record {
   quiet = λ place h e. quiet_attach t.clauses all t.attached t.vars new (take place t.literals) f s.known (s.quiet place h e) (q place h e);
 }
 
--- more variables
-pub state_wider : (t : TrailState) (vars : ℕ) → IsTrailState t → t.vars ≤ vars → IsTrailState (record t { vars = vars })
-state_wider t vars s h = record {
-  justified = record { same = s.justified.same; known = wider t.vars vars t.literals h s.justified.known; open_before = s.justified.open_before; forced = s.justified.forced };
-  known = λ place b. let k = s.known place b in record { clause = k.clause; held = k.held; known = wider t.vars vars k.clause h k.known };
-  quiet = s.quiet;
-}
-  where
-    wider : (n m : ℕ) (c : List Lit) → n ≤ m → HasValues n c → HasValues m c
-    wider n m c h a = All-weaker (λ (l : Lit). l.var < n) (λ (l : Lit). l.var < m) (λ l b. omega arith) c a
+-- no more literals
+pub propagates_none : (t : TrailState) → Propagates t t
+propagates_none t = record { clauses = refl; attached = refl; vars = refl; spare = refl; literals = front_itself t.literals; reasons = front_itself t.reasons; level = refl }
 
 -- one more forced literal
 pub propagates_more : (old t new : TrailState) (l : Lit) (number : ℕ) → Propagates old t → new ≡ with_true_literal t l (Some number) → Propagates old new

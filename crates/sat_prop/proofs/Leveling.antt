@@ -20,11 +20,6 @@ level_front reasons i k h =
     let f : level_of (take i (take k reasons)) ≡ level_of (take i reasons) = ap level_of e in
     omega arith
 
-pub level_whole : (reasons : List (Option ℕ)) (i : ℕ) → level_of (take i reasons) ≤ level_of reasons
-level_whole reasons i =
-    let s = sum_by-take-drop (λ w. cond (is_none w) 1 0) reasons i in
-    omega arith
-
 -- a decision begins a level
 pub level_step : (reasons : List (Option ℕ)) (place : ℕ) → place < length reasons → reason_at reasons place ≡ None → level_at reasons place ≡ level_of (take place reasons) + 1
 level_step reasons place h e = count_by_more_yes is_none reasons place None h (rw e refl)
@@ -129,14 +124,6 @@ starts_take reasons starts level kept a cut h = let n = a.count in record {
     before j i m = ⊎_elim (λ b. b)
         (λ b. let f = level_front reasons kept (get_or starts j 0) b in let c = (a.each j i).decided in let d = cut.decided in absurd (omega arith))
         (cases_lt (get_or starts j 0) kept)
-
--- all places are those up to the present level
-pub cut_all : (reasons : List (Option ℕ)) (level : ℕ) → level ≡ level_of reasons → IsUpToLevel reasons level (length reasons)
-cut_all reasons level e = record {
-  within = omega arith;
-  decided = let t : take (length reasons) reasons ≡ reasons = grind (arith, common_steps) in ap level_of t ∙ sym e;
-  next = λ h. absurd (omega arith);
-}
 
 -- where nothing is counted, no place passes
 counts_none : (reasons : List (Option ℕ)) (i : ℕ) → level_of reasons ≡ 0 → i < length reasons → is_none (reason_at reasons i) ≡ false

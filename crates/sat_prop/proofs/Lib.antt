@@ -4,6 +4,7 @@ pub mod Placing
 mod Values
 pub mod Leveling
 pub mod Seeing
+mod Fitting
 mod Passing
 mod Links
 mod Covering
@@ -12,9 +13,17 @@ mod Linking
 mod Walking
 mod WatchLists
 mod Nodes
+mod Keeping
+mod Pairing
 mod Moving
 mod Settling
+mod Turning
+mod Attaching
+mod Growing
+mod Judging
+mod Waiting
 mod Visiting
+mod Subsuming
 mod Falling
 mod Signatures
 mod Latest

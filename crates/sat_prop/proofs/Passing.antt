@@ -1,7 +1,8 @@
--- One look at all attached clauses.
+-- One look at all short clauses.
 use Rattle.std.proofs.Common.{◌≡◌, ◌∙◌, ℕ, ◌+◌, ◌<◌, true, List, refl, ap, sym, length, get_or, arith, subst, ⊎_elim, Some}
-use Rattle.std.specs.Prelude.{slice_index}
+use Rattle.std.specs.Prelude.{Contains, slice_index}
 use Rattle.std.proofs.lemmas.Grind.{common_steps}
+use Rattle.std.proofs.lemmas.List.{get_or_read}
 use Rattle.prop_core.specs.declared.lit.Lit.{Lit}
 use Rattle.prop_core.specs.Clauses.{Clause}
 use Rattle.prop_core.specs.Derivation.{Standing, standing, clause_numbered}
@@ -9,7 +10,26 @@ use Rattle.prop_core.specs.Trail.{is_quiet}
 use Rattle.sat_prop.specs.TrailState.{TrailState, IsKnownClause}
 use Rattle.sat_prop.specs.Quiet.{stands, AreQuietBelow}
 use Rattle.sat_prop.specs.Changes.{IsFront, Propagates, with_true_literal}
-use Rattle.sat_prop.proofs.Fronts.{front_same, front_length, split_last}
+use Rattle.sat_prop.specs.Kept.{IsTrailState}
+use Rattle.sat_prop.specs.Watching.{WatchedState, AreWatched}
+use Rattle.sat_prop.proofs.Fronts.{contains_at, front_same, front_length, split_last}
+use Rattle.sat_prop.proofs.Judging.{IsFound, found}
+
+-- the short clause at a place is attached, and found in a database that has grown
+pub record IsFoundShort (t : TrailState) (all : List Clause) (short : List ℕ) (place number : ℕ) : Type 0 where
+  pub front : IsFront t.clauses all
+  pub number_is : number ≡ slice_index short place
+  pub joined : Contains t.attached number
+  pub found : IsFound t all number
+
+pub short_found : (old t : TrailState) (all : List Clause) (w : WatchedState) (short : List ℕ) (place number : ℕ) → IsTrailState t → Propagates old t → AreWatched t w → IsFront old.clauses all → short ≡ w.short → place < length short → number ≡ get_or short place number
+    → IsFoundShort t all w.short place number
+short_found old t all w short place number s p a f e within n =
+    let at : number ≡ get_or short place 0 = get_or_read short place number within n 0 in
+    let number_is : number ≡ slice_index w.short place = at ∙ ap (λ (ns : List ℕ). get_or ns place 0) e in
+    let front = subst (λ (cs : List Clause). IsFront cs all) (sym p.clauses) f in
+    let joined = a.short number (subst (λ (ns : List ℕ). Contains ns number) e (subst (λ (k : ℕ). Contains short k) (sym at) (contains_at short place within))) in
+    record { front = front; number_is = number_is; joined = joined; found = found t all number s front joined }
 
 -- how the clause that is read stands, by the clauses of the trail
 pub read_stands : (cs all : List Clause) (vars number : ℕ) (taken : List Lit) (clause : Clause) (s : Standing) → IsFront cs all → IsKnownClause cs vars number → clause_numbered all number ≡ Some clause → standing taken clause ≡ s → stands taken (clause_numbered cs number) ≡ s

@@ -4,10 +4,10 @@ use Rattle.std.specs.Prelude.{slice_set, slice_index}
 use Rattle.std.proofs.lemmas.Grind.{common_steps}
 use Rattle.std.proofs.lemmas.Bool.{cases_Bool}
 use Rattle.prop_core.specs.declared.lit.Lit.{Lit}
-use Rattle.prop_core.specs.Clauses.{is_true, is_open, AreConsistent}
+use Rattle.prop_core.specs.Clauses.{is_true, is_open}
 use Rattle.prop_core.specs.Trail.{no_literal, has_var}
-use Rattle.prop_core.proofs.Literals.{literal_of, literal_is, differs, true_at, place_found, has_back}
-use Rattle.sat_prop.specs.TrailState.{literal_at, trail_value, StandsAt}
+use Rattle.prop_core.proofs.Literals.{literal_of, differs, place_found, has_back}
+use Rattle.sat_prop.specs.TrailState.{trail_value, StandsAt}
 use Rattle.sat_prop.specs.Kept.{ArePlaces}
 use Rattle.sat_prop.proofs.Fronts.{split_last}
 
@@ -54,21 +54,7 @@ place_kept vars literals places var a e =
     let q : get_or places var 0 ≡ k.0 = subst (λ (n : ℕ). get_or places n 0 ≡ k.0) v (a.each k.0 k.1.within) in
     subst (λ (p : ℕ). StandsAt literals var p) (sym q) (record { within = k.1.within; at = v })
 
-pub stands_once : (literals : List Lit) (places : List ℕ) (vars var a b : ℕ) → ArePlaces vars literals places → StandsAt literals var a → StandsAt literals var b → a ≡ b
-stands_once literals places vars var a b p h k = sym (subst (λ (n : ℕ). get_or places n 0 ≡ a) h.at (p.each a h.within)) ∙ subst (λ (n : ℕ). get_or places n 0 ≡ b) k.at (p.each b k.within)
-
--- the value of a variable with a literal
-pub value_stands : (literals : List Lit) (var place : ℕ) → AreConsistent literals → StandsAt literals var place → trail_value literals var ≡ Some (literal_at literals place).positive
-value_stands literals var place c s = by (get_or literals place no_literal).positive refl
-  where
-    by : (b : Bool) → (get_or literals place no_literal).positive ≡ b → trail_value literals var ≡ Some b
-    by true e = let t = true_at literals (literal_of var true) place s.within (literal_is (get_or literals place no_literal) (literal_of var true) s.at e) in rw t refl
-    by false e =
-        let t = true_at literals (literal_of var false) place s.within (literal_is (get_or literals place no_literal) (literal_of var false) s.at e) in
-        let f = c (literal_of var false) t in
-        rw (f, t) refl
-
--- and of one with none
+-- the value of a variable with no literal
 pub value_open : (literals : List Lit) (var : ℕ) → ((place : ℕ) → StandsAt literals var place → ⊥) → trail_value literals var ≡ None
 value_open literals var n =
     let no : (b : Bool) → is_true literals (literal_of var b) ≡ false = λ b. ⊎_elim

@@ -94,12 +94,6 @@ other_among t watches n a b =
     let q : b.clause ≡ a.clause = held_same t.clauses (watch_at watches n).clause b.clause a.clause (subst (λ (k : ℕ). clause_numbered t.clauses k ≡ Some b.clause) a.same b.held) a.held in
     subst (λ (x : Clause). list_any (same_literal (other_literal watches n)) x ≡ true) q b.among
 
--- all that are false in the first literals are false
-pub false_longer : (literals : List Lit) (l : Lit) (k : ℕ) → k ≤ length literals → is_false (take k literals) l ≡ true → is_false literals l ≡ true
-false_longer literals l k b e =
-    let whole : take (length literals) literals ≡ literals = grind (arith, common_steps) in
-    subst (λ (ls : List Lit). is_false ls l ≡ true) whole (true_longer literals (negation l) k (length literals) b e)
-
 pub forced_longer : (literals : List Lit) (clause : Clause) (l : Lit) (a b : ℕ) → a ≤ b → is_forced_by (take a literals) l clause ≡ true → is_forced_by (take b literals) l clause ≡ true
 forced_longer literals clause l a b h e =
     let f = and_parts (list_any (same_literal l) clause) (list_all (λ k. same_literal l k || is_false (take a literals) k) clause) e in

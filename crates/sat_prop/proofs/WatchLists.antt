@@ -3,6 +3,7 @@ use Rattle.std.proofs.Common.{◌≡◌, ◌∙◌, ℕ, ◌+◌, ◌<◌, ◌�
 use Rattle.std.specs.Prelude.{nat_eq, nat_lt, slice_set}
 use Rattle.std.proofs.lemmas.Grind.{common_steps}
 use Rattle.std.proofs.lemmas.Bool.{cases_Bool, cases_eq, ne_eqb, or_cases}
+use Rattle.std.proofs.lemmas.List.{length-set}
 use Rattle.prop_core.specs.declared.lit.Lit.{Lit}
 use Rattle.prop_core.specs.Clauses.{same_literal}
 use Rattle.prop_core.proofs.Literals.{same_is}
@@ -170,10 +171,7 @@ module _ (watches : List Watch) (nexts : List (Option ℕ)) (lists : List Lists)
     lit_elsewhere m d = ap (λ (w : Watch). w.lit) (same_elsewhere m d)
 
     turned_length : length turned_nexts ≡ length nexts
-    turned_length = set_length left_nexts walk.next None ∙ left_length
-      where
-        set_length : (nexts : List (Option ℕ)) (n : ℕ) (v : Option ℕ) → length (slice_set nexts n v) ≡ length nexts
-        set_length nexts n v = grind (arith, common_steps)
+    turned_length = length-set left_nexts walk.next None ∙ left_length
 
     turned_few : length turned_nexts ≤ NO_WATCH
     turned_few = let e = turned_length in omega arith

@@ -4,5 +4,6 @@ pub mod Levels
 pub mod Quiet
 pub mod Recent
 pub mod TrailState
+pub mod View
 pub mod Watches
 pub mod Watching

@@ -33,28 +33,15 @@ pub struct Trail {
 }
 
 impl Model for Trail {
-    ghost use Rattle.std.specs.Prelude.{◌+◌, ◌≤◌, length, vec_len, vec_capacity};
-    ghost use Rattle.des_base.specs.declared.TheConstants.{VAR_LIMIT};
     ghost use Rattle.sat_prop.specs.TrailState.{TrailState};
-    ghost use Rattle.sat_prop.specs.Kept.{IsTrailState, ArePlaces, AreValues, AreLevels, AreStarts};
 
     ghost Value = { TrailState };
 
-    ghost view = { λ a. record { clauses = a.db.value.clauses; attached = a.attached.items; literals = a.literals.items; reasons = a.reasons.items; vars = length a.places.items; spare = a.spare } };
+    ghost use Rattle.sat_prop.specs.View.{trail_view, IsKeptTrail};
 
-    ghost invariant = { λ a. record {
-      state : IsTrailState (record { clauses = a.db.value.clauses; attached = a.attached.items; literals = a.literals.items; reasons = a.reasons.items; vars = length a.places.items; spare = a.spare });
-      places : ArePlaces (length a.places.items) a.literals.items a.places.items;
-      values : AreValues (length a.places.items) a.literals.items a.values.items;
-      levels : AreLevels a.reasons.items a.levels.items;
-      starts : AreStarts a.reasons.items a.starts.items;
-      limit : vec_len a.places ≤ VAR_LIMIT;
-      room_attached : vec_len a.attached + a.spare ≤ vec_capacity a.attached;
-      room_literals : vec_len a.places ≤ vec_capacity a.literals;
-      room_reasons : vec_len a.places ≤ vec_capacity a.reasons;
-      room_levels : vec_len a.places ≤ vec_capacity a.levels;
-      room_starts : vec_len a.places ≤ vec_capacity a.starts;
-    } };
+    ghost view = { trail_view };
+
+    ghost invariant = { IsKeptTrail };
 }
 
 impl Trail {

@@ -66,23 +66,15 @@ pub struct WatchLists {
 }
 
 impl Model for WatchLists {
-    ghost use Rattle.std.specs.Prelude.{◌≡◌, ◌+◌, ◌*◌, ◌%◌, ◌≤◌, length, vec_len, vec_capacity};
-    ghost use Rattle.des_base.specs.declared.TheConstants.{VAR_LIMIT};
-    ghost use Rattle.sat_prop.specs.declared.watch_lists.TheConstants.{NO_WATCH};
-    ghost use Rattle.sat_prop.specs.Watches.{WatchState, AreWatchLists, IsWalk, passed, watches_of, nexts_of};
+    ghost use Rattle.sat_prop.specs.Watches.{WatchState};
 
     ghost Value = { WatchState };
 
-    ghost view = { λ a. record { watches = watches_of a.nodes.items; waiting = passed (nexts_of a.nodes.items) a.walk.next; vars = length a.lists.items; spare = a.spare } };
+    ghost use Rattle.sat_prop.specs.View.{lists_view, AreKeptLists};
 
-    ghost invariant = { λ a. record {
-      lists : AreWatchLists (watches_of a.nodes.items) (nexts_of a.nodes.items) a.lists.items;
-      walk : IsWalk (nexts_of a.nodes.items) a.lists.items a.walk;
-      limit : length a.lists.items ≤ VAR_LIMIT;
-      pairs : vec_len a.nodes % 2 ≡ 0;
-      few : vec_len a.nodes + a.spare * 2 ≤ NO_WATCH;
-      room : vec_len a.nodes + a.spare * 2 ≤ vec_capacity a.nodes;
-    } };
+    ghost view = { lists_view };
+
+    ghost invariant = { AreKeptLists };
 }
 
 impl WatchLists {

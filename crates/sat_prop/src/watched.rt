@@ -38,7 +38,9 @@ impl Model for Watched {
 
     ghost Value = { WatchedState };
 
-    ghost view = { λ a. record { short = a.short.items; spare = a.spare; lists = a.lists; seen = a.seen } };
+    ghost use Rattle.sat_prop.specs.View.{watched_view};
+
+    ghost view = { watched_view };
 
     ghost invariant = { λ a. vec_len a.short + a.spare ≤ vec_capacity a.short };
 }

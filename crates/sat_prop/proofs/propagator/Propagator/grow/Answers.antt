@@ -1,4 +1,4 @@
-use Rattle.sat_prop.proofs.Visiting.{grown_either}
+use Rattle.sat_prop.proofs.Growing.{grown_either}
 use Rattle.sat_prop.proofs.propagator.Propagator.grow.Goals as goal
 
 pub invariant_of-self-2 : goal.invariant_of-self-2

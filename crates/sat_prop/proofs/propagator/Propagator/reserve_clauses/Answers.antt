@@ -1,5 +1,5 @@
 use Rattle.std.proofs.Common.{arith}
-use Rattle.sat_prop.proofs.Visiting.{roomier_either, watched_roomier}
+use Rattle.sat_prop.proofs.Growing.{roomier_either, watched_roomier}
 use Rattle.sat_prop.proofs.propagator.Propagator.reserve_clauses.Goals as goal
 
 pub invariant_of-self : goal.invariant_of-self

@@ -1,34 +1,24 @@
-use Rattle.std.proofs.Common.{◌≡◌, ◌∙◌, ◌++◌, ◌∷◌, [], ◌≤◌, ◌-◌, ℕ, List, ap, sym, subst, arith, Option}
-use Rattle.std.specs.Prelude.{IfSome}
+use Rattle.std.proofs.Common.{◌≡◌, ◌∙◌, ◌++◌, ◌∷◌, [], ◌<◌, ◌≤◌, ◌-◌, ℕ, List, ap, sym, subst, arith}
 use Rattle.std.proofs.lemmas.Grind.{common_steps}
-use Rattle.prop_core.specs.Clauses.{HasValues}
-use Rattle.prop_core.specs.Clauses.{Clause}
-use Rattle.prop_core.proofs.Literals.{below_at}
 use Rattle.sat_prop.specs.Changes.{with_attached_clause}
 use Rattle.sat_prop.specs.Watches.{WatchState, with_watched_clause}
 use Rattle.sat_prop.specs.Watching.{WatchedState, AreWatched}
-use Rattle.sat_prop.proofs.Visiting.{short_attached, watch_attached}
+use Rattle.sat_prop.specs.View.{watched_view}
+use Rattle.sat_prop.proofs.Attaching.{both_known, short_attached, watch_attached}
 use Rattle.sat_prop.proofs.watched.Watched.attach.Goals as goal
 
+known : (c : goal.After-number) → (c.in-Some.first.var < c.args.self.now.lists.vars) × (c.in-Some.second.var < c.args.self.now.lists.vars)
+known c = both_known c.args.trail.now c.args.self.now c.args.db.now.clauses c.args.id c.clause.result.now c.in-Some.first c.in-Some.second c.requires.watched c.requires.known c.clause.ensures c.in-Some.ensures.two
+
 pub add-requires-clause-first : goal.add-requires-clause-first
-add-requires-clause-first c =
-    let wa = subst (λ (s : WatchedState). AreWatched c.args.trail.now s) (sym c.self.view_is) c.requires.watched in
-    let known = subst (λ (o : Option Clause). IfSome o (HasValues c.args.trail.now.vars)) c.clause.ensures c.requires.known in
-    let b = below_at c.args.trail.now.vars c.clause.result.now c.in-Some.first known c.in-Some.ensures.two.first_among in
-    let v = wa.vars in
-    omega arith
+add-requires-clause-first c = subst (λ (s : WatchedState). c.in-Some.first.var < s.lists.vars) (sym c.self.view_is) (known c).0
 
 pub add-requires-clause-second : goal.add-requires-clause-second
-add-requires-clause-second c =
-    let wa = subst (λ (s : WatchedState). AreWatched c.args.trail.now s) (sym c.self.view_is) c.requires.watched in
-    let known = subst (λ (o : Option Clause). IfSome o (HasValues c.args.trail.now.vars)) c.clause.ensures c.requires.known in
-    let b = below_at c.args.trail.now.vars c.clause.result.now c.in-Some.second known c.in-Some.ensures.two.second_among in
-    let v = wa.vars in
-    omega arith
+add-requires-clause-second c = subst (λ (s : WatchedState). c.in-Some.second.var < s.lists.vars) (sym c.self.view_is) (known c).1
 
 pub returns-in-Some : goal.returns-in-Some
 returns-in-Some c =
-    let w : WatchedState = record { short = c.self.inside.short.items; spare = c.self.inside.spare; lists = c.self.inside.lists; seen = c.self.inside.seen } in
+    let w = watched_view c.self.inside in
     let wa : AreWatched c.args.trail.now w = subst (λ (s : WatchedState). AreWatched c.args.trail.now s) (sym c.self.view_is) c.requires.watched in
     let m = c.min-self-inside.ensures in
     let k = c.min-falls.ensures in
@@ -43,7 +33,7 @@ returns-in-Some c =
 
 pub returns-in-None : goal.returns-in-None
 returns-in-None c =
-    let w : WatchedState = record { short = c.self.inside.short.items; spare = c.self.inside.spare; lists = c.self.inside.lists; seen = c.self.inside.seen } in
+    let w = watched_view c.self.inside in
     let wa : AreWatched c.args.trail.now w = subst (λ (s : WatchedState). AreWatched c.args.trail.now s) (sym c.self.view_is) c.requires.watched in
     let u = c.unwrap.ensures in
     let e : c.push.new.self.items ≡ c.self.inside.short.items ++ c.args.id ∷ [] = let a = c.push.ensures.items in grind (arith, common_steps) in

@@ -1,12 +1,14 @@
 use Rattle.std.proofs.Common.{◌↔◌, ◌≤◌, ℕ, sym, subst, length, IsTrue}
 use Rattle.sat_prop.specs.Watches.{watch_at}
 use Rattle.sat_prop.specs.Watching.{WatchedState, AreWatched, IsSubsumed}
-use Rattle.sat_prop.proofs.Visiting.{found, subsumed_read}
+use Rattle.sat_prop.specs.View.{watched_view}
+use Rattle.sat_prop.proofs.Judging.{found}
+use Rattle.sat_prop.proofs.Subsuming.{subsumed_read}
 use Rattle.sat_prop.proofs.watched.Watched.is_subsumed.Goals as goal
 
 pub subsumes_another-requires : goal.subsumes_another-requires
 subsumes_another-requires c =
-    let w : WatchedState = record { short = c.self.inside.short.items; spare = c.self.inside.spare; lists = c.self.inside.lists; seen = c.self.inside.seen } in
+    let w = watched_view c.self.inside in
     let wa : AreWatched c.args.trail.now w = subst (λ (s : WatchedState). AreWatched c.args.trail.now s) (sym c.self.view_is) c.requires.watched in
     let old = c.in-Some.ensures in
     let new = c.in-Some-clause.ensures in
@@ -21,7 +23,7 @@ subsumes_another-requires c =
 
 pub returns : goal.returns
 returns c =
-    let w : WatchedState = record { short = c.self.inside.short.items; spare = c.self.inside.spare; lists = c.self.inside.lists; seen = c.self.inside.seen } in
+    let w = watched_view c.self.inside in
     let wa : AreWatched c.args.trail.now w = subst (λ (s : WatchedState). AreWatched c.args.trail.now s) (sym c.self.view_is) c.requires.watched in
     let old = c.in-Some.ensures in
     let new = c.in-Some-clause.ensures in

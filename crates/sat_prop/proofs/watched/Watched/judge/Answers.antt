@@ -13,7 +13,7 @@ use Rattle.sat_prop.specs.Watches.{IsLive, watch_at, other_literal}
 use Rattle.sat_prop.specs.Watching.{WatchedState, AreWatched, IsSettled, IsReplaced}
 use Rattle.sat_prop.proofs.Links.{not_both}
 use Rattle.sat_prop.proofs.Settling.{settled_apart, settled_true}
-use Rattle.sat_prop.proofs.Visiting.{other_has, judged_read, watched_kept, visited_kept}
+use Rattle.sat_prop.proofs.Judging.{other_has, judged_read, watched_kept, visited_kept}
 use Rattle.sat_prop.proofs.watched.Watched.judge.Goals as goal
 use Rattle.sat_prop.proofs.watched.Watched.judge.Goals.{then-ne-via-then-ne, then-ne-via-else-ne+then-holds_up_to}
 

@@ -1,66 +1,31 @@
-use Rattle.std.proofs.Common.{◌∙◌, ◌<◌, ap, refl, sym, subst, length, arith}
-use Rattle.sat_prop.specs.Watches.{WatchState, IsFirstWaiting}
-use Rattle.sat_prop.specs.declared.watched.Judged.TheVariants.{Stays, Moves}
-use Rattle.sat_prop.specs.Watching.{WatchedState, AreWatched, AreVisited, IsJudgedWatch}
-use Rattle.sat_prop.proofs.Fronts.{front_length}
-use Rattle.sat_prop.proofs.Justifying.{justified_consistent}
-use Rattle.sat_prop.proofs.Visiting.{among_known, moves_apart, visits_same, look_passes, look_passes_visited, look_moves, look_moves_visited, one_less}
+use Rattle.sat_prop.specs.View.{watched_view}
+use Rattle.sat_prop.proofs.Visiting.{IsLooked, IsLooking, literal_apart, literal_known, looked_moves, looked_stays, looking}
 use Rattle.sat_prop.proofs.watched.Watched.look_at_clause.Goals as goal
 use Rattle.sat_prop.proofs.watched.Watched.look_at_clause.Goals.{in-Stays, in-Moves}
 
+moving : (c : goal.After-put-arg-1) → IsLooking c.args.trail.now c.judge-judged.new.trail c.args.self.now (watched_view c.self.inside) c.args.number
+moving c = looking _ _ _ _ _ c.self.view_is c.judge-judged.ensures.grown c.judge-judged.ensures.watched (c.judge-judged.ensures.visited c.requires.visited) c.requires.next c.requires.visiting.within
+
 pub put-requires-clause-known : goal.put-requires-clause-known
-put-requires-clause-known c =
-    let w : WatchedState = record { short = c.self.inside.short.items; spare = c.self.inside.spare; lists = c.self.inside.lists; seen = c.self.inside.seen } in
-    let next = subst (λ (s : WatchedState). IsFirstWaiting s.lists c.args.number) (sym c.self.view_is) c.requires.next in
-    let wa : AreWatched c.judge-judged.new.trail w = subst (λ (s : WatchedState). AreWatched c.judge-judged.new.trail s) (sym c.self.view_is) c.judge-judged.ensures.watched in
-    let j = subst (λ (s : WatchedState). IsJudgedWatch c.judge-judged.new.trail s c.args.number (Moves c.in-Moves.found)) (sym c.self.view_is) c.in-Moves.ensures.judged in
-    among_known c.judge-judged.new.trail w c.args.number j.1.0 c.in-Moves.found c.is_sound.ensures.state wa next.within j.1.1 j.1.2.among
+put-requires-clause-known c = literal_known _ _ _ _ _ (moving c) c.is_sound.ensures.state c.in-Moves.found c.in-Moves.ensures.judged
 
 pub put-requires-clause-other : goal.put-requires-clause-other
-put-requires-clause-other c number first =
-    let w : WatchedState = record { short = c.self.inside.short.items; spare = c.self.inside.spare; lists = c.self.inside.lists; seen = c.self.inside.seen } in
-    let next = subst (λ (s : WatchedState). IsFirstWaiting s.lists c.args.number) (sym c.self.view_is) c.requires.next in
-    let within = subst (λ (s : WatchedState). s.seen < length c.args.trail.now.literals) (sym c.self.view_is) c.requires.visiting.within in
-    let longer = front_length c.args.trail.now.literals c.judge-judged.new.trail.literals c.judge-judged.ensures.grown.literals in
-    let j = subst (λ (s : WatchedState). IsJudgedWatch c.judge-judged.new.trail s c.args.number (Moves c.in-Moves.found)) (sym c.self.view_is) c.in-Moves.ensures.judged in
-    moves_apart c.judge-judged.new.trail w c.args.number j.1.0 c.in-Moves.found (omega arith) j.0 j.1.2 number next first
+put-requires-clause-other c = literal_apart _ _ _ _ _ (moving c) c.is_sound.ensures.state c.in-Moves.found c.in-Moves.ensures.judged
+
+looked : (c : goal.Joined-judged) → IsLooked c.args.trail.now c.judge-judged.new.trail c.args.self.now c.match-judged.self
+looked c =
+    let k : IsLooking c.args.trail.now c.judge-judged.new.trail c.args.self.now (watched_view c.self.inside) c.args.number =
+    looking _ _ _ _ _ c.self.view_is c.judge-judged.ensures.grown c.judge-judged.ensures.watched (c.judge-judged.ensures.visited c.requires.visited) c.requires.next c.requires.visiting.within in
+    elim c.match-judged.branch [
+      | in-Stays x ↦ rw x.self-is (looked_stays _ _ _ _ _ k x.stay.new.self x.stay.ensures x.in-Stays.ensures.judged)
+      | in-Moves x ↦ rw x.self-is (looked_moves _ _ _ _ _ k c.is_sound.ensures.state x.in-Moves.found x.in-Moves.ensures.judged x.put.new.self x.put.ensures)
+    ]
 
 pub returns-clause-visits : goal.returns-clause-visits
-returns-clause-visits c =
-    let w : WatchedState = record { short = c.self.inside.short.items; spare = c.self.inside.spare; lists = c.self.inside.lists; seen = c.self.inside.seen } in
-    let next = subst (λ (s : WatchedState). IsFirstWaiting s.lists c.args.number) (sym c.self.view_is) c.requires.next in
-    let wa : AreWatched c.judge-judged.new.trail w = subst (λ (s : WatchedState). AreWatched c.judge-judged.new.trail s) (sym c.self.view_is) c.judge-judged.ensures.watched in
-    let within = subst (λ (s : WatchedState). s.seen < length c.args.trail.now.literals) (sym c.self.view_is) c.requires.visiting.within in
-    let longer = front_length c.args.trail.now.literals c.judge-judged.new.trail.literals c.judge-judged.ensures.grown.literals in
-    elim c.match-judged.branch [
-      | in-Stays x ↦
-          rw x.self-is ((visits_same c.args.trail.now c.judge-judged.new.trail c.args.self.now w (record w { lists = x.stay.new.self }) c.judge-judged.ensures.grown c.self.view_is refl refl (look_passes c.judge-judged.new.trail w x.stay.new.self c.args.number next wa x.stay.ensures)))
-      | in-Moves x ↦
-          let j = subst (λ (s : WatchedState). IsJudgedWatch c.judge-judged.new.trail s c.args.number (Moves x.in-Moves.found)) (sym c.self.view_is) x.in-Moves.ensures.judged in
-          rw x.self-is ((visits_same c.args.trail.now c.judge-judged.new.trail c.args.self.now w (record w { lists = x.put.new.self }) c.judge-judged.ensures.grown c.self.view_is refl refl (look_moves c.judge-judged.new.trail w x.put.new.self c.args.number j.1.0 x.in-Moves.found (justified_consistent _ _ _ _ _ c.is_sound.ensures.state.justified) next wa (omega arith) j.1.1 j.0 j.1.2 x.put.ensures)))
-    ]
+returns-clause-visits c = (looked c).visits
 
 pub returns-clause-visited : goal.returns-clause-visited
-returns-clause-visited c =
-    let w : WatchedState = record { short = c.self.inside.short.items; spare = c.self.inside.spare; lists = c.self.inside.lists; seen = c.self.inside.seen } in
-    let next = subst (λ (s : WatchedState). IsFirstWaiting s.lists c.args.number) (sym c.self.view_is) c.requires.next in
-    let wa : AreWatched c.judge-judged.new.trail w = subst (λ (s : WatchedState). AreWatched c.judge-judged.new.trail s) (sym c.self.view_is) c.judge-judged.ensures.watched in
-    let va : AreVisited c.judge-judged.new.trail w = subst (λ (s : WatchedState). AreVisited c.judge-judged.new.trail s) (sym c.self.view_is) (c.judge-judged.ensures.visited c.requires.visited) in
-    let within = subst (λ (s : WatchedState). s.seen < length c.args.trail.now.literals) (sym c.self.view_is) c.requires.visiting.within in
-    let longer = front_length c.args.trail.now.literals c.judge-judged.new.trail.literals c.judge-judged.ensures.grown.literals in
-    elim c.match-judged.branch [
-      | in-Stays x ↦
-          rw x.self-is (look_passes_visited c.judge-judged.new.trail w x.stay.new.self c.args.number next x.stay.ensures va (subst (λ (s : WatchedState). IsJudgedWatch c.judge-judged.new.trail s c.args.number Stays) (sym c.self.view_is) x.in-Stays.ensures.judged))
-      | in-Moves x ↦
-          let j = subst (λ (s : WatchedState). IsJudgedWatch c.judge-judged.new.trail s c.args.number (Moves x.in-Moves.found)) (sym c.self.view_is) x.in-Moves.ensures.judged in
-          rw x.self-is (look_moves_visited c.judge-judged.new.trail w x.put.new.self c.args.number j.1.0 x.in-Moves.found (justified_consistent _ _ _ _ _ c.is_sound.ensures.state.justified) next wa (omega arith) j.1.1 j.0 j.1.2 x.put.ensures va)
-    ]
+returns-clause-visited c = (looked c).visited
 
 pub returns-clause-fewer : goal.returns-clause-fewer
-returns-clause-fewer c =
-    let next = subst (λ (s : WatchedState). IsFirstWaiting s.lists c.args.number) (sym c.self.view_is) c.requires.next in
-    let old = sym (ap (λ (s : WatchedState). s.lists.waiting) c.self.view_is) ∙ next.first in
-    elim c.match-judged.branch [
-      | in-Stays x ↦ one_less _ _ c.args.number next.others old (ap (λ (s : WatchedState). s.lists.waiting) x.self-is ∙ ap (λ (s : WatchState). s.waiting) (x.stay.ensures next.others c.args.number next.first))
-      | in-Moves x ↦ one_less _ _ c.args.number next.others old (ap (λ (s : WatchedState). s.lists.waiting) x.self-is ∙ ap (λ (s : WatchState). s.waiting) (x.put.ensures next.others c.args.number next.first))
-    ]
+returns-clause-fewer c = (looked c).fewer

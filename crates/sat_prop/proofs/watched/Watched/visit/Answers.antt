@@ -1,12 +1,15 @@
-use Rattle.std.proofs.Common.{◌≡◌, ◌∙◌, ◌<◌, List, refl, ap, sym, subst, length, arith}
+use Rattle.std.proofs.Common.{◌≡◌, ◌∙◌, ◌<◌, List, ap, sym, subst, length, arith}
 use Rattle.prop_core.specs.declared.lit.Lit.{Lit}
 use Rattle.prop_core.specs.Clauses.{negation}
 use Rattle.sat_prop.specs.TrailState.{literal_at}
 use Rattle.sat_prop.specs.declared.watch_lists.Watch.{Watch}
 use Rattle.sat_prop.specs.Watches.{IsLive, watch_at}
 use Rattle.sat_prop.specs.Watching.{WatchedState, AreWatched}
-use Rattle.sat_prop.proofs.Fronts.{front_itself}
-use Rattle.sat_prop.proofs.Visiting.{at_known, watched_waits, visited_begins, visited_ends, visiting_still}
+use Rattle.sat_prop.specs.View.{watched_view}
+use Rattle.sat_prop.proofs.Justifying.{propagates_none}
+use Rattle.sat_prop.proofs.Judging.{at_known}
+use Rattle.sat_prop.proofs.Waiting.{watched_waits, visited_begins, visited_ends}
+use Rattle.sat_prop.proofs.Visiting.{visiting_still}
 use Rattle.sat_prop.proofs.watched.Watched.visit.Goals as goal
 
 pub open-requires : goal.open-requires
@@ -21,7 +24,7 @@ open-requires c =
 
 pub more-init : goal.more-init
 more-init c =
-    let w : WatchedState = record { short = c.self.inside.short.items; spare = c.self.inside.spare; lists = c.self.inside.lists; seen = c.self.inside.seen } in
+    let w = watched_view c.self.inside in
     let wa : AreWatched c.args.trail.now w = subst (λ (s : WatchedState). AreWatched c.args.trail.now s) (sym c.self.view_is) c.requires.visiting.watched in
     let falls = subst (λ (s : WatchedState). literal_at c.args.trail.now.literals s.seen ≡ negation c.args.lit) (sym c.self.view_is) c.requires.visiting.falls in
     let o = c.open.ensures in
@@ -29,7 +32,7 @@ more-init c =
     record {
       visits = record {
         watched = a;
-        grown = record { clauses = refl; attached = refl; vars = refl; spare = refl; literals = front_itself c.args.trail.now.literals; reasons = front_itself c.args.trail.now.reasons; level = refl };
+        grown = propagates_none c.args.trail.now;
         short = ap (λ (s : WatchedState). s.short) c.self.view_is;
         seen = ap (λ (s : WatchedState). s.seen) c.self.view_is;
       };
