@@ -27,7 +27,7 @@ use Rattle.log_encode.specs.AlarmState.{AlarmState, variables_of, is_matched}
 use Rattle.log_encode.specs.AlarmVariables.{AreWithinLimit, alarm_variable_count, false_width, match_variable, done_variable, dropped_variable}
 use Rattle.log_encode.specs.CodedLog.{CodedLog, log_meanings, read_meanings, empty_code, code_after, addition_width, nameless, false_literals, IsCodedLog}
 use Rattle.log_encode.specs.declared.log_code.LogCode.TheInside.{Inside}
-use Rattle.log_encode.specs.Drafted.{LogCodeState, DraftState, IsDraftOf, IsStepOfAlarm}
+use Rattle.log_encode.specs.Drafted.{LogCodeState, IsStepOfAlarm}
 use Rattle.log_encode.specs.declared.taken.ChainEnd.{ChainEnd}
 use Rattle.log_encode.specs.declared.taken.Taken.{Taken}
 use Rattle.log_encode.specs.View.{IsChainEnd, IsRest, AreEnds, AreFalse, IsCodedAlarm, AreKept, KeepsLogCode, coded_of, coded, code_view}
@@ -280,20 +280,6 @@ find_miss p q m none = find_nothing p q 0 m (λ j high low. none j (omega (arith
 
 -- ---- the draft itself
 
-pub drafting : (a : Inside) (state : LogCodeState) (labels : List (List ℕ)) (maybe : Bool) (first : ℕ) → code_view a ≡ state → KeepsLogCode a → state.coded.vars ≤ first → first + addition_width state.coded (alarm_added (nameless labels maybe)) ≤ VAR_LIMIT →
-    IsDrafting (coded a) labels maybe first a.ends.items a.guards.items
-drafting a state labels maybe first view inv made few = record {
-  coded = inv.kept.log;
-  chains = inv.kept.chains;
-  above = subst (λ (s : LogCodeState). s.coded.vars ≤ first) (sym view) made;
-  few = subst (λ (s : LogCodeState). first + addition_width s.coded (alarm_added (nameless labels maybe)) ≤ VAR_LIMIT) (sym view) few;
-}
-
-pub taken_are : (a : Inside) (state : LogCodeState) (net : Net) (labels : List (List ℕ)) (slice : List ChainEnd) (takes : List Taken) → code_view a ≡ state → net ≡ state.coded.net → slice ≡ a.ends.items → takes ≡ taken_from net labels slice →
-    takes ≡ taken_from (coded a).net labels a.ends.items
-taken_are a state net labels slice takes view same sliced is =
-    is ∙ ap (λ n. taken_from n labels slice) (same ∙ sym (ap (λ (s : LogCodeState). s.coded.net) view)) ∙ ap (taken_from (coded a).net labels) sliced
-
 -- what the draft of an alarm keeps for its commit
 pub record IsReadyAlarm (code : CodedLog) (first : ℕ) (labels : List (List ℕ)) (maybe : Bool) (takes : List Taken) (after : List ChainEnd) (guards later : List Lit) : Type 0 where
   pub alarm : IsCodedAlarm (code_after code (alarm_added (nameless labels maybe)) first) (length code.log.alarms) (record { labels = labels; doubtful = maybe; takes = takes; start = first })
@@ -353,30 +339,6 @@ turned_alarm a state slice i alarm view inv same within at =
 
 pub turned_count : (a : Inside) (state : LogCodeState) (slice : List AlarmState) → code_view a ≡ state → KeepsLogCode a → slice ≡ a.alarms.items → length state.coded.log.alarms ≡ length slice
 turned_count a state slice view inv same = (kept_count a state view inv).0 ∙ ap length (sym same)
-
--- the same by an equal code and equal labels
-pub ready_change : (code value : CodedLog) (labels kept : List (List ℕ)) (maybe : Bool) (first : ℕ) (takes : List Taken) (after : List ChainEnd) (guards later : List Lit) → code ≡ value → kept ≡ labels → IsReadyAlarm code first labels maybe takes after guards later →
-    IsCodedAlarm (code_after value (alarm_added (nameless kept maybe)) first) (length value.log.alarms) (record { labels = kept; doubtful = maybe; takes = takes; start = first }) × AreEnds (code_after value (alarm_added (nameless kept maybe)) first) after guards × AreFalse (code_after value (alarm_added (nameless kept maybe)) first) later
-ready_change code value labels kept maybe first takes after guards later same alike ready =
-    rw alike (subst (λ (k : CodedLog). IsCodedAlarm (code_after k (alarm_added (nameless labels maybe)) first) (length k.log.alarms) (record { labels = labels; doubtful = maybe; takes = takes; start = first }) × AreEnds (code_after k (alarm_added (nameless labels maybe)) first) after guards × AreFalse (code_after k (alarm_added (nameless labels maybe)) first) later) same
-    (ready.alarm, ready.chains, ready.false_ones))
-
--- a draft of the code is one of an equal code
-pub draft_of : (code value : CodedLog) (labels : List (List ℕ)) (maybe : Bool) (first width : ℕ) (clauses : List Clause) (draft : DraftState) → code ≡ value →
-    IsListed (read_meanings (code_after code (alarm_added (nameless labels maybe)) first)) (added_list code.net code.log code.grid.steps (alarm_added (nameless labels maybe))) clauses
-    × (length clauses + 12 * question_size code.net code.log code.grid.steps ≤ 12 * question_size code.net (with_addition code.log (alarm_added (nameless labels maybe))) code.grid.steps + 12) →
-    addition_width code (alarm_added (nameless labels maybe)) ≡ width → draft.code ≡ value → draft.addition ≡ alarm_added (nameless labels maybe) → draft.first ≡ first → draft.vars ≡ width → draft.clauses ≡ clauses →
-    IsDraftOf value (alarm_added (nameless labels maybe)) first draft
-draft_of code value labels maybe first width clauses draft same brings wide of adds begun vars written =
-    subst (λ (k : CodedLog). draft.code ≡ k → IsDraftOf k (alarm_added (nameless labels maybe)) first draft) same
-    (λ of. record {
-      made_by = of;
-      adds = adds;
-      begins = begun;
-      width = vars ∙ sym wide;
-      listed = subst (IsListed (read_meanings (code_after code (alarm_added (nameless labels maybe)) first)) (added_list code.net code.log code.grid.steps (alarm_added (nameless labels maybe)))) (sym written) brings.0;
-      small = let few = brings.1 in let long = ap length written in omega (arith, few, long);
-    }) of
 
 -- ---- false alarms, and steps
 

@@ -11,3 +11,4 @@ mod DraftLemmas
 mod CallLemmas
 mod CommitLemmas
 pub mod WrittenLemmas
+mod LogEndLemmas

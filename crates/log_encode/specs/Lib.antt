@@ -6,3 +6,4 @@ pub mod Drafted
 pub mod View
 pub mod WrittenLog
 pub mod BuiltLog
+pub mod LogEnds

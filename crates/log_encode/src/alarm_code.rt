@@ -1,27 +1,30 @@
 // What is kept of an alarm whose clauses are written.
-ghost use Rattle.std.specs.Prelude.{◌≡◌, ◌≤◌, length, IfOk};
+ghost use Rattle.std.specs.Prelude.{◌≡◌, ◌≤◌, length, map, IfOk};
 ghost use Rattle.log_encode.specs.Written.{link_of};
 
 use crate::taken::Taken;
-use des_base::{EventId, ListOf, Memory, Name, VAR_LIMIT};
+use des_base::{EventId, Memory, Name, VAR_LIMIT};
 use std::alloc::Global;
 use std::marker::Model;
+use std::snapshot::Snapshot;
 
-// An alarm of the log: its labels, whether it is doubtful, the events that it may stand for, and its first variable.
+// An alarm of the log: its labels, whether it is doubtful, the events that it may stand for, and its first variable. No code
+// reads the labels: they are noted for contracts, by values without bytes.
 #[derive(Drop)]
 pub struct AlarmCode {
-    pub labels: ListOf<Name>,
+    pub labels: Vec<Snapshot<Name>>,
     pub doubtful: bool,
     pub takes: Vec<Taken>,
     pub start: u32,
 }
 
 impl Model for AlarmCode {
+    ghost use Rattle.std.specs.Prelude.{map};
     ghost use Rattle.log_encode.specs.AlarmState.{AlarmState};
 
     ghost Value = { AlarmState };
 
-    ghost view = { λ a. record { labels = a.labels; doubtful = a.doubtful; takes = a.takes.items; start = a.start } };
+    ghost view = { λ a. record { labels = map (λ noted. noted.value) a.labels.items; doubtful = a.doubtful; takes = a.takes.items; start = a.start } };
 }
 
 impl AlarmCode {
@@ -39,13 +42,13 @@ impl AlarmCode {
     }
 }
 
-// A copy of the labels.
-pub fn copy_labels(alloc: Global, labels: &[Name]) -> Result<ListOf<Name>, Memory>
-    ensures { IfOk result (λ list. list ≡ labels.now) }
+// The labels, as contracts see them.
+pub fn noted_labels(alloc: Global, labels: &[Name]) -> Result<Vec<Snapshot<Name>>, Memory>
+    ensures { IfOk result (λ noted. map (λ label. label.value) noted.items ≡ labels.now) }
 {
-    let mut list = ListOf::new(alloc);
+    let mut noted = Vec::new(alloc);
     for label in labels {
-        list.push(label.copy()?)?;
+        noted.push(Snapshot::of(label))?;
     }
-    Ok(list)
+    Ok(noted)
 }

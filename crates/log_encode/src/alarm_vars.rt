@@ -25,6 +25,20 @@ fn false_width(doubtful: bool) -> u32
 }
 
 impl AlarmVars {
+    // Those of an alarm that may stand for so many events.
+    pub fn new(start: u32, links: usize, steps: u32, doubtful: bool) -> AlarmVars
+        requires { AreWithinLimit (record { start = start; links = links; steps = steps; doubtful = doubtful }) }
+        ensures value { result ≡ record { start = start; links = links; steps = steps; doubtful = doubtful } }
+        ensures within { AreWithinLimit result }
+    {
+        AlarmVars {
+            start,
+            links: links as u32,
+            steps,
+            doubtful,
+        }
+    }
+
     // How many they are.
     #[tactic(auto, using(crate::proofs::VariableLemmas::count_is_small))]
     pub fn count(self) -> u32

@@ -15,6 +15,7 @@ mod chains;
 mod draft;
 mod laws;
 mod log_code;
+mod log_end;
 mod taken;
 mod writing;
 

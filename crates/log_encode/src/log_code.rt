@@ -13,12 +13,13 @@ ghost use Rattle.log_encode.specs.CodedLog.{IsCodedLog, empty_code, code_after, 
 ghost use Rattle.log_encode.specs.Drafted.{IsDraftOf, IsStepOfAlarm, HasRoomFor};
 ghost use Rattle.log_encode.specs.WrittenLog.{AppendsFirst};
 
-use crate::alarm_code::{AlarmCode, copy_labels};
+use crate::alarm_code::AlarmCode;
 use crate::alarm_vars::AlarmVars;
 use crate::chains::{first_ends, guards_of};
 use crate::draft::{Change, Draft};
-use crate::taken::{ChainEnd, ends_after, taken_by};
-use crate::writing::{dropped_after, write_alarm, write_all_closed, write_pair};
+use crate::log_end::{LogEnd, draft_at};
+use crate::taken::ChainEnd;
+use crate::writing::{write_all_closed, write_pair};
 use des_base::{EventId, Memory, Name, VAR_LIMIT};
 use des_net::Network;
 use prop_core::{Assignment, Clauses, Grid, Lit, Vars};
@@ -114,43 +115,15 @@ impl LogCode {
         requires few { first_var + addition_width self.now.coded (alarm_added (nameless labels.now maybe)) ≤ VAR_LIMIT }
         ensures { IfOk result (IsDraftOf self.now.coded (alarm_added (nameless labels.now maybe)) first_var) }
     {
-        let takes = taken_by(self.alloc, net, self.ends.as_slice(), labels)?;
-        let vars = AlarmVars {
-            start: first_var,
-            links: takes.len() as u32,
-            steps: self.grid.steps,
-            doubtful: maybe,
+        let end = LogEnd {
+            alloc: self.alloc,
+            net,
+            grid: self.grid,
+            asked: self.asked,
+            ends: self.ends.as_slice(),
+            dropped: self.dropped.as_slice(),
         };
-        let mut clauses = Clauses::new(self.alloc);
-        write_alarm(
-            self.alloc,
-            self.grid,
-            self.asked,
-            vars,
-            takes.as_slice(),
-            &mut clauses,
-        )?;
-        let ends = ends_after(self.alloc, self.ends.as_slice(), vars, takes.as_slice())?;
-        let guards = guards_of(self.alloc, self.asked, ends.as_slice())?;
-        let dropped = dropped_after(self.alloc, self.dropped.as_slice(), vars)?;
-        let labels = copy_labels(self.alloc, labels)?;
-        Ok(Draft {
-            code: Snapshot::of(self),
-            change: Change::Alarm {
-                alarm: AlarmCode {
-                    labels,
-                    doubtful: maybe,
-                    takes,
-                    start: first_var,
-                },
-                ends,
-                guards,
-                dropped,
-            },
-            first: first_var,
-            vars: vars.count(),
-            clauses,
-        })
+        draft_at(self, end, labels, maybe, first_var)
     }
 
     /// Drafts a pair of alarms, "the first before the second". It takes no variables, and may stand between alarms of one step.
