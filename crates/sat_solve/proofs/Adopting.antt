@@ -13,7 +13,7 @@ use Rattle.sat_prop.specs.TrailState.{TrailState}
 use Rattle.sat_prop.specs.Levels.{level_of}
 use Rattle.sat_prop.specs.Changes.{IsFront, with_attached_clause}
 use Rattle.sat_prop.proofs.Fronts.{split_last, contains_more}
-use Rattle.sat_solve.specs.Solving.{SolverState, AllJoined, AreAtRest}
+use Rattle.sat_solve.specs.Solving.{SolverState, AllJoined, AreAtRest, HasAttached}
 use Rattle.sat_solve.proofs.Learning.{contains_last, wider}
 use Rattle.sat_solve.proofs.Standing.{each_below}
 
@@ -57,21 +57,32 @@ adopting_more start t u all count id next a i x h e =
       spare = let b = a.spare in omega arith;
     }
 
--- in the end the clauses are those of the book
-pub adopted_all : (start t : TrailState) (all : List Clause) (count : ℕ) → IsAdopting start t all count → count ≡ length all → t.clauses ≡ all
-adopted_all start t all count a e = ⊎_elim (λ h. h)
-    (λ h. let n : length t.clauses ≡ length all = sym h ∙ e in
-    let f : take (length all) all ≡ all = grind (arith, common_steps) in
-    sym a.front ∙ ap (λ (k : ℕ). take k all) n ∙ f)
-    a.whole
+-- in the end all clauses are
+pub attached_all : (start t : TrailState) (all : List Clause) (count : ℕ) → IsAdopting start t all count → count ≡ length all → HasAttached start t all
+attached_all start t all count a e = record {
+  clauses = ⊎_elim (λ h. h)
+      (λ h. let n : length t.clauses ≡ length all = sym h ∙ e in
+      let f : take (length all) all ≡ all = grind (arith, common_steps) in
+      sym a.front ∙ ap (λ (k : ℕ). take k all) n ∙ f)
+      a.whole;
+  joined = λ n h. a.joined n (omega arith);
+  literals = a.literals;
+  reasons = a.reasons;
+  vars = a.vars;
+  spare = let s = a.spare in omega arith;
+}
 
 -- each clause has known variables
-pub known_next : (vars more : ℕ) (all : List Clause) (n : ℕ) → AllByRecursion (HasValues vars) all → n < length all → vars ≤ more → IfSome (clause_numbered all (n + 1)) (HasValues more)
-known_next vars more all n a h b =
+pub known_next : (vars : ℕ) (all : List Clause) (n : ℕ) → AllByRecursion (HasValues vars) all → n < length all → IfSome (clause_numbered all (n + 1)) (HasValues vars)
+known_next vars all n a h =
     let z : eqb (n + 1) 0 ≡ false = ne_eqb (n + 1) 0 (λ e. absurd (omega arith)) in
     let m : n + 1 - 1 ≡ n = omega arith in
     let g : clause_numbered all (n + 1) ≡ Some (get_or all n []) = rw (z, m) (slice_get-get_or all n [] h) in
-    subst (λ (o : Option Clause). IfSome o (HasValues more)) (sym g) (wider vars more (get_or all n []) b (each_below vars all n a h))
+    subst (λ (o : Option Clause). IfSome o (HasValues vars)) (sym g) (each_below vars all n a h)
+
+pub all_wider : (vars more : ℕ) (all : List Clause) → vars ≤ more → AllByRecursion (HasValues vars) all → AllByRecursion (HasValues more) all
+all_wider vars more [] h a = tt
+all_wider vars more (c ∷ all) h a = (wider vars more c h a.0, all_wider vars more all h a.1)
 
 known_whole : (vars n : ℕ) (all : List Clause) → AllByRecursion (HasValues vars) (take n all) → AllByRecursion (HasValues vars) (drop n all) → AllByRecursion (HasValues vars) all
 known_whole vars zero all a b = b
@@ -95,24 +106,21 @@ front_viewed {R} s v all clauses e f same =
     subst (λ (cs : List Clause). take (length v.adopted) cs ≡ v.adopted) (sym same) g
 
 -- when all are attached
-pub rest_adopted : (waiting : List Bool) (start t : TrailState) (values : List Bool) (vars spare left : ℕ) (all : List Clause) (count : ℕ) → AreAtRest waiting start values vars spare → IsAdopting start t all count → count ≡ length all → AllByRecursion (HasValues vars) all → left + length all ≡ spare + length start.clauses → AreAtRest waiting t values vars left
-rest_adopted waiting start t values vars spare left all count r a n b h =
-    let e = adopted_all start t all count a n in
-    let m : length t.clauses ≡ count = ap length e ∙ sym n in
-    record {
-      level = ap level_of a.reasons ∙ r.level;
-      serving = record {
-        joined = λ k i. a.joined k (omega arith);
-        below = rw e b;
-        literals_below = rw a.literals r.serving.literals_below;
-        enough = rw a.vars r.serving.enough;
-        room = let s = a.spare in let q = r.serving.room in omega arith;
-      };
-      limit = r.limit;
-      variables = r.variables;
-      waiting_open = rw a.literals r.waiting_open;
-      values_kept = r.values_kept;
-    }
+pub rest_adopted : (waiting : List Bool) (start t : TrailState) (values : List Bool) (vars spare left : ℕ) (all : List Clause) → AreAtRest waiting start values vars spare → HasAttached start t all → AllByRecursion (HasValues vars) all → left + length all ≡ spare + length start.clauses → AreAtRest waiting t values vars left
+rest_adopted waiting start t values vars spare left all r a b h = record {
+  level = ap level_of a.reasons ∙ r.level;
+  serving = record {
+    joined = rw a.clauses a.joined;
+    below = rw a.clauses b;
+    literals_below = rw a.literals r.serving.literals_below;
+    enough = rw a.vars r.serving.enough;
+    room = let s = a.spare in let q = r.serving.room in omega arith;
+  };
+  limit = r.limit;
+  variables = r.variables;
+  waiting_open = rw a.literals r.waiting_open;
+  values_kept = r.values_kept;
+}
 
 -- a book that has one axiom more
 pub record HasOneMore (old : List Clause) (new : List BookEntry) (vars : ℕ) : Type 0 where

@@ -17,3 +17,5 @@ mod Moving
 mod AssumedLevels
 mod Ordering
 mod Trying
+mod Taking
+mod Adding

@@ -2,8 +2,8 @@
 use Rattle.std.proofs.Common.{◌≡◌, ◌∙◌, ℕ, ◌+◌, ◌*◌, ◌<◌, ◌≤◌, Bool, true, false, not, ◌++◌, ◌∷◌, [], List, refl, ap, sym, length, take, drop, get_or, set, eqb, arith, subst, ⊎_elim, replicate}
 use Rattle.std.specs.Prelude.{slice_set, cond}
 use Rattle.std.proofs.lemmas.Grind.{common_steps}
-use Rattle.std.proofs.lemmas.Bool.{cases_eq, cases_lt, cases_order, ne_eqb}
-use Rattle.std.proofs.lemmas.List.{get_or-set_same, get_or-set_other, length-set, set-set, set-get_or, set_at, set_comm, map-set, map-append, get_or-map, get_or-replicate, take-append-le, ext_get_or}
+use Rattle.std.proofs.lemmas.Bool.{cases_eq, cases_lt, ne_eqb}
+use Rattle.std.proofs.lemmas.List.{get_or-set_same, get_or-set_other, length-set, set-get_or, set_at, map-set, map-append, get_or-map, get_or-replicate, take-append-le, ext_get_or}
 use Rattle.std.proofs.lemmas.List.Sums.{sum_by-set, sum_by-append, count_by-le-length}
 use Rattle.std.proofs.lemmas.List.Folds.{sum_by-replicate}
 use Rattle.sat_order.specs.Waiting.{waits}
@@ -22,7 +22,7 @@ pub waits_present : (places : List ℕ) (var : ℕ) → var < length places → 
 waits_present places var k d = waits_at places var k ∙ present (get_or places var 0) d
 
 -- a place is not the one of those that have none
-below_absent : (place count : ℕ) → place < count → count ≤ ABSENT → place ≡ ABSENT → ⊥
+pub below_absent : (place count : ℕ) → place < count → count ≤ ABSENT → place ≡ ABSENT → ⊥
 below_absent place count k l e = let z : ABSENT < count = subst (λ (n : ℕ). n < count) e k in absurd (omega arith)
 
 -- with a place, a variable waits
@@ -153,40 +153,6 @@ module _ (vars places : List ℕ) (p q x a : ℕ) (within : p < length vars) (ot
         let g : get_or (has_place places) a false ≡ true = sym (get_or-set_other (has_place places) x a true false differ) ∙ ap (λ (bs : List Bool). get_or bs a false) (sym (place_set places x p absent_p)) ∙ on in
         let s : set (has_place places) a true ≡ has_place places = ap (λ (b : Bool). set (has_place places) a b) (sym g) ∙ set-get_or (has_place places) a false in
         place_set (slice_set places a p) x q absent_q ∙ ap (λ (bs : List Bool). set bs x true) (place_set places a p absent_p ∙ s) ∙ sym (place_set places x p absent_p)
-
--- the last of the list goes
-pub dropped : (vars places : List ℕ) (m last : ℕ) → ArePlaced vars places → length vars ≡ m + 1 → last ≡ get_or vars m 0 → ArePlaced (take m vars) (slice_set places last ABSENT)
-dropped vars places m last a n is =
-    let end : m < length vars = rw n (omega arith) in
-    let k_last : last < length places = subst (λ (v : ℕ). v < length places) (sym is) (a.known m end) in
-    let of_last : get_or places last 0 ≡ m = ap (λ (v : ℕ). get_or places v 0) is ∙ a.placed m end in
-    let lost : get_or (slice_set places last ABSENT) last 0 ≡ ABSENT = get_or-set_same places last ABSENT 0 k_last in
-    let long : length (take m vars) ≡ m = grind (arith, common_steps) in
-    let wide : length (slice_set places last ABSENT) ≡ length places = length-set places last ABSENT in
-    let read : (i : ℕ) → i < m → get_or (take m vars) i 0 ≡ get_or vars i 0 = λ i k. grind (arith, common_steps) in
-    let stays : (v : ℕ) → (v ≡ last → ⊥) → get_or (slice_set places last ABSENT) v 0 ≡ get_or places v 0 = λ v d. get_or-set_other places last v ABSENT 0 d in
-    let other : (v : ℕ) → (get_or (slice_set places last ABSENT) v 0 ≡ ABSENT → ⊥) → v ≡ last → ⊥ = λ v there e. there (ap (λ (u : ℕ). get_or (slice_set places last ABSENT) u 0) e ∙ lost) in
-    let below : (v : ℕ) → v < length places → (get_or (slice_set places last ABSENT) v 0 ≡ ABSENT → ⊥) → get_or places v 0 < m = λ v k there.
-    let e = stays v (other v there) in
-    let t : get_or places v 0 ≡ ABSENT → ⊥ = λ z. there (e ∙ z) in
-    let w = a.within v k t in
-    let g = a.found v k t in
-    let d : get_or places v 0 ≡ m → ⊥ = λ z. other v there (sym g ∙ ap (λ (i : ℕ). get_or vars i 0) z ∙ sym is) in
-    ⊎_elim (λ z. absurd (d z)) (λ z. ⊎_elim (λ b. b) (λ b. let u : get_or places v 0 < m + 1 = subst (λ (c : ℕ). get_or places v 0 < c) n w in absurd (omega arith)) z) (cases_order (get_or places v 0) m) in
-    record {
-      limit = let l = a.limit in rw long (omega arith);
-      known = λ i k. let k' : i < m = subst (λ (c : ℕ). i < c) long k in rw (wide, read i k') (a.known i (omega arith));
-      placed = λ i k.
-          let k' : i < m = subst (λ (c : ℕ). i < c) long k in
-          let g = a.placed i (omega arith) in
-          let d : get_or vars i 0 ≡ last → ⊥ = λ z. let q : i ≡ m = sym g ∙ ap (λ (v : ℕ). get_or places v 0) z ∙ of_last in absurd (omega arith) in
-          rw (read i k') (stays (get_or vars i 0) d ∙ g);
-      within = λ v k there. let k' : v < length places = subst (λ (c : ℕ). v < c) wide k in rw (long, stays v (other v there)) (below v k' there);
-      found = λ v k there.
-          let k' : v < length places = subst (λ (c : ℕ). v < c) wide k in
-          let e = stays v (other v there) in
-          rw e (read (get_or places v 0) (below v k' there) ∙ a.found v k' (λ z. there (e ∙ z)));
-    }
 
 -- a variable without a place takes that of another, which then has none
 pub replaced : (vars places : List ℕ) (p x a : ℕ) → ArePlaced vars places → p < length vars → x < length places → get_or places x 0 ≡ ABSENT → a ≡ get_or vars p 0 → ArePlaced (slice_set vars p x) (slice_set (slice_set places a ABSENT) x p)
@@ -361,45 +327,3 @@ put_again vars places var place f k e d =
 -- put behind the last
 pub put_last : (vars places : List ℕ) (x : ℕ) → ArePlaced vars places → length vars < ABSENT → x < length places → get_or places x 0 ≡ ABSENT → ArePlaced (slice_set (vars ++ x ∷ []) (length vars) x) (slice_set places x (length vars))
 put_last vars places x f room known none = rw (set_at vars x [] x (length vars) refl) (appended vars places x f room known none)
-
--- the first and the last are two
-pub apart_first : (vars places : List ℕ) (m last first : ℕ) → ArePlaced vars places → length vars ≡ m + 1 → 0 < m → last ≡ get_or vars m 0 → first ≡ get_or (take m vars) 0 0 → first ≡ last → ⊥
-apart_first vars places m last first f n some is top e =
-    let t : first ≡ get_or vars 0 0 = top ∙ (grind (arith, common_steps)) in
-    let a : get_or places first 0 ≡ 0 = ap (λ (v : ℕ). get_or places v 0) t ∙ f.placed 0 (rw n (omega arith)) in
-    let b : get_or places last 0 ≡ m = ap (λ (v : ℕ). get_or places v 0) is ∙ f.placed m (rw n (omega arith)) in
-    let z : 0 ≡ m = sym a ∙ ap (λ (v : ℕ). get_or places v 0) e ∙ b in
-    omega arith
-
--- the last goes to the top, and the first has no place
-pub put_first : (vars places : List ℕ) (m last first : ℕ) → ArePlaced vars places → length vars ≡ m + 1 → 0 < m → last ≡ get_or vars m 0 → first ≡ get_or (take m vars) 0 0
-    → ArePlaced (slice_set (take m vars) 0 last) (slice_set (slice_set places first ABSENT) last 0)
-put_first vars places m last first f n some is top =
-    let k_last : last < length places = subst (λ (v : ℕ). v < length places) (sym is) (f.known m (rw n (omega arith))) in
-    let long : length (take m vars) ≡ m = grind (arith, common_steps) in
-    let none : get_or (slice_set places last ABSENT) last 0 ≡ ABSENT = get_or-set_same places last ABSENT 0 k_last in
-    let r = replaced (take m vars) (slice_set places last ABSENT) 0 last first (dropped vars places m last f n is) (rw long some) (rw (length-set places last ABSENT) k_last) none top in
-    let d = apart_first vars places m last first f n some is top in
-    let e : slice_set (slice_set (slice_set places last ABSENT) first ABSENT) last 0 ≡ slice_set (slice_set places first ABSENT) last 0 =
-    ap (λ (ps : List ℕ). slice_set ps last 0) (set_comm places last first ABSENT ABSENT (λ z. d (sym z))) ∙ set-set (slice_set places first ABSENT) last ABSENT 0 in
-    subst (λ (ps : List ℕ). ArePlaced (slice_set (take m vars) 0 last) ps) e r
-
--- what waits then
-pub first_taken : (vars places : List ℕ) (m last first : ℕ) → ArePlaced vars places → length vars ≡ m + 1 → 0 < m → last ≡ get_or vars m 0 → first ≡ get_or (take m vars) 0 0
-    → has_place (slice_set (slice_set places first ABSENT) last 0) ≡ slice_set (has_place places) first false
-first_taken vars places m last first f n some is top =
-    let k_last : last < length places = subst (λ (v : ℕ). v < length places) (sym is) (f.known m (rw n (omega arith))) in
-    let b : get_or places last 0 ≡ m = ap (λ (v : ℕ). get_or places v 0) is ∙ f.placed m (rw n (omega arith)) in
-    let t : get_or places last 0 ≡ ABSENT → ⊥ = λ z. below_absent m (length vars) (rw n (omega arith)) f.limit (sym b ∙ z) in
-    let d = apart_first vars places m last first f n some is top in
-    place_set (slice_set places first ABSENT) last 0 (λ z. absurd (omega arith))
-    ∙ ap (λ (bs : List Bool). slice_set bs last true) (place_lost places first)
-    ∙ set_comm (has_place places) first last false true d
-    ∙ ap (λ (bs : List Bool). slice_set bs first false) (set_waiting places last k_last t)
-
--- the one at a place waits
-pub first_waited : (vars places : List ℕ) (i v : ℕ) → ArePlaced vars places → i < length vars → v ≡ get_or vars i 0 → waits (has_place places) v ≡ true
-first_waited vars places i v f k e =
-    let b : v < length places = subst (λ (n : ℕ). n < length places) (sym e) (f.known i k) in
-    let a : get_or places v 0 ≡ i = ap (λ (n : ℕ). get_or places n 0) e ∙ f.placed i k in
-    waits_present places v b (λ z. below_absent i (length vars) k f.limit (sym a ∙ z))

@@ -19,6 +19,13 @@ pub record ArePlaced (heap places : List ℕ) : Type 0 where
   pub within : (var : ℕ) → var < length places → (slice_index places var ≡ ABSENT → ⊥) → slice_index places var < length heap
   pub found : (var : ℕ) → var < length places → (slice_index places var ≡ ABSENT → ⊥) → slice_index heap (slice_index places var) ≡ var
 
+-- They are all that have a place, and there is room for each variable.
+pub record IsHeap (heap places : List ℕ) (room : ℕ) : Type 0 where
+  pub placed : ArePlaced heap places
+  pub count : length heap ≡ held_of (has_place places)
+  pub limit : length places ≤ ABSENT
+  pub fits : length places ≤ room
+
 -- a variable that waited is taken, or none waited
 abbrev pub Takes : List Bool → List Bool → Option ℕ → Type 0
 Takes old new None = (new ≡ old) × NoneWaits old

@@ -54,6 +54,15 @@ pub record IsUnreserved {R : Type 0} (old new : SolverState R) (asked : ℕ) : T
 abbrev pub AllJoined : List Clause → List ℕ → Type 0
 AllJoined clauses attached = (n : ℕ) → n < length clauses → Contains attached (n + 1)
 
+-- all clauses of a database are attached, and the trail is as before
+pub record HasAttached (old new : TrailState) (all : List Clause) : Type 0 where
+  pub clauses : new.clauses ≡ all
+  pub joined : AllJoined all new.attached
+  pub literals : new.literals ≡ old.literals
+  pub reasons : new.reasons ≡ old.reasons
+  pub vars : new.vars ≡ old.vars
+  pub spare : new.spare + length all ≡ old.spare + length old.clauses
+
 -- the first so many assumptions are true
 abbrev pub AreTaken : List Lit → List Lit → ℕ → Type 0
 AreTaken literals assumed count = list_all (is_true literals) (take count assumed) ≡ true
@@ -244,6 +253,11 @@ IsUnsettled spare t book Spent = t.clauses ≡ clauses_of book
 pub record GoesOn {R : Type 0} (assumed : List Lit) (s : Search R) (old new : List BookEntry) : Type 0 where
   pub under_way : IsUnderWay assumed s new
   pub learnt : HasLearnt old new
+
+-- it goes on after a decision
+pub record HasDecided {R : Type 0} (assumed : List Lit) (old new : Search R) (before after : List BookEntry) : Type 0 where
+  pub goes_on : GoesOn assumed new before after
+  pub longer : IsLonger old.propagator new.propagator
 
 -- a search has ended with an answer
 pub record IsEnded {R : Type 0} (assumed : List Lit) (s : Search R) (old new : List BookEntry) (budget : ℕ) (answer : Answer) : Type 0 where

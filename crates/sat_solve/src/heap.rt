@@ -4,8 +4,8 @@
 // Of two variables the more active one comes first, of equal activities the one of greater rank, then the smaller number, as `Order` has
 // it. Whoever makes all activities smaller together may make some of them equal, and so the first of the heap need not be the first by
 // this order from then on; no clause says that it is.
-ghost use Rattle.std.specs.Prelude.{◌≡◌, ◌<◌, ◌≤◌, [], true, length, slice_index, slice_set, OnOk, OnErr, IfSome};
-ghost use Rattle.sat_solve.specs.Heap.{ArePlaced, has_place, held_of, Takes, comes_before};
+ghost use Rattle.std.specs.Prelude.{◌≡◌, ◌<◌, ◌≤◌, ◌++◌, ◌∷◌, [], true, length, slice_index, slice_set, vec_capacity, Some, OnOk, OnErr, IfSome};
+ghost use Rattle.sat_solve.specs.Heap.{ArePlaced, IsHeap, has_place, held_of, Takes, comes_before};
 ghost use Rattle.sat_solve.specs.Widening.{widened};
 
 use des_base::Memory;
@@ -29,20 +29,14 @@ pub struct Heap {
 }
 
 impl Model for Heap {
-    ghost use Rattle.std.specs.Prelude.{◌≡◌, ◌≤◌, List, Bool, length, vec_len, vec_capacity};
-    ghost use Rattle.sat_solve.specs.Heap.{ArePlaced, has_place, held_of};
-    ghost use Rattle.sat_solve.specs.declared.heap.TheConstants.{ABSENT};
+    ghost use Rattle.std.specs.Prelude.{List, Bool, vec_capacity};
+    ghost use Rattle.sat_solve.specs.Heap.{IsHeap, has_place};
 
     ghost Value = { List Bool };
 
     ghost view = { λ a. has_place a.places.items };
 
-    ghost invariant = { λ a. record {
-      placed : ArePlaced a.vars.items a.places.items;
-      count : length a.vars.items ≡ held_of (has_place a.places.items);
-      limit : vec_len a.places ≤ ABSENT;
-      room : vec_len a.places ≤ vec_capacity a.vars;
-    } };
+    ghost invariant = { λ a. IsHeap a.vars.items a.places.items (vec_capacity a.vars) };
 }
 
 impl Heap {
@@ -86,14 +80,7 @@ impl Heap {
         ensures { Takes self.old self.new result }
     {
         let last = self.vars.pop()?;
-        if self.vars.is_empty() {
-            self.places[last as usize] = ABSENT;
-            return Some(last);
-        }
-        let first = self.vars[0];
-        self.places[first as usize] = ABSENT;
-        sink(&mut self.vars, &mut self.places, last, ratings);
-        Some(first)
+        Some(take_first(&mut self.vars, &mut self.places, last, ratings))
     }
 
     // Lets a variable wait. One that waits stays where it is.
@@ -104,9 +91,7 @@ impl Heap {
         if self.places[var as usize] != ABSENT {
             return;
         }
-        let place = self.vars.len();
-        self.vars.push(var).unwrap();
-        rise(&mut self.vars, &mut self.places, place, var, ratings);
+        add_last(&mut self.vars, &mut self.places, var, ratings);
     }
 
     // Lets a variable wait that has grown more active. One that waits moves forward.
@@ -127,6 +112,35 @@ impl Heap {
             );
         }
     }
+}
+
+// Takes the first of a heap from which the last was taken already. That one still waits, and stands where it belongs then.
+fn take_first(vars: &mut [u32], places: &mut [u32], last: u32, ratings: Ratings) -> u32
+    requires placed { ArePlaced (vars.old ++ last ∷ []) places.old }
+    ensures placed { ArePlaced vars.new places.new }
+    ensures taken { Takes (has_place places.old) (has_place places.new) (Some result) }
+{
+    if vars.is_empty() {
+        places[last as usize] = ABSENT;
+        return last;
+    }
+    let first = vars[0];
+    places[first as usize] = ABSENT;
+    sink(vars, places, last, ratings);
+    first
+}
+
+// Puts a variable that has no place behind the last of a heap, or above that place where it comes before those that stand there.
+fn add_last(vars: &mut Vec<u32>, places: &mut [u32], var: u32, ratings: Ratings)
+    requires heap { IsHeap vars.old.items places.old (vec_capacity vars.old) }
+    requires known { var < length places.old }
+    requires absent { slice_index places.old var ≡ ABSENT }
+    ensures heap { IsHeap vars.new.items places.new (vec_capacity vars.new) }
+    ensures waiting { has_place places.new ≡ slice_set (has_place places.old) var true }
+{
+    let place = vars.len();
+    vars.push(var).unwrap();
+    rise(vars, places, place, var, ratings);
 }
 
 // Puts a variable at a place of the heap, or above it where it comes before those that stand there.

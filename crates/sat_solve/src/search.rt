@@ -5,7 +5,7 @@ ghost use Rattle.proof_ledger.specs.Book.{BookEntry};
 ghost use Rattle.sat_prop.specs.Levels.{level_of};
 ghost use Rattle.sat_prop.specs.Quiet.{IsConflict, AreQuiet};
 ghost use Rattle.sat_solve.specs.Searching.{IsSearched};
-ghost use Rattle.sat_solve.specs.Solving.{IsUnder, IsOver, IsUnderWay, KeepsVariables, IsLonger, to_do, LearnsOne, GoesOn, IsEnded};
+ghost use Rattle.sat_solve.specs.Solving.{IsUnder, IsOver, IsUnderWay, KeepsVariables, to_do, LearnsOne, GoesOn, HasDecided, IsEnded};
 
 use crate::advice::Advice;
 use crate::answer::Answer;
@@ -154,8 +154,7 @@ impl<R: Fn(u32) -> u64> Search<R> {
         requires quiet { AreQuiet self.old.propagator.clauses self.old.propagator.attached self.old.propagator.literals }
         ensures searched { (budget : ℕ) → IsSearched book.old.entries book.new.entries budget budget }
         ensures kept { KeepsVariables self.old self.new }
-        ensures goes_on { IfOk result (λ answer. IfNone answer (GoesOn assumptions.now self.new book.old.entries book.new.entries)) }
-        ensures decided { IfOk result (λ answer. IfNone answer (IsLonger self.old.propagator self.new.propagator)) }
+        ensures decided { IfOk result (λ answer. IfNone answer (HasDecided assumptions.now self.old self.new book.old.entries book.new.entries)) }
         ensures ended { (budget : ℕ) → IfOk result (λ answer. IfSome answer (IsEnded assumptions.now self.new book.old.entries book.new.entries budget)) }
         ensures err { OnErr result (IsOver self.new book.new.entries) }
     {

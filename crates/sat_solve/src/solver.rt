@@ -5,8 +5,9 @@ ghost use Rattle.prop_core.specs.Clauses.{HasValues, AreConsistent};
 ghost use Rattle.proof_ledger.specs.Book.{clauses_of};
 ghost use Rattle.sat_order.specs.Rank.{IsRank, IsRanked};
 ghost use Rattle.sat_prop.specs.Changes.{IsFront};
+ghost use Rattle.sat_prop.specs.Levels.{level_of};
 ghost use Rattle.sat_solve.specs.Searching.{IsSearched, HasPut, IsAnswer};
-ghost use Rattle.sat_solve.specs.Solving.{HasReserved, IsUnreserved, KeepsSize};
+ghost use Rattle.sat_solve.specs.Solving.{HasReserved, IsUnreserved, KeepsSize, AllJoined, HasAttached};
 
 use crate::advice::Advice;
 use crate::answer::Answer;
@@ -14,7 +15,7 @@ use crate::ending::trail_state;
 use crate::search::Search;
 use des_base::{Memory, VAR_LIMIT};
 use proof_ledger::Ledger;
-use prop_core::{Assignment, ClauseId, Lit};
+use prop_core::{Assignment, ClauseId, Clauses, Lit};
 use sat_learn::Learner;
 use sat_order::Order;
 use sat_prop::Propagator;
@@ -101,10 +102,7 @@ impl<R: Fn(u32) -> u64> Solver<R> {
         ensures value { self.new ≡ record self.old { adopted = clauses_of book.now.entries; spare = self.old.spare + length self.old.adopted - length (clauses_of book.now.entries) } }
     {
         let clauses = book.clauses();
-        trail_state(&self.search.propagator);
-        for before in self.clauses..clauses.len() {
-            self.search.propagator.attach(clauses, ClauseId(before + 1));
-        }
+        attach_from(&mut self.search.propagator, clauses, self.clauses);
         self.search.spare -= (clauses.len() - self.clauses) as usize;
         self.clauses = clauses.len();
     }
@@ -150,5 +148,21 @@ impl<R: Fn(u32) -> u64> Solver<R> {
         ensures enough { self.now.vars ≤ length result.now }
     {
         &self.assignment
+    }
+}
+
+// Attaches the clauses of a database, but the first ones, which are attached already. Nothing is decided yet.
+fn attach_from(propagator: &mut Propagator, db: &Clauses, first: u64)
+    requires first { first ≡ length propagator.old.clauses }
+    requires grown { IsFront propagator.old.clauses db.now.clauses }
+    requires room { length db.now.clauses ≤ length propagator.old.clauses + propagator.old.spare }
+    requires known { AllByRecursion (HasValues propagator.old.vars) db.now.clauses }
+    requires joined { AllJoined propagator.old.clauses propagator.old.attached }
+    requires undecided { level_of propagator.old.reasons ≡ 0 }
+    ensures { HasAttached propagator.old propagator.new db.now.clauses }
+{
+    trail_state(propagator);
+    for before in first..db.len() {
+        propagator.attach(db, ClauseId(before + 1));
     }
 }

@@ -13,7 +13,7 @@ invariant_of-self-2 c =
       placed = rw (c.in_ok-reserve.ensures.items, e) (places_wider c.self.inside.vars.items c.self.inside.places.items (c.max-count.result - length c.self.inside.places.items) c.self.invariant.placed);
       count = rw (c.in_ok-reserve.ensures.items, e, has_wider c.self.inside.places.items (c.max-count.result - length c.self.inside.places.items), held_wider (has_place c.self.inside.places.items) (c.max-count.result - length c.self.inside.places.items)) c.self.invariant.count;
       limit = let n = c.in_ok-resize.ensures.len in let m = c.max-count.ensures in let l = c.self.invariant.limit in let v = c.ranges.vars in grind (arith, common_steps);
-      room = let n = c.in_ok-resize.ensures.len in let o = c.in_ok-reserve.ensures.ok in let a = c.len-2.ensures in grind (arith, common_steps);
+      fits = let n = c.in_ok-resize.ensures.len in let o = c.in_ok-reserve.ensures.ok in let a = c.len-2.ensures in grind (arith, common_steps);
     }
 
 pub returns-clause-ok : goal.returns-clause-ok
