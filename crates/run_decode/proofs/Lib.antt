@@ -21,6 +21,7 @@ mod DecodeLoops
 pub mod DecodeRuns
 pub mod DecodeOrder
 pub mod DecodeBounds
+mod SourceLemmas
 mod DecodeFalls
 pub mod WholeClauses
 pub mod WholeRoom

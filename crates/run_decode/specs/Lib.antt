@@ -9,3 +9,4 @@ pub mod RunNaming
 pub mod WholeNaming
 pub mod Decoding
 pub mod QuestionAxioms
+pub mod Sources
