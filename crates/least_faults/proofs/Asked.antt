@@ -21,7 +21,7 @@ use Rattle.least_faults.specs.declared.asking.Asked.{Asked}
 use Rattle.least_faults.specs.declared.asking.Asked.TheVariants.{Explained, Refuted, Spent}
 use Rattle.least_faults.specs.declared.parts.Parts.{Parts}
 use Rattle.least_faults.specs.Answers.{IsExplanation}
-use Rattle.least_faults.specs.Asking.{AreAssumptions, bound_part, IsSearching, ArePut, HasAskedBy}
+use Rattle.least_faults.specs.Asking.{AreAssumptions, bound_part, GoesOnReady, IsSearching, ArePut, HasAskedBy}
 use Rattle.least_faults.specs.Columns.{built_within, columns_for}
 use Rattle.least_faults.specs.Evidence.{IsPosed, is_final}
 use Rattle.least_faults.specs.Growing.{AddsAxioms, KeepsQuestion}
@@ -38,10 +38,9 @@ use Rattle.run_decode.specs.Decided.{Entails}
 use Rattle.run_decode.specs.Faithful.{IsWithin, IsFaithful}
 use Rattle.run_decode.specs.Decoding.{IsTrueRun}
 use Rattle.run_decode.specs.QuestionAxioms.{BuiltQuestion}
-use Rattle.sat_order.specs.Rank.{KeepsRanks}
 use Rattle.least_faults.proofs.Ranking.{still_ranked}
 use Rattle.sat_solve.specs.Searching.{HasAxiomVars, IsSearched, HasPut, IsRefuted, IsSpent}
-use Rattle.sat_solve.specs.Solving.{SolverState}
+use Rattle.sat_solve.specs.Solving.{KeepsSize, SolverState}
 use Rattle.sat_solve.specs.declared.answer.Answer.TheVariants as solver
 use Rattle.std.proofs.lemmas.List.Elements.{Contains-append_cases as append_cases, Contains-append_left as append_left, Contains-append_right as append_right}
 use Rattle.run_decode.proofs.Faults.{count_append}
@@ -75,7 +74,7 @@ both_paid old mid new before after adds searched =
     let none = none_learnt adds.axioms in
     omega (arith, count, none, searched.number, searched.paid)
 
-pub searching_both : (old mid new : List BookEntry) (before after : ℕ) → AddsAxioms old mid → IsSearched mid new before after → HasAxiomVars mid → IsSearching old new before after
+abbrev pub searching_both : (old mid new : List BookEntry) (before after : ℕ) → AddsAxioms old mid → IsSearched mid new before after → HasAxiomVars mid → IsSearching old new before after
 searching_both old mid new before after adds searched known = record {
   since = map axiomatic adds.axioms ++ searched.since;
   whole = both_whole old mid new before after adds searched;
@@ -85,24 +84,26 @@ searching_both old mid new before after adds searched known = record {
 }
 
 -- the parts stay ready where their solver has searched
-pub ready_after : {R : Type 0} (may : R → ℕ → Type 0) (gives : R → ℕ → ℕ → Type 0) (parts : Parts R) (solver : SolverState R) (before after : ℕ) (mid new : List BookEntry) → AreReady may gives parts mid →
-    IsSearched mid new before after → solver.adopted ≡ clauses_of new → solver.vars ≡ parts.solver.vars → KeepsRanks parts.solver.order solver.order → AreReady may gives (record parts { solver = solver }) new
-ready_after may gives parts solver before after mid new ready searched all same same_ranks = record {
-  coded = subst (AreParts parts.step parts.code.coded parts.counter parts.vars) (sym (ap axioms_of searched.whole ∙ same_axioms mid searched.since searched.derived)) ready.coded;
-  known = searched.known ready.known;
-  adopted_all = all;
-  enough = subst (λ v. parts.vars ≤ v) (sym same) ready.enough;
-  ranked = still_ranked may gives parts.solver.order solver.order same_ranks ready.ranked;
+pub goes_by_search : {R : Type 0} (may : R → ℕ → Type 0) (gives : R → ℕ → ℕ → Type 0) (old parts : Parts R) (solver : SolverState R) (before after : ℕ) (book mid new : List BookEntry) → AreReady may gives parts mid → KeepsQuestion old parts book mid → AddsAxioms book mid → IsSearched mid new before after → solver.adopted ≡ clauses_of new →
+    KeepsSize parts.solver solver → GoesOnReady may gives old (record parts { solver = solver }) book new before after
+goes_by_search may gives old parts solver before after book mid new ready kept adds searched all same = record {
+  ready = record {
+    coded = subst (AreParts parts.step parts.code.coded parts.counter parts.vars) (sym same_now) ready.coded;
+    known = searched.known ready.known;
+    adopted_all = all;
+    enough = subst (λ v. parts.vars ≤ v) (sym same.vars) ready.enough;
+    ranked = still_ranked may gives parts.solver.order solver.order same.order ready.ranked;
+  };
+  kept = question_both old parts (record parts { solver = solver }) kept (question_kept parts parts.counter parts.vars solver mid new refl refl same.order.rank same_now);
+  searching = searching_both book mid new before after adds searched ready.known;
 }
-
-pub kept_after : {R : Type 0} (old parts : Parts R) (solver : SolverState R) (before after : ℕ) (book mid new : List BookEntry) → KeepsQuestion old parts book mid → IsSearched mid new before after → solver.order.rank ≡ parts.solver.order.rank → KeepsQuestion old (record parts { solver = solver }) book new
-kept_after old parts solver before after book mid new kept searched same =
-    question_both old parts (record parts { solver = solver }) kept
-    (question_kept parts parts.counter parts.vars solver mid new refl refl same (ap axioms_of searched.whole ∙ same_axioms mid searched.since searched.derived))
+  where
+    same_now : axioms_of new ≡ axioms_of mid
+    same_now = ap axioms_of searched.whole ∙ same_axioms mid searched.since searched.derived
 
 -- ---- a model
 
-axioms_true : (value : ℕ → Bool) (book : List BookEntry) → AllClausesTrue value (clauses_of book) → AllClausesTrue value (axioms_of book)
+pub axioms_true : (value : ℕ → Bool) (book : List BookEntry) → AllClausesTrue value (clauses_of book) → AllClausesTrue value (axioms_of book)
 axioms_true value [] all = tt
 axioms_true value (axiomatic clause ∷ book) all = (all.0, axioms_true value book all.1)
 axioms_true value (learnt clause hints ∷ book) all = axioms_true value book all.1
@@ -178,11 +179,7 @@ module _ (steps : CodedSteps) (code : CodedLog) (counter : CounterState) (vars :
 
   pub asked_spent : IfNone bound (adds.axioms ≡ []) → HasPut mid new solver.Spent → IsSpent new assumed after → HasAskedBy code counter begun net log steps.steps bound old new before after Spent
   asked_spent none put spent = record {
-    since = map axiomatic adds.axioms ++ searched.since;
-    whole = both_whole old mid new before after adds searched;
-    unmarked = both_unmarked old mid new before after adds searched;
-    paid = both_paid old mid new before after adds searched;
-    fresh = fresh_after old mid new before after adds searched known;
+    searching = searching_both old mid new before after adds searched known;
     columns = wide;
     known = all_known;
     put = put_learnt Spent none (subst (λ xs. list_all is_learnt xs ≡ true) (same_since put.since put.whole) put.put);
@@ -213,11 +210,7 @@ module _ (steps : CodedSteps) (code : CodedLog) (counter : CounterState) (vars :
   pub asked_explained : (value : ℕ → Bool) (best : Best) → IfNone bound (adds.axioms ≡ []) → HasPut mid new solver.Sat → AllClausesTrue value (axioms_of mid) → AllLiteralsTrue value assumed →
       IsExplanation net log steps.steps best → best.faults ≡ true_count value counter.inputs → HasAskedBy code counter begun net log steps.steps bound old new before after (Explained best)
   asked_explained value best none put axioms literals given count = record {
-    since = map axiomatic adds.axioms ++ searched.since;
-    whole = both_whole old mid new before after adds searched;
-    unmarked = both_unmarked old mid new before after adds searched;
-    paid = both_paid old mid new before after adds searched;
-    fresh = fresh_after old mid new before after adds searched known;
+    searching = searching_both old mid new before after adds searched known;
     columns = wide;
     known = all_known;
     put = put_learnt (Explained best) none (subst (λ xs. list_all is_learnt xs ≡ true) (same_since put.since put.whole) put.put);
@@ -235,11 +228,7 @@ module _ (steps : CodedSteps) (code : CodedLog) (counter : CounterState) (vars :
 
   pub asked_refuted : (number : ℕ) → HasPut mid new (solver.Unsat number) → IsRefuted new assumed number → IsValidBook new → HasAskedBy code counter begun net log steps.steps bound old new before after Refuted
   asked_refuted number put refuted whole = record {
-    since = map axiomatic adds.axioms ++ searched.since;
-    whole = both_whole old mid new before after adds searched;
-    unmarked = both_unmarked old mid new before after adds searched;
-    paid = both_paid old mid new before after adds searched;
-    fresh = fresh_after old mid new before after adds searched known;
+    searching = searching_both old mid new before after adds searched known;
     columns = wide;
     known = all_known;
     put = record {

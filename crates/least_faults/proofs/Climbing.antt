@@ -17,7 +17,7 @@ use Rattle.least_faults.specs.declared.answer.Found.{Found}
 use Rattle.least_faults.specs.declared.answer.Found.TheVariants.{Explained, Absent, Many, Undecided}
 use Rattle.least_faults.specs.declared.asking.Asked.{Asked}
 use Rattle.least_faults.specs.declared.asking.Asked.TheVariants as asked
-use Rattle.least_faults.specs.Answers.{HasConflict, IsExplanation, IsLeastFound, IsAbsentFound, IsManyFound, IsUndecidedFound}
+use Rattle.least_faults.specs.Answers.{HasConflict, HasConflictFor, IsExplanation, IsFound, IsLeastFound, IsAbsentFound, IsManyFound, IsUndecidedFound}
 use Rattle.least_faults.specs.Ascending.{FinalsAreBelow, IsRefutedAt, HasComeToBy, HasFound}
 use Rattle.least_faults.specs.Asking.{AreAssumptions, ArePut, IsSearching, HasAskedBy, IsRefusal, IsStopped}
 use Rattle.least_faults.specs.Columns.{built_within}
@@ -54,13 +54,21 @@ explained_not best is = cc
 pub spent_not : asked.Spent ≢ asked.Refuted
 spent_not is = cc
 
+abbrev pub searching_none : (book : List BookEntry) (left : ℕ) → IsSearching book book left left
+searching_none book left = record { since = []; whole = sym (append-nil book); unmarked = λ number. refl; paid = omega arith; fresh = fresh_none book }
+
+abbrev pub searching_further : (first mid last : List BookEntry) (budget before after : ℕ) → IsSearching first mid budget before → IsSearching mid last before after → IsSearching first last budget after
+searching_further first mid last budget before after one two = record {
+  since = one.since ++ two.since;
+  whole = two.whole ∙ ap (λ b. b ++ two.since) one.whole ∙ append_assoc first one.since two.since;
+  unmarked = λ number. count_append (is_mark number) one.since two.since ∙ (let a = one.unmarked number in let b = two.unmarked number in omega (arith, a, b));
+  paid = (let count = count_append is_learnt one.since two.since in omega (arith, count, one.paid, two.paid));
+  fresh = fresh_both first mid one.since two.since one.whole one.fresh two.fresh;
+}
+
 pub come_to_none : (code : CodedLog) (counter : CounterState) (begun : BuiltQuestion) (net : Net) (log : Log) (n : ℕ) (book : List BookEntry) (left : ℕ) → HasComeToBy code counter begun net log n 0 book book left left
 come_to_none code counter begun net log n book left = record {
-  since = [];
-  whole = sym (append-nil book);
-  unmarked = λ number. refl;
-  paid = omega arith;
-  fresh = fresh_none book;
+  searching = searching_none book left;
   finals = λ clause hints in'. absurd (none_in_nil (final clause hints) in');
   below = λ j none. cc;
   needs = λ word order explains. omega arith;
@@ -86,57 +94,34 @@ pub come_further : (code : CodedLog) (old new : CounterState) (begun now : Built
     begun.axioms ≡ axioms_of first → now.axioms ≡ axioms_of mid → built_within now (Some k) ≡ built_within begun (Some k) →
     HasComeToBy code old begun net log n k first mid budget before → HasAskedBy code new now net log n (Some k) mid last before after asked.Refuted → HasComeToBy code new begun net log n (suc k) first last budget after
 come_further code old new begun now net log n k first mid last budget before after keeps at_first at_mid same_within come asked' = record {
-  since = come.since ++ asked'.since;
-  whole = asked'.whole ∙ ap (λ b. b ++ asked'.since) come.whole ∙ append_assoc first come.since asked'.since;
-  unmarked = λ number. count_append (is_mark number) come.since asked'.since ∙ (let one = come.unmarked number in let two = asked'.unmarked number in omega (arith, one, two));
-  paid = (let count = count_append is_learnt come.since asked'.since in omega (arith, count, come.paid, asked'.paid));
-  fresh = fresh_both first mid come.since asked'.since come.whole come.fresh asked'.fresh;
-  finals = finals_further code old new k come.since asked'.since keeps come.finals asked'.put.finals;
-  below = λ j is. (let same : k ≡ j = omega (arith, is) in subst (λ i. IsRefutedAt code new net log n i begun (come.since ++ asked'.since)) same (record {
+  searching = searching_further first mid last budget before after come.searching asked'.searching;
+  finals = finals_further code old new k come.searching.since asked'.searching.since keeps come.finals asked'.put.finals;
+  below = λ j is. (let same : k ≡ j = omega (arith, is) in subst (λ i. IsRefutedAt code new net log n i begun (come.searching.since ++ asked'.searching.since)) same (record {
     assumed = asked'.means.assumed;
     assumptions = asked'.means.assumptions;
-    refuted = last_earlier begun now first mid come.since asked'.since net log n (Some k) asked'.means.assumed at_first at_mid same_within front_known come.whole asked'.means.refuted;
+    refuted = last_earlier begun now first mid come.searching.since asked'.searching.since net log n (Some k) asked'.means.assumed at_first at_mid same_within front_known come.searching.whole asked'.means.refuted;
   }));
   needs = asked'.means.decided.above;
 }
   where
-    front_known : AllByRecursion (HasValues (built_within now (Some k)).vars) (clauses_of come.since)
-    front_known = known_back (built_within now (Some k)).vars first come.since
-        (subst (λ es. AllByRecursion (HasValues (built_within now (Some k)).vars) (clauses_of es)) come.whole
-        (known_front (built_within now (Some k)).vars mid asked'.since (subst (λ es. AllByRecursion (HasValues (built_within now (Some k)).vars) (clauses_of es)) asked'.whole asked'.known)))
+    front_known : AllByRecursion (HasValues (built_within now (Some k)).vars) (clauses_of come.searching.since)
+    front_known = known_back (built_within now (Some k)).vars first come.searching.since
+        (subst (λ es. AllByRecursion (HasValues (built_within now (Some k)).vars) (clauses_of es)) come.searching.whole
+        (known_front (built_within now (Some k)).vars mid asked'.searching.since (subst (λ es. AllByRecursion (HasValues (built_within now (Some k)).vars) (clauses_of es)) asked'.searching.whole asked'.known)))
 
 -- the bounds below k stay refuted where nothing more is
 pub come_on : (code : CodedLog) (old new : CounterState) (begun now : BuiltQuestion) (net : Net) (log : Log) (n k : ℕ) (first mid last : List BookEntry) (budget before after : ℕ) (what : Asked) → KeepsColumns old new → what ≢ asked.Refuted →
     HasComeToBy code old begun net log n k first mid budget before → HasAskedBy code new now net log n (Some k) mid last before after what → HasComeToBy code new begun net log n k first last budget after
 come_on code old new begun now net log n k first mid last budget before after what keeps not come asked' = record {
-  since = come.since ++ asked'.since;
-  whole = asked'.whole ∙ ap (λ b. b ++ asked'.since) come.whole ∙ append_assoc first come.since asked'.since;
-  unmarked = λ number. count_append (is_mark number) come.since asked'.since ∙ (let one = come.unmarked number in let two = asked'.unmarked number in omega (arith, one, two));
-  paid = (let count = count_append is_learnt come.since asked'.since in omega (arith, count, come.paid, asked'.paid));
-  fresh = fresh_both first mid come.since asked'.since come.whole come.fresh asked'.fresh;
-  finals = finals_same code old new k come.since asked'.since keeps (asked'.put.none not) come.finals;
+  searching = searching_further first mid last budget before after come.searching asked'.searching;
+  finals = finals_same code old new k come.searching.since asked'.searching.since keeps (asked'.put.none not) come.finals;
   below = λ j is. (let found = come.below j is in record {
     assumed = found.assumed;
     assumptions = assumptions_stay code old new (Some j) found.assumed keeps found.assumptions;
-    refuted = last_later begun come.since asked'.since net log n (Some j) found.assumed (asked'.put.none not) found.refuted;
+    refuted = last_later begun come.searching.since asked'.searching.since net log n (Some j) found.assumed (asked'.put.none not) found.refuted;
   });
   needs = come.needs;
 }
-
-pub searched_so_far : (code : CodedLog) (counter : CounterState) (begun : BuiltQuestion) (net : Net) (log : Log) (n k : ℕ) (first last : List BookEntry) (budget left : ℕ) → HasComeToBy code counter begun net log n k first last budget left → IsSearching first last budget left
-searched_so_far code counter begun net log n k first last budget left come = record { since = come.since; whole = come.whole; unmarked = come.unmarked; paid = come.paid; fresh = come.fresh }
-
-pub searching_further : (first mid last : List BookEntry) (budget before after : ℕ) → IsSearching first mid budget before → IsSearching mid last before after → IsSearching first last budget after
-searching_further first mid last budget before after one two = record {
-  since = one.since ++ two.since;
-  whole = two.whole ∙ ap (λ b. b ++ two.since) one.whole ∙ append_assoc first one.since two.since;
-  unmarked = λ number. count_append (is_mark number) one.since two.since ∙ (let a = one.unmarked number in let b = two.unmarked number in omega (arith, a, b));
-  paid = (let count = count_append is_learnt one.since two.since in omega (arith, count, one.paid, two.paid));
-  fresh = fresh_both first mid one.since two.since one.whole one.fresh two.fresh;
-}
-
-paid_within : (count left budget : ℕ) → count + left ≡ budget → count ≤ budget
-paid_within count left budget paid = omega (arith, paid)
 
 -- ---- what is found
 
@@ -266,6 +251,20 @@ module _ (steps : CodedSteps) (code : CodedLog) (counter : CounterState) (vars :
   finals_put : (bound : Option ℕ) (since : List BookEntry) (what : Asked) → ArePut code counter bound since what → FinalsNegate (whole_meanings steps code counter) since steps.net log steps.steps
   finals_put bound since what put clause hints there = let found = put.finals clause hints there in negates_assumed bound found.0 clause found.1 found.2
 
+  with_found : (left : ℕ) (searching : IsSearching first book budget left) (answer : Found) → FinalsNegate (whole_meanings steps code counter) searching.since steps.net log steps.steps → HasConflictFor (whole_meanings steps code counter) book steps.net log steps.steps answer →
+      IsFound (whole_meanings steps code counter) begun searching.since steps.net log steps.steps budget answer → HasFound (whole_meanings steps code counter) begun net log steps.steps budget first book answer
+  with_found left searching answer finals conflict is =
+      found_as answer (record {
+        since = searching.since;
+        whole = searching.whole;
+        unmarked = searching.unmarked;
+        within = (let paid = searching.paid in omega (arith, paid));
+        fresh = searching.fresh;
+        finals = finals;
+        found = is;
+        conflict = conflict;
+      })
+
   nothing_left : (count left : ℕ) → count + left ≡ budget → left ≡ 0 → count ≡ budget
   nothing_left count left paid none = omega (arith, paid, none)
 
@@ -273,70 +272,30 @@ module _ (steps : CodedSteps) (code : CodedLog) (counter : CounterState) (vars :
       HasFound (whole_meanings steps code counter) begun net log steps.steps budget first book (Explained best)
   answers_least k left best small come given within =
       let here = back k left come in
-      found_as (Explained best) (record {
-        since = here.since;
-        whole = here.whole;
-        unmarked = here.unmarked;
-        within = paid_within (count_by is_learnt here.since) left budget here.paid;
-        fresh = here.fresh;
-        finals = finals_below k here.since here.finals;
-        conflict = tt;
-        found = least_found steps code counter vars log first book here.since here.whole parts own valid same begun at_first k best small here.below here.needs (given_back best given) within;
-      })
+      with_found left here.searching (Explained best) (finals_below k here.searching.since here.finals) tt
+      (least_found steps code counter vars log first book here.searching.since here.searching.whole parts own valid same begun at_first k best small here.below here.needs (given_back best given) within)
 
   pub answers_many : (left : ℕ) (best : Best) → HasComeToBy code counter begun net log steps.steps 256 first book budget left → IsExplanation net log steps.steps best →
       HasFound (whole_meanings steps code counter) begun net log steps.steps budget first book (Many best)
   answers_many left best come given =
       let here = back 256 left come in
-      found_as (Many best) (record {
-        since = here.since;
-        whole = here.whole;
-        unmarked = here.unmarked;
-        within = paid_within (count_by is_learnt here.since) left budget here.paid;
-        fresh = here.fresh;
-        finals = finals_below 256 here.since here.finals;
-        conflict = tt;
-        found = many_found steps code counter vars log first book here.since here.whole parts own valid same begun at_first best here.below here.needs (given_back best given);
-      })
+      with_found left here.searching (Many best) (finals_below 256 here.searching.since here.finals) tt
+      (many_found steps code counter vars log first book here.searching.since here.searching.whole parts own valid same begun at_first best here.below here.needs (given_back best given))
 
   pub answers_undecided : (k : ℕ) (best : Best) → IsValidBook book → HasComeToBy code counter begun net log steps.steps k first book budget 0 → IsStopped code counter (Some k) book 0 → IsExplanation net log steps.steps best → k < best.faults →
       HasFound (whole_meanings steps code counter) begun net log steps.steps budget first book (Undecided k (Some best))
   answers_undecided k best whole come stopped given more =
       let here = back k 0 come in
-      found_as (Undecided k (Some best)) (record {
-        since = here.since;
-        whole = here.whole;
-        unmarked = here.unmarked;
-        within = paid_within (count_by is_learnt here.since) 0 budget here.paid;
-        fresh = here.fresh;
-        finals = finals_below k here.since here.finals;
-        conflict = at_conflict (Some k) 0 stopped;
-        found = undecided_found steps code counter vars log first book here.since here.whole parts own valid same begun at_first k budget best whole (omega (arith, here.paid)) here.finals here.below here.needs (given_back best given) more;
-      })
+      with_found 0 here.searching (Undecided k (Some best)) (finals_below k here.searching.since here.finals) (at_conflict (Some k) 0 stopped)
+      (undecided_found steps code counter vars log first book here.searching.since here.searching.whole parts own valid same begun at_first k budget best whole (omega (arith, here.searching.paid)) here.finals here.below here.needs (given_back best given) more)
 
   pub answers_absent : (left : ℕ) → HasAskedBy code counter begun net log steps.steps None first book budget left asked.Refuted → HasFound (whole_meanings steps code counter) begun net log steps.steps budget first book Absent
   answers_absent left asked' =
       let here = subst (λ net'. HasAskedBy code counter begun net' log steps.steps None first book budget left asked.Refuted) (sym of_net) asked' in
-      found_as Absent (record {
-        since = here.since;
-        whole = here.whole;
-        unmarked = here.unmarked;
-        within = paid_within (count_by is_learnt here.since) left budget here.paid;
-        fresh = here.fresh;
-        finals = finals_put None here.since asked.Refuted here.put;
-        conflict = tt;
-        found = absent_found steps code counter vars log first book here.since here.whole parts own valid same begun at_first here.means;
-      })
+      with_found left here.searching Absent (finals_put None here.searching.since asked.Refuted here.put) tt
+      (absent_found steps code counter vars log first book here.searching.since here.searching.whole parts own valid same begun at_first here.means)
 
   pub answers_nothing : (left : ℕ) → HasAskedBy code counter begun net log steps.steps None first book budget left asked.Spent → HasFound (whole_meanings steps code counter) begun net log steps.steps budget first book (Undecided 0 None)
   answers_nothing left asked' =
-      found_as (Undecided 0 None) (record {
-        since = asked'.since;
-        whole = asked'.whole;
-        unmarked = asked'.unmarked;
-        within = paid_within (count_by is_learnt asked'.since) left budget asked'.paid;
-        fresh = asked'.fresh;
-        finals = finals_put None asked'.since asked.Spent asked'.put;
-        conflict = at_conflict None left asked'.means;
-        found = nothing_found steps code counter vars log first book asked'.since asked'.whole parts own valid same begun at_first budget (nothing_left (count_by is_learnt asked'.since) left asked'.paid asked'.means.nothing) (asked'.put.unbounded spent_not);
-      })
+      with_found left asked'.searching (Undecided 0 None) (finals_put None asked'.searching.since asked.Spent asked'.put) (at_conflict None left asked'.means)
+      (nothing_found steps code counter vars log first book asked'.searching.since asked'.searching.whole parts own valid same begun at_first budget (nothing_left (count_by is_learnt asked'.searching.since) left asked'.searching.paid asked'.means.nothing) (asked'.put.unbounded spent_not))

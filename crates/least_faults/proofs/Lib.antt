@@ -24,8 +24,10 @@ pub mod Staying
 mod Telling
 pub mod Putting
 pub mod Asked
+pub mod Solved
 pub mod Climbing
 pub mod Closing
+mod Rounds
 pub mod FreshCount
 pub mod Deciding
 pub mod Ranking

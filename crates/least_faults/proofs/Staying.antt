@@ -2,7 +2,7 @@
 use Rattle.std.proofs.Common.{◌≡◌, ◌≢◌, ◌∙◌, ℕ, suc, ◌+◌, ◌-◌, List, [], length, max, Option, None, Some, refl, sym, ap, arith, subst, append-nil, length-append}
 use Rattle.card_counter.specs.CounterState.{CounterState}
 use Rattle.des_net.specs.Network.{Net}
-use Rattle.least_faults.proofs.Climbing.{come_on, come_further, searched_so_far, searching_further}
+use Rattle.least_faults.proofs.Climbing.{come_on, come_further, searching_further}
 use Rattle.least_faults.proofs.Columns.{keeps_none, keeps_both}
 use Rattle.least_faults.proofs.ColumnsBuilt.{columns_both, question_columns, within_further, within_none}
 use Rattle.least_faults.specs.declared.answer.Best.{Best}
@@ -11,7 +11,7 @@ use Rattle.least_faults.specs.declared.asking.Asked.TheVariants.{Refuted}
 use Rattle.least_faults.specs.declared.parts.Parts.{Parts}
 use Rattle.least_faults.specs.Answers.{IsExplanation}
 use Rattle.least_faults.specs.Ascending.{HasComeTo, HasComeToBy}
-use Rattle.least_faults.specs.Asking.{HasAsked, IsSearching}
+use Rattle.least_faults.specs.Asking.{GoesOnReady, HasAsked, IsSearching}
 use Rattle.least_faults.specs.Columns.{columns_built, columns_for, built_within}
 use Rattle.least_faults.specs.Growing.{KeepsQuestion}
 use Rattle.least_faults.specs.Parts.{BelongTo, IsBuilt, built_of}
@@ -99,11 +99,6 @@ belong_still net log old new keeps belong =
 pub given_still : {R : Type 0} {book entries : List BookEntry} (net : Net) (log : Log) (old new : Parts R) (best : Best) → KeepsQuestion old new book entries → IsExplanation net log old.step.steps best → IsExplanation net log new.step.steps best
 given_still net log old new best keeps = subst (λ (s : CodedSteps). IsExplanation net log s.steps best) (sym keeps.step)
 
--- the answer to a question is this one
-pub asked_as : {R : Type 0} (parts : Parts R) (begun : BuiltQuestion) (net : Net) (log : Log) (bound : Option ℕ) (old new : List BookEntry) (before after : ℕ) (answer other : Asked) → answer ≡ other →
-    HasAsked parts begun net log bound old new before after answer → HasAsked parts begun net log bound old new before after other
-asked_as parts begun net log bound old new before after answer other is = subst (HasAsked parts begun net log bound old new before after) is
-
 -- ---- from bound to bound
 
 -- by the counter alone the parts differ
@@ -128,7 +123,12 @@ pub comes_on : {R : Type 0} {book entries : List BookEntry} (old new : Parts R) 
 comes_on old new begun now net log k first mid last budget before after what keeps not come =
     come_on new.code.coded old.counter new.counter begun now net log new.step.steps k first mid last budget before after what keeps.counter not (come_by_counter old new begun net log k first mid budget before keeps come)
 
--- whatever it comes to, the search is still under way
-pub searching_on : {R : Type 0} (parts : Parts R) (begun : BuiltQuestion) (net : Net) (log : Log) (k : ℕ) (first mid last : List BookEntry) (budget before after : ℕ) → HasComeTo parts begun net log k first mid budget before → IsSearching mid last before after → IsSearching first last budget after
-searching_on parts begun net log k first mid last budget before after come =
-    searching_further first mid last budget before after (searched_so_far parts.code.coded parts.counter begun net log parts.step.steps k first mid budget before come)
+-- ---- the search goes on
+
+pub goes_both : {R : Type 0} (may : R → ℕ → Type 0) (gives : R → ℕ → ℕ → Type 0) (old mid new : Parts R) (first then last : List BookEntry) (budget before after : ℕ) → KeepsQuestion old mid first then → IsSearching first then budget before → GoesOnReady may gives mid new then last before after →
+    GoesOnReady may gives old new first last budget after
+goes_both may gives old mid new first then last budget before after kept searching two = record {
+  ready = two.ready;
+  kept = question_both old mid new kept two.kept;
+  searching = searching_further first then last budget before after searching two.searching;
+}

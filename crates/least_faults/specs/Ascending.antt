@@ -5,7 +5,7 @@ use Rattle.des_net.specs.Network.{Net}
 use Rattle.least_faults.specs.declared.answer.Found.{Found}
 use Rattle.least_faults.specs.declared.parts.Parts.{Parts}
 use Rattle.least_faults.specs.Answers.{HasConflictFor, HaveLearntFresh, IsFound}
-use Rattle.least_faults.specs.Asking.{AreAssumptions}
+use Rattle.least_faults.specs.Asking.{AreAssumptions, IsSearching}
 use Rattle.least_faults.specs.Evidence.{FinalsNegate, IsRefutation}
 use Rattle.log_encode.specs.CodedLog.{CodedLog}
 use Rattle.log_order.specs.Log.{Log}
@@ -30,13 +30,9 @@ pub record IsRefutedAt (code : CodedLog) (counter : CounterState) (net : Net) (l
 
 -- The bounds below k are refuted, by entries since then, when the question was built so.
 pub record HasComeToBy (code : CodedLog) (counter : CounterState) (first : BuiltQuestion) (net : Net) (log : Log) (n k : ℕ) (old new : List BookEntry) (budget_old budget_new : ℕ) : Type 0 where
-  pub since : List BookEntry
-  pub whole : new ≡ old ++ since
-  pub unmarked : (number : ℕ) → count_by (is_mark number) since ≡ 0
-  pub paid : count_by is_learnt since + budget_new ≡ budget_old
-  pub fresh : HaveLearntFresh old since
-  pub finals : FinalsAreBelow code counter k since
-  pub below : (j : ℕ) → k ≡ suc j → IsRefutedAt code counter net log n j first since
+  pub searching : IsSearching old new budget_old budget_new
+  pub finals : FinalsAreBelow code counter k searching.since
+  pub below : (j : ℕ) → k ≡ suc j → IsRefutedAt code counter net log n j first searching.since
   pub needs : NeedsFaults net log n k
 
 -- the same of the parts of a question

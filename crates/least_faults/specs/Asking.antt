@@ -10,6 +10,8 @@ use Rattle.least_faults.specs.declared.parts.Parts.{Parts}
 use Rattle.least_faults.specs.Answers.{HaveLearntFresh, IsExplanation}
 use Rattle.least_faults.specs.Columns.{built_within, columns_for}
 use Rattle.least_faults.specs.Evidence.{IsPosed, is_final, IsRefutation}
+use Rattle.least_faults.specs.Growing.{AddsAxioms, KeepsQuestion}
+use Rattle.least_faults.specs.Parts.{AreReady}
 use Rattle.log_clauses.specs.LogClauses.{guard_literals}
 use Rattle.log_encode.specs.CodedLog.{CodedLog, read_meanings, without_names}
 use Rattle.log_order.specs.Log.{Log, IsValidLog}
@@ -24,6 +26,8 @@ use Rattle.run_decode.specs.Decided.{Decides}
 use Rattle.run_decode.specs.Faithful.{IsWithin}
 use Rattle.run_decode.specs.QuestionAxioms.{BuiltQuestion}
 use Rattle.run_decode.specs.WholeNaming.{AreClausesOf, whole_meanings}
+use Rattle.sat_solve.specs.Searching.{HasAxiomVars, HasPut, IsAnswer, IsSearched}
+use Rattle.sat_solve.specs.declared.answer.Answer.{Answer}
 use Rattle.step_encode.specs.Coded.{CodedSteps}
 
 -- ---- what is assumed
@@ -78,6 +82,24 @@ pub record IsSearching (old new : List BookEntry) (budget_old budget_new : ℕ) 
   pub paid : count_by is_learnt since + budget_new ≡ budget_old
   pub fresh : HaveLearntFresh old since
 
+-- The parts stand ready and keep their question, and what was put is that of a search.
+pub record GoesOnReady {R : Type 0} (may : R → ℕ → Type 0) (gives : R → ℕ → ℕ → Type 0) (old new : Parts R) (old_book new_book : List BookEntry) (budget_old budget_new : ℕ) : Type 0 where
+  pub ready : AreReady may gives new new_book
+  pub kept : KeepsQuestion old new old_book new_book
+  pub searching : IsSearching old_book new_book budget_old budget_new
+
+-- The book got axioms, none without a bound, and then the solver was asked under what is assumed; it put and says this.
+pub record IsSolvedWithin {R : Type 0} (before : CounterState) (parts : Parts R) (bound : Option ℕ) (old new : List BookEntry) (budget_old budget_new : ℕ) (answer : Answer) : Type 0 where
+  pub mid : List BookEntry
+  pub axioms : AddsAxioms old mid
+  pub none : IfNone bound (mid ≡ old)
+  pub known : HasAxiomVars mid
+  pub assumed : List Lit
+  pub are : AreAssumed before parts bound assumed
+  pub searched : IsSearched mid new budget_old budget_new
+  pub put : HasPut mid new answer
+  pub says : IsAnswer parts.solver.assignment new assumed budget_new answer
+
 -- Each final entry negates assumptions with the bound alone, and there is none where nothing is refuted. Without a bound learnt entries alone are put then.
 pub record ArePut (code : CodedLog) (counter : CounterState) (bound : Option ℕ) (since : List BookEntry) (asked : Asked) : Type 0 where
   pub finals : (clause : Clause) (hints : List ℕ) → Contains since (final clause hints) → (assumed : List Lit) × AreAssumptions code counter bound assumed × NegatesOnly assumed clause
@@ -114,15 +136,11 @@ IsTrueAnswer code counter net log n bound first since book budget Spent = IsStop
 
 -- What a question to the solver left, where it was built so first: the counter has got the columns that the bound needs, and all clauses of the book are over the variables of the question with them
 pub record HasAskedBy (code : CodedLog) (counter : CounterState) (first : BuiltQuestion) (net : Net) (log : Log) (n : ℕ) (bound : Option ℕ) (old new : List BookEntry) (budget_old budget_new : ℕ) (asked : Asked) : Type 0 where
-  pub since : List BookEntry
-  pub whole : new ≡ old ++ since
-  pub unmarked : (number : ℕ) → count_by (is_mark number) since ≡ 0
-  pub paid : count_by is_learnt since + budget_new ≡ budget_old
-  pub fresh : HaveLearntFresh old since
+  pub searching : IsSearching old new budget_old budget_new
   pub columns : length counter.columns ≡ max (length first.counter.columns) (columns_for bound)
   pub known : AllByRecursion (HasValues (built_within first bound).vars) (clauses_of new)
-  pub put : ArePut code counter bound since asked
-  pub means : IsTrueAnswer code counter net log n bound first since new budget_new asked
+  pub put : ArePut code counter bound searching.since asked
+  pub means : IsTrueAnswer code counter net log n bound first searching.since new budget_new asked
 
 -- the same of the parts of a question
 abbrev pub HasAsked : {R : Type 0} → Parts R → BuiltQuestion → Net → Log → Option ℕ → List BookEntry → List BookEntry → ℕ → ℕ → Asked → Type 0

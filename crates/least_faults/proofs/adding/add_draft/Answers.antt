@@ -20,83 +20,37 @@ pub count_false-requires-clause-made : goal.count_false-requires-clause-made
 count_false-requires-clause-made g c = made_later c.args.parts.now.vars c.fresh.new.self c.args.parts.now.counter (omega (arith, c.fresh.ensures.count)) c.requires.ready.coded.made
 
 pub count_false-requires-clause-inputs : goal.count_false-requires-clause-inputs
-count_false-requires-clause-inputs g c =
-    let old = c.args.parts.now in
-    inputs_may_count old.step old.code.coded c.commit.new.self.coded old.counter old.vars c.fresh.new.self c.args.book.now.entries c.requires.ready.coded c.args.reserved.draft c.requires.reserved.drafted c.requires.reserved.fits
-    (omega (arith, c.fresh.ensures.count, c.vars.ensures)) c.commit.ensures c.args.reserved.doubtful c.requires.reserved.doubted
+count_false-requires-clause-inputs g c = inputs_may_count _ _ _ _ _ c.fresh.new.self c.args.book.now.entries c.requires.ready.coded _ c.requires.reserved.drafted c.requires.reserved.fits (omega (arith, c.fresh.ensures.count, c.vars.ensures)) c.commit.ensures _ c.requires.reserved.doubted
 
-pub push_axioms-requires-clause-clauses : goal.push_axioms-requires-clause-clauses
-push_axioms-requires-clause-clauses g c =
-    let old = c.args.parts.now in
-    let few = few_added old.step old.code.coded c.commit.new.self.coded old.counter old.vars c.fresh.new.self c.args.book.now.entries c.requires.ready.coded c.args.reserved.draft c.requires.reserved.drafted c.requires.reserved.fits
-    (omega (arith, c.fresh.ensures.count, c.vars.ensures)) c.commit.ensures c.args.reserved.doubtful c.requires.reserved.doubted c.count_false.new.counter c.count_false.new.vars c.args.reserved.clauses.clauses c.count_false.new.clauses.clauses
-    c.requires.reserved.written c.count_false.ensures in
-    omega (arith, few.few, c.requires.reserved.room.entered)
-
-pub push_axioms-requires-clause-literals : goal.push_axioms-requires-clause-literals
-push_axioms-requires-clause-literals g c =
-    let old = c.args.parts.now in
-    let few = few_added old.step old.code.coded c.commit.new.self.coded old.counter old.vars c.fresh.new.self c.args.book.now.entries c.requires.ready.coded c.args.reserved.draft c.requires.reserved.drafted c.requires.reserved.fits
-    (omega (arith, c.fresh.ensures.count, c.vars.ensures)) c.commit.ensures c.args.reserved.doubtful c.requires.reserved.doubted c.count_false.new.counter c.count_false.new.vars c.args.reserved.clauses.clauses c.count_false.new.clauses.clauses
-    c.requires.reserved.written c.count_false.ensures in
-    omega (arith, few.short, c.requires.reserved.room.spelt)
+pub push_axioms-requires : goal.push_axioms-requires
+push_axioms-requires g c =
+    let few = few_added _ _ _ _ _ c.fresh.new.self c.args.book.now.entries c.requires.ready.coded _ c.requires.reserved.drafted c.requires.reserved.fits (omega (arith, c.fresh.ensures.count, c.vars.ensures)) c.commit.ensures _ c.requires.reserved.doubted _ _ _ _ c.requires.reserved.written c.count_false.ensures in
+    record { clauses = omega (arith, few.few, c.requires.reserved.room.entered); literals = omega (arith, few.short, c.requires.reserved.room.spelt) }
 
 pub adopt-requires : goal.adopt-requires
 adopt-requires g c =
-    let old = c.args.parts.now in
-    let count : c.fresh.new.self ≡ old.vars + c.args.reserved.draft.vars = omega (arith, c.fresh.ensures.count, c.vars.ensures) in
-    let few = few_added old.step old.code.coded c.commit.new.self.coded old.counter old.vars c.fresh.new.self c.args.book.now.entries c.requires.ready.coded c.args.reserved.draft c.requires.reserved.drafted c.requires.reserved.fits
-    count c.commit.ensures c.args.reserved.doubtful c.requires.reserved.doubted c.count_false.new.counter c.count_false.new.vars c.args.reserved.clauses.clauses c.count_false.new.clauses.clauses
-    c.requires.reserved.written c.count_false.ensures in
-    let has = draft_added old.step old.code.coded c.commit.new.self.coded old.counter old.vars c.fresh.new.self c.args.book.now.entries c.requires.ready.coded c.args.reserved.draft c.requires.reserved.drafted c.requires.reserved.fits
-    count c.commit.ensures c.args.reserved.doubtful c.requires.reserved.doubted c.count_false.new.counter c.count_false.new.vars c.args.reserved.clauses.clauses c.count_false.new.clauses.clauses
-    c.requires.reserved.written c.count_false.ensures old.solver.adopted old.solver.vars c.push_axioms.new.book.entries c.requires.ready.adopted_all c.requires.reserved.room.values c.push_axioms.ensures in
+    let few = few_added _ _ _ _ _ c.fresh.new.self c.args.book.now.entries c.requires.ready.coded _ c.requires.reserved.drafted c.requires.reserved.fits (omega (arith, c.fresh.ensures.count, c.vars.ensures)) c.commit.ensures _ c.requires.reserved.doubted _ _ _ _ c.requires.reserved.written c.count_false.ensures in
+    let has = draft_added _ _ _ _ _ c.fresh.new.self c.args.book.now.entries c.requires.ready.coded _ c.requires.reserved.drafted c.requires.reserved.fits (omega (arith, c.fresh.ensures.count, c.vars.ensures)) c.commit.ensures _ c.requires.reserved.doubted _ _ _ _ c.requires.reserved.written c.count_false.ensures _ _ c.push_axioms.new.book.entries c.requires.ready.adopted_all c.requires.reserved.room.values c.push_axioms.ensures in
     let long = has.long in
-    record {
-      grown = has.front;
-      room = omega (arith, long, few.few, c.requires.reserved.room.attached);
-      known = has.known;
-    }
+    record { grown = has.front; room = omega (arith, long, few.few, c.requires.reserved.room.attached); known = has.known }
 
-pub returns-clause-ready : goal.returns-clause-ready
-returns-clause-ready g c =
-    let old = c.args.parts.now in
-    let has = draft_added old.step old.code.coded c.commit.new.self.coded old.counter old.vars c.fresh.new.self c.args.book.now.entries c.requires.ready.coded c.args.reserved.draft c.requires.reserved.drafted c.requires.reserved.fits
-    (omega (arith, c.fresh.ensures.count, c.vars.ensures)) c.commit.ensures c.args.reserved.doubtful c.requires.reserved.doubted c.count_false.new.counter c.count_false.new.vars c.args.reserved.clauses.clauses c.count_false.new.clauses.clauses
-    c.requires.reserved.written c.count_false.ensures old.solver.adopted old.solver.vars c.push_axioms.new.book.entries c.requires.ready.adopted_all c.requires.reserved.room.values c.push_axioms.ensures in
+pub returns : goal.returns
+returns g c =
+    let has = draft_added _ _ _ _ _ c.fresh.new.self c.args.book.now.entries c.requires.ready.coded _ c.requires.reserved.drafted c.requires.reserved.fits (omega (arith, c.fresh.ensures.count, c.vars.ensures)) c.commit.ensures _ c.requires.reserved.doubted _ _ _ _ c.requires.reserved.written c.count_false.ensures _ _ c.push_axioms.new.book.entries c.requires.ready.adopted_all c.requires.reserved.room.values c.push_axioms.ensures in
     let values = ap (λ (s : SolverState _). s.vars) c.adopt.ensures.value in
     let enough = has.enough in
     record {
-      coded = has.parts;
-      known = known_after c.args.book.now.entries c.push_axioms.new.book.entries (record { axioms = c.count_false.new.clauses.clauses; more = c.push_axioms.ensures }) c.requires.ready.known;
-      adopted_all = ap (λ (s : SolverState _). s.adopted) c.adopt.ensures.value;
-      enough = omega (arith, values, enough);
-      ranked = subst (IsRanked (goal.R-pre g) (goal.R-post g)) (sym (ap (λ (s : SolverState _). s.order) c.adopt.ensures.value)) c.requires.ready.ranked;
-    }
-
-pub returns-clause-added : goal.returns-clause-added
-returns-clause-added g c =
-    let old = c.args.parts.now in
-    let count : c.fresh.new.self ≡ old.vars + c.args.reserved.draft.vars = omega (arith, c.fresh.ensures.count, c.vars.ensures) in
-    record {
-      built = built_added old.step old.code.coded c.commit.new.self.coded old.counter old.vars c.fresh.new.self c.args.book.now.entries c.requires.ready.coded c.args.reserved.draft c.requires.reserved.drafted c.requires.reserved.fits
-          count c.commit.ensures c.args.reserved.doubtful c.requires.reserved.doubted c.count_false.new.counter c.count_false.new.vars c.args.reserved.clauses.clauses c.count_false.new.clauses.clauses
-          c.requires.reserved.written c.count_false.ensures c.push_axioms.new.book.entries c.push_axioms.ensures;
-      put = c.push_axioms.ensures
-          ∙ ap (λ (cs : List Clause). c.args.book.now.entries ++ map axiomatic cs)
-          (clauses_built old.step old.code.coded c.commit.new.self.coded old.counter old.vars c.fresh.new.self c.args.book.now.entries c.requires.ready.coded c.args.reserved.draft c.requires.reserved.drafted c.requires.reserved.fits
-          count c.commit.ensures c.args.reserved.doubtful c.requires.reserved.doubted c.count_false.new.counter c.count_false.new.vars c.args.reserved.clauses.clauses c.count_false.new.clauses.clauses
-          c.requires.reserved.written c.count_false.ensures);
-      rank = ap (λ (s : SolverState _). s.order.rank) c.adopt.ensures.value;
-    }
-
-pub returns-clause-few : goal.returns-clause-few
-returns-clause-few g c =
-    let old = c.args.parts.now in
-    record {
-      axioms = c.count_false.new.clauses.clauses;
-      more = c.push_axioms.ensures;
-      few = axioms_few old.step old.code.coded c.commit.new.self.coded old.counter old.vars c.fresh.new.self c.args.book.now.entries c.requires.ready.coded c.args.reserved.draft c.requires.reserved.drafted c.requires.reserved.fits
-          (omega (arith, c.fresh.ensures.count, c.vars.ensures)) c.commit.ensures c.args.reserved.doubtful c.requires.reserved.doubted c.count_false.new.counter c.count_false.new.vars c.args.reserved.clauses.clauses c.count_false.new.clauses.clauses
-          c.requires.reserved.written c.count_false.ensures;
+      ready = record {
+        coded = has.parts;
+        known = known_after c.args.book.now.entries c.push_axioms.new.book.entries (record { axioms = c.count_false.new.clauses.clauses; more = c.push_axioms.ensures }) c.requires.ready.known;
+        adopted_all = ap (λ (s : SolverState _). s.adopted) c.adopt.ensures.value;
+        enough = omega (arith, values, enough);
+        ranked = subst (IsRanked (goal.R-pre g) (goal.R-post g)) (sym (ap (λ (s : SolverState _). s.order) c.adopt.ensures.value)) c.requires.ready.ranked;
+      };
+      added = record {
+        built = built_added _ _ _ _ _ c.fresh.new.self c.args.book.now.entries c.requires.ready.coded _ c.requires.reserved.drafted c.requires.reserved.fits (omega (arith, c.fresh.ensures.count, c.vars.ensures)) c.commit.ensures _ c.requires.reserved.doubted _ _ _ _ c.requires.reserved.written c.count_false.ensures c.push_axioms.new.book.entries c.push_axioms.ensures;
+        put = c.push_axioms.ensures ∙ ap (λ (cs : List Clause). c.args.book.now.entries ++ map axiomatic cs) (clauses_built _ _ _ _ _ c.fresh.new.self c.args.book.now.entries c.requires.ready.coded _ c.requires.reserved.drafted c.requires.reserved.fits (omega (arith, c.fresh.ensures.count, c.vars.ensures)) c.commit.ensures _ c.requires.reserved.doubted _ _ _ _ c.requires.reserved.written c.count_false.ensures);
+        rank = ap (λ (s : SolverState _). s.order.rank) c.adopt.ensures.value;
+      };
+      few = record { axioms = c.count_false.new.clauses.clauses; more = c.push_axioms.ensures; few = axioms_few _ _ _ _ _ c.fresh.new.self c.args.book.now.entries c.requires.ready.coded _ c.requires.reserved.drafted c.requires.reserved.fits (omega (arith, c.fresh.ensures.count, c.vars.ensures)) c.commit.ensures _ c.requires.reserved.doubted _ _ _ _ c.requires.reserved.written c.count_false.ensures };
     }

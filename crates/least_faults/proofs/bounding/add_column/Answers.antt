@@ -13,47 +13,34 @@ use Rattle.sat_order.specs.Rank.{IsRanked}
 
 pub add_column-requires-clause-within : goal.add_column-requires-clause-within
 add_column-requires-clause-within g c =
-    let old = c.args.parts.now in
-    let fits = column_fits old.step old.code.coded old.counter old.vars c.requires.ready.coded c.requires.few in
+    let fits = column_fits _ _ _ _ c.requires.ready.coded c.requires.few in
     omega (arith, fits)
 
-pub push_axioms-requires-clause-clauses : goal.push_axioms-requires-clause-clauses
-push_axioms-requires-clause-clauses g c =
-    let few = (few_written c.args.parts.now.counter c.args.parts.now.vars c.new-clauses.result.clauses c.add_column.new.out.clauses (ap (λ (store : ClauseStore). store.clauses) c.new-clauses.ensures) c.in_ok-add_column.ensures.column.clauses).few in
-    let room = c.in_ok-reserve.ensures.ok_clauses in
+pub push_axioms-requires : goal.push_axioms-requires
+push_axioms-requires g c =
+    let written = few_written c.args.parts.now.counter c.args.parts.now.vars _ _ (ap (λ (store : ClauseStore). store.clauses) c.new-clauses.ensures) c.in_ok-add_column.ensures.column.clauses in
+    let few = written.few in
+    let short = written.short in
+    let clauses = c.in_ok-reserve.ensures.ok_clauses in
+    let literals = c.in_ok-reserve.ensures.ok_literals in
     let inputs = c.inputs-inputs.ensures in
-    omega (arith, few, room, inputs)
-
-pub push_axioms-requires-clause-literals : goal.push_axioms-requires-clause-literals
-push_axioms-requires-clause-literals g c =
-    let short = (few_written c.args.parts.now.counter c.args.parts.now.vars c.new-clauses.result.clauses c.add_column.new.out.clauses (ap (λ (store : ClauseStore). store.clauses) c.new-clauses.ensures) c.in_ok-add_column.ensures.column.clauses).short in
-    let room = c.in_ok-reserve.ensures.ok_literals in
-    let inputs = c.inputs-inputs.ensures in
-    omega (arith, short, room, inputs)
+    record { clauses = omega (arith, few, clauses, inputs); literals = omega (arith, short, literals, inputs) }
 
 pub adopt-requires : goal.adopt-requires
 adopt-requires g c =
-    let old = c.args.parts.now in
-    let column = column_added old.step old.code.coded old.counter c.add_column.new.self old.vars c.add_column.new.vars old.solver.adopted c.reserve-2.new.self.adopted
-    c.reserve-2.new.self.vars c.args.book.now.entries c.reserve.new.self.entries c.push_axioms.new.book.entries c.add_column.new.out.clauses c.requires.ready.coded c.requires.ready.adopted_all c.requires.some c.requires.few
-    (more_values old.solver.vars c.reserve-2.new.self.vars c.count.result old.vars c.inputs-inputs.result (length old.counter.inputs) c.in_ok-reserve-2.ensures.ok.vars c.count.ensures.count c.inputs-inputs.ensures)
-    c.in_ok-add_column.ensures.column.counter c.in_ok-add_column.ensures.column.vars c.reserve-2.ensures.adopted c.reserve.ensures.same (written_alone c.new-clauses.result.clauses c.add_column.new.out.clauses _ (ap (λ (store : ClauseStore). store.clauses) c.new-clauses.ensures) c.in_ok-add_column.ensures.column.clauses) c.push_axioms.ensures in
+    let column = column_added _ _ _ _ _ _ _ _ _ c.args.book.now.entries _ _ _ c.requires.ready.coded c.requires.ready.adopted_all c.requires.some c.requires.few
+    (more_values _ _ _ _ _ _ c.in_ok-reserve-2.ensures.ok.vars c.count.ensures.count c.inputs-inputs.ensures) c.in_ok-add_column.ensures.column.counter c.in_ok-add_column.ensures.column.vars c.reserve-2.ensures.adopted c.reserve.ensures.same
+    (written_alone _ _ _ (ap (λ (store : ClauseStore). store.clauses) c.new-clauses.ensures) c.in_ok-add_column.ensures.column.clauses) c.push_axioms.ensures in
     let long = column.long in
     let spare = c.in_ok-reserve-2.ensures.ok.spare in
     let inputs = c.inputs-inputs.ensures in
-    record {
-      grown = column.front;
-      room = omega (arith, long, spare, inputs);
-      known = column.known;
-    }
+    record { grown = column.front; room = omega (arith, long, spare, inputs); known = column.known }
 
 pub returns-clause-ready : goal.returns-clause-ready
 returns-clause-ready g c =
-    let old = c.args.parts.now in
-    let column = column_added old.step old.code.coded old.counter c.add_column.new.self old.vars c.add_column.new.vars old.solver.adopted c.reserve-2.new.self.adopted
-    c.reserve-2.new.self.vars c.args.book.now.entries c.reserve.new.self.entries c.push_axioms.new.book.entries c.add_column.new.out.clauses c.requires.ready.coded c.requires.ready.adopted_all c.requires.some c.requires.few
-    (more_values old.solver.vars c.reserve-2.new.self.vars c.count.result old.vars c.inputs-inputs.result (length old.counter.inputs) c.in_ok-reserve-2.ensures.ok.vars c.count.ensures.count c.inputs-inputs.ensures)
-    c.in_ok-add_column.ensures.column.counter c.in_ok-add_column.ensures.column.vars c.reserve-2.ensures.adopted c.reserve.ensures.same (written_alone c.new-clauses.result.clauses c.add_column.new.out.clauses _ (ap (λ (store : ClauseStore). store.clauses) c.new-clauses.ensures) c.in_ok-add_column.ensures.column.clauses) c.push_axioms.ensures in
+    let column = column_added _ _ _ _ _ _ _ _ _ c.args.book.now.entries _ _ _ c.requires.ready.coded c.requires.ready.adopted_all c.requires.some c.requires.few
+    (more_values _ _ _ _ _ _ c.in_ok-reserve-2.ensures.ok.vars c.count.ensures.count c.inputs-inputs.ensures) c.in_ok-add_column.ensures.column.counter c.in_ok-add_column.ensures.column.vars c.reserve-2.ensures.adopted c.reserve.ensures.same
+    (written_alone _ _ _ (ap (λ (store : ClauseStore). store.clauses) c.new-clauses.ensures) c.in_ok-add_column.ensures.column.clauses) c.push_axioms.ensures in
     let values = ap (λ (s : SolverState _). s.vars) c.adopt.ensures.value in
     let enough = column.enough in
     record {
@@ -70,37 +57,28 @@ returns-in_err-reserve-2-clause-ready g c =
     reserved_ready _ _ c.args.parts.now c.reserve-2.new.self c.args.book.now.entries c.reserve.new.self.entries c.requires.ready c.reserve-2.ensures.adopted (omega (arith, same)) c.reserve-2.ensures.ranked c.reserve.ensures.same
 
 pub returns-clause-kept : goal.returns-clause-kept
-returns-clause-kept g c =
-    let old = c.args.parts.now in
-    record {
-      step = refl;
-      code = refl;
-      counter = record {
-        inputs = ap (λ (counter : CounterState). counter.inputs) c.in_ok-add_column.ensures.column.counter;
-        columns = range_with_len old.vars (length old.counter.inputs) ∷ [];
-        more = ap (λ (counter : CounterState). counter.columns) c.in_ok-add_column.ensures.column.counter;
-      };
-      rank = ap (λ (s : SolverState _). s.order.rank) c.adopt.ensures.value ∙ c.reserve-2.ensures.rank;
-      built = column_determined old.step old.code.coded old.counter c.add_column.new.self old.vars c.add_column.new.vars c.args.book.now.entries c.reserve.new.self.entries c.push_axioms.new.book.entries c.add_column.new.out.clauses
-          c.in_ok-add_column.ensures.column.counter c.in_ok-add_column.ensures.column.vars c.reserve.ensures.same
-          (written_alone c.new-clauses.result.clauses c.add_column.new.out.clauses _ (ap (λ (store : ClauseStore). store.clauses) c.new-clauses.ensures) c.in_ok-add_column.ensures.column.clauses) c.push_axioms.ensures;
-    }
+returns-clause-kept g c = record {
+  step = refl;
+  code = refl;
+  counter = record {
+    inputs = ap (λ (counter : CounterState). counter.inputs) c.in_ok-add_column.ensures.column.counter;
+    columns = range_with_len c.args.parts.now.vars (length c.args.parts.now.counter.inputs) ∷ [];
+    more = ap (λ (counter : CounterState). counter.columns) c.in_ok-add_column.ensures.column.counter;
+  };
+  rank = ap (λ (s : SolverState _). s.order.rank) c.adopt.ensures.value ∙ c.reserve-2.ensures.rank;
+  built = column_determined c.args.parts.now.step c.args.parts.now.code.coded _ _ _ _ _ _ _ _ c.in_ok-add_column.ensures.column.counter c.in_ok-add_column.ensures.column.vars c.reserve.ensures.same (written_alone _ _ _ (ap (λ (store : ClauseStore). store.clauses) c.new-clauses.ensures) c.in_ok-add_column.ensures.column.clauses) c.push_axioms.ensures;
+}
 
 pub returns-in_err-reserve-clause-kept : goal.returns-in_err-reserve-clause-kept
-returns-in_err-reserve-clause-kept g c =
-    let old = c.args.parts.now in
-    question_kept old old.counter old.vars old.solver c.args.book.now.entries c.reserve.new.self.entries refl refl refl (ap axioms_of c.reserve.ensures.same)
+returns-in_err-reserve-clause-kept g c = question_kept c.args.parts.now _ _ _ c.args.book.now.entries c.reserve.new.self.entries refl refl refl (ap axioms_of c.reserve.ensures.same)
 
 pub returns-in_err-reserve-2-clause-kept : goal.returns-in_err-reserve-2-clause-kept
-returns-in_err-reserve-2-clause-kept g c =
-    let old = c.args.parts.now in
-    question_kept old old.counter old.vars c.reserve-2.new.self c.args.book.now.entries c.reserve.new.self.entries refl refl c.reserve-2.ensures.rank (ap axioms_of c.reserve.ensures.same)
+returns-in_err-reserve-2-clause-kept g c = question_kept c.args.parts.now _ _ c.reserve-2.new.self c.args.book.now.entries c.reserve.new.self.entries refl refl c.reserve-2.ensures.rank (ap axioms_of c.reserve.ensures.same)
 
 pub returns-in_err-add_column-clause-kept : goal.returns-in_err-add_column-clause-kept
 returns-in_err-add_column-clause-kept g c =
-    let old = c.args.parts.now in
     let err = c.in_err-add_column.ensures.err in
-    question_kept old c.add_column.new.self c.add_column.new.vars c.reserve-2.new.self c.args.book.now.entries c.reserve.new.self.entries err.0 err.1 c.reserve-2.ensures.rank (ap axioms_of c.reserve.ensures.same)
+    question_kept c.args.parts.now c.add_column.new.self c.add_column.new.vars c.reserve-2.new.self c.args.book.now.entries c.reserve.new.self.entries err.0 err.1 c.reserve-2.ensures.rank (ap axioms_of c.reserve.ensures.same)
 
 pub returns-in_err-add_column-clause-axioms : goal.returns-in_err-add_column-clause-axioms
 returns-in_err-add_column-clause-axioms g c = record { axioms = []; more = c.reserve.ensures.same ∙ sym (append-nil c.args.book.now.entries) }

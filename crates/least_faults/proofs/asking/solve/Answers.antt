@@ -1,0 +1,24 @@
+use Rattle.least_faults.proofs.Asked.{goes_by_search, searching_axioms}
+use Rattle.least_faults.proofs.Solved.{can_search, solved}
+use Rattle.least_faults.proofs.asking.solve.Goals as goal
+
+pub returns-in_err-assumed-clause-goes_on : goal.returns-in_err-assumed-clause-goes_on
+returns-in_err-assumed-clause-goes_on g c = record {
+  ready = c.assumptions.ensures.ready;
+  kept = c.assumptions.ensures.kept;
+  searching = searching_axioms c.args.book.now.entries c.assumptions.new.book.entries c.args.budget.now c.assumptions.ensures.axioms;
+}
+
+pub solve-requires : goal.solve-requires
+solve-requires g c =
+    let can = can_search _ _ c.args.parts.now c.assumptions.new.parts _ c.assumptions.new.book.entries _ _ c.args.within _ _ c.assumptions.ensures.ready c.assumptions.ensures.kept c.requires.belong c.is_built.ensures.network c.is_whole.ensures.whole.valid c.in_ok-assumed.ensures.assumed c.as_slice.ensures.value in
+    record { adopted = c.assumptions.ensures.ready.adopted_all; known = can.known; compatible = can.compatible }
+
+pub returns-clause-goes_on : goal.returns-clause-goes_on
+returns-clause-goes_on g c =
+    goes_by_search _ _ c.args.parts.now c.assumptions.new.parts c.solve.new.self _ _ c.args.book.now.entries c.assumptions.new.book.entries _ c.assumptions.ensures.ready c.assumptions.ensures.kept c.assumptions.ensures.axioms c.solve.ensures.searched c.solve.ensures.adopted c.solve.ensures.kept
+
+pub returns-clause-solved : goal.returns-clause-solved
+returns-clause-solved g c =
+    solved c.args.parts.now.counter c.assumptions.new.parts c.solve.new.self c.args.within _ _ _ _ _ _ _ c.solve.result c.in_ok-assumed.ensures.assumed c.as_slice.ensures.value c.assumptions.ensures.axioms c.assumptions.ensures.none c.assumptions.ensures.ready.known c.solve.ensures.searched c.solve.ensures.put
+    c.solve.ensures.answer
